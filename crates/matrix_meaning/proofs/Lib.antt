@@ -1,0 +1,4 @@
+pub mod CooleyTukey
+pub mod GoodThomas
+pub mod Plans
+pub mod WalshHadamard

@@ -1,0 +1,4 @@
+pub mod Kind
+pub mod Laws
+pub mod Plan
+pub mod Valid

@@ -1,0 +1,25 @@
+ghost use Rattle.matrix_meaning.specs.Plan.{PlansTransform};
+ghost use Rattle.matrix_meaning.specs.Laws.{CooleyTukey, GoodThomas, Split};
+
+/// A Fourier transform whose size is a product, by strides.
+#[tactic(auto, using(crate::proofs::CooleyTukey::cooley_tukey))]
+pub fn cooley_tukey()
+    ensures { CooleyTukey }
+{}
+
+/// A Fourier transform whose size is a product of coprime numbers, with no twiddle factors.
+#[tactic(auto, using(crate::proofs::GoodThomas::good_thomas))]
+pub fn good_thomas()
+    ensures { GoodThomas }
+{}
+
+/// A Walsh-Hadamard transform whose size is a product.
+#[tactic(auto, using(crate::proofs::WalshHadamard::split))]
+pub fn split()
+    ensures { Split }
+{}
+
+/// Every plan of nested rules computes the transform.
+pub fn plans_transform()
+    ensures { PlansTransform }
+{}

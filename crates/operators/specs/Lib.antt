@@ -1,0 +1,4 @@
+pub mod Identities
+pub mod Loop
+pub mod Operator
+pub mod Sum
