@@ -1,0 +1,68 @@
+"""Measures the built program, whose path is the first argument."""
+import os
+import random
+import resource
+import subprocess
+import sys
+import tempfile
+import time
+
+PROGRAM = sys.argv[1]
+MODULUS = 12289
+GENERATOR = 11  # a primitive root modulo 12289
+
+
+def root(size):
+    return pow(GENERATOR, (MODULUS - 1) // size, MODULUS)
+
+
+def request(size):
+    return f"dft {size} mod {MODULUS} root {root(size)} unroll 2\n"
+
+
+def run(command, text):
+    """Seconds and peak kilobytes of one call, with its input from a file."""
+    with tempfile.TemporaryFile() as source, tempfile.TemporaryFile() as target:
+        source.write(text.encode())
+        source.seek(0)
+        begin = time.perf_counter()
+        child = subprocess.Popen([PROGRAM, command], stdin=source, stdout=target)
+        _, status, usage = os.wait4(child.pid, 0)
+        seconds = time.perf_counter() - begin
+        if status != 0:
+            raise SystemExit(f"{command} ended with {status}")
+        return seconds, usage.ru_maxrss
+
+
+def vectors(size, count):
+    draw = random.Random(size)
+    line = lambda: " ".join(str(draw.randrange(MODULUS)) for _ in range(size))
+    return "".join(line() + "\n" for _ in range(count))
+
+
+def best(command, text, times=3):
+    return min(run(command, text)[0] for _ in range(times))
+
+
+def actions(size):
+    """Of the pass of a leaf: for each output a zero and a store, and three actions for each input."""
+    return size * (2 + 3 * size)
+
+
+def main():
+    start_up = best("run", request(4), 20)
+    print(f"start-up: {start_up * 1000:.1f} ms")
+    for size, count in ((64, 1000), (1024, 8)):
+        none = best("run", request(size))
+        many = best("run", request(size) + vectors(size, count))
+        each = (many - none) / count / actions(size)
+        print(f"run of dft {size}: {each * 1e9:.1f} ns for each action, over {count} vectors")
+    data = vectors(2, 400_000)
+    seconds = best("run", request(2) + data) - start_up
+    print(f"data of dft 2: {len(data) / 1e6 / seconds:.1f} MB read a second, with a line written for each vector")
+    for count in (10, 1000, 100_000):
+        _, peak = run("run", request(4) + vectors(4, count))
+        print(f"peak memory of dft 4 over {count} vectors: {peak} KB")
+
+
+main()
