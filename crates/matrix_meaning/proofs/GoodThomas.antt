@@ -10,8 +10,8 @@ use Rattle.ring_mod.proofs.Congruence.{same-add, same-mul, mul-mod_of_product}
 use Rattle.std.specs.Prelude.{slice_index}
 use Rattle.matrix_meaning.specs.declared.Kind.TheVariants.{Dft}
 use Rattle.matrix_meaning.specs.Kind.{transform, entry_of}
-use Rattle.matrix_meaning.specs.Laws.{good_thomas_in, good_thomas_out, GoodThomas}
-use Rattle.operators.specs.Operator.{gather, on_columns, on_blocks}
+use Rattle.matrix_meaning.specs.Laws.{GoodThomas}
+use Rattle.operators.specs.Operator.{gather, on_columns, on_blocks, good_thomas_in, good_thomas_out}
 use Rattle.operators.specs.Sum.{sum_below}
 use Rattle.operators.proofs.Matrices.{at-matrix_times, on_columns-on_blocks}
 use Rattle.operators.proofs.Sums.{sum_below-same, same-sum_below}

@@ -1,4 +1,3 @@
 pub mod CooleyTukey
 pub mod GoodThomas
-pub mod Plans
 pub mod WalshHadamard

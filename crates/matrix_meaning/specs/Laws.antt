@@ -1,10 +1,10 @@
 -- The rules by which a transform of size r * s is made of transforms of the sizes r and s.
-use Rattle.std.specs.Prelude.{◌≡◌, ℕ, ◌+◌, ◌*◌, ◌/◌, ◌%◌, ◌<◌, List}
+use Rattle.std.specs.Prelude.{◌≡◌, ℕ, ◌*◌, ◌/◌, ◌%◌, ◌<◌, List}
 use Rattle.std.specs.Int.{IsGcd}
 use Rattle.ring_mod.specs.Residue.{power_mod}
 use Rattle.matrix_meaning.specs.declared.Kind.TheVariants.{Dft, Wht}
 use Rattle.matrix_meaning.specs.Kind.{transform, IsPowerOfTwo}
-use Rattle.operators.specs.Operator.{gather, scale, on_columns, on_blocks, stride}
+use Rattle.operators.specs.Operator.{gather, scale, on_columns, on_blocks, stride, good_thomas_in, good_thomas_out}
 
 -- the diagonal T(r * s, s, w): w to the power i * k at the place i * s + k
 abbrev pub twiddle : ℕ → ℕ → ℕ → ℕ → ℕ
@@ -22,14 +22,6 @@ abbrev pub Split : Type 0
 Split =
     (m r s w : ℕ) (x : List ℕ) → 0 < m → IsPowerOfTwo s →
     transform Wht m (r * s) w x ≡ on_columns r s (transform Wht m r w) (on_blocks r s (transform Wht m s w) x)
-
--- the places of `GTIN`: the item (s * i + r * j) mod r * s goes to the place i * s + j
-abbrev pub good_thomas_in : ℕ → ℕ → ℕ → ℕ
-good_thomas_in r s p = (s * (p / s) + r * (p % s)) % (r * s)
-
--- the places of `GTOUT`: the item (k mod r) * s + k mod s goes to the place k
-abbrev pub good_thomas_out : ℕ → ℕ → ℕ → ℕ
-good_thomas_out r s k = (k % r) * s + k % s
 
 -- `DFT(r * s, w)` is `GTOUT (DFT(r, w^s) tensor I_s) (I_r tensor DFT(s, w^r)) GTIN`, where r and s are coprime
 abbrev pub GoodThomas : Type 0

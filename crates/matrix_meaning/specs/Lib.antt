@@ -1,4 +1,3 @@
 pub mod Kind
 pub mod Laws
-pub mod Plan
 pub mod Valid

@@ -1,4 +1,3 @@
-ghost use Rattle.matrix_meaning.specs.Plan.{PlansTransform};
 ghost use Rattle.matrix_meaning.specs.Laws.{CooleyTukey, GoodThomas, Split};
 
 /// A Fourier transform whose size is a product, by strides.
@@ -17,9 +16,4 @@ pub fn good_thomas()
 #[tactic(auto, using(crate::proofs::WalshHadamard::split))]
 pub fn split()
     ensures { Split }
-{}
-
-/// Every plan of nested rules computes the transform.
-pub fn plans_transform()
-    ensures { PlansTransform }
 {}

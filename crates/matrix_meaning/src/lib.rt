@@ -6,9 +6,10 @@ mod laws;
 
 ghost use Rattle.std.specs.Prelude.{◌≡◌, ℕ, ◌*◌, ◌%◌, ◌^◌, ◌<◌, ◌≤◌, length, slice_index, vec_len, IfOk, All};
 ghost use Rattle.matrix_meaning.specs.Kind.{entry_of, transform};
+ghost use Rattle.matrix_meaning.specs.Laws.{twiddle};
 ghost use Rattle.operators.specs.Sum.{sum_below};
 
-pub use laws::{cooley_tukey, good_thomas, plans_transform, split};
+pub use laws::{cooley_tukey, good_thomas, split};
 use memory::NoMemory;
 use ring_mod::Modulus;
 use std::alloc::Global;
@@ -61,6 +62,18 @@ pub fn entry(kind: Kind, n: u64, w: u64, m: u64, k: u64, l: u64) -> u64
     }
 }
 
+/// The twiddle factor at the place `p` of the diagonal between two steps of a Fourier transform, where the second step
+/// has the size `s`: `w` to the power `(p / s) * (p % s)`.
+#[tactic(auto, using(operators::proofs::Places::twiddle_exponent_below))]
+pub fn twiddle_factor(modulus: &Modulus, s: u64, w: u64, p: u64) -> u64
+    requires size { 1 ≤ s }
+    requires root { w < modulus.now }
+    ensures value { result ≡ twiddle modulus.now s w p }
+    ensures residue { result < modulus.now }
+{
+    modulus.pow(w, (p / s) * (p % s))
+}
+
 // One item of the product: the row `k` times `x`.
 fn row_times(kind: Kind, n: u64, w: u64, m: u64, k: u64, x: &[u64]) -> u64
     requires modulus { (2 ≤ m) × (m < 2 ^ 62) }
@@ -109,12 +122,36 @@ mod tests {
     use super::*;
     use std::test::Fail;
 
+    // Whether the transform of `x` is `product`.
+    fn gives(
+        alloc: Global,
+        kind: Kind,
+        w: u64,
+        m: u64,
+        x: &[u64],
+        product: &[u64],
+    ) -> Result<bool, NoMemory>
+        requires modulus { (2 ≤ m) × (m < 2 ^ 62) }
+        requires root { w < m }
+        requires residues { All (λ v. v < m) x.now }
+    {
+        let y = times_plain(alloc, kind, x.len() as u64, w, m, x)?;
+        Ok(y.as_slice() == product)
+    }
+
+    // Products worked out apart from this program.
     #[test]
     fn plain_products(rt: HostRuntime) -> Result<(), Fail> {
-        let fourier = times_plain(rt.alloc(), Kind::Dft, 4, 4, 17, &[1, 2, 3, 4])?;
-        assert_eq!(rt; fourier.as_slice(), [10, 7, 15, 6].as_slice());
-        let hadamard = times_plain(rt.alloc(), Kind::Wht, 4, 0, 5, &[1, 2, 3, 4])?;
-        assert_eq!(rt; hadamard.as_slice(), [0, 3, 1, 0].as_slice());
+        let alloc = rt.alloc();
+        let (dft, wht) = (Kind::Dft, Kind::Wht);
+        assert!(rt; gives(alloc, dft, 4, 17, &[1, 2, 3, 4], &[10, 7, 15, 6])?);
+        assert!(rt; gives(alloc, dft, 1, 2, &[1], &[1])?);
+        assert!(rt; gives(alloc, dft, 3, 7, &[0, 1, 0, 0, 0, 0], &[1, 3, 2, 6, 4, 5])?);
+        assert!(rt; gives(alloc, wht, 0, 5, &[1, 2, 3, 4], &[0, 3, 1, 0])?);
+        assert!(rt; gives(alloc, dft, 4, 15, &[1, 1], &[2, 5])?);
+        assert!(rt; gives(alloc, dft, 9, 10, &[1, 2, 3, 4], &[0, 8, 0, 8])?);
+        let modulus = Modulus::new(17).ok_or("a modulus")?;
+        assert_eq!(rt; twiddle_factor(&modulus, 4, 3, 11), 15);
         Ok(())
     }
 }

@@ -5,3 +5,4 @@ pub mod Permutations
 pub mod Places
 pub mod Scatters
 pub mod Sums
+pub mod WholeLines

@@ -61,3 +61,10 @@ pub at-stride : (r s : ℕ) (x : List ℕ) (a b : ℕ) → a < r → b < s → s
 at-stride r s x a b row below =
     at-list_below (r * s) (λ p. slice_index x (stride r s p)) (a * s + b) (place_below a b r s row below)
     ∙ ap₂ (λ i j. slice_index x (j * r + i)) (row-of a b s below) (column-of a b s below)
+
+-- operators that are equal at each list
+pub on_columns-same : (r s : ℕ) (a b : Operator) (x : List ℕ) → ((y : List ℕ) → a y ≡ b y) → on_columns r s a x ≡ on_columns r s b x
+on_columns-same r s a b x h = list_below-same (r * s) _ _ (λ p _. ap (λ y. slice_index y (p / s)) (h (column r s (p % s) x)))
+
+pub on_blocks-same : (r s : ℕ) (a b : Operator) (x : List ℕ) → ((y : List ℕ) → a y ≡ b y) → on_blocks r s a x ≡ on_blocks r s b x
+on_blocks-same r s a b x h = list_below-same (r * s) _ _ (λ p _. ap (λ y. slice_index y (p % s)) (h (block s (p / s) x)))

@@ -1,5 +1,5 @@
 -- The identities by which products of tensors are rewritten. Each holds for every matrix of the size shown.
-use Rattle.std.specs.Prelude.{◌≡◌, ℕ, ◌+◌, ◌*◌, List, length}
+use Rattle.std.specs.Prelude.{◌≡◌, ℕ, ◌+◌, ◌*◌, ◌/◌, ◌%◌, ◌<◌, List, length}
 use Rattle.operators.specs.Operator.{Operator, gather, scale, on_columns, on_blocks, on_each_block, stride}
 
 -- the operator gives lists of n items
@@ -70,3 +70,18 @@ abbrev pub DiagonalInBlocks : Type 0
 DiagonalInBlocks =
     (m p q : ℕ) (c : ℕ → ℕ) (x : List ℕ) →
     scale m (p * q) c x ≡ on_each_block p q (λ i. scale m q (λ j. c (i * q + j))) x
+
+-- the place from which `Q tensor I_k` takes its item, for a Q that takes the item f i to each place i
+abbrev pub widened : ℕ → (ℕ → ℕ) → ℕ → ℕ
+widened k f p = f (p / k) * k + p % k
+
+-- A gather of n items by f moves whole lines of v items: what goes to a line is a line, item by item
+abbrev pub MovesWholeLines : ℕ → ℕ → (ℕ → ℕ) → Type 0
+MovesWholeLines v n f = (t l : ℕ) → l < v → t * v + l < n → (f (t * v) % v ≡ 0) × (f (t * v + l) ≡ f (t * v) + l)
+
+-- For k = q * v: `Q tensor I_k`, for a permutation Q, moves whole lines of v items
+abbrev pub WholeLines : Type 0
+WholeLines =
+    (m q v : ℕ) (f : ℕ → ℕ) (x : List ℕ) → ((i : ℕ) → i < m → f i < m) →
+    (on_columns m (q * v) (gather m f) x ≡ gather (m * (q * v)) (widened (q * v) f) x)
+    × MovesWholeLines v (m * (q * v)) (widened (q * v) f)

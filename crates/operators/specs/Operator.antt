@@ -41,3 +41,11 @@ on_each_block r s a x = list_below (r * s) (λ p. slice_index (a (p / s) (block 
 -- the stride permutation L(r * s, r): it puts the item j * r + i at the place i * s + j
 abbrev pub stride : ℕ → ℕ → ℕ → ℕ
 stride r s p = (p % s) * r + p / s
+
+-- the places of `GTIN`, for coprime r and s: the item (s * i + r * j) mod r * s goes to the place i * s + j
+abbrev pub good_thomas_in : ℕ → ℕ → ℕ → ℕ
+good_thomas_in r s p = (s * (p / s) + r * (p % s)) % (r * s)
+
+-- the places of `GTOUT`: the item (k mod r) * s + k mod s goes to the place k
+abbrev pub good_thomas_out : ℕ → ℕ → ℕ → ℕ
+good_thomas_out r s k = (k % r) * s + k % s

@@ -1,5 +1,5 @@
 // The identities hold for matrices of every size, linear or not.
-ghost use Rattle.operators.specs.Identities.{TensorOfProduct, ColumnsInBlocks, TurnInBlocks, BlocksInBlocks, ColumnsInColumns, LanesAfterTurn, LanesOfBlocks, TilesFirst, TilesLast, DiagonalInBlocks};
+ghost use Rattle.operators.specs.Identities.{TensorOfProduct, ColumnsInBlocks, TurnInBlocks, BlocksInBlocks, ColumnsInColumns, LanesAfterTurn, LanesOfBlocks, TilesFirst, TilesLast, DiagonalInBlocks, WholeLines};
 ghost use Rattle.operators.specs.Loop.{TensorsAsLoops, GatherOfGather, ScatterOfScatter, GatherOfScale, ScaleOfScatter, GatherAsScatter};
 
 /// The identities by which a product of tensors is cut into blocks for processors (Franchetti et al., 2006).
@@ -8,6 +8,7 @@ pub fn processor_identities()
     ensures columns { ColumnsInBlocks }
     ensures turns { TurnInBlocks }
     ensures blocks { BlocksInBlocks }
+    ensures lines { WholeLines }
     ensures diagonals { DiagonalInBlocks }
 {}
 

@@ -1,4 +1,5 @@
 use Rattle.operators.proofs.Blocks.{tensor_of_product, columns_in_blocks, turn_in_blocks, blocks_in_blocks, diagonal_in_blocks}
+use Rattle.operators.proofs.WholeLines.{whole_lines}
 use Rattle.operators.proofs.laws.processor_identities.Goals as goal
 
 pub returns : goal.returns
@@ -7,5 +8,6 @@ returns _ = record {
   columns = columns_in_blocks;
   turns = turn_in_blocks;
   blocks = blocks_in_blocks;
+  lines = whole_lines;
   diagonals = diagonal_in_blocks;
 }

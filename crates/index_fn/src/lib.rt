@@ -1,0 +1,212 @@
+//! Functions from indices to indices, as terms: what gathers and scatters read and store by (Franchetti et al., 2005).
+#![tactic(auto)]
+
+ghost use Rattle.std.specs.Prelude.{◌≡◌, ℕ, ◌*◌, ◌^◌, ◌<◌, ◌≤◌, Some, IfOk, IfSome};
+ghost use Rattle.std.specs.Option.{IsSomeAnd};
+ghost use Rattle.index_fn.specs.Index.{mapping_of};
+ghost use Rattle.index_fn.specs.Inverse.{Permutes, Undoes, HasFormula, IsBack};
+ghost use Rattle.index_fn.specs.Mapping.{After, HasUnit, IsUnit, ThomasOut, at, size_of, IsDefinedAt, IsWellFormed};
+
+use memory::NoMemory;
+use std::alloc::Global;
+
+/// A function of an index. A permutation and a list have a size, and take the indices below it; the first three have
+/// none, and take every index.
+#[derive(Drop)]
+pub enum Index {
+    /// The index itself.
+    Identity,
+    /// Always this number.
+    Constant(u64),
+    /// A base, and a step for each index.
+    Stride(u64, u64),
+    /// The stride permutation `L(r * s, r)`, by `r` and `s`.
+    StridePermutation(u64, u64),
+    /// The places before a step by coprime factors `r` and `s` (Good and Thomas): `(s * i + r * j) mod r * s` at `i * s + j`.
+    ThomasIn(u64, u64),
+    /// The places after such a step: `(k mod r) * s + k mod s` at `k`.
+    ThomasOut(u64, u64),
+    /// Back from the places after such a step. After `r` and `s` stand the multiple of `s` that leaves 1 by `r` and that
+    /// of `r` that leaves 1 by `s`, both below `r * s`.
+    ThomasBack(u64, u64, u64, u64),
+    /// These places.
+    Explicit(Vec<u64>),
+    /// `Tensor(f, c, g, d)` is `f` at the quotient by `d`, times `c`, and `g` at the remainder.
+    Tensor(Box<Index>, u64, Box<Index>, u64),
+    /// The first at what the second gives.
+    Composed(Box<Index>, Box<Index>),
+}
+
+impl Index {
+    /// The value at `i`.
+    pub fn at(&self, i: u64) -> u64
+        requires well_formed { IsWellFormed (mapping_of self.now) }
+        requires defined { IsDefinedAt (mapping_of self.now) i }
+        ensures { result ≡ at (mapping_of self.now) i }
+    {
+        match self {
+            Index::Identity => i,
+            Index::Constant(value) => *value,
+            Index::Stride(base, step) => base + step * i,
+            Index::StridePermutation(r, s) => (i % s) * r + i / s,
+            Index::ThomasIn(r, s) => (s * (i / s) + r * (i % s)) % (r * s),
+            Index::ThomasOut(r, s) => (i % r) * s + i % s,
+            Index::ThomasBack(r, s, e, g) => ((i / s) * e + (i % s) * g) % (r * s),
+            Index::Explicit(places) => places[i as usize],
+            Index::Tensor(f, c, g, d) => f.at(i / d) * c + g.at(i % d),
+            Index::Composed(f, g) => f.at(g.at(i)),
+        }
+    }
+
+    /// The size of a function that has one.
+    pub fn size(&self) -> Option<u64>
+        requires well_formed { IsWellFormed (mapping_of self.now) }
+        requires fits { IfSome (size_of (mapping_of self.now)) (λ n. n < 2 ^ 64) }
+        ensures { result ≡ size_of (mapping_of self.now) }
+    {
+        match self {
+            Index::Identity | Index::Constant(_) | Index::Stride(_, _) => None,
+            Index::StridePermutation(r, s)
+            | Index::ThomasIn(r, s)
+            | Index::ThomasOut(r, s)
+            | Index::ThomasBack(r, s, _, _) => Some(r * s),
+            Index::Explicit(places) => Some(places.len() as u64),
+            Index::Tensor(f, _, _, d) => match f.size() {
+                Some(n) => Some(n * d),
+                None => None,
+            },
+            Index::Composed(_, g) => g.size(),
+        }
+    }
+
+    /// The same function once more.
+    pub fn copy(&self, alloc: Global) -> Result<Index, NoMemory>
+        ensures { IfOk result (λ g. mapping_of g ≡ mapping_of self.now) }
+    {
+        match self {
+            Index::Identity => Ok(Index::Identity),
+            Index::Constant(value) => Ok(Index::Constant(*value)),
+            Index::Stride(base, step) => Ok(Index::Stride(*base, *step)),
+            Index::StridePermutation(r, s) => Ok(Index::StridePermutation(*r, *s)),
+            Index::ThomasIn(r, s) => Ok(Index::ThomasIn(*r, *s)),
+            Index::ThomasOut(r, s) => Ok(Index::ThomasOut(*r, *s)),
+            Index::ThomasBack(r, s, e, g) => Ok(Index::ThomasBack(*r, *s, *e, *g)),
+            Index::Explicit(places) => Ok(Index::Explicit(Vec::from_slice(alloc, places)?)),
+            Index::Tensor(f, c, g, d) => {
+                let f = Box::new(alloc, f.copy(alloc)?)?;
+                let g = Box::new(alloc, g.copy(alloc)?)?;
+                Ok(Index::Tensor(f, *c, g, *d))
+            }
+            Index::Composed(f, g) => {
+                let f = Box::new(alloc, f.copy(alloc)?)?;
+                let g = Box::new(alloc, g.copy(alloc)?)?;
+                Ok(Index::Composed(f, g))
+            }
+        }
+    }
+
+    /// The inverse of a permutation: a formula where the permutation is a stride permutation or the places after a step
+    /// by coprime factors, or back from them, and else a list.
+    pub fn inverse(&self, alloc: Global) -> Result<Index, NoMemory>
+        requires well_formed { IsWellFormed (mapping_of self.now) }
+        requires permutes { IsSomeAnd (size_of (mapping_of self.now)) (Permutes (mapping_of self.now)) }
+        ensures undone { IfOk result (λ g. IfSome (size_of (mapping_of self.now)) (Undoes (mapping_of self.now) (mapping_of g))) }
+        ensures formula { IfOk result (λ g. HasFormula (mapping_of self.now) (mapping_of g)) }
+    {
+        match self {
+            Index::StridePermutation(r, s) => Ok(Index::StridePermutation(*s, *r)),
+            Index::ThomasBack(r, s, _, _) => Ok(Index::ThomasOut(*r, *s)),
+            Index::ThomasOut(r, s) if *r * *s < 1 << 32 => Ok(back_from(*r, *s)),
+            _ => {
+                let size = self.size().unwrap();
+                inverse_table(alloc, self, size)
+            }
+        }
+    }
+}
+
+/// The function `f` after `g`.
+pub fn compose(alloc: Global, f: &Index, g: &Index) -> Result<Index, NoMemory>
+    ensures { IfOk result (λ h. mapping_of h ≡ After (mapping_of f.now) (mapping_of g.now)) }
+{
+    let outer = Box::new(alloc, f.copy(alloc)?)?;
+    let inner = Box::new(alloc, g.copy(alloc)?)?;
+    Ok(Index::Composed(outer, inner))
+}
+
+// The inverse of a permutation of the numbers below `size`, by its table.
+fn inverse_table(alloc: Global, f: &Index, size: u64) -> Result<Index, NoMemory>
+    requires well_formed { IsWellFormed (mapping_of f.now) }
+    requires permutes { Permutes (mapping_of f.now) size }
+    ensures { IfOk result (λ g. Undoes (mapping_of f.now) (mapping_of g) size) }
+{
+    let mut table = vec![in alloc; 0; size as usize]?;
+    for i in 0..size {
+        table[f.at(i) as usize] = i;
+    }
+    Ok(Index::Explicit(table))
+}
+
+// Back from the places after a step by coprime factors.
+fn back_from(r: u64, s: u64) -> Index
+    requires factors { (1 ≤ r) × (1 ≤ s) }
+    requires fits { r * s < 2 ^ 32 }
+    requires permutes { Permutes (ThomasOut r s) (r * s) }
+    ensures { IsBack r s (mapping_of result) }
+{
+    Index::ThomasBack(r, s, unit(r, s), unit(s, r))
+}
+
+// The multiple of `s` that leaves 1 by `r`.
+fn unit(r: u64, s: u64) -> u64
+    requires factors { (1 ≤ r) × (1 ≤ s) }
+    requires fits { r * s < 2 ^ 64 }
+    requires is_there { HasUnit r s }
+    ensures { IsUnit r s result }
+{
+    for k in 0..r {
+        let e = s * k;
+        if e % r == 1 % r {
+            return e;
+        }
+    }
+    unreachable!()
+}
+
+#[cfg(test)]
+mod tests {
+    use super::*;
+    use std::test::Fail;
+
+    // By hand, from the formulas of the permutations.
+    #[test]
+    fn places(rt: HostRuntime) -> Result<(), Fail> {
+        let alloc = rt.alloc();
+        let turn = Index::StridePermutation(2, 3);
+        let turn_back = turn.inverse(alloc)?;
+        let into = Index::ThomasIn(2, 3);
+        let out = Index::ThomasOut(2, 3);
+        let out_back = Index::ThomasBack(2, 3, 3, 4);
+        for i in 0..6 {
+            let k = i as usize;
+            assert_eq!(rt; turn.at(i), [0, 2, 4, 1, 3, 5][k]);
+            assert_eq!(rt; turn_back.at(i), [0, 3, 1, 4, 2, 5][k]);
+            assert_eq!(rt; into.at(i), [0, 2, 4, 3, 5, 1][k]);
+            assert_eq!(rt; out.at(i), [0, 4, 2, 3, 1, 5][k]);
+            assert_eq!(rt; out_back.at(i), [0, 4, 2, 3, 1, 5][k]);
+        }
+        let composed = compose(alloc, &Index::Stride(1, 2), &Index::Stride(0, 3))?;
+        assert_eq!(rt; composed.at(2), 13);
+        Ok(())
+    }
+
+    #[test]
+    fn inverse_of_a_list(rt: HostRuntime) -> Result<(), Fail> {
+        let list = Index::Explicit(vec![in rt.alloc(); 1, 2, 0]?);
+        let back = list.inverse(rt.alloc())?;
+        assert_eq!(rt; back.at(0), 2);
+        assert_eq!(rt; back.at(1), 0);
+        assert_eq!(rt; back.at(2), 1);
+        Ok(())
+    }
+}
