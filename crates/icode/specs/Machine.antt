@@ -1,5 +1,5 @@
 -- The machine: what an action does, what a turn does, and whole runs.
-use Rattle.std.specs.Prelude.{◌≡◌, ◌≢◌, ℕ, zero, suc, ◌+◌, ◌-◌, ◌*◌, ◌/◌, ◌%◌, ◌<◌, List, [], ◌∷◌, ◌++◌, Bool, map, length, replicate, Option, Some, None, Contains, flat_map, nat_lt, if◌then◌else◌, slice_get, slice_index, slice_index_or, slice_set, take}
+use Rattle.std.specs.Prelude.{◌≡◌, ◌≢◌, ℕ, zero, suc, ◌+◌, ◌-◌, ◌*◌, ◌/◌, ◌<◌, List, [], ◌∷◌, ◌++◌, Bool, map, length, replicate, Option, Some, None, Contains, flat_map, nat_lt, if◌then◌else◌, slice_get, slice_index, slice_index_or, slice_set, take}
 use Rattle.std.specs.List.{range_with_len, list_any}
 use Rattle.ring_mod.specs.Residue.{sum_mod, difference_mod, negation_mod, product_mod}
 use Rattle.icode.specs.declared.action.Action.{Action}
