@@ -1,5 +1,5 @@
 -- What a program as plain data stands for: its lists of actions.
-use Rattle.std.specs.Prelude.{ℕ, ◌+◌, ◌-◌, ◌*◌, ◌/◌, ◌^◌, ◌<◌, ◌≤◌, ◌⊎◌, List, [], ◌∷◌, ◌++◌, map, length, replicate, flat_map, slice_index, slice_index_or, All}
+use Rattle.std.specs.Prelude.{ℕ, ◌+◌, ◌-◌, ◌*◌, ◌^◌, ◌<◌, ◌≤◌, ◌⊎◌, List, [], ◌∷◌, ◌++◌, map, length, replicate, flat_map, slice_index, slice_index_or, All}
 use Rattle.std.specs.List.{range_with_len}
 use Rattle.operators.specs.Sum.{sum_below, list_below}
 use Rattle.icode.specs.declared.action.Action.{Action}
@@ -7,12 +7,8 @@ use Rattle.icode.specs.declared.action.Action.TheVariants as actions
 use Rattle.icode.specs.declared.program.Array.{Array}
 use Rattle.icode.specs.declared.program.Array.TheVariants.{X, Y, A, B}
 use Rattle.icode.specs.Expression.{sum_numbers}
-use Rattle.icode.specs.Machine.{Code}
+use Rattle.icode.specs.Machine.{Code, whole_lines}
 use Rattle.icode.specs.Plain.{PlainOp, PlainStmt, PlainBody, PlainProgram, Load, Store, Zero, Add, Sub, Neg, MulConst, MulTable, Tile, Loop, Do, NoStmts, AndStmts}
-
--- so many words, rounded up to whole lines
-abbrev pub whole_lines : ℕ → ℕ → ℕ
-whole_lines size line = (size + (line - 1)) / line * line
 
 -- where an array of n words begins
 abbrev pub array_start : ℕ → Array → ℕ

@@ -211,9 +211,13 @@ whole_counts code q = counts_of code.lanes (flat_map (λ phase. acts code phase 
 
 -- Whole runs
 
--- the size, rounded up to whole lines
+-- so many words, rounded up to whole lines
+abbrev pub whole_lines : ℕ → ℕ → ℕ
+whole_lines size line = (size + (line - 1)) / line * line
+
+-- the words of an array
 abbrev pub padded : Code → ℕ
-padded code = (code.size + (code.line - 1)) / code.line * code.line
+padded code = whole_lines code.size code.line
 
 -- the input stands in the first words, and all else is 0
 abbrev pub start : Code → List ℕ → State
