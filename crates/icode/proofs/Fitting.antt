@@ -9,6 +9,8 @@ use Rattle.icode.specs.declared.action.Action.TheVariants.{Load, Store, Zero, Ad
 use Rattle.icode.specs.Actions.{Step, StepFits, RegistersFit, FactorsFit, PlainFits, steps_of_phase, steps_of_body}
 use Rattle.icode.specs.Plain.{PlainBody, PlainProgram, NoStmts}
 use Rattle.operators.specs.Sum.{sum_below}
+use Rattle.icode.specs.Lengths.{len_of_body}
+use Rattle.icode.proofs.Lengths.{body_length}
 use Rattle.icode.proofs.Bools.{both_true}
 
 abbrev registers_fit : ℕ → ℕ → Action → Bool
@@ -121,3 +123,21 @@ fits_from_test p h =
     beyond phase q past =
         let none = ap (λ body. steps_of_body p body [] q) (none_past p.phases phase past) in
         λ k d lt. absurd (omega (arith, ap length none))
+
+-- a program whose statements stand for no action, whatever the counts of its loops
+pub fits_without_actions : (p : PlainProgram) → ((phase : ℕ) → len_of_body (slice_index_or p.phases phase NoStmts) ≡ 0) → PlainFits p
+fits_without_actions p none =
+    record {
+      few = small (length p.phases) p.procs (λ phase q. length (steps_of_phase p phase q)) here;
+      each = λ phase q below k d lt. absurd (omega (arith, here phase q, lt));
+    }
+  where
+    here : (phase q : ℕ) → length (steps_of_phase p phase q) ≡ 0
+    here phase q = body_length p (slice_index_or p.phases phase NoStmts) [] q ∙ none phase
+
+    zeros : (n : ℕ) (f : ℕ → ℕ) → ((i : ℕ) → f i ≡ 0) → sum_below n f ≡ 0
+    zeros zero f h = refl
+    zeros (suc n) f h = omega (arith, zeros n f h, h n)
+
+    small : (n k : ℕ) (f : ℕ → ℕ → ℕ) → ((i j : ℕ) → f i j ≡ 0) → sum_below n (λ i. sum_below k (f i)) < 2 ^ 59
+    small n k f h = let all = zeros n (λ i. sum_below k (f i)) (λ i. zeros k (f i) (h i)) in omega (arith, all)

@@ -1,7 +1,7 @@
--- Two programs written out.
-use Rattle.std.specs.Prelude.{ℕ, List, [], ◌∷◌}
+-- Programs written out.
+use Rattle.std.specs.Prelude.{ℕ, ◌-◌, ◌^◌, List, [], ◌∷◌}
 use Rattle.icode.specs.declared.program.Array.TheVariants as arrays
-use Rattle.icode.specs.Plain.{PlainExpr, PlainStmt, PlainBody, PlainProgram, Sum, NoParts, AndParts, Proc, Load, Store, Add, Sub, MulConst, MulTable, Do, body_of}
+use Rattle.icode.specs.Plain.{PlainExpr, PlainStmt, PlainBody, PlainProgram, Sum, NoParts, AndParts, Proc, Load, Store, Add, Sub, MulConst, MulTable, Loop, Do, NoStmts, AndStmts, body_of}
 
 -- a constant place
 abbrev pub at : ℕ → PlainExpr
@@ -66,4 +66,21 @@ quad =
               ∷ Do (Store arrays.Y (at_proc 2 1) 3)
               ∷ [])
           ∷ [];
+    }
+
+-- loops with the greatest counts in one another, round nothing
+abbrev pub greatest_loop : PlainBody → PlainBody
+greatest_loop body = AndStmts (Loop (2 ^ 32 - 1) body) NoStmts
+
+abbrev pub idle : PlainProgram
+idle =
+    record {
+      size = 4;
+      modulus = 17;
+      procs = 1;
+      line = 4;
+      lanes = 1;
+      regs = 0;
+      tables = [];
+      phases = greatest_loop (greatest_loop (greatest_loop NoStmts)) ∷ [];
     }
