@@ -1,0 +1,250 @@
+ghost use Rattle.std.specs.Prelude.{◌≡◌, ◌++◌, ◌≤◌, ℕ, IsTrue, IfOk, OnOk, codes, decimal, flat_map};
+ghost use Rattle.std.specs.List.{list_all};
+ghost use Rattle.icode.specs.Plain.{plain_expr, plain_part, plain_op, plain_stmt, plain_body, plain_tables, plain_phases};
+ghost use Rattle.listing_text.specs.Listing.{sum_text, part_text, array_text, op_text, stmt_text, body_text, values_text, table_text, tables_text, phase_text, header_text, listing_of, plain_program};
+ghost use Rattle.listing_text.specs.Nests.{is_nest_within, are_nests_within};
+
+use icode::program::{Array, Expr, Op, Part, Program, Stmt};
+use itoa::Buffer;
+use memory::NoMemory;
+use std::alloc::{AllocError, Global};
+
+// A word and a number behind it.
+fn put(out: &mut Vec<u8>, word: &[u8], number: u64) -> Result<(), AllocError>
+    ensures { OnOk result (out.new.items ≡ out.old.items ++ word.now ++ decimal number) }
+{
+    let mut buffer = Buffer::new();
+    out.extend_from_slice(word)?;
+    out.extend_from_slice(buffer.format(number).as_bytes())
+}
+
+/// Writes a place.
+#[cycle(printing)]
+pub fn put_expr(out: &mut Vec<u8>, place: &Expr) -> Result<(), AllocError>
+    ensures { OnOk result (out.new.items ≡ out.old.items ++ sum_text (plain_expr place.now)) }
+{
+    put(out, b"", place.constant)?;
+    for part in &place.parts {
+        put_part(out, part)?;
+    }
+    Ok(())
+}
+
+#[cycle(printing)]
+fn put_part(out: &mut Vec<u8>, part: &Part) -> Result<(), AllocError>
+    ensures { OnOk result (out.new.items ≡ out.old.items ++ part_text (plain_part part.now)) }
+{
+    match part {
+        Part::Proc { factor } => put(out, b"+q*", *factor),
+        Part::Var { depth, factor } => {
+            put(out, b"+v", *depth)?;
+            put(out, b"*", *factor)
+        }
+        Part::Product {
+            outer,
+            inner,
+            factor,
+        } => {
+            put(out, b"+v", *outer)?;
+            put(out, b"*v", *inner)?;
+            put(out, b"*", *factor)
+        }
+        Part::Rem {
+            of,
+            divisor,
+            factor,
+        } => {
+            out.extend_from_slice(b"+(")?;
+            put_expr(out, of)?;
+            put(out, b")%", *divisor)?;
+            put(out, b"*", *factor)
+        }
+        Part::Quot {
+            of,
+            divisor,
+            factor,
+        } => {
+            out.extend_from_slice(b"+(")?;
+            put_expr(out, of)?;
+            put(out, b")/", *divisor)?;
+            put(out, b"*", *factor)
+        }
+    }
+}
+
+fn put_place(out: &mut Vec<u8>, array: Array, place: &Expr) -> Result<(), AllocError>
+    ensures { OnOk result (out.new.items ≡ out.old.items ++ array_text array ++ codes "[" ++ sum_text (plain_expr place.now) ++ codes "]") }
+{
+    out.extend_from_slice(match array {
+        Array::X => b"X",
+        Array::Y => b"Y",
+        Array::A => b"A",
+        Array::B => b"B",
+    })?;
+    out.extend_from_slice(b"[")?;
+    put_expr(out, place)?;
+    out.extend_from_slice(b"]")
+}
+
+fn put_op(out: &mut Vec<u8>, op: &Op) -> Result<(), AllocError>
+    ensures { OnOk result (out.new.items ≡ out.old.items ++ op_text (plain_op op.now)) }
+{
+    match op {
+        Op::Load {
+            register,
+            array,
+            place,
+        } => {
+            put(out, b"ld r", *register)?;
+            out.extend_from_slice(b" ")?;
+            put_place(out, *array, place)
+        }
+        Op::Store {
+            array,
+            place,
+            register,
+        } => {
+            out.extend_from_slice(b"st ")?;
+            put_place(out, *array, place)?;
+            put(out, b" r", *register)
+        }
+        Op::Zero { register } => put(out, b"zero r", *register),
+        Op::Add {
+            register,
+            left,
+            right,
+        } => {
+            put(out, b"add r", *register)?;
+            put(out, b" r", *left)?;
+            put(out, b" r", *right)
+        }
+        Op::Sub {
+            register,
+            left,
+            right,
+        } => {
+            put(out, b"sub r", *register)?;
+            put(out, b" r", *left)?;
+            put(out, b" r", *right)
+        }
+        Op::Neg { register, source } => {
+            put(out, b"neg r", *register)?;
+            put(out, b" r", *source)
+        }
+        Op::MulConst {
+            register,
+            source,
+            factor,
+        } => {
+            put(out, b"mul r", *register)?;
+            put(out, b" r", *source)?;
+            put(out, b" ", *factor)
+        }
+        Op::MulTable {
+            register,
+            source,
+            table,
+            place,
+            step,
+        } => {
+            put(out, b"mul r", *register)?;
+            put(out, b" r", *source)?;
+            put(out, b" t", *table)?;
+            out.extend_from_slice(b"[")?;
+            put_expr(out, place)?;
+            put(out, b"] step ", *step)
+        }
+        Op::Tile { register, source } => {
+            put(out, b"tile r", *register)?;
+            put(out, b" r", *source)
+        }
+    }
+}
+
+// A statement inside so many loops.
+fn put_stmt(out: &mut Vec<u8>, stmt: &Stmt, depth: u64) -> Result<(), AllocError>
+    requires { IsTrue (is_nest_within (plain_stmt stmt.now) depth) }
+    ensures { OnOk result (out.new.items ≡ out.old.items ++ stmt_text depth (plain_stmt stmt.now)) }
+{
+    match stmt {
+        Stmt::Loop { count, body } => {
+            put(out, b"for v", depth)?;
+            put(out, b" ", *count)?;
+            out.extend_from_slice(b"\n")?;
+            for inner in body {
+                put_stmt(out, inner, depth + 1)?;
+            }
+            out.extend_from_slice(b"end\n")
+        }
+        Stmt::Do(op) => {
+            put_op(out, op)?;
+            out.extend_from_slice(b"\n")
+        }
+    }
+}
+
+fn put_header(out: &mut Vec<u8>, program: &Program) -> Result<(), AllocError>
+    ensures { OnOk result (out.new.items ≡ out.old.items ++ header_text (plain_program program.now)) }
+{
+    put(out, b"program size ", program.size)?;
+    put(out, b" mod ", program.modulus)?;
+    put(out, b" procs ", program.procs)?;
+    put(out, b" line ", program.line)?;
+    put(out, b" lanes ", program.lanes)?;
+    put(out, b" regs ", program.regs)
+}
+
+fn put_table(out: &mut Vec<u8>, number: u64, entries: &[u64]) -> Result<(), AllocError>
+    ensures { OnOk result (out.new.items ≡ out.old.items ++ table_text number entries.now) }
+{
+    put(out, b"table ", number)?;
+    out.extend_from_slice(b" values")?;
+    for entry in entries {
+        put(out, b" ", *entry)?;
+    }
+    out.extend_from_slice(b"\n")
+}
+
+fn put_tables(out: &mut Vec<u8>, tables: &[Vec<u64>]) -> Result<(), AllocError>
+    ensures { OnOk result (out.new.items ≡ out.old.items ++ tables_text 0 (plain_tables tables.now)) }
+{
+    for (number, entries) in tables.iter().enumerate() {
+        put_table(out, number as u64, entries)?;
+    }
+    Ok(())
+}
+
+/// Writes statements that stand in no loop, of which none is deeper than a program's may be.
+pub fn put_body(out: &mut Vec<u8>, body: &[Stmt]) -> Result<(), AllocError>
+    requires { IsTrue (are_nests_within (plain_body body.now) 0) }
+    ensures { OnOk result (out.new.items ≡ out.old.items ++ body_text 0 (plain_body body.now)) }
+{
+    for stmt in body {
+        put_stmt(out, stmt, 0)?;
+    }
+    Ok(())
+}
+
+fn put_phases(out: &mut Vec<u8>, phases: &[Vec<Stmt>]) -> Result<(), AllocError>
+    requires { IsTrue (list_all (λ body. are_nests_within body 0) (plain_phases phases.now)) }
+    ensures { OnOk result (out.new.items ≡ out.old.items ++ flat_map phase_text (plain_phases phases.now)) }
+{
+    for body in phases {
+        out.extend_from_slice(b"phase\n")?;
+        put_body(out, body)?;
+        out.extend_from_slice(b"end\n")?;
+    }
+    Ok(())
+}
+
+/// The listing of a program.
+pub fn print_listing(alloc: Global, program: &Program) -> Result<Vec<u8>, NoMemory>
+    ensures { IfOk result (λ text. text.items ≡ listing_of (plain_program program.now)) }
+{
+    let mut out = Vec::new(alloc);
+    put_header(&mut out, program)?;
+    out.extend_from_slice(b"\n")?;
+    put_tables(&mut out, &program.tables)?;
+    put_phases(&mut out, &program.phases)?;
+    Ok(out)
+}

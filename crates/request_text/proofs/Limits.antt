@@ -1,0 +1,135 @@
+-- What the tests of a request say.
+use Rattle.std.proofs.Common.{◌≡◌, ℕ, ◌-◌, ◌^◌, ◌<◌, ◌≤◌, ◌%◌, Bool, true, false, cond, eqb, ltb, leb, ◌&&◌, List, Result, Ok, Err, refl, sym, ap, subst, ◌∙◌, arith, IsTrue}
+use Rattle.std.specs.Prelude.{IfOk}
+use Rattle.std.specs.Int.{is_power_of_two}
+use Rattle.std.proofs.lemmas.Bool.{leb-true, leb-false, ltb-true, eqb-true, and_parts}
+use Rattle.matrix_meaning.specs.declared.Kind.{Kind}
+use Rattle.matrix_meaning.specs.declared.Kind.TheVariants.{Dft, Wht}
+use Rattle.matrix_meaning.specs.declared.Request.{Request}
+use Rattle.request_text.specs.declared.fault.Field.{Field}
+use Rattle.request_text.specs.declared.fault.Field.TheVariants.{Size, Mod, Root, Procs, Line, Lanes, Unroll, Budget, Weight}
+use Rattle.request_text.specs.declared.fault.RequestFault.{RequestFault}
+use Rattle.request_text.specs.declared.fault.RequestFault.TheVariants.{Syntax, Range, Shape, LanesLine}
+use Rattle.request_text.specs.Line.{request_line}
+use Rattle.request_text.specs.Limits.{◌>>◌, within, below, shaped, divided, judged}
+use Rattle.request_text.specs.Answer.{Answers}
+use Rattle.matrix_meaning.specs.Valid.{IsInRange, HasShape}
+
+passes : {A : Type 0} (t : Result (Unit {0}) RequestFault) (n : Result A RequestFault) (q : A) → (t >> n) ≡ Ok q → (t ≡ Ok tt) × (n ≡ Ok q)
+passes (Ok x) n q e = (refl, e)
+passes (Err f) n q e = absurd cc
+
+abbrev passed : Result (Unit {0}) RequestFault
+passed = Ok tt
+
+guard : (b : Bool) (f : RequestFault) → cond b passed (Err f) ≡ passed → b ≡ true
+guard true f e = refl
+guard false f e = absurd cc
+
+within_is : (field : Field) (v low high : ℕ) → within field v low high ≡ Ok tt → (low ≤ v) × (v ≤ high)
+within_is field v low high e =
+    let both = and_parts (leb low v) (leb v high) (guard (leb low v && leb v high) (Range field v) e) in
+    (leb-true low v both.0, leb-true v high both.1)
+
+below_is : (field : Field) (v limit : ℕ) → below field v limit ≡ Ok tt → v < limit
+below_is field v limit e = ltb-true v limit (guard (ltb v limit) (Range field v) e)
+
+shaped_is : (kind : Kind) (size : ℕ) → shaped kind size ≡ Ok tt → HasShape kind size
+shaped_is Dft size e = tt
+shaped_is Wht size e = guard (is_power_of_two size) (Shape size) e
+
+divided_is : (procs line lanes : ℕ) → divided procs line lanes ≡ Ok tt → 1 < procs → line % lanes ≡ 0
+divided_is procs line lanes e more = cases (leb procs 1) refl e
+  where
+    cases : (k : Bool) → leb procs 1 ≡ k → cond k passed (cond (eqb (line % lanes) 0) passed (Err (LanesLine lanes line))) ≡ passed → line % lanes ≡ 0
+    cases true h e = absurd (omega (arith, leb-true procs 1 h, more))
+    cases false h e = eqb-true (line % lanes) 0 (guard (eqb (line % lanes) 0) (LanesLine lanes line) e)
+
+pub in_range : (r q : Request) → judged r ≡ Ok q → IsInRange r × (r ≡ q)
+unfolding judged
+in_range r q e =
+    let s1 = passes (within Size r.size 1 65536) _ q e in
+    let s2 = passes (within Mod r.modulus 2 (2 ^ 62 - 1)) _ q s1.1 in
+    let s3 = passes (below Root r.root r.modulus) _ q s2.1 in
+    let s4 = passes (within Procs r.procs 1 16) _ q s3.1 in
+    let s5 = passes (within Line r.line 1 64) _ q s4.1 in
+    let s6 = passes (within Lanes r.lanes 1 16) _ q s5.1 in
+    let s7 = passes (within Unroll r.unroll 2 64) _ q s6.1 in
+    let s8 = passes (within Budget r.budget 1 1000000000000) _ q s7.1 in
+    let s9 = passes (within Weight r.weight 1 1000) _ q s8.1 in
+    let s10 = passes (shaped r.kind r.size) _ q s9.1 in
+    let s11 = passes (divided r.procs r.line r.lanes) _ q s10.1 in (
+      record {
+        size = within_is Size r.size 1 65536 s1.0;
+        modulus = within_is Mod r.modulus 2 (2 ^ 62 - 1) s2.0;
+        root = below_is Root r.root r.modulus s3.0;
+        procs = within_is Procs r.procs 1 16 s4.0;
+        line = within_is Line r.line 1 64 s5.0;
+        lanes = within_is Lanes r.lanes 1 16 s6.0;
+        unroll = within_is Unroll r.unroll 2 64 s7.0;
+        budget = within_is Budget r.budget 1 1000000000000 s8.0;
+        weight = within_is Weight r.weight 1 1000 s9.0;
+        shape = shaped_is r.kind r.size s10.0;
+        lanes_in_line = divided_is r.procs r.line r.lanes s11.0;
+      },
+      (let same : r ≡ q = cc in same),
+    )
+
+-- ---- no test finds fault with the spelling
+
+abbrev IsTest : {A : Type 0} → Result A RequestFault → Type 0
+IsTest (Ok x) = Unit {0}
+IsTest (Err (Syntax at)) = ⊥
+IsTest (Err (Range field value)) = Unit {0}
+IsTest (Err (Shape size)) = Unit {0}
+IsTest (Err (LanesLine lanes line)) = Unit {0}
+
+then_test : {A : Type 0} (t : Result (Unit {0}) RequestFault) (n : Result A RequestFault) → IsTest t → IsTest n → IsTest (t >> n)
+then_test (Ok x) n a b = b
+then_test (Err (Syntax at)) n a b = a
+then_test (Err (Range field value)) n a b = tt
+then_test (Err (Shape size)) n a b = tt
+then_test (Err (LanesLine lanes line)) n a b = tt
+
+guard_test : (b : Bool) (f : RequestFault) → IsTest (let e : Result (Unit {0}) RequestFault = Err f in e) → IsTest (let e : Result (Unit {0}) RequestFault = cond b (Ok tt) (Err f) in e)
+guard_test true f h = tt
+guard_test false f h = h
+
+shaped_test : (kind : Kind) (size : ℕ) → IsTest (shaped kind size)
+shaped_test Dft size = tt
+shaped_test Wht size = guard_test (is_power_of_two size) (Shape size) tt
+
+divided_test : (procs line lanes : ℕ) → IsTest (divided procs line lanes)
+divided_test procs line lanes = cases (leb procs 1)
+  where
+    cases : (k : Bool) → IsTest (let e : Result (Unit {0}) RequestFault = cond k (Ok tt) (cond (eqb (line % lanes) 0) (Ok tt) (Err (LanesLine lanes line))) in e)
+    cases true = tt
+    cases false = guard_test (eqb (line % lanes) 0) (LanesLine lanes line) tt
+
+judged_test : (r : Request) → IsTest (judged r)
+unfolding judged
+judged_test r =
+    then_test (within Size r.size 1 65536) _ (guard_test _ _ tt)
+    (then_test (within Mod r.modulus 2 (2 ^ 62 - 1)) _ (guard_test _ _ tt)
+    (then_test (below Root r.root r.modulus) _ (guard_test _ _ tt)
+    (then_test (within Procs r.procs 1 16) _ (guard_test _ _ tt)
+    (then_test (within Line r.line 1 64) _ (guard_test _ _ tt)
+    (then_test (within Lanes r.lanes 1 16) _ (guard_test _ _ tt)
+    (then_test (within Unroll r.unroll 2 64) _ (guard_test _ _ tt)
+    (then_test (within Budget r.budget 1 1000000000000) _ (guard_test _ _ tt)
+    (then_test (within Weight r.weight 1 1000) _ (guard_test _ _ tt)
+    (then_test (shaped r.kind r.size) _ (shaped_test r.kind r.size)
+    (then_test (divided r.procs r.line r.lanes) _ (divided_test r.procs r.line r.lanes) tt))))))))))
+
+-- what the tests say of a request that the line spells is the answer for the line
+pub judged_answers : (text : List ℕ) (r : Request) (out : Result Request RequestFault) → request_line text r → out ≡ judged r → Answers text out
+judged_answers text r (Ok q) l e = let s = in_range r q (sym e) in subst (λ x. request_line text x × IsInRange x) s.1 (l, s.0)
+judged_answers text r (Err (Syntax at)) l e = absurd (subst IsTest (sym e) (judged_test r))
+judged_answers text r (Err (Range field value)) l e = (r, l, sym e)
+judged_answers text r (Err (Shape size)) l e = (r, l, sym e)
+judged_answers text r (Err (LanesLine lanes line)) l e = (r, l, sym e)
+
+-- what holds of a request holds of what the tests let through
+pub judged_keeps : (P : Request → Type 0) (r : Request) (out : Result Request RequestFault) → P r → out ≡ judged r → IfOk out P
+judged_keeps P r (Ok q) p e = subst P (in_range r q (sym e)).1 p
+judged_keeps P r (Err fault) p e = tt

@@ -1,0 +1,25 @@
+use Rattle.std.proofs.Common.{Ok, Err, sym, ap, ◌∙◌}
+use Rattle.request_text.specs.Limits.{judged}
+use Rattle.request_text.specs.Line.{IsPlain}
+use Rattle.request_text.proofs.Line.{line_judges, line_is_plain}
+use Rattle.request_text.proofs.Limits.{judged_answers, judged_keeps}
+use Rattle.request_text.proofs.request.read_request.Goals as goal
+
+pub overflow_sub-result : goal.overflow_sub-result
+overflow_sub-result c = (line_judges c.args.text.now (Err c.in-Err.stuck.left) c.in-Err.ensures).0
+
+pub returns-in-Ok-clause-answer : goal.returns-in-Ok-clause-answer
+returns-in-Ok-clause-answer c = judged_answers c.args.text.now c.in-Ok.request c.checked.result (line_judges c.args.text.now (Ok c.in-Ok.request) c.in-Ok.ensures).0 c.checked.ensures
+
+pub returns-in-Ok-clause-only : goal.returns-in-Ok-clause-only
+returns-in-Ok-clause-only c = λ r l. c.checked.ensures ∙ ap judged (sym ((line_judges c.args.text.now (Ok c.in-Ok.request) c.in-Ok.ensures).1 r l))
+
+pub returns-in-Err-clause-answer : goal.returns-in-Err-clause-answer
+returns-in-Err-clause-answer c = (line_judges c.args.text.now (Err c.in-Err.stuck.left) c.in-Err.ensures).1
+
+pub returns-in-Err-clause-only : goal.returns-in-Err-clause-only
+returns-in-Err-clause-only c = λ r l. absurd ((line_judges c.args.text.now (Err c.in-Err.stuck.left) c.in-Err.ensures).1.nothing r l)
+
+pub returns-in-Ok-clause-plain : goal.returns-in-Ok-clause-plain
+returns-in-Ok-clause-plain c =
+    judged_keeps IsPlain c.in-Ok.request c.checked.result (line_is_plain c.args.text.now c.in-Ok.request (line_judges c.args.text.now (Ok c.in-Ok.request) c.in-Ok.ensures).0) c.checked.ensures

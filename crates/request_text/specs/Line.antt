@@ -1,0 +1,54 @@
+-- The grammar of the request line.
+use Rattle.std.specs.Prelude.{◌≡◌, ℕ, List, [], ◌∷◌, ◌^◌, codes, slice_index}
+use Rattle.matrix_meaning.specs.declared.Kind.{Kind}
+use Rattle.matrix_meaning.specs.declared.Kind.TheVariants.{Dft, Wht}
+use Rattle.matrix_meaning.specs.declared.Request.{Request}
+use Rattle.grammar.specs.Grammar.{◌>>=◌, ◌>>◌, pure, one_of, number, named_number, parts}
+
+-- each number is below this
+abbrev pub above_all : ℕ
+above_all = 2 ^ 64
+
+-- the transforms that a line can name
+abbrev pub kinds : List (List ℕ × Kind)
+kinds = (codes "dft ", Dft) ∷ []
+
+abbrev pub root_of : Kind → List ℕ → ℕ → Type 0
+root_of Dft = named_number (codes " root ") above_all
+root_of Wht = pure 0
+
+-- the optional parts in their order, each with its value when absent
+abbrev pub optional_parts : List (List ℕ × ℕ)
+optional_parts = (codes " unroll ", 8) ∷ (codes " budget ", 100000000) ∷ []
+
+abbrev pub request_of : Kind → (size modulus root : ℕ) → List ℕ → Request
+request_of kind size modulus root options = record {
+  kind = kind;
+  size = size;
+  modulus = modulus;
+  root = root;
+  procs = 1;
+  line = 1;
+  lanes = 1;
+  unroll = slice_index options 0;
+  budget = slice_index options 1;
+  weight = 1;
+}
+
+-- the request line, without its end
+abbrev pub request_line : List ℕ → Request → Type 0
+request_line = do
+  kind ← one_of kinds
+  size ← number above_all
+  modulus ← named_number (codes " mod ") above_all
+  root ← root_of kind
+  options ← parts above_all optional_parts
+  pure (request_of kind size modulus root options)
+
+-- a Fourier transform for one processor with one lane, where each operation counts the same
+pub record IsPlain (r : Request) : Type 0 where
+  pub kind : r.kind ≡ Dft
+  pub procs : r.procs ≡ 1
+  pub line : r.line ≡ 1
+  pub lanes : r.lanes ≡ 1
+  pub weight : r.weight ≡ 1

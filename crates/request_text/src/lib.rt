@@ -1,0 +1,13 @@
+//! The texts of a request: its line, and the word that names a schedule.
+#![tactic(auto)]
+
+mod fault;
+mod request;
+mod schedule;
+
+pub use fault::{Field, RequestFault};
+pub use request::read_request;
+pub use schedule::{Schedule, ScheduleFault, read_schedule};
+
+#[cfg(test)]
+mod tests;
