@@ -1,0 +1,8 @@
+pub mod Coprime
+pub mod Splits
+pub mod Sizes
+pub mod CostBounds
+pub mod Products
+pub mod OrderLaws
+pub mod PassLaws
+pub mod TrafficLaws
