@@ -5,4 +5,5 @@ pub mod CostBounds
 pub mod Products
 pub mod OrderLaws
 pub mod PassLaws
+pub mod PowerOfTwo
 pub mod TrafficLaws
