@@ -51,7 +51,8 @@ pub(crate) fn leaf_plan(c: &Ctx, d: u64) -> Option<Plan>
     }
 }
 
-fn join(alloc: Global, rule: Rule, a: Tree, b: Tree) -> Result<Tree, NoMemory>
+/// The node of a rule with these parts.
+pub(crate) fn join(alloc: Global, rule: Rule, a: Tree, b: Tree) -> Result<Tree, NoMemory>
     ensures { IfOk result (λ t. breakdown_of t ≡ node rule (breakdown_of a) (breakdown_of b)) }
 {
     let a = Box::new(alloc, a)?;
