@@ -1,0 +1,140 @@
+// Certificates as JSON text.
+ghost use Rattle.std.specs.Prelude.{◌≡◌, ℕ, Option, Some, option_map, option_and_then, codes, IfOk, IfSome, IfNone, IsUtf8};
+ghost use Rattle.serde_json.specs.Read.{read};
+ghost use Rattle.serde_json.specs.View.{view, items_view};
+ghost use Rattle.plan_cert.specs.Document.{choice_named, number_at, choice_at, has_items, row_of, rows_of, has_number, has_members, has_head, document_rows};
+
+use crate::certificate::Row;
+use serde_json::Value;
+use memory::NoMemory;
+use std::alloc::Global;
+use tree_model::Rule;
+
+/// The value that a text is, if it is JSON.
+pub(crate) fn document(alloc: Global, text: &[u8]) -> Result<Option<Value>, NoMemory>
+    ensures some { IfOk result (λ o. IfSome o (λ v. IsUtf8 text.now)) }
+    ensures value { IfOk result (λ o. IsUtf8 text.now → option_map (λ v. view v) o ≡ read text.now) }
+{
+    match Value::from_slice(alloc, text) {
+        Ok(value) => Ok(Some(value)),
+        Err(error) => {
+            if error.is_memory() {
+                Err(NoMemory)
+            } else {
+                Ok(None)
+            }
+        }
+    }
+}
+
+/// The rows of a certificate for this size.
+pub(crate) fn document_rows(
+    alloc: Global,
+    size: u64,
+    value: &Value,
+) -> Result<Option<Vec<Row>>, NoMemory>
+    ensures { IfOk result (λ o. option_map (λ rows. rows.items) o ≡ document_rows size (view value.now)) }
+{
+    if !has_head(value, size) {
+        return Ok(None);
+    }
+    let Some(rows) = value.get("rows").and_then(Value::as_array) else {
+        return Ok(None);
+    };
+    rows_of(alloc, rows)
+}
+
+/// Whether a value has the members of a certificate for this size.
+fn has_head(value: &Value, size: u64) -> bool
+    ensures { result ≡ has_head size (view value.now) }
+{
+    has_three_members(value) && has_number(value, "version", 1) && has_number(value, "size", size)
+}
+
+fn has_three_members(value: &Value) -> bool
+    ensures { result ≡ has_members 3 (view value.now) }
+{
+    match value.as_object() {
+        Some(members) => members.len() == 3,
+        None => false,
+    }
+}
+
+fn has_five_items(value: &Value) -> bool
+    ensures { result ≡ has_items 5 (view value.now) }
+{
+    match value.as_array() {
+        Some(items) => items.len() == 5,
+        None => false,
+    }
+}
+
+fn has_number(value: &Value, name: &str, number: u64) -> bool
+    ensures { result ≡ has_number name.now number (view value.now) }
+{
+    match value.get(name).and_then(Value::as_u64) {
+        Some(found) => found == number,
+        None => false,
+    }
+}
+
+fn rows_of(alloc: Global, values: &[Value]) -> Result<Option<Vec<Row>>, NoMemory>
+    ensures { IfOk result (λ o. option_map (λ rows. rows.items) o ≡ rows_of (items_view values.now)) }
+{
+    let mut rows = Vec::new(alloc);
+    for value in values {
+        let Some(row) = row_of(value) else {
+            return Ok(None);
+        };
+        rows.push(row)?;
+    }
+    Ok(Some(rows))
+}
+
+fn row_of(value: &Value) -> Option<Row>
+    ensures { result ≡ row_of (view value.now) }
+{
+    if !has_five_items(value) {
+        return None;
+    }
+    let size = number_at(value, 0)?;
+    let cost = number_at(value, 1)?;
+    let rule = choice_at(value, 2)?;
+    let left = number_at(value, 3)?;
+    let right = number_at(value, 4)?;
+    Some(Row {
+        size,
+        cost,
+        rule,
+        left,
+        right,
+    })
+}
+
+fn number_at(value: &Value, index: usize) -> Option<u64>
+    ensures { result ≡ number_at index (view value.now) }
+{
+    value.get(index).and_then(Value::as_u64)
+}
+
+fn choice_at(value: &Value, index: usize) -> Option<Option<Rule>>
+    ensures { result ≡ choice_at index (view value.now) }
+{
+    value
+        .get(index)
+        .and_then(Value::as_str)
+        .and_then(choice_named)
+}
+
+/// The rule of this name, or none for a leaf.
+fn choice_named(name: &str) -> Option<Option<Rule>>
+    ensures { result ≡ choice_named name.now }
+{
+    match name {
+        "leaf" => Some(None),
+        "gt" => Some(Some(Rule::Gt)),
+        "ct" => Some(Some(Rule::Ct)),
+        "split" => Some(Some(Rule::Split)),
+        _ => None,
+    }
+}

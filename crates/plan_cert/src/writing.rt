@@ -1,0 +1,70 @@
+// The certificate of a request, as text.
+ghost use Rattle.std.specs.Prelude.{◌≡◌, ℕ, List, [], ◌∷◌, ◌++◌, IfOk};
+ghost use Rattle.tree_model.specs.Admissible.{CanDivide};
+ghost use Rattle.serde_json.specs.Data.{array};
+ghost use Rattle.serde_json.specs.View.{view};
+ghost use Rattle.plan_cert.specs.declared.certificate.Row.{Row as SpecRow};
+ghost use Rattle.plan_cert.specs.Table.{choice_name, row_data, rows_data, table_data, IsTableText};
+
+use crate::certificate::Row;
+use crate::table::table_rows;
+use serde_json::{Value, json, push};
+use memory::NoMemory;
+use std::alloc::Global;
+use tree_model::{Ctx, Rule};
+
+/// The certificate of a request, one line of JSON: for each wanted size the first of the cheapest trees.
+pub fn certify(alloc: Global, c: &Ctx) -> Result<Vec<u8>, NoMemory>
+    requires { CanDivide c.now }
+    ensures { IfOk result (λ text. (rows : List SpecRow) × IsTableText c.now text.items rows) }
+{
+    let rows = table_rows(alloc, c)?;
+    let value = table_value(alloc, c.request().size, &rows)?;
+    let mut text = value.to_vec(alloc)?;
+    text.push(b'\n')?;
+    Ok(text)
+}
+
+fn table_value(alloc: Global, size: u64, rows: &[Row]) -> Result<Value, NoMemory>
+    ensures { IfOk result (λ value. view value ≡ table_data size rows.now) }
+{
+    let rows = rows_value(alloc, rows)?;
+    let table = json!(in alloc; {"rows": rows, "size": size, "version": 1u64})?;
+    Ok(table)
+}
+
+fn rows_value(alloc: Global, rows: &[Row]) -> Result<Value, NoMemory>
+    ensures { IfOk result (λ value. view value ≡ array (rows_data rows.now)) }
+{
+    let mut values = Vec::new(alloc);
+    for row in rows {
+        let value = row_value(alloc, row)?;
+        push(&mut values, value)?;
+    }
+    Ok(Value::Array(values))
+}
+
+fn row_value(alloc: Global, row: &Row) -> Result<Value, NoMemory>
+    ensures { IfOk result (λ value. view value ≡ row_data row.now) }
+{
+    let Row {
+        size,
+        cost,
+        rule,
+        left,
+        right,
+    } = *row;
+    let items = json!(in alloc; [size, cost, choice_name(rule), left, right])?;
+    Ok(items)
+}
+
+fn choice_name(rule: Option<Rule>) -> &'static str
+    ensures { result.now ≡ choice_name rule }
+{
+    match rule {
+        None => "leaf",
+        Some(Rule::Gt) => "gt",
+        Some(Rule::Ct) => "ct",
+        Some(Rule::Split) => "split",
+    }
+}
