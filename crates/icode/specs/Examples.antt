@@ -24,14 +24,14 @@ pair =
       tables = [];
       phases =
           body_of
-              (Do (Load 0 arrays.X (at 0))
-              ∷ Do (Load 1 arrays.X (at 1))
-              ∷ Do (Add 2 0 1)
-              ∷ Do (MulConst 3 1 4)
-              ∷ Do (Add 4 0 3)
-              ∷ Do (Store arrays.Y (at 0) 2)
-              ∷ Do (Store arrays.Y (at 1) 4)
-              ∷ [])
+          (Do (Load 0 arrays.X (at 0))
+          ∷ Do (Load 1 arrays.X (at 1))
+          ∷ Do (Add 2 0 1)
+          ∷ Do (MulConst 3 1 4)
+          ∷ Do (Add 4 0 3)
+          ∷ Do (Store arrays.Y (at 0) 2)
+          ∷ Do (Store arrays.Y (at 1) 4)
+          ∷ [])
           ∷ [];
     }
 
@@ -48,23 +48,23 @@ quad =
       tables = (1 ∷ 1 ∷ 1 ∷ 4 ∷ []) ∷ [];
       phases =
           body_of
-              (Do (Load 0 arrays.X (at_proc 0 1))
-              ∷ Do (Load 1 arrays.X (at_proc 2 1))
-              ∷ Do (Add 2 0 1)
-              ∷ Do (Sub 3 0 1)
-              ∷ Do (MulTable 4 2 0 (at_proc 0 2) 0)
-              ∷ Do (Store arrays.A (at_proc 0 2) 4)
-              ∷ Do (MulTable 5 3 0 (at_proc 1 2) 0)
-              ∷ Do (Store arrays.A (at_proc 1 2) 5)
-              ∷ [])
+          (Do (Load 0 arrays.X (at_proc 0 1))
+          ∷ Do (Load 1 arrays.X (at_proc 2 1))
+          ∷ Do (Add 2 0 1)
+          ∷ Do (Sub 3 0 1)
+          ∷ Do (MulTable 4 2 0 (at_proc 0 2) 0)
+          ∷ Do (Store arrays.A (at_proc 0 2) 4)
+          ∷ Do (MulTable 5 3 0 (at_proc 1 2) 0)
+          ∷ Do (Store arrays.A (at_proc 1 2) 5)
+          ∷ [])
           ∷ body_of
-              (Do (Load 0 arrays.A (at_proc 0 1))
-              ∷ Do (Load 1 arrays.A (at_proc 2 1))
-              ∷ Do (Add 2 0 1)
-              ∷ Do (Sub 3 0 1)
-              ∷ Do (Store arrays.Y (at_proc 0 1) 2)
-              ∷ Do (Store arrays.Y (at_proc 2 1) 3)
-              ∷ [])
+          (Do (Load 0 arrays.A (at_proc 0 1))
+          ∷ Do (Load 1 arrays.A (at_proc 2 1))
+          ∷ Do (Add 2 0 1)
+          ∷ Do (Sub 3 0 1)
+          ∷ Do (Store arrays.Y (at_proc 0 1) 2)
+          ∷ Do (Store arrays.Y (at_proc 2 1) 3)
+          ∷ [])
           ∷ [];
     }
 
