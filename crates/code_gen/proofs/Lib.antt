@@ -1,0 +1,5 @@
+pub mod StepRules
+pub mod PlaceRules
+pub mod PlainRules
+mod PowerRules
+mod Wraps

@@ -1,0 +1,5 @@
+pub mod Places
+pub mod Steps
+pub mod Bodies
+pub mod Dense
+pub mod Leaf
