@@ -7,48 +7,28 @@ use Rattle.matrix_meaning.specs.Kind.{transform}
 use Rattle.icode.specs.declared.program.Array.TheVariants.{X, Y}
 use Rattle.icode.specs.declared.program.Program.{Program}
 use Rattle.icode.specs.Machine.{results}
-use Rattle.icode.specs.Plain.{PlainBody, PlainProgram, NoStmts, AndStmts, Do, Load, Store, Zero, Add, MulTable, plain_tables, plain_phases}
+use Rattle.icode.specs.Plain.{PlainBody, PlainProgram}
 use Rattle.icode.specs.Program.{code_of}
-use Rattle.code_gen.specs.Bodies.{followed_by, looped}
+use Rattle.code_gen.specs.Bodies.{looped, row_body, term_body}
 use Rattle.code_gen.specs.Places.{variable_place, product_place}
 
 -- the statements, for a size n
 abbrev pub leaf_body : ℕ → PlainBody
 leaf_body n =
-    looped n
-    (AndStmts (Do (Zero 0))
-    (followed_by
-    (looped n
-    (AndStmts (Do (Load 1 X (variable_place 1 n)))
-    (AndStmts (Do (MulTable 2 1 0 (product_place 0 n) 0))
-    (AndStmts (Do (Add 0 0 2)) NoStmts))))
-    (AndStmts (Do (Store Y (variable_place 0 n) 0)) NoStmts)))
+    looped n (row_body n (term_body X (variable_place 1 n) 0 (product_place 0 n)) Y (variable_place 0 n))
 
--- the whole program: one phase, and the powers of the root as its table
+-- the whole program, on one processor and one lane: one phase, and the powers of the root as its table
 abbrev pub leaf_listing : Request → PlainProgram
 leaf_listing r =
     record {
       size = r.size;
       modulus = r.modulus;
-      procs = r.procs;
+      procs = 1;
       line = r.line;
-      lanes = r.lanes;
+      lanes = 1;
       regs = 3;
       tables = list_below r.size (power_mod r.modulus r.root) ∷ [];
       phases = leaf_body r.size ∷ [];
-    }
-
-abbrev pub plain_program : Program → PlainProgram
-plain_program p =
-    record {
-      size = p.size;
-      modulus = p.modulus;
-      procs = p.procs;
-      line = p.line;
-      lanes = p.lanes;
-      regs = p.regs;
-      tables = plain_tables p.tables.items;
-      phases = plain_phases p.phases.items;
     }
 
 -- run with no turns but those that complete it, the program leaves the transform of each input

@@ -1,10 +1,7 @@
 // The pass that multiplies a matrix entry by entry.
-ghost use Rattle.std.specs.Prelude.{◌≡◌, ℕ, ◌<◌, IfOk, List};
-ghost use Rattle.icode.specs.declared.program.Program.{Program};
-ghost use Rattle.icode.specs.Plain.{plain_body};
-ghost use Rattle.icode.specs.Program.{body_steps};
+ghost use Rattle.std.specs.Prelude.{◌≡◌, IfOk};
+ghost use Rattle.icode.specs.Plain.{plain_body, plain_expr};
 ghost use Rattle.code_gen.specs.Bodies.{dense_body, term_body};
-ghost use Rattle.code_gen.specs.Steps.{dense_steps, row_steps, term_steps, with_value};
 
 use crate::loops::in_loop;
 use crate::statements::put_op;
@@ -33,8 +30,7 @@ fn term(
     table: u64,
     entry: Expr,
 ) -> Result<Vec<Stmt>, NoMemory>
-    ensures plain { IfOk result (λ y. plain_body y.items ≡ term_body source input table entry) }
-    ensures steps { IfOk result (λ y. (p : Program) (vs : List ℕ) (q : ℕ) → body_steps p y.items vs q ≡ term_steps p source input table entry vs q) }
+    ensures { IfOk result (λ y. plain_body y.items ≡ term_body source (plain_expr input) table (plain_expr entry)) }
 {
     let mut body = Vec::new(alloc);
     put_op(
@@ -68,9 +64,7 @@ fn term(
 
 /// The statements of the pass.
 pub fn dense_pass(alloc: Global, pass: Dense) -> Result<Vec<Stmt>, NoMemory>
-    requires { 0 < pass.size }
-    ensures plain { IfOk result (λ y. plain_body y.items ≡ dense_body pass) }
-    ensures steps { IfOk result (λ y. (p : Program) (vs : List ℕ) (q : ℕ) → body_steps p y.items vs q ≡ dense_steps p pass vs q) }
+    ensures { IfOk result (λ y. plain_body y.items ≡ dense_body pass) }
 {
     let products = term(alloc, pass.source, pass.input, pass.table, pass.entry)?;
     let mut row = Vec::new(alloc);

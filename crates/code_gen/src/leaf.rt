@@ -3,8 +3,8 @@ ghost use Rattle.std.specs.Prelude.{◌≡◌, ◌*◌, ◌<◌, IfOk};
 ghost use Rattle.matrix_meaning.specs.declared.Kind.TheVariants.{Dft};
 ghost use Rattle.matrix_meaning.specs.Valid.{IsInRange, HasRoot};
 ghost use Rattle.icode.specs.Machine.{whole_counts};
-ghost use Rattle.icode.specs.Program.{Fits, code_of};
-ghost use Rattle.code_gen.specs.Leaf.{Computes, leaf_listing, plain_program};
+ghost use Rattle.icode.specs.Program.{Fits, code_of, plain_program};
+ghost use Rattle.code_gen.specs.Leaf.{Computes, leaf_listing};
 
 use crate::dense::{Dense, dense_pass};
 use crate::places::{product_place, variable_place};
