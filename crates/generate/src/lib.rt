@@ -14,6 +14,7 @@ use matrix_meaning::Request;
 use memory::NoMemory;
 use ring_mod::Modulus;
 use std::alloc::Global;
+use thiserror::Error;
 
 /// A program and what it costs.
 #[derive(Drop)]
@@ -24,16 +25,22 @@ pub struct Product {
 }
 
 /// Why there is no program.
-#[derive(Clone, Copy, PartialEq, Eq, Debug)]
+#[derive(Clone, Copy, PartialEq, Eq, Debug, Error)]
 pub enum GenerateFault {
     /// The root to the power of the size is not 1.
+    #[error("the root to the power of the size is {power}, not 1")]
     Root { power: u64 },
-    /// The least cost exceeds the budget.
+    /// The least cost is over the budget.
+    #[error("the least cost {cost} is over the budget {budget}")]
     OverBudget { cost: u64, budget: u64 },
+    /// Memory ran out.
+    #[error("out of memory")]
     NoMemory,
 }
 
 impl From<NoMemory> for GenerateFault {
+    ghost from_gives = { λ _ e. e ≡ fault.NoMemory };
+
     fn from(_error: NoMemory) -> Self {
         GenerateFault::NoMemory
     }
