@@ -69,3 +69,6 @@ pub fn generate(alloc: Global, request: &Request) -> Result<Product, GenerateFau
     let program = leaf_program(alloc, request)?;
     Ok(Product { cost, program })
 }
+
+#[cfg(test)]
+mod tests;
