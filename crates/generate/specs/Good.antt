@@ -1,0 +1,30 @@
+-- What makes a program good for a request.
+use Rattle.std.specs.Prelude.{◌≡◌, ℕ, ◌*◌, ◌<◌, List, length, All}
+use Rattle.matrix_meaning.specs.declared.Request.{Request}
+use Rattle.matrix_meaning.specs.Kind.{transform}
+use Rattle.icode.specs.declared.program.Program.{Program}
+use Rattle.icode.specs.Machine.{IsApart, results, whole_counts}
+use Rattle.icode.specs.Program.{Fits, code_of}
+
+-- the program is for the request's machine
+pub record HasHeader (r : Request) (p : Program) : Type 0 where
+  pub size : p.size ≡ r.size
+  pub modulus : p.modulus ≡ r.modulus
+  pub procs : p.procs ≡ r.procs
+  pub line : p.line ≡ r.line
+  pub lanes : p.lanes ≡ r.lanes
+
+-- a list of as many residues as the request's size
+pub record IsVector (r : Request) (x : List ℕ) : Type 0 where
+  pub size : length x ≡ r.size
+  pub residues : All (λ v. v < r.modulus) x
+
+-- Whatever the vector and whatever turns its processors take first, the program leaves the matrix times the vector. In
+-- no phase does a processor touch a line that another writes. The operations of all processors together are the least
+-- cost, in equal shares
+pub record IsGood (r : Request) (least : ℕ) (p : Program) : Type 0 where
+  pub header : HasHeader r p
+  pub fits : Fits p
+  pub product : (x turns : List ℕ) → IsVector r x → All (λ q. q < r.procs) turns → results (code_of p) x turns ≡ transform r.kind r.modulus r.size r.root x
+  pub apart : (phase : ℕ) → IsApart (code_of p) phase
+  pub operations : (q : ℕ) → q < r.procs → r.procs * (whole_counts (code_of p) q).operations ≡ least
