@@ -7,3 +7,6 @@ mod write;
 
 pub use vectors::{DataFault, Next, Vectors};
 pub use write::write_vector;
+
+#[cfg(test)]
+mod tests;

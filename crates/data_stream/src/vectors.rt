@@ -122,6 +122,7 @@ impl Vectors {
         ensures answer { (read : List ℕ) × Consumes (to_come feed.old (S.left source.old)) (to_come feed.new (S.left source.new)) read
             × (self.old.ended ≡ true → read ≡ [])
             × GivesVector self.old.size modulus.now self.old.done feed.old feed.new read self.new.ended vector.new result }
+        ensures ready { result ≡ Ok Next.Vector → IsReady self.new feed.new (to_come feed.new (S.left source.new)) }
         ensures end { self.new.ended ≡ true → IsAtEnd (to_come feed.new (S.left source.new)) }
         ensures within { result ≢ Err DataFault.TooLong → feed.new.taken ≤ limit }
         ensures once { self.old.ended ≡ true → (result ≡ Ok Next.End) × (self.new.ended ≡ true) }

@@ -1,9 +1,9 @@
-use Rattle.std.proofs.Common.{◌≡◌, ◌<◌, ◌+◌, ◌%◌, ◌++◌, refl, ap, ◌∙◌, arith, take, length, false}
+use Rattle.std.proofs.Common.{◌≡◌, ◌<◌, ◌+◌, ◌%◌, ◌++◌, refl, sym, ap, ◌∙◌, arith, take, length, false}
 use Rattle.std.proofs.lemmas.List.{length-take-le, take_all, take_more_set}
 use Rattle.data_stream.specs.Vectors.{Cut}
 use Rattle.data_stream.proofs.TokenLemmas.{not_true}
 use Rattle.data_stream.proofs.TokensLemmas.{reports_none, not_ended}
-use Rattle.data_stream.proofs.VectorLemmas.{no_vector, no_vector_bytes, vector_push, vector_whole, vector_ending, vector_fault}
+use Rattle.data_stream.proofs.VectorLemmas.{vector_counted, no_vector, no_vector_bytes, vector_push, vector_whole, vector_ending, vector_fault}
 use Rattle.data_stream.proofs.vectors.Vectors.next.Goals as goal
 
 pub loop-place-init : goal.loop-place-init
@@ -63,3 +63,18 @@ returns-clause-answer g c =
     let all = take_all last.place last.vector (omega arith) in
     rw (ap (λ (v : Cut). v.ended) c.self-2.view_is) (vector_whole _ _ c.args.feed.now last.feed c.args.self.now.ended last.self.ended c.args.self.now.size c.args.modulus.now c.args.self.now.done (take last.place last.vector) last.vector last.invariant.progress
     all (omega (arith, c.requires.size)) (λ e. (last.invariant.fresh e).2))
+
+pub returns-clause-ready : goal.returns-clause-ready
+returns-clause-ready g c =
+    λ _.
+    let last = c.loop-place in
+    let all = take_all last.place last.vector (omega arith) in
+    let whole = vector_whole _ _ c.args.feed.now last.feed c.args.self.now.ended last.self.ended c.args.self.now.size c.args.modulus.now c.args.self.now.done (take last.place last.vector) last.vector last.invariant.progress
+    all (omega (arith, c.requires.size)) (λ e. (last.invariant.fresh e).2) in
+    let rises = vector_counted c.args.feed.now last.feed last.self.ended c.args.self.now.size c.args.modulus.now c.args.self.now.done whole.0 last.vector whole.3 in
+    let done : c.self-2.inside.done ≡ c.args.self.now.done = ap (λ (v : Cut). v.done) c.self-2.view_is ∙ last.invariant.done in
+    record {
+      within = last.invariant.within;
+      counted = omega (arith, rises, done, c.requires.size, c.requires.ready.counted);
+      end = λ e. last.invariant.end (sym (ap (λ (v : Cut). v.ended) c.self-2.view_is) ∙ e);
+    }
