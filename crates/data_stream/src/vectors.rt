@@ -1,5 +1,5 @@
 // Vectors of numbers from a source.
-ghost use Rattle.std.specs.Prelude.{◌≡◌, ◌+◌, ◌≤◌, ◌<◌, ℕ, List, [], length, true, false, Ok, None, Err, ◌≢◌, IsErrOf};
+ghost use Rattle.std.specs.Prelude.{All, ◌≡◌, ◌+◌, ◌≤◌, ◌<◌, ℕ, List, [], length, true, false, Ok, None, Err, ◌≢◌, IsErrOf};
 ghost use Rattle.std.specs.Io.KnownBytes.{Consumes, IsAtEnd};
 ghost use Rattle.io_edge.specs.Faults.{Reports};
 ghost use Rattle.io_edge.specs.Feed.{to_come, limit};
@@ -122,6 +122,7 @@ impl Vectors {
         ensures answer { (read : List ℕ) × Consumes (to_come feed.old (S.left source.old)) (to_come feed.new (S.left source.new)) read
             × (self.old.ended ≡ true → read ≡ [])
             × GivesVector self.old.size modulus.now self.old.done feed.old feed.new read self.new.ended vector.new result }
+        ensures residues { result ≡ Ok Next.Vector → All (λ v. v < modulus.now) vector.new }
         ensures ready { result ≡ Ok Next.Vector → IsReady self.new feed.new (to_come feed.new (S.left source.new)) }
         ensures end { self.new.ended ≡ true → IsAtEnd (to_come feed.new (S.left source.new)) }
         ensures within { result ≢ Err DataFault.TooLong → feed.new.taken ≤ limit }

@@ -1,9 +1,10 @@
-use Rattle.std.proofs.Common.{◌≡◌, ◌<◌, ◌+◌, ◌%◌, ◌++◌, refl, sym, ap, ◌∙◌, arith, take, length, false}
+use Rattle.std.proofs.Common.{◌≡◌, ◌<◌, ◌+◌, ◌%◌, ◌++◌, refl, sym, ap, subst, ◌∙◌, arith, take, length, false}
 use Rattle.std.proofs.lemmas.List.{length-take-le, take_all, take_more_set}
+use Rattle.std.specs.List.{All}
 use Rattle.data_stream.specs.Vectors.{Cut}
 use Rattle.data_stream.proofs.TokenLemmas.{not_true}
 use Rattle.data_stream.proofs.TokensLemmas.{reports_none, not_ended}
-use Rattle.data_stream.proofs.VectorLemmas.{vector_counted, no_vector, no_vector_bytes, vector_push, vector_whole, vector_ending, vector_fault}
+use Rattle.data_stream.proofs.VectorLemmas.{residues_below, vector_counted, no_vector, no_vector_bytes, vector_push, vector_whole, vector_ending, vector_fault}
 use Rattle.data_stream.proofs.vectors.Vectors.next.Goals as goal
 
 pub loop-place-init : goal.loop-place-init
@@ -15,6 +16,7 @@ loop-place-init g c = record {
   done = refl;
   faults = refl;
   within = c.requires.ready.within;
+  positive = λ h. absurd (omega arith);
 }
 
 pub returns-in-Ok-None-clause-answer : goal.returns-in-Ok-None-clause-answer
@@ -55,6 +57,7 @@ loop-place-preserved g c =
       done = ap (λ (v : Cut). v.done) c.number.ensures.same ∙ before.invariant.done;
       faults = reports_none _ _ _ c.in-Ok-Some.ensures.cause (λ e. cc) ∙ before.invariant.faults;
       within = c.in-Ok-Some.ensures.within (λ e. cc);
+      positive = λ _. omega (arith, c.reduce.ensures.residue);
     }
 
 pub returns-clause-answer : goal.returns-clause-answer
@@ -78,3 +81,14 @@ returns-clause-ready g c =
       counted = omega (arith, rises, done, c.requires.size, c.requires.ready.counted);
       end = λ e. last.invariant.end (sym (ap (λ (v : Cut). v.ended) c.self-2.view_is) ∙ e);
     }
+
+pub returns-clause-residues : goal.returns-clause-residues
+returns-clause-residues g c =
+    λ _.
+        let last = c.loop-place in
+        let all = take_all last.place last.vector (omega arith) in
+        let whole = vector_whole _ _ c.args.feed.now last.feed c.args.self.now.ended last.self.ended c.args.self.now.size c.args.modulus.now c.args.self.now.done (take last.place last.vector) last.vector last.invariant.progress
+        all (omega (arith, c.requires.size)) (λ e. (last.invariant.fresh e).2) in
+        let size : c.self-2.inside.size ≡ c.args.self.now.size = ap (λ (v : Cut). v.size) c.self-2.view_is ∙ last.invariant.size in
+        let some : 0 < last.place = omega (arith, size, c.requires.size, c.self-2.invariant) in
+        subst (All (λ v. v < c.args.modulus.now)) (sym whole.3.1.4) (residues_below c.args.modulus.now whole.3.1.0 (last.invariant.positive some))
