@@ -1,25 +1,29 @@
 -- Vectors that come one by one.
-use Rattle.std.proofs.Common.{◌≡◌, ◌<◌, ◌≤◌, ◌+◌, ◌/◌, ◌%◌, ℕ, suc, Bool, true, false, ◌&&◌, List, [], ◌∷◌, ◌++◌, None, Some, Ok, Err, Result, nat_lt, ◌==◌, ◌-◌, ◌≢◌, zero, length, take, drop, refl, sym, ap, subst, ◌∙◌, arith, append_assoc, append-nil, length-append, cond, add_assoc, add-one, add-zero}
+use Rattle.std.proofs.Common.{◌≡◌, ◌<◌, ◌≤◌, ◌+◌, ◌/◌, ◌%◌, ℕ, suc, Bool, true, false, ◌&&◌, List, [], ◌∷◌, ◌++◌, None, Some, Ok, Err, Result, nat_lt, ◌==◌, ◌-◌, ◌≢◌, zero, length, take, drop, refl, sym, ap, subst, ◌∙◌, arith, append_assoc, append-nil, length-append, cond, add_assoc, add-one, add-zero, slice_index}
 use Rattle.std.proofs.Math.Nat.{add-div_left, div-eq_of_lt, mod-eq_of_lt, add-mod_left}
 use Rattle.std.proofs.Math.Seq.{take-append_seam, take-append-add, drop-append_seam}
-use Rattle.std.proofs.KnownBytes.{Consumes-nil, Consumes-trans}
+use Rattle.std.proofs.KnownBytes.{Consumes-nil, Consumes-trans, Appends-trans}
 use Rattle.std.proofs.lemmas.List.Folds.{list_all-append}
 use Rattle.std.proofs.lemmas.Grind.{common_steps, flat_map-append}
 use Rattle.std.proofs.lemmas.List.{take_all}
 use Rattle.std.specs.List.{list_all}
 use Rattle.std.specs.declared.option.Option.{Option}
-use Rattle.std.specs.Io.KnownBytes.{Consumes, IsAtEnd}
+use Rattle.std.specs.Io.KnownBytes.{Appends, Consumes, IsAtEnd}
+use Rattle.icode.specs.Machine.{words_at}
 use Rattle.io_edge.specs.Feed.{Fed, limit}
+use Rattle.io_edge.specs.Taken.{AppendsPrefix}
+use Rattle.io_edge.proofs.TakenLemmas.{prefix_after}
 use Rattle.data_stream.specs.Data.{tokens, closed_part, is_good}
 use Rattle.data_stream.specs.Line.{line_of}
 use Rattle.data_stream.specs.Reading.{AreTokens, IsPart, GivesVector, residues}
+use Rattle.data_stream.specs.declared.vectors.Next.{Next}
 use Rattle.data_stream.specs.declared.vectors.Next.TheVariants.{Vector, End}
 use Rattle.data_stream.specs.declared.DataFault.{DataFault}
 use Rattle.data_stream.specs.declared.DataFault.TheVariants as data_fault
 use Rattle.data_stream.proofs.TokensLemmas.{not_ended}
 use Rattle.data_stream.proofs.TokenLemmas.{both_left, both_right}
 use Rattle.data_stream.proofs.VectorLemmas.{closed_after}
-use Rattle.spiral_main.specs.Stream.{group_vectors, vectors_of, lines, state_behind, good_front, bad_after, answer_of, vectors_seen, data_answer, data_vectors, Answers, ToldAnswers, Reads}
+use Rattle.spiral_main.specs.Stream.{group_vectors, vectors_of, lines, state_behind, good_front, bad_after, answer_of, vectors_seen, data_answer, data_vectors, Answers, ToldAnswers, Reads, Writes, Streams}
 use Rattle.spiral_main.specs.declared.stream.StreamFault.{StreamFault}
 use Rattle.spiral_main.specs.StreamFault.{stream_fault}
 use Rattle.spiral_main.specs.declared.stream.StreamFault.TheVariants.{BadNumber, Truncated, TooLong, ReadFault, WriteFault}
@@ -321,3 +325,59 @@ told_answers size modulus old new None after read vectors result r s start withi
 told_answers size modulus old new (Some bytes) None read vectors result r s start within = absurd r
 told_answers size modulus old new (Some bytes) (Some rest) read vectors result r s start within =
     subst (λ (l : List ℕ). Answers size modulus (limit - old.taken) l vectors result) (sym r) (answered size modulus old new read rest vectors result s start within)
+
+words_at-suc : (n : ℕ) (xs : List ℕ) (i : ℕ) → words_at (suc n) xs i ≡ words_at n xs i ++ slice_index xs (i + n) ∷ []
+words_at-suc zero xs i = ap (λ k. slice_index xs k ∷ []) (sym (add-zero i))
+words_at-suc (suc n) xs i = ap (λ l. slice_index xs i ∷ l) (words_at-suc n xs (i + 1) ∙ ap (λ k. words_at n xs (i + 1) ++ slice_index xs k ∷ []) (omega arith))
+
+-- one word more
+pub words_at-more : (n : ℕ) (xs : List ℕ) (i : ℕ) → words_at (n + 1) xs i ≡ words_at n xs i ++ slice_index xs (i + n) ∷ []
+words_at-more n xs i = ap (λ m. words_at m xs i) (add-one n) ∙ words_at-suc n xs i
+
+pub word_more : (n : ℕ) (xs : List ℕ) (i v : ℕ) (front : List ℕ) → front ≡ words_at n xs i → v ≡ slice_index xs (i + n) → front ++ v ∷ [] ≡ words_at (n + 1) xs i
+word_more n xs i v front p q = ap (λ l. l ++ v ∷ []) p ∙ ap (λ w. words_at n xs i ++ w ∷ []) q ∙ sym (words_at-more n xs i)
+
+-- a line more was written, or a prefix of it
+pub lines_more : (f : List ℕ → List ℕ) (a b c : Option (List ℕ)) (seen : List (List ℕ)) (x v : List ℕ) → v ≡ f x → Appends a b (lines f seen) → Appends b c (line_of v) → Appends a c (lines f (seen ++ x ∷ []))
+lines_more f a b c seen x v e p w =
+    subst (Appends a c) (sym (lines-push f seen x)) (Appends-trans a b c (lines f seen) (line_of (f x)) p (subst (λ u. Appends b c (line_of u)) e w))
+
+pub lines_cut : (f : List ℕ → List ℕ) (a b c : Option (List ℕ)) (seen : List (List ℕ)) (x v : List ℕ) → v ≡ f x → Appends a b (lines f seen) → AppendsPrefix b c (line_of v) → AppendsPrefix a c (lines f (seen ++ x ∷ []))
+lines_cut f a b c seen x v e p w =
+    subst (AppendsPrefix a c) (sym (lines-push f seen x)) (prefix_after a b c (lines f seen) (line_of (f x)) p (subst (λ u. AppendsPrefix b c (line_of u)) e w))
+
+-- after a fault of the data the output has taken all lines
+pub writes_fault : (fault : DataFault) (a b : Option (List ℕ)) (text : List ℕ) → Appends a b text → Writes a b (Err (stream_fault fault)) text
+writes_fault (data_fault.BadNumber token) a b text w = w
+writes_fault (data_fault.Truncated have need) a b text w = w
+writes_fault data_fault.TooLong a b text w = w
+writes_fault data_fault.ReadFault a b text w = w
+
+abbrev failed_next : DataFault → Result Next DataFault
+failed_next fault = Err fault
+
+abbrev failed_stream : StreamFault → Result (Unit {0}) StreamFault
+failed_stream fault = Err fault
+
+-- a fault that is no long input, told as one of the stream
+pub fault_within : (fault : DataFault) (fits : Type 0) → (failed_next fault ≢ failed_next data_fault.TooLong → fits) → failed_stream (stream_fault fault) ≢ failed_stream TooLong → fits
+fault_within (data_fault.BadNumber token) fits w other = w (λ e. cc)
+fault_within (data_fault.Truncated have need) fits w other = w (λ e. cc)
+fault_within data_fault.TooLong fits w other = absurd (other refl)
+fault_within data_fault.ReadFault fits w other = w (λ e. cc)
+
+-- the whole account of a run
+pub streamed : {S : Type 0} (f : List ℕ → List ℕ) (leaves : List ℕ → S) (size modulus : ℕ) (old new : Fed) (before after out out' : Option (List ℕ)) (first last : S)
+    (result : Result (Unit {0}) StreamFault) (read : List ℕ) (vectors : List (List ℕ))
+    → Consumes before after read → Reads size modulus old new read (IsAtEnd after) vectors result → old.taken ≤ limit → (result ≢ Err TooLong → new.taken ≤ limit)
+    → Writes out out' result (lines f vectors) → last ≡ state_behind leaves first vectors
+    → Streams f leaves size modulus old new before after out out' first last result
+streamed f leaves size modulus old new before after out out' first last result read vectors consumed answer start within wrote stands = record {
+  read = read;
+  vectors = vectors;
+  consumed = consumed;
+  answer = answer;
+  told = told_answers size modulus old new before after read vectors result consumed answer start within;
+  wrote = wrote;
+  stands = stands;
+}

@@ -8,4 +8,4 @@ mod stream;
 
 pub use command::Command;
 pub use status::Status;
-pub use stream::StreamFault;
+pub use stream::{StreamFault, run_stream};
