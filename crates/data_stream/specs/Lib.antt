@@ -1,0 +1,7 @@
+pub mod Data
+pub mod Ending
+pub mod Line
+pub mod Reading
+pub mod Token
+pub mod TokenFault
+pub mod Vectors

@@ -1,0 +1,17 @@
+-- What `Vectors` is to a contract.
+use Rattle.std.specs.Prelude.{◌≡◌, ℕ, ◌≤◌, Bool, true, List}
+use Rattle.std.specs.declared.option.Option.{Option}
+use Rattle.std.specs.Io.KnownBytes.{IsAtEnd}
+use Rattle.io_edge.specs.Feed.{Fed, limit}
+
+-- how many numbers a vector has, how many the vectors so far had, and whether the data have ended
+pub record Cut : Type 0 where
+  pub size : ℕ
+  pub done : ℕ
+  pub ended : Bool
+
+-- Vectors that began at this feed's source, and no call has answered a fault or the end. A new one is, on a feed within its limit
+pub record IsReady (vectors : Cut) (feed : Fed) (left : Option (List ℕ)) : Type 0 where
+  pub within : feed.taken ≤ limit
+  pub counted : vectors.done ≤ feed.taken
+  pub end : vectors.ended ≡ true → IsAtEnd left

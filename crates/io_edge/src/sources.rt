@@ -1,0 +1,158 @@
+// Sources in memory, and over any reader.
+ghost use Rattle.std.specs.Prelude.{◌≡◌, ◌<◌, ◌↔◌, min, Some, length, take, drop, vec_len, Contains, IsErr, IfOk, OnErr};
+ghost use Rattle.std.specs.Io.{ReadsAtMost};
+ghost use Rattle.std.specs.Io.KnownBytes.{ReadConsumes};
+ghost use Rattle.io_edge.specs.Faults.{HasCause};
+ghost use Rattle.io_edge.specs.Memory.{Supply, next_count};
+
+use crate::{Failed, Source};
+use std::io::Read;
+use std::marker::Model;
+
+// Puts as many of the bytes into the buffer as fit, at most `limit`, and answers how many.
+fn fill(bytes: &[u8], limit: usize, buf: &mut [u8]) -> usize
+    ensures count { result ≡ min limit (min (length buf.old) (length bytes.now)) }
+    ensures front { take result buf.new ≡ take result bytes.now }
+{
+    let count = limit.min(buf.len().min(bytes.len()));
+    buf[..count].copy_from_slice(&bytes[..count]);
+    count
+}
+
+/// Bytes in memory, given in steps. It fails at the calls of a list, counted from 0.
+#[derive(Drop)]
+pub struct MemSource {
+    bytes: Vec<u8>,
+    at: usize,
+    step: u64,
+    fail_at: Vec<u64>,
+    calls: u64,
+    faults: u64,
+}
+
+impl Model for MemSource {
+    ghost use Rattle.std.specs.Prelude.{ℕ, ◌<◌, ◌≤◌, List, drop, length};
+    ghost use Rattle.io_edge.specs.Memory.{Supply};
+
+    ghost Value = { Supply };
+
+    ghost view = { λ s. record { left = drop s.at s.bytes.items; step = s.step; fail_at = s.fail_at.items; calls = s.calls; faults = s.faults } };
+
+    ghost invariant = { λ s. (s.at ≤ length s.bytes.items) × (0 < s.step) };
+}
+
+impl MemSource {
+    /// A source of these bytes that gives at most `step` of them in one call.
+    pub fn new(bytes: Vec<u8>, step: u64, fail_at: Vec<u64>) -> Self
+        requires { 0 < step }
+        ensures { result ≡ record { left = bytes.items; step = step; fail_at = fail_at.items; calls = 0; faults = 0 } }
+    {
+        MemSource {
+            bytes,
+            at: 0,
+            step,
+            fail_at,
+            calls: 0,
+            faults: 0,
+        }
+    }
+}
+
+impl Source for MemSource {
+    ghost left = { λ s. Some s.left };
+
+    ghost faults = { λ s. s.faults };
+
+    fn read(&mut self, buf: &mut [u8]) -> Result<usize, Failed>
+        ensures bound { ReadsAtMost result buf.new }
+        ensures bytes { ReadConsumes (Some self.old.left) (Some self.new.left) result buf.new }
+        ensures cause { HasCause self.old.faults self.new.faults result }
+
+        // It fails at the listed calls alone, and gives as much as it may.
+        ensures fails { IsErr result ↔ Contains self.old.fail_at self.old.calls }
+        ensures count { IfOk result (λ count. count ≡ min self.old.step (min (length buf.old) (length self.old.left))) }
+        ensures calls { self.new.calls ≡ next_count self.old.calls }
+        ensures faults { OnErr result (self.new.faults ≡ next_count self.old.faults) }
+    {
+        let call = self.calls;
+        self.calls = call.saturating_add(1);
+        if self.fail_at.contains(&call) {
+            self.faults = self.faults.saturating_add(1);
+            return Err(Failed);
+        }
+        let count = fill(&self.bytes[self.at..], self.step as usize, buf);
+        self.at += count;
+        Ok(count)
+    }
+}
+
+/// Bytes in memory, given as fast as they are asked for. It never fails.
+#[derive(Drop)]
+pub struct QuietSource {
+    bytes: Vec<u8>,
+    at: usize,
+}
+
+impl Model for QuietSource {
+    ghost use Rattle.std.specs.Prelude.{ℕ, ◌≤◌, List, drop, length};
+
+    ghost Value = { List ℕ };
+
+    ghost view = { λ s. drop s.at s.bytes.items };
+
+    ghost invariant = { λ s. s.at ≤ length s.bytes.items };
+}
+
+impl QuietSource {
+    pub fn new(bytes: Vec<u8>) -> Self
+        ensures { result ≡ bytes.items }
+    {
+        QuietSource { bytes, at: 0 }
+    }
+}
+
+impl Source for QuietSource {
+    ghost left = { λ s. Some s };
+
+    ghost faults = { λ _. 0 };
+
+    fn read(&mut self, buf: &mut [u8]) -> Result<usize, Failed> {
+        let count = fill(&self.bytes[self.at..], buf.len(), buf);
+        self.at += count;
+        Ok(count)
+    }
+}
+
+/// A reader of std as a source. Each error counts as a fault.
+#[derive(Drop)]
+pub struct ReadSource<R> {
+    /// The reader.
+    pub inner: R,
+    /// How often it has failed. The count stays at its last value.
+    pub faults: u64,
+}
+
+impl<R: Read> ReadSource<R> {
+    pub fn new(inner: R) -> Self
+        ensures inner { result.inner ≡ inner }
+        ensures faults { result.faults ≡ 0 }
+    {
+        ReadSource { inner, faults: 0 }
+    }
+}
+
+impl<R: Read> Source for ReadSource<R> {
+    ghost left = { λ s. R.remaining s.inner };
+
+    ghost faults = { λ s. s.faults };
+
+    fn read(&mut self, buf: &mut [u8]) -> Result<usize, Failed> {
+        match self.inner.read(buf) {
+            Ok(count) => Ok(count),
+            Err(_) => {
+                self.faults = self.faults.saturating_add(1);
+                Err(Failed)
+            }
+        }
+    }
+}

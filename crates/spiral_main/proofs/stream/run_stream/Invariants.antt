@@ -1,0 +1,29 @@
+use Rattle.std.proofs.Common.{◌≡◌, ◌≤◌, ◌-◌, true, [], List, ℕ}
+use Rattle.std.specs.Io.KnownBytes.{Appends, IsAtEnd}
+use Rattle.icode.specs.Machine.{results, runs}
+use Rattle.io_edge.specs.Feed.{to_come, limit}
+use Rattle.data_stream.specs.Vectors.{IsReady}
+use Rattle.spiral_main.specs.Stream.{lines, state_behind}
+use Rattle.spiral_main.proofs.StreamLemmas.{StreamProgress}
+use Rattle.spiral_main.proofs.stream.run_stream.Given as goal
+
+-- the bytes so far are whole vectors, whose lines the output took, the machine is where the last left it, and nothing failed
+abbrev pub invariant-loop-machine : goal.invariant-loop-machine
+invariant-loop-machine g l =
+    let left = g.I.Source.left in
+    let taken = g.O.Sink.taken in
+    record {
+      seen : List (List ℕ);
+      progress : StreamProgress (to_come l.fn.feed (left l.fn.input)) (to_come l.feed (left l.input)) l.fn.feed.taken l.feed.taken l.vectors.ended
+          l.fn.machine.code.size l.fn.machine.code.modulus l.vectors.done seen;
+      wrote : Appends (taken l.fn.output) (taken l.output) (lines (λ x. results l.fn.machine.code x []) seen);
+      stands : l.machine.state ≡ state_behind (λ x. runs l.fn.machine.code x []) l.fn.machine.state seen;
+      ready : IsReady l.vectors l.feed (to_come l.feed (left l.input));
+      size : l.vectors.size ≡ l.fn.machine.code.size;
+      code : l.machine.code ≡ l.fn.machine.code;
+      reads : g.I.Source.faults l.input ≡ g.I.Source.faults l.fn.input;
+      writes : g.O.Sink.faults l.output ≡ g.O.Sink.faults l.fn.output;
+    }
+
+abbrev pub decreases-loop-machine : goal.decreases-loop-machine
+decreases-loop-machine g l = limit - l.feed.taken

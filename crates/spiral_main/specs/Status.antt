@@ -1,0 +1,58 @@
+-- What the program answers with: its exit code and its line on the note.
+use Rattle.std.specs.Prelude.{◌≢◌, ℕ, List, [], ◌∷◌, codes, decimal}
+use Rattle.std.specs.List.{concat}
+use Rattle.request_text.specs.declared.fault.Field.{Field}
+use Rattle.request_text.specs.declared.fault.Field.TheVariants.{Size, Mod, Root, Procs, Line, Lanes, Unroll, Budget, Weight}
+use Rattle.spiral_main.specs.declared.status.Status.{Status}
+use Rattle.spiral_main.specs.declared.status.Status.TheVariants.{Success, Usage, Syntax, Range, Shape, LanesLine, OverBudget, BadNumber, Truncated, ReadFault, WriteFault, NoMemory, TooLong}
+use Rattle.spiral_main.specs.declared.status.Status.TheVariants as status
+
+abbrev pub code_of : Status → ℕ
+code_of Success = 0
+code_of Usage = 2
+code_of (Syntax at) = 3
+code_of (Range field value) = 4
+code_of (Shape size) = 4
+code_of (LanesLine lanes line) = 4
+code_of (status.Root power) = 6
+code_of (OverBudget cost budget) = 8
+code_of (BadNumber token) = 9
+code_of (Truncated have need) = 9
+code_of ReadFault = 10
+code_of WriteFault = 11
+code_of NoMemory = 12
+code_of (TooLong limit) = 13
+
+-- a field's word in a request line
+abbrev pub field_word : Field → List ℕ
+field_word Size = codes "size"
+field_word Mod = codes "mod"
+field_word Root = codes "root"
+field_word Procs = codes "procs"
+field_word Line = codes "line"
+field_word Lanes = codes "lanes"
+field_word Unroll = codes "unroll"
+field_word Budget = codes "budget"
+field_word Weight = codes "weight"
+
+abbrev pub note_line : Status → List ℕ
+note_line Success = []
+note_line Usage = codes "spiral: usage: spiral plan|formula|code|c|run|trace|cert|check|sample [--schedule WORD] [--seed NUMBER]\n"
+note_line (Syntax at) = concat (codes "spiral: syntax at byte " ∷ decimal at ∷ codes "\n" ∷ [])
+note_line (Range field value) = concat (codes "spiral: " ∷ field_word field ∷ codes " " ∷ decimal value ∷ codes " is out of range\n" ∷ [])
+note_line (Shape size) = concat (codes "spiral: wht size " ∷ decimal size ∷ codes " is not a power of two\n" ∷ [])
+note_line (LanesLine lanes line) = concat (codes "spiral: lanes " ∷ decimal lanes ∷ codes " do not divide line " ∷ decimal line ∷ codes "\n" ∷ [])
+note_line (status.Root power) = concat (codes "spiral: root to the size is " ∷ decimal power ∷ codes ", not 1\n" ∷ [])
+note_line (OverBudget cost budget) = concat (codes "spiral: least cost " ∷ decimal cost ∷ codes " is over budget " ∷ decimal budget ∷ codes "\n" ∷ [])
+note_line (BadNumber token) = concat (codes "spiral: token " ∷ decimal token ∷ codes " is not a number\n" ∷ [])
+note_line (Truncated have need) = concat (codes "spiral: input ends with " ∷ decimal have ∷ codes " of " ∷ decimal need ∷ codes " numbers\n" ∷ [])
+note_line ReadFault = codes "spiral: read failed\n"
+note_line WriteFault = codes "spiral: write failed\n"
+note_line NoMemory = codes "spiral: out of memory\n"
+note_line (TooLong limit) = concat (codes "spiral: more than " ∷ decimal limit ∷ codes " bytes\n" ∷ [])
+
+-- the words and the bytes call for the status: it is neither a fault of the outside nor want of memory
+pub record IsDefined (status : Status) : Type 0 where
+  pub read : status ≢ ReadFault
+  pub write : status ≢ WriteFault
+  pub memory : status ≢ NoMemory

@@ -1,0 +1,11 @@
+//! The program: words and an input to an output, a note and a status.
+#![tactic(auto)]
+
+mod command;
+mod line;
+mod status;
+mod stream;
+
+pub use command::Command;
+pub use status::Status;
+pub use stream::{StreamFault, run_stream};

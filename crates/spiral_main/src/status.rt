@@ -1,0 +1,168 @@
+// What the program answers with.
+ghost use Rattle.std.specs.Prelude.{◌≡◌, ◌∷◌, [], decimal};
+ghost use Rattle.std.specs.List.{concat};
+ghost use Rattle.io_edge.specs.Faults.{HasCause};
+ghost use Rattle.io_edge.specs.Taken.{WritesAll};
+ghost use Rattle.spiral_main.specs.Status.{code_of, field_word, note_line};
+
+use io_edge::{Sink, WriteFault, write_all, write_parts};
+use itoa::Buffer;
+use request_text::Field;
+
+/// How a run ended.
+#[derive(Clone, Copy, Debug, PartialEq, Eq)]
+pub enum Status {
+    Success,
+    /// The words are no command line.
+    Usage,
+    /// No request's line begins with more bytes of the first line than these.
+    Syntax { at: u64 },
+    /// The first field of the request that is out of its limits.
+    Range { field: Field, value: u64 },
+    /// The size of a Walsh-Hadamard transform is no power of two.
+    Shape { size: u64 },
+    /// There are several processors, and the lanes do not divide the line.
+    LanesLine { lanes: u64, line: u64 },
+    /// The root to the power of the size, which is not 1.
+    Root { power: u64 },
+    /// The least cost of a program exceeds the budget.
+    OverBudget { cost: u64, budget: u64 },
+    /// The first token of the data that is no number. Tokens are counted from 1.
+    BadNumber { token: u64 },
+    /// The data end inside a vector.
+    Truncated { have: u64, need: u64 },
+    /// The input failed.
+    ReadFault,
+    /// The output failed.
+    WriteFault,
+    NoMemory,
+    /// The line or the input has more bytes than this.
+    TooLong { limit: u64 },
+}
+
+impl Status {
+    /// The exit code of the process.
+    pub fn code(&self) -> u8
+        ensures code { result ≡ code_of self.now }
+    {
+        match self {
+            Status::Success => 0,
+            Status::Usage => 2,
+            Status::Syntax { .. } => 3,
+            Status::Range { .. } | Status::Shape { .. } | Status::LanesLine { .. } => 4,
+            Status::Root { .. } => 6,
+            Status::OverBudget { .. } => 8,
+            Status::BadNumber { .. } | Status::Truncated { .. } => 9,
+            Status::ReadFault => 10,
+            Status::WriteFault => 11,
+            Status::NoMemory => 12,
+            Status::TooLong { .. } => 13,
+        }
+    }
+}
+
+// A field's word in a request line.
+fn word(field: Field) -> &'static [u8]
+    ensures word { result.now ≡ field_word field }
+{
+    match field {
+        Field::Size => b"size",
+        Field::Mod => b"mod",
+        Field::Root => b"root",
+        Field::Procs => b"procs",
+        Field::Line => b"line",
+        Field::Lanes => b"lanes",
+        Field::Unroll => b"unroll",
+        Field::Budget => b"budget",
+        Field::Weight => b"weight",
+    }
+}
+
+// Writes a number between two texts.
+fn note_number<E: Sink>(
+    note: &mut E,
+    front: &[u8],
+    number: u64,
+    end: &[u8],
+) -> Result<(), WriteFault>
+    ensures bytes { WritesAll (E.taken note.old) (E.taken note.new) result (concat (front.now ∷ decimal number ∷ end.now ∷ [])) }
+    ensures cause { HasCause (E.faults note.old) (E.faults note.new) result }
+{
+    let mut buffer = Buffer::new();
+    write_parts(note, &[front, buffer.format(number).as_bytes(), end])
+}
+
+// Writes two numbers, each behind a text.
+fn note_numbers<E: Sink>(
+    note: &mut E,
+    front: &[u8],
+    first: u64,
+    middle: &[u8],
+    second: u64,
+    end: &[u8],
+) -> Result<(), WriteFault>
+    ensures bytes { WritesAll (E.taken note.old) (E.taken note.new) result
+        (concat (front.now ∷ decimal first ∷ middle.now ∷ decimal second ∷ end.now ∷ [])) }
+    ensures cause { HasCause (E.faults note.old) (E.faults note.new) result }
+{
+    note_number(note, front, first, middle)?;
+    note_number(note, b"", second, end)
+}
+
+// Writes a number behind a field's word.
+fn note_range<E: Sink>(note: &mut E, field: Field, value: u64) -> Result<(), WriteFault>
+    ensures bytes { WritesAll (E.taken note.old) (E.taken note.new) result (note_line (Status.Range field value)) }
+    ensures cause { HasCause (E.faults note.old) (E.faults note.new) result }
+{
+    let mut buffer = Buffer::new();
+    write_parts(
+        note,
+        &[
+            b"spiral: ",
+            word(field),
+            b" ",
+            buffer.format(value).as_bytes(),
+            b" is out of range\n",
+        ],
+    )
+}
+
+/// Writes the line of a status.
+pub(crate) fn write_note<E: Sink>(note: &mut E, status: Status) -> Result<(), WriteFault>
+    ensures bytes { WritesAll (E.taken note.old) (E.taken note.new) result (note_line status) }
+    ensures cause { HasCause (E.faults note.old) (E.faults note.new) result }
+{
+    match status {
+        Status::Success => Ok(()),
+        Status::Usage => write_all(
+            note,
+            b"spiral: usage: spiral plan|formula|code|c|run|trace|cert|check|sample [--schedule WORD] [--seed NUMBER]\n",
+        ),
+        Status::Syntax { at } => note_number(note, b"spiral: syntax at byte ", at, b"\n"),
+        Status::Range { field, value } => note_range(note, field, value),
+        Status::Shape { size } => {
+            note_number(note, b"spiral: wht size ", size, b" is not a power of two\n")
+        }
+        Status::LanesLine { lanes, line } => {
+            note_numbers(note, b"spiral: lanes ", lanes, b" do not divide line ", line, b"\n")
+        }
+        Status::Root { power } => {
+            note_number(note, b"spiral: root to the size is ", power, b", not 1\n")
+        }
+        Status::OverBudget { cost, budget } => {
+            note_numbers(note, b"spiral: least cost ", cost, b" is over budget ", budget, b"\n")
+        }
+        Status::BadNumber { token } => {
+            note_number(note, b"spiral: token ", token, b" is not a number\n")
+        }
+        Status::Truncated { have, need } => {
+            note_numbers(note, b"spiral: input ends with ", have, b" of ", need, b" numbers\n")
+        }
+        Status::ReadFault => write_all(note, b"spiral: read failed\n"),
+        Status::WriteFault => write_all(note, b"spiral: write failed\n"),
+        Status::NoMemory => write_all(note, b"spiral: out of memory\n"),
+        Status::TooLong { limit } => {
+            note_number(note, b"spiral: more than ", limit, b" bytes\n")
+        }
+    }
+}

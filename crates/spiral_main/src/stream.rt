@@ -1,0 +1,102 @@
+// A run over a stream: the line of each vector.
+ghost use Rattle.std.specs.Prelude.{◌≡◌, ◌≢◌, ◌<◌, ◌≤◌, [], length, All, Err, IsErrOf};
+ghost use Rattle.icode.specs.Machine.{results, runs};
+ghost use Rattle.io_edge.specs.Faults.{Reports};
+ghost use Rattle.io_edge.specs.Feed.{to_come, limit};
+ghost use Rattle.spiral_main.specs.Stream.{Streams};
+
+use data_stream::{DataFault, Next, Vectors, write_vector};
+use io_edge::{Feed, Sink, Source, WriteFault};
+use par_machine::Machine;
+
+/// Why a run over a stream ended before the stream.
+#[derive(Clone, Copy, Debug, PartialEq, Eq)]
+pub enum StreamFault {
+    /// The first token that is no number. Tokens are counted from 1.
+    BadNumber { token: u64 },
+    /// The data end inside a vector.
+    Truncated { have: u64, need: u64 },
+    /// The input has more bytes than a feed gives.
+    TooLong,
+    /// The source failed.
+    ReadFault,
+    /// The sink failed.
+    WriteFault,
+}
+
+impl From<DataFault> for StreamFault {
+    ghost use Rattle.std.specs.Prelude.{◌≡◌};
+    ghost use Rattle.spiral_main.specs.StreamFault.{stream_fault};
+
+    ghost from_gives = { λ fault own. own ≡ stream_fault fault };
+
+    fn from(fault: DataFault) -> Self {
+        match fault {
+            DataFault::BadNumber { token } => StreamFault::BadNumber { token },
+            DataFault::Truncated { have, need } => StreamFault::Truncated { have, need },
+            DataFault::TooLong => StreamFault::TooLong,
+            DataFault::ReadFault => StreamFault::ReadFault,
+        }
+    }
+}
+
+impl From<WriteFault> for StreamFault {
+    ghost use Rattle.std.specs.Prelude.{◌≡◌};
+    ghost use Rattle.spiral_main.specs.declared.stream.StreamFault.TheVariants.{WriteFault};
+
+    ghost from_gives = { λ _ own. own ≡ WriteFault };
+
+    fn from(_: WriteFault) -> Self {
+        StreamFault::WriteFault
+    }
+}
+
+// Runs the machine on the vector, and puts the results in its place.
+fn transform(machine: &mut Machine, vector: &mut [u64])
+    requires size { length vector.old ≡ machine.old.code.size }
+    requires residues { All (λ v. v < machine.old.code.modulus) vector.old }
+    ensures vector { vector.new ≡ results machine.old.code vector.old [] }
+    ensures state { machine.new.state ≡ runs machine.old.code vector.old [] }
+    ensures code { machine.new.code ≡ machine.old.code }
+{
+    machine.put(vector);
+    machine.finish();
+    let first = machine.span() / 4;
+    for place in 0..vector.len() {
+        vector[place] = machine.word(first + place as u64);
+    }
+}
+
+/// Runs the machine on each vector of the data, and writes the line of its results before it reads the next.
+/// The data go on where the feed stands. The slice is room for a vector.
+pub fn run_stream<I: Source, O: Sink>(
+    machine: &mut Machine,
+    feed: &mut Feed,
+    input: &mut I,
+    output: &mut O,
+    vector: &mut [u64],
+) -> Result<(), StreamFault>
+    requires size { length vector.old ≡ machine.old.code.size }
+    requires within { feed.old.taken ≤ limit }
+
+    // What it read, wrote and left, also of a source that doesn't tell its bytes.
+    ensures streams { Streams (λ x. results machine.old.code x []) (λ x. runs machine.old.code x [])
+        machine.old.code.size machine.old.code.modulus feed.old feed.new
+        (to_come feed.old (I.left input.old)) (to_come feed.new (I.left input.new))
+        (O.taken output.old) (O.taken output.new) machine.old.state machine.new.state result }
+    ensures code { machine.new.code ≡ machine.old.code }
+    ensures within { result ≢ Err StreamFault.TooLong → feed.new.taken ≤ limit }
+
+    // A fault has its cause, and is not swallowed.
+    ensures read { Reports (I.faults input.old) (I.faults input.new) (IsErrOf result StreamFault.ReadFault) }
+    ensures write { Reports (O.faults output.old) (O.faults output.new) (IsErrOf result StreamFault.WriteFault) }
+{
+    let modulus = machine.modulus();
+    machine.span();
+    let mut vectors = Vectors::new(vector.len() as u64);
+    while let Next::Vector = vectors.next(&modulus, feed, input, vector)? {
+        transform(machine, vector);
+        write_vector(output, vector)?;
+    }
+    Ok(())
+}
