@@ -8,8 +8,8 @@ use Rattle.matrix_meaning.specs.declared.Kind.TheVariants.{Dft, Wht}
 use Rattle.matrix_meaning.specs.declared.Request.{Request}
 use Rattle.operators.specs.Identities.{turn}
 use Rattle.matrix_meaning.specs.Kind.{transform, IsPowerOfTwo}
-use Rattle.matrix_meaning.specs.Laws.{twiddle, good_thomas_in, good_thomas_out}
-use Rattle.operators.specs.Operator.{Operator, gather, scale, on_columns, on_blocks}
+use Rattle.matrix_meaning.specs.Laws.{twiddle}
+use Rattle.operators.specs.Operator.{Operator, gather, scale, on_columns, on_blocks, good_thomas_in, good_thomas_out}
 use Rattle.matrix_meaning.specs.Valid.{HasRoot}
 use Rattle.matrix_meaning.proofs.CooleyTukey.{cooley_tukey}
 use Rattle.matrix_meaning.proofs.GoodThomas.{good_thomas}

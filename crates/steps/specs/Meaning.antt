@@ -3,8 +3,8 @@ use Rattle.std.specs.Prelude.{◌≡◌, ℕ, ◌*◌, List, [], ◌∷◌}
 use Rattle.matrix_meaning.specs.declared.Request.{Request}
 use Rattle.operators.specs.Identities.{turn}
 use Rattle.matrix_meaning.specs.Kind.{transform}
-use Rattle.matrix_meaning.specs.Laws.{twiddle, good_thomas_in, good_thomas_out}
-use Rattle.operators.specs.Operator.{Operator, gather, scale}
+use Rattle.matrix_meaning.specs.Laws.{twiddle}
+use Rattle.operators.specs.Operator.{Operator, gather, scale, good_thomas_in, good_thomas_out}
 use Rattle.matrix_meaning.specs.Valid.{IsValid}
 use Rattle.tensor_paths.specs.Path.{Path, copies_of, under}
 use Rattle.tree_model.specs.Breakdown.{Breakdown, size_of, IsWellFormed}
