@@ -8,3 +8,7 @@ pub mod PlaceValues
 pub mod PlaceRoom
 pub mod RuleRoom
 pub mod InnerPlaces
+pub mod Shaped
+pub mod Reaching
+pub mod ListedPlaces
+pub mod PassesStore

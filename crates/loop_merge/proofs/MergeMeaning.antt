@@ -37,7 +37,7 @@ IsGoodToEnd c [] = ⊥
 IsGoodToEnd c (p ∷ []) = IsGoodPass c p × IsUnmultiplied p
 IsGoodToEnd c (p ∷ q ∷ ps) = IsGoodPass c p × IsGoodToEnd c (q ∷ ps)
 
-all_from_end : (c : Request) (ps : List PlainPass) → IsGoodToEnd c ps → AllGood c ps
+pub all_from_end : (c : Request) (ps : List PlainPass) → IsGoodToEnd c ps → AllGood c ps
 all_from_end c [] h = absurd h
 all_from_end c (p ∷ []) h = (h.0, tt)
 all_from_end c (p ∷ q ∷ ps) h = (h.0, all_from_end c (q ∷ ps) h.1)

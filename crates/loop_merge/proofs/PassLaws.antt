@@ -12,6 +12,7 @@ use Rattle.operators.proofs.Lists.{at-list_below, list_below-same}
 use Rattle.operators.proofs.Scatters.{gather_as_scatter}
 use Rattle.operators.proofs.Sums.{sum_below-same}
 use Rattle.loop_merge.specs.Merge.{PlainDiagonal, PlainPass, through, scattered, multiplied, gather_place, scatter_place, multiplied_by, pass_on}
+use Rattle.loop_merge.specs.Stores.{IsHit, Covers}
 use Rattle.sigma_lower.specs.Term.{diagonal_at, term_on, scat, diag, nest}
 use Rattle.sigma_lower.proofs.Permuted.{StaysBelow}
 use Rattle.steps.specs.Meaning.{transform_of}
@@ -76,19 +77,6 @@ to-same : (n : ℕ) (path : Path) (d : ℕ) (from : List ℕ → ℕ → ℕ) (b
 to-same n path d from body to other x same =
     list_below-same n _ _ (λ w below. nest_sum-same path _ _ (λ vs in_range. sum_below-same d _ _ (λ k within.
     ap (λ p. if p == w then slice_index (body vs (list_below d (λ j. slice_index x (from vs j)))) k else 0) (same vs k))))
-
--- each place is stored to once
-pub record IsHit (path : Path) (d : ℕ) (to : List ℕ → ℕ → ℕ) (w : ℕ) : Type 0 where
-  pub values : List ℕ
-  pub inner : ℕ
-  pub in_range : AreInRange path values
-  pub below : inner < d
-  pub there : to values inner ≡ w
-
-pub record Covers (n : ℕ) (path : Path) (d : ℕ) (to : List ℕ → ℕ → ℕ) : Type 0 where
-  pub range : (vs : List ℕ) (k : ℕ) → AreInRange path vs → k < d → to vs k < n
-  pub one : IsOneToOne path d to
-  pub onto : (w : ℕ) → w < n → IsHit path d to w
 
 covers-place : (n : ℕ) (path : Path) (d : ℕ) → size_under path d ≡ n → Covers n path d (place path d)
 covers-place n path d e =

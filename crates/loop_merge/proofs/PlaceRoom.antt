@@ -43,7 +43,7 @@ can_divide s a e cs positive high h small = subst (HasTop cs) (sym (rest-joined 
 pub le-mul_left : (a b : ℕ) → 0 < a → b ≤ a * b
 le-mul_left a b h = let more : b ≤ b * a = le-mul_of_pos_right {m = a} b h in omega arith
 
-scaled-top : (a t b : ℕ) → t < b → a * t ≤ b * a
+pub scaled-top : (a t b : ℕ) → t < b → a * t ≤ b * a
 scaled-top a t b h = let more : a * t ≤ a * b = mul-le-mul_left a (omega arith) in omega arith
 
 -- a function under tensors has room at a place under them, where it has room at the inner place

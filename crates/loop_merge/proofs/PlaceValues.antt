@@ -12,6 +12,7 @@ use Rattle.perm_algebra.proofs.Values.{simplifies, sound-scaled, sound-joined}
 use Rattle.loop_merge.specs.Merge.{PlainDiagonal, PlainPass, through, new_pass, scattered, multiplied, at_last}
 use Rattle.loop_merge.specs.Placed.{place_sum, all_simplified, loop_values, ArePlacesValues, AreValuesOf, PlacesAreValues}
 use Rattle.loop_merge.proofs.MergeMeaning.{IsRule, is_rule, coprime_of}
+use Rattle.loop_merge.specs.Reach.{IsFormed, AreFormed}
 use Rattle.loop_merge.proofs.PlaceLimits.{none_is_some, multiplied-is}
 use Rattle.loop_merge.proofs.TreePasses.{rule_waiting, rule_passes, tree_passes, merged_of-tree}
 use Rattle.ring_mod.proofs.Inverses.{AreInverses, inverse_of_s, inverse_of_r, inverses_of}
@@ -27,16 +28,7 @@ use Rattle.tree_model.specs.Cost.{is_kernel}
 
 -- ---- one pass
 
--- a function that can be simplified
-pub record IsFormed (f : Mapping) : Type 0 where
-  pub formed : IsWellFormed f
-  pub no_list : HasNoList f
-
-abbrev pub AreFormed : List Mapping → Type 0
-AreFormed [] = Unit {0}
-AreFormed (f ∷ fs) = IsFormed f × AreFormed fs
-
-formed-append : (fs : List Mapping) (f : Mapping) → AreFormed fs → IsFormed f → AreFormed (fs ++ f ∷ [])
+pub formed-append : (fs : List Mapping) (f : Mapping) → AreFormed fs → IsFormed f → AreFormed (fs ++ f ∷ [])
 formed-append [] f h g = (g, tt)
 formed-append (e ∷ fs) f h g = (h.0, formed-append fs f h.1 g)
 
@@ -46,7 +38,7 @@ value-all cs vs (f ∷ fs) e h range sound =
     let one = simplifies cs vs f e h.0.formed h.0.no_list sound range in
     value-all cs vs fs (simplified cs f e) h.1 range one.sound ∙ ap (through fs) one.value_is
 
-sound-place_sum : (path : Path) (n d : ℕ) (e : Sum) → IsSound e → IsSound (place_sum path n d e)
+pub sound-place_sum : (path : Path) (n d : ℕ) (e : Sum) → IsSound e → IsSound (place_sum path n d e)
 sound-place_sum [] n d e h = h
 sound-place_sum (Blocks c ∷ path) n d e h = sound-joined (scaled (size_under path n) (variable 1 d (constant 0))) (place_sum path n (d + 1) e) tt (sound-place_sum path n (d + 1) e h)
 sound-place_sum (Columns c ∷ path) n d e h = sound-joined (scaled c (place_sum path n (d + 1) e)) (variable 1 d (constant 0)) (sound-scaled c (place_sum path n (d + 1) e) (sound-place_sum path n (d + 1) e h)) tt
@@ -63,12 +55,12 @@ value-place_sum (Columns c ∷ path) n d e vs =
     ∙ ap (λ x. x + (1 * vs d + 0)) (value-scaled c (place_sum path n (d + 1) e) vs ∙ ap (λ y. c * y) (value-place_sum path n (d + 1) e vs))
     ∙ omega arith
 
-value-at_place : (cs vs : ℕ → ℕ) (path : Path) (n : ℕ) (fs : List Mapping) (e : Sum) → AreFormed fs → AreBelowCounts vs cs → IsSound e →
+pub value-at_place : (cs vs : ℕ → ℕ) (path : Path) (n : ℕ) (fs : List Mapping) (e : Sum) → AreFormed fs → AreBelowCounts vs cs → IsSound e →
     value (all_simplified cs fs (place_sum path n 0 e)) vs ≡ through fs (place path n (loop_values path 0 vs) (value e vs))
 value-at_place cs vs path n fs e h range sound =
     value-all cs vs fs (place_sum path n 0 e) h range (sound-place_sum path n 0 e sound) ∙ ap (through fs) (value-place_sum path n 0 e vs)
 
-through-end : (fs : List Mapping) (f : Mapping) (i : ℕ) → through (fs ++ f ∷ []) i ≡ at f (through fs i)
+pub through-end : (fs : List Mapping) (f : Mapping) (i : ℕ) → through (fs ++ f ∷ []) i ≡ at f (through fs i)
 through-end [] f i = refl
 through-end (g ∷ fs) f i = through-end fs f (at g i)
 
@@ -176,7 +168,7 @@ passes_pick false ps qs h k = k
 new-formed : (path : Path) (waiting : List Mapping) (t : Breakdown) → AreFormed waiting → IsFormedPass (new_pass path t waiting)
 new-formed path waiting t h = record { befores = h; afters = tt; multiplies = λ d e. absurd (none_is_some d e) }
 
-formed_passes : (c : Request) (path : Path) (waiting : List Mapping) (t : Breakdown) → IsValid c → IsWellFormedTree c.kind t → size_under path (size_of t) ≡ c.size → AreFormed waiting →
+pub formed_passes : (c : Request) (path : Path) (waiting : List Mapping) (t : Breakdown) → IsValid c → IsWellFormedTree c.kind t → size_under path (size_of t) ≡ c.size → AreFormed waiting →
     AreFormedPasses (tree_passes c path waiting t)
 formed_passes c path waiting (leaf d) valid h e w = (new-formed path waiting (leaf d) w, tt)
 formed_passes c path waiting (node rule a b) valid h e w =

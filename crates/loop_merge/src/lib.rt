@@ -4,14 +4,19 @@
 ghost use Rattle.std.specs.Prelude.{◌≡◌, ℕ, List, [], ◌∷◌, ◌++◌, IfOk, OnOk, map};
 ghost use Rattle.index_fn.specs.Index.{mapping_of};
 ghost use Rattle.loop_merge.specs.Laws.{counted, MergeKeeps, MergeCounts};
-ghost use Rattle.loop_merge.specs.Merge.{Merging, scattered, multiplied, at_last, merge_term, merged, passes_on};
+ghost use Rattle.loop_merge.specs.Merge.{Merging, scattered, multiplied, at_last, merge_term, merged, merged_of, passes_on};
 ghost use Rattle.loop_merge.specs.Placed.{AllLimited, AreValuesOf, PlacesAreLimited, PlacesAreValues};
+ghost use Rattle.loop_merge.specs.Stores.{PassesStore};
 ghost use Rattle.loop_merge.specs.Views.{plain_pass, plain_merging};
 ghost use Rattle.sigma_lower.specs.Views.{plain_term};
 ghost use Rattle.steps.specs.Meaning.{transform_of};
 ghost use Rattle.tree_model.specs.Admissible.{IsAdmissible};
 ghost use Rattle.tree_model.specs.Breakdown.{breakdown_of};
 ghost use Rattle.tree_model.specs.Passes.{passes_of};
+
+mod listed;
+
+pub use listed::{ListedPass, Multiplier, listed_passes, listed_places};
 
 use index_fn::Index;
 use memory::NoMemory;
@@ -50,6 +55,7 @@ pub struct State {
 /// The merged passes of a tree.
 pub fn passes_of_tree(alloc: Global, c: &Ctx, tree: &Tree) -> Result<Vec<Pass>, NoMemory>
     requires { IsAdmissible c.now (breakdown_of tree.now) }
+    ensures form { IfOk result (λ passes. map plain_pass passes.items ≡ merged_of c.now (breakdown_of tree.now)) }
     ensures meaning { IfOk result (λ passes. (x : List ℕ) → passes_on c.now (map plain_pass passes.items) x ≡ transform_of c.now c.now.size x) }
     ensures counts { IfOk result (λ passes. map counted (map plain_pass passes.items) ≡ passes_of c.now 1 (breakdown_of tree.now)) }
     ensures limits { IfOk result (λ passes. AllLimited c.now (map plain_pass passes.items)) }
@@ -206,4 +212,9 @@ pub fn places_are_limited()
 /// The places of merged passes are the values of their sums: a law of the definitions.
 pub fn places_are_values()
     ensures { PlacesAreValues }
+{}
+
+/// What a pass leaves at the place of each item: a law of the definitions.
+pub fn passes_store()
+    ensures { PassesStore }
 {}

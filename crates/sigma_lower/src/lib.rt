@@ -105,7 +105,8 @@ fn under(alloc: Global, path: &[Tensor], n: u64, f: Index) -> Result<Index, NoMe
     }
 }
 
-fn size_of_whole(path: &[Tensor], n: u64) -> u64
+/// The size of the whole, around a matrix of size `n`.
+pub fn size_of_whole(path: &[Tensor], n: u64) -> u64
     requires { HasRoom path.now n }
     ensures { result ≡ size_under path.now n }
 {
