@@ -136,7 +136,8 @@ lists_places c p valid plain shape formed limited =
                 subst (λ w. IsPlace (places_of runs (diagonal_places d) p.path n (items_of c n depth)) k vs w (d.rows * d.cols)) (through-end d.places _ _)
                 (kernel-place c (diagonal_places d) p.path n (d.rows * d.cols) depth e vs k range below (record { sound = tt; formed = formed-append d.places _ f.0 f.1; small = (l.multiplies d is).fits.small }));
           };
-      leaf = λ e vs k l range row column.
+      long = shape.long;
+      rows = λ e vs k l range row column.
           let by_rows = facts.row e in
           let by_columns = facts.column e in
           let rows = limited cs (variable 1 depth (constant 0)) facts.run by_rows.fits in

@@ -9,7 +9,7 @@ use Rattle.loop_merge.specs.Listed.{listed_of, multiplier_of}
 use Rattle.loop_merge.specs.Merge.{PlainDiagonal, PlainPass, through, gather_place, scatter_place, merged_of}
 use Rattle.tensor_paths.specs.Path.{AreInRange, place}
 use Rattle.tree_model.specs.Admissible.{IsAdmissible}
-use Rattle.tree_model.specs.Breakdown.{Breakdown, size_of}
+use Rattle.tree_model.specs.Breakdown.{Breakdown, leaf, size_of}
 use Rattle.tree_model.specs.Cost.{is_plain, is_kernel}
 
 -- the place of the item k in the diagonal
@@ -33,9 +33,11 @@ pub record ListsLeaf (c : Request) (p : PlainPass) (vs : List ℕ) (k l : ℕ) :
   pub stores : IsPlace (listed_of c p).scatters 0 (vs ++ k ∷ []) (scatter_place p vs k) c.size
   pub multiplies : (d : PlainDiagonal) → p.diagonal ≡ Some d → IsPlace (multiplier_of c p d).places 0 (vs ++ k ∷ []) (diagonal_place p d vs k) (d.rows * d.cols)
 
+-- a kernel item by item, and a longer leaf, which is no other node, row by row and column by column
 pub record ListsPlaces (c : Request) (p : PlainPass) : Type 0 where
   pub kernel : is_kernel c (size_of p.tree) ≡ true → (vs : List ℕ) (k : ℕ) → AreInRange p.path vs → k < size_of p.tree → ListsKernel c p vs k
-  pub leaf : is_kernel c (size_of p.tree) ≡ false → (vs : List ℕ) (k l : ℕ) → AreInRange p.path vs → k < size_of p.tree → l < size_of p.tree → ListsLeaf c p vs k l
+  pub long : is_kernel c (size_of p.tree) ≡ false → p.tree ≡ leaf (size_of p.tree)
+  pub rows : is_kernel c (size_of p.tree) ≡ false → (vs : List ℕ) (k l : ℕ) → AreInRange p.path vs → k < size_of p.tree → l < size_of p.tree → ListsLeaf c p vs k l
 
 abbrev pub AllListPlaces : Request → List PlainPass → Type 0
 AllListPlaces c [] = Unit {0}

@@ -16,9 +16,8 @@ ghost use Rattle.tree_model.specs.Passes.{passes_of};
 
 mod listed;
 
-pub use listed::{ListedPass, Multiplier, listed_passes, listed_places};
-
 use index_fn::Index;
+pub use listed::{ListedPass, Multiplier, listed_passes, listed_places};
 use memory::NoMemory;
 use sigma_lower::{Term, lower};
 use std::alloc::Global;

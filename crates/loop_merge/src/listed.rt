@@ -87,9 +87,7 @@ fn list_one(alloc: Global, c: &Ctx, pass: &Pass) -> Result<ListedPass, NoMemory>
     let scatters = places(alloc, &limits, &pass.afters, &pass.path, size, &rows)?;
     let multiplier = match &pass.diagonal {
         None => None,
-        Some(diagonal) => Some(multiplier_at(
-            alloc, &limits, diagonal, &pass.path, size, &rows,
-        )?),
+        Some(diagonal) => Some(multiplier_at(alloc, &limits, diagonal, &pass.path, size, &rows)?),
     };
     let tree = pass.tree.copied(alloc)?;
     Ok(ListedPass {
@@ -291,3 +289,93 @@ fn inner(alloc: Global, path: &[Tensor], n: u64) -> Result<Index, NoMemory>
 pub fn listed_places()
     ensures { ListedPlaces }
 {}
+
+#[cfg(test)]
+mod tests {
+    use super::*;
+    use matrix_meaning::{Kind, Request};
+    use std::test::Fail;
+    use tree_model::admissible;
+
+    fn four() -> Request
+        ensures { result ≡ record { kind = Kind.Dft; size = 4; modulus = 17; root = 4; procs = 1; line = 1; lanes = 1; unroll = 2; budget = 100000000; weight = 1 } }
+    {
+        Request {
+            kind: Kind::Dft,
+            size: 4,
+            modulus: 17,
+            root: 4,
+            procs: 1,
+            line: 1,
+            lanes: 1,
+            unroll: 2,
+            budget: 100_000_000,
+            weight: 1,
+        }
+    }
+
+    fn six() -> Request
+        ensures { result ≡ record { kind = Kind.Dft; size = 6; modulus = 7; root = 3; procs = 1; line = 1; lanes = 1; unroll = 2; budget = 100000000; weight = 1 } }
+    {
+        Request {
+            size: 6,
+            modulus: 7,
+            root: 3,
+            ..four()
+        }
+    }
+
+    fn listing(alloc: Global, passes: &[ListedPass]) -> Result<String, Fail> {
+        let mut text = String::new(alloc);
+        for pass in passes {
+            for sum in &pass.gathers {
+                text.push_str(format!(in alloc; "ld {sum}; ")?.as_str())?;
+            }
+            if let Some(multiplier) = &pass.multiplier {
+                for sum in &multiplier.places {
+                    text.push_str(format!(in alloc; "mul {sum}; ")?.as_str())?;
+                }
+            }
+            for sum in &pass.scatters {
+                text.push_str(format!(in alloc; "st {sum}; ")?.as_str())?;
+            }
+        }
+        Ok(text)
+    }
+
+    // By hand, from the places of a step by strides: `k * 2 + i` before it and `i * 2 + k` after its right part.
+    #[test]
+    fn step_by_strides(rt: HostRuntime) -> Result<(), Fail> {
+        let alloc = rt.alloc();
+        let c = Ctx::new(&four());
+        let left = Box::new(alloc, Tree::Leaf(2))?;
+        let right = Box::new(alloc, Tree::Leaf(2))?;
+        let tree = Tree::Ct(left, right);
+        assert!(rt; admissible(&c, &tree));
+        assert!(rt; c.is_plain());
+        let passes = listed_passes(alloc, &c, &tree)?;
+        assert_eq!(rt;
+            listing(alloc, &passes)?.as_str(),
+            "ld 0+v0*1; ld 2+v0*1; mul 0+v0*2; mul 1+v0*2; st 0+v0*2; st 1+v0*2; ld 0+v0*1; ld 2+v0*1; st 0+v0*1; st 2+v0*1; "
+        );
+        Ok(())
+    }
+
+    // By hand, from the places of a step by coprime factors: `(3 * i + 2 * l) mod 6` before it and `(3 * k + 4 * j) mod 6` after it.
+    #[test]
+    fn step_by_coprime_factors(rt: HostRuntime) -> Result<(), Fail> {
+        let alloc = rt.alloc();
+        let c = Ctx::new(&six());
+        let left = Box::new(alloc, Tree::Leaf(2))?;
+        let right = Box::new(alloc, Tree::Leaf(3))?;
+        let tree = Tree::Gt(left, right);
+        assert!(rt; admissible(&c, &tree));
+        assert!(rt; c.is_plain());
+        let passes = listed_passes(alloc, &c, &tree)?;
+        assert_eq!(rt;
+            listing(alloc, &passes)?.as_str(),
+            "ld 0+(0+v0*3+v2*2)%6*1; st 0+v0*3+v1*1; ld 0+v0*1; ld 3+v0*1; st 0+(0+v0*4)%6*1; st 0+(3+v0*4)%6*1; "
+        );
+        Ok(())
+    }
+}
