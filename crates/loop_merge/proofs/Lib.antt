@@ -12,3 +12,4 @@ pub mod Shaped
 pub mod Reaching
 pub mod ListedPlaces
 pub mod PassesStore
+pub mod Worked

@@ -1,4 +1,4 @@
-//! Permutations and diagonals merged into the loops beside them.
+//! Permutations and diagonals merged into the loops beside them (Franchetti et al., 2005).
 #![tactic(auto)]
 
 ghost use Rattle.std.specs.Prelude.{◌≡◌, ℕ, List, [], ◌∷◌, ◌++◌, IfOk, OnOk, map};
