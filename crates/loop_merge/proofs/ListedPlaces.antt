@@ -1,6 +1,6 @@
 -- The sums of listed passes have the values of the places.
-use Rattle.std.proofs.Common.{◌≡◌, ℕ, zero, suc, ◌+◌, ◌-◌, ◌*◌, ◌<◌, ◌≤◌, Bool, true, false, arith, refl, sym, ap, ap₂, ◌∙◌, List, [], ◌∷◌, ◌++◌, length, if◌then◌else◌, subst, append-nil}
-use Rattle.std.specs.Prelude.{Some, map, slice_index, slice_index_or, IsTrue}
+use Rattle.std.proofs.Common.{◌≡◌, ℕ, zero, suc, ◌+◌, ◌-◌, ◌*◌, ◌<◌, ◌≤◌, true, false, arith, refl, sym, ap, ap₂, ◌∙◌, List, [], ◌∷◌, ◌++◌, length, if◌then◌else◌, subst, append-nil}
+use Rattle.std.specs.Prelude.{map, slice_index, slice_index_or, IsTrue}
 use Rattle.std.specs.List.{range_with_len}
 use Rattle.index_fn.specs.Mapping.{Mapping}
 use Rattle.matrix_meaning.specs.declared.Request.{Request}
@@ -10,8 +10,8 @@ use Rattle.perm_algebra.proofs.AffineLaws.{value-le-top}
 use Rattle.perm_algebra.proofs.Values.{simplifies}
 use Rattle.loop_merge.specs.Listed.{counts_of, items_of, places_of}
 use Rattle.loop_merge.specs.ListedLaw.{IsPlace, ListsPlaces, AllListPlaces, ListedPlaces}
-use Rattle.loop_merge.specs.Merge.{PlainDiagonal, PlainPass, through, merged_of}
-use Rattle.loop_merge.specs.Placed.{place_sum, all_simplified, AreCounts, IsLimitedPass, AllLimited, diagonal_places, loop_values}
+use Rattle.loop_merge.specs.Merge.{PlainPass, through}
+use Rattle.loop_merge.specs.Placed.{place_sum, all_simplified, IsLimitedPass, AllLimited, diagonal_places, loop_values}
 use Rattle.loop_merge.specs.Reach.{AreFormed}
 use Rattle.loop_merge.proofs.PlaceLimits.{places_are_limited}
 use Rattle.loop_merge.proofs.PlaceValues.{IsFormedPass, AreFormedPasses, formed-append, formed_passes, value-at_place, sound-place_sum, through-end}
@@ -19,8 +19,7 @@ use Rattle.loop_merge.proofs.Reaching.{IsItem, constant-item, ShapedPass, shaped
 use Rattle.loop_merge.proofs.Shaped.{IsShaped, AreShaped, shaped_passes}
 use Rattle.loop_merge.proofs.TreePasses.{tree_passes, merged_of-tree}
 use Rattle.tensor_paths.specs.Path.{Path, count_of, AreInRange, place}
-use Rattle.tree_model.specs.Admissible.{IsAdmissible}
-use Rattle.tree_model.specs.Breakdown.{Breakdown, size_of}
+use Rattle.tree_model.specs.Breakdown.{size_of}
 use Rattle.tree_model.specs.Cost.{is_plain, is_kernel}
 
 -- ---- the values of the variables

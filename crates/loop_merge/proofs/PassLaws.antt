@@ -16,7 +16,7 @@ use Rattle.loop_merge.specs.Stores.{IsHit, Covers}
 use Rattle.sigma_lower.specs.Term.{diagonal_at, term_on, scat, diag, nest}
 use Rattle.sigma_lower.proofs.Permuted.{StaysBelow}
 use Rattle.steps.specs.Meaning.{transform_of}
-use Rattle.tensor_paths.specs.Loop.{loop_at, loop_on, IsOneToOne}
+use Rattle.tensor_paths.specs.Loop.{loop_at, loop_on}
 use Rattle.tensor_paths.specs.Path.{Path, size_under, place, AreInRange}
 use Rattle.tensor_paths.proofs.PathPlaces.{place-below}
 use Rattle.tensor_paths.proofs.PathLoops.{nest_sum-same, loop_at-place, loop_on-place, place-one_to_one, reach, Reached}

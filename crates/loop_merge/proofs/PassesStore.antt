@@ -1,7 +1,6 @@
 -- What the passes of a tree leave.
-use Rattle.std.proofs.Common.{◌≡◌, List, [], ◌∷◌, sym, subst}
+use Rattle.std.proofs.Common.{List, [], ◌∷◌, sym, subst}
 use Rattle.matrix_meaning.specs.declared.Request.{Request}
-use Rattle.matrix_meaning.specs.Valid.{IsValid}
 use Rattle.loop_merge.specs.Merge.{PlainPass, gather_place, scatter_place, multiplied_by}
 use Rattle.loop_merge.specs.Stores.{StoresAll, AllStore, PassesStore}
 use Rattle.loop_merge.proofs.MergeMeaning.{AllGood, all_from_end, do_steps}

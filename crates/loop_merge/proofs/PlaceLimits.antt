@@ -1,22 +1,22 @@
 -- The places of a tree's passes are within the limits: each tensor on the way adds a variable and at most one remainder, and there are at most sixteen of them.
 use Rattle.std.proofs.Common.{◌≡◌, ℕ, suc, ◌+◌, ◌*◌, ◌^◌, ◌<◌, ◌≤◌, Bool, true, false, arith, refl, sym, ap, ◌∙◌, List, [], ◌∷◌, ◌++◌, length, if◌then◌else◌, subst, mul_comm, inl, inr}
 use Rattle.std.specs.Prelude.{Option, Some, None}
-use Rattle.std.proofs.Math.Nat.{mul-le-mul_right, mul-div_right, pow-succ'}
+use Rattle.std.proofs.Math.Nat.{mul-le-mul_right, pow-succ'}
 use Rattle.std.proofs.Math.Pow.{pow_mono}
 use Rattle.std.proofs.lemmas.Bool.{cases_lt}
 use Rattle.index_fn.specs.Mapping.{Mapping, Strided, ThomasIn, ThomasBack}
 use Rattle.matrix_meaning.specs.declared.Request.{Request}
 use Rattle.matrix_meaning.specs.Valid.{IsValid}
-use Rattle.perm_algebra.specs.Affine.{Fits, IsProper, Sum, constant, variable, levels, parts, scaled, joined, Divided, turned, reduced, simplified}
-use Rattle.perm_algebra.proofs.Shape.{divided-joined, turned-joined, joined-zero}
-use Rattle.perm_algebra.proofs.Sizes.{joined-end, scaled-one, is_reduced, levels-scaled, levels-joined, parts-scaled, parts-joined, proper-joined, proper-scaled, plain-joined, plain-scaled}
+use Rattle.perm_algebra.specs.Affine.{Fits, IsProper, Sum, constant, variable, levels, parts, scaled, joined, Divided, reduced, simplified}
+use Rattle.perm_algebra.proofs.Shape.{divided-joined, turned-joined}
+use Rattle.perm_algebra.proofs.Sizes.{is_reduced, levels-scaled, levels-joined, parts-scaled, parts-joined, proper-joined, proper-scaled, plain-joined, plain-scaled}
 use Rattle.loop_merge.specs.Merge.{PlainDiagonal, PlainPass, new_pass, scattered, multiplied, at_last}
 use Rattle.loop_merge.specs.Placed.{AllRoom, place_sum, AreCounts, all_simplified, gather_sum, scatter_sum, IsWithinLimits, diagonal_places, diagonal_sum, IsLimitedPass, AllLimited, PlacesAreLimited}
 use Rattle.loop_merge.proofs.InnerPlaces.{inner-place, room-inner}
 use Rattle.loop_merge.proofs.PlaceRoom.{room-wrapped}
 use Rattle.loop_merge.proofs.RuleRoom.{thomas_in-room, turns-room, thomas_back-room}
 use Rattle.perm_algebra.specs.Room.{HasRoomFor}
-use Rattle.loop_merge.proofs.PlaceSums.{tensor_sum, size-positive, place_sum-fits, place_sum-push, counts-push, variable-fits, parts-fit, tensor_sum-fits, simplified-wrapped, all_simplified-append}
+use Rattle.loop_merge.proofs.PlaceSums.{tensor_sum, place_sum-push, counts-push, variable-fits, parts-fit, tensor_sum-fits, simplified-wrapped, all_simplified-append}
 use Rattle.loop_merge.proofs.MergeMeaning.{IsRule, is_rule, coprime_of}
 use Rattle.loop_merge.proofs.TreePasses.{rule_waiting, rule_passes, tree_passes, merged_of-tree}
 use Rattle.sigma_lower.specs.Wrapped.{wrapped, inner_of, unit_of}

@@ -1,12 +1,10 @@
 -- The sums of a pass have the values of its places.
-use Rattle.std.proofs.Common.{◌≡◌, ℕ, zero, suc, ◌+◌, ◌*◌, ◌/◌, ◌<◌, Bool, true, false, arith, refl, ap, ap₂, ◌∙◌, List, [], ◌∷◌, ◌++◌, if◌then◌else◌, zero-mul, mul-zero, inl, inr, subst, eq-zero-or-pos}
+use Rattle.std.proofs.Common.{◌≡◌, ℕ, zero, suc, ◌+◌, ◌*◌, ◌<◌, Bool, true, false, arith, refl, ap, ap₂, ◌∙◌, List, [], ◌∷◌, ◌++◌, if◌then◌else◌, zero-mul, mul-zero, inl, inr, subst, eq-zero-or-pos}
 use Rattle.std.specs.Prelude.{Some}
-use Rattle.std.proofs.Math.Nat.{mul-div_right}
-use Rattle.std.proofs.lemmas.Nat.{mul-lt}
-use Rattle.index_fn.specs.Mapping.{Mapping, Strided, ThomasIn, ThomasBack, at, IsWellFormed}
+use Rattle.index_fn.specs.Mapping.{Mapping, Strided, ThomasIn, ThomasBack, at}
 use Rattle.matrix_meaning.specs.declared.Request.{Request}
 use Rattle.matrix_meaning.specs.Valid.{IsValid}
-use Rattle.perm_algebra.specs.Affine.{Sum, constant, variable, value, IsSound, scaled, simplified, HasNoList, AreBelowCounts}
+use Rattle.perm_algebra.specs.Affine.{Sum, constant, variable, value, IsSound, scaled, simplified, AreBelowCounts}
 use Rattle.perm_algebra.proofs.AffineLaws.{value-scaled, value-joined}
 use Rattle.perm_algebra.proofs.Values.{simplifies, sound-scaled, sound-joined}
 use Rattle.loop_merge.specs.Merge.{PlainDiagonal, PlainPass, through, new_pass, scattered, multiplied, at_last}

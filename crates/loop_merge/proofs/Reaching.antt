@@ -1,6 +1,6 @@
 -- The places of a tree's passes can be made with words of 64 bits.
-use Rattle.std.proofs.Common.{◌≡◌, ℕ, zero, suc, ◌+◌, ◌*◌, ◌^◌, ◌<◌, ◌≤◌, Bool, true, false, arith, refl, sym, ap, ap₂, ◌∙◌, List, [], ◌∷◌, ◌++◌, length, if◌then◌else◌, subst, inl, inr, mul-zero, eq-zero-or-pos}
-use Rattle.std.specs.Prelude.{Some, All, map, slice_index, IsTrue}
+use Rattle.std.proofs.Common.{◌≡◌, ℕ, zero, suc, ◌+◌, ◌*◌, ◌<◌, ◌≤◌, Bool, true, false, arith, refl, sym, ap, ap₂, ◌∙◌, List, [], ◌∷◌, ◌++◌, length, if◌then◌else◌, subst, inl, inr, mul-zero, eq-zero-or-pos}
+use Rattle.std.specs.Prelude.{All, map, slice_index, IsTrue}
 use Rattle.std.specs.List.{range_with_len}
 use Rattle.std.proofs.Math.Nat.{mul-le-mul_left, mul-le-mul_right}
 use Rattle.std.proofs.lemmas.Bool.{cases_lt}
@@ -19,7 +19,7 @@ use Rattle.perm_algebra.proofs.AffineLaws.{top-scaled}
 use Rattle.perm_algebra.proofs.Counted.{ready-mixed}
 use Rattle.perm_algebra.proofs.Sizes.{scaled-one}
 use Rattle.loop_merge.specs.Listed.{counts_of, items_of}
-use Rattle.loop_merge.specs.Merge.{PlainDiagonal, PlainPass, merged_of}
+use Rattle.loop_merge.specs.Merge.{PlainPass, merged_of}
 use Rattle.loop_merge.specs.Placed.{AllRoom, place_sum, AreCounts, IsLimitedPass, AllLimited, diagonal_places}
 use Rattle.loop_merge.specs.Reach.{AreFormed, CanName, CanReach, ReachesAll, IsReachable}
 use Rattle.loop_merge.specs.Views.{plain_pass}
@@ -30,7 +30,6 @@ use Rattle.loop_merge.proofs.PlaceSums.{variable-fits, place_sum-fits, size-posi
 use Rattle.loop_merge.proofs.PlaceValues.{IsFormedPass, AreFormedPasses, formed-append, formed_passes}
 use Rattle.loop_merge.proofs.Shaped.{IsWide, IsShaped, AreShaped, shaped_passes}
 use Rattle.loop_merge.proofs.TreePasses.{tree_passes, merged_of-tree}
-use Rattle.sigma_lower.specs.Room.{HasRoom}
 use Rattle.sigma_lower.proofs.Lowering.{part-le}
 use Rattle.sigma_lower.proofs.Roomy.{has_room}
 use Rattle.steps.proofs.WordSizes.{word_sizes}

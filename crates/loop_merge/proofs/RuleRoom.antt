@@ -1,12 +1,12 @@
 -- The permutations of a rule have room at the places under its tensor.
 use Rattle.std.proofs.Common.{◌≡◌, ℕ, ◌+◌, ◌-◌, ◌*◌, ◌/◌, ◌%◌, ◌^◌, ◌<◌, ◌≤◌, inl, inr, arith, sym, subst, mul-le-mul_left, le-mul_of_pos_right}
-use Rattle.std.proofs.Math.Nat.{mul-div_right, mul-le-mul_right, mod-le}
+use Rattle.std.proofs.Math.Nat.{mul-le-mul_right, mod-le}
 use Rattle.std.proofs.lemmas.Bool.{cases_eq}
 use Rattle.std.proofs.lemmas.Bool.Decides.{nat_tests}
 use Rattle.std.proofs.lemmas.Nat.{mul-le}
 use Rattle.index_fn.specs.Mapping.{Strided, ThomasIn, ThomasBack}
-use Rattle.perm_algebra.specs.Affine.{IsProper, Fits, Sum, constant, variable, remainder, quotient, top, scaled, joined, Divided, divided, mods}
-use Rattle.perm_algebra.specs.Room.{CanScale, CanJoin, CanDivide, CanMix, HasRoomFor}
+use Rattle.perm_algebra.specs.Affine.{IsProper, Fits, Sum, constant, variable, remainder, quotient, top, scaled, joined, Divided, mods}
+use Rattle.perm_algebra.specs.Room.{CanScale, CanJoin, CanMix, HasRoomFor}
 use Rattle.perm_algebra.proofs.AffineLaws.{top-scaled, top-joined}
 use Rattle.perm_algebra.proofs.Reduced.{mods-proper}
 use Rattle.perm_algebra.proofs.Shape.{divided-joined}

@@ -3,9 +3,7 @@ use Rattle.std.proofs.Common.{◌≡◌, ℕ, ◌*◌, ◌≤◌, Bool, true, fa
 use Rattle.std.specs.Prelude.{Some}
 use Rattle.index_fn.specs.Mapping.{Mapping}
 use Rattle.matrix_meaning.specs.declared.Request.{Request}
-use Rattle.matrix_meaning.specs.Valid.{IsValid}
 use Rattle.loop_merge.specs.Merge.{PlainDiagonal, PlainPass, new_pass, scattered, multiplied, at_last}
-use Rattle.loop_merge.proofs.MergeMeaning.{IsRule, is_rule}
 use Rattle.loop_merge.proofs.PlaceLimits.{none_is_some, multiplied-is}
 use Rattle.loop_merge.proofs.TreePasses.{rule_waiting, rule_passes, tree_passes}
 use Rattle.tensor_paths.specs.declared.Tensor.{Tensor}

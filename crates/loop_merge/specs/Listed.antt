@@ -1,17 +1,13 @@
 -- The passes of a tree as code needs them: counted loops, and the places of each item as sums of the loops' variables.
-use Rattle.std.specs.Prelude.{ℕ, ◌+◌, ◌^◌, ◌<◌, List, [], ◌∷◌, ◌++◌, map, length, slice_index, if◌then◌else◌, Option}
+use Rattle.std.specs.Prelude.{ℕ, ◌+◌, List, [], ◌∷◌, ◌++◌, map, length, slice_index, if◌then◌else◌, Option}
 use Rattle.std.specs.List.{range_with_len}
 use Rattle.std.specs.Option.{option_map}
-use Rattle.index_fn.specs.Mapping.{Mapping, IsWellFormed}
+use Rattle.index_fn.specs.Mapping.{Mapping}
 use Rattle.matrix_meaning.specs.declared.Request.{Request}
-use Rattle.perm_algebra.specs.Affine.{Sum, constant, variable, scaled, HasNoList}
-use Rattle.perm_algebra.specs.Room.{CanScale, CanJoin, IsReady}
-use Rattle.sigma_lower.specs.Room.{HasRoom}
-use Rattle.sigma_lower.specs.Wrapped.{inner_of}
+use Rattle.perm_algebra.specs.Affine.{Sum, constant, variable}
 use Rattle.loop_merge.specs.Merge.{PlainDiagonal, PlainPass}
-use Rattle.loop_merge.specs.Placed.{AllRoom, place_sum, all_simplified, diagonal_places}
-use Rattle.tensor_paths.specs.declared.Tensor.TheVariants.{Blocks, Columns}
-use Rattle.tensor_paths.specs.Path.{Path, count_of, size_under}
+use Rattle.loop_merge.specs.Placed.{place_sum, all_simplified, diagonal_places}
+use Rattle.tensor_paths.specs.Path.{Path, count_of}
 use Rattle.tree_model.specs.Breakdown.{Breakdown, size_of}
 use Rattle.tree_model.specs.Cost.{is_kernel}
 

@@ -1,5 +1,5 @@
 -- Each sum of a listed pass has the value of the place that it stands for, and stays inside its array.
-use Rattle.std.specs.Prelude.{◌≡◌, ℕ, ◌*◌, ◌<◌, Bool, true, false, IsTrue, List, [], ◌∷◌, ◌++◌, slice_index, slice_index_or, Some}
+use Rattle.std.specs.Prelude.{◌≡◌, ℕ, ◌*◌, ◌<◌, true, false, IsTrue, List, [], ◌∷◌, ◌++◌, slice_index, slice_index_or, Some}
 use Rattle.index_fn.specs.Mapping.{at}
 use Rattle.matrix_meaning.specs.declared.Request.{Request}
 use Rattle.matrix_meaning.specs.Valid.{IsValid}

@@ -1,8 +1,8 @@
 -- Each term does what its step does.
-use Rattle.std.proofs.Common.{◌≡◌, ◌≢◌, ℕ, zero, suc, ◌+◌, ◌*◌, ◌/◌, ◌%◌, ◌<◌, ◌≤◌, Bool, true, false, arith, refl, sym, ap, ◌∙◌, List, [], ◌∷◌, ◌++◌, inl, inr, mod-lt, if◌then◌else◌, zero-mul, subst, mul_comm}
+use Rattle.std.proofs.Common.{◌≡◌, ◌≢◌, ℕ, zero, suc, ◌*◌, ◌%◌, ◌<◌, ◌≤◌, Bool, true, false, arith, refl, sym, ap, ◌∙◌, List, [], ◌∷◌, ◌++◌, inl, inr, mod-lt, if◌then◌else◌, zero-mul, subst, mul_comm}
 use Rattle.std.specs.Prelude.{slice_index, map}
 use Rattle.std.specs.Int.{IsGcd}
-use Rattle.std.proofs.Math.Nat.{mul-div_right, suc-mul, zero-mod, mod-eq_of_lt}
+use Rattle.std.proofs.Math.Nat.{suc-mul, zero-mod, mod-eq_of_lt}
 use Rattle.std.proofs.lemmas.Bool.{cases_eq}
 use Rattle.std.proofs.lemmas.Bool.Decides.{nat_tests}
 use Rattle.std.proofs.lemmas.List.FromFn.{fill_by_all}
@@ -14,7 +14,7 @@ use Rattle.matrix_meaning.specs.declared.Kind.TheVariants.{Dft, Wht}
 use Rattle.matrix_meaning.specs.declared.Request.{Request}
 use Rattle.matrix_meaning.specs.Kind.{transform, entry_of}
 use Rattle.operators.specs.Loop.{scatter, IsPermutationBelow}
-use Rattle.operators.specs.Operator.{gather, scale, stride}
+use Rattle.operators.specs.Operator.{gather, scale}
 use Rattle.operators.proofs.Lists.{at-list_below, list_below-same, length-list_below, place_below}
 use Rattle.operators.proofs.Places.{stride_below}
 use Rattle.operators.proofs.Scatters.{gather_as_scatter}
@@ -26,7 +26,7 @@ use Rattle.steps.specs.Step.{PlainCore, piece, turns, twiddles, thomas_in, thoma
 use Rattle.tensor_paths.specs.declared.Tensor.TheVariants.{Blocks, Columns}
 use Rattle.tensor_paths.specs.Loop.{loop_on}
 use Rattle.tensor_paths.specs.Path.{Path, size_under, copies_of, under, place, Reads}
-use Rattle.tensor_paths.proofs.Under.{size_under-push, size_under-copies, under-same, under-size}
+use Rattle.tensor_paths.proofs.Under.{size_under-push, size_under-copies, under-size}
 use Rattle.tensor_paths.proofs.PathLoops.{loop_is_under}
 use Rattle.tree_model.specs.declared.tree.Rule.{Rule}
 use Rattle.tree_model.specs.declared.tree.Rule.TheVariants.{Gt, Ct, Split}

@@ -1,10 +1,8 @@
-use Rattle.std.proofs.Common.{◌≡◌, ℕ, ◌+◌, ap, ap₂, refl, sym, length, ◌∙◌, List, [], ◌∷◌, ◌++◌}
+use Rattle.std.proofs.Common.{◌+◌, ap, ap₂, refl, sym, length, ◌∙◌, [], ◌∷◌, ◌++◌}
 use Rattle.std.specs.Prelude.{map}
 use Rattle.std.specs.Option.{option_map}
 use Rattle.index_fn.specs.Index.{mapping_of}
 use Rattle.perm_algebra.specs.Views.{plain_sum}
-use Rattle.loop_merge.specs.Listed.{counts_of}
-use Rattle.loop_merge.specs.Placed.{diagonal_places}
 use Rattle.loop_merge.specs.Views.{plain_diagonal, plain_pass}
 use Rattle.loop_merge.proofs.Reaching.{listed-items}
 use Rattle.tensor_paths.specs.Path.{count_of}
