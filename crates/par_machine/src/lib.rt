@@ -1,0 +1,14 @@
+//! The machine that runs loop code: several processors over one memory, one action of one processor at a time.
+#![tactic(auto)]
+
+mod arithmetic;
+mod compile;
+mod cursor;
+mod effect;
+mod hand;
+mod lanes;
+pub mod machine;
+mod make;
+mod phase;
+mod shape;
+mod words;
