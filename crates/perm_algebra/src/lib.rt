@@ -6,7 +6,10 @@ ghost use Rattle.index_fn.specs.Index.{mapping_of};
 ghost use Rattle.index_fn.specs.Mapping.{IsWellFormed, Strided, ThomasOut};
 ghost use Rattle.perm_algebra.specs.Affine.{top, IsSound, scaled, joined, head, rest_of, divided, mods, reduced, simplified, turned, HasNoList, Divided, constant, SimplifiedKeeps};
 ghost use Rattle.perm_algebra.specs.Room.{constant_of, HasCounts, HasTop, CanScale, CanJoin, CanDivide, CanMix, HasRoomFor, IsReady};
+ghost use Rattle.perm_algebra.specs.ShapeLaw.{ShapeKept};
 ghost use Rattle.perm_algebra.specs.Views.{plain_sum};
+
+mod display;
 
 use index_fn::Index;
 use memory::NoMemory;
@@ -395,3 +398,65 @@ fn remainders(
 pub fn simplified_keeps()
     ensures { SimplifiedKeeps }
 {}
+
+/// What simplification adds to a sum that a divisor takes apart: a law of the definitions.
+pub fn shape_kept()
+    ensures { ShapeKept }
+{}
+
+/// The steps of simplification.
+#[derive(Clone, Copy, PartialEq, Eq, Debug)]
+pub enum IndexRule {
+    /// A multiple of a sum multiplies its constant and its factors.
+    Scale,
+    /// The sum of two sums has the parts of both.
+    Join,
+    /// The parts whose factors a divisor divides are a multiple of it.
+    TakeMultiples,
+    /// Where the other parts stay below the divisor, they are the remainder, and what is multiplied is the quotient.
+    ReadOff,
+    /// A quotient or a remainder that the parts do not show is written out.
+    WriteOut,
+    /// Inside a remainder the constant and the factors count modulo the divisor.
+    ReduceFactors,
+    /// A remainder of what stays below the divisor is not written.
+    DropRemainder,
+    /// A tensor takes a place apart by its divisor.
+    SplitTensor,
+    /// A composition takes the place that the inner function gives.
+    NestComposed,
+}
+
+impl IndexRule {
+    ghost use Rattle.perm_algebra.specs.Rules.{Holds};
+
+    /// The law of the step.
+    pub fn holds(self)
+        ensures { Holds self }
+    {}
+}
+
+#[cfg(test)]
+mod tests {
+    use super::*;
+    use std::test::Fail;
+
+    // A variable at a stride permutation, and a row and a column of it.
+    #[test]
+    fn sums(rt: HostRuntime) -> Result<(), Fail> {
+        let alloc = rt.alloc();
+        let turn = Index::StridePermutation(2, 3);
+        let end = Box::new(alloc, Affine::Constant(0))?;
+        let place = Affine::Variable(1, 0, end);
+        let sum = simplify(alloc, &turn, &place, &[6])?;
+        let text = format!(in alloc; "{sum}")?;
+        assert_eq!(rt; text.as_str(), "0+(0+v0*1)%3*2+(0+v0*1)/3*1");
+        let end = Box::new(alloc, Affine::Constant(0))?;
+        let column = Box::new(alloc, Affine::Variable(1, 1, end))?;
+        let place = Affine::Variable(3, 0, column);
+        let sum = simplify(alloc, &turn, &place, &[2, 3])?;
+        let text = format!(in alloc; "{sum}")?;
+        assert_eq!(rt; text.as_str(), "0+v1*2+v0*1");
+        Ok(())
+    }
+}
