@@ -1,0 +1,64 @@
+-- Where every number on the way to a simplified sum fits 64 bits.
+use Rattle.std.specs.Prelude.{ℕ, ◌+◌, ◌*◌, ◌^◌, ◌<◌}
+use Rattle.index_fn.specs.Mapping.{Mapping, Same, Always, Line, Strided, ThomasIn, ThomasOut, ThomasBack, Listed, Paired, After}
+use Rattle.perm_algebra.specs.Affine.{Sum, constant, variable, remainder, quotient, IsSound, top, peak, scaled, joined, rest_of, divided, mods, simplified}
+
+abbrev pub constant_of : Sum → ℕ
+constant_of (constant c) = c
+constant_of (variable f d rest) = constant_of rest
+constant_of (remainder f of m rest) = constant_of rest
+constant_of (quotient f of m rest) = constant_of rest
+
+-- each variable has a count
+abbrev pub HasCounts : ℕ → Sum → Type 0
+HasCounts n (constant c) = Unit {0}
+HasCounts n (variable f d rest) = (d < n) × HasCounts n rest
+HasCounts n (remainder f of m rest) = HasCounts n of × HasCounts n rest
+HasCounts n (quotient f of m rest) = HasCounts n of × HasCounts n rest
+
+-- a sum whose variables have counts, and whose divisors are at least 1
+pub record IsReady (n : ℕ) (e : Sum) : Type 0 where
+  pub counts : HasCounts n e
+  pub sound : IsSound e
+
+-- the greatest values of the sum and of what is divided fit
+abbrev pub HasTop : (ℕ → ℕ) → Sum → Type 0
+HasTop cs (constant c) = Unit {0}
+HasTop cs (variable f d rest) = (top (variable f d rest) cs < 2 ^ 64) × HasTop cs rest
+HasTop cs (remainder f of m rest) = (top (remainder f of m rest) cs < 2 ^ 64) × HasTop cs rest
+HasTop cs (quotient f of m rest) = (top (quotient f of m rest) cs < 2 ^ 64) × HasTop cs of × HasTop cs rest
+
+-- k times the sum fits
+abbrev pub CanScale : ℕ → Sum → Type 0
+CanScale k e = k * peak e < 2 ^ 64
+
+-- the sum of the two fits
+abbrev pub CanJoin : Sum → Sum → Type 0
+CanJoin a e = constant_of a + constant_of e < 2 ^ 64
+
+abbrev pub CanDivide : (ℕ → ℕ) → ℕ → Sum → Type 0
+CanDivide cs s e = HasTop cs (rest_of s e)
+
+-- two multiples and their sum, modulo n
+abbrev pub CanMix : (ℕ → ℕ) → ℕ → ℕ → ℕ → Sum → Sum → Type 0
+CanMix cs n a b e g = CanScale a e × CanScale b g × CanJoin (scaled a e) (scaled b g) × HasTop cs (mods n (joined (scaled a e) (scaled b g)))
+
+abbrev pub HasRoomFor : (ℕ → ℕ) → Mapping → Sum → Type 0
+HasRoomFor cs Same e = Unit {0}
+HasRoomFor cs (Always v) e = Unit {0}
+HasRoomFor cs (Line base by) e = CanScale by e × CanJoin (constant base) (scaled by e)
+HasRoomFor cs (Strided r s) e = CanDivide cs s e × CanScale r (divided cs s e).rem × CanJoin (scaled r (divided cs s e).rem) (divided cs s e).quot
+HasRoomFor cs (ThomasIn r s) e = CanDivide cs s e × CanMix cs (r * s) s r (divided cs s e).quot (divided cs s e).rem
+HasRoomFor cs (ThomasOut r s) e = CanDivide cs r e × CanDivide cs s e × CanScale s (divided cs r e).rem × CanJoin (scaled s (divided cs r e).rem) (divided cs s e).rem
+HasRoomFor cs (ThomasBack r s u v) e = CanDivide cs s e × CanMix cs (r * s) u v (divided cs s e).quot (divided cs s e).rem
+HasRoomFor cs (Listed ks) e = ⊥
+HasRoomFor cs (Paired f c g d) e =
+    CanDivide cs d e × HasRoomFor cs f (divided cs d e).quot × HasRoomFor cs g (divided cs d e).rem
+    × CanScale c (simplified cs f (divided cs d e).quot) × CanJoin (scaled c (simplified cs f (divided cs d e).quot)) (simplified cs g (divided cs d e).rem)
+HasRoomFor cs (After f g) e = HasRoomFor cs g e × HasRoomFor cs f (simplified cs g e)
+
+-- how many functions are put together
+abbrev pub depth_of : Mapping → ℕ
+depth_of (Paired f c g d) = 1 + (depth_of f + depth_of g)
+depth_of (After f g) = 1 + (depth_of f + depth_of g)
+depth_of f = 0

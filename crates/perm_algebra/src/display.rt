@@ -1,0 +1,48 @@
+use crate::Affine;
+use std::fmt;
+
+/// The constant, and then each part as a listing writes it: `v0*3`, `(0+v0*1)%3*2`, `(0+v0*1)/3*1`.
+impl fmt::Display for Affine {
+    fn fmt<W: fmt::Write>(&self, f: &mut fmt::Formatter<W>) -> fmt::Result {
+        write_sum(self, f)
+    }
+}
+
+// The constant at the end of a sum.
+fn constant(sum: &Affine) -> u64 {
+    match sum {
+        Affine::Constant(c) => *c,
+        Affine::Variable(_, _, rest) => constant(rest),
+        Affine::Remainder(_, _, _, rest) => constant(rest),
+        Affine::Quotient(_, _, _, rest) => constant(rest),
+    }
+}
+
+#[cycle(display)]
+fn write_sum<W: fmt::Write>(sum: &Affine, f: &mut fmt::Formatter<W>) -> fmt::Result {
+    write!(f, "{}", constant(sum))?;
+    write_parts(sum, f)
+}
+
+#[cycle(display)]
+fn write_parts<W: fmt::Write>(sum: &Affine, f: &mut fmt::Formatter<W>) -> fmt::Result {
+    match sum {
+        Affine::Constant(_) => Ok(()),
+        Affine::Variable(factor, variable, rest) => {
+            write!(f, "+v{variable}*{factor}")?;
+            write_parts(rest, f)
+        }
+        Affine::Remainder(factor, of, divisor, rest) => {
+            write!(f, "+(")?;
+            write_sum(of, f)?;
+            write!(f, ")%{divisor}*{factor}")?;
+            write_parts(rest, f)
+        }
+        Affine::Quotient(factor, of, divisor, rest) => {
+            write!(f, "+(")?;
+            write_sum(of, f)?;
+            write!(f, ")/{divisor}*{factor}")?;
+            write_parts(rest, f)
+        }
+    }
+}
