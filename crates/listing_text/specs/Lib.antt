@@ -1,2 +1,5 @@
 pub mod Listing
 pub mod Nests
+pub mod Lines
+pub mod Reading
+pub mod Acts
