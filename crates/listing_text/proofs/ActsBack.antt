@@ -6,7 +6,7 @@ use Rattle.icode.specs.declared.program.Array.TheVariants as arrays
 use Rattle.icode.specs.Plain.{PlainExpr, PlainOp, Load, Store, Zero, Add, Sub, Neg, MulConst, MulTable, Tile}
 use Rattle.icode.specs.Limits.{is_small, is_small_positive, is_sum_within, is_expr_within, is_op_within, sum_parts, sum_depth}
 use Rattle.grammar.specs.Grammar.{one_of}
-use Rattle.grammar.specs.Reading.{Place, start, ended, to_end, whole, placed, one_of_in, one_of_at}
+use Rattle.grammar.specs.Reading.{Place, start, ended, to_end, whole, placed, word_at, number_at, named_number_at, one_of_in, one_of_at}
 use Rattle.grammar.proofs.Parts.{Anything, one_of_reader}
 use Rattle.grammar.proofs.Whole.{again}
 use Rattle.listing_text.specs.declared.acts.Word.{Word}
@@ -14,7 +14,7 @@ use Rattle.listing_text.specs.declared.acts.Word.TheVariants as words
 use Rattle.listing_text.specs.Listing.{sum_text, array_text, place_text, op_text}
 use Rattle.listing_text.specs.Reading.{above_all, sum_at}
 use Rattle.listing_text.specs.Acts.{PlainAct, Open, Close, Do, act_text, act_words, array_words, factor_words, operands_at, act_at, act_line_at}
-use Rattle.listing_text.proofs.ReadBack.{Back, FirstDigit, first_digit, word_back, number_back, named_back, small_fits, positive_fits, place_back}
+use Rattle.listing_text.proofs.ReadBack.{Back, then_back, FirstDigit, first_digit, word_back, number_back, named_back, small_fits, positive_fits, place_back}
 use Rattle.listing_text.proofs.ActsSpelt.{line_text}
 
 -- the act may stand inside so many loops
@@ -70,33 +70,44 @@ end_back place rest e =
     let h = key_back (codes "end") words.End place (10 ∷ rest) (inr (inl (refl, refl))) e in
     (h.0, rw h.1 refl, h.2)
 
+-- a place with its array, and what stands before and behind it
+place_right : (array : Array) (at : PlainExpr) (rest : List ℕ) → place_text array at ++ rest ≡ array_text array ++ (codes "[" ++ (sum_text at ++ (codes "]" ++ rest)))
+place_right array at rest = simp append_assoc
+
+load_right : (register : ℕ) (place rest : List ℕ) → (codes "ld r" ++ decimal register ++ codes " " ++ place) ++ rest ≡ codes "ld r" ++ (decimal register ++ (codes " " ++ (place ++ rest)))
+load_right register place rest = simp append_assoc
+
 load_back : (m open_loops register : ℕ) (array : Array) (at : PlainExpr) → is_op_within m (Load register array at) open_loops ≡ true → open_loops ≤ 64
     → (place : Place ℕ) (rest : List ℕ) → place.rest ≡ act_text (Do (Load register array at)) ++ (10 ∷ rest) → Back act_at (Do (Load register array at)) place (10 ∷ rest)
 unfolding act_at
 load_back m open_loops register array at w few_open place rest e =
     let limits = and_parts (is_small register) (is_expr_within at open_loops) w in
-    let r3 = codes "]" ++ (10 ∷ rest) in
-    let r2 = array_text array ++ (codes "[" ++ (sum_text at ++ r3)) in
-    let h = key_back (codes "ld r") words.Load place (decimal register ++ (codes " " ++ r2)) (inr (inr (inl (refl, refl)))) (e ∙ simp append_assoc) in
-    let n = number_back register h.0 (codes " " ++ r2) (small_fits register limits.0) refl h.2 in
-    let b = word_back (codes " ") n.0 r2 n.2 in
-    let a = array_back array b.0 (sum_text at ++ r3) b.2 in
-    let p = expr_back at open_loops limits.1 few_open a.0 (10 ∷ rest) a.2 in
-    let z = word_back (codes "]") p.0 (10 ∷ rest) p.2 in
-    (z.0, rw (h.1, n.1, b.1, a.1, p.1, z.1) refl, z.2)
+    let r3 : List ℕ = codes "]" ++ (10 ∷ rest) in
+    let r2 : List ℕ = array_text array ++ (codes "[" ++ (sum_text at ++ r3)) in
+    let is : place.rest ≡ codes "ld r" ++ (decimal register ++ (codes " " ++ r2)) =
+    e ∙ load_right register (place_text array at) (10 ∷ rest) ∙ ap (λ y. codes "ld r" ++ (decimal register ++ (codes " " ++ y))) (place_right array at (10 ∷ rest)) in
+    then_back (one_of_at act_words) operands_at words.Load _ place (decimal register ++ (codes " " ++ r2)) (10 ∷ rest) (key_back (codes "ld r") words.Load place (decimal register ++ (codes " " ++ r2)) (inr (inr (inl (refl, refl)))) is) (λ q1 e1.
+    then_back (number_at above_all) _ register _ q1 (codes " " ++ r2) (10 ∷ rest) (number_back register q1 (codes " " ++ r2) (small_fits register limits.0) refl e1) (λ q2 e2.
+    then_back (word_at (codes " ")) _ tt _ q2 r2 (10 ∷ rest) (word_back (codes " ") q2 r2 e2) (λ q3 e3.
+    then_back (one_of_at array_words) _ array _ q3 (sum_text at ++ r3) (10 ∷ rest) (array_back array q3 (sum_text at ++ r3) e3) (λ q4 e4.
+    then_back (sum_at 64) _ at _ q4 r3 (10 ∷ rest) (expr_back at open_loops limits.1 few_open q4 (10 ∷ rest) e4) (λ q5 e5.
+    then_back (word_at (codes "]")) _ tt _ q5 (10 ∷ rest) (10 ∷ rest) (word_back (codes "]") q5 (10 ∷ rest) e5) (λ q6 e6. (q6, refl, e6)))))))
+
+store_right : (place : List ℕ) (register : ℕ) (rest : List ℕ) → (codes "st " ++ place ++ codes " r" ++ decimal register) ++ rest ≡ codes "st " ++ (place ++ (codes " r" ++ (decimal register ++ rest)))
+store_right place register rest = simp append_assoc
 
 store_back : (m open_loops : ℕ) (array : Array) (at : PlainExpr) (register : ℕ) → is_op_within m (Store array at register) open_loops ≡ true → open_loops ≤ 64
     → (place : Place ℕ) (rest : List ℕ) → place.rest ≡ act_text (Do (Store array at register)) ++ (10 ∷ rest) → Back act_at (Do (Store array at register)) place (10 ∷ rest)
 unfolding act_at
 store_back m open_loops array at register w few_open place rest e =
     let limits = and_parts (is_small register) (is_expr_within at open_loops) w in
-    let last = codes " r" ++ (decimal register ++ (10 ∷ rest)) in
-    let r2 = array_text array ++ (codes "[" ++ (sum_text at ++ (codes "]" ++ last))) in
-    let h = key_back (codes "st ") words.Store place r2 (inr (inr (inr (inl (refl, refl))))) (e ∙ simp append_assoc) in
-    let a = array_back array h.0 (sum_text at ++ (codes "]" ++ last)) h.2 in
-    let p = expr_back at open_loops limits.1 few_open a.0 last a.2 in
-    let n = named_back (codes "] r") register p.0 (10 ∷ rest) (small_fits register limits.0) refl p.2 in
-    (n.0, rw (h.1, a.1, p.1, n.1) refl, n.2)
+    let last : List ℕ = codes " r" ++ (decimal register ++ (10 ∷ rest)) in
+    let r2 : List ℕ = array_text array ++ (codes "[" ++ (sum_text at ++ (codes "]" ++ last))) in
+    let is : place.rest ≡ codes "st " ++ r2 = e ∙ store_right (place_text array at) register (10 ∷ rest) ∙ ap (λ y. codes "st " ++ y) (place_right array at last) in
+    then_back (one_of_at act_words) operands_at words.Store _ place r2 (10 ∷ rest) (key_back (codes "st ") words.Store place r2 (inr (inr (inr (inl (refl, refl))))) is) (λ q1 e1.
+    then_back (one_of_at array_words) _ array _ q1 (sum_text at ++ (codes "]" ++ last)) (10 ∷ rest) (array_back array q1 (sum_text at ++ (codes "]" ++ last)) e1) (λ q2 e2.
+    then_back (sum_at 64) _ at _ q2 (codes "]" ++ last) (10 ∷ rest) (expr_back at open_loops limits.1 few_open q2 last e2) (λ q3 e3.
+    then_back (named_number_at (codes "] r") above_all) _ register _ q3 (10 ∷ rest) (10 ∷ rest) (named_back (codes "] r") register q3 (10 ∷ rest) (small_fits register limits.0) refl e3) (λ q4 e4. (q4, refl, e4)))))
 
 zero_back : (register : ℕ) → is_small register ≡ true → (place : Place ℕ) (rest : List ℕ) → place.rest ≡ act_text (Do (Zero register)) ++ (10 ∷ rest) → Back act_at (Do (Zero register)) place (10 ∷ rest)
 unfolding act_at
@@ -161,6 +172,11 @@ constant_back m register source factor below w place rest e =
     let z = number_back factor (record { rest = decimal factor ++ (10 ∷ rest); far = (a.0).far }) (10 ∷ rest) fits refl refl in
     (z.0, rw (h.1, n.1, a.1, k, z.1) refl, z.2)
 
+table_right : (register source table : ℕ) (place : List ℕ) (step : ℕ) (rest : List ℕ)
+    → (codes "mul r" ++ decimal register ++ codes " r" ++ decimal source ++ codes " t" ++ decimal table ++ codes "[" ++ place ++ codes "] step " ++ decimal step) ++ rest
+    ≡ codes "mul r" ++ (decimal register ++ (codes " r" ++ (decimal source ++ (codes " t" ++ (decimal table ++ (codes "[" ++ (place ++ (codes "]" ++ (codes " step " ++ (decimal step ++ rest))))))))))
+table_right register source table place step rest = simp append_assoc
+
 table_back : (m open_loops register source table : ℕ) (at : PlainExpr) (step : ℕ) → is_op_within m (MulTable register source table at step) open_loops ≡ true → open_loops ≤ 64
     → (place : Place ℕ) (rest : List ℕ) → place.rest ≡ act_text (Do (MulTable register source table at step)) ++ (10 ∷ rest) → Back act_at (Do (MulTable register source table at step)) place (10 ∷ rest)
 unfolding act_at
@@ -170,18 +186,19 @@ table_back m open_loops register source table at step w few_open place rest e =
     let l3 = and_parts (is_small table) (ltb step 2 && is_expr_within at open_loops) l2.1 in
     let l4 = and_parts (ltb step 2) (is_expr_within at open_loops) l3.1 in
     let fits : step < above_all = omega (arith, ltb-true step 2 l4.0) in
-    let last = codes " step " ++ (decimal step ++ (10 ∷ rest)) in
-    let middle = decimal table ++ (codes "[" ++ (sum_text at ++ (codes "]" ++ last))) in
-    let tail = codes " t" ++ middle in
-    let h = key_back (codes "mul r") words.Mul place (decimal register ++ (codes " r" ++ (decimal source ++ tail))) (inr (inr (inr (inr (inr (inr (inr (inr (inl (refl, refl)))))))))) (e ∙ simp append_assoc) in
-    let n = number_back register h.0 (codes " r" ++ (decimal source ++ tail)) (small_fits register l1.0) refl h.2 in
-    let a = named_back (codes " r") source n.0 tail (small_fits source l2.0) refl n.2 in
-    let k : one_of_at factor_words a.0 ≡ Ok (true, record { rest = middle; far = (a.0).far }) = ap (λ r. placed (a.0).far (one_of_in factor_words r)) a.2 in
-    let t = number_back table (record { rest = middle; far = (a.0).far }) (codes "[" ++ (sum_text at ++ (codes "]" ++ last))) (small_fits table l3.0) refl refl in
-    let b = word_back (codes "[") t.0 (sum_text at ++ (codes "]" ++ last)) t.2 in
-    let p = expr_back at open_loops l4.1 few_open b.0 last b.2 in
-    let z = named_back (codes "] step ") step p.0 (10 ∷ rest) fits refl p.2 in
-    (z.0, rw (h.1, n.1, a.1, k, t.1, b.1, p.1, z.1) refl, z.2)
+    let last : List ℕ = codes " step " ++ (decimal step ++ (10 ∷ rest)) in
+    let middle : List ℕ = decimal table ++ (codes "[" ++ (sum_text at ++ (codes "]" ++ last))) in
+    let tail : List ℕ = codes " t" ++ middle in
+    let is : place.rest ≡ codes "mul r" ++ (decimal register ++ (codes " r" ++ (decimal source ++ tail))) = e ∙ table_right register source table (sum_text at) step (10 ∷ rest) in
+    then_back (one_of_at act_words) operands_at words.Mul _ place (decimal register ++ (codes " r" ++ (decimal source ++ tail))) (10 ∷ rest)
+    (key_back (codes "mul r") words.Mul place (decimal register ++ (codes " r" ++ (decimal source ++ tail))) (inr (inr (inr (inr (inr (inr (inr (inr (inl (refl, refl)))))))))) is) (λ q1 e1.
+    then_back (number_at above_all) _ register _ q1 (codes " r" ++ (decimal source ++ tail)) (10 ∷ rest) (number_back register q1 (codes " r" ++ (decimal source ++ tail)) (small_fits register l1.0) refl e1) (λ q2 e2.
+    then_back (named_number_at (codes " r") above_all) _ source _ q2 tail (10 ∷ rest) (named_back (codes " r") source q2 tail (small_fits source l2.0) refl e2) (λ q3 e3.
+    then_back (one_of_at factor_words) _ true _ q3 middle (10 ∷ rest) (record { rest = middle; far = q3.far }, ap (λ r. placed q3.far (one_of_in factor_words r)) e3, refl) (λ q4 e4.
+    then_back (number_at above_all) _ table _ q4 (codes "[" ++ (sum_text at ++ (codes "]" ++ last))) (10 ∷ rest) (number_back table q4 (codes "[" ++ (sum_text at ++ (codes "]" ++ last))) (small_fits table l3.0) refl e4) (λ q5 e5.
+    then_back (word_at (codes "[")) _ tt _ q5 (sum_text at ++ (codes "]" ++ last)) (10 ∷ rest) (word_back (codes "[") q5 (sum_text at ++ (codes "]" ++ last)) e5) (λ q6 e6.
+    then_back (sum_at 64) _ at _ q6 (codes "]" ++ last) (10 ∷ rest) (expr_back at open_loops l4.1 few_open q6 last e6) (λ q7 e7.
+    then_back (named_number_at (codes "] step ") above_all) _ step _ q7 (10 ∷ rest) (10 ∷ rest) (named_back (codes "] step ") step q7 (10 ∷ rest) fits refl e7) (λ q8 e8. (q8, refl, e8)))))))))
 
 op_back : (m open_loops : ℕ) (op : PlainOp) → m ≤ above_all → open_loops ≤ 64 → is_op_within m op open_loops ≡ true
     → (place : Place ℕ) (rest : List ℕ) → place.rest ≡ act_text (Do op) ++ (10 ∷ rest) → Back act_at (Do op) place (10 ∷ rest)

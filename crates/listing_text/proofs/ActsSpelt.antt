@@ -10,28 +10,8 @@ use Rattle.listing_text.specs.declared.acts.Word.{Word}
 use Rattle.listing_text.specs.declared.acts.Word.TheVariants as words
 use Rattle.listing_text.specs.Listing.{sum_text, array_text, place_text, op_text}
 use Rattle.listing_text.specs.Reading.{sum_at}
-use Rattle.listing_text.specs.Acts.{PlainAct, Open, Close, Do, act_text, act_words, array_words, factor_words, factor_at, operands_at, act_at, act_line_at}
+use Rattle.listing_text.specs.Acts.{PlainAct, Open, Close, Do, OpFits, ActFits, act_text, act_words, array_words, factor_words, factor_at, operands_at, act_at, act_line_at}
 use Rattle.listing_text.proofs.Spelt.{Spelt, spelt_then, word_then, number_then, named_then, key_then, place_spelt}
-
--- no more than 64 parentheses are open at once
-abbrev pub OpFits : PlainOp → Type 0
-OpFits (Load register array place) = sum_depth place ≤ 64
-OpFits (Store array place register) = sum_depth place ≤ 64
-OpFits (Zero register) = Unit {0}
-OpFits (Add register left right) = Unit {0}
-OpFits (Sub register left right) = Unit {0}
-OpFits (Neg register source) = Unit {0}
-OpFits (MulConst register source factor) = Unit {0}
-OpFits (MulTable register source table place step) = sum_depth place ≤ 64
-OpFits (Tile register source) = Unit {0}
-
-abbrev pub ActFits : PlainAct → Type 0
-ActFits (Open depth count) = Unit {0}
-ActFits Close = Unit {0}
-ActFits (Do op) = OpFits op
-
-Fine : PlainExpr → Type 0
-Fine e = sum_depth e ≤ 64
 
 array_is : (t : List ℕ) (array : Array) → one_of array_words t array → t ≡ array_text array ++ codes "["
 array_is t array (inl l) = rw (l.0, l.1) refl
@@ -45,6 +25,12 @@ for_spelt s q e =
     number_then ActFits act_text s q _ (λ depth q1 e1.
     named_then ActFits act_text s (codes " ") q1 _ (λ count q2 e2. (tt, e ∙ ap (λ y. codes "for v" ++ y) (e1 ∙ ap (λ y. decimal depth ++ y) e2) ∙ simp append_assoc)))
 
+place_left : (array : Array) (at : PlainExpr) (rest : List ℕ) → (array_text array ++ codes "[") ++ (sum_text at ++ (codes "]" ++ rest)) ≡ place_text array at ++ rest
+place_left array at rest = simp append_assoc
+
+load_left : (register : ℕ) (place rest : List ℕ) → codes "ld r" ++ (decimal register ++ (codes " " ++ (place ++ rest))) ≡ (codes "ld r" ++ decimal register ++ codes " " ++ place) ++ rest
+load_left register place rest = simp append_assoc
+
 load_spelt : (s : List ℕ) (q : Place ℕ) → s ≡ codes "ld r" ++ q.rest → Spelt ActFits act_text s (operands_at words.Load q)
 load_spelt s q e =
     number_then ActFits act_text s q _ (λ register q1 e1.
@@ -56,8 +42,9 @@ load_spelt s q e =
       e ∙ ap (λ y. codes "ld r" ++ y)
           (e1 ∙ ap (λ y. decimal register ++ y)
           (e2 ∙ ap (λ y. codes " " ++ y)
-          (e3 ∙ ap (λ y. y ++ q3.rest) (array_is t3 array l3) ∙ ap (λ y. (array_text array ++ codes "[") ++ y) (e4 ∙ ap (λ y. sum_text at ++ y) e5))))
-      ∙ simp append_assoc,
+          (e3 ∙ ap (λ y. y ++ q3.rest) (array_is t3 array l3) ∙ ap (λ y. (array_text array ++ codes "[") ++ y) (e4 ∙ ap (λ y. sum_text at ++ y) e5)
+          ∙ place_left array at q5.rest)))
+      ∙ load_left register (place_text array at) q5.rest,
     ))))))
 
 store_spelt : (s : List ℕ) (q : Place ℕ) → s ≡ codes "st " ++ q.rest → Spelt ActFits act_text s (operands_at words.Store q)

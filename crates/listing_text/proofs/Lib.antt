@@ -6,3 +6,9 @@ pub mod Spelt
 pub mod ReadBack
 pub mod ActsSpelt
 pub mod ActsBack
+pub mod Within
+pub mod DraftTexts
+pub mod OpenLines
+pub mod OutsideLines
+pub mod DraftLaws
+pub mod DraftReads

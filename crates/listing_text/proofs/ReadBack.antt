@@ -21,6 +21,12 @@ use Rattle.listing_text.specs.Reading.{above_all, others_of, up_to_at, part_head
 abbrev pub Back : {A : Type 0} → (Place ℕ → Result (A × Place ℕ) ℕ) → A → Place ℕ → List ℕ → Type 0
 Back read x place rest = (q : Place ℕ) × (read place ≡ Ok (x, q)) × (q.rest ≡ rest)
 
+pub then_back : {A B : Type 0} (read : Place ℕ → Result (A × Place ℕ) ℕ) (next : A → Place ℕ → Result (B × Place ℕ) ℕ) (x : A) (y : B) (place : Place ℕ) (middle rest : List ℕ)
+    → Back read x place middle → ((q : Place ℕ) → q.rest ≡ middle → Back (next x) y q rest) → Back (λ place. and_then (read place) next) y place rest
+then_back read next x y place middle rest h k =
+    let n = k h.0 h.2 in
+    (n.0, ap (λ r. and_then r next) h.1 ∙ n.1, n.2)
+
 pub word_back : (w : List ℕ) (place : Place ℕ) (rest : List ℕ) → place.rest ≡ w ++ rest → Back (word_at w) tt place rest
 word_back w place rest e = again Anything (word w) (word_at w) (word_reader Anything w) place w rest tt refl tt e
 
@@ -39,7 +45,7 @@ small_fits n h = omega (arith, ltb-true n (2 ^ 32) h)
 pub positive_fits : (n : ℕ) → is_small_positive n ≡ true → n < above_all
 positive_fits n h = small_fits n (and_parts (ltb 0 n) (is_small n) h).1
 
-record FirstDigit (text : List ℕ) : Type 0 where
+pub record FirstDigit (text : List ℕ) : Type 0 where
   pub digit : ℕ
   pub others : List ℕ
   pub whole : text ≡ digit ∷ others
@@ -52,7 +58,7 @@ first_digit_of (x ∷ text) some all =
     let d = digit_from_value x all.0 in
     record { digit = x; others = text; whole = refl; low = d.0; high = d.1 }
 
-first_digit : (n : ℕ) → n < above_all → FirstDigit (decimal n)
+pub first_digit : (n : ℕ) → n < above_all → FirstDigit (decimal n)
 first_digit n fits = first_digit_of (decimal n) (decimal_nonempty n fits) (decimal_is_IsNumeral n fits).0.1
 
 -- ---- what may stand behind a place: no digit and no plus

@@ -28,7 +28,7 @@ spelt_then fits text fits' text' middle start (Err left) next h k = tt
 abbrev pub Any : {A : Type 0} → A → Type 0
 Any x = Unit {0}
 
-reader_cases : {A B : Type 0} (C : List ℕ → Type 0) (L : List ℕ → A → Type 0) (fits : B → Type 0) (text : B → List ℕ) (start : List ℕ) (place : Place ℕ) (r : Result (A × Place ℕ) ℕ) (next : A → Place ℕ → Result (B × Place ℕ) ℕ)
+pub reader_cases : {A B : Type 0} (C : List ℕ → Type 0) (L : List ℕ → A → Type 0) (fits : B → Type 0) (text : B → List ℕ) (start : List ℕ) (place : Place ℕ) (r : Result (A × Place ℕ) ℕ) (next : A → Place ℕ → Result (B × Place ℕ) ℕ)
     → Answers C L place r → ((x : A) (q : Place ℕ) (t : List ℕ) → place.rest ≡ t ++ q.rest → L t x → Spelt fits text start (next x q)) → Spelt fits text start (and_then r next)
 reader_cases C L fits text start place (Ok x) next p k = k x.0 x.1 p.text p.whole p.spelt
 reader_cases C L fits text start place (Err left) next p k = tt

@@ -1,8 +1,9 @@
 -- The lines of a phase, and reading them.
-use Rattle.std.specs.Prelude.{ℕ, ◌+◌, ◌^◌, List, [], ◌∷◌, ◌++◌, length, Bool, true, false, codes, decimal, Result}
+use Rattle.std.specs.Prelude.{ℕ, ◌+◌, ◌≤◌, ◌^◌, List, [], ◌∷◌, ◌++◌, length, Bool, true, false, codes, decimal, Result}
 use Rattle.icode.specs.declared.program.Array.{Array}
 use Rattle.icode.specs.declared.program.Array.TheVariants as arrays
 use Rattle.icode.specs.Plain.{PlainExpr, PlainOp, Load, Store, Zero, Add, Sub, Neg, MulConst, MulTable, Tile, plain_op}
+use Rattle.icode.specs.Limits.{sum_depth}
 use Rattle.grammar.specs.Reading.{Place, ◌>>=◌, pure_at, word_at, one_of_at, number_at, named_number_at, numbers_at}
 use Rattle.listing_text.specs.declared.acts.Word.{Word}
 use Rattle.listing_text.specs.declared.acts.Word.TheVariants as words
@@ -106,3 +107,20 @@ act_line_at = do
   act ← act_at
   _ ← word_at (codes "\n")
   pure_at act
+
+-- no more than 64 parentheses are open at once
+abbrev pub OpFits : PlainOp → Type 0
+OpFits (Load register array place) = sum_depth place ≤ 64
+OpFits (Store array place register) = sum_depth place ≤ 64
+OpFits (Zero register) = Unit {0}
+OpFits (Add register left right) = Unit {0}
+OpFits (Sub register left right) = Unit {0}
+OpFits (Neg register source) = Unit {0}
+OpFits (MulConst register source factor) = Unit {0}
+OpFits (MulTable register source table place step) = sum_depth place ≤ 64
+OpFits (Tile register source) = Unit {0}
+
+abbrev pub ActFits : PlainAct → Type 0
+ActFits (Open depth count) = Unit {0}
+ActFits Close = Unit {0}
+ActFits (Do op) = OpFits op

@@ -1,9 +1,9 @@
 //! The lines of a phase.
 
-ghost use Rattle.std.specs.Prelude.{◌≡◌};
+ghost use Rattle.std.specs.Prelude.{◌≡◌, IfOk};
 ghost use Rattle.grammar.specs.Cursor.{Gives, Tells, TellsAll};
 ghost use Rattle.grammar.specs.Reading.{one_of_at, whole};
-ghost use Rattle.listing_text.specs.Acts.{plain_act, act_words, array_words, factor_words, factor_at, operands_at, act_at, act_line_at};
+ghost use Rattle.listing_text.specs.Acts.{plain_act, act_words, array_words, factor_words, factor_at, operands_at, act_at, act_line_at, ActFits};
 
 use crate::reading::read_place;
 use grammar::{Cursor, ReadError, Stuck};
@@ -215,12 +215,22 @@ fn act_line_of(alloc: Global, cursor: &mut Cursor) -> Result<Act, ReadError>
     Ok(act)
 }
 
-/// What a line of a phase is, with its end.
-pub fn read_act(alloc: Global, line: &[u8]) -> Result<Act, ReadError>
+fn whole_act(alloc: Global, line: &[u8]) -> Result<Act, ReadError>
     ensures { TellsAll plain_act result (whole act_line_at line.now) }
 {
     let mut cursor = Cursor::new(line);
     let act = act_line_of(alloc, &mut cursor)?;
     cursor.end()?;
     Ok(act)
+}
+
+/// What a line of a phase is, with its end.
+pub fn read_act(alloc: Global, line: &[u8]) -> Result<Act, ReadError>
+    ensures read { TellsAll plain_act result (whole act_line_at line.now) }
+    ensures fits { IfOk result (λ act. ActFits (plain_act act)) }
+{
+    match whole_act(alloc, line) {
+        Ok(act) => Ok(act),
+        Err(error) => Err(error),
+    }
 }

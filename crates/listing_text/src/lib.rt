@@ -2,8 +2,13 @@
 #![tactic(auto)]
 
 mod acts;
+mod draft;
+mod drafts;
+mod limits;
+mod listing;
 mod printing;
 mod reading;
 
+pub use listing::{ListingFault, read_listing};
 pub use printing::{print_listing, put, put_array, put_expr, put_header};
 pub use reading::read_place;
