@@ -12,3 +12,4 @@ pub mod OpenLines
 pub mod OutsideLines
 pub mod DraftLaws
 pub mod DraftReads
+pub mod ListingCalls

@@ -172,8 +172,11 @@ phase_line_back count =
     whole_back (outside_at count) None (codes "phase\n")
     (then_back (one_of_at outside_words) (outside_by count) true None (start (codes "phase\n")) [] [] (outside_key (codes "phase\n") true (start (codes "phase\n")) [] (inl (refl, refl)) (sym (append-nil (codes "phase\n")))) (λ q e. (q, refl, e)))
 
+table_shape : (word number values entries end : List ℕ) → word ++ number ++ values ++ entries ++ end ≡ word ++ (number ++ (values ++ (entries ++ end)))
+table_shape word number values entries end = simp append_assoc
+
 table_right : (number first others : List ℕ) → codes "table " ++ number ++ codes " values" ++ ((codes " " ++ first) ++ others) ++ codes "\n" ≡ codes "table " ++ (number ++ (codes " values " ++ ((first ++ others) ++ codes "\n")))
-table_right number first others = simp append_assoc
+table_right number first others = table_shape (codes "table ") number (codes " values") ((codes " " ++ first) ++ others) (codes "\n")
 
 pub table_line_back : (count number c : ℕ) (entries : List ℕ) → number < above_all → c < above_all → list_all (λ c. ltb c above_all) entries ≡ true → length entries ≤ count
     → whole (outside_at count) (table_text number (c ∷ entries)) ≡ Ok (Some (number, c ∷ entries))

@@ -12,3 +12,6 @@ mod reading;
 pub use listing::{ListingFault, read_listing};
 pub use printing::{print_listing, put, put_array, put_expr, put_header};
 pub use reading::read_place;
+
+#[cfg(test)]
+mod tests;

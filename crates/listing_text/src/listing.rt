@@ -68,13 +68,13 @@ fn drafted(alloc: Global, text: &[u8]) -> Result<Draft, ListingFault>
     let mut draft = None;
     let mut rest = text;
     let mut lines = 0;
-    while let Some((line, after)) = cut_line(rest) {
-        match stepped(alloc, draft, line) {
+    while let Some(cut) = cut_line(rest) {
+        match stepped(alloc, draft, cut.0) {
             Ok(next) => draft = Some(next),
             Err(Refusal::Line) => return Err(ListingFault::Syntax { line: lines + 1 }),
             Err(Refusal::NoMemory) => return Err(ListingFault::NoMemory),
         }
-        rest = after;
+        rest = cut.1;
         lines += 1;
     }
     finished(draft, rest, lines)

@@ -2,6 +2,7 @@ ghost use Rattle.std.specs.Prelude.{◌≡◌, ◌++◌, ◌≤◌, ℕ, IsTrue,
 ghost use Rattle.std.specs.List.{list_all};
 ghost use Rattle.icode.specs.Plain.{plain_expr, plain_part, plain_op, plain_stmt, plain_body, plain_tables, plain_phases};
 ghost use Rattle.listing_text.specs.Listing.{sum_text, part_text, array_text, op_text, stmt_text, body_text, values_text, table_text, tables_text, phase_text, header_text, listing_of, plain_program};
+ghost use Rattle.listing_text.specs.Texts.{is_listing};
 ghost use Rattle.listing_text.specs.Nests.{is_nest_within, are_nests_within};
 
 use icode::program::{Array, Expr, Op, Part, Program, Stmt};
@@ -247,7 +248,8 @@ fn put_phases(out: &mut Vec<u8>, phases: &[Vec<Stmt>]) -> Result<(), AllocError>
 
 /// The listing of a program.
 pub fn print_listing(alloc: Global, program: &Program) -> Result<Vec<u8>, NoMemory>
-    ensures { IfOk result (λ text. text.items ≡ listing_of (plain_program program.now)) }
+    ensures text { IfOk result (λ text. text.items ≡ listing_of (plain_program program.now)) }
+    ensures listing { IfOk result (λ text. is_listing text.items (plain_program program.now)) }
 {
     let mut out = Vec::new(alloc);
     put_header(&mut out, program)?;

@@ -3,11 +3,11 @@ use Rattle.listing_text.specs.Lines.{read_lines, later}
 use Rattle.listing_text.specs.Drafts.{plain_draft_or_none, step, finish}
 use Rattle.listing_text.proofs.listing.drafted.Given as goal
 
-abbrev pub invariant-loop-line : goal.invariant-loop-line
-invariant-loop-line l = record {
+abbrev pub invariant-loop-cut : goal.invariant-loop-cut
+invariant-loop-cut l = record {
   so_far : later l.lines (read_lines step finish (plain_draft_or_none l.draft) [] l.rest) ≡ read_lines step finish None [] l.fn.text;
   within : l.lines + length l.rest ≤ length l.fn.text;
 }
 
-abbrev pub decreases-loop-line : goal.decreases-loop-line
-decreases-loop-line l = length l.rest
+abbrev pub decreases-loop-cut : goal.decreases-loop-cut
+decreases-loop-cut l = length l.rest
