@@ -1,20 +1,20 @@
 -- The text of a phase's line is read back.
-use Rattle.std.proofs.Common.{◌≡◌, ℕ, suc, ◌+◌, ◌<◌, ◌≤◌, ◌^◌, Bool, true, false, cond, eqb, ltb, leb, ◌&&◌, List, [], ◌∷◌, ◌++◌, length, codes, decimal, Result, Ok, Err, refl, sym, ap, subst, ◌∙◌, append_assoc, arith, inl, inr}
+use Rattle.std.proofs.Common.{◌≡◌, ℕ, ◌<◌, ◌≤◌, true, false, eqb, ltb, leb, ◌&&◌, List, [], ◌∷◌, ◌++◌, codes, decimal, Ok, refl, sym, ap, ◌∙◌, append_assoc, arith, inl, inr}
 use Rattle.std.proofs.lemmas.Bool.{ltb-true, leb-true, and_parts, ne_eqb}
 use Rattle.icode.specs.declared.program.Array.{Array}
 use Rattle.icode.specs.declared.program.Array.TheVariants as arrays
 use Rattle.icode.specs.Plain.{PlainExpr, PlainOp, Load, Store, Zero, Add, Sub, Neg, MulConst, MulTable, Tile}
-use Rattle.icode.specs.Limits.{is_small, is_small_positive, is_sum_within, is_expr_within, is_op_within, sum_parts, sum_depth}
+use Rattle.icode.specs.Limits.{is_small, is_sum_within, is_expr_within, is_op_within, sum_parts, sum_depth}
 use Rattle.grammar.specs.Grammar.{one_of}
-use Rattle.grammar.specs.Reading.{Place, start, ended, to_end, whole, placed, word_at, number_at, named_number_at, one_of_in, one_of_at}
+use Rattle.grammar.specs.Reading.{Place, start, whole, placed, word_at, number_at, named_number_at, one_of_in, one_of_at}
 use Rattle.grammar.proofs.Parts.{Anything, one_of_reader}
 use Rattle.grammar.proofs.Whole.{again}
 use Rattle.listing_text.specs.declared.acts.Word.{Word}
 use Rattle.listing_text.specs.declared.acts.Word.TheVariants as words
-use Rattle.listing_text.specs.Listing.{sum_text, array_text, place_text, op_text}
+use Rattle.listing_text.specs.Listing.{sum_text, array_text, place_text}
 use Rattle.listing_text.specs.Reading.{above_all, sum_at}
 use Rattle.listing_text.specs.Acts.{PlainAct, Open, Close, Do, act_text, act_words, array_words, factor_words, operands_at, act_at, act_line_at}
-use Rattle.listing_text.proofs.ReadBack.{Back, then_back, FirstDigit, first_digit, word_back, number_back, named_back, small_fits, positive_fits, place_back}
+use Rattle.listing_text.proofs.ReadBack.{Back, then_back, first_digit, word_back, number_back, named_back, small_fits, place_back}
 use Rattle.listing_text.proofs.ActsSpelt.{line_text}
 
 -- the act may stand inside so many loops

@@ -1,16 +1,16 @@
 -- What is read of a phase's line is its text.
-use Rattle.std.proofs.Common.{◌≡◌, ℕ, ◌+◌, ◌<◌, ◌≤◌, Bool, true, false, List, [], ◌∷◌, ◌++◌, length, codes, decimal, Result, Ok, Err, refl, sym, ap, subst, ◌∙◌, append_assoc, arith, inl, inr}
+use Rattle.std.proofs.Common.{◌≡◌, ℕ, ◌≤◌, Bool, true, false, List, [], ◌∷◌, ◌++◌, codes, decimal, Result, Ok, Err, refl, sym, ap, subst, ◌∙◌, append_assoc, inl, inr}
 use Rattle.std.proofs.lemmas.List.{append-nil}
 use Rattle.icode.specs.declared.program.Array.{Array}
-use Rattle.icode.specs.Plain.{PlainExpr, PlainOp, Load, Store, Zero, Add, Sub, Neg, MulConst, MulTable, Tile}
+use Rattle.icode.specs.Plain.{PlainExpr}
 use Rattle.icode.specs.Limits.{sum_depth}
 use Rattle.grammar.specs.Grammar.{one_of}
 use Rattle.grammar.specs.Reading.{Place, start, ended, to_end, whole}
 use Rattle.listing_text.specs.declared.acts.Word.{Word}
 use Rattle.listing_text.specs.declared.acts.Word.TheVariants as words
-use Rattle.listing_text.specs.Listing.{sum_text, array_text, place_text, op_text}
+use Rattle.listing_text.specs.Listing.{sum_text, array_text, place_text}
 use Rattle.listing_text.specs.Reading.{sum_at}
-use Rattle.listing_text.specs.Acts.{PlainAct, Open, Close, Do, OpFits, ActFits, act_text, act_words, array_words, factor_words, factor_at, operands_at, act_at, act_line_at}
+use Rattle.listing_text.specs.Acts.{PlainAct, ActFits, act_text, act_words, array_words, factor_words, factor_at, operands_at, act_at, act_line_at}
 use Rattle.listing_text.proofs.Spelt.{Spelt, spelt_then, word_then, number_then, named_then, key_then, place_spelt}
 
 array_is : (t : List ℕ) (array : Array) → one_of array_words t array → t ≡ array_text array ++ codes "["
@@ -44,7 +44,7 @@ load_spelt s q e =
           (e2 ∙ ap (λ y. codes " " ++ y)
           (e3 ∙ ap (λ y. y ++ q3.rest) (array_is t3 array l3) ∙ ap (λ y. (array_text array ++ codes "[") ++ y) (e4 ∙ ap (λ y. sum_text at ++ y) e5)
           ∙ place_left array at q5.rest)))
-      ∙ load_left register (place_text array at) q5.rest,
+          ∙ load_left register (place_text array at) q5.rest,
     ))))))
 
 store_spelt : (s : List ℕ) (q : Place ℕ) → s ≡ codes "st " ++ q.rest → Spelt ActFits act_text s (operands_at words.Store q)

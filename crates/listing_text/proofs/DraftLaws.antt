@@ -1,15 +1,15 @@
 -- Reading line by line reads listings: every draft is the front of one.
-use Rattle.std.proofs.Common.{◌≡◌, ℕ, zero, suc, ◌+◌, ◌-◌, ◌<◌, ◌≤◌, ◌^◌, Bool, true, false, cond, eqb, ltb, leb, ◌&&◌, ◌||◌, List, [], ◌∷◌, ◌++◌, length, flat_map, codes, decimal, Option, Some, None, Result, Ok, Err, refl, sym, ap, subst, ◌∙◌, append_assoc, arith}
+use Rattle.std.proofs.Common.{◌≡◌, ℕ, ◌-◌, ◌<◌, ◌≤◌, ◌^◌, Bool, true, false, cond, eqb, ltb, leb, ◌&&◌, ◌||◌, List, [], ◌∷◌, ◌++◌, length, flat_map, codes, Option, Some, None, Result, Ok, Err, refl, sym, ap, subst, ◌∙◌, append_assoc, arith}
 use Rattle.std.specs.List.{list_all}
 use Rattle.std.proofs.lemmas.Bool.{ltb-true, leb-true, lt-ltb, and_parts, and_from, eqb-true}
 use Rattle.std.proofs.lemmas.List.{append-nil, length-append}
 use Rattle.icode.specs.Plain.{PlainStmt, PlainBody, PlainProgram, Loop, NoStmts, AndStmts, body_of}
 use Rattle.icode.specs.Plain as plain
-use Rattle.icode.specs.Limits.{is_small_positive, is_stmt_within, is_body_within, is_op_within, are_tables_within, are_phases_within, IsHeaderWithin, IsWithinLimits}
+use Rattle.icode.specs.Limits.{is_small_positive, is_body_within, is_op_within, are_tables_within, IsHeaderWithin, IsWithinLimits}
 use Rattle.grammar.specs.Grammar.{Begins}
 use Rattle.grammar.specs.Reading.{whole}
 use Rattle.listing_text.specs.declared.draft.Header.{Header}
-use Rattle.listing_text.specs.Listing.{body_text, header_text, table_text, tables_text, phase_text, listing_of}
+use Rattle.listing_text.specs.Listing.{body_text, header_text, table_text, tables_text, phase_text}
 use Rattle.listing_text.specs.Acts.{PlainAct, Open, Close, Do, act_line_at}
 use Rattle.listing_text.specs.Drafts.{PlainLevel, PlainDraft, program_of, header_at, is_between, is_header_within, outside_at, blank, with_body, opened, closed, may_open, act_step, read_step, is_empty, table_step, entered, outside_step, draft_step, header_step, kept, step, finish}
 use Rattle.listing_text.specs.Texts.{is_listing}
@@ -72,8 +72,8 @@ keeps_open d depth count t i g e =
         few = g.few;
       },
       text_opened (outside_text d.header d.tables d.phases) d.open_loops d.body count
-      ∙ ap (λ y. (outside_text d.header d.tables d.phases ++ inside_text true d.open_loops d.body) ++ line_text (Open y count)) same
-      ∙ ap (λ y. y ++ line_text (Open depth count)) (sym (inside_is d true i)),
+          ∙ ap (λ y. (outside_text d.header d.tables d.phases ++ inside_text true d.open_loops d.body) ++ line_text (Open y count)) same
+          ∙ ap (λ y. y ++ line_text (Open depth count)) (sym (inside_is d true i)),
     )
 
 close_cases : (d : PlainDraft) (levels : List PlainLevel) → d.open_loops ≡ levels → GoodDraft d → GoodDraft (closed d levels) × (draft_text (closed d levels) ≡ (outside_text d.header d.tables d.phases ++ inside_text true levels d.body) ++ line_text Close)
@@ -138,9 +138,9 @@ keeps_table d table t i g some e =
         few = omega (arith, some.0, eqb-true table.0 (length d.tables) test.0, length-append d.tables (table.1 ∷ []));
       },
       ap (λ ps. outside_text d.header (d.tables ++ table.1 ∷ []) ps ++ []) none ∙ text_with_table d.header d.tables table.1
-      ∙ ap (λ ps. (outside_text d.header d.tables ps ++ []) ++ table_text (length d.tables) table.1) (sym none)
-      ∙ ap (λ k. (outside_text d.header d.tables d.phases ++ []) ++ table_text k table.1) (sym (eqb-true table.0 (length d.tables) test.0))
-      ∙ ap (λ y. y ++ table_text table.0 table.1) (sym (inside_is d false i)),
+          ∙ ap (λ ps. (outside_text d.header d.tables ps ++ []) ++ table_text (length d.tables) table.1) (sym none)
+          ∙ ap (λ k. (outside_text d.header d.tables d.phases ++ []) ++ table_text k table.1) (sym (eqb-true table.0 (length d.tables) test.0))
+          ∙ ap (λ y. y ++ table_text table.0 table.1) (sym (inside_is d false i)),
     )
 
 keeps_outside : (d : PlainDraft) (o : Option (ℕ × List ℕ)) (t : PlainDraft) → d.is_inside ≡ false → GoodDraft d → OutsideFits o → outside_step d o ≡ Some t → Keeps d t (outside_line_text o)
@@ -226,8 +226,8 @@ goes_on_by d true i g =
         with_phase d body g (closed_within m d.open_loops d.body g.levels g.body),
         g.few,
         ap (λ y. y ++ ends_text d.open_loops) (inside_is d true i)
-        ∙ phase_behind front (flat_map phase_text d.phases) (codes "phase\n") (open_text d.open_loops ++ body_text (length d.open_loops) (body_of d.body)) (ends_text d.open_loops) (body_text 0 body) (codes "end\n") (text_ended d.open_loops d.body)
-        ∙ ap (λ y. front ++ y) (sym (phases_text-push d.phases body)),
+            ∙ phase_behind front (flat_map phase_text d.phases) (codes "phase\n") (open_text d.open_loops ++ body_text (length d.open_loops) (body_of d.body)) (ends_text d.open_loops) (body_text 0 body) (codes "end\n") (text_ended d.open_loops d.body)
+            ∙ ap (λ y. front ++ y) (sym (phases_text-push d.phases body)),
       ),
     )
 goes_on_by d false i g =
@@ -238,7 +238,7 @@ goes_on_by d false i g =
         with_phase d NoStmts g refl,
         g.few,
         ap (λ y. y ++ codes "phase\nend\n") (inside_is d false i ∙ append-nil (front ++ flat_map phase_text d.phases)) ∙ append_assoc front (flat_map phase_text d.phases) (codes "phase\nend\n")
-        ∙ ap (λ y. front ++ y) (sym (phases_text-push d.phases NoStmts)),
+            ∙ ap (λ y. front ++ y) (sym (phases_text-push d.phases NoStmts)),
       ),
     )
 

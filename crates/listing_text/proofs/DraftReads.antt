@@ -1,26 +1,25 @@
 -- Every listing is read.
-use Rattle.std.proofs.Common.{◌≡◌, ℕ, zero, suc, ◌+◌, ◌-◌, ◌<◌, ◌≤◌, ◌^◌, Bool, true, false, cond, eqb, ltb, leb, ◌&&◌, ◌||◌, List, [], ◌∷◌, ◌++◌, length, flat_map, codes, decimal, Option, Some, None, Result, Ok, Err, refl, sym, ap, subst, ◌∙◌, append_assoc, arith}
+use Rattle.std.proofs.Common.{◌≡◌, ℕ, suc, ◌+◌, ◌-◌, ◌<◌, ◌≤◌, ◌^◌, true, false, cond, eqb, ltb, leb, ◌&&◌, List, [], ◌∷◌, ◌++◌, length, flat_map, codes, decimal, Option, Some, None, Result, Ok, refl, sym, ap, subst, ◌∙◌, append_assoc, arith}
 use Rattle.std.specs.List.{list_all}
-use Rattle.std.proofs.lemmas.Bool.{ltb-true, lt-ltb, le-leb, leb-true, eq-eqb, and_parts, and_from}
+use Rattle.std.proofs.lemmas.Bool.{ltb-true, lt-ltb, le-leb, eq-eqb, and_parts, and_from}
 use Rattle.std.proofs.lemmas.List.{append-nil, length-append}
 use Rattle.icode.specs.Plain.{PlainStmt, PlainBody, PlainProgram, PlainOp, Loop, NoStmts, AndStmts, body_of}
 use Rattle.icode.specs.Plain as plain
-use Rattle.icode.specs.Limits.{is_small_positive, is_stmt_within, is_body_within, is_op_within, are_tables_within, are_phases_within, IsHeaderWithin, IsWithinLimits}
-use Rattle.grammar.specs.Reading.{whole}
+use Rattle.icode.specs.Limits.{is_small_positive, is_stmt_within, is_body_within, is_op_within, are_tables_within, IsHeaderWithin}
 use Rattle.listing_text.specs.declared.draft.Header.{Header}
-use Rattle.listing_text.specs.Lines.{IsLine, read_lines, valued, ended, Judges}
-use Rattle.listing_text.specs.Listing.{op_text, stmt_text, body_text, header_text, table_text, tables_text, phase_text, listing_of}
+use Rattle.listing_text.specs.Lines.{IsLine, read_lines, valued, Judges}
+use Rattle.listing_text.specs.Listing.{stmt_text, body_text, header_text, table_text, tables_text, phase_text}
 use Rattle.listing_text.specs.Reading.{above_all}
-use Rattle.listing_text.specs.Acts.{PlainAct, Open, Close, Do, act_line_at}
-use Rattle.listing_text.specs.Drafts.{PlainLevel, PlainDraft, program_of, header_at, is_between, is_header_within, outside_at, blank, with_body, opened, closed, may_open, act_step, read_step, is_empty, table_step, entered, outside_step, draft_step, header_step, kept, step, finish}
+use Rattle.listing_text.specs.Acts.{PlainAct, Open, Close, Do}
+use Rattle.listing_text.specs.Drafts.{PlainLevel, PlainDraft, program_of, is_between, is_header_within, blank, may_open, act_step, read_step, outside_step, header_step, kept, step, finish}
 use Rattle.listing_text.specs.Texts.{is_listing}
 use Rattle.listing_text.proofs.LineReaders.{line_leads, read_rest, IsLineReader, lines_judge}
 use Rattle.listing_text.proofs.ReadBack.{positive_fits}
 use Rattle.listing_text.proofs.ActsSpelt.{line_text}
 use Rattle.listing_text.proofs.ActsBack.{IsActWithin, line_back}
 use Rattle.listing_text.proofs.OpenLines.{act_is_line, table_open, header_open}
-use Rattle.listing_text.proofs.OutsideLines.{header_line_text, header_line_back, outside_line_text, phase_line_back, table_line_back, more_text}
-use Rattle.listing_text.proofs.DraftLaws.{GoodDraft, IsGood, written, keeps, goes_on, spelt}
+use Rattle.listing_text.proofs.OutsideLines.{header_line_text, header_line_back, phase_line_back, table_line_back, more_text}
+use Rattle.listing_text.proofs.DraftLaws.{IsGood, written, keeps, goes_on, spelt}
 
 Reads : Option PlainDraft → List ℕ → PlainProgram → Type 0
 Reads s text p = read_lines step finish s [] text ≡ Ok p
@@ -99,6 +98,7 @@ module _ (h : Header) (tables : List (List ℕ)) (phases : List PlainBody) (belo
 
   mutual
     unfolding AllRead stmts_of
+
     body_reads : (b : PlainBody) → AllRead b
     body_reads NoStmts levels body rest p w few r = subst (λ x. Reads (Some (inside h tables phases levels x)) rest p) (append-nil body) r
     body_reads (AndStmts s b) levels body rest p w few r =

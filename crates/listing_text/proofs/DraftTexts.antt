@@ -1,15 +1,15 @@
 -- The text that leads to a draft.
-use Rattle.std.proofs.Common.{◌≡◌, ℕ, zero, suc, ◌+◌, ◌-◌, ◌<◌, ◌≤◌, ◌^◌, Bool, true, false, cond, eqb, ltb, leb, ◌&&◌, ◌||◌, List, [], ◌∷◌, ◌++◌, length, flat_map, codes, decimal, Option, Some, None, Result, Ok, Err, refl, sym, ap, subst, ◌∙◌, append_assoc, arith}
+use Rattle.std.proofs.Common.{◌≡◌, ℕ, suc, ◌+◌, ◌≤◌, Bool, true, false, ltb, ◌&&◌, List, [], ◌∷◌, ◌++◌, length, flat_map, codes, decimal, refl, sym, ap, subst, ◌∙◌, append_assoc, arith}
 use Rattle.std.specs.List.{list_all}
-use Rattle.std.proofs.lemmas.Bool.{ltb-true, and_parts, and_from, eqb-true}
+use Rattle.std.proofs.lemmas.Bool.{ltb-true, and_parts, and_from}
 use Rattle.std.proofs.lemmas.List.{append-nil}
 use Rattle.std.proofs.lemmas.List.Concat.{flat_map-append}
 use Rattle.icode.specs.Plain.{PlainStmt, PlainBody, PlainProgram, Loop, NoStmts, AndStmts, body_of}
 use Rattle.icode.specs.Plain as plain
-use Rattle.icode.specs.Limits.{is_small_positive, is_stmt_within, is_body_within, is_op_within}
+use Rattle.icode.specs.Limits.{is_small_positive, is_stmt_within, is_body_within}
 use Rattle.listing_text.specs.declared.draft.Header.{Header}
-use Rattle.listing_text.specs.Listing.{op_text, stmt_text, body_text, header_text, table_text, tables_text, phase_text, listing_of}
-use Rattle.listing_text.specs.Acts.{PlainAct, Open, Close, Do, act_text}
+use Rattle.listing_text.specs.Listing.{op_text, stmt_text, body_text, header_text, table_text, tables_text, phase_text}
+use Rattle.listing_text.specs.Acts.{Open, Close, Do}
 use Rattle.listing_text.specs.Drafts.{PlainLevel, PlainDraft, program_of}
 use Rattle.listing_text.proofs.ActsSpelt.{line_text}
 

@@ -2,7 +2,7 @@
 use Rattle.std.proofs.Common.{◌≡◌, ℕ, zero, suc, ◌+◌, ◌-◌, ◌<◌, ◌≤◌, Bool, true, false, cond, eqb, List, [], ◌∷◌, ◌++◌, Option, Some, None, Result, Ok, Err, refl, sym, ap, subst, ◌∙◌, append_assoc, arith}
 use Rattle.std.proofs.lemmas.List.{append-nil}
 use Rattle.std.proofs.lemmas.List.Sums.{sum_by-cons}
-use Rattle.grammar.specs.Grammar.{Begins, IsLost, first_lines, line_ends}
+use Rattle.grammar.specs.Grammar.{Begins, first_lines, line_ends}
 use Rattle.listing_text.specs.Lines.{is_open, IsLine, one_more, later, taken, valued, ended, read_lines, Judges}
 
 -- Line ends, by cases

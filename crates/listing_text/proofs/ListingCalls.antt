@@ -1,11 +1,11 @@
 -- What the calls that read a listing answer.
-use Rattle.std.proofs.Common.{◌≡◌, ◌≢◌, ℕ, zero, suc, ◌+◌, ◌<◌, ◌≤◌, Bool, true, false, cond, eqb, List, [], ◌∷◌, ◌++◌, length, take, get_or, Option, Some, None, Result, Ok, Err, refl, sym, ap, subst, ◌∙◌, arith}
+use Rattle.std.proofs.Common.{◌≡◌, ◌≢◌, ℕ, zero, suc, ◌+◌, ◌<◌, ◌≤◌, Bool, true, false, cond, eqb, List, [], ◌∷◌, ◌++◌, length, take, get_or, Option, Some, None, Result, Err, refl, sym, ap, subst, ◌∙◌, arith}
 use Rattle.std.proofs.lemmas.Bool.{ne_eqb}
 use Rattle.std.proofs.lemmas.List.{length-append}
 use Rattle.icode.specs.Plain.{PlainProgram}
 use Rattle.listing_text.specs.declared.listing.ListingFault.{ListingFault}
 use Rattle.listing_text.specs.declared.listing.ListingFault.TheVariants as faults
-use Rattle.listing_text.specs.Lines.{is_open, IsLine, one_more, later, taken, read_lines}
+use Rattle.listing_text.specs.Lines.{is_open, IsLine, later, taken, read_lines}
 use Rattle.listing_text.specs.Drafts.{PlainDraft, step, finish}
 use Rattle.listing_text.specs.Texts.{is_listing, TextAnswers}
 use Rattle.listing_text.specs.Reads.{Reads}

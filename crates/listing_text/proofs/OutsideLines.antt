@@ -1,19 +1,19 @@
 -- The lines outside of phases: what is read is spelt, and what is spelt is read back.
-use Rattle.std.proofs.Common.{◌≡◌, ℕ, zero, suc, ◌+◌, ◌-◌, ◌<◌, ◌≤◌, ◌^◌, Bool, true, false, ltb, ◌&&◌, List, [], ◌∷◌, ◌++◌, length, flat_map, codes, decimal, Option, Some, None, Result, Ok, Err, refl, sym, ap, subst, ◌∙◌, append_assoc, arith, inl, inr}
+use Rattle.std.proofs.Common.{◌≡◌, ℕ, zero, suc, ◌<◌, ◌≤◌, Bool, true, false, ltb, List, [], ◌∷◌, ◌++◌, length, flat_map, codes, decimal, Option, Some, None, Result, Ok, refl, sym, ap, subst, ◌∙◌, append_assoc, arith, inl, inr}
 use Rattle.std.specs.List.{list_all}
 use Rattle.std.proofs.lemmas.Bool.{ltb-true, and_parts}
-use Rattle.std.proofs.lemmas.List.{append-nil, length-append}
-use Rattle.grammar.specs.Grammar.{one_of, number, numbers, more_numbers, named_number}
-use Rattle.grammar.specs.Reading.{Place, start, and_then, whole, word_at, one_of_at, number_at, named_number_at, numbers_at}
+use Rattle.std.proofs.lemmas.List.{append-nil}
+use Rattle.grammar.specs.Grammar.{one_of, number, numbers, more_numbers}
+use Rattle.grammar.specs.Reading.{Place, start, whole, word_at, one_of_at, number_at, named_number_at, numbers_at}
 use Rattle.grammar.proofs.Numbers.{NoDigit}
-use Rattle.grammar.proofs.Parts.{Anything, Behind, number_reader, one_of_reader, follows, spells_named}
+use Rattle.grammar.proofs.Parts.{Anything, Behind, number_reader, one_of_reader, spells_named}
 use Rattle.grammar.proofs.Lists.{numbers_reader}
 use Rattle.grammar.proofs.Whole.{again}
 use Rattle.listing_text.specs.declared.draft.Header.{Header}
 use Rattle.listing_text.specs.Listing.{header_text, table_text}
 use Rattle.listing_text.specs.Reading.{above_all}
 use Rattle.listing_text.specs.Drafts.{header_at, outside_words, outside_by, outside_at, program_of}
-use Rattle.listing_text.proofs.Spelt.{Spelt, reader_cases, word_then, number_then, named_then, key_then}
+use Rattle.listing_text.proofs.Spelt.{Spelt, reader_cases, word_then, named_then, key_then}
 use Rattle.listing_text.proofs.ReadBack.{Back, then_back, word_back, number_back, named_back}
 use Rattle.listing_text.proofs.ActsSpelt.{whole_spelt}
 
@@ -40,7 +40,7 @@ header_spelt place =
           (e3 ∙ ap (λ y. codes " procs " ++ (decimal procs ++ y))
           (e4 ∙ ap (λ y. codes " line " ++ (decimal line ++ y))
           (e5 ∙ ap (λ y. codes " lanes " ++ (decimal lanes ++ y)) (e6 ∙ ap (λ y. codes " regs " ++ (decimal regs ++ y)) e7)))))
-      ∙ header_left (codes "program size ") (codes " mod ") (codes " procs ") (codes " line ") (codes " lanes ") (codes " regs ") (codes "\n") (decimal size) (decimal modulus) (decimal procs) (decimal line) (decimal lanes) (decimal regs) q7.rest,
+          ∙ header_left (codes "program size ") (codes " mod ") (codes " procs ") (codes " line ") (codes " lanes ") (codes " regs ") (codes "\n") (decimal size) (decimal modulus) (decimal procs) (decimal line) (decimal lanes) (decimal regs) q7.rest,
     ))))))))
   where
     header_left : (a b c d e f g s m p l v r rest : List ℕ)
@@ -96,8 +96,8 @@ all_spelt : (count : ℕ) (text entries : List ℕ) → numbers (codes " ") abov
 all_spelt count text entries l = (
   omega (arith, ap length l.ends.ends.1),
   ap (λ y. codes " " ++ y) (l.whole ∙ ap (λ y. y ++ l.rest) l.begins.1)
-  ∙ ap (λ y. codes " " ++ (decimal l.spelt ++ y)) (l.ends.whole ∙ ap (λ y. l.ends.front ++ y) l.ends.ends.0 ∙ append-nil l.ends.front ∙ more_spelt count l.ends.front l.ends.spelt l.ends.begins)
-  ∙ ap more_text (sym l.ends.ends.1),
+      ∙ ap (λ y. codes " " ++ (decimal l.spelt ++ y)) (l.ends.whole ∙ ap (λ y. l.ends.front ++ y) l.ends.ends.0 ∙ append-nil l.ends.front ∙ more_spelt count l.ends.front l.ends.spelt l.ends.begins)
+      ∙ ap more_text (sym l.ends.ends.1),
 )
 
 more_spells : (count : ℕ) (entries : List ℕ) → list_all (λ c. ltb c above_all) entries ≡ true → length entries ≤ count → more_numbers (codes " ") above_all count (more_text entries) entries
@@ -149,8 +149,8 @@ table_spelt count s q e =
     let all = all_spelt count t3 entries l3 in (
       (l1.0, all.0),
       e ∙ ap (λ y. codes "table " ++ y) (e1 ∙ ap (λ y. y ++ q1.rest) l1.1 ∙ ap (λ y. decimal number ++ y) (e2 ∙ ap (λ y. codes " values " ++ y) (e3 ∙ ap (λ y. t3 ++ y) e4)))
-      ∙ ap (λ y. codes "table " ++ (decimal number ++ (codes " values" ++ (y ++ (codes "\n" ++ q4.rest))))) all.1
-      ∙ table_left (decimal number) [] (more_text entries) q4.rest,
+          ∙ ap (λ y. codes "table " ++ (decimal number ++ (codes " values" ++ (y ++ (codes "\n" ++ q4.rest))))) all.1
+          ∙ table_left (decimal number) [] (more_text entries) q4.rest,
     )))))
 
 outside_cases : (count : ℕ) (s : List ℕ) (is_phase : Bool) (q : Place ℕ) (t : List ℕ) → s ≡ t ++ q.rest → one_of outside_words t is_phase → Spelt OutsideFits outside_line_text s (outside_by count is_phase q)

@@ -1,21 +1,19 @@
 -- The text of a place is read back.
-use Rattle.std.proofs.Common.{◌≡◌, ℕ, zero, suc, ◌+◌, ◌-◌, ◌<◌, ◌≤◌, ◌^◌, Bool, true, false, cond, eqb, ltb, leb, ◌&&◌, ◌||◌, List, [], ◌∷◌, ◌++◌, length, codes, decimal, max, Option, Some, None, Result, Ok, Err, refl, sym, ap, subst, ◌∙◌, append_assoc, arith, inl, inr}
-use Rattle.std.specs.Char.{digit_value}
+use Rattle.std.proofs.Common.{◌≡◌, ℕ, zero, suc, ◌<◌, ◌≤◌, ◌^◌, Bool, true, false, eqb, ltb, leb, ◌&&◌, ◌||◌, List, [], ◌∷◌, ◌++◌, length, codes, decimal, Some, Result, Ok, refl, sym, ap, ◌∙◌, append_assoc, arith, inl, inr}
 use Rattle.std.specs.Str.Parse.{AllDigits}
-use Rattle.std.proofs.lemmas.Bool.{eqb-true, ne_eqb, ltb-true, le-ltb, and_parts}
+use Rattle.std.proofs.lemmas.Bool.{ne_eqb, ltb-true, and_parts}
 use Rattle.std.proofs.lemmas.Fmt.{decimal_is_IsNumeral, decimal_nonempty}
 use Rattle.std.proofs.lemmas.Str.Parse.{digit_from_value}
 use Rattle.icode.specs.Plain.{PlainExpr, PlainPart, PlainParts, Sum, NoParts, AndParts, Proc, Var, Product, Rem, Quot, parts_of}
 use Rattle.icode.specs.Limits.{is_small, is_small_positive, rank, next_rank, is_sum_within, are_parts_within, is_part_within, sum_parts, all_parts, part_parts, sum_depth, parts_depth, part_depth}
 use Rattle.grammar.specs.Grammar.{word, one_of, number, named_number}
-use Rattle.grammar.specs.Reading.{Place, and_then, pure_at, placed, is_digit, begins, word_at, one_of_in, one_of_at, number_at, named_number_at}
+use Rattle.grammar.specs.Reading.{Place, and_then, placed, is_digit, begins, word_at, one_of_in, one_of_at, number_at, named_number_at}
 use Rattle.grammar.proofs.Numbers.{NoDigit}
 use Rattle.grammar.proofs.Parts.{Anything, word_reader, number_reader, named_number_reader, one_of_reader, spells_named}
 use Rattle.grammar.proofs.Whole.{again}
-use Rattle.listing_text.specs.declared.reading.Head.{Head}
 use Rattle.listing_text.specs.declared.reading.Head.TheVariants as heads
 use Rattle.listing_text.specs.Listing.{sum_text, parts_text, part_text}
-use Rattle.listing_text.specs.Reading.{above_all, others_of, up_to_at, part_heads, second_heads, division_words, variable_at, part_by, part_at, sum_by, inner_at, sum_at}
+use Rattle.listing_text.specs.Reading.{above_all, up_to_at, part_heads, second_heads, division_words, part_at, inner_at, sum_at}
 
 -- reading gives the value, and leaves this
 abbrev pub Back : {A : Type 0} → (Place ℕ → Result (A × Place ℕ) ℕ) → A → Place ℕ → List ℕ → Type 0
@@ -203,6 +201,7 @@ sum_back_by depth constant ps c place rest e b parts =
 
 mutual
   unfolding InnerBack inner_at
+
   pub place_back : (e : PlainExpr) (depth open_loops : ℕ) → is_sum_within e open_loops ≡ true → open_loops ≤ 64 → sum_parts e ≤ 64 → sum_depth e ≤ depth
       → (place : Place ℕ) (rest : List ℕ) → place.rest ≡ sum_text e ++ rest → begins goes_on rest ≡ false → Back (sum_at depth) e place rest
   place_back (Sum constant ps) depth open_loops w few_open few deep place rest e b =

@@ -5,7 +5,7 @@ use Rattle.grammar.specs.Reading.{Place, and_then, pure_at}
 use Rattle.grammar.specs.Cursor.{Tells}
 use Rattle.grammar.specs.declared.token.ReadError.{ReadError}
 use Rattle.grammar.specs.declared.token.ReadError.TheVariants as errors
-use Rattle.listing_text.specs.Reading.{others_of, up_to_at, inner_at, sum_at}
+use Rattle.listing_text.specs.Reading.{up_to_at, inner_at, sum_at}
 
 -- the parts so far, and those that are read behind them
 abbrev pub in_front : {A : Type 0} → List A → Result (List A × Place ℕ) ℕ → Result (List A × Place ℕ) ℕ

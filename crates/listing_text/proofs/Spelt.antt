@@ -1,19 +1,17 @@
 -- What is read of a place stands in the text.
-use Rattle.std.proofs.Common.{◌≡◌, ℕ, zero, suc, ◌+◌, ◌<◌, ◌≤◌, ◌^◌, Bool, true, false, List, [], ◌∷◌, ◌++◌, length, codes, decimal, Option, Some, None, Result, Ok, Err, refl, sym, ap, subst, ◌∙◌, append_assoc, arith, inl, inr}
-use Rattle.std.proofs.lemmas.List.{append-nil}
-use Rattle.icode.specs.Plain.{PlainExpr, PlainPart, PlainParts, Sum, NoParts, AndParts, Proc, Var, Product, Rem, Quot, parts_of}
+use Rattle.std.proofs.Common.{◌≡◌, ℕ, zero, suc, ◌≤◌, Bool, true, false, List, [], ◌∷◌, ◌++◌, codes, decimal, Option, Some, None, Result, Ok, Err, refl, sym, ap, subst, ◌∙◌, append_assoc, arith, inl, inr}
+use Rattle.icode.specs.Plain.{PlainExpr, PlainPart, parts_of}
 use Rattle.icode.specs.Limits.{sum_depth, parts_depth, part_depth}
 use Rattle.grammar.specs.Grammar.{word, one_of, number, named_number}
-use Rattle.grammar.specs.Reading.{Place, and_then, pure_at, placed, word_in, word_at, one_of_in, one_of_at, number_at, named_number_at, valued, or_else}
+use Rattle.grammar.specs.Reading.{Place, and_then, placed, word_in, word_at, one_of_in, one_of_at, number_at, named_number_at, valued, or_else}
 use Rattle.grammar.proofs.Tokens as tokens
 use Rattle.grammar.proofs.Words.{word_token}
 use Rattle.grammar.proofs.Numbers.{NoDigit}
 use Rattle.grammar.proofs.Parts.{Anything, word_reader, number_reader, named_number_reader}
-use Rattle.grammar.proofs.Places.{IsReader, Answers}
+use Rattle.grammar.proofs.Places.{Answers}
 use Rattle.listing_text.specs.declared.reading.Head.{Head}
-use Rattle.listing_text.specs.declared.reading.Head.TheVariants as heads
 use Rattle.listing_text.specs.Listing.{sum_text, parts_text, part_text}
-use Rattle.listing_text.specs.Reading.{above_all, refuse, others_of, up_to_at, part_heads, second_heads, division_words, variable_at, divided, part_by, part_at, sum_by, inner_at, sum_at}
+use Rattle.listing_text.specs.Reading.{above_all, others_of, up_to_at, part_heads, second_heads, division_words, variable_at, divided, part_by, part_at, sum_by, inner_at, sum_at}
 
 -- The value fits, and its text stands at the front
 abbrev pub Spelt : {A : Type 0} → (A → Type 0) → (A → List ℕ) → List ℕ → Result (A × Place ℕ) ℕ → Type 0

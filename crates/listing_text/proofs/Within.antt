@@ -1,8 +1,8 @@
 -- What the tests of a place say, part by part.
-use Rattle.std.proofs.Common.{◌≡◌, ℕ, ◌+◌, ◌*◌, ◌<◌, ◌≤◌, ◌^◌, Bool, true, false, ltb, leb, ◌&&◌, List, [], ◌∷◌, map, drop, arith}
+use Rattle.std.proofs.Common.{◌≡◌, ℕ, ◌<◌, ◌≤◌, ◌^◌, true, ltb, ◌&&◌, arith}
 use Rattle.std.proofs.lemmas.Bool.{ltb-true, and_parts}
-use Rattle.icode.specs.Plain.{PlainPart, PlainExpr, Proc, Var, Product, Rem, Quot}
-use Rattle.icode.specs.Limits.{is_small_positive, is_sum_within, is_part_within, rank, next_rank}
+use Rattle.icode.specs.Plain.{PlainPart, Proc, Var, Product, Rem, Quot}
+use Rattle.icode.specs.Limits.{is_small_positive, is_part_within, rank, next_rank}
 
 -- the rank of a part that names open loops is small
 pub rank_is_small : (p : PlainPart) (open_loops : ℕ) → is_part_within p open_loops ≡ true → open_loops ≤ 64 → (rank p < 2 ^ 32) × (next_rank p < 2 ^ 32)

@@ -1,7 +1,6 @@
 -- A program as it is read, line by line.
-use Rattle.std.specs.Prelude.{◌≡◌, ℕ, suc, ◌+◌, ◌-◌, ◌^◌, List, [], ◌∷◌, ◌++◌, length, reverse, map, Bool, true, false, ◌&&◌, ◌||◌, ◌==◌, nat_lt, nat_le, codes, decimal, Option, Some, None, Result, Ok, Err, Vec, if◌then◌else◌}
+use Rattle.std.specs.Prelude.{◌≡◌, ℕ, ◌-◌, ◌^◌, List, [], ◌∷◌, ◌++◌, length, reverse, map, Bool, true, false, ◌&&◌, ◌||◌, ◌==◌, nat_lt, nat_le, codes, Option, Some, None, Result, Ok, Err, if◌then◌else◌}
 use Rattle.std.specs.List.{list_all}
-use Rattle.std.proofs.Common.{Global}
 use Rattle.icode.specs.Plain.{PlainStmt, PlainBody, PlainProgram, Loop, body_of, plain_stmt, plain_tables, plain_phases}
 use Rattle.icode.specs.Plain as plain
 use Rattle.icode.specs.Limits.{is_small_positive, is_op_within}

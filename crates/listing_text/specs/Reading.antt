@@ -1,5 +1,5 @@
 -- Reading the parts of a line.
-use Rattle.std.specs.Prelude.{ℕ, zero, suc, ◌^◌, List, [], ◌∷◌, length, Bool, true, false, codes, Option, Some, None, Result, Ok, Err}
+use Rattle.std.specs.Prelude.{ℕ, zero, suc, ◌^◌, List, [], ◌∷◌, length, Bool, true, false, codes, Option, Some, None, Result, Err}
 use Rattle.icode.specs.Plain.{PlainExpr, PlainPart, Sum, Proc, Var, Product, Rem, Quot, parts_of}
 use Rattle.grammar.specs.Reading.{Place, ◌>>=◌, pure_at, word_at, one_of_at, number_at, named_number_at}
 use Rattle.listing_text.specs.declared.reading.Head.{Head}

@@ -1,5 +1,5 @@
 -- What the calls that read lines answer.
-use Rattle.std.specs.Prelude.{◌≡◌, ℕ, ◌+◌, List, Option, Some, None, Result, Ok, Err}
+use Rattle.std.specs.Prelude.{◌≡◌, ℕ, ◌+◌, Option, Some, None, Result, Ok, Err}
 use Rattle.icode.specs.Plain.{PlainProgram, plain_tables, plain_phases}
 use Rattle.listing_text.specs.declared.draft.Draft.{Draft}
 use Rattle.listing_text.specs.declared.drafts.Refusal.{Refusal}

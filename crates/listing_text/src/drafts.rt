@@ -265,12 +265,7 @@ fn are_below(entries: &[u64], modulus: u64) -> bool
     entries.iter().all(|c| *c < modulus)
 }
 
-fn with_table(
-    alloc: Global,
-    draft: Draft,
-    number: u64,
-    entries: Vec<u64>,
-) -> Result<Draft, Refusal>
+fn with_table(alloc: Global, draft: Draft, number: u64, entries: Vec<u64>) -> Result<Draft, Refusal>
     ensures { Makes result (table_step (plain_draft draft) (number, entries.items)) }
 {
     let modulus = draft.header.modulus;

@@ -144,10 +144,14 @@ pub fn is_op_within(modulus: u64, op: &Op, loops: u64) -> bool
 {
     match op {
         Op::Load {
-            register, place, ..
+            register,
+            place,
+            ..
         } => is_small(*register) && is_expr_within(place, loops),
         Op::Store {
-            place, register, ..
+            place,
+            register,
+            ..
         } => is_small(*register) && is_expr_within(place, loops),
         Op::Zero { register } => is_small(*register),
         Op::Add {

@@ -72,8 +72,10 @@ fn part_of(alloc: Global, cursor: &mut Cursor, depth: u64) -> Result<Option<Part
         }
         Head::Inner => {
             let of = inner_of(alloc, cursor, depth)?;
-            let is_remainder =
-                cursor.one_of(&[(b")%".as_slice(), true), (b")/".as_slice(), false)])?;
+            let is_remainder = cursor.one_of(&[
+                (b")%".as_slice(), true),
+                (b")/".as_slice(), false),
+            ])?;
             let divisor = cursor.number(u64::MAX)?;
             let factor = cursor.named_number(b"*", u64::MAX)?;
             if is_remainder {

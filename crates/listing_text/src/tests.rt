@@ -52,7 +52,8 @@ end
 ";
 
 // Every form, and numbers at their limits.
-const ALL_FORMS: &[u8] = b"program size 65536 mod 4611686018427387903 procs 16 line 64 lanes 16 regs 1048575
+const ALL_FORMS: &[u8] =
+    b"program size 65536 mod 4611686018427387903 procs 16 line 64 lanes 16 regs 1048575
 table 0 values 0
 table 1 values 4611686018427387902 1
 phase
@@ -95,26 +96,83 @@ fn lost_lines(rt: HostRuntime) {
     let texts: [(&[u8], u64); 22] = [
         (b"", 1),
         (b"program size 2 mod 15 procs 1 line 1 lanes 1 regs 5", 1),
-        (b"program size 2 mod 15 procs 1 line 1 lanes 1 regs 5\r\nphase\nend\n", 1),
+        (
+            b"program size 2 mod 15 procs 1 line 1 lanes 1 regs 5\r\nphase\nend\n",
+            1,
+        ),
         (b"program size 2 mod 15 procs 1 line 1 lanes 1 regs 5\n", 2),
-        (b"program size 0 mod 15 procs 1 line 1 lanes 1 regs 5\nphase\nend\n", 1),
-        (b"program size 65537 mod 15 procs 1 line 1 lanes 1 regs 5\nphase\nend\n", 1),
-        (b"program size 2 mod 4611686018427387904 procs 1 line 1 lanes 1 regs 5\nphase\nend\n", 1),
-        (b"program size 2 mod 1 procs 1 line 1 lanes 1 regs 5\nphase\nend\n", 1),
-        (b"program size 2 mod 15 procs 17 line 1 lanes 1 regs 5\nphase\nend\n", 1),
-        (b"program size 2 mod 15 procs 1 line 65 lanes 1 regs 5\nphase\nend\n", 1),
-        (b"program size 2 mod 15 procs 1 line 1 lanes 17 regs 5\nphase\nend\n", 1),
-        (b"program size 2 mod 15 procs 1 line 1 lanes 1 regs 1048576\nphase\nend\n", 1),
-        (b"program size 2 mod 15 procs 1 line 1 lanes 1 regs 0\nphase\nend\n", 0),
-        (b"program size 2 mod 15 procs 1 line 1 lanes 1 regs 0\nphase\nend", 3),
-        (b"program size 2 mod 15 procs 1 line 1 lanes 1 regs 0\nphase\nend\n\n", 4),
-        (b"program size 2 mod 15 procs 1 line 1 lanes 1 regs 0\nphase\n", 3),
-        (b"program size 2 mod 15 procs 1 line 1 lanes 1 regs 0\ntable 1 values 1\nphase\nend\n", 2),
-        (b"program size 2 mod 15 procs 1 line 1 lanes 1 regs 0\ntable 0 values\nphase\nend\n", 2),
-        (b"program size 2 mod 15 procs 1 line 1 lanes 1 regs 0\ntable 0 values 15\nphase\nend\n", 2),
-        (b"program size 2 mod 15 procs 1 line 1 lanes 1 regs 0\nphase\nend\ntable 0 values 1\n", 4),
-        (b"program size 2 mod 15 procs 1 line 1 lanes 1 regs 5\nphase\nld r0 X[0]\n", 4),
-        (b"program size 2 mod 15 procs 1 line 1 lanes 1 regs 5\nphase\nld r0 X[0]\nld r1 X[01]\nend\n", 4),
+        (
+            b"program size 0 mod 15 procs 1 line 1 lanes 1 regs 5\nphase\nend\n",
+            1,
+        ),
+        (
+            b"program size 65537 mod 15 procs 1 line 1 lanes 1 regs 5\nphase\nend\n",
+            1,
+        ),
+        (
+            b"program size 2 mod 4611686018427387904 procs 1 line 1 lanes 1 regs 5\nphase\nend\n",
+            1,
+        ),
+        (
+            b"program size 2 mod 1 procs 1 line 1 lanes 1 regs 5\nphase\nend\n",
+            1,
+        ),
+        (
+            b"program size 2 mod 15 procs 17 line 1 lanes 1 regs 5\nphase\nend\n",
+            1,
+        ),
+        (
+            b"program size 2 mod 15 procs 1 line 65 lanes 1 regs 5\nphase\nend\n",
+            1,
+        ),
+        (
+            b"program size 2 mod 15 procs 1 line 1 lanes 17 regs 5\nphase\nend\n",
+            1,
+        ),
+        (
+            b"program size 2 mod 15 procs 1 line 1 lanes 1 regs 1048576\nphase\nend\n",
+            1,
+        ),
+        (
+            b"program size 2 mod 15 procs 1 line 1 lanes 1 regs 0\nphase\nend\n",
+            0,
+        ),
+        (
+            b"program size 2 mod 15 procs 1 line 1 lanes 1 regs 0\nphase\nend",
+            3,
+        ),
+        (
+            b"program size 2 mod 15 procs 1 line 1 lanes 1 regs 0\nphase\nend\n\n",
+            4,
+        ),
+        (
+            b"program size 2 mod 15 procs 1 line 1 lanes 1 regs 0\nphase\n",
+            3,
+        ),
+        (
+            b"program size 2 mod 15 procs 1 line 1 lanes 1 regs 0\ntable 1 values 1\nphase\nend\n",
+            2,
+        ),
+        (
+            b"program size 2 mod 15 procs 1 line 1 lanes 1 regs 0\ntable 0 values\nphase\nend\n",
+            2,
+        ),
+        (
+            b"program size 2 mod 15 procs 1 line 1 lanes 1 regs 0\ntable 0 values 15\nphase\nend\n",
+            2,
+        ),
+        (
+            b"program size 2 mod 15 procs 1 line 1 lanes 1 regs 0\nphase\nend\ntable 0 values 1\n",
+            4,
+        ),
+        (
+            b"program size 2 mod 15 procs 1 line 1 lanes 1 regs 5\nphase\nld r0 X[0]\n",
+            4,
+        ),
+        (
+            b"program size 2 mod 15 procs 1 line 1 lanes 1 regs 5\nphase\nld r0 X[0]\nld r1 X[01]\nend\n",
+            4,
+        ),
     ];
     for (text, line) in texts {
         assert_eq!(rt; lost_line(rt.alloc(), text), line);
@@ -214,7 +272,13 @@ fn place_with(alloc: Global, parentheses: u64, parts: u64) -> Result<Vec<u8>, Al
 fn limits_of_depth(rt: HostRuntime) -> Result<(), Fail> {
     assert_eq!(rt; lost_line(rt.alloc(), &nested_loops(rt.alloc(), 64)?), 0);
     assert_eq!(rt; lost_line(rt.alloc(), &nested_loops(rt.alloc(), 65)?), 67);
-    let places: [(u64, u64, u64); 5] = [(64, 0, 0), (65, 0, 5), (0, 64, 0), (0, 65, 5), (32, 33, 5)];
+    let places: [(u64, u64, u64); 5] = [
+        (64, 0, 0),
+        (65, 0, 5),
+        (0, 64, 0),
+        (0, 65, 5),
+        (32, 33, 5),
+    ];
     for (parentheses, parts, lost) in places {
         let line = place_with(rt.alloc(), parentheses, parts)?;
         let text = inside_loops(rt.alloc(), &line)?;

@@ -1,4 +1,4 @@
-use Rattle.std.proofs.Common.{[], None, Some, refl, ap, sym, subst, ◌∙◌}
+use Rattle.std.proofs.Common.{Some, refl, ap, sym, subst, ◌∙◌}
 use Rattle.listing_text.specs.Lines.{later}
 use Rattle.listing_text.specs.Drafts.{plain_draft, plain_draft_or_none, step, finish}
 use Rattle.listing_text.specs.Reads.{Reads}

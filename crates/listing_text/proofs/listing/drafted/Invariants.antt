@@ -1,4 +1,4 @@
-use Rattle.std.proofs.Common.{◌≡◌, ◌+◌, ◌≤◌, List, [], length, None}
+use Rattle.std.proofs.Common.{◌≡◌, ◌+◌, ◌≤◌, [], length, None}
 use Rattle.listing_text.specs.Lines.{read_lines, later}
 use Rattle.listing_text.specs.Drafts.{plain_draft_or_none, step, finish}
 use Rattle.listing_text.proofs.listing.drafted.Given as goal

@@ -1,12 +1,12 @@
-use Rattle.std.proofs.Common.{subst, sym, ap, ◌∙◌, map, Ok, arith, Global}
+use Rattle.std.proofs.Common.{subst, sym, ap, map, Ok, Global}
 use Rattle.std.specs.Prelude.{Vec}
 use Rattle.icode.specs.declared.program.Part.{Part}
 use Rattle.std.specs.Option.{option_map}
 use Rattle.icode.specs.Plain.{plain_part, plain_expr}
 use Rattle.grammar.specs.Cursor.{Tells}
-use Rattle.listing_text.specs.Reading.{part_at, inner_at, sum_at}
+use Rattle.listing_text.specs.Reading.{part_at, inner_at}
 use Rattle.listing_text.proofs.Views.{plain_expr_is}
-use Rattle.listing_text.proofs.ReadParts.{part_pushed, no_part, part_error, parts_end, inner_none, inner_some, nothing_in_front}
+use Rattle.listing_text.proofs.ReadParts.{part_pushed, no_part, part_error, parts_end, inner_none, inner_some}
 use Rattle.listing_text.proofs.reading.+places.Goals as goal
 
 pub inner_of-returns-then-depth-eq0 : goal.inner_of-returns-then-depth-eq0
