@@ -7,6 +7,7 @@ use Rattle.std.specs.List.{All, list_all}
 use Rattle.std.specs.declared.option.Option.{Option}
 use Rattle.std.specs.Io.KnownBytes.{Appends, Consumes, IsAtEnd, prepend_known}
 use Rattle.matrix_meaning.specs.declared.Request.{Request}
+use Rattle.matrix_meaning.specs.Valid.{IsInRange}
 use Rattle.icode.specs.Machine.{Code, State, results, runs}
 use Rattle.io_edge.specs.Faults.{HasCause, Reports}
 use Rattle.io_edge.specs.Feed.{Fed, limit}
@@ -192,6 +193,17 @@ performs_run request code old new (Some bytes) (Some rest) out out' first last (
         subst (AppendsPrefix out out') (same ∙ ap (lines (product request)) (sym s.answer.2)) s.wrote,
       );
     }
+
+pub performs_good : (request : Request) (code : Code) (old new : Fed) (before after out out' : Option (List ℕ)) (first last : State) (result : Result (Unit {0}) StreamFault)
+    → IsGoodCode request code → IsInRange request
+    → Streams (λ x. results code x []) (λ x. runs code x []) code.size code.modulus old new before after out out' first last result
+    → ToldPerforms command.Run request (limit - old.taken) before out out' (status_of_stream result)
+performs_good request code old new before after out out' first last result good in_range s =
+    let size : code.size ≡ request.size = ap (λ (k : Code). k.size) good.4 ∙ good.3.header.size in
+    let modulus : code.modulus ≡ request.modulus = ap (λ (k : Code). k.modulus) good.4 ∙ good.3.header.modulus in
+    let sized = subst (λ n. Streams (λ x. results code x []) (λ x. runs code x []) n code.modulus old new before after out out' first last result) size s in
+    let made = subst (λ n. Streams (λ x. results code x []) (λ x. runs code x []) request.size n old new before after out out' first last result) modulus sized in
+    performs_run request code old new before after out out' first last result good (omega (arith, in_range.modulus.0)) (omega (arith, in_range.size.0)) (omega (arith, in_range.procs.0)) made
 
 -- the faults of a run over the data, as statuses
 from_read : (fault : StreamFault) → status_of_fault fault ≡ ReadFault → fault ≡ stream.ReadFault
