@@ -279,11 +279,11 @@ accounts_after words bytes read rest taken wanted out out' status whole asked p 
             (elim found.1 [
               | inl refused ↦ inl (inr (record { value = wanted; before = requested_here; behind = inl (sym refused.0) }), refused.1)
               | inr settled ↦ inr (
-                  record { command = wanted.0; request = wanted.1; cost = settled.0 },
-                  record { value = wanted; before = requested_here; behind = record { value = settled.0; before = sym (ap priced settled.1); behind = refl } },
-                  subst (λ n. Settles wanted.0 wanted.1 settled.0 n (data_of bytes) status found.0) room
-                      (subst (λ b. Settles wanted.0 wanted.1 settled.0 (limit - taken) b status found.0) (sym data_here) settled.2),
-                )
+                record { command = wanted.0; request = wanted.1; cost = settled.0 },
+                record { value = wanted; before = requested_here; behind = record { value = settled.0; before = sym (ap priced settled.1); behind = refl } },
+                subst (λ n. Settles wanted.0 wanted.1 settled.0 n (data_of bytes) status found.0) room
+                    (subst (λ b. Settles wanted.0 wanted.1 settled.0 (limit - taken) b status found.0) (sym data_here) settled.2),
+              )
             ]),
             found.2,
           );

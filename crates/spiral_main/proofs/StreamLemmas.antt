@@ -133,8 +133,7 @@ pub stream_unwritten : (a c : Option (List ℕ)) (old new : Fed) (ended : Bool) 
     → 0 < size → (p : StreamProgress a c old.taken new.taken ended size modulus done vectors)
     → Reads size modulus old new p.bytes end vectors (Err WriteFault)
 stream_unwritten a c old new ended size modulus done vectors end some p =
-    let there : tokens p.bytes ≡ p.ts = ap tokens (sym (append-nil p.bytes)) ∙ p.are_tokens [] (λ _. refl) ∙ append-nil p.ts in
-    (
+    let there : tokens p.bytes ≡ p.ts = ap tokens (sym (append-nil p.bytes)) ∙ p.are_tokens [] (λ _. refl) ∙ append-nil p.ts in (
       p.taken,
       ap (list_all is_good) there ∙ p.good,
       ap (vectors_of size modulus) (there ∙ sym (append-nil p.ts)) ∙ p.splits [] ∙ ap (λ l. vectors ++ l) (vectors_few size modulus [] some) ∙ append-nil vectors,
@@ -301,8 +300,7 @@ answered size modulus old new read rest vectors (Err (BadNumber token)) s start 
     let taken = s.0 in
     let more = take (room - length read) rest in
     let found = s.1.1 more in
-    let l = link size modulus room (read ++ rest) (nat_lt room (length (read ++ rest))) (Some token) (read ++ more) refl (seen_front room read rest (omega arith)) found.0 in
-    (
+    let l = link size modulus room (read ++ rest) (nat_lt room (length (read ++ rest))) (Some token) (read ++ more) refl (seen_front room read rest (omega arith)) found.0 in (
       l.0 ∙ bad_any size (length (tokens (read ++ more))) token (nat_lt room (length (read ++ rest))),
       l.1 ∙ bad_vectors size modulus token (nat_lt room (length (read ++ rest))) (read ++ more) ∙ ap (vectors_of size modulus) found.1 ∙ s.1.2,
     )

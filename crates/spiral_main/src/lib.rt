@@ -12,3 +12,6 @@ pub use command::Command;
 pub use run::spiral_run;
 pub use status::Status;
 pub use stream::{StreamFault, run_stream};
+
+#[cfg(test)]
+mod tests;

@@ -244,22 +244,48 @@ pub(crate) fn write_note<E: Sink>(note: &mut E, status: Status) -> Result<(), Wr
         Status::Syntax { at } => note_number(note, b"spiral: syntax at byte ", at, b"\n"),
         Status::Range { field, value } => note_range(note, field, value),
         Status::Shape { size } => {
-            note_number(note, b"spiral: wht size ", size, b" is not a power of two\n")
+            note_number(
+                note,
+                b"spiral: wht size ",
+                size,
+                b" is not a power of two\n",
+            )
         }
         Status::LanesLine { lanes, line } => {
-            note_numbers(note, b"spiral: lanes ", lanes, b" do not divide line ", line, b"\n")
+            note_numbers(
+                note,
+                b"spiral: lanes ",
+                lanes,
+                b" do not divide line ",
+                line,
+                b"\n",
+            )
         }
         Status::Root { power } => {
             note_number(note, b"spiral: root to the size is ", power, b", not 1\n")
         }
         Status::OverBudget { cost, budget } => {
-            note_numbers(note, b"spiral: least cost ", cost, b" is over budget ", budget, b"\n")
+            note_numbers(
+                note,
+                b"spiral: least cost ",
+                cost,
+                b" is over budget ",
+                budget,
+                b"\n",
+            )
         }
         Status::BadNumber { token } => {
             note_number(note, b"spiral: token ", token, b" is not a number\n")
         }
         Status::Truncated { have, need } => {
-            note_numbers(note, b"spiral: input ends with ", have, b" of ", need, b" numbers\n")
+            note_numbers(
+                note,
+                b"spiral: input ends with ",
+                have,
+                b" of ",
+                need,
+                b" numbers\n",
+            )
         }
         Status::ReadFault => write_all(note, b"spiral: read failed\n"),
         Status::WriteFault => write_all(note, b"spiral: write failed\n"),
