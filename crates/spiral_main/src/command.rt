@@ -1,8 +1,6 @@
 // What the words ask for.
 ghost use Rattle.std.specs.Prelude.{◌≡◌, map, string_bytes};
 
-use crate::Status;
-
 /// A command of the program.
 #[derive(Clone, Copy, Debug, PartialEq, Eq)]
 pub enum Command {
@@ -15,14 +13,14 @@ pub enum Command {
 impl Command {
     ghost use Rattle.spiral_main.specs.Command.{command_of};
 
-    /// The command that the words name. They begin with the program's own name.
-    pub fn from_words(words: &Vec<String>) -> Result<Self, Status>
+    /// The command that the words name, if they are a command line. They begin with the program's own name.
+    pub fn from_words(words: &Vec<String>) -> Option<Self>
         ensures command { result ≡ command_of (map string_bytes words.now.items) }
     {
         match words.as_slice() {
-            [_, command] if command.as_str() == "run" => Ok(Command::Run),
-            [_, command] if command.as_str() == "code" => Ok(Command::Code),
-            _ => Err(Status::Usage),
+            [_, command] if command.as_str() == "run" => Some(Command::Run),
+            [_, command] if command.as_str() == "code" => Some(Command::Code),
+            _ => None,
         }
     }
 }

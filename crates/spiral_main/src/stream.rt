@@ -7,7 +7,7 @@ ghost use Rattle.spiral_main.specs.Stream.{Streams};
 
 use data_stream::{DataFault, Next, Vectors, write_vector};
 use io_edge::{Feed, Sink, Source, WriteFault};
-use par_machine::Machine;
+use par_machine::machine::Machine;
 
 /// Why a run over a stream ended before the stream.
 #[derive(Clone, Copy, Debug, PartialEq, Eq)]
@@ -53,6 +53,7 @@ impl From<WriteFault> for StreamFault {
 
 // Runs the machine on the vector, and puts the results in its place.
 fn transform(machine: &mut Machine, vector: &mut [u64])
+    requires some { 0 < length vector.old }
     requires size { length vector.old ≡ machine.old.code.size }
     requires residues { All (λ v. v < machine.old.code.modulus) vector.old }
     ensures vector { vector.new ≡ results machine.old.code vector.old [] }
@@ -60,15 +61,16 @@ fn transform(machine: &mut Machine, vector: &mut [u64])
     ensures code { machine.new.code ≡ machine.old.code }
 {
     machine.put(vector);
-    machine.finish();
     let first = machine.span() / 4;
+    machine.finish();
+    prove!(machine.span() == 4 * first);
     for place in 0..vector.len() {
         vector[place] = machine.word(first + place as u64);
     }
 }
 
 /// Runs the machine on each vector of the data, and writes the line of its results before it reads the next.
-/// The data go on where the feed stands. The slice is room for a vector.
+/// The data go on where the feed stands. The slice is room for a vector, which has at least one number.
 pub fn run_stream<I: Source, O: Sink>(
     machine: &mut Machine,
     feed: &mut Feed,
@@ -76,6 +78,7 @@ pub fn run_stream<I: Source, O: Sink>(
     output: &mut O,
     vector: &mut [u64],
 ) -> Result<(), StreamFault>
+    requires some { 0 < length vector.old }
     requires size { length vector.old ≡ machine.old.code.size }
     requires within { feed.old.taken ≤ limit }
 
@@ -92,7 +95,6 @@ pub fn run_stream<I: Source, O: Sink>(
     ensures write { Reports (O.faults output.old) (O.faults output.new) (IsErrOf result StreamFault.WriteFault) }
 {
     let modulus = machine.modulus();
-    machine.span();
     let mut vectors = Vectors::new(vector.len() as u64);
     while let Next::Vector = vectors.next(&modulus, feed, input, vector)? {
         transform(machine, vector);
