@@ -13,11 +13,10 @@ default_file (f ∷ files) (suc i) file lt e = default_file files i file (omega 
 pub clear_step : (files : List (List ℕ)) (i words : ℕ) (file new : List ℕ) → i < length files → file ≡ get_or files i file → new ≡ replicate (length file) 0 → take i files ≡ replicate i (replicate words 0) → ((q : ℕ) → q < length files → length (slice_index_or files q []) ≡ words) → (take (i + 1) (slice_set files i new) ≡ replicate (i + 1) (replicate words 0)) × ((q : ℕ) → q < length (slice_set files i new) → length (slice_index_or (slice_set files i new) q []) ≡ words)
 clear_step files i words file new lt e n so_far each =
     let z : List ℕ = replicate words 0 in
-    let v : new ≡ z = n ∙ ap (λ k. replicate k 0) (ap length (default_file files i file lt e) ∙ each i lt) in
-    (
+    let v : new ≡ z = n ∙ ap (λ k. replicate k 0) (ap length (default_file files i file lt e) ∙ each i lt) in (
       ap (λ f. take (i + 1) (slice_set files i f)) v ∙ (take-set_at files i (i + 1) z refl lt ∙ (ap (λ (xs : List (List ℕ)). xs ++ z ∷ []) so_far ∙ sym (replicate_next i z))),
       λ q q_lt. ⊎_elim
-      (λ (same : q ≡ i). subst (λ k. length (slice_index_or (slice_set files i new) k []) ≡ words) (sym same) (ap length (get_or-set_same files i new [] lt) ∙ (ap length v ∙ length-replicate {A = ℕ} words 0)))
-      (λ (ne : q ≡ i → ⊥). ap length (get_or-set_other files i q new [] ne) ∙ each q (omega (arith, length-set files i new)))
-      (cases_eq q i),
+          (λ (same : q ≡ i). subst (λ k. length (slice_index_or (slice_set files i new) k []) ≡ words) (sym same) (ap length (get_or-set_same files i new [] lt) ∙ (ap length v ∙ length-replicate {A = ℕ} words 0)))
+          (λ (ne : q ≡ i → ⊥). ap length (get_or-set_other files i q new [] ne) ∙ each q (omega (arith, length-set files i new)))
+          (cases_eq q i),
     )

@@ -65,13 +65,12 @@ nothing_left a past = completion_past (running_of a).code (is_code (frame_of a))
 
 pub next_left : (a : Inside) (q : ℕ) (r : Routine) → IsWhole a → a.phase < length a.phases.items → r ≡ get_or a.phases.items a.phase r → IsFirstLeft a.done.items r.len q → (q < a.shape.procs) × (completion (running_of a).code (running_of a).state ≡ q ∷ completion (running_of a).code (turn (running_of a).code (running_of a).state q))
 next_left a q r w here e first =
-    let inside : q < a.shape.procs = omega (arith, first.inside, w.running.dones) in
-    (
+    let inside : q < a.shape.procs = omega (arith, first.inside, w.running.dones) in (
       inside,
       completion_step (running_of a).code (is_code (frame_of a)) (running_of a).state q _ w.running.dones inside
-      (omega (arith, here, count_lists (frame_of a)))
-      (slice_get-get_or (acts (running_of a).code a.phase q) (slice_index a.done.items q) (Zero 0) (omega (arith, first.left, len_is a q r inside here e)))
-      (λ k lt. omega (arith, first.none_before k lt, len_is a k r (omega arith) here e)),
+          (omega (arith, here, count_lists (frame_of a)))
+          (slice_get-get_or (acts (running_of a).code a.phase q) (slice_index a.done.items q) (Zero 0) (omega (arith, first.left, len_is a q r inside here e)))
+          (λ k lt. omega (arith, first.none_before k lt, len_is a k r (omega arith) here e)),
     )
 
 pub some_left : (a : Inside) (r : Routine) → IsWhole a → a.phase < length a.phases.items → r ≡ get_or a.phases.items a.phase r → ((q : ℕ) → q < length a.done.items → r.len ≤ slice_index a.done.items q) → ⊥
@@ -178,8 +177,7 @@ done_fits a proc done action w lt e ed =
 pub closed_is : (a : Inside) (proc : ℕ) (action : Action) (r : Routine) (cursor : Position) → IsWhole a → proc < a.shape.procs → next_action (running_of a).code (running_of a).state proc ≡ Some action → r ≡ get_or a.phases.items a.phase r → cursor ≡ get_or a.cursors.items proc cursor → (cursor.at < length r.code.items) × All IsClosed r.code.items
 closed_is a proc action r cursor w lt e er ec =
     let left : slice_index a.done.items proc < length (acts (running_of a).code a.phase proc) = slice_get_within (acts (running_of a).code a.phase proc) (slice_index a.done.items proc) action e in
-    let h = here_is a proc r cursor w lt left er ec in
-    (
+    let h = here_is a proc r cursor w lt left er ec in (
       place_inside (frame_of a).header r.code.items proc cursor (has_place (frame_of a).header _ (hand_runs (frame_of a) (stand_of a) proc r cursor w.ready w.running h)),
       (routine_is (frame_of a) a.phase r w.ready h.phase er).closed,
     )

@@ -20,8 +20,9 @@ fn transpose(registers: &mut [u64], register: u64, source: u64, lanes: u64)
 {
     for row in 0..lanes {
         for lane in 0..lanes {
-            registers[((register + row) * lanes + lane) as usize] =
-                registers[((source + lane) * lanes + row) as usize];
+            registers[((register + row) * lanes + lane) as usize] = registers[((source + lane)
+                * lanes
+                + row) as usize];
         }
     }
 }

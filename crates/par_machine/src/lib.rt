@@ -7,8 +7,12 @@ mod cursor;
 mod effect;
 mod hand;
 mod lanes;
-pub mod machine;
+mod machine;
 mod make;
 mod phase;
 mod shape;
+#[cfg(test)]
+mod tests;
 mod words;
+
+pub use machine::{Machine, Turned};

@@ -133,12 +133,7 @@ impl Machine {
         let routine = &self.phases[self.phase as usize];
         let cursor = &mut self.cursors[proc as usize];
         cursor.advance(&routine.code);
-        self.phase = settle(
-            &self.phases,
-            self.phase,
-            &mut self.done,
-            &mut self.cursors,
-        );
+        self.phase = settle(&self.phases, self.phase, &mut self.done, &mut self.cursors);
     }
 
     /// Begins a run on this input: it stands in the first words, all else is 0 and nothing is done.

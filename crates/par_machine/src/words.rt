@@ -61,7 +61,7 @@ impl Words {
 
     /// Does the action on these registers and the memory.
     pub(crate) fn act(&mut self, shape: &Shape, action: &Action, memory: &mut Words)
-            requires file { length self.old ≡ shape.now.regs * shape.now.lanes }
+        requires file { length self.old ≡ shape.now.regs * shape.now.lanes }
         requires registers { RegistersFit shape.now.regs shape.now.lanes action.now }
         requires factors { FactorsFit shape.now.modulus action.now }
         requires address { AddressFits shape.now.lanes (length memory.old) action.now }

@@ -23,7 +23,7 @@ compile-requires t c =
       (
         omega (arith, parts.1),
         item_within c.args.modulus (c.args.depth + 1) c.loop-inner.inner-index c.deref-inner-items.result.now c.inner-item.result
-        (subst (λ (xs : List Stmt). is_body_within c.args.modulus (plain_body xs) (c.args.depth + 1) ≡ true) (sym items) parts.2) (omega arith) c.inner-item.is,
+            (subst (λ (xs : List Stmt). is_body_within c.args.modulus (plain_body xs) (c.args.depth + 1) ≡ true) (sym items) parts.2) (omega arith) c.inner-item.is,
       ),
     )
 
