@@ -3,9 +3,8 @@
 
 use io_edge::{ReadSource, WriteSink};
 use spiral_main::spiral_run;
-use std::env;
-use std::io;
 use std::process::ExitCode;
+use std::{env, io};
 
 // The program's name and what stands behind it.
 fn words(rt: &HostRuntime) -> io::Result<Vec<String>> {

@@ -20,7 +20,7 @@ use generate::{Product, generate};
 use io_edge::{Feed, Sink, Source, write_all};
 use listing_text::print_listing;
 use matrix_meaning::Request;
-use par_machine::machine::Machine;
+use par_machine::Machine;
 use std::alloc::Global;
 
 // A good program for the request.

@@ -7,7 +7,7 @@ ghost use Rattle.spiral_main.specs.Stream.{Streams};
 
 use data_stream::{DataFault, Next, Vectors, write_vector};
 use io_edge::{Feed, Sink, Source, WriteFault};
-use par_machine::machine::Machine;
+use par_machine::Machine;
 
 /// Why a run over a stream ended before the stream.
 #[derive(Clone, Copy, Debug, PartialEq, Eq)]
