@@ -1,13 +1,11 @@
 -- What kernels cost, by the costs of trees.
-use Rattle.std.proofs.Common.{◌≡◌, ◌≢◌, ℕ, ◌+◌, ◌*◌, ◌-◌, ◌/◌, ◌%◌, ◌<◌, ◌≤◌, Bool, true, false, inl, inr, refl, sym, ap, ap₂, ◌∙◌, arith, zero, suc, mul-le-mul_left}
+use Rattle.std.proofs.Common.{◌≡◌, ℕ, ◌+◌, ◌*◌, ◌-◌, ◌<◌, ◌≤◌, Bool, true, false, refl, sym, ap, ap₂, ◌∙◌, arith, zero, suc, mul-le-mul_left}
 use Rattle.std.specs.Prelude.{◌==◌, nat_le, if◌then◌else◌}
-use Rattle.std.proofs.lemmas.Bool.{cases_eq}
 use Rattle.std.proofs.lemmas.Bool.Decides.{nat_tests}
 use Rattle.matrix_meaning.specs.declared.Kind.{Kind}
 use Rattle.matrix_meaning.specs.declared.Kind.TheVariants.{Dft}
 use Rattle.matrix_meaning.specs.declared.Request.{Request}
 use Rattle.matrix_meaning.specs.Kind.{entry_of}
-use Rattle.operators.specs.Sum.{sum_below}
 use Rattle.operators.proofs.Sums.{sum_below-same}
 use Rattle.ring_mod.specs.Residue.{power_mod}
 use Rattle.ring_mod.proofs.Powers.{power_mod_of_power}
@@ -16,9 +14,9 @@ use Rattle.tree_model.specs.declared.tree.Rule.TheVariants.{Gt, Ct, Split}
 use Rattle.tree_model.specs.Breakdown.{Breakdown, leaf, node, size_of, IsWellFormed}
 use Rattle.tree_model.specs.Cost.{is_plain, is_kernel, cost_of, leaf_cost, node_root}
 use Rattle.tree_model.specs.Cost as trees
-use Rattle.tree_model.proofs.Sizes.{left_le, right_le, one_le_size_of}
+use Rattle.tree_model.proofs.Sizes.{one_le_size_of}
 use Rattle.tree_model.proofs.Splits.{div-product, below_product, other_below}
-use Rattle.kernel_gen.specs.Kernel.{product_cost, products_cost, rule_cost, kernel_cost}
+use Rattle.kernel_gen.specs.Kernel.{products_cost, rule_cost, kernel_cost}
 
 -- a kernel is short
 kernel-short : (c : Request) (d : ℕ) → is_kernel c d ≡ true → nat_le d c.unroll ≡ true

@@ -1,11 +1,11 @@
 -- The sizes of the trees that stand for a node of a request's transform.
-use Rattle.std.proofs.Common.{◌≡◌, ℕ, ◌%◌, ◌^◌, ◌<◌, ◌≤◌, inl, inr, sym, ◌∙◌, arith}
+use Rattle.std.proofs.Common.{◌≡◌, ℕ, ◌%◌, ◌<◌, ◌≤◌, inl, inr, arith}
 use Rattle.std.proofs.Math.Nat.{mod-eq_of_lt}
 use Rattle.std.proofs.lemmas.Bool.{cases_lt}
 use Rattle.matrix_meaning.specs.declared.Request.{Request}
 use Rattle.matrix_meaning.specs.Valid.{IsValid}
 use Rattle.tree_model.specs.Breakdown.{Breakdown, size_of, IsWellFormed, HasWordSizes}
-use Rattle.tree_model.proofs.Sizes.{one_le_size_of, word_sizes}
+use Rattle.tree_model.proofs.Sizes.{word_sizes}
 
 divisor-below : (n d : ℕ) → 0 < n → n % d ≡ 0 → d ≤ n
 divisor-below n d some divides =

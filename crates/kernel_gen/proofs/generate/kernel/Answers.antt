@@ -1,9 +1,9 @@
-use Rattle.std.proofs.Common.{◌≡◌, ◌^◌, ◌<◌, ap, ◌∙◌, arith, sym, subst}
+use Rattle.std.proofs.Common.{ap, ◌∙◌}
 use Rattle.operators.specs.Sum.{list_below}
 use Rattle.tree_model.specs.Breakdown.{breakdown_of}
 use Rattle.kernel_gen.proofs.Parts.{kernel_written}
 use Rattle.kernel_gen.proofs.RequestNodes.{written_for}
-use Rattle.kernel_gen.proofs.Sizes.{node_words, node_below}
+use Rattle.kernel_gen.proofs.Sizes.{node_words}
 use Rattle.kernel_gen.proofs.generate.kernel.Goals as goal
 
 pub returns-clause-code : goal.returns-clause-code
