@@ -1,5 +1,6 @@
 pub mod Formula
 pub mod Meaning
+pub mod Nesting
 pub mod Shape
 pub mod View
 pub mod Falls
