@@ -1,5 +1,4 @@
-ghost use Rattle.std.specs.Prelude.{◌≡◌, ◌<◌, ◌≤◌, IfOk, IfSome};
-ghost use Rattle.spl_ast.specs.Meaning.{IsVector};
+ghost use Rattle.std.specs.Prelude.{◌≡◌, ◌<◌, vec_len, All, IfOk, IfSome};
 
 use crate::expand;
 use matrix_meaning::{Kind, Request, times_plain};
@@ -55,13 +54,10 @@ fn node(rule: Rule, a: Box<Tree>, b: Box<Tree>) -> Tree {
 }
 
 fn vector(alloc: Global, m: &Modulus, size: u64) -> Result<Vec<u64>, NoMemory>
-    ensures { IfOk result (λ x. IsVector m.now size x.items) }
+    ensures size { IfOk result (λ x. vec_len x ≡ size) }
+    ensures residues { IfOk result (λ x. All (λ v. v < m.now) x.items) }
 {
-    let mut x = Vec::new(alloc);
-    for i in 0..size {
-        x.push(m.reduce(i ^ 5))?;
-    }
-    Ok(x)
+    Ok((0..size).map(|i| m.reduce(i ^ 5)).collect(alloc)?)
 }
 
 // The formula of a tree, where the request admits the tree, gives the plain sums.

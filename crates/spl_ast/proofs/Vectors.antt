@@ -10,7 +10,7 @@ use Rattle.operators.specs.Sum.{list_below}
 use Rattle.operators.proofs.Lists.{length-list_below, at-list_below, place_below, factor_positive}
 use Rattle.spl_ast.specs.Formula.{Formula, Identity, Fourier, Hadamard, Twiddles, Diagonal, Stride, Permutation, GoodThomasIn, GoodThomasOut, Product, TensorLeft, TensorRight, DirectSum, Pending, size_of}
 use Rattle.spl_ast.specs.Meaning.{apply, IsVector}
-use Rattle.spl_ast.specs.Shape.{IsShaped}
+use Rattle.spl_ast.specs.Shape.{IsShaped, IsSize}
 
 -- a shaped formula has a row
 pub shaped_size : (f : Formula) → IsShaped f → 0 < size_of f
@@ -28,6 +28,22 @@ shaped_size (TensorLeft a k) h = omega arith
 shaped_size (TensorRight k a) h = omega arith
 shaped_size (DirectSum a b) h = omega (arith, shaped_size a h.0)
 shaped_size (Pending a) h = shaped_size a h
+
+pub size_is_size : (f : Formula) → IsShaped f → IsSize (size_of f)
+size_is_size (Identity n) h = h
+size_is_size (Fourier n w) h = h.0
+size_is_size (Hadamard n) h = h.0
+size_is_size (Twiddles n s w) h = h.0
+size_is_size (Diagonal c) h = h.0
+size_is_size (Stride n r) h = h.0
+size_is_size (Permutation k) h = h.0
+size_is_size (GoodThomasIn r s) h = h.0
+size_is_size (GoodThomasOut r s) h = h.0
+size_is_size (Product a b) h = size_is_size a h.0
+size_is_size (TensorLeft a k) h = h.2
+size_is_size (TensorRight k a) h = h.2
+size_is_size (DirectSum a b) h = h.2
+size_is_size (Pending a) h = size_is_size a h
 
 pub residue_at : (m n : ℕ) (x : List ℕ) (i : ℕ) → IsVector m n x → i < n → slice_index x i < m
 residue_at m n x i v h = All-get_or (λ (r : ℕ). r < m) x i 0 (omega (arith, v.size)) v.residues

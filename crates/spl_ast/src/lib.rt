@@ -9,7 +9,7 @@ mod rewriting;
 
 ghost use Rattle.std.specs.Prelude.{◌≡◌};
 ghost use Rattle.spl_ast.specs.Formula.{size_of};
-ghost use Rattle.spl_ast.specs.Shape.{IsShaped};
+ghost use Rattle.spl_ast.specs.Shape.{IsShaped, IsSize};
 
 pub use distribute::Distribute;
 pub use memory::NoMemory;
@@ -83,8 +83,10 @@ impl Spl {
     pub const MAX_SIZE: u64 = 65536;
 
     /// The number of rows.
+    #[tactic(auto, using(crate::proofs::Vectors::size_is_size))]
     pub fn rows(&self) -> u64
         ensures value { result ≡ size_of self.now }
+        ensures size { IsSize result }
         ensures shaped { IsShaped self.now }
     {
         match &self.node {
@@ -104,6 +106,7 @@ impl Spl {
     /// The number of columns, which is that of rows.
     pub fn cols(&self) -> u64
         ensures value { result ≡ size_of self.now }
+        ensures size { IsSize result }
         ensures shaped { IsShaped self.now }
     {
         self.rows()
