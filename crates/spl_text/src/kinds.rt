@@ -61,7 +61,7 @@ pub fn hadamard(place: usize, n: u64) -> Result<Spl, Halt>
     Ok(Spl::hadamard(n))
 }
 
-#[tactic(auto, using(crate::proofs::Kinds::multiple))]
+#[tactic(auto, using(crate::proofs::Coprime::multiple))]
 pub fn twiddles(place: usize, n: u64, s: u64, w: u64) -> Result<Spl, Halt>
     requires size { IsSize n }
     requires row { IsSize s }
@@ -74,7 +74,7 @@ pub fn twiddles(place: usize, n: u64, s: u64, w: u64) -> Result<Spl, Halt>
     Ok(Spl::twiddles(n, s, w))
 }
 
-#[tactic(auto, using(crate::proofs::Kinds::multiple))]
+#[tactic(auto, using(crate::proofs::Coprime::multiple))]
 pub fn stride(place: usize, n: u64, r: u64) -> Result<Spl, Halt>
     requires size { IsSize n }
     requires stride { IsSize r }
@@ -130,7 +130,7 @@ fn first_stray(alloc: Global, places: &[u64]) -> Result<Option<u64>, NoMemory>
     Ok(None)
 }
 
-#[tactic(auto, using(crate::proofs::Kinds::coprime_is, crate::proofs::Kinds::factors_of))]
+
 pub fn good_thomas_in(place: usize, r: u64, s: u64) -> Result<Spl, Halt>
     requires first { IsSize r }
     requires second { IsSize s }
@@ -145,7 +145,7 @@ pub fn good_thomas_in(place: usize, r: u64, s: u64) -> Result<Spl, Halt>
     Ok(Spl::good_thomas_in(r, s))
 }
 
-#[tactic(auto, using(crate::proofs::Kinds::coprime_is, crate::proofs::Kinds::factors_of))]
+
 pub fn good_thomas_out(place: usize, r: u64, s: u64) -> Result<Spl, Halt>
     requires first { IsSize r }
     requires second { IsSize s }
@@ -161,7 +161,7 @@ pub fn good_thomas_out(place: usize, r: u64, s: u64) -> Result<Spl, Halt>
 }
 
 /// Whether a Good-Thomas step may have these factors.
-#[tactic(auto, using(crate::proofs::Kinds::coprime_is))]
+
 fn are_factors(r: u64, s: u64) -> bool
     requires first { IsSize r }
     requires second { IsSize s }
