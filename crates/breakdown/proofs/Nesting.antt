@@ -50,10 +50,12 @@ nesting_below : (c : Request) (t : Breakdown) (k : ℕ) → IsWellFormed c.kind 
 nesting_below c (leaf d) k tree below = omega (arith, nesting-leaf c.kind d (node_root c d))
 nesting_below c (node rule a b) zero tree below = absurd (omega (arith, one_le_size_of c.kind (node rule a b) tree))
 nesting_below c (node rule a b) (suc k) tree below =
-    omega (arith,
-    nesting-rule rule (size_of a) (size_of b) (node_root c (size_of a * size_of b)) (4 * k + 1) (expansion c a) (expansion c b) (omega arith)
-    (nesting_below c a k tree.1 (half_first (size_of a) (size_of b) k tree.0.right below))
-    (nesting_below c b k tree.2 (half_second (size_of a) (size_of b) k tree.0.left below)))
+    omega (
+      arith,
+      nesting-rule rule (size_of a) (size_of b) (node_root c (size_of a * size_of b)) (4 * k + 1) (expansion c a) (expansion c b) (omega arith)
+          (nesting_below c a k tree.1 (half_first (size_of a) (size_of b) k tree.0.right below))
+          (nesting_below c b k tree.2 (half_second (size_of a) (size_of b) k tree.0.left below)),
+    )
 
 pub printable : (c : Request) (t : Breakdown) → IsWellFormed c.kind t → size_of t ≤ 65536 → IsPrintable (expansion c t)
 printable c t tree small = record {

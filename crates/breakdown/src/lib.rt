@@ -53,13 +53,7 @@ fn formula(alloc: Global, c: &Ctx, t: &Tree) -> Result<Spl, NoMemory>
 
 // The formula of a node, from the trees of its parts.
 #[cycle(formula)]
-fn node_formula(
-    alloc: Global,
-    c: &Ctx,
-    rule: Rule,
-    a: &Tree,
-    b: &Tree,
-) -> Result<Spl, NoMemory>
+fn node_formula(alloc: Global, c: &Ctx, rule: Rule, a: &Tree, b: &Tree) -> Result<Spl, NoMemory>
     requires tree { IsWellFormed c.now.kind (node rule (breakdown_of a.now) (breakdown_of b.now)) }
     requires divides { c.now.size % (size_of (breakdown_of a.now) * size_of (breakdown_of b.now)) ≡ 0 }
     ensures { IfOk result (λ f. f ≡ expansion c.now (node rule (breakdown_of a.now) (breakdown_of b.now))) }
