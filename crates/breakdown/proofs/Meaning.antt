@@ -4,13 +4,13 @@ use Rattle.std.specs.Prelude.{slice_index}
 use Rattle.std.proofs.Math.Nat.{pow-zero, one-mul}
 use Rattle.ring_mod.specs.Residue.{power_mod}
 use Rattle.ring_mod.proofs.Powers.{power_mod_of_power}
-use Rattle.operators.specs.Operator.{Operator, gather, scale, column, block, on_columns, on_blocks, stride}
+use Rattle.operators.specs.Operator.{Operator, gather, scale, column, block, on_columns, on_blocks, stride, good_thomas_in, good_thomas_out}
 use Rattle.operators.proofs.Lists.{list_below-same}
 use Rattle.matrix_meaning.specs.declared.Kind.{Kind}
 use Rattle.matrix_meaning.specs.declared.Kind.TheVariants.{Dft, Wht}
 use Rattle.matrix_meaning.specs.declared.Request.{Request}
 use Rattle.matrix_meaning.specs.Kind.{transform, IsPowerOfTwo}
-use Rattle.matrix_meaning.specs.Laws.{twiddle, good_thomas_in, good_thomas_out, CooleyTukey, GoodThomas, Split as SplitLaw}
+use Rattle.matrix_meaning.specs.Laws.{twiddle, CooleyTukey, GoodThomas, Split as SplitLaw}
 use Rattle.matrix_meaning.specs.Valid.{IsValid, HasRoot}
 use Rattle.tree_model.specs.declared.tree.Rule.{Rule}
 use Rattle.tree_model.specs.declared.tree.Rule.TheVariants.{Gt, Ct, Split}

@@ -4,13 +4,13 @@ use Rattle.std.specs.List.{between}
 use Rattle.std.proofs.lemmas.List.{length-take-le}
 use Rattle.std.proofs.lemmas.Nat.{row_fits}
 use Rattle.operators.specs.Identities.{turn}
-use Rattle.operators.specs.Operator.{Operator, block, gather, on_blocks, on_columns, stride}
+use Rattle.operators.specs.Operator.{Operator, gather, on_blocks, on_columns, stride}
 use Rattle.operators.proofs.Lists.{length-list_below}
 use Rattle.operators.proofs.Places.{on_blocks_more, between-block, on_columns-turned, stride_below}
 use Rattle.spl_ast.specs.Formula.{Formula, Identity, Fourier, Hadamard, Twiddles, Diagonal, Stride, Permutation, GoodThomasIn, GoodThomasOut, Product, TensorLeft, TensorRight, DirectSum, Pending, size_of}
 use Rattle.spl_ast.specs.Meaning.{apply, IsVector}
 use Rattle.spl_ast.specs.Shape.{IsShaped, IsMultiple}
-use Rattle.spl_ast.proofs.Vectors.{apply_vector, list_vector, residue_at, shaped_size}
+use Rattle.spl_ast.proofs.Vectors.{list_vector, residue_at}
 
 -- the length of a result depends on the length alone
 pub length-apply : (m : ℕ) (f : Formula) (x : List ℕ) → IsShaped f → length x ≡ size_of f → length (apply m f x) ≡ size_of f

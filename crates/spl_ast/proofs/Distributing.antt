@@ -1,13 +1,13 @@
 -- Tensors distribute over products.
-use Rattle.std.proofs.Common.{◌≡◌, ℕ, ◌+◌, ◌*◌, ◌/◌, ◌%◌, ◌<◌, ◌≤◌, List, ◌∙◌, refl, sym, subst, arith, length, ap, ap₂}
+use Rattle.std.proofs.Common.{◌≡◌, ℕ, ◌*◌, ◌/◌, ◌%◌, ◌<◌, ◌≤◌, List, ◌∙◌, refl, sym, subst, arith, ap}
 use Rattle.std.specs.Prelude.{slice_index}
 use Rattle.std.proofs.lemmas.List.FromFn.{fill_by_all}
 use Rattle.std.proofs.lemmas.Nat.{mod_below, div_below}
-use Rattle.operators.specs.Operator.{Operator, column, block, on_columns, on_blocks}
+use Rattle.operators.specs.Operator.{column, block, on_columns, on_blocks}
 use Rattle.operators.proofs.Lists.{length-list_below, list_below-same, at-on_columns, at-on_blocks}
 use Rattle.spl_ast.specs.Distribution.{tensor_weight}
 use Rattle.spl_ast.specs.Formula.{Formula, Product, TensorLeft, TensorRight, size_of}
-use Rattle.spl_ast.specs.Meaning.{apply, IsVector, IsSameMatrix}
+use Rattle.spl_ast.specs.Meaning.{apply, IsSameMatrix}
 use Rattle.spl_ast.specs.Rewriting.{Fires}
 use Rattle.spl_ast.specs.Shape.{IsShaped}
 use Rattle.spl_ast.proofs.Blocks.{length-apply}

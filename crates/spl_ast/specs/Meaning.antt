@@ -2,8 +2,8 @@
 use Rattle.std.specs.Prelude.{◌≡◌, ℕ, ◌*◌, ◌/◌, ◌<◌, List, ◌++◌, length, slice_index, take, drop, All}
 use Rattle.matrix_meaning.specs.declared.Kind.TheVariants.{Dft, Wht}
 use Rattle.matrix_meaning.specs.Kind.{transform}
-use Rattle.matrix_meaning.specs.Laws.{twiddle, good_thomas_in, good_thomas_out}
-use Rattle.operators.specs.Operator.{Operator, gather, scale, on_columns, on_blocks, stride}
+use Rattle.matrix_meaning.specs.Laws.{twiddle}
+use Rattle.operators.specs.Operator.{Operator, gather, scale, on_columns, on_blocks, stride, good_thomas_in, good_thomas_out}
 use Rattle.spl_ast.specs.Formula.{Formula, Identity, Fourier, Hadamard, Twiddles, Diagonal, Stride, Permutation, GoodThomasIn, GoodThomasOut, Product, TensorLeft, TensorRight, DirectSum, Pending, size_of}
 
 -- the matrix of a formula, times a list

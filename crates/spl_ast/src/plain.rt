@@ -3,9 +3,9 @@
 ghost use Rattle.std.specs.Prelude.{◌≡◌, ℕ, ◌+◌, ◌*◌, ◌/◌, ◌%◌, ◌<◌, ◌≤◌, length, slice_index, IfOk};
 ghost use Rattle.matrix_meaning.specs.declared.Kind.TheVariants.{Dft, Wht};
 ghost use Rattle.matrix_meaning.specs.Kind.{transform};
-ghost use Rattle.matrix_meaning.specs.Laws.{twiddle, good_thomas_in, good_thomas_out};
+ghost use Rattle.matrix_meaning.specs.Laws.{twiddle};
 ghost use Rattle.operators.specs.Identities.{turn};
-ghost use Rattle.operators.specs.Operator.{gather, on_blocks, on_columns, scale, stride};
+ghost use Rattle.operators.specs.Operator.{gather, on_blocks, on_columns, scale, stride, good_thomas_in, good_thomas_out};
 ghost use Rattle.ring_mod.specs.Residue.{power_mod};
 ghost use Rattle.spl_ast.specs.Formula.{size_of};
 ghost use Rattle.spl_ast.specs.Meaning.{apply, IsVector};

@@ -1,3 +1,4 @@
 pub mod Bounds
 pub mod Coprime
 pub mod Judging
+pub mod Strays

@@ -1,5 +1,5 @@
 // The numbers behind the head of a part, up to its closing parenthesis.
-ghost use Rattle.std.specs.Prelude.{◌≡◌, ℕ, ◌^◌, Ok, All, IfOk, codes};
+ghost use Rattle.std.specs.Prelude.{◌≡◌, ℕ, ◌^◌, ◌<◌, length, Ok, All, IfOk, codes};
 ghost use Rattle.grammar.specs.Cursor.{Gives, Tells};
 ghost use Rattle.grammar.specs.Reading.{all_at, named_number_at};
 ghost use Rattle.grammar.proofs.Loop.{in_front};
@@ -83,6 +83,7 @@ pub fn sizes_value(cursor: &mut Cursor) -> Result<(u64, u64, u64), Stuck>
 /// One ring value or more.
 pub fn values(alloc: Global, cursor: &mut Cursor) -> Result<Vec<u64>, ReadError>
     ensures gives { Tells (λ v. v.items) result cursor.new (values_at cursor.old) }
+    ensures some { IfOk result (λ v. 0 < length v.items) }
     ensures values { IfOk result (λ v. All IsRingValue v.items) }
 {
     let first = value(cursor)?;

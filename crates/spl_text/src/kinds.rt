@@ -1,7 +1,7 @@
 // A part of each kind, from what was read of it, or its fault.
 ghost use Rattle.std.specs.Prelude.{◌≡◌, ℕ, ◌<◌, ◌≤◌, ◌↔◌, length, List, [], All, IsTrue, IfOk, Option, None};
 ghost use Rattle.spl_ast.specs.Formula.{Identity, Fourier, Hadamard, Twiddles, Diagonal, Stride, Permutation, GoodThomasIn, GoodThomasOut, Product, TensorLeft, TensorRight, DirectSum};
-ghost use Rattle.spl_ast.specs.Shape.{IsSize, IsRingValue};
+ghost use Rattle.spl_ast.specs.Shape.{IsSize, IsRingValue, AreGoodThomasFactors};
 ghost use Rattle.spl_text.specs.Answer.{Judged};
 ghost use Rattle.spl_text.specs.declared.reading.Halt.TheVariants as halts;
 ghost use Rattle.spl_text.specs.Fault.{are_coprime, first_stray};
@@ -116,10 +116,7 @@ pub fn permutation(alloc: Global, place: usize, places: Vec<u64>) -> Result<Spl,
 fn first_stray(alloc: Global, places: &[u64]) -> Result<Option<u64>, NoMemory>
     ensures { IfOk result (λ stray. stray ≡ first_stray (length places.now) [] places.now) }
 {
-    let mut seen = Vec::new(alloc);
-    for _ in 0..places.len() {
-        seen.push(false)?;
-    }
+    let mut seen: Vec<bool> = (0..places.len()).map(|_| false).collect(alloc)?;
     for i in 0..places.len() {
         let place = places[i];
         if place >= places.len() as u64 || seen[place as usize] {
@@ -129,7 +126,6 @@ fn first_stray(alloc: Global, places: &[u64]) -> Result<Option<u64>, NoMemory>
     }
     Ok(None)
 }
-
 
 pub fn good_thomas_in(place: usize, r: u64, s: u64) -> Result<Spl, Halt>
     requires first { IsSize r }
@@ -161,13 +157,19 @@ pub fn good_thomas_out(place: usize, r: u64, s: u64) -> Result<Spl, Halt>
 }
 
 /// Whether a Good-Thomas step may have these factors.
-
 fn are_factors(r: u64, s: u64) -> bool
     requires first { IsSize r }
     requires second { IsSize s }
-    ensures { result ≡ are_coprime r s }
+    ensures value { result ≡ are_coprime r s }
+    ensures factors { IsTrue result → AreGoodThomasFactors r s }
 {
-    r >= 2 && s >= 2 && is_coprime(r, s)
+    if r < 2 {
+        return false;
+    }
+    if s < 2 {
+        return false;
+    }
+    is_coprime(r, s)
 }
 
 pub fn product(alloc: Global, place: usize, a: Spl, b: Spl) -> Result<Spl, Halt>

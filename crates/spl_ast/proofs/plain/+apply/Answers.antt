@@ -1,10 +1,8 @@
-use Rattle.std.proofs.Common.{◌*◌, ap, ◌∙◌, refl, rules, subst, sym}
+use Rattle.std.proofs.Common.{◌*◌, ◌∙◌, refl, rules}
 use Rattle.std.proofs.Math.Nat.{mul_comm}
 use Rattle.operators.proofs.Lists.{length-list_below}
-use Rattle.operators.proofs.Places.{on_columns-turned}
 use Rattle.spl_ast.specs.Formula.{size_of}
 use Rattle.spl_ast.specs.Meaning.{apply}
-use Rattle.spl_ast.specs.View.{formula_of}
 use Rattle.spl_ast.proofs.Blocks.{blocks_more, block_inside, columns_from_turns, turned_vector}
 use Rattle.spl_ast.proofs.plain.+apply.Goals as goal
 
