@@ -36,14 +36,12 @@ all_push xs v h k = grind (arith, common_steps)
 
 -- ---- the first of the values, and those behind it
 
-same_list : (xs v : List ℕ) (p next : Place ℕ) → (let r : Result (List ℕ × Place ℕ) ℕ = Ok (xs, p) in r ≡ Ok (v, next)) → xs ≡ v
-same_list xs v p next h = cc
-
-same_place : (xs v : List ℕ) (p next : Place ℕ) {others : List ℕ} → (let r : Result (List ℕ × Place ℕ) ℕ = Ok (xs, p) in r ≡ Ok (v, next)) → (let r : Result (List ℕ × Place ℕ) ℕ = Ok (others, p) in r ≡ Ok (others, next))
-same_place xs v p next {others} h = let e : p ≡ next = cc in ap (λ q. Ok (others, q)) e
+same_pair : (x y : List ℕ × Place ℕ) → (let r : Result (List ℕ × Place ℕ) ℕ = Ok x in r ≡ Ok y) → x ≡ y
+same_pair x y h = cc
 
 in_front_ok : (first : ℕ) (r : Result (List ℕ × Place ℕ) ℕ) (v : List ℕ) (next : Place ℕ) → in_front (first ∷ []) r ≡ Ok (v, next) → (others : List ℕ) × (r ≡ Ok (others, next)) × (v ≡ first ∷ others)
-in_front_ok first (Ok x) v next e = (x.0, same_place (first ∷ x.0) v x.1 next {others = x.0} e, sym (same_list (first ∷ x.0) v x.1 next e))
+in_front_ok first (Ok x) v next e =
+    let both = same_pair (first ∷ x.0, x.1) (v, next) e in (x.0, ap (λ q. Ok (x.0, q.1)) both, sym (ap (λ q. q.0) both))
 in_front_ok first (Err left) v next e = absurd cc
 
 -- numbers that were read behind a first one, and the parenthesis behind them

@@ -1,8 +1,10 @@
 -- The first entry of a list that is no place of it or stood before.
-use Rattle.std.proofs.Common.{◌≡◌, ℕ, zero, suc, ◌+◌, ◌<◌, ◌≤◌, Bool, true, false, cond, not, ◌&&◌, ◌||◌, eqb, ltb, ◌≢◌, ◌⊎◌, inl, inr, List, [], ◌∷◌, ◌++◌, take, drop, length, get_or, set, Option, Some, None, refl, sym, ap, ap₂, subst, arith, ◌∙◌, add-one, drop-cons, append_assoc}
+use Rattle.std.proofs.Common.{◌≡◌, ℕ, zero, suc, ◌+◌, ◌<◌, ◌≤◌, Bool, true, false, cond, not, ◌&&◌, ◌||◌, eqb, ltb, ◌≢◌, ◌⊎◌, inl, inr, List, [], ◌∷◌, ◌++◌, map, take, drop, length, get_or, set, Option, Some, None, refl, sym, ap, ap₂, subst, arith, ◌∙◌, add-one, drop-cons, append_assoc}
 use Rattle.std.proofs.lemmas.Bool.{eq-eqb, eqb-true, lt-ltb, ltb-true, cases_lt}
 use Rattle.std.proofs.Math.Seq.{take-suc}
-use Rattle.std.proofs.lemmas.List.{get_or-set_same, get_or-set_other, length-append}
+use Rattle.std.proofs.lemmas.List.{get_or-set_same, get_or-set_other, length-set, drop_all}
+use Rattle.std.specs.List.{range_with_len}
+use Rattle.std.proofs.lemmas.List.FromFn.{get_or-map-range_with_len, length-map-range_with_len}
 use Rattle.spl_ast.specs.Shape.{IsPermutation}
 use Rattle.spl_text.specs.Fault.{is_among, first_stray}
 
@@ -124,3 +126,31 @@ seen_later n i ks seen h long low known v below =
         apart : true ≡ false → ⊥
         apart h = cc
 
+
+pub stray_none : (n i : ℕ) (ks : List ℕ) (stray : Option ℕ) → length ks ≤ i → first_stray n (take i ks) (drop i ks) ≡ stray → None ≡ stray
+unfolding first_stray
+stray_none n i ks stray h so_far = ap (first_stray n (take i ks)) (sym (drop_all i ks h)) ∙ so_far
+
+pub stray_large : (n i : ℕ) (ks : List ℕ) (stray : Option ℕ) → i < length ks → n ≤ get_or ks i 0 → first_stray n (take i ks) (drop i ks) ≡ stray → Some (get_or ks i 0) ≡ stray
+stray_large n i ks stray h large so_far =
+    stray_here n i ks stray h (ap (λ b. b && not (is_among (get_or ks i 0) (take i ks))) (le-ltb-false (get_or ks i 0) n large)) so_far
+  where
+    le-ltb-false : (a b : ℕ) → b ≤ a → ltb a b ≡ false
+    le-ltb-false a b h = by_test (ltb a b) refl
+      where
+        by_test : (t : Bool) → ltb a b ≡ t → ltb a b ≡ false
+        by_test false e = e
+        by_test true e = let low : a < b = ltb-true a b e in absurd (omega arith)
+
+pub stray_twice : (n i : ℕ) (ks : List ℕ) (stray : Option ℕ) → i < length ks → is_among (get_or ks i 0) (take i ks) ≡ true → first_stray n (take i ks) (drop i ks) ≡ stray → Some (get_or ks i 0) ≡ stray
+stray_twice n i ks stray h twice so_far = stray_here n i ks stray h (ap (λ b. ltb (get_or ks i 0) n && not b) twice ∙ and_false (ltb (get_or ks i 0) n)) so_far
+  where
+    and_false : (b : Bool) → (b && false) ≡ false
+    and_false true = refl
+    and_false false = refl
+
+pub unmarked_known : (n v : ℕ) (marks : List Bool) → v < n → marks ≡ map (λ _. false) (range_with_len 0 n) → get_or marks v false ≡ false
+unmarked_known n v marks h e = ap (λ m. get_or m v false) e ∙ get_or-map-range_with_len (λ _. false) 0 n v v false h (omega arith)
+
+pub unmarked_long : (n : ℕ) (marks : List Bool) → marks ≡ map (λ _. false) (range_with_len 0 n) → length marks ≡ n
+unmarked_long n marks e = ap length e ∙ length-map-range_with_len (λ _. false) 0 n

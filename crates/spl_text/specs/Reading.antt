@@ -26,48 +26,42 @@ two_formulas_by read make = do
   _ ← plain close_at
   plain (pure_at (make a b))
 
--- what stands behind the head of a part, where its formulas are read so
-abbrev pub arguments_by : (Place ℕ → Result (Formula × Place ℕ) (Stop TextFault)) → Head → Place ℕ → Result (Formula × Place ℕ) (Stop TextFault)
-arguments_by read head.I = do
-  n ← plain one_size_at
-  plain (pure_at (Identity n))
-arguments_by read head.Dft = do
-  x ← plain size_value_at
-  plain (pure_at (Fourier x.0 x.1))
-arguments_by read head.Wht = do
-  n ← plain one_size_at
-  plain (pure_at (Hadamard n))
-arguments_by read head.T = do
-  x ← plain sizes_value_at
-  plain (pure_at (Twiddles x.0 x.1 x.2))
-arguments_by read head.Diag = do
-  c ← plain values_at
-  plain (pure_at (Diagonal c))
-arguments_by read head.L = do
-  x ← plain two_sizes_at
-  plain (pure_at (Stride x.0 x.1))
-arguments_by read head.Perm = do
-  k ← plain values_at
-  plain (pure_at (Permutation k))
-arguments_by read head.GtIn = do
-  x ← plain two_sizes_at
-  plain (pure_at (GoodThomasIn x.0 x.1))
-arguments_by read head.GtOut = do
-  x ← plain two_sizes_at
-  plain (pure_at (GoodThomasOut x.0 x.1))
-arguments_by read head.Times = two_formulas_by read Product
-arguments_by read head.Left = do
+abbrev pub tensor_left_by : (Place ℕ → Result (Formula × Place ℕ) (Stop TextFault)) → Place ℕ → Result (Formula × Place ℕ) (Stop TextFault)
+tensor_left_by read = do
   a ← read
   _ ← plain comma_at
   k ← plain factor_at
   _ ← plain close_at
   plain (pure_at (TensorLeft a k))
-arguments_by read head.Right = do
+
+abbrev pub tensor_right_by : (Place ℕ → Result (Formula × Place ℕ) (Stop TextFault)) → Place ℕ → Result (Formula × Place ℕ) (Stop TextFault)
+tensor_right_by read = do
   k ← plain factor_at
   _ ← plain comma_at
   a ← read
   _ ← plain close_at
   plain (pure_at (TensorRight k a))
+
+-- a part made of numbers
+abbrev pub made_at : {A : Type 0} → (Place ℕ → Result (A × Place ℕ) ℕ) → (A → Formula) → Place ℕ → Result (Formula × Place ℕ) (Stop TextFault)
+made_at read make = do
+  x ← plain read
+  plain (pure_at (make x))
+
+-- what stands behind the head of a part, where its formulas are read so
+abbrev pub arguments_by : (Place ℕ → Result (Formula × Place ℕ) (Stop TextFault)) → Head → Place ℕ → Result (Formula × Place ℕ) (Stop TextFault)
+arguments_by read head.I = made_at one_size_at Identity
+arguments_by read head.Dft = made_at size_value_at (λ x. Fourier x.0 x.1)
+arguments_by read head.Wht = made_at one_size_at Hadamard
+arguments_by read head.T = made_at sizes_value_at (λ x. Twiddles x.0 x.1 x.2)
+arguments_by read head.Diag = made_at values_at Diagonal
+arguments_by read head.L = made_at two_sizes_at (λ x. Stride x.0 x.1)
+arguments_by read head.Perm = made_at values_at Permutation
+arguments_by read head.GtIn = made_at two_sizes_at (λ x. GoodThomasIn x.0 x.1)
+arguments_by read head.GtOut = made_at two_sizes_at (λ x. GoodThomasOut x.0 x.1)
+arguments_by read head.Times = two_formulas_by read Product
+arguments_by read head.Left = tensor_left_by read
+arguments_by read head.Right = tensor_right_by read
 arguments_by read head.Sum = two_formulas_by read DirectSum
 
 -- the parenthesis before this place is one too many

