@@ -59,6 +59,7 @@ none_twice n before (k ∷ ks) e zero (suc j) lt h same =
     or_true : (b : Bool) → (b || true) ≡ true
     or_true true = refl
     or_true false = refl
+
     apart : true ≡ false → ⊥
     apart h = cc
 none_twice n before (k ∷ ks) e (suc i) (suc j) lt h same = none_twice n (before ++ k ∷ []) ks (test_of n k before ks e).2 i j (omega arith) (omega arith) same
@@ -110,9 +111,11 @@ seen_later n i ks seen h long low known v below =
     or_true : (b : Bool) → (b || true) ≡ true
     or_true true = refl
     or_true false = refl
+
     or_none : (b : Bool) → (b || false) ≡ b
     or_none true = refl
     or_none false = refl
+
     by_test : (b : Bool) → eqb (get_or ks i 0) v ≡ b → get_or (set seen (get_or ks i 0) true) v false ≡ (is_among v (take i ks) || eqb (get_or ks i 0) v)
     by_test true e =
         ap (get_or (set seen (get_or ks i 0) true) v) refl
@@ -125,7 +128,6 @@ seen_later n i ks seen h long low known v below =
       where
         apart : true ≡ false → ⊥
         apart h = cc
-
 
 pub stray_none : (n i : ℕ) (ks : List ℕ) (stray : Option ℕ) → length ks ≤ i → first_stray n (take i ks) (drop i ks) ≡ stray → None ≡ stray
 unfolding first_stray

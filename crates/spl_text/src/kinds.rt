@@ -152,7 +152,6 @@ pub fn good_thomas_in(place: usize, r: u64, s: u64) -> Result<Spl, Halt>
     Ok(Spl::good_thomas_in(r, s))
 }
 
-
 pub fn good_thomas_out(place: usize, r: u64, s: u64) -> Result<Spl, Halt>
     requires first { IsSize r }
     requires second { IsSize s }

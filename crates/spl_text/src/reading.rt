@@ -11,8 +11,7 @@ ghost use Rattle.spl_text.specs.declared.reading.Halt.TheVariants as halts;
 ghost use Rattle.spl_text.specs.declared.reading.SplFault.TheVariants as faults;
 
 use crate::arguments::factor;
-use crate::kinds;
-use crate::parts;
+use crate::{kinds, parts};
 use grammar::{Cursor, ReadError, Stuck};
 use memory::NoMemory;
 use spl_ast::Spl;
