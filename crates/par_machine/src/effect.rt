@@ -1,11 +1,12 @@
 // What an action does.
 
 ghost use Rattle.std.specs.Prelude.{◌≡◌, ℕ, ◌+◌, ◌*◌, ◌<◌, ◌≤◌, ◌⊎◌, length, slice_index};
-ghost use Rattle.icode.specs.Machine.{effect, transposed, with_words};
+ghost use Rattle.icode.specs.Machine.{effect, lane_by_lane, transposed, with_words, words_at};
 ghost use Rattle.icode.specs.Actions.{RegistersFit, FactorsFit};
-ghost use Rattle.par_machine.specs.Operation.{AddressFits};
+ghost use Rattle.par_machine.specs.Operation.{AddressFits, operated};
+ghost use Rattle.par_machine.specs.declared.arithmetic.Operation.TheVariants.{Product};
 
-use crate::arithmetic::{Operation, combine};
+use crate::arithmetic::{Operation, combine, operate};
 use crate::lanes::{read_lanes, write_lanes};
 use icode::action::{Action, MAX_LANES};
 use ring_mod::Modulus;
@@ -25,6 +26,78 @@ fn transpose(registers: &mut [u64], register: u64, source: u64, lanes: u64)
                 + row) as usize];
         }
     }
+}
+
+/// Copies the words of each lane.
+fn copy_lanes(from: &[u64], at: u64, to: &mut [u64], place: u64, lanes: u64)
+    requires lanes { lanes ≤ 16 }
+    requires from { at + lanes ≤ length from.now }
+    requires to { place + lanes ≤ length to.old }
+    ensures { to.new ≡ with_words to.old place (words_at lanes from.now at) }
+{
+    if lanes == 1 {
+        to[place as usize] = from[at as usize];
+        return;
+    }
+    let values = read_lanes(from, at, lanes);
+    write_lanes(to, place, &values, lanes);
+}
+
+/// The operation on two registers, whose words begin at these places.
+fn combine_registers(
+    operation: Operation,
+    modulus: Modulus,
+    lanes: u64,
+    registers: &mut [u64],
+    place: u64,
+    left: u64,
+    right: u64,
+)
+    requires lanes { lanes ≤ 16 }
+    requires place { place + lanes ≤ length registers.old }
+    requires left { left + lanes ≤ length registers.old }
+    requires right { right + lanes ≤ length registers.old }
+    requires residues { (k : ℕ) → slice_index registers.old k < modulus }
+    ensures { registers.new ≡ with_words registers.old place (lane_by_lane (operated operation modulus) (words_at lanes registers.old left) (words_at lanes registers.old right)) }
+{
+    if lanes == 1 {
+        registers[place as usize] = operate(
+            operation,
+            modulus,
+            registers[left as usize],
+            registers[right as usize],
+        );
+        return;
+    }
+    let x = read_lanes(registers, left, lanes);
+    let y = read_lanes(registers, right, lanes);
+    let values = combine(operation, modulus, lanes, &x, &y);
+    write_lanes(registers, place, &values, lanes);
+}
+
+/// Multiplies a register, whose words begin at `source`, by the factors of the lanes.
+fn scale_register(
+    modulus: Modulus,
+    lanes: u64,
+    registers: &mut [u64],
+    place: u64,
+    source: u64,
+    factors: &[u64; MAX_LANES],
+)
+    requires lanes { lanes ≤ 16 }
+    requires place { place + lanes ≤ length registers.old }
+    requires source { source + lanes ≤ length registers.old }
+    requires residues { (k : ℕ) → slice_index registers.old k < modulus }
+    requires factors { (k : ℕ) → slice_index factors.now k < modulus }
+    ensures { registers.new ≡ with_words registers.old place (lane_by_lane (operated Product modulus) (words_at lanes registers.old source) factors.now) }
+{
+    if lanes == 1 {
+        registers[place as usize] = modulus.mul(registers[source as usize], factors[0]);
+        return;
+    }
+    let x = read_lanes(registers, source, lanes);
+    let values = combine(Operation::Product, modulus, lanes, &x, factors);
+    write_lanes(registers, place, &values, lanes);
 }
 
 /// Does the action on the memory and one processor's registers.
@@ -47,12 +120,10 @@ pub(crate) fn apply(
 {
     match action {
         Action::Load { register, address } => {
-            let values = read_lanes(memory, *address, lanes);
-            write_lanes(registers, *register * lanes, &values, lanes);
+            copy_lanes(memory, *address, registers, *register * lanes, lanes);
         }
         Action::Store { address, register } => {
-            let values = read_lanes(registers, *register * lanes, lanes);
-            write_lanes(memory, *address, &values, lanes);
+            copy_lanes(registers, *register * lanes, memory, *address, lanes);
         }
         Action::Zero { register } => {
             write_lanes(registers, *register * lanes, &[0; MAX_LANES], lanes);
@@ -62,20 +133,32 @@ pub(crate) fn apply(
             left,
             right,
         } => {
-            let x = read_lanes(registers, *left * lanes, lanes);
-            let y = read_lanes(registers, *right * lanes, lanes);
-            let values = combine(Operation::Sum, modulus, lanes, &x, &y);
-            write_lanes(registers, *register * lanes, &values, lanes);
+            let place = *register * lanes;
+            combine_registers(
+                Operation::Sum,
+                modulus,
+                lanes,
+                registers,
+                place,
+                *left * lanes,
+                *right * lanes,
+            );
         }
         Action::Sub {
             register,
             left,
             right,
         } => {
-            let x = read_lanes(registers, *left * lanes, lanes);
-            let y = read_lanes(registers, *right * lanes, lanes);
-            let values = combine(Operation::Difference, modulus, lanes, &x, &y);
-            write_lanes(registers, *register * lanes, &values, lanes);
+            let place = *register * lanes;
+            combine_registers(
+                Operation::Difference,
+                modulus,
+                lanes,
+                registers,
+                place,
+                *left * lanes,
+                *right * lanes,
+            );
         }
         Action::Neg { register, source } => {
             let x = read_lanes(registers, *source * lanes, lanes);
@@ -87,9 +170,8 @@ pub(crate) fn apply(
             source,
             factors,
         } => {
-            let x = read_lanes(registers, *source * lanes, lanes);
-            let values = combine(Operation::Product, modulus, lanes, &x, factors);
-            write_lanes(registers, *register * lanes, &values, lanes);
+            let place = *register * lanes;
+            scale_register(modulus, lanes, registers, place, *source * lanes, factors);
         }
         Action::Tile { register, source } => transpose(registers, *register, *source, lanes),
     }

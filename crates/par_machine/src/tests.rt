@@ -10,7 +10,7 @@ use crate::machine::{Machine, Turned};
 use icode::action::Counts;
 use icode::program::{Array, Expr, Op, Part, Program, Stmt};
 use memory::NoMemory;
-use request_text::read_schedule;
+use request_text::{Schedule, read_schedule};
 use std::alloc::Global;
 use std::test::Fail;
 
@@ -193,7 +193,24 @@ fn quad_machine(alloc: Global) -> Result<Machine, NoMemory>
     ensures { IfOk result (λ m. m.code ≡ plain_code quad) }
 {
     let program = quad_program(alloc)?;
-    Machine::new(alloc, &program)
+    let machine = Machine::new(alloc, &program)?;
+    Ok(machine)
+}
+
+// A run under the schedule, unless it names a third processor.
+fn run_all(machine: &mut Machine, schedule: &Schedule) -> bool
+    requires { machine.old.code ≡ plain_code quad }
+    ensures { machine.new.code ≡ plain_code quad }
+{
+    match schedule.stranger(2) {
+        None => {
+            machine.put(&[1, 2, 3, 4]);
+            machine.run_list(schedule);
+            machine.finish();
+            true
+        }
+        Some(_) => false,
+    }
 }
 
 #[test]
@@ -234,12 +251,7 @@ fn two_processors(rt: HostRuntime) -> Result<(), Fail> {
         "rr:20",
     ] {
         let schedule = read_schedule(rt.alloc(), word.as_bytes()).map_err(|_| "no schedule")?;
-        if schedule.stranger(2).is_some() {
-            return Err("a stranger")?;
-        }
-        machine.put(&[1, 2, 3, 4]);
-        machine.run_list(&schedule);
-        machine.finish();
+        assert!(rt; run_all(&mut machine, &schedule), "after {word}");
         assert_eq!(rt; machine.turn(0), Turned::Done, "after {word}");
         for (k, want) in [10, 7, 15, 6].iter().enumerate() {
             assert_eq!(rt; machine.word(k as u64 + 4), *want, "after {word}");

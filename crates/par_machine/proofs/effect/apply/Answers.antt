@@ -1,11 +1,11 @@
-use Rattle.std.proofs.Common.{◌∙◌, ap, ap₂, sym, take, le_of_eq, ◌*◌}
+use Rattle.std.proofs.Common.{◌∙◌, ap, ap₂, sym, ◌*◌}
 use Rattle.icode.specs.declared.action.Action.{Action}
 use Rattle.icode.specs.declared.action.Action.TheVariants.{Tile}
 use Rattle.icode.specs.Machine.{Local, effect, with_words, lane_by_lane, words_at}
 use Rattle.icode.proofs.Words.{length-words_at}
 use Rattle.par_machine.specs.Operation.{operated}
-use Rattle.par_machine.specs.declared.arithmetic.Operation.TheVariants.{Difference, Product}
-use Rattle.par_machine.proofs.LaneSteps.{take-zeros, negated_lanes, lane_by_lane-take}
+use Rattle.par_machine.specs.declared.arithmetic.Operation.TheVariants.{Difference}
+use Rattle.par_machine.proofs.LaneSteps.{take-zeros, negated_lanes}
 use Rattle.par_machine.proofs.Transposes.{tile_words}
 use Rattle.par_machine.proofs.effect.apply.Goals as goal
 
@@ -17,7 +17,7 @@ pub returns-in-Zero-clause-registers : goal.returns-in-Zero-clause-registers
 returns-in-Zero-clause-registers c =
     let s : Local = record { memory = c.args.memory.now; registers = c.args.registers.now } in
     let lanes = c.args.lanes in
-    c.write_lanes-in-Zero.ensures
+    c.write_lanes.ensures
     ∙ (ap (with_words c.args.registers.now (c.in-Zero.register * lanes)) (take-zeros lanes 16 c.requires.lanes)
     ∙ sym (ap (λ (a : Action). (effect c.args.modulus lanes a s).registers) c.in-Zero.is))
 
@@ -28,19 +28,7 @@ returns-in-Neg-clause-registers c =
     let words = words_at lanes c.args.registers.now (c.in-Neg.source * lanes) in
     c.write_lanes-in-Neg.ensures
     ∙ (ap (with_words c.args.registers.now (c.in-Neg.register * lanes))
-    (c.combine-values-in-Neg.ensures
-    ∙ (ap₂ (lane_by_lane (operated Difference c.args.modulus)) (take-zeros lanes 16 c.requires.lanes) c.read_lanes-x-in-Neg.ensures.value
+    (c.combine-values.ensures
+    ∙ (ap₂ (lane_by_lane (operated Difference c.args.modulus)) (take-zeros lanes 16 c.requires.lanes) c.read_lanes-x.ensures.value
     ∙ negated_lanes c.args.modulus lanes words (length-words_at lanes c.args.registers.now (c.in-Neg.source * lanes))))
     ∙ sym (ap (λ (a : Action). (effect c.args.modulus lanes a s).registers) c.in-Neg.is))
-
-pub returns-in-Mul-clause-registers : goal.returns-in-Mul-clause-registers
-returns-in-Mul-clause-registers c =
-    let s : Local = record { memory = c.args.memory.now; registers = c.args.registers.now } in
-    let lanes = c.args.lanes in
-    let words = words_at lanes c.args.registers.now (c.in-Mul.source * lanes) in
-    c.write_lanes-in-Mul.ensures
-    ∙ (ap (with_words c.args.registers.now (c.in-Mul.register * lanes))
-    (c.combine-values-in-Mul.ensures
-    ∙ (ap (λ xs. lane_by_lane (operated Product c.args.modulus) xs (take lanes c.in-Mul.factors)) c.read_lanes-x-in-Mul.ensures.value
-    ∙ lane_by_lane-take (operated Product c.args.modulus) lanes words c.in-Mul.factors (le_of_eq (length-words_at lanes c.args.registers.now (c.in-Mul.source * lanes)))))
-    ∙ sym (ap (λ (a : Action). (effect c.args.modulus lanes a s).registers) c.in-Mul.is))
