@@ -9,7 +9,9 @@ use Rattle.std.proofs.lemmas.List.{take_all, length-replicate}
 use Rattle.std.specs.List.{list_all}
 use Rattle.std.specs.declared.option.Option.{Option}
 use Rattle.std.specs.Io.KnownBytes.{Appends, Consumes, IsAtEnd}
-use Rattle.icode.specs.Machine.{Code, whole_lines, padded, start, words_at}
+use Rattle.icode.specs.Machine.{Code, State, whole_lines, padded, start, run, finished, runs, words_at}
+use Rattle.request_text.specs.Schedule.{Plan}
+use Rattle.request_text.specs.Turns.{turns_of}
 use Rattle.par_machine.proofs.Starts.{room_for}
 use Rattle.io_edge.specs.Feed.{Fed, limit}
 use Rattle.io_edge.specs.Taken.{AppendsPrefix}
@@ -391,3 +393,10 @@ room_is code x span full some value memory =
     let rest = 4 * padded code - code.size in
     let count : length (start code x).memory ≡ length x + rest = length-append x (replicate rest 0) ∙ ap (λ n. length x + n) (length-replicate rest 0) in
     room_at_least code.size code.line some (omega arith)
+
+-- the turns of a schedule, and then those that complete it
+pub whole_run : (plan : Plan) (code first second : Code) (x : List ℕ) (begun turned ended : State) → first ≡ code → begun ≡ start code x → second ≡ first
+    → turned ≡ run first begun (turns_of plan first.procs) → ended ≡ finished second turned → ended ≡ runs code x (turns_of plan code.procs)
+whole_run plan code first second x begun turned ended p b q t e =
+    e ∙ ap (λ k. finished k turned) (q ∙ p)
+    ∙ ap (λ s. finished code s) (t ∙ ap (λ (k : Code). run k begun (turns_of plan k.procs)) p ∙ ap (λ s. run code s (turns_of plan code.procs)) b)

@@ -4,6 +4,7 @@ ghost use Rattle.std.specs.Io.KnownBytes.{Appends, IsAtEnd};
 ghost use Rattle.matrix_meaning.specs.Valid.{IsInRange};
 ghost use Rattle.generate.specs.Good.{IsGood};
 ghost use Rattle.generate.specs.Planned.{IsPlain, planned};
+ghost use Rattle.request_text.specs.Schedule.{Sequential};
 ghost use Rattle.io_edge.specs.Faults.{Reports};
 ghost use Rattle.io_edge.specs.Feed.{to_come, limit};
 ghost use Rattle.spiral_main.specs.Command.{command_of};
@@ -20,7 +21,9 @@ use generate::{Product, generate};
 use io_edge::{Feed, Sink, Source, write_all};
 use listing_text::print_listing;
 use matrix_meaning::Request;
-use par_machine::Machine;
+use memory::NoMemory;
+use par_machine::machine::Machine;
+use request_text::{Schedule, read_schedule};
 use std::alloc::Global;
 
 // A good program for the request.
@@ -36,19 +39,30 @@ fn good_product(alloc: Global, request: &Request) -> Result<Product, Status>
     Ok(product)
 }
 
-// A machine with a good program for the request, and room for a vector.
-fn engine(alloc: Global, request: &Request) -> Result<(Machine, Vec<u64>), Status>
+// The schedule that names no turns.
+fn sequential(alloc: Global) -> Result<Schedule, NoMemory>
+    ensures plan { IfOk result (λ schedule. schedule ≡ Sequential) }
+{
+    // The word has a reading, so nothing but memory can be wanting.
+    read_schedule(alloc, b"seq").map_err(|_fault| NoMemory)
+}
+
+// A machine with a good program for the request, a schedule, and room for a vector.
+fn engine(alloc: Global, request: &Request) -> Result<(Machine, Schedule, Vec<u64>), Status>
     requires in_range { IsInRange request.now }
     requires plain { IsPlain request.now }
     ensures machine { IfOk result (λ made. IsGoodCode request.now made.0.code) }
-    ensures room { IfOk result (λ made. vec_len made.1 ≡ made.0.code.size) }
+    ensures schedule { IfOk result (λ made. made.1 ≡ Sequential) }
+    ensures room { IfOk result (λ made. vec_len made.2 ≡ made.0.code.size) }
+    ensures some { IfOk result (λ made. 0 < vec_len made.2) }
     ensures refused { IfErr result (λ status. IsDefined status → priced (planned request.now) ≡ Err status) }
     ensures refusal { IfErr result IsRefusal }
 {
     let product = good_product(alloc, request)?;
     let machine = Machine::new(alloc, &product.program)?;
+    let schedule = sequential(alloc)?;
     let vector = vec![in alloc; 0; request.size as usize]?;
-    Ok((machine, vector))
+    Ok((machine, schedule, vector))
 }
 
 // The listing of a good program for the request.
@@ -82,8 +96,8 @@ fn run<I: Source, O: Sink>(
     ensures write { Reports (O.faults output.old) (O.faults output.new) (status_of result ≡ Status.WriteFault) }
     ensures memory { status_of result ≡ Status.NoMemory → Appends (O.taken output.old) (O.taken output.new) [] }
 {
-    let (mut machine, mut vector) = engine(alloc, request)?;
-    run_stream(&mut machine, feed, input, output, &mut vector)?;
+    let (mut machine, schedule, mut vector) = engine(alloc, request)?;
+    run_stream(&mut machine, &schedule, feed, input, output, &mut vector)?;
     Ok(())
 }
 
