@@ -46,12 +46,7 @@ fn put_becomes(out: &mut Vec<u8>, register: u64) -> Result<(), AllocError>
     out.extend_from_slice(b" = ")
 }
 
-fn put_load(
-    out: &mut Vec<u8>,
-    register: u64,
-    array: Array,
-    place: &Expr,
-) -> Result<(), AllocError>
+fn put_load(out: &mut Vec<u8>, register: u64, array: Array, place: &Expr) -> Result<(), AllocError>
     ensures { OnOk result (out.new.items ≡ out.old.items ++ (becomes_text register ++ array_text array ++ codes "[" ++ sum_text (plain_expr place.now) ++ codes " + l];")) }
 {
     put_becomes(out, register)?;
@@ -61,12 +56,7 @@ fn put_load(
     out.extend_from_slice(b" + l];")
 }
 
-fn put_store(
-    out: &mut Vec<u8>,
-    array: Array,
-    place: &Expr,
-    register: u64,
-) -> Result<(), AllocError>
+fn put_store(out: &mut Vec<u8>, array: Array, place: &Expr, register: u64) -> Result<(), AllocError>
     ensures { OnOk result (out.new.items ≡ out.old.items ++ (lane_loop ++ array_text array ++ codes "[" ++ sum_text (plain_expr place.now) ++ codes " + l] = " ++ lane_text register ++ codes ";")) }
 {
     put_lane_loop(out)?;
@@ -293,21 +283,27 @@ fn put_tables(out: &mut Vec<u8>, tables: &[Vec<u64>]) -> Result<(), AllocError>
 fn put_add(out: &mut Vec<u8>) -> Result<(), AllocError>
     ensures { OnOk result (out.new.items ≡ out.old.items ++ add_text) }
 {
-    out.extend_from_slice(b"static uint64_t add(uint64_t a, uint64_t b) { uint64_t c = a + b; return c >= M ? c - M : c; }\n")
+    out.extend_from_slice(
+        b"static uint64_t add(uint64_t a, uint64_t b) { uint64_t c = a + b; return c >= M ? c - M : c; }\n",
+    )
 }
 
 #[tactic(auto, unfolding(crate::specs::CText::sub_text))]
 fn put_sub(out: &mut Vec<u8>) -> Result<(), AllocError>
     ensures { OnOk result (out.new.items ≡ out.old.items ++ sub_text) }
 {
-    out.extend_from_slice(b"static uint64_t sub(uint64_t a, uint64_t b) { return a >= b ? a - b : a + M - b; }\n")
+    out.extend_from_slice(
+        b"static uint64_t sub(uint64_t a, uint64_t b) { return a >= b ? a - b : a + M - b; }\n",
+    )
 }
 
 #[tactic(auto, unfolding(crate::specs::CText::mul_text))]
 fn put_mul(out: &mut Vec<u8>) -> Result<(), AllocError>
     ensures { OnOk result (out.new.items ≡ out.old.items ++ mul_text) }
 {
-    out.extend_from_slice(b"static uint64_t mul(uint64_t a, uint64_t b) { return (uint64_t)((unsigned __int128)a * b % M); }\n")
+    out.extend_from_slice(
+        b"static uint64_t mul(uint64_t a, uint64_t b) { return (uint64_t)((unsigned __int128)a * b % M); }\n",
+    )
 }
 
 fn put_phase_start(out: &mut Vec<u8>, regs: u64, number: u64) -> Result<(), AllocError>

@@ -1,4 +1,4 @@
-use Rattle.std.proofs.Common.{◌+◌, ◌*◌, codes, decimal}
+use Rattle.std.proofs.Common.{codes, decimal}
 use Rattle.std.proofs.lemmas.Result.{IfOk-equal}
 use Rattle.listing_text.specs.Listing.{header_text, plain_program}
 use Rattle.c_print.specs.CText.{include_text, constants_text}

@@ -1,4 +1,4 @@
-use Rattle.std.proofs.Common.{◌+◌, ◌*◌, codes, decimal}
+use Rattle.std.proofs.Common.{◌*◌, codes, decimal}
 use Rattle.std.proofs.lemmas.Result.{IfOk-equal}
 use Rattle.c_print.specs.CText.{memory_text}
 use Rattle.c_print.proofs.Shapes.{four_numbers}
