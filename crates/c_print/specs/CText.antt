@@ -1,6 +1,7 @@
 -- The C text of a program: its statements and expressions are those of the listing, each in the words of C.
-use Rattle.std.specs.Prelude.{ℕ, ◌+◌, ◌-◌, ◌*◌, ◌/◌, List, [], ◌∷◌, ◌++◌, length, codes, decimal, flat_map}
+use Rattle.std.specs.Prelude.{ℕ, ◌+◌, ◌*◌, List, [], ◌∷◌, ◌++◌, length, codes, decimal, flat_map}
 use Rattle.icode.specs.Plain.{PlainOp, PlainStmt, PlainBody, PlainProgram, Load, Store, Zero, Add, Sub, Neg, MulConst, MulTable, Tile, Loop, Do, NoStmts, AndStmts}
+use Rattle.icode.specs.Machine.{whole_lines}
 use Rattle.listing_text.specs.Listing.{sum_text, array_text, header_text}
 
 -- for each lane l, the rest of the line
@@ -43,9 +44,9 @@ abbrev mutual
   c_body_text depth NoStmts = []
   c_body_text depth (AndStmts stmt rest) = c_stmt_text depth stmt ++ c_body_text depth rest
 
--- the size, rounded up to whole lines: the words of an array
+-- the words of an array
 abbrev pub array_words : PlainProgram → ℕ
-array_words p = (p.size + (p.line - 1)) / p.line * p.line
+array_words p = whole_lines p.size p.line
 
 unfoldable pub include_text : List ℕ
 include_text = codes " */\n#include <stdint.h>\n#define M "

@@ -1,7 +1,8 @@
 ghost use Rattle.std.specs.Prelude.{◌≡◌, ◌++◌, ◌+◌, ◌*◌, ◌≤◌, ◌<◌, ◌^◌, ℕ, IsTrue, IfOk, OnOk, codes, decimal, flat_map};
 ghost use Rattle.std.specs.List.{list_all};
 ghost use Rattle.icode.specs.Plain.{plain_expr, plain_op, plain_stmt, plain_body, plain_tables, plain_phases};
-ghost use Rattle.listing_text.specs.Listing.{plain_program, array_text, sum_text};
+ghost use Rattle.icode.specs.Program.{plain_program};
+ghost use Rattle.listing_text.specs.Listing.{array_text, sum_text};
 ghost use Rattle.listing_text.specs.Nests.{is_nest_within, are_nests_within};
 ghost use Rattle.c_print.specs.CText.{lane_loop, tile_loops, lane_text, becomes_text, loop_text, c_op_text, c_stmt_text, c_body_text, array_words, include_text, constants_text, memory_text, joined_text, c_table_text, c_tables_text, add_text, sub_text, mul_text, phase_start_text, c_phases_text, c_text_of};
 

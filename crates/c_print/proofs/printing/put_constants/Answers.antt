@@ -1,6 +1,7 @@
 use Rattle.std.proofs.Common.{codes, decimal}
 use Rattle.std.proofs.lemmas.Result.{IfOk-equal}
-use Rattle.listing_text.specs.Listing.{header_text, plain_program}
+use Rattle.icode.specs.Program.{plain_program}
+use Rattle.listing_text.specs.Listing.{header_text}
 use Rattle.c_print.specs.CText.{include_text, constants_text}
 use Rattle.c_print.proofs.Shapes.{constants}
 use Rattle.c_print.proofs.printing.put_constants.Goals as goal
