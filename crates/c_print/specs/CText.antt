@@ -1,6 +1,7 @@
 -- The C text of a program: its statements and expressions are those of the listing, each in the words of C.
-use Rattle.std.specs.Prelude.{ℕ, ◌+◌, ◌-◌, ◌*◌, ◌/◌, List, [], ◌∷◌, ◌++◌, length, codes, decimal, flat_map}
+use Rattle.std.specs.Prelude.{ℕ, ◌+◌, ◌*◌, List, [], ◌∷◌, ◌++◌, length, codes, decimal, flat_map}
 use Rattle.icode.specs.Plain.{PlainOp, PlainStmt, PlainBody, PlainProgram, Load, Store, Zero, Add, Sub, Neg, MulConst, MulTable, Tile, Loop, Do, NoStmts, AndStmts}
+use Rattle.icode.specs.Machine.{whole_lines}
 use Rattle.listing_text.specs.Listing.{sum_text, array_text, header_text}
 
 -- for each lane l, the rest of the line
@@ -18,7 +19,7 @@ lane_text register = codes "r[" ++ decimal register ++ codes "][l]"
 abbrev pub becomes_text : ℕ → List ℕ
 becomes_text register = lane_loop ++ lane_text register ++ codes " = "
 
-abbrev pub c_op_text : PlainOp → List ℕ
+unfoldable pub c_op_text : PlainOp → List ℕ
 c_op_text (Load register array place) = becomes_text register ++ array_text array ++ codes "[" ++ sum_text place ++ codes " + l];"
 c_op_text (Store array place register) = lane_loop ++ array_text array ++ codes "[" ++ sum_text place ++ codes " + l] = " ++ lane_text register ++ codes ";"
 c_op_text (Zero register) = becomes_text register ++ codes "0;"
@@ -30,13 +31,9 @@ c_op_text (MulTable register source table place step) =
     becomes_text register ++ codes "mul(" ++ lane_text source ++ codes ", t" ++ decimal table ++ codes "[" ++ sum_text place ++ codes " + " ++ decimal step ++ codes " * l]);"
 c_op_text (Tile register source) = tile_loops ++ codes "r[" ++ decimal register ++ codes " + k][l] = r[" ++ decimal source ++ codes " + l][k];"
 
--- the variable of a loop inside so many others
-abbrev pub variable_text : ℕ → List ℕ
-variable_text depth = codes "v" ++ decimal depth
-
-abbrev pub loop_text : ℕ → ℕ → List ℕ
-loop_text depth count =
-    codes "for (uint64_t " ++ variable_text depth ++ codes " = 0; " ++ variable_text depth ++ codes " < " ++ decimal count ++ codes "; " ++ variable_text depth ++ codes "++) {\n"
+-- the loop inside so many others begins
+unfoldable pub loop_text : ℕ → ℕ → List ℕ
+loop_text depth count = codes "for (uint64_t v" ++ decimal depth ++ codes " = 0; v" ++ decimal depth ++ codes " < " ++ decimal count ++ codes "; v" ++ decimal depth ++ codes "++) {\n"
 
 abbrev mutual
   pub c_stmt_text : ℕ → PlainStmt → List ℕ
@@ -47,19 +44,19 @@ abbrev mutual
   c_body_text depth NoStmts = []
   c_body_text depth (AndStmts stmt rest) = c_stmt_text depth stmt ++ c_body_text depth rest
 
--- the size, rounded up to whole lines: the words of an array
+-- the words of an array
 abbrev pub array_words : PlainProgram → ℕ
-array_words p = (p.size + (p.line - 1)) / p.line * p.line
+array_words p = whole_lines p.size p.line
 
 unfoldable pub include_text : List ℕ
 include_text = codes " */\n#include <stdint.h>\n#define M "
 
 -- the header, the modulus and the lanes
-abbrev pub constants_text : PlainProgram → List ℕ
+unfoldable pub constants_text : PlainProgram → List ℕ
 constants_text p = codes "/* " ++ header_text p ++ include_text ++ decimal p.modulus ++ codes "ULL\n#define V " ++ decimal p.lanes ++ codes "\n"
 
 -- the memory and its four arrays
-abbrev pub memory_text : ℕ → List ℕ
+unfoldable pub memory_text : ℕ → List ℕ
 memory_text words =
     codes "#define X (W + 0)\n#define Y (W + " ++ decimal words ++ codes ")\n#define A (W + " ++ decimal (2 * words) ++ codes ")\n#define B (W + " ++ decimal (3 * words) ++ codes ")\nstatic uint64_t W[" ++ decimal (4 * words) ++ codes "];\n"
 
@@ -67,7 +64,7 @@ abbrev pub joined_text : List ℕ → List ℕ
 joined_text [] = []
 joined_text (c ∷ cs) = decimal c ++ flat_map (λ c. codes "," ++ decimal c) cs
 
-abbrev pub c_table_text : ℕ → List ℕ → List ℕ
+unfoldable pub c_table_text : ℕ → List ℕ → List ℕ
 c_table_text number entries = codes "static const uint64_t t" ++ decimal number ++ codes "[" ++ decimal (length entries) ++ codes "] = {" ++ joined_text entries ++ codes "};\n"
 
 -- the tables from this number on
@@ -86,7 +83,7 @@ unfoldable pub mul_text : List ℕ
 mul_text = codes "static uint64_t mul(uint64_t a, uint64_t b) { return (uint64_t)((unsigned __int128)a * b % M); }\n"
 
 -- how a phase begins, for a program with so many registers
-abbrev pub phase_start_text : ℕ → ℕ → List ℕ
+unfoldable pub phase_start_text : ℕ → ℕ → List ℕ
 phase_start_text regs number = codes "void phase" ++ decimal number ++ codes "(uint64_t q) {\nuint64_t r[" ++ decimal regs ++ codes "][V];\n(void)q;\n"
 
 -- the phases from this number on

@@ -4,3 +4,6 @@
 mod printing;
 
 pub use printing::print_c;
+
+#[cfg(test)]
+mod tests;

@@ -1,14 +1,21 @@
 ghost use Rattle.std.specs.Prelude.{◌≡◌, ◌++◌, ◌+◌, ◌*◌, ◌≤◌, ◌<◌, ◌^◌, ℕ, IsTrue, IfOk, OnOk, codes, decimal, flat_map};
 ghost use Rattle.std.specs.List.{list_all};
 ghost use Rattle.icode.specs.Plain.{plain_expr, plain_op, plain_stmt, plain_body, plain_tables, plain_phases};
-ghost use Rattle.listing_text.specs.Listing.{plain_program, array_text, sum_text};
+ghost use Rattle.icode.specs.Program.{plain_program};
+ghost use Rattle.listing_text.specs.Listing.{array_text, sum_text};
 ghost use Rattle.listing_text.specs.Nests.{is_nest_within, are_nests_within};
-ghost use Rattle.c_print.specs.CText.{lane_loop, tile_loops, lane_text, becomes_text, variable_text, loop_text, c_op_text, c_stmt_text, c_body_text, array_words, include_text, constants_text, memory_text, joined_text, c_table_text, c_tables_text, add_text, sub_text, mul_text, phase_start_text, c_phases_text, c_text_of};
+ghost use Rattle.c_print.specs.CText.{lane_loop, tile_loops, lane_text, becomes_text, loop_text, c_op_text, c_stmt_text, c_body_text, array_words, include_text, constants_text, memory_text, joined_text, c_table_text, c_tables_text, add_text, sub_text, mul_text, phase_start_text, c_phases_text, c_text_of};
 
 use icode::program::{Array, Expr, Op, Program, Stmt};
 use listing_text::{put, put_array, put_expr, put_header};
 use memory::NoMemory;
 use std::alloc::{AllocError, Global};
+
+fn put_word(out: &mut Vec<u8>, word: &[u8]) -> Result<(), AllocError>
+    ensures { OnOk result (out.new.items ≡ out.old.items ++ word.now) }
+{
+    out.extend_from_slice(word)
+}
 
 #[tactic(auto, unfolding(crate::specs::CText::lane_loop))]
 fn put_lane_loop(out: &mut Vec<u8>) -> Result<(), AllocError>
@@ -100,6 +107,7 @@ fn put_table_product(
     out.extend_from_slice(b" * l]);")
 }
 
+#[tactic(auto, unfolding(crate::specs::CText::c_op_text))]
 fn put_op(out: &mut Vec<u8>, op: &Op) -> Result<(), AllocError>
     ensures { OnOk result (out.new.items ≡ out.old.items ++ c_op_text (plain_op op.now)) }
 {
@@ -168,7 +176,7 @@ fn put_loop(out: &mut Vec<u8>, depth: u64, count: u64) -> Result<(), AllocError>
     put(out, b" = 0; v", depth)?;
     put(out, b" < ", count)?;
     put(out, b"; v", depth)?;
-    out.extend_from_slice(b"++) {\n")
+    put_word(out, b"++) {\n")
 }
 
 // A statement inside so many loops.
@@ -202,21 +210,20 @@ fn put_body(out: &mut Vec<u8>, body: &[Stmt]) -> Result<(), AllocError>
 }
 
 #[tactic(auto, unfolding(crate::specs::CText::include_text))]
-fn put_include(out: &mut Vec<u8>) -> Result<(), AllocError>
-    ensures { OnOk result (out.new.items ≡ out.old.items ++ include_text) }
+fn put_include(out: &mut Vec<u8>, modulus: u64) -> Result<(), AllocError>
+    ensures { OnOk result (out.new.items ≡ out.old.items ++ include_text ++ decimal modulus) }
 {
-    out.extend_from_slice(b" */\n#include <stdint.h>\n#define M ")
+    put(out, b" */\n#include <stdint.h>\n#define M ", modulus)
 }
 
 fn put_constants(out: &mut Vec<u8>, program: &Program) -> Result<(), AllocError>
     ensures { OnOk result (out.new.items ≡ out.old.items ++ constants_text (plain_program program.now)) }
 {
-    out.extend_from_slice(b"/* ")?;
+    put_word(out, b"/* ")?;
     put_header(out, program)?;
-    put_include(out)?;
-    put(out, b"", program.modulus)?;
+    put_include(out, program.modulus)?;
     put(out, b"ULL\n#define V ", program.lanes)?;
-    out.extend_from_slice(b"\n")
+    put_word(out, b"\n")
 }
 
 // The number of words of an array.
@@ -235,7 +242,7 @@ fn put_memory(out: &mut Vec<u8>, words: u64) -> Result<(), AllocError>
     put(out, b")\n#define A (W + ", 2 * words)?;
     put(out, b")\n#define B (W + ", 3 * words)?;
     put(out, b")\nstatic uint64_t W[", 4 * words)?;
-    out.extend_from_slice(b"];\n")
+    put_word(out, b"];\n")
 }
 
 fn put_joined(out: &mut Vec<u8>, entries: &[u64]) -> Result<(), AllocError>
@@ -253,6 +260,7 @@ fn put_joined(out: &mut Vec<u8>, entries: &[u64]) -> Result<(), AllocError>
     }
 }
 
+#[tactic(auto, unfolding(crate::specs::CText::c_table_text))]
 fn put_table(out: &mut Vec<u8>, number: u64, entries: &[u64]) -> Result<(), AllocError>
     ensures { OnOk result (out.new.items ≡ out.old.items ++ c_table_text number entries.now) }
 {
@@ -304,7 +312,7 @@ fn put_phase_start(out: &mut Vec<u8>, regs: u64, number: u64) -> Result<(), Allo
 {
     put(out, b"void phase", number)?;
     put(out, b"(uint64_t q) {\nuint64_t r[", regs)?;
-    out.extend_from_slice(b"][V];\n(void)q;\n")
+    put_word(out, b"][V];\n(void)q;\n")
 }
 
 fn put_phases(out: &mut Vec<u8>, regs: u64, phases: &[Vec<Stmt>]) -> Result<(), AllocError>

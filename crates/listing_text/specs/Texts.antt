@@ -6,7 +6,8 @@ use Rattle.icode.specs.declared.program.Program.{Program}
 use Rattle.grammar.specs.Grammar.{IsLost}
 use Rattle.listing_text.specs.declared.listing.ListingFault.{ListingFault}
 use Rattle.listing_text.specs.declared.listing.ListingFault.TheVariants as faults
-use Rattle.listing_text.specs.Listing.{listing_of, plain_program}
+use Rattle.icode.specs.Program.{plain_program}
+use Rattle.listing_text.specs.Listing.{listing_of}
 
 -- the text is the listing of a program, which stays in its limits and has no more tables than a word can count
 abbrev pub is_listing : List ℕ → PlainProgram → Type 0

@@ -165,7 +165,6 @@ fn read_outside(alloc: Global, line: &[u8]) -> Result<Option<(u64, Vec<u64>)>, R
 fn opened(alloc: Global, draft: Draft, depth: u64, count: u64) -> Result<Draft, Refusal>
     ensures { Makes result (act_step (plain_draft draft) (plain.Open depth count)) }
 {
-    let mut draft = draft;
     let open = draft.open_loops.len() as u64;
     if depth != open || open >= 64 || !is_small_positive(count) {
         return Err(Refusal::Line);

@@ -5,7 +5,8 @@ ghost use Rattle.icode.specs.Plain.{PlainProgram};
 ghost use Rattle.icode.specs.Limits.{IsWithinLimits};
 ghost use Rattle.listing_text.specs.Lines.{is_open, IsLine, read_lines, later, valued, ended};
 ghost use Rattle.listing_text.specs.Drafts.{plain_draft_or_none, step, finish};
-ghost use Rattle.listing_text.specs.Listing.{plain_program, listing_of};
+ghost use Rattle.icode.specs.Program.{plain_program};
+ghost use Rattle.listing_text.specs.Listing.{listing_of};
 ghost use Rattle.listing_text.specs.Texts.{is_listing, TextAnswers};
 ghost use Rattle.listing_text.specs.Reads.{Steps, Reads};
 

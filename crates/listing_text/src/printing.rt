@@ -1,7 +1,8 @@
 ghost use Rattle.std.specs.Prelude.{◌≡◌, ◌++◌, ◌≤◌, ℕ, IsTrue, IfOk, OnOk, codes, decimal, flat_map};
 ghost use Rattle.std.specs.List.{list_all};
 ghost use Rattle.icode.specs.Plain.{plain_expr, plain_part, plain_op, plain_stmt, plain_body, plain_tables, plain_phases};
-ghost use Rattle.listing_text.specs.Listing.{sum_text, part_text, array_text, op_text, stmt_text, body_text, values_text, table_text, tables_text, phase_text, header_text, listing_of, plain_program};
+ghost use Rattle.listing_text.specs.Listing.{sum_text, part_text, array_text, op_text, stmt_text, body_text, values_text, table_text, tables_text, phase_text, header_text, listing_of};
+ghost use Rattle.icode.specs.Program.{plain_program};
 ghost use Rattle.listing_text.specs.Texts.{is_listing};
 ghost use Rattle.listing_text.specs.Nests.{is_nest_within, are_nests_within};
 

@@ -22,7 +22,7 @@ use io_edge::{Feed, Sink, Source, write_all};
 use listing_text::print_listing;
 use matrix_meaning::Request;
 use memory::NoMemory;
-use par_machine::machine::Machine;
+use par_machine::Machine;
 use request_text::{Schedule, read_schedule};
 use std::alloc::Global;
 

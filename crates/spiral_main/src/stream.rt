@@ -8,7 +8,7 @@ ghost use Rattle.spiral_main.specs.Stream.{HasNoStranger, Streams};
 
 use data_stream::{DataFault, Next, Vectors, write_vector};
 use io_edge::{Feed, Sink, Source, WriteFault};
-use par_machine::machine::Machine;
+use par_machine::Machine;
 use request_text::Schedule;
 
 /// Why a run over a stream ended before the stream.
