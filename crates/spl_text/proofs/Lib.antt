@@ -2,6 +2,7 @@ pub mod Bounds
 pub mod Coprime
 pub mod Heads
 pub mod Judging
+pub mod Nested
 pub mod Printable
 pub mod Readers
 pub mod Strays

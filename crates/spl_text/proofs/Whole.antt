@@ -15,6 +15,7 @@ use Rattle.spl_text.specs.Answer.{SaysAll, IsWithin, fault_of, IsLeft, IsFirst, 
 use Rattle.spl_text.specs.Fault.{TextFault, TooDeep, Shape, refusal}
 use Rattle.spl_text.specs.Reading.{line_at, ended_formula, all_of, whole_line}
 use Rattle.spl_text.specs.Spelling.{spells, spells_line}
+use Rattle.spl_text.proofs.Nested.{read_is_printable}
 use Rattle.spl_text.proofs.Readers.{Exposes, line_reader}
 
 abbrev TextAnswers : List ℕ → Result Formula (Stop TextFault) → Type 0
@@ -63,7 +64,7 @@ first_fault text (halts.TooDeep left) e = (left, placed text left (within text (
 first_fault text (halts.Shape left first second) e = (left, placed text left (within text (halts.Shape left first second) e), e)
 
 pub shows_formula : (text : List ℕ) (f : Formula) → whole_line text ≡ Ok f → Shows text (Ok f)
-shows_formula text f e = text_answers text (Ok f) e
+shows_formula text f e = let spelt = text_answers text (Ok f) e in (spelt, read_is_printable text f spelt e)
 
 pub shows_fault : (text : List ℕ) (halt : Halt) → SaysAll (Err halt) (whole_line text) → Shows text (Err (fault_of (length text) halt))
 shows_fault text halts.NoMemory e = tt

@@ -6,6 +6,7 @@ use Rattle.grammar.specs.declared.token.ReadError.{ReadError}
 use Rattle.grammar.specs.declared.token.ReadError.TheVariants as errors
 use Rattle.grammar.specs.Stops.{Stop, Lost, Fault}
 use Rattle.spl_ast.specs.Formula.{Formula}
+use Rattle.spl_ast.specs.Nesting.{IsPrintable}
 use Rattle.spl_text.specs.declared.reading.Halt.{Halt}
 use Rattle.spl_text.specs.declared.reading.Halt.TheVariants as halts
 use Rattle.spl_text.specs.declared.reading.SplFault.{SplFault}
@@ -88,10 +89,10 @@ pub record HasMisfit (text : List ℕ) (at first second : ℕ) : Type 0 where
   pub spelt : spells part value
   pub refused : refusal value ≡ Some (first, second)
 
--- What the answer says of the text. Ok: it spells the formula. Syntax: it spells no formula of any depth and shape,
+-- What the answer says of the text. Ok: it spells the formula, which can be printed. Syntax: it spells no formula of any depth and shape,
 -- and no spelling goes on past this place.
 abbrev pub Shows : List ℕ → Result Formula SplFault → Type 0
-Shows text (Ok f) = spells_line text f
+Shows text (Ok f) = spells_line text f × IsPrintable f
 Shows text (Err faults.NoMemory) = Unit {0}
 Shows text (Err (faults.Syntax at)) = IsStuck spells_line text at
 Shows text (Err (faults.TooDeep at)) = HasParenthesis text at

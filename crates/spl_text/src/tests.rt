@@ -80,6 +80,33 @@ fn depth(rt: HostRuntime) -> Result<(), Fail> {
     Ok(())
 }
 
+// Whether the text is read, and printed as it was.
+fn is_written_again(alloc: Global, text: &[u8]) -> Result<bool, Fail> {
+    match read_spl(alloc, text) {
+        Ok(f) => {
+            let printed = print_spl(alloc, &f)?;
+            Ok(printed.as_slice() == text)
+        }
+        Err(_) => Ok(false),
+    }
+}
+
+#[test]
+fn printed_as_read(rt: HostRuntime) -> Result<(), Fail> {
+    let texts: [&[u8]; 6] = [
+        b"SUM(DIAG(4611686018427387903,1,4),PERM(2,0,1))",
+        b"TIMES(GTOUT(3,4),TIMES(LEFT(DFT(3,9),4),TIMES(RIGHT(3,WHT(4)),GTIN(3,4))))",
+        b"TIMES(T(12,4,7),L(12,3))",
+        b"RIGHT(3,LEFT(I(2),5))",
+        b"DIAG(0)",
+        b"I(65536)",
+    ];
+    for text in texts {
+        assert!(rt; is_written_again(rt.alloc(), text)?);
+    }
+    Ok(())
+}
+
 // The product of (DFT(2,16) tensor I_2) and L(4,2) is read, applied modulo 17, and printed.
 #[test]
 fn read_applied_and_printed(rt: HostRuntime) -> Result<(), Fail> {
