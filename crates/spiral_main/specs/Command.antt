@@ -10,9 +10,10 @@ use Rattle.spiral_main.specs.declared.status.Status.TheVariants.{Usage}
 abbrev pub command_named : List ℕ → Option Command
 command_named word = if bytes_eq word (codes "run") then Some Run else (if bytes_eq word (codes "code") then Some Code else None)
 
--- the words are the program's name and one command
+-- the words are the program's name and one command, and perhaps the word that ends the options
 abbrev pub command_of : List (List ℕ) → Option Command
 command_of (name ∷ word ∷ []) = command_named word
+command_of (name ∷ word ∷ last ∷ []) = if bytes_eq last (codes "--") then command_named word else None
 command_of words = None
 
 -- the command, and other words are no command line

@@ -11,7 +11,8 @@ use Rattle.request_text.specs.Answer.{Answers}
 use Rattle.generate.specs.declared.GenerateFault.{GenerateFault}
 use Rattle.generate.specs.Good.{IsGood}
 use Rattle.generate.specs.Planned.{planned}
-use Rattle.listing_text.specs.Listing.{listing_of, plain_program}
+use Rattle.icode.specs.Program.{plain_program}
+use Rattle.listing_text.specs.Listing.{listing_of}
 use Rattle.io_edge.specs.Faults.{Rose}
 use Rattle.io_edge.specs.Feed.{limit}
 use Rattle.io_edge.specs.Taken.{AppendsPrefix}

@@ -231,6 +231,16 @@ fn listings_and_words(rt: HostRuntime) -> Result<(), Fail> {
         Status::Usage
     );
     assert_eq!(rt; output.count, 0);
+    let ended = vec![in alloc;
+        "spiral".to_string(alloc)?,
+        "code".to_string(alloc)?,
+        "--".to_string(alloc)?,
+    ]?;
+    assert_eq!(rt;
+        spiral_run(alloc, &ended, &mut source, &mut output, &mut note),
+        Status::Success
+    );
+    assert_eq!(rt; output.count, LISTING.len() as u64);
     Ok(())
 }
 
