@@ -1,7 +1,7 @@
 -- What is read has a text with at most 128 open parentheses.
-use Rattle.std.proofs.Common.{◌≡◌, ℕ, zero, suc, ◌+◌, ◌<◌, ◌≤◌, List, [], ◌∷◌, Option, Some, None, Result, Ok, Err, refl, sym, ap, subst, ◌∙◌, arith}
+use Rattle.std.proofs.Common.{◌≡◌, ℕ, zero, suc, ◌+◌, ◌≤◌, List, [], ◌∷◌, Option, Some, None, Result, Ok, Err, refl, sym, ap, subst, arith}
 use Rattle.grammar.specs.Reading.{Place, start, ended, pure_at, one_of_at}
-use Rattle.grammar.specs.Stops.{Stop, Lost, Fault, and_go_on, passed, tested_at}
+use Rattle.grammar.specs.Stops.{Stop, and_go_on, passed, tested_at}
 use Rattle.spl_ast.specs.Formula.{Formula, Identity, Fourier, Hadamard, Twiddles, Diagonal, Stride, Permutation, GoodThomasIn, GoodThomasOut, Product, TensorLeft, TensorRight, DirectSum, Pending}
 use Rattle.spl_ast.specs.Nesting.{nesting_of, IsComplete, IsPrintable}
 use Rattle.spl_text.specs.declared.reading.Head.{Head}

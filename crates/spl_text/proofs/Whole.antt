@@ -1,5 +1,5 @@
 -- The reader of a whole text.
-use Rattle.std.proofs.Common.{◌≡◌, ℕ, ◌+◌, ◌-◌, ◌<◌, ◌≤◌, List, [], ◌∷◌, ◌++◌, length, Option, Some, None, Result, Ok, Err, refl, sym, ap, subst, ◌∙◌, arith}
+use Rattle.std.proofs.Common.{◌≡◌, ℕ, ◌+◌, ◌-◌, ◌≤◌, List, ◌∷◌, ◌++◌, length, Option, Some, None, Result, Ok, Err, refl, sym, ap, subst, ◌∙◌, arith}
 use Rattle.std.specs.Option.{option_map}
 use Rattle.std.proofs.lemmas.List.{length-append}
 use Rattle.grammar.specs.Grammar.{Judges, IsStuck}
@@ -11,10 +11,10 @@ use Rattle.grammar.proofs.Stops.{Answers}
 use Rattle.spl_ast.specs.Formula.{Formula}
 use Rattle.spl_text.specs.declared.reading.Halt.{Halt}
 use Rattle.spl_text.specs.declared.reading.Halt.TheVariants as halts
-use Rattle.spl_text.specs.Answer.{SaysAll, IsWithin, fault_of, IsLeft, IsFirst, Shows, HasParenthesis, HasMisfit}
+use Rattle.spl_text.specs.Answer.{SaysAll, IsWithin, fault_of, IsLeft, IsFirst, Shows}
 use Rattle.spl_text.specs.Fault.{TextFault, TooDeep, Shape, refusal}
 use Rattle.spl_text.specs.Reading.{line_at, ended_formula, all_of, whole_line}
-use Rattle.spl_text.specs.Spelling.{spells, spells_line}
+use Rattle.spl_text.specs.Spelling.{spells_line}
 use Rattle.spl_text.proofs.Nested.{read_is_printable}
 use Rattle.spl_text.proofs.Readers.{Exposes, line_reader}
 

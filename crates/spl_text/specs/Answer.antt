@@ -1,5 +1,5 @@
 -- What a reader of formulas answers.
-use Rattle.std.specs.Prelude.{◌≡◌, ℕ, ◌≤◌, ◌-◌, ◌∷◌, ◌++◌, List, length, Option, Some, None, Result, Ok, Err}
+use Rattle.std.specs.Prelude.{◌≡◌, ℕ, ◌≤◌, ◌-◌, ◌∷◌, ◌++◌, List, length, Some, None, Result, Ok, Err}
 use Rattle.grammar.specs.Grammar.{IsStuck}
 use Rattle.grammar.specs.Reading.{Place}
 use Rattle.grammar.specs.declared.token.ReadError.{ReadError}
