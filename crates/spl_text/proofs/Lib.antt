@@ -1,5 +1,6 @@
 pub mod Bounds
 pub mod Coprime
+pub mod Deep
 pub mod Fits
 pub mod Heads
 pub mod Judging

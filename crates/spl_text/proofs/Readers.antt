@@ -171,10 +171,10 @@ module _ (read : Place ℕ → Result (Formula × Place ℕ) (Stop TextFault)) (
       (λ k. behind_word Anything (codes ",") _ refl)
   arguments_reader head.Sum = two_formulas_reader DirectSum
 
-one : Formula
+pub one : Formula
 one = Identity 1
 
-one_spelt : HasSpelling one
+pub one_spelt : HasSpelling one
 unfolding one
 one_spelt = (omega arith, omega arith)
 
@@ -182,11 +182,11 @@ one_formula : by_heads (spelling one) one
 unfolding spells
 one_formula = to_heads (spelling one) one (one_spelt, refl)
 
-one_factor : (0 < 1) × (1 < 65537)
+pub one_factor : (0 < 1) × (1 < 65537)
 one_factor = (omega arith, omega arith)
 
 -- each head has some arguments
-some_arguments : (h : Head) (u : List ℕ) → one_of heads u h → Begins (arguments h) []
+pub some_arguments : (h : Head) (u : List ℕ) → one_of heads u h → Begins (arguments h) []
 unfolding one spells
 some_arguments head.I u l = (_, Identity 1, made one_size Identity _ 1 (to_one_size 1 one_factor))
 some_arguments head.Dft u l = (_, Fourier 1 1, made size_value (λ y. Fourier y.0 y.1) _ (1, 1) (to_size_value 1 1 one_factor (omega arith)))
@@ -234,7 +234,7 @@ deep_answers place (Ok x) p =
     (o.0, x.1.rest, p.whole ∙ ap (λ y. y ++ x.1.rest) (word_of_head p.text x.0 p.spelt ∙ o.1) ∙ append_assoc o.0 (40 ∷ []) x.1.rest, refl)
 deep_answers place (Err left) p = bind_lost Anything Anything (one_of heads) arguments (λ h. any (arguments h)) some_arguments place left p
 
-no_depth : (o : Option (ℕ × ℕ)) (left left' : ℕ) → option_map (λ p. Shape left p.0 p.1) o ≡ Some (TooDeep left') → ⊥
+pub no_depth : (o : Option (ℕ × ℕ)) (left left' : ℕ) → option_map (λ p. Shape left p.0 p.1) o ≡ Some (TooDeep left') → ⊥
 no_depth None left left' e = absurd cc
 no_depth (Some p) left left' e = absurd cc
 
