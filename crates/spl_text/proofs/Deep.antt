@@ -1,11 +1,6 @@
 -- Where a parenthesis too many stands.
-use Rattle.std.proofs.Common.{◌≡◌, ℕ, zero, suc, ◌+◌, ◌^◌, ◌<◌, ◌≤◌, ◌⊎◌, inl, inr, Bool, true, false, cond, eqb, List, [], ◌∷◌, ◌++◌, length, codes, decimal, Result, Ok, Err, Option, Some, None, refl, sym, ap, subst, ◌∙◌, append_assoc, arith, ⊎_elim}
+use Rattle.std.proofs.Common.{◌≡◌, ℕ, zero, suc, ◌+◌, ◌⊎◌, inl, inr, List, [], ◌∷◌, ◌++◌, length, codes, decimal, Result, Ok, Err, Option, Some, None, refl, sym, ap, subst, ◌∙◌, append_assoc, arith, ⊎_elim}
 use Rattle.std.specs.Option.{option_map}
-use Rattle.std.specs.Str.Parse.{AllDigits}
-use Rattle.std.proofs.lemmas.Bool.{eqb-true}
-use Rattle.std.proofs.lemmas.Str.Parse.{digit_from_value}
-use Rattle.std.proofs.lemmas.Fmt.{decimal_is_IsNumeral}
-use Rattle.std.proofs.lemmas.List.Sums.{sum_by-append}
 use Rattle.grammar.specs.Grammar.{one_of, positive, word, Begins}
 use Rattle.grammar.specs.Reading.{Place, start, ended, pure_at, one_of_at}
 use Rattle.grammar.specs.Stops.{Stop, Lost, Fault, and_go_on, spelling_only, passed, tested_at}
@@ -13,109 +8,18 @@ use Rattle.grammar.proofs.Numbers.{NoDigit}
 use Rattle.grammar.proofs.Parts.{Anything}
 use Rattle.grammar.proofs.Places as places
 use Rattle.grammar.proofs.Stops.{Answers}
-use Rattle.spl_ast.specs.Formula.{Formula, Identity, Fourier, Hadamard, Twiddles, Diagonal, Stride, Permutation, GoodThomasIn, GoodThomasOut, Product, TensorLeft, TensorRight, DirectSum, Pending}
+use Rattle.spl_ast.specs.Formula.{Formula, Identity, Fourier, Hadamard, Twiddles, Diagonal, Stride, Permutation, GoodThomasIn, GoodThomasOut, Product, TensorLeft, TensorRight, DirectSum}
 use Rattle.spl_text.specs.declared.reading.Head.{Head}
 use Rattle.spl_text.specs.declared.reading.Head.TheVariants as head
-use Rattle.spl_text.specs.Answer.{opened, closed}
+use Rattle.spl_text.specs.Answer.{opened, closed, IsShallow}
 use Rattle.spl_text.specs.Arguments.{factor_at, comma_at, close_at, one_size_at, two_sizes_at, size_value_at, sizes_value_at, values_at}
 use Rattle.spl_text.specs.Fault.{TextFault, TooDeep, Shape, refusal, shape_fault}
 use Rattle.spl_text.specs.Reading.{heads, plain, made_at, arguments_by, two_formulas_by, tensor_left_by, tensor_right_by, too_deep, formula_at, line_at, ended_formula, all_of, whole_line}
-use Rattle.spl_text.specs.Spelling.{spells, spelling, more_text, values_text, AreValues, AreSomeValues, IsFactor, HasSpelling}
+use Rattle.spl_text.specs.Spelling.{spells, spelling, IsFactor, HasSpelling}
 use Rattle.spl_text.proofs.Heads.{head_word, word_of_head, from_heads}
+use Rattle.spl_text.proofs.Nested.{formula_nesting}
+use Rattle.spl_text.proofs.Parentheses.{Opens, then_balanced, one_deeper, balanced, size_balanced, spelling_balanced, shallow_by_count, shallow_both, front_shallow, within_shallow, size_shallow}
 use Rattle.spl_text.proofs.Readers.{heads_reader, factors, commas, one, one_spelt, one_factor, some_arguments, Exposes, formula_reader}
-
--- ---- parentheses of spellings
-
-opened_both : (xs ys : List ℕ) → opened (xs ++ ys) ≡ opened xs + opened ys
-opened_both xs ys = sum_by-append _ xs ys
-
-closed_both : (xs ys : List ℕ) → closed (xs ++ ys) ≡ closed xs + closed ys
-closed_both xs ys = sum_by-append _ xs ys
-
--- so many more are opened than closed
-abbrev Opens : ℕ → List ℕ → Type 0
-Opens n text = opened text ≡ closed text + n
-
-abbrev Closes : List ℕ → Type 0
-Closes text = closed text ≡ opened text + 1
-
-then_balanced : (n : ℕ) (xs ys : List ℕ) → Opens n xs → Opens 0 ys → Opens n (xs ++ ys)
-then_balanced n xs ys h g = omega (arith, h, g, opened_both xs ys, closed_both xs ys)
-
-one_deeper : (n : ℕ) (xs ys : List ℕ) → Opens 1 xs → Opens n ys → Opens (suc n) (xs ++ ys)
-one_deeper n xs ys h g = omega (arith, h, g, opened_both xs ys, closed_both xs ys)
-
-balanced : (xs ys : List ℕ) → Opens 0 xs → Opens 0 ys → Opens 0 (xs ++ ys)
-balanced xs ys h g = omega (arith, h, g, opened_both xs ys, closed_both xs ys)
-
-then_closes : (xs ys : List ℕ) → Opens 0 xs → Closes ys → Closes (xs ++ ys)
-then_closes xs ys h g = omega (arith, h, g, opened_both xs ys, closed_both xs ys)
-
-enclosed : (xs ys : List ℕ) → Opens 1 xs → Closes ys → Opens 0 (xs ++ ys)
-enclosed xs ys h g = omega (arith, h, g, opened_both xs ys, closed_both xs ys)
-
--- 1 for this code, 0 for another
-abbrev counts : ℕ → ℕ → ℕ
-counts c x = cond (eqb x c) 1 0
-
-no_code : (c x : ℕ) → c < 48 → 48 ≤ x → counts c x ≡ 0
-no_code c x h g = by_test (eqb x c) refl
-  where
-    by_test : (b : Bool) → eqb x c ≡ b → counts c x ≡ 0
-    by_test true e = let same : x ≡ c = eqb-true x c e in absurd (omega arith)
-    by_test false e = ap (λ b. cond b 1 0) e
-
-digits_balanced : (xs : List ℕ) → AllDigits 10 xs → Opens 0 xs
-digits_balanced [] h = refl
-digits_balanced (x ∷ xs) h =
-    let low = (digit_from_value x h.0).0 in
-    balanced (x ∷ []) xs (ap (λ n. 0 + n) (no_code 40 x (omega arith) low) ∙ sym (ap (λ n. 0 + n + 0) (no_code 41 x (omega arith) low))) (digits_balanced xs h.1)
-
-decimal_balanced : (n : ℕ) → n < 2 ^ 64 → Opens 0 (decimal n)
-decimal_balanced n h = digits_balanced (decimal n) (decimal_is_IsNumeral n h).0.1
-
-size_balanced : (n : ℕ) → IsFactor n → Opens 0 (decimal n)
-size_balanced n h = decimal_balanced n (omega (arith, h.1))
-
-more_balanced : (xs : List ℕ) → AreValues xs → Opens 0 (more_text xs)
-more_balanced [] h = refl
-more_balanced (x ∷ xs) h =
-    balanced (codes ",") (decimal x ++ more_text xs) refl (balanced (decimal x) (more_text xs) (decimal_balanced x (omega (arith, h.0))) (more_balanced xs h.1))
-
-values_balanced : (xs : List ℕ) → AreSomeValues xs → Opens 0 (values_text xs)
-values_balanced [] h = absurd h
-values_balanced (x ∷ xs) h = balanced (decimal x) (more_text xs) (decimal_balanced x (omega (arith, h.0))) (more_balanced xs h.1)
-
-closes_one : (xs : List ℕ) → Opens 0 xs → Closes (xs ++ codes ")")
-closes_one xs h = then_closes xs (codes ")") h refl
-
-closes_two : (xs ys : List ℕ) → Opens 0 xs → Opens 0 ys → Closes (xs ++ (codes "," ++ (ys ++ codes ")")))
-closes_two xs ys h g = then_closes xs (codes "," ++ (ys ++ codes ")")) h (then_closes (codes ",") (ys ++ codes ")") refl (closes_one ys g))
-
-part_one : (w xs : List ℕ) → Opens 1 w → Opens 0 xs → Opens 0 (w ++ (xs ++ codes ")"))
-part_one w xs o h = enclosed w (xs ++ codes ")") o (closes_one xs h)
-
-part_two : (w xs ys : List ℕ) → Opens 1 w → Opens 0 xs → Opens 0 ys → Opens 0 (w ++ (xs ++ (codes "," ++ (ys ++ codes ")"))))
-part_two w xs ys o h g = enclosed w (xs ++ (codes "," ++ (ys ++ codes ")"))) o (closes_two xs ys h g)
-
-spelling_balanced : (f : Formula) → HasSpelling f → Opens 0 (spelling f)
-spelling_balanced (Identity n) h = part_one (codes "I(") (decimal n) refl (size_balanced n h)
-spelling_balanced (Fourier n w) h = part_two (codes "DFT(") (decimal n) (decimal w) refl (size_balanced n h.0) (decimal_balanced w (omega (arith, h.1)))
-spelling_balanced (Hadamard n) h = part_one (codes "WHT(") (decimal n) refl (size_balanced n h)
-spelling_balanced (Twiddles n s w) h =
-    enclosed (codes "T(") (decimal n ++ (codes "," ++ (decimal s ++ (codes "," ++ (decimal w ++ codes ")"))))) refl
-    (then_closes (decimal n) (codes "," ++ (decimal s ++ (codes "," ++ (decimal w ++ codes ")")))) (size_balanced n h.0)
-    (then_closes (codes ",") (decimal s ++ (codes "," ++ (decimal w ++ codes ")"))) refl (closes_two (decimal s) (decimal w) (size_balanced s h.1) (decimal_balanced w (omega (arith, h.2))))))
-spelling_balanced (Diagonal c) h = part_one (codes "DIAG(") (values_text c) refl (values_balanced c h)
-spelling_balanced (Stride n r) h = part_two (codes "L(") (decimal n) (decimal r) refl (size_balanced n h.0) (size_balanced r h.1)
-spelling_balanced (Permutation k) h = part_one (codes "PERM(") (values_text k) refl (values_balanced k h)
-spelling_balanced (GoodThomasIn r s) h = part_two (codes "GTIN(") (decimal r) (decimal s) refl (size_balanced r h.0) (size_balanced s h.1)
-spelling_balanced (GoodThomasOut r s) h = part_two (codes "GTOUT(") (decimal r) (decimal s) refl (size_balanced r h.0) (size_balanced s h.1)
-spelling_balanced (Product a b) h = part_two (codes "TIMES(") (spelling a) (spelling b) refl (spelling_balanced a h.0) (spelling_balanced b h.1)
-spelling_balanced (TensorLeft a k) h = part_two (codes "LEFT(") (spelling a) (decimal k) refl (spelling_balanced a h.0) (size_balanced k h.1)
-spelling_balanced (TensorRight k a) h = part_two (codes "RIGHT(") (decimal k) (spelling a) refl (size_balanced k h.0) (spelling_balanced a h.1)
-spelling_balanced (DirectSum a b) h = part_two (codes "SUM(") (spelling a) (spelling b) refl (spelling_balanced a h.0) (spelling_balanced b h.1)
-spelling_balanced (Pending a) h = absurd h
 
 -- ---- a parenthesis so deep
 
@@ -127,6 +31,7 @@ pub record IsDeep (depth : ℕ) (text : List ℕ) (left : ℕ) : Type 0 where
   pub long : left ≡ length after + 1
   pub front : Begins spells (before ++ 40 ∷ [])
   pub level : Opens depth before
+  pub shallow : IsShallow depth before
 
 -- a part inside another one
 begins_inside : (front back text : List ℕ) (make : Formula → Formula) → ((g : Formula) → HasSpelling g → HasSpelling (make g))
@@ -142,14 +47,15 @@ begins_inside front back text make has spell b = (
 )
 
 inside : (depth left : ℕ) (front back text rest : List ℕ) (make : Formula → Formula) → ((g : Formula) → HasSpelling g → HasSpelling (make g))
-    → ((g : Formula) → spelling (make g) ≡ front ++ (spelling g ++ back)) → Opens 1 front → text ≡ front ++ rest → IsDeep depth rest left → IsDeep (suc depth) text left
-inside depth left front back text rest make has spell one_more e d = record {
+    → ((g : Formula) → spelling (make g) ≡ front ++ (spelling g ++ back)) → Opens 1 front → IsShallow (suc depth) front → text ≡ front ++ rest → IsDeep depth rest left → IsDeep (suc depth) text left
+inside depth left front back text rest make has spell one_more shallow e d = record {
   before = front ++ d.before;
   after = d.after;
   whole = e ∙ ap (λ z. front ++ z) d.whole ∙ sym (append_assoc front d.before (40 ∷ d.after));
   long = d.long;
   front = subst (λ z. Begins spells z) (sym (append_assoc front d.before (40 ∷ []))) (begins_inside front back (d.before ++ 40 ∷ []) make has spell d.front);
   level = one_deeper depth front d.before one_more d.level;
+  shallow = shallow_both 1 depth (suc depth) front d.before one_more shallow d.shallow (omega arith);
 }
 
 -- ---- steps that stop
@@ -209,12 +115,13 @@ two_opened : (w : List ℕ) (a : Formula) → Opens 1 w → HasSpelling a → Op
 two_opened w a o h = then_balanced 1 w (spelling a ++ codes ",") o (balanced (spelling a) (codes ",") (spelling_balanced a h) refl)
 
 module _ (depth : ℕ) (deep : (place : Place ℕ) (left : ℕ) → formula_at depth place ≡ Err (Fault (TooDeep left)) → IsDeep depth place.rest left) where
-  two_deep : (w : List ℕ) (make : Formula → Formula → Formula) → Opens 1 w → ((a b : Formula) → HasSpelling a → HasSpelling b → HasSpelling (make a b))
+  two_deep : (w : List ℕ) (make : Formula → Formula → Formula) → opened w ≡ 1 → closed w ≡ 0 → ((a b : Formula) → HasSpelling a → HasSpelling b → HasSpelling (make a b))
       → ((a b : Formula) → spelling (make a b) ≡ w ++ (spelling a ++ (codes "," ++ (spelling b ++ codes ")"))))
       → (text : List ℕ) (place : Place ℕ) (left : ℕ) → text ≡ w ++ place.rest → two_formulas_by (formula_at depth) make place ≡ Err (Fault (TooDeep left)) → IsDeep (suc depth) text left
-  two_deep w make o has spell text place left t e =
+  two_deep w make count none has spell text place left t e =
+      let o : Opens 1 w = omega (arith, count, none) in
       ⊎_elim
-      (λ first. inside depth left w (codes "," ++ (spelling one ++ codes ")")) text place.rest (λ g. make g one) (λ g h. has g one h one_spelt) (λ g. spell g one) o t (deep place left first))
+      (λ first. inside depth left w (codes "," ++ (spelling one ++ codes ")")) text place.rest (λ g. make g one) (λ g h. has g one h one_spelt) (λ g. spell g one) o (shallow_by_count (suc depth) w (omega (arith, count))) t (deep place left first))
       (λ a.
       let took = formula_took depth place a.0 a.1 in
       let c = goes_past (comma_at a.0.1) _ (TooDeep left) a.2 in
@@ -224,6 +131,7 @@ module _ (depth : ℕ) (deep : (place : Place ℕ) (left : ℕ) → formula_at d
       inside depth left (w ++ (spelling a.0.0 ++ codes ",")) (codes ")") text c.0.1.rest (λ g. make a.0.0 g) (λ g h. has a.0.0 g took.0 h)
       (λ g. spell a.0.0 g ∙ ap (λ z. w ++ z) (sym (append_assoc (spelling a.0.0) (codes ",") (spelling g ++ codes ")"))) ∙ sym (append_assoc w (spelling a.0.0 ++ codes ",") (spelling g ++ codes ")")))
       (two_opened w a.0.0 o took.0)
+      (front_shallow depth w (spelling a.0.0) count none (spelling_balanced a.0.0 took.0) (within_shallow depth a.0.0 (formula_nesting depth place a.0 a.1) took.0))
       (t ∙ ap (λ z. w ++ z) (took.1 ∙ ap (λ z. spelling a.0.0 ++ z) comma ∙ sym (append_assoc (spelling a.0.0) (codes ",") c.0.1.rest)) ∙ sym (append_assoc w (spelling a.0.0 ++ codes ",") c.0.1.rest))
       (deep c.0.1 left second))
       (λ b. absurd (closing_never (make a.0.0 b.0.0) b.0.1 (TooDeep left) b.2))
@@ -233,7 +141,7 @@ module _ (depth : ℕ) (deep : (place : Place ℕ) (left : ℕ) → formula_at d
   left_deep : (text : List ℕ) (place : Place ℕ) (left : ℕ) → text ≡ codes "LEFT(" ++ place.rest → tensor_left_by (formula_at depth) place ≡ Err (Fault (TooDeep left)) → IsDeep (suc depth) text left
   left_deep text place left t e =
       ⊎_elim
-      (λ first. inside depth left (codes "LEFT(") (codes "," ++ (decimal 1 ++ codes ")")) text place.rest (λ g. TensorLeft g 1) (λ g h. (h, one_factor)) (λ g. refl) refl t (deep place left first))
+      (λ first. inside depth left (codes "LEFT(") (codes "," ++ (decimal 1 ++ codes ")")) text place.rest (λ g. TensorLeft g 1) (λ g h. (h, one_factor)) (λ g. refl) refl (shallow_by_count (suc depth) (codes "LEFT(") (omega arith)) t (deep place left first))
       (λ a.
       let c = goes_past (comma_at a.0.1) _ (TooDeep left) a.2 in
       let k = goes_past (factor_at c.0.1) _ (TooDeep left) c.2 in
@@ -251,6 +159,7 @@ module _ (depth : ℕ) (deep : (place : Place ℕ) (left : ℕ) → formula_at d
       inside depth left (codes "RIGHT(" ++ (decimal n ++ codes ",")) (codes ")") text c.0.1.rest (λ g. TensorRight n g) (λ g h. (took.0, h))
       (λ g. ap (λ z. codes "RIGHT(" ++ z) (sym (append_assoc (decimal n) (codes ",") (spelling g ++ codes ")"))))
       (then_balanced 1 (codes "RIGHT(") (decimal n ++ codes ",") refl (balanced (decimal n) (codes ",") (size_balanced n took.0) refl))
+      (front_shallow depth (codes "RIGHT(") (decimal n) refl refl (size_balanced n took.0) (size_shallow depth n took.0))
       (t ∙ ap (λ z. codes "RIGHT(" ++ z) (took.1 ∙ ap (λ z. decimal n ++ z) (comma_took k.0.1 c.0 c.1) ∙ sym (append_assoc (decimal n) (codes ",") c.0.1.rest)))
       (deep c.0.1 left inner))
       (λ a. absurd (closing_never (TensorRight n a.0.0) a.0.1 (TooDeep left) a.2))
@@ -266,26 +175,26 @@ module _ (depth : ℕ) (deep : (place : Place ℕ) (left : ℕ) → formula_at d
   arguments_deep head.Perm text place left t e = absurd (made_never values_at Permutation place (TooDeep left) e)
   arguments_deep head.GtIn text place left t e = absurd (made_never two_sizes_at (λ x. GoodThomasIn x.0 x.1) place (TooDeep left) e)
   arguments_deep head.GtOut text place left t e = absurd (made_never two_sizes_at (λ x. GoodThomasOut x.0 x.1) place (TooDeep left) e)
-  arguments_deep head.Times text place left t e = two_deep (codes "TIMES(") Product refl (λ a b h k. (h, k)) (λ a b. refl) text place left t e
-  arguments_deep head.Sum text place left t e = two_deep (codes "SUM(") DirectSum refl (λ a b h k. (h, k)) (λ a b. refl) text place left t e
+  arguments_deep head.Times text place left t e = two_deep (codes "TIMES(") Product refl refl (λ a b h k. (h, k)) (λ a b. refl) text place left t e
+  arguments_deep head.Sum text place left t e = two_deep (codes "SUM(") DirectSum refl refl (λ a b h k. (h, k)) (λ a b. refl) text place left t e
   arguments_deep head.Left text place left t e = left_deep text place left t e
   arguments_deep head.Right text place left t e = right_deep text place left t e
 
 -- a head ends with its one parenthesis
-opening : (h : Head) → (x : List ℕ) × (head_word h ≡ x ++ 40 ∷ []) × Opens 0 x
-opening head.I = (codes "I", refl, refl)
-opening head.Dft = (codes "DFT", refl, refl)
-opening head.Wht = (codes "WHT", refl, refl)
-opening head.T = (codes "T", refl, refl)
-opening head.Diag = (codes "DIAG", refl, refl)
-opening head.L = (codes "L", refl, refl)
-opening head.Perm = (codes "PERM", refl, refl)
-opening head.GtIn = (codes "GTIN", refl, refl)
-opening head.GtOut = (codes "GTOUT", refl, refl)
-opening head.Times = (codes "TIMES", refl, refl)
-opening head.Left = (codes "LEFT", refl, refl)
-opening head.Right = (codes "RIGHT", refl, refl)
-opening head.Sum = (codes "SUM", refl, refl)
+opening : (h : Head) → (x : List ℕ) × (head_word h ≡ x ++ 40 ∷ []) × Opens 0 x × (opened x ≡ 0)
+opening head.I = (codes "I", refl, refl, refl)
+opening head.Dft = (codes "DFT", refl, refl, refl)
+opening head.Wht = (codes "WHT", refl, refl, refl)
+opening head.T = (codes "T", refl, refl, refl)
+opening head.Diag = (codes "DIAG", refl, refl, refl)
+opening head.L = (codes "L", refl, refl, refl)
+opening head.Perm = (codes "PERM", refl, refl, refl)
+opening head.GtIn = (codes "GTIN", refl, refl, refl)
+opening head.GtOut = (codes "GTOUT", refl, refl, refl)
+opening head.Times = (codes "TIMES", refl, refl, refl)
+opening head.Left = (codes "LEFT", refl, refl, refl)
+opening head.Right = (codes "RIGHT", refl, refl, refl)
+opening head.Sum = (codes "SUM", refl, refl, refl)
 
 deep_left : (n left : ℕ) → Fault (TooDeep n) ≡ Fault (TooDeep left) → n ≡ left
 deep_left n left e = cc
@@ -308,6 +217,7 @@ first_deep place left (Ok x) is e =
       long = sym (deep_left (length x.1.rest + 1) left (same_stop (Fault (TooDeep (length x.1.rest + 1))) (Fault (TooDeep left)) e));
       front = subst (λ z. Begins spells z) o.1 front;
       level = o.2;
+      shallow = shallow_by_count 0 o.0 (omega (arith, o.3));
     }
 
 same_fault : (s t : TextFault) → Fault s ≡ Fault t → s ≡ t

@@ -5,6 +5,7 @@ pub mod Fits
 pub mod Heads
 pub mod Judging
 pub mod Nested
+pub mod Parentheses
 pub mod Printable
 pub mod ReadAgain
 pub mod Readers

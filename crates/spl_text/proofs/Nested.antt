@@ -72,7 +72,7 @@ never_too_deep : (r : Result (Head × Place ℕ) ℕ) (y : Formula × Place ℕ)
 never_too_deep (Ok x) y e = cc
 never_too_deep (Err left) y e = cc
 
-formula_nesting : (depth : ℕ) (place : Place ℕ) (y : Formula × Place ℕ) → formula_at depth place ≡ Ok y → nesting_of y.0 ≤ depth
+pub formula_nesting : (depth : ℕ) (place : Place ℕ) (y : Formula × Place ℕ) → formula_at depth place ≡ Ok y → nesting_of y.0 ≤ depth
 unfolding formula_at
 formula_nesting zero place y e = absurd (never_too_deep (one_of_at heads place) y e)
 formula_nesting (suc depth) place y e =

@@ -73,7 +73,7 @@ shows_fault text (halts.Syntax left) e = (text_answers text (Err (Lost left)) e)
 shows_fault text (halts.TooDeep left) e =
     let h = text_deep text left e in
     let long : length text ≡ length h.before + length (40 ∷ h.after) = ap length h.whole ∙ length-append h.before (40 ∷ h.after) in
-    record { before = h.before; after = h.after; whole = h.whole; place = omega (arith, long, h.long); opens = h.level; begins = h.front }
+    record { before = h.before; after = h.after; whole = h.whole; place = omega (arith, long, h.long); opens = h.level; shallow = h.shallow; begins = h.front }
 shows_fault text (halts.Shape left first second) e =
     let h = text_answers text (Err (Fault (Shape left first second))) e in
     let s = shape_is (refusal h.3) (length (h.1 ++ h.2)) left first second h.6 in

@@ -79,13 +79,18 @@ opened text = count_by (λ b. b == 40) text
 abbrev pub closed : List ℕ → ℕ
 closed text = count_by (λ b. b == 41) text
 
--- an opening parenthesis stands at this place, behind 128 open ones, and the spelling of some formula goes on with it
+-- no front of the text leaves more than so many open
+abbrev pub IsShallow : ℕ → List ℕ → Type 0
+IsShallow n text = (front rest : List ℕ) → text ≡ front ++ rest → opened front ≤ closed front + n
+
+-- an opening parenthesis stands at this place, the first behind 128 open ones, and the spelling of some formula goes on with it
 pub record HasParenthesis (text : List ℕ) (at : ℕ) : Type 0 where
   pub before : List ℕ
   pub after : List ℕ
   pub whole : text ≡ before ++ (40 ∷ after)
   pub place : length before ≡ at
   pub opens : opened before ≡ closed before + 128
+  pub shallow : IsShallow 128 before
   pub begins : Begins spells (before ++ 40 ∷ [])
 
 -- a part of the text begins at this place, and spells a formula that is refused for these two numbers
