@@ -1,5 +1,5 @@
 -- What is read of numbers is within their limits.
-use Rattle.std.proofs.Common.{◌≡◌, ℕ, ◌+◌, ◌^◌, ◌<◌, ◌≤◌, Result, Ok, Err, subst, arith, List, [], ◌∷◌, ◌++◌, All, codes, sym, ap, refl, length}
+use Rattle.std.proofs.Common.{◌≡◌, ℕ, ◌^◌, ◌<◌, Result, Ok, Err, subst, arith, List, [], ◌∷◌, ◌++◌, All, codes, sym, ap, refl, length}
 use Rattle.std.proofs.lemmas.Grind.{common_steps}
 use Rattle.grammar.proofs.Loop.{in_front}
 use Rattle.grammar.specs.Grammar.{number, positive, named_number}

@@ -1,11 +1,11 @@
 -- The tests of a size and of Good-Thomas factors.
-use Rattle.std.proofs.Common.{◌≡◌, ℕ, zero, suc, ◌+◌, ◌*◌, ◌/◌, ◌%◌, ◌<◌, ◌≤◌, Bool, true, false, not, ◌&&◌, ◌||◌, eqb, ltb, IsTrue, ◌↔◌, refl, sym, ap, ap₂, subst, arith, ◌∙◌, mul_comm, inl, inr, ⊎_elim}
+use Rattle.std.proofs.Common.{◌≡◌, ℕ, zero, suc, ◌/◌, ◌%◌, ◌<◌, ◌≤◌, Bool, true, false, not, ◌&&◌, ◌||◌, eqb, ltb, IsTrue, ◌↔◌, refl, sym, ap, ap₂, arith, ◌∙◌, mul_comm, ⊎_elim}
 use Rattle.std.specs.Int.{IsGcd, ◌∣◌}
 use Rattle.std.proofs.lemmas.Bool.{eq-eqb, eqb-true, lt-ltb, ltb-true, cases_lt}
 use Rattle.std.proofs.lemmas.Nat.Gcd.{dvd_of_mod-eq-zero, mod-eq-zero_of_dvd, dvd_refl, le_of_dvd}
 use Rattle.std.proofs.Math.Nat.{eq-zero_of_zero-dvd, one-dvd}
 use Rattle.tree_model.proofs.Splits.{product_div}
-use Rattle.spl_ast.specs.Shape.{IsMultiple, AreGoodThomasFactors}
+use Rattle.spl_ast.specs.Shape.{IsMultiple}
 use Rattle.spl_text.specs.Fault.{share_factor, are_coprime}
 
 pub multiple : (n r : ℕ) → n % r ≡ 0 → IsMultiple n r

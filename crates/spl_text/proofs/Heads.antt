@@ -1,7 +1,7 @@
 -- The grammar of formulas by their heads.
-use Rattle.std.proofs.Common.{◌≡◌, ℕ, zero, suc, ◌+◌, ◌^◌, ◌<◌, ◌≤◌, List, [], ◌∷◌, ◌++◌, length, codes, decimal, Result, Ok, Err, Option, Some, None, refl, sym, ap, subst, ◌∙◌, append_assoc, arith, inl, inr, ⊎_elim}
+use Rattle.std.proofs.Common.{◌≡◌, ℕ, ◌^◌, List, [], ◌∷◌, ◌++◌, codes, decimal, refl, sym, ap, subst, ◌∙◌, append_assoc, inl, inr}
 use Rattle.std.proofs.lemmas.List.{append-nil}
-use Rattle.grammar.specs.Grammar.{◌>>=◌, ◌>>◌, Follows, pure, word, one_of, number, positive, named_number, many, Begins}
+use Rattle.grammar.specs.Grammar.{◌>>=◌, ◌>>◌, Follows, pure, word, one_of, number, positive, named_number, many}
 use Rattle.grammar.proofs.Parts.{follows, spells_named}
 use Rattle.spl_ast.specs.Formula.{Formula, Identity, Fourier, Hadamard, Twiddles, Diagonal, Stride, Permutation, GoodThomasIn, GoodThomasOut, Product, TensorLeft, TensorRight, DirectSum, Pending}
 use Rattle.spl_text.specs.declared.reading.Head.{Head}

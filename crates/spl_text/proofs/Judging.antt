@@ -1,13 +1,13 @@
 -- From a part that is made or refused to what reading gives.
-use Rattle.std.proofs.Common.{◌≡◌, ℕ, Result, Ok, Err, Option, Some, None, sym, ap, ◌∙◌, refl}
+use Rattle.std.proofs.Common.{ℕ, Result, Ok, Err, sym, ap, ◌∙◌}
 use Rattle.std.specs.Option.{option_map}
 use Rattle.grammar.specs.Reading.{Place}
-use Rattle.grammar.specs.Stops.{Stop, Lost, Fault, passed, tested_at}
+use Rattle.grammar.specs.Stops.{Fault, passed, tested_at}
 use Rattle.spl_ast.specs.Formula.{Formula}
 use Rattle.spl_text.specs.declared.reading.Halt.{Halt}
 use Rattle.spl_text.specs.declared.reading.Halt.TheVariants as halts
 use Rattle.spl_text.specs.Answer.{Says, Judged}
-use Rattle.spl_text.specs.Fault.{TextFault, Shape, refusal, shape_fault}
+use Rattle.spl_text.specs.Fault.{Shape, shape_fault}
 
 pub says_judged : (r : Result Formula Halt) (left : ℕ) (g : Formula) (place : Place ℕ) → Judged r left g → Says r place (tested_at left shape_fault (Ok (g, place)))
 says_judged (Ok f) left g place h =

@@ -1,7 +1,7 @@
 -- What is read has a text with at most 128 open parentheses.
-use Rattle.std.proofs.Common.{◌≡◌, ℕ, zero, suc, ◌+◌, ◌<◌, ◌≤◌, List, [], ◌∷◌, Option, Some, None, Result, Ok, Err, refl, sym, ap, subst, ◌∙◌, arith}
+use Rattle.std.proofs.Common.{◌≡◌, ℕ, zero, suc, ◌+◌, ◌≤◌, List, [], ◌∷◌, Option, Some, None, Result, Ok, Err, refl, sym, ap, subst, arith}
 use Rattle.grammar.specs.Reading.{Place, start, ended, pure_at, one_of_at}
-use Rattle.grammar.specs.Stops.{Stop, Lost, Fault, and_go_on, passed, tested_at}
+use Rattle.grammar.specs.Stops.{Stop, and_go_on, passed, tested_at}
 use Rattle.spl_ast.specs.Formula.{Formula, Identity, Fourier, Hadamard, Twiddles, Diagonal, Stride, Permutation, GoodThomasIn, GoodThomasOut, Product, TensorLeft, TensorRight, DirectSum, Pending}
 use Rattle.spl_ast.specs.Nesting.{nesting_of, IsComplete, IsPrintable}
 use Rattle.spl_text.specs.declared.reading.Head.{Head}
@@ -72,7 +72,7 @@ never_too_deep : (r : Result (Head × Place ℕ) ℕ) (y : Formula × Place ℕ)
 never_too_deep (Ok x) y e = cc
 never_too_deep (Err left) y e = cc
 
-formula_nesting : (depth : ℕ) (place : Place ℕ) (y : Formula × Place ℕ) → formula_at depth place ≡ Ok y → nesting_of y.0 ≤ depth
+pub formula_nesting : (depth : ℕ) (place : Place ℕ) (y : Formula × Place ℕ) → formula_at depth place ≡ Ok y → nesting_of y.0 ≤ depth
 unfolding formula_at
 formula_nesting zero place y e = absurd (never_too_deep (one_of_at heads place) y e)
 formula_nesting (suc depth) place y e =

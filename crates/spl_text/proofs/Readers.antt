@@ -1,15 +1,15 @@
 -- The reader of formulas.
-use Rattle.std.proofs.Common.{◌≡◌, ℕ, zero, suc, ◌+◌, ◌-◌, ◌^◌, ◌<◌, ◌≤◌, Bool, true, false, List, [], ◌∷◌, ◌++◌, length, codes, decimal, Result, Ok, Err, Option, Some, None, refl, sym, ap, ap₂, IfOk, subst, ◌∙◌, append_assoc, arith, inl, inr}
+use Rattle.std.proofs.Common.{◌≡◌, ℕ, zero, suc, ◌+◌, ◌-◌, ◌^◌, ◌<◌, ◌≤◌, List, [], ◌∷◌, ◌++◌, length, codes, decimal, Result, Ok, Err, Option, Some, None, refl, sym, ap, ap₂, IfOk, subst, ◌∙◌, append_assoc, arith}
 use Rattle.std.specs.Option.{option_map}
-use Rattle.std.proofs.lemmas.List.{append-nil, length-append}
-use Rattle.grammar.specs.Grammar.{◌>>=◌, ◌>>◌, Follows, pure, word, one_of, number, positive, named_number, many, Begins, optional}
-use Rattle.grammar.specs.Reading.{Place, pure_at, one_of_at, word_at, number_at, positive_at, named_number_at, all_at, optional_at}
-use Rattle.grammar.specs.Stops.{Stop, Lost, Fault, and_go_on, spelling_only, tested_at, HasFault}
+use Rattle.std.proofs.lemmas.List.{length-append}
+use Rattle.grammar.specs.Grammar.{◌>>◌, Follows, pure, word, one_of, number, positive, many, Begins}
+use Rattle.grammar.specs.Reading.{Place, pure_at, one_of_at, word_at, number_at, positive_at, named_number_at, all_at}
+use Rattle.grammar.specs.Stops.{Stop, and_go_on, spelling_only, tested_at, HasFault}
 use Rattle.grammar.specs.Cursor.{Gives}
 use Rattle.grammar.specs.declared.token.Stuck.{Stuck}
 use Rattle.grammar.proofs.Numbers.{NoDigit}
 use Rattle.grammar.proofs.Parts.{Anything, Nothing, Behind, behind_anything, behind_word, named_no_digit, named_excluded, keeps_pure, word_reader, one_of_reader, number_reader, named_number_reader, starts, follows}
-use Rattle.grammar.proofs.Many.{IsRepeated, many_reader}
+use Rattle.grammar.proofs.Many.{many_reader}
 use Rattle.grammar.proofs.Positive.{positive_reader}
 use Rattle.grammar.proofs.Places as places
 use Rattle.grammar.proofs.Places.{Leaves, bind_lost, optional_reader}
@@ -21,31 +21,31 @@ use Rattle.spl_text.specs.Arguments.{one_size_at, two_sizes_at, size_value_at, s
 use Rattle.spl_text.specs.Fault.{TextFault, TooDeep, Shape, refusal, shape_fault}
 use Rattle.spl_text.specs.Reading.{heads, plain, arguments_by, two_formulas_by, too_deep, formula_at, line_at}
 use Rattle.spl_text.specs.Spelling.{spells, spells_line, spelling, HasSpelling}
-use Rattle.spl_text.proofs.Heads.{one_size, two_sizes, size_value, sizes_value, values, two_formulas, arguments, by_heads, item, head_word, head_of_word, word_of_head, from_heads, to_heads, to_one_size, to_two_sizes, to_size_value, to_sizes_value, to_values, to_two_formulas, made, closing, comma}
+use Rattle.spl_text.proofs.Heads.{one_size, two_sizes, size_value, sizes_value, values, two_formulas, arguments, by_heads, item, head_word, word_of_head, from_heads, to_heads, to_one_size, to_two_sizes, to_size_value, to_sizes_value, to_values, to_two_formulas, made, closing, comma}
 
 any : {B : Type 0} (L : List ℕ → B → Type 0) → Leaves Anything Anything L
 any L = behind_anything Anything L
 
 -- ---- numbers
 
-factors : places.IsReader NoDigit (positive 65537) (positive_at 65537)
+pub factors : places.IsReader NoDigit (positive 65537) (positive_at 65537)
 factors = positive_reader 65537 (omega arith) (omega arith)
 
 ring_values : places.IsReader NoDigit (number (2 ^ 62)) (number_at (2 ^ 62))
 ring_values = number_reader (2 ^ 62) (omega arith) (omega arith)
 
-close : places.IsReader {A = Unit {0}} Anything (word (codes ")")) (word_at (codes ")"))
+pub close : places.IsReader {A = Unit {0}} Anything (word (codes ")")) (word_at (codes ")"))
 close = word_reader Anything (codes ")")
 
-commas : places.IsReader {A = Unit {0}} Anything (word (codes ",")) (word_at (codes ","))
+pub commas : places.IsReader {A = Unit {0}} Anything (word (codes ",")) (word_at (codes ","))
 commas = word_reader Anything (codes ",")
 
-one_size_reader : places.IsReader Anything one_size one_size_at
+pub one_size_reader : places.IsReader Anything one_size one_size_at
 one_size_reader =
     places.bind_reader NoDigit Anything _ _ _ _ factors (λ n u l.
     places.bind_reader Anything Anything _ _ _ _ close (λ w u l. places.pure_reader Anything n) (λ w. any _)) (λ n. behind_word Anything (codes ")") _ refl)
 
-two_sizes_reader : places.IsReader Anything two_sizes two_sizes_at
+pub two_sizes_reader : places.IsReader Anything two_sizes two_sizes_at
 two_sizes_reader =
     places.bind_reader NoDigit Anything _ _ _ _ factors (λ n u l.
     places.bind_reader Anything Anything _ _ _ _ commas (λ w u l.
@@ -53,7 +53,7 @@ two_sizes_reader =
     places.bind_reader Anything Anything _ _ _ _ close (λ w u l. places.pure_reader Anything (n, r)) (λ w. any _)) (λ r. behind_word Anything (codes ")") _ refl))
     (λ w. any _)) (λ n. behind_word Anything (codes ",") _ refl)
 
-size_value_reader : places.IsReader Anything size_value size_value_at
+pub size_value_reader : places.IsReader Anything size_value size_value_at
 size_value_reader =
     places.bind_reader NoDigit Anything _ _ _ _ factors (λ n u l.
     places.bind_reader Anything Anything _ _ _ _ commas (λ w u l.
@@ -61,7 +61,7 @@ size_value_reader =
     places.bind_reader Anything Anything _ _ _ _ close (λ w u l. places.pure_reader Anything (n, r)) (λ w. any _)) (λ r. behind_word Anything (codes ")") _ refl))
     (λ w. any _)) (λ n. behind_word Anything (codes ",") _ refl)
 
-sizes_value_reader : places.IsReader Anything sizes_value sizes_value_at
+pub sizes_value_reader : places.IsReader Anything sizes_value sizes_value_at
 sizes_value_reader =
     places.bind_reader NoDigit Anything _ _ _ _ factors (λ n u l.
     places.bind_reader Anything Anything _ _ _ _ commas (λ w u l.
@@ -102,7 +102,7 @@ more_leaves : {B : Type 0} (L : List ℕ → List ℕ → B → Type 0) → ((xs
 more_leaves L closes u b v l c =
     subst NoDigit (sym (append_assoc l.front l.rest v) ∙ ap (λ y. y ++ v) (sym l.whole)) (goes_on l.front l.spelt (l.rest ++ v) l.begins (closes l.spelt l.rest b v l.ends tt))
 
-values_reader : places.IsReader Anything values values_at
+pub values_reader : places.IsReader Anything values values_at
 values_reader =
     places.bind_reader NoDigit Anything _ _ _ _ ring_values (λ first u l.
     places.bind_reader (Behind (codes ",")) Anything _ _ _ _ more_reader (λ others u l.
@@ -127,7 +127,7 @@ other_heads =
     ∷ (codes "GTIN(", head.GtIn) ∷ (codes "GTOUT(", head.GtOut) ∷ (codes "TIMES(", head.Times)
     ∷ (codes "LEFT(", head.Left) ∷ (codes "RIGHT(", head.Right) ∷ (codes "SUM(", head.Sum) ∷ []
 
-heads_reader : places.IsReader Anything (one_of heads) (one_of_at heads)
+pub heads_reader : places.IsReader Anything (one_of heads) (one_of_at heads)
 unfolding other_heads
 heads_reader = one_of_reader Anything (codes "I(", head.I) other_heads refl
 
@@ -171,10 +171,10 @@ module _ (read : Place ℕ → Result (Formula × Place ℕ) (Stop TextFault)) (
       (λ k. behind_word Anything (codes ",") _ refl)
   arguments_reader head.Sum = two_formulas_reader DirectSum
 
-one : Formula
+pub one : Formula
 one = Identity 1
 
-one_spelt : HasSpelling one
+pub one_spelt : HasSpelling one
 unfolding one
 one_spelt = (omega arith, omega arith)
 
@@ -182,11 +182,11 @@ one_formula : by_heads (spelling one) one
 unfolding spells
 one_formula = to_heads (spelling one) one (one_spelt, refl)
 
-one_factor : (0 < 1) × (1 < 65537)
+pub one_factor : (0 < 1) × (1 < 65537)
 one_factor = (omega arith, omega arith)
 
 -- each head has some arguments
-some_arguments : (h : Head) (u : List ℕ) → one_of heads u h → Begins (arguments h) []
+pub some_arguments : (h : Head) (u : List ℕ) → one_of heads u h → Begins (arguments h) []
 unfolding one spells
 some_arguments head.I u l = (_, Identity 1, made one_size Identity _ 1 (to_one_size 1 one_factor))
 some_arguments head.Dft u l = (_, Fourier 1 1, made size_value (λ y. Fourier y.0 y.1) _ (1, 1) (to_size_value 1 1 one_factor (omega arith)))
@@ -234,7 +234,7 @@ deep_answers place (Ok x) p =
     (o.0, x.1.rest, p.whole ∙ ap (λ y. y ++ x.1.rest) (word_of_head p.text x.0 p.spelt ∙ o.1) ∙ append_assoc o.0 (40 ∷ []) x.1.rest, refl)
 deep_answers place (Err left) p = bind_lost Anything Anything (one_of heads) arguments (λ h. any (arguments h)) some_arguments place left p
 
-no_depth : (o : Option (ℕ × ℕ)) (left left' : ℕ) → option_map (λ p. Shape left p.0 p.1) o ≡ Some (TooDeep left') → ⊥
+pub no_depth : (o : Option (ℕ × ℕ)) (left left' : ℕ) → option_map (λ p. Shape left p.0 p.1) o ≡ Some (TooDeep left') → ⊥
 no_depth None left left' e = absurd cc
 no_depth (Some p) left left' e = absurd cc
 
@@ -253,7 +253,7 @@ formula_reader (suc depth) =
 
 -- ---- the line
 
-no_line_end : (u : List ℕ) (x : Unit {0}) (v : List ℕ) → word (codes "\n") u x → Nothing (u ++ v) → ⊥
+pub no_line_end : (u : List ℕ) (x : Unit {0}) (v : List ℕ) → word (codes "\n") u x → Nothing (u ++ v) → ⊥
 no_line_end u x v l e = let none : 10 ∷ v ≡ [] = ap (λ y. y ++ v) (sym l) ∙ e in absurd cc
 
 pub line_reader : IsReader Exposes Nothing spells_line line_at

@@ -1,14 +1,14 @@
 -- The first entry of a list that is no place of it or stood before.
-use Rattle.std.proofs.Common.{◌≡◌, ℕ, zero, suc, ◌+◌, ◌<◌, ◌≤◌, Bool, true, false, cond, not, ◌&&◌, ◌||◌, eqb, ltb, ◌≢◌, ◌⊎◌, inl, inr, List, [], ◌∷◌, ◌++◌, map, take, drop, length, get_or, set, Option, Some, None, refl, sym, ap, ap₂, subst, arith, ◌∙◌, add-one, drop-cons, append_assoc}
+use Rattle.std.proofs.Common.{◌≡◌, ℕ, zero, suc, ◌+◌, ◌<◌, ◌≤◌, Bool, true, false, cond, not, ◌&&◌, ◌||◌, eqb, ltb, inl, inr, List, [], ◌∷◌, ◌++◌, map, take, drop, length, get_or, set, Option, Some, None, refl, sym, ap, ap₂, arith, ◌∙◌, add-one, drop-cons}
 use Rattle.std.proofs.lemmas.Bool.{eq-eqb, eqb-true, lt-ltb, ltb-true, cases_lt}
 use Rattle.std.proofs.Math.Seq.{take-suc}
-use Rattle.std.proofs.lemmas.List.{get_or-set_same, get_or-set_other, length-set, drop_all}
+use Rattle.std.proofs.lemmas.List.{get_or-set_same, get_or-set_other, drop_all}
 use Rattle.std.specs.List.{range_with_len}
 use Rattle.std.proofs.lemmas.List.FromFn.{get_or-map-range_with_len, length-map-range_with_len}
 use Rattle.spl_ast.specs.Shape.{IsPermutation}
 use Rattle.spl_text.specs.Fault.{is_among, first_stray}
 
-is_among-push : (v k : ℕ) (xs : List ℕ) → is_among v (xs ++ k ∷ []) ≡ (is_among v xs || eqb k v)
+pub is_among-push : (v k : ℕ) (xs : List ℕ) → is_among v (xs ++ k ∷ []) ≡ (is_among v xs || eqb k v)
 is_among-push v k [] = or_last (eqb k v)
   where
     or_last : (b : Bool) → (b || false) ≡ (false || b)

@@ -1,5 +1,5 @@
 -- The reader of a whole text.
-use Rattle.std.proofs.Common.{◌≡◌, ℕ, ◌+◌, ◌-◌, ◌<◌, ◌≤◌, List, [], ◌∷◌, ◌++◌, length, Option, Some, None, Result, Ok, Err, refl, sym, ap, subst, ◌∙◌, arith}
+use Rattle.std.proofs.Common.{◌≡◌, ℕ, ◌+◌, ◌-◌, ◌≤◌, List, ◌∷◌, ◌++◌, length, Option, Some, None, Result, Ok, Err, refl, sym, ap, subst, ◌∙◌, arith}
 use Rattle.std.specs.Option.{option_map}
 use Rattle.std.proofs.lemmas.List.{length-append}
 use Rattle.grammar.specs.Grammar.{Judges, IsStuck}
@@ -11,10 +11,11 @@ use Rattle.grammar.proofs.Stops.{Answers}
 use Rattle.spl_ast.specs.Formula.{Formula}
 use Rattle.spl_text.specs.declared.reading.Halt.{Halt}
 use Rattle.spl_text.specs.declared.reading.Halt.TheVariants as halts
-use Rattle.spl_text.specs.Answer.{SaysAll, IsWithin, fault_of, IsLeft, IsFirst, Shows, HasParenthesis, HasMisfit}
+use Rattle.spl_text.specs.Answer.{SaysAll, IsWithin, fault_of, IsLeft, IsFirst, Shows}
 use Rattle.spl_text.specs.Fault.{TextFault, TooDeep, Shape, refusal}
 use Rattle.spl_text.specs.Reading.{line_at, ended_formula, all_of, whole_line}
-use Rattle.spl_text.specs.Spelling.{spells, spells_line}
+use Rattle.spl_text.specs.Spelling.{spells_line}
+use Rattle.spl_text.proofs.Deep.{text_deep}
 use Rattle.spl_text.proofs.Nested.{read_is_printable}
 use Rattle.spl_text.proofs.Readers.{Exposes, line_reader}
 
@@ -70,9 +71,9 @@ pub shows_fault : (text : List ℕ) (halt : Halt) → SaysAll (Err halt) (whole_
 shows_fault text halts.NoMemory e = tt
 shows_fault text (halts.Syntax left) e = (text_answers text (Err (Lost left)) e).1
 shows_fault text (halts.TooDeep left) e =
-    let h = text_answers text (Err (Fault (TooDeep left))) e in
-    let long : length text ≡ length h.0 + length (40 ∷ h.1) = ap length h.2 ∙ length-append h.0 (40 ∷ h.1) in
-    record { before = h.0; after = h.1; whole = h.2; place = omega (arith, long, h.3) }
+    let h = text_deep text left e in
+    let long : length text ≡ length h.before + length (40 ∷ h.after) = ap length h.whole ∙ length-append h.before (40 ∷ h.after) in
+    record { before = h.before; after = h.after; whole = h.whole; place = omega (arith, long, h.long); opens = h.level; shallow = h.shallow; begins = h.front }
 shows_fault text (halts.Shape left first second) e =
     let h = text_answers text (Err (Fault (Shape left first second))) e in
     let s = shape_is (refusal h.3) (length (h.1 ++ h.2)) left first second h.6 in

@@ -1,6 +1,6 @@
 -- What a reader of formulas answers.
-use Rattle.std.specs.Prelude.{◌≡◌, ℕ, ◌≤◌, ◌-◌, ◌∷◌, ◌++◌, List, length, Option, Some, None, Result, Ok, Err}
-use Rattle.grammar.specs.Grammar.{IsStuck}
+use Rattle.std.specs.Prelude.{◌≡◌, ℕ, ◌+◌, ◌≤◌, ◌-◌, [], ◌∷◌, ◌++◌, ◌==◌, List, length, count_by, Some, None, Result, Ok, Err}
+use Rattle.grammar.specs.Grammar.{Begins, IsStuck}
 use Rattle.grammar.specs.Reading.{Place}
 use Rattle.grammar.specs.declared.token.ReadError.{ReadError}
 use Rattle.grammar.specs.declared.token.ReadError.TheVariants as errors
@@ -71,12 +71,27 @@ IsFirst text (Err (faults.Syntax at)) = (left : ℕ) × IsLeft text at left × (
 IsFirst text (Err (faults.TooDeep at)) = (left : ℕ) × IsLeft text at left × (whole_line text ≡ Err (Fault (TooDeep left)))
 IsFirst text (Err (faults.Shape at first second)) = (left : ℕ) × IsLeft text at left × (whole_line text ≡ Err (Fault (Shape left first second)))
 
--- an opening parenthesis stands at this place
+-- how many parentheses the text opens
+abbrev pub opened : List ℕ → ℕ
+opened text = count_by (λ b. b == 40) text
+
+-- and closes
+abbrev pub closed : List ℕ → ℕ
+closed text = count_by (λ b. b == 41) text
+
+-- no front of the text leaves more than so many open
+abbrev pub IsShallow : ℕ → List ℕ → Type 0
+IsShallow n text = (front rest : List ℕ) → text ≡ front ++ rest → opened front ≤ closed front + n
+
+-- an opening parenthesis stands at this place, the first behind 128 open ones, and the spelling of some formula goes on with it
 pub record HasParenthesis (text : List ℕ) (at : ℕ) : Type 0 where
   pub before : List ℕ
   pub after : List ℕ
   pub whole : text ≡ before ++ (40 ∷ after)
   pub place : length before ≡ at
+  pub opens : opened before ≡ closed before + 128
+  pub shallow : IsShallow 128 before
+  pub begins : Begins spells (before ++ 40 ∷ [])
 
 -- a part of the text begins at this place, and spells a formula that is refused for these two numbers
 pub record HasMisfit (text : List ℕ) (at first second : ℕ) : Type 0 where

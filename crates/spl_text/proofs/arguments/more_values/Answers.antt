@@ -1,4 +1,4 @@
-use Rattle.std.proofs.Common.{◌^◌, ap, sym, ◌∙◌, codes, rules, ℕ, Result}
+use Rattle.std.proofs.Common.{◌^◌, ap, sym, ◌∙◌, codes, ℕ, Result}
 use Rattle.grammar.specs.Reading.{Place, named_number_at}
 use Rattle.grammar.proofs.Loop.{reads_one, reads_none, reads_all}
 use Rattle.spl_text.proofs.Bounds.{all_push}

@@ -1,4 +1,4 @@
-use Rattle.std.proofs.Common.{◌≡◌, ◌∙◌, sym, refl, true, false, get_or, take, drop, length, ap, arith, ◌<◌}
+use Rattle.std.proofs.Common.{◌≡◌, ◌∙◌, sym, refl, true, false, get_or, length, arith, ◌<◌}
 use Rattle.std.proofs.lemmas.List.{length-set, get_or_default}
 use Rattle.spl_text.proofs.Strays.{stray_large, stray_twice, stray_later, stray_none, seen_later, unmarked_known, unmarked_long}
 use Rattle.spl_text.proofs.kinds.first_stray.Goals as goal
