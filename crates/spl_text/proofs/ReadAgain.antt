@@ -88,8 +88,8 @@ behind_head depth h f text v place s e inner =
     let q = inner p.0 p.2 in (
       q.0,
       ap (λ r. tested_at (length place.rest) shape_fault (and_go_on (spelling_only r) (arguments_by (formula_at depth)))) p.1
-      ∙ ap (λ r. tested_at (length place.rest) shape_fault r) q.1
-      ∙ passes (length place.rest) f q.0 (not_refused f s),
+          ∙ ap (λ r. tested_at (length place.rest) shape_fault r) q.1
+          ∙ passes (length place.rest) f q.0 (not_refused f s),
       q.2,
     )
 
