@@ -9,6 +9,7 @@ mod listing;
 mod printing;
 mod reading;
 
+pub use acts::{Act, PARENTHESES};
 pub use listing::{ListingFault, read_listing};
 pub use printing::{print_listing, put, put_array, put_expr, put_header};
 pub use reading::read_place;
