@@ -12,7 +12,7 @@ use Rattle.icode.specs.Expression.{Numbers, alone, sum_numbers}
 use Rattle.icode.specs.Machine.{acts, counts_of, whole_counts, whole_lines}
 use Rattle.code_laws.specs.Nests.{bodies}
 use Rattle.code_gen.specs.Dense.{term_acts, dense_row}
-use Rattle.code_gen.specs.Leaf.{leaf_listing}
+use Rattle.code_gen.specs.Leaf.{leaf_counts, leaf_listing}
 use Rattle.code_gen.specs.Places.{variable_place, product_place}
 use Rattle.code_gen.proofs.Counting.{counts-same, counts-dense}
 use Rattle.code_gen.proofs.DensePlain.{bodies-same, steps-dense, dense-acts}
@@ -61,7 +61,7 @@ module _ (r : Request) where
       (λ l column. ap (λ (place : ℕ). lane_factors 1 (λ lane. slice_index table (place + 0 * lane))) (entry-value r.size k l 0 row column))
       (ap (λ (z : Numbers). whole_lines r.size r.line + z.value) (output-numbers r.size k 0 row)))
 
-  pub counts-leaf : whole_counts (plain_code (leaf_listing r)) 0 ≡ record { operations = 2 * r.size * r.size; loads = r.size * r.size; stores = r.size }
+  pub counts-leaf : whole_counts (plain_code (leaf_listing r)) 0 ≡ leaf_counts r
   counts-leaf =
       ap (counts_of 1) (append-nil (acts (plain_code (leaf_listing r)) 0 0) ∙ acts-leaf)
       ∙ counts-dense 1 r.size (λ k l. 0 + l) entry_factors (λ k. whole_lines r.size r.line + k)

@@ -1,9 +1,10 @@
 -- The program of a Fourier transform that is multiplied entry by entry.
-use Rattle.std.specs.Prelude.{◌≡◌, ℕ, ◌<◌, List, [], ◌∷◌, length, All}
+use Rattle.std.specs.Prelude.{◌≡◌, ℕ, ◌*◌, ◌<◌, List, [], ◌∷◌, length, All}
 use Rattle.ring_mod.specs.Residue.{power_mod}
 use Rattle.operators.specs.Sum.{list_below}
 use Rattle.matrix_meaning.specs.declared.Request.{Request}
 use Rattle.matrix_meaning.specs.Kind.{transform}
+use Rattle.icode.specs.declared.action.Counts.{Counts}
 use Rattle.icode.specs.declared.program.Array.TheVariants.{X, Y}
 use Rattle.icode.specs.declared.program.Program.{Program}
 use Rattle.icode.specs.Machine.{results}
@@ -31,7 +32,12 @@ leaf_listing r =
       phases = leaf_body r.size ∷ [];
     }
 
+-- what it counts: two operations and a load for each entry, and a store for each row
+abbrev pub leaf_counts : Request → Counts
+leaf_counts r = record { operations = 2 * r.size * r.size; loads = r.size * r.size; stores = r.size }
+
 -- run with no turns but those that complete it, the program leaves the transform of each input
 abbrev pub Computes : Request → Program → Type 0
 Computes r p =
-    (x : List ℕ) → length x ≡ r.size → All (λ v. v < r.modulus) x → results (code_of p) x [] ≡ transform r.kind r.modulus r.size r.root x
+    (x : List ℕ) → length x ≡ r.size → All (λ v. v < r.modulus) x →
+    results (code_of p) x [] ≡ transform r.kind r.modulus r.size r.root x

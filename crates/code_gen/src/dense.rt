@@ -30,7 +30,8 @@ fn term(
     table: u64,
     entry: Expr,
 ) -> Result<Vec<Stmt>, NoMemory>
-    ensures { IfOk result (λ y. plain_body y.items ≡ term_body source (plain_expr input) table (plain_expr entry)) }
+    ensures { IfOk result (λ y.
+        plain_body y.items ≡ term_body source (plain_expr input) table (plain_expr entry)) }
 {
     let mut body = Vec::new(alloc);
     put_op(

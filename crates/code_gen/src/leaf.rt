@@ -1,10 +1,10 @@
 // The program of a whole transform, multiplied entry by entry.
-ghost use Rattle.std.specs.Prelude.{◌≡◌, ◌*◌, ◌<◌, IfOk};
+ghost use Rattle.std.specs.Prelude.{◌≡◌, IfOk};
 ghost use Rattle.matrix_meaning.specs.declared.Kind.TheVariants.{Dft};
 ghost use Rattle.matrix_meaning.specs.Valid.{IsInRange, HasRoot};
 ghost use Rattle.icode.specs.Machine.{whole_counts};
 ghost use Rattle.icode.specs.Program.{Fits, code_of, plain_program};
-ghost use Rattle.code_gen.specs.Leaf.{Computes, leaf_listing};
+ghost use Rattle.code_gen.specs.Leaf.{Computes, leaf_counts, leaf_listing};
 
 use crate::dense::{Dense, dense_pass};
 use crate::places::{product_place, variable_place};
@@ -25,7 +25,7 @@ pub fn leaf_program(alloc: Global, request: &Request) -> Result<Program, NoMemor
     ensures listing { IfOk result (λ p. plain_program p ≡ leaf_listing request.now) }
     ensures fits { IfOk result Fits }
     ensures results { IfOk result (Computes request.now) }
-    ensures counts { IfOk result (λ p. whole_counts (code_of p) 0 ≡ record { operations = 2 * request.now.size * request.now.size; loads = request.now.size * request.now.size; stores = request.now.size }) }
+    ensures counts { IfOk result (λ p. whole_counts (code_of p) 0 ≡ leaf_counts request.now) }
 {
     let Request {
         size,

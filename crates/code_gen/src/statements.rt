@@ -8,7 +8,8 @@ use memory::NoMemory;
 
 /// Appends the statement of an operation.
 pub fn put_op(out: &mut Vec<Stmt>, op: Op) -> Result<(), NoMemory>
-    ensures { OnOk result (plain_body out.new.items ≡ followed_by (plain_body out.old.items) (AndStmts (Do (plain_op op)) NoStmts)) }
+    ensures { OnOk result (
+        plain_body out.new.items ≡ followed_by (plain_body out.old.items) (AndStmts (Do (plain_op op)) NoStmts)) }
 {
     out.push(Stmt::Do(op))?;
     Ok(())

@@ -1,5 +1,5 @@
 -- The program of one pass is good.
-use Rattle.std.proofs.Common.{◌≡◌, ℕ, zero, suc, ◌*◌, ◌<◌, All, List, [], length, refl, sym, ap, ◌∙◌, arith, subst}
+use Rattle.std.proofs.Common.{◌≡◌, ℕ, zero, suc, ◌*◌, ◌<◌, List, [], sym, ap, ◌∙◌, arith}
 use Rattle.matrix_meaning.specs.declared.Request.{Request}
 use Rattle.icode.specs.declared.action.Counts.{Counts}
 use Rattle.icode.specs.declared.program.Program.{Program}
@@ -8,7 +8,7 @@ use Rattle.icode.specs.Plain.{PlainProgram}
 use Rattle.icode.specs.Program.{Fits, code_of, plain_program}
 use Rattle.icode.proofs.Lists.{code_is}
 use Rattle.icode.proofs.Runs.{memory_of_runs}
-use Rattle.code_gen.specs.Leaf.{Computes, leaf_listing}
+use Rattle.code_gen.specs.Leaf.{Computes, leaf_counts, leaf_listing}
 use Rattle.code_gen.proofs.OneProcessor.{alone-apart}
 use Rattle.generate.specs.Good.{IsGood}
 use Rattle.generate.specs.Planned.{IsPlain}
@@ -24,14 +24,14 @@ module _ (r : Request) (p : Program) (plain : IsPlain r) (listing : plain_progra
       let none = memory_of_runs (code_of p) (code_is (plain_program p)) apart x [] in
       ap (λ memory. words_at p.size memory (padded (code_of p))) (first ∙ sym none)
 
-  share : (q : ℕ) → whole_counts (code_of p) 0 ≡ record { operations = 2 * r.size * r.size; loads = r.size * r.size; stores = r.size } → q < r.procs → r.procs * (whole_counts (code_of p) q).operations ≡ 2 * r.size * r.size
+  share : (q : ℕ) → whole_counts (code_of p) 0 ≡ leaf_counts r → q < r.procs → r.procs * (whole_counts (code_of p) q).operations ≡ 2 * r.size * r.size
   share zero counts below =
       let one = plain.procs in
       let total : (whole_counts (code_of p) 0).operations ≡ 2 * r.size * r.size = ap (λ (c : Counts). c.operations) counts in
       ap (λ k. k * (whole_counts (code_of p) 0).operations) one ∙ omega arith
   share (suc q) counts below = let one = plain.procs in absurd (omega arith)
 
-  pub good : Fits p → Computes r p → whole_counts (code_of p) 0 ≡ record { operations = 2 * r.size * r.size; loads = r.size * r.size; stores = r.size } → IsGood r (2 * r.size * r.size) p
+  pub good : Fits p → Computes r p → whole_counts (code_of p) 0 ≡ leaf_counts r → IsGood r (2 * r.size * r.size) p
   good fits computes counts =
       record {
         header = record {

@@ -25,6 +25,7 @@ pub record IsVector (r : Request) (x : List ℕ) : Type 0 where
 pub record IsGood (r : Request) (least : ℕ) (p : Program) : Type 0 where
   pub header : HasHeader r p
   pub fits : Fits p
-  pub product : (x turns : List ℕ) → IsVector r x → All (λ q. q < r.procs) turns → results (code_of p) x turns ≡ transform r.kind r.modulus r.size r.root x
+  pub product : (x turns : List ℕ) → IsVector r x → All (λ q. q < r.procs) turns →
+      results (code_of p) x turns ≡ transform r.kind r.modulus r.size r.root x
   pub apart : (phase : ℕ) → IsApart (code_of p) phase
   pub operations : (q : ℕ) → q < r.procs → r.procs * (whole_counts (code_of p) q).operations ≡ least

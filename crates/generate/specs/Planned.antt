@@ -34,4 +34,6 @@ within_budget cost budget = if nat_le cost budget then Ok cost else Err (OverBud
 
 -- the least cost, or the first cause to refuse the request
 abbrev pub planned : Request → Result ℕ GenerateFault
-planned r = if has_root r.kind (root_power r) then within_budget (least_cost r) r.budget else Err (Root (root_power r))
+planned r =
+    if has_root r.kind (root_power r) then within_budget (least_cost r) r.budget
+    else Err (Root (root_power r))

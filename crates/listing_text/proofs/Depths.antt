@@ -1,8 +1,8 @@
 -- Loops within the limits of programs stand no deeper than these limits.
-use Rattle.std.proofs.Common.{◌≡◌, ℕ, ◌+◌, ◌<◌, Bool, true, ltb, ◌&&◌, List, [], ◌∷◌, refl}
+use Rattle.std.proofs.Common.{◌≡◌, ℕ, ◌+◌, true, ltb, ◌&&◌, List, [], ◌∷◌, refl}
 use Rattle.std.specs.List.{list_all}
 use Rattle.std.proofs.lemmas.Bool.{and_parts, and_from}
-use Rattle.icode.specs.Plain.{PlainStmt, PlainBody, PlainOp, Loop, Do, NoStmts, AndStmts}
+use Rattle.icode.specs.Plain.{PlainStmt, PlainBody, Loop, Do, NoStmts, AndStmts}
 use Rattle.icode.specs.Limits.{is_small_positive, is_stmt_within, is_body_within, are_phases_within}
 use Rattle.listing_text.specs.Nests.{is_nest_within, are_nests_within}
 

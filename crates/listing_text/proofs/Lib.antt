@@ -1,2 +1,15 @@
 pub mod Views
 pub mod Depths
+pub mod LineReaders
+pub mod ReadParts
+pub mod Spelt
+pub mod ReadBack
+pub mod ActsSpelt
+pub mod ActsBack
+pub mod Within
+pub mod DraftTexts
+pub mod OpenLines
+pub mod OutsideLines
+pub mod DraftLaws
+pub mod DraftReads
+pub mod ListingCalls

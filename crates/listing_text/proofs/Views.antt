@@ -1,5 +1,5 @@
 -- The plain data of an expression and of a loop, from that of their parts.
-use Rattle.std.proofs.Common.{◌≡◌, ℕ, List, map, sym, ap, ◌∙◌, Global}
+use Rattle.std.proofs.Common.{◌≡◌, ℕ, map, sym, ap, ◌∙◌, Global}
 use Rattle.std.specs.Prelude.{Vec}
 use Rattle.icode.specs.declared.program.Part.TheFolds.{fold_out-Expr}
 use Rattle.icode.specs.declared.program.Expr.{Expr}

@@ -2,21 +2,7 @@
 use Rattle.std.specs.Prelude.{ℕ, ◌+◌, List, [], ◌∷◌, ◌++◌, codes, decimal, flat_map}
 use Rattle.icode.specs.declared.program.Array.{Array}
 use Rattle.icode.specs.declared.program.Array.TheVariants as arrays
-use Rattle.icode.specs.declared.program.Program.{Program}
-use Rattle.icode.specs.Plain.{PlainExpr, PlainParts, PlainPart, PlainOp, PlainStmt, PlainBody, PlainProgram, Sum, NoParts, AndParts, Proc, Var, Product, Rem, Quot, Load, Store, Zero, Add, Sub, Neg, MulConst, MulTable, Tile, Loop, Do, NoStmts, AndStmts, plain_tables, plain_phases}
-
--- the program without where it lies in memory
-abbrev pub plain_program : Program → PlainProgram
-plain_program p = record {
-  size = p.size;
-  modulus = p.modulus;
-  procs = p.procs;
-  line = p.line;
-  lanes = p.lanes;
-  regs = p.regs;
-  tables = plain_tables p.tables.items;
-  phases = plain_phases p.phases.items;
-}
+use Rattle.icode.specs.Plain.{PlainExpr, PlainParts, PlainPart, PlainOp, PlainStmt, PlainBody, PlainProgram, Sum, NoParts, AndParts, Proc, Var, Product, Rem, Quot, Load, Store, Zero, Add, Sub, Neg, MulConst, MulTable, Tile, Loop, Do, NoStmts, AndStmts}
 
 -- a place: its constant and its parts
 abbrev mutual

@@ -1,6 +1,18 @@
 //! The listing of a program: its text, line by line.
 #![tactic(auto)]
 
+mod acts;
+mod draft;
+mod drafts;
+mod limits;
+mod listing;
 mod printing;
+mod reading;
 
-pub use printing::{print_listing, put_body, put_expr};
+pub use acts::{Act, PARENTHESES};
+pub use listing::{ListingFault, read_listing};
+pub use printing::{print_listing, put, put_array, put_expr, put_header};
+pub use reading::read_place;
+
+#[cfg(test)]
+mod tests;

@@ -1,7 +1,9 @@
 ghost use Rattle.std.specs.Prelude.{◌≡◌, ◌++◌, ◌≤◌, ℕ, IsTrue, IfOk, OnOk, codes, decimal, flat_map};
 ghost use Rattle.std.specs.List.{list_all};
 ghost use Rattle.icode.specs.Plain.{plain_expr, plain_part, plain_op, plain_stmt, plain_body, plain_tables, plain_phases};
-ghost use Rattle.listing_text.specs.Listing.{sum_text, part_text, array_text, op_text, stmt_text, body_text, values_text, table_text, tables_text, phase_text, header_text, listing_of, plain_program};
+ghost use Rattle.listing_text.specs.Listing.{sum_text, part_text, array_text, op_text, stmt_text, body_text, values_text, table_text, tables_text, phase_text, header_text, listing_of};
+ghost use Rattle.icode.specs.Program.{plain_program};
+ghost use Rattle.listing_text.specs.Texts.{is_listing};
 ghost use Rattle.listing_text.specs.Nests.{is_nest_within, are_nests_within};
 
 use icode::program::{Array, Expr, Op, Part, Program, Stmt};
@@ -9,8 +11,8 @@ use itoa::Buffer;
 use memory::NoMemory;
 use std::alloc::{AllocError, Global};
 
-// A word and a number behind it.
-fn put(out: &mut Vec<u8>, word: &[u8], number: u64) -> Result<(), AllocError>
+/// Writes a word and a number behind it.
+pub fn put(out: &mut Vec<u8>, word: &[u8], number: u64) -> Result<(), AllocError>
     ensures { OnOk result (out.new.items ≡ out.old.items ++ word.now ++ decimal number) }
 {
     let mut buffer = Buffer::new();
@@ -72,15 +74,22 @@ fn put_part(out: &mut Vec<u8>, part: &Part) -> Result<(), AllocError>
     }
 }
 
+/// Writes the letter of an array.
+pub fn put_array(out: &mut Vec<u8>, array: Array) -> Result<(), AllocError>
+    ensures { OnOk result (out.new.items ≡ out.old.items ++ array_text array) }
+{
+    match array {
+        Array::X => out.extend_from_slice(b"X"),
+        Array::Y => out.extend_from_slice(b"Y"),
+        Array::A => out.extend_from_slice(b"A"),
+        Array::B => out.extend_from_slice(b"B"),
+    }
+}
+
 fn put_place(out: &mut Vec<u8>, array: Array, place: &Expr) -> Result<(), AllocError>
     ensures { OnOk result (out.new.items ≡ out.old.items ++ array_text array ++ codes "[" ++ sum_text (plain_expr place.now) ++ codes "]") }
 {
-    out.extend_from_slice(match array {
-        Array::X => b"X",
-        Array::Y => b"Y",
-        Array::A => b"A",
-        Array::B => b"B",
-    })?;
+    put_array(out, array)?;
     out.extend_from_slice(b"[")?;
     put_expr(out, place)?;
     out.extend_from_slice(b"]")
@@ -183,7 +192,8 @@ fn put_stmt(out: &mut Vec<u8>, stmt: &Stmt, depth: u64) -> Result<(), AllocError
     }
 }
 
-fn put_header(out: &mut Vec<u8>, program: &Program) -> Result<(), AllocError>
+/// Writes the header, without its line's end.
+pub fn put_header(out: &mut Vec<u8>, program: &Program) -> Result<(), AllocError>
     ensures { OnOk result (out.new.items ≡ out.old.items ++ header_text (plain_program program.now)) }
 {
     put(out, b"program size ", program.size)?;
@@ -214,8 +224,8 @@ fn put_tables(out: &mut Vec<u8>, tables: &[Vec<u64>]) -> Result<(), AllocError>
     Ok(())
 }
 
-/// Writes statements that stand in no loop, of which none is deeper than a program's may be.
-pub fn put_body(out: &mut Vec<u8>, body: &[Stmt]) -> Result<(), AllocError>
+// Statements that stand in no loop, of which none is deeper than a program's may be.
+fn put_body(out: &mut Vec<u8>, body: &[Stmt]) -> Result<(), AllocError>
     requires { IsTrue (are_nests_within (plain_body body.now) 0) }
     ensures { OnOk result (out.new.items ≡ out.old.items ++ body_text 0 (plain_body body.now)) }
 {
@@ -239,7 +249,8 @@ fn put_phases(out: &mut Vec<u8>, phases: &[Vec<Stmt>]) -> Result<(), AllocError>
 
 /// The listing of a program.
 pub fn print_listing(alloc: Global, program: &Program) -> Result<Vec<u8>, NoMemory>
-    ensures { IfOk result (λ text. text.items ≡ listing_of (plain_program program.now)) }
+    ensures text { IfOk result (λ text. text.items ≡ listing_of (plain_program program.now)) }
+    ensures listing { IfOk result (λ text. is_listing text.items (plain_program program.now)) }
 {
     let mut out = Vec::new(alloc);
     put_header(&mut out, program)?;

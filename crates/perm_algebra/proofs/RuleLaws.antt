@@ -1,7 +1,7 @@
 -- Each step's law.
 use Rattle.std.proofs.Common.{◌≡◌, ℕ, ◌+◌, ◌*◌, ◌/◌, ◌%◌, ◌<◌, arith, refl, sym, ap, ap₂, ◌∙◌, mod-eq_of_lt}
 use Rattle.std.proofs.lemmas.Nat.{div-mul-add, mod-mul-add}
-use Rattle.index_fn.specs.Mapping.{Mapping, at}
+use Rattle.index_fn.specs.Mapping.{at}
 use Rattle.perm_algebra.specs.Affine.{Sum, value, top, mods, IsSound, AreBelowCounts}
 use Rattle.perm_algebra.specs.declared.IndexRule.{IndexRule}
 use Rattle.perm_algebra.specs.declared.IndexRule.TheVariants.{Scale, Join, TakeMultiples, ReadOff, WriteOut, ReduceFactors, DropRemainder, SplitTensor, NestComposed}

@@ -3,7 +3,7 @@ use Rattle.std.proofs.Common.{◌≡◌, ℕ, ◌+◌, ◌*◌, ◌%◌, ◌<◌
 use Rattle.std.proofs.lemmas.Bool.{cases_eq, cases_lt}
 use Rattle.std.proofs.lemmas.Bool.Decides.{nat_tests}
 use Rattle.std.proofs.lemmas.Nat.{mul-lt}
-use Rattle.perm_algebra.specs.Affine.{Sum, constant, variable, remainder, quotient, top, scaled, joined, head, rest_of, Divided, divided, mods, reduced, simplified, AreBelow}
+use Rattle.perm_algebra.specs.Affine.{Sum, constant, variable, remainder, quotient, top, scaled, joined, head, rest_of, Divided, divided, mods, reduced, simplified}
 use Rattle.perm_algebra.specs.ShapeLaw.{tally, AddsRemainders, IsModulo, KeepsShape, ShapeKept}
 use Rattle.perm_algebra.proofs.Reduced.{mods-below}
 use Rattle.perm_algebra.proofs.ShapeAny.{divided-apart}

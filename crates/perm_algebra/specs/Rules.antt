@@ -1,6 +1,6 @@
 -- The steps of simplification, each with its law.
 use Rattle.std.specs.Prelude.{◌≡◌, ℕ, ◌+◌, ◌*◌, ◌/◌, ◌%◌, ◌<◌}
-use Rattle.index_fn.specs.Mapping.{Mapping, Strided, Paired, After, at, IsWellFormed}
+use Rattle.index_fn.specs.Mapping.{Mapping, Paired, After, at}
 use Rattle.perm_algebra.specs.Affine.{Sum, constant, remainder, quotient, value, top, scaled, joined, head, rest_of, mods, IsSound, AreBelowCounts}
 use Rattle.perm_algebra.specs.declared.IndexRule.{IndexRule}
 use Rattle.perm_algebra.specs.declared.IndexRule.TheVariants.{Scale, Join, TakeMultiples, ReadOff, WriteOut, ReduceFactors, DropRemainder, SplitTensor, NestComposed}

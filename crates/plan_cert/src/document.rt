@@ -5,8 +5,8 @@ ghost use Rattle.serde_json.specs.View.{view, items_view};
 ghost use Rattle.plan_cert.specs.Document.{choice_named, number_at, choice_at, has_items, row_of, rows_of, has_number, has_members, has_head, document_rows};
 
 use crate::certificate::Row;
-use serde_json::Value;
 use memory::NoMemory;
+use serde_json::Value;
 use std::alloc::Global;
 use tree_model::Rule;
 

@@ -8,8 +8,8 @@ ghost use Rattle.plan_cert.specs.Table.{IsRootOf, IsChosenRow};
 
 use crate::certificate::Row;
 use crate::rows::is_wanted;
-use plan_search::{Plan, Row as Planned, best_row};
 use memory::NoMemory;
+use plan_search::{Plan, Row as Planned, best_row};
 use std::alloc::Global;
 use tree_model::{Ctx, Rule, Tree};
 

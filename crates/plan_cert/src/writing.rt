@@ -8,8 +8,8 @@ ghost use Rattle.plan_cert.specs.Table.{choice_name, row_data, rows_data, table_
 
 use crate::certificate::Row;
 use crate::table::table_rows;
-use serde_json::{Value, json, push};
 use memory::NoMemory;
+use serde_json::{Value, json, push};
 use std::alloc::Global;
 use tree_model::{Ctx, Rule};
 

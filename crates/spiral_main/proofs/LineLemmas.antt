@@ -28,8 +28,7 @@ pub line_ended : (text : List ℕ) (byte : ℕ) (ended : Type 0) → list_any is
 line_ended text byte ended h end more none =
     let all : (text ++ byte ∷ []) ++ more ≡ text ++ byte ∷ more = append_assoc text (byte ∷ []) more in
     let at : position_or_len is_line_end (text ++ byte ∷ more) ≡ length text =
-    goes_past text (byte ∷ more) h ∙ ap (λ t. length text + cond (not t) (1 + position_or_len is_line_end more) 0) end ∙ add-zero (length text) in
-    (
+    goes_past text (byte ∷ more) h ∙ ap (λ t. length text + cond (not t) (1 + position_or_len is_line_end more) 0) end ∙ add-zero (length text) in (
       ap first_line all ∙ ap (λ n. take n (text ++ byte ∷ more)) at ∙ take-append_seam text (byte ∷ more),
       ap data_of all ∙ ap (λ n. drop (n + 1) (text ++ byte ∷ more)) at ∙ drop-append-add text (byte ∷ more) 1,
     )
@@ -38,8 +37,7 @@ line_ended text byte ended h end more none =
 pub line_cut : (text : List ℕ) (ended : Type 0) → list_any is_line_end text ≡ false → ended → IsWholeLine text ended text
 line_cut text ended h end more none =
     let all : text ++ more ≡ text = ap (λ l. text ++ l) (none end) ∙ append-nil text in
-    let at : position_or_len is_line_end text ≡ length text = ap (position_or_len is_line_end) (sym (append-nil text)) ∙ goes_past text [] h ∙ add-zero (length text) in
-    (
+    let at : position_or_len is_line_end text ≡ length text = ap (position_or_len is_line_end) (sym (append-nil text)) ∙ goes_past text [] h ∙ add-zero (length text) in (
       ap first_line all ∙ ap (λ n. take n text) at ∙ take_all (length text) text (omega arith),
       ap data_of all ∙ ap (λ n. drop (n + 1) text) at ∙ ap (drop (length text + 1)) (sym (append-nil text)) ∙ drop-append-add text [] 1 ∙ sym (none end),
     )

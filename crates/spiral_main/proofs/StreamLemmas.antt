@@ -1,15 +1,18 @@
 -- Vectors that come one by one.
-use Rattle.std.proofs.Common.{◌≡◌, ◌<◌, ◌≤◌, ◌+◌, ◌/◌, ◌%◌, ℕ, suc, Bool, true, false, ◌&&◌, List, [], ◌∷◌, ◌++◌, None, Some, Ok, Err, Result, nat_lt, ◌==◌, ◌-◌, ◌≢◌, zero, length, take, drop, refl, sym, ap, subst, ◌∙◌, arith, append_assoc, append-nil, length-append, cond, add_assoc, add-one, add-zero, slice_index}
+use Rattle.std.proofs.Common.{◌≡◌, ◌<◌, ◌≤◌, ◌+◌, ◌/◌, ◌%◌, ℕ, suc, Bool, true, false, ◌&&◌, List, [], ◌∷◌, ◌++◌, None, Some, Ok, Err, Result, nat_lt, ◌==◌, ◌-◌, ◌≢◌, zero, length, take, drop, refl, sym, ap, subst, ◌∙◌, arith, append_assoc, append-nil, length-append, cond, add_assoc, add-one, add-zero, slice_index, ◌*◌, replicate}
 use Rattle.std.proofs.Math.Nat.{add-div_left, div-eq_of_lt, mod-eq_of_lt, add-mod_left}
 use Rattle.std.proofs.Math.Seq.{take-append_seam, take-append-add, drop-append_seam}
 use Rattle.std.proofs.KnownBytes.{Consumes-nil, Consumes-trans, Appends-trans}
 use Rattle.std.proofs.lemmas.List.Folds.{list_all-append}
 use Rattle.std.proofs.lemmas.Grind.{common_steps, flat_map-append}
-use Rattle.std.proofs.lemmas.List.{take_all}
+use Rattle.std.proofs.lemmas.List.{take_all, length-replicate}
 use Rattle.std.specs.List.{list_all}
 use Rattle.std.specs.declared.option.Option.{Option}
 use Rattle.std.specs.Io.KnownBytes.{Appends, Consumes, IsAtEnd}
-use Rattle.icode.specs.Machine.{words_at}
+use Rattle.icode.specs.Machine.{Code, State, whole_lines, padded, start, run, finished, runs, words_at}
+use Rattle.request_text.specs.Schedule.{Plan}
+use Rattle.request_text.specs.Turns.{turns_of}
+use Rattle.par_machine.proofs.Starts.{room_for}
 use Rattle.io_edge.specs.Feed.{Fed, limit}
 use Rattle.io_edge.specs.Taken.{AppendsPrefix}
 use Rattle.io_edge.proofs.TakenLemmas.{prefix_after}
@@ -132,8 +135,7 @@ pub stream_unwritten : (a c : Option (List ℕ)) (old new : Fed) (ended : Bool) 
     → 0 < size → (p : StreamProgress a c old.taken new.taken ended size modulus done vectors)
     → Reads size modulus old new p.bytes end vectors (Err WriteFault)
 stream_unwritten a c old new ended size modulus done vectors end some p =
-    let there : tokens p.bytes ≡ p.ts = ap tokens (sym (append-nil p.bytes)) ∙ p.are_tokens [] (λ _. refl) ∙ append-nil p.ts in
-    (
+    let there : tokens p.bytes ≡ p.ts = ap tokens (sym (append-nil p.bytes)) ∙ p.are_tokens [] (λ _. refl) ∙ append-nil p.ts in (
       p.taken,
       ap (list_all is_good) there ∙ p.good,
       ap (vectors_of size modulus) (there ∙ sym (append-nil p.ts)) ∙ p.splits [] ∙ ap (λ l. vectors ++ l) (vectors_few size modulus [] some) ∙ append-nil vectors,
@@ -300,8 +302,7 @@ answered size modulus old new read rest vectors (Err (BadNumber token)) s start 
     let taken = s.0 in
     let more = take (room - length read) rest in
     let found = s.1.1 more in
-    let l = link size modulus room (read ++ rest) (nat_lt room (length (read ++ rest))) (Some token) (read ++ more) refl (seen_front room read rest (omega arith)) found.0 in
-    (
+    let l = link size modulus room (read ++ rest) (nat_lt room (length (read ++ rest))) (Some token) (read ++ more) refl (seen_front room read rest (omega arith)) found.0 in (
       l.0 ∙ bad_any size (length (tokens (read ++ more))) token (nat_lt room (length (read ++ rest))),
       l.1 ∙ bad_vectors size modulus token (nat_lt room (length (read ++ rest))) (read ++ more) ∙ ap (vectors_of size modulus) found.1 ∙ s.1.2,
     )
@@ -381,3 +382,21 @@ streamed f leaves size modulus old new before after out out' first last result r
   wrote = wrote;
   stands = stands;
 }
+
+-- the machine's arrays have room for the vector
+room_at_least : (size line : ℕ) → 0 < size → size ≤ 4 * whole_lines size line → size ≤ whole_lines size line
+room_at_least size zero some fits = absurd (omega arith)
+room_at_least size (suc line) some fits = room_for size (suc line) (omega arith)
+
+pub room_is : (code : Code) (x : List ℕ) (span : ℕ) → length x ≡ code.size → 0 < code.size → span ≡ 4 * padded code → span ≡ length (start code x).memory → code.size ≤ padded code
+room_is code x span full some value memory =
+    let rest = 4 * padded code - code.size in
+    let count : length (start code x).memory ≡ length x + rest = length-append x (replicate rest 0) ∙ ap (λ n. length x + n) (length-replicate rest 0) in
+    room_at_least code.size code.line some (omega arith)
+
+-- the turns of a schedule, and then those that complete it
+pub whole_run : (plan : Plan) (code first second : Code) (x : List ℕ) (begun turned ended : State) → first ≡ code → begun ≡ start code x → second ≡ first
+    → turned ≡ run first begun (turns_of plan first.procs) → ended ≡ finished second turned → ended ≡ runs code x (turns_of plan code.procs)
+whole_run plan code first second x begun turned ended p b q t e =
+    e ∙ ap (λ k. finished k turned) (q ∙ p)
+    ∙ ap (λ s. finished code s) (t ∙ ap (λ (k : Code). run k begun (turns_of plan k.procs)) p ∙ ap (λ s. run code s (turns_of plan code.procs)) b)

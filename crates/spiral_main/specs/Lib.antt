@@ -1,6 +1,9 @@
 pub mod Command
+pub mod Fault
 pub mod Line
+pub mod Outcome
 pub mod Stage
 pub mod Status
+pub mod Steps
 pub mod Stream
 pub mod StreamFault

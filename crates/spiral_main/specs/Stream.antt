@@ -1,8 +1,10 @@
 -- Data as a stream of vectors: which vectors they have, how they end, and what a run over them reads, writes and leaves.
-use Rattle.std.specs.Prelude.{◌≡◌, ℕ, zero, suc, ◌+◌, ◌-◌, ◌/◌, ◌%◌, ◌<◌, Bool, true, false, List, [], ◌∷◌, ◌++◌, length, take, drop, None, Some, Ok, Err, Result, if◌then◌else◌, nat_lt, ◌==◌}
+use Rattle.std.specs.Prelude.{◌≡◌, ℕ, zero, suc, ◌+◌, ◌-◌, ◌/◌, ◌%◌, ◌<◌, Bool, true, false, List, [], ◌∷◌, ◌++◌, length, take, drop, None, Some, Ok, Err, Result, if◌then◌else◌, nat_le, nat_lt, find, ◌==◌}
 use Rattle.std.specs.List.{list_all, flat_map}
 use Rattle.std.specs.declared.option.Option.{Option}
 use Rattle.std.specs.Io.KnownBytes.{Appends, Consumes, IsAtEnd}
+use Rattle.request_text.specs.Schedule.{Plan}
+use Rattle.request_text.specs.Turns.{named}
 use Rattle.io_edge.specs.Feed.{Fed, limit}
 use Rattle.io_edge.specs.Taken.{AppendsPrefix}
 use Rattle.data_stream.specs.Data.{tokens, closed_part, is_good}
@@ -107,3 +109,7 @@ pub record Streams {S : Type 0} (f : List ℕ → List ℕ) (leaves : List ℕ �
   pub told : ToldAnswers size modulus (limit - old.taken) before vectors result
   pub wrote : Writes out out' result (lines f vectors)
   pub stands : last ≡ state_behind leaves first vectors
+
+-- each turn that the schedule names is of a processor that there is
+abbrev pub HasNoStranger : Plan → ℕ → Type 0
+HasNoStranger plan procs = find (λ q. nat_le procs q) (named plan) ≡ None

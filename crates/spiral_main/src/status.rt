@@ -5,9 +5,14 @@ ghost use Rattle.io_edge.specs.Faults.{HasCause};
 ghost use Rattle.io_edge.specs.Taken.{WritesAll};
 ghost use Rattle.spiral_main.specs.Status.{code_of, field_word, note_line};
 
-use io_edge::{Sink, WriteFault, write_all, write_parts};
+use crate::line::LINE_LIMIT;
+use crate::stream::StreamFault;
+use generate::GenerateFault;
+use io_edge::{Feed, FeedFault, Sink, WriteFault, write_all, write_parts};
 use itoa::Buffer;
-use request_text::Field;
+use memory::NoMemory;
+use request_text::{Field, RequestFault};
+use std::alloc::AllocError;
 
 /// How a run ended.
 #[derive(Clone, Copy, Debug, PartialEq, Eq)]
@@ -58,6 +63,104 @@ impl Status {
             Status::NoMemory => 12,
             Status::TooLong { .. } => 13,
         }
+    }
+}
+
+impl From<FeedFault> for Status {
+    ghost use Rattle.std.specs.Prelude.{◌≡◌};
+    ghost use Rattle.spiral_main.specs.Fault.{status_of_line};
+
+    ghost from_gives = { λ fault status. status ≡ status_of_line fault };
+
+    // A fault of the first line.
+    fn from(fault: FeedFault) -> Self {
+        match fault {
+            FeedFault::ReadFault => Status::ReadFault,
+            FeedFault::TooLong => Status::TooLong {
+                limit: LINE_LIMIT as u64,
+            },
+        }
+    }
+}
+
+impl From<RequestFault> for Status {
+    ghost use Rattle.std.specs.Prelude.{◌≡◌};
+    ghost use Rattle.spiral_main.specs.Fault.{status_of_request};
+
+    ghost from_gives = { λ fault status. status ≡ status_of_request fault };
+
+    fn from(fault: RequestFault) -> Self {
+        match fault {
+            RequestFault::Syntax { at } => Status::Syntax { at },
+            RequestFault::Range { field, value } => Status::Range { field, value },
+            RequestFault::Shape { size } => Status::Shape { size },
+            RequestFault::LanesLine { lanes, line } => Status::LanesLine { lanes, line },
+        }
+    }
+}
+
+impl From<GenerateFault> for Status {
+    ghost use Rattle.std.specs.Prelude.{◌≡◌};
+    ghost use Rattle.spiral_main.specs.Fault.{status_of_generate};
+
+    ghost from_gives = { λ fault status. status ≡ status_of_generate fault };
+
+    fn from(fault: GenerateFault) -> Self {
+        match fault {
+            GenerateFault::Root { power } => Status::Root { power },
+            GenerateFault::OverBudget { cost, budget } => Status::OverBudget { cost, budget },
+            GenerateFault::NoMemory => Status::NoMemory,
+        }
+    }
+}
+
+impl From<StreamFault> for Status {
+    ghost use Rattle.std.specs.Prelude.{◌≡◌};
+    ghost use Rattle.spiral_main.specs.Fault.{status_of_fault};
+
+    ghost from_gives = { λ fault status. status ≡ status_of_fault fault };
+
+    fn from(fault: StreamFault) -> Self {
+        match fault {
+            StreamFault::BadNumber { token } => Status::BadNumber { token },
+            StreamFault::Truncated { have, need } => Status::Truncated { have, need },
+            StreamFault::TooLong => Status::TooLong { limit: Feed::LIMIT },
+            StreamFault::ReadFault => Status::ReadFault,
+            StreamFault::WriteFault => Status::WriteFault,
+        }
+    }
+}
+
+impl From<WriteFault> for Status {
+    ghost use Rattle.std.specs.Prelude.{◌≡◌};
+    ghost use Rattle.spiral_main.specs.declared.status.Status.TheVariants.{WriteFault};
+
+    ghost from_gives = { λ _ status. status ≡ WriteFault };
+
+    fn from(_: WriteFault) -> Self {
+        Status::WriteFault
+    }
+}
+
+impl From<NoMemory> for Status {
+    ghost use Rattle.std.specs.Prelude.{◌≡◌};
+    ghost use Rattle.spiral_main.specs.declared.status.Status.TheVariants.{NoMemory};
+
+    ghost from_gives = { λ _ status. status ≡ NoMemory };
+
+    fn from(_: NoMemory) -> Self {
+        Status::NoMemory
+    }
+}
+
+impl From<AllocError> for Status {
+    ghost use Rattle.std.specs.Prelude.{◌≡◌};
+    ghost use Rattle.spiral_main.specs.declared.status.Status.TheVariants.{NoMemory};
+
+    ghost from_gives = { λ _ status. status ≡ NoMemory };
+
+    fn from(_: AllocError) -> Self {
+        Status::NoMemory
     }
 }
 
@@ -141,22 +244,48 @@ pub(crate) fn write_note<E: Sink>(note: &mut E, status: Status) -> Result<(), Wr
         Status::Syntax { at } => note_number(note, b"spiral: syntax at byte ", at, b"\n"),
         Status::Range { field, value } => note_range(note, field, value),
         Status::Shape { size } => {
-            note_number(note, b"spiral: wht size ", size, b" is not a power of two\n")
+            note_number(
+                note,
+                b"spiral: wht size ",
+                size,
+                b" is not a power of two\n",
+            )
         }
         Status::LanesLine { lanes, line } => {
-            note_numbers(note, b"spiral: lanes ", lanes, b" do not divide line ", line, b"\n")
+            note_numbers(
+                note,
+                b"spiral: lanes ",
+                lanes,
+                b" do not divide line ",
+                line,
+                b"\n",
+            )
         }
         Status::Root { power } => {
             note_number(note, b"spiral: root to the size is ", power, b", not 1\n")
         }
         Status::OverBudget { cost, budget } => {
-            note_numbers(note, b"spiral: least cost ", cost, b" is over budget ", budget, b"\n")
+            note_numbers(
+                note,
+                b"spiral: least cost ",
+                cost,
+                b" is over budget ",
+                budget,
+                b"\n",
+            )
         }
         Status::BadNumber { token } => {
             note_number(note, b"spiral: token ", token, b" is not a number\n")
         }
         Status::Truncated { have, need } => {
-            note_numbers(note, b"spiral: input ends with ", have, b" of ", need, b" numbers\n")
+            note_numbers(
+                note,
+                b"spiral: input ends with ",
+                have,
+                b" of ",
+                need,
+                b" numbers\n",
+            )
         }
         Status::ReadFault => write_all(note, b"spiral: read failed\n"),
         Status::WriteFault => write_all(note, b"spiral: write failed\n"),

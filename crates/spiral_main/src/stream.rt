@@ -1,13 +1,15 @@
 // A run over a stream: the line of each vector.
-ghost use Rattle.std.specs.Prelude.{◌≡◌, ◌≢◌, ◌<◌, ◌≤◌, [], length, All, Err, IsErrOf};
+ghost use Rattle.std.specs.Prelude.{◌≡◌, ◌≢◌, ◌<◌, ◌≤◌, length, All, Err, IsErrOf};
 ghost use Rattle.icode.specs.Machine.{results, runs};
 ghost use Rattle.io_edge.specs.Faults.{Reports};
 ghost use Rattle.io_edge.specs.Feed.{to_come, limit};
-ghost use Rattle.spiral_main.specs.Stream.{Streams};
+ghost use Rattle.request_text.specs.Turns.{turns_of};
+ghost use Rattle.spiral_main.specs.Stream.{HasNoStranger, Streams};
 
 use data_stream::{DataFault, Next, Vectors, write_vector};
 use io_edge::{Feed, Sink, Source, WriteFault};
 use par_machine::Machine;
+use request_text::Schedule;
 
 /// Why a run over a stream ended before the stream.
 #[derive(Clone, Copy, Debug, PartialEq, Eq)]
@@ -52,35 +54,45 @@ impl From<WriteFault> for StreamFault {
 }
 
 // Runs the machine on the vector, and puts the results in its place.
-fn transform(machine: &mut Machine, vector: &mut [u64])
+fn transform(machine: &mut Machine, schedule: &Schedule, vector: &mut [u64])
+    requires some { 0 < length vector.old }
     requires size { length vector.old ≡ machine.old.code.size }
     requires residues { All (λ v. v < machine.old.code.modulus) vector.old }
-    ensures vector { vector.new ≡ results machine.old.code vector.old [] }
-    ensures state { machine.new.state ≡ runs machine.old.code vector.old [] }
+    requires no_stranger { HasNoStranger schedule.now machine.old.code.procs }
+    ensures vector { vector.new ≡ results machine.old.code vector.old (turns_of schedule.now machine.old.code.procs) }
+    ensures state { machine.new.state ≡ runs machine.old.code vector.old (turns_of schedule.now machine.old.code.procs) }
     ensures code { machine.new.code ≡ machine.old.code }
 {
     machine.put(vector);
-    machine.finish();
     let first = machine.span() / 4;
+    machine.run_list(schedule);
+    machine.finish();
+    prove!(machine.span() == 4 * first);
     for place in 0..vector.len() {
         vector[place] = machine.word(first + place as u64);
     }
 }
 
-/// Runs the machine on each vector of the data, and writes the line of its results before it reads the next.
-/// The data go on where the feed stands. The slice is room for a vector.
+/// Runs the machine on each vector of the data, by the turns of the schedule and those that complete them, and writes
+/// the line of its results before it reads the next.
+///
+/// The data go on where the feed stands. The slice is room for a vector, which has at least one number.
 pub fn run_stream<I: Source, O: Sink>(
     machine: &mut Machine,
+    schedule: &Schedule,
     feed: &mut Feed,
     input: &mut I,
     output: &mut O,
     vector: &mut [u64],
 ) -> Result<(), StreamFault>
+    requires some { 0 < length vector.old }
     requires size { length vector.old ≡ machine.old.code.size }
+    requires no_stranger { HasNoStranger schedule.now machine.old.code.procs }
     requires within { feed.old.taken ≤ limit }
 
     // What it read, wrote and left, also of a source that doesn't tell its bytes.
-    ensures streams { Streams (λ x. results machine.old.code x []) (λ x. runs machine.old.code x [])
+    ensures streams { Streams (λ x. results machine.old.code x (turns_of schedule.now machine.old.code.procs))
+        (λ x. runs machine.old.code x (turns_of schedule.now machine.old.code.procs))
         machine.old.code.size machine.old.code.modulus feed.old feed.new
         (to_come feed.old (I.left input.old)) (to_come feed.new (I.left input.new))
         (O.taken output.old) (O.taken output.new) machine.old.state machine.new.state result }
@@ -92,10 +104,9 @@ pub fn run_stream<I: Source, O: Sink>(
     ensures write { Reports (O.faults output.old) (O.faults output.new) (IsErrOf result StreamFault.WriteFault) }
 {
     let modulus = machine.modulus();
-    machine.span();
     let mut vectors = Vectors::new(vector.len() as u64);
     while let Next::Vector = vectors.next(&modulus, feed, input, vector)? {
-        transform(machine, vector);
+        transform(machine, schedule, vector);
         write_vector(output, vector)?;
     }
     Ok(())

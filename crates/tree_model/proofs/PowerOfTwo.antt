@@ -35,16 +35,16 @@ half_below n (suc q) bound less e h = omega arith
 power_below : (bound n : ℕ) → n < bound → count_ones n ≡ 1 → (k : ℕ) × (n ≡ 2 ^ k)
 power_below zero n less e = absurd (omega arith)
 power_below (suc bound) n less e = elim (even_or_odd n) [
-      inl even ↦
-          let sum : count_ones even.0 + count_ones 0 ≡ 1 = sym (ones_of_double even.0 0 (omega arith)) ∙ ap count_ones (sym (even_sum n even.0 even.1)) ∙ e in
-          let ones_of_half : count_ones even.0 ≡ 1 = omega (arith, ones_of_zero) in
-          let inner = power_below bound even.0 (half_below n even.0 bound less even.1 e) ones_of_half in
-          (suc inner.0, even.1 ∙ ap (λ q. 2 * q) inner.1 ∙ sym (pow-succ' 2 inner.0))
-    | inr odd ↦
-          let sum : count_ones odd.0 + count_ones 1 ≡ 1 = sym (ones_of_double odd.0 1 (omega arith)) ∙ ap count_ones (sym odd.1) ∙ e in
-          let none : odd.0 ≡ 0 = zero_from_ones odd.0 (omega (arith, ones_of_one)) in
-          (0, odd.1 ∙ ap (λ q. 2 * q + 1) none)
-  ]
+  | inl even ↦
+      let sum : count_ones even.0 + count_ones 0 ≡ 1 = sym (ones_of_double even.0 0 (omega arith)) ∙ ap count_ones (sym (even_sum n even.0 even.1)) ∙ e in
+      let ones_of_half : count_ones even.0 ≡ 1 = omega (arith, ones_of_zero) in
+      let inner = power_below bound even.0 (half_below n even.0 bound less even.1 e) ones_of_half in
+      (suc inner.0, even.1 ∙ ap (λ q. 2 * q) inner.1 ∙ sym (pow-succ' 2 inner.0))
+  | inr odd ↦
+      let sum : count_ones odd.0 + count_ones 1 ≡ 1 = sym (ones_of_double odd.0 1 (omega arith)) ∙ ap count_ones (sym odd.1) ∙ e in
+      let none : odd.0 ≡ 0 = zero_from_ones odd.0 (omega (arith, ones_of_one)) in
+      (0, odd.1 ∙ ap (λ q. 2 * q + 1) none)
+]
 
 pub power_of_two : (n : ℕ) → is_power_of_two n ≡ true → (k : ℕ) × (n ≡ 2 ^ k)
 power_of_two n e = power_below (suc n) n (omega arith) (eqb-true (count_ones n) 1 e)

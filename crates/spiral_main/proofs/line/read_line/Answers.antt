@@ -15,8 +15,7 @@ returns-then-byte-eq10-clause-answer g c =
     let before = c.loop-byte in
     let text = take before.count before.buffer in
     let count = length-take-le before.count before.buffer (omega (arith, before.invariant.short, c.requires.room)) in
-    let grown = length-append text (c.in-Some.byte ∷ []) in
-    (
+    let grown = length-append text (c.in-Some.byte ∷ []) in (
       text ++ c.in-Some.byte ∷ [],
       Consumes-trans _ (to_come before.feed (g.S.Source.left before.source)) _ text (c.in-Some.byte ∷ []) before.invariant.consumed given.0,
       (
@@ -34,8 +33,7 @@ returns-then-count-eq-LINE_LIMIT-clause-answer g c =
     let text = take before.count before.buffer in
     let count = length-take-le before.count before.buffer (omega (arith, before.invariant.short, c.requires.room)) in
     let grown = length-append text (c.in-Some.byte ∷ []) in
-    let other : is_line_end c.in-Some.byte ≡ false = ne_eqb c.in-Some.byte 10 c.if-byte-eq10.false in
-    (
+    let other : is_line_end c.in-Some.byte ≡ false = ne_eqb c.in-Some.byte 10 c.if-byte-eq10.false in (
       text ++ c.in-Some.byte ∷ [],
       Consumes-trans _ (to_come before.feed (g.S.Source.left before.source)) _ text (c.in-Some.byte ∷ []) before.invariant.consumed given.0,
       λ more.
@@ -48,8 +46,7 @@ returns-clause-answer g c =
     let given = rw c.in_default.is at c.in_ok-byte.ensures.answer in
     let before = c.loop-byte in
     let text = take before.count before.buffer in
-    let count = length-take-le before.count before.buffer (omega (arith, before.invariant.short, c.requires.room)) in
-    (
+    let count = length-take-le before.count before.buffer (omega (arith, before.invariant.short, c.requires.room)) in (
       text,
       Consumes-kept _ (to_come before.feed (g.S.Source.left before.source)) _ text before.invariant.consumed given.0,
       (

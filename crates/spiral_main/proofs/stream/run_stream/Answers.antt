@@ -1,8 +1,9 @@
-use Rattle.std.proofs.Common.{◌≡◌, ◌+◌, ◌++◌, ◌∷◌, [], ℕ, List, Ok, Err, false, refl, sym, ap, subst, ◌∙◌, arith, length}
+use Rattle.std.proofs.Common.{◌≡◌, ◌<◌, ◌+◌, ◌++◌, ◌∷◌, [], ℕ, List, Ok, Err, false, refl, sym, ap, subst, ◌∙◌, arith, length}
 use Rattle.std.proofs.lemmas.Result.{err_from_is_err_and}
 use Rattle.std.proofs.KnownBytes.{Appends-nil}
 use Rattle.std.specs.Io.KnownBytes.{IsAtEnd}
-use Rattle.icode.specs.Machine.{State, results, runs}
+use Rattle.icode.specs.Machine.{Code, results, runs}
+use Rattle.request_text.specs.Turns.{turns_of}
 use Rattle.io_edge.specs.Feed.{to_come}
 use Rattle.data_stream.specs.Reading.{GivesVector}
 use Rattle.data_stream.specs.Vectors.{Cut, IsReady}
@@ -19,6 +20,7 @@ loop-machine-init g c =
     let start = to_come c.args.feed.now (g.I.Source.left c.args.input.now) in
     let taken = c.args.feed.now.taken in
     let code = c.args.machine.now.code in
+    let turns = turns_of c.args.schedule.now code.procs in
     record {
       seen = [];
       progress = subst (λ (v : Cut). StreamProgress start start taken taken v.ended code.size code.modulus v.done []) (sym c.new-vectors.ensures) (no_stream start taken false code.size code.modulus);
@@ -35,17 +37,21 @@ loop-machine-init g c =
 pub loop-machine-smaller : goal.loop-machine-smaller
 loop-machine-smaller g c =
     let before = c.loop-machine in
+    let some : 0 < c.args.machine.now.code.size = omega (arith, c.requires.some, c.requires.size) in
     let code = c.args.machine.now.code in
+    let turns = turns_of c.args.schedule.now code.procs in
     let answer = rw (c.in-Vector.is, before.invariant.size, c.modulus-modulus.ensures) at c.in_ok-next.ensures.answer in
     let rises = vector_counted before.feed c.next.new.feed c.next.new.self.ended code.size code.modulus before.vectors.done answer.0 c.next.new.vector answer.3 in
     let ready = rw c.in-Vector.is at c.in_ok-next.ensures.ready refl in
-    omega (arith, rises, ready.within, c.span.ensures.some)
+    omega (arith, rises, ready.within, some)
 
 pub loop-machine-preserved : goal.loop-machine-preserved
 loop-machine-preserved g c =
     let before = c.loop-machine in
+    let some : 0 < c.args.machine.now.code.size = omega (arith, c.requires.some, c.requires.size) in
     let inv = before.invariant in
     let code = c.args.machine.now.code in
+    let turns = turns_of c.args.schedule.now code.procs in
     let taken = g.O.Sink.taken in
     let x = c.next.new.vector in
     let answer = rw (c.in-Vector.is, inv.size, c.modulus-modulus.ensures) at c.in_ok-next.ensures.answer in
@@ -53,10 +59,10 @@ loop-machine-preserved g c =
     record {
       seen = inv.seen ++ x ∷ [];
       progress = rw done (stream_push _ _ _ c.args.feed.now.taken before.feed c.next.new.feed before.vectors.ended c.next.new.self.ended code.size code.modulus before.vectors.done inv.seen answer.0 x
-          c.span.ensures.some inv.progress answer.1 (λ e. (answer.2 e, (c.next.ensures.once e).1)) answer.3);
-      wrote = lines_more (λ y. results code y []) (taken c.args.output.now) (taken before.output) (taken c.write_vector.new.output) inv.seen x c.transform.new.vector
-          (c.transform.ensures.vector ∙ ap (λ k. results k x []) inv.code) inv.wrote c.in_ok-write_vector.ensures.bytes;
-      stands = c.transform.ensures.state ∙ ap (λ k. runs k x []) inv.code ∙ sym (state_behind-push (λ y. runs code y []) c.args.machine.now.state inv.seen x);
+          some inv.progress answer.1 (λ e. (answer.2 e, (c.next.ensures.once e).1)) answer.3);
+      wrote = lines_more (λ y. results code y turns) (taken c.args.output.now) (taken before.output) (taken c.write_vector.new.output) inv.seen x c.transform.new.vector
+          (c.transform.ensures.vector ∙ ap (λ (k : Code). results k x (turns_of c.args.schedule.now k.procs)) inv.code) inv.wrote c.in_ok-write_vector.ensures.bytes;
+      stands = c.transform.ensures.state ∙ ap (λ (k : Code). runs k x (turns_of c.args.schedule.now k.procs)) inv.code ∙ sym (state_behind-push (λ y. runs code y turns) c.args.machine.now.state inv.seen x);
       ready = rw c.in-Vector.is at c.in_ok-next.ensures.ready refl;
       size = c.next.ensures.size ∙ inv.size;
       code = c.transform.ensures.code ∙ inv.code;
@@ -67,8 +73,10 @@ loop-machine-preserved g c =
 pub returns-in_err-next-clause-streams : goal.returns-in_err-next-clause-streams
 returns-in_err-next-clause-streams g c =
     let before = c.loop-machine in
+    let some : 0 < c.args.machine.now.code.size = omega (arith, c.requires.some, c.requires.size) in
     let inv = before.invariant in
     let code = c.args.machine.now.code in
+    let turns = turns_of c.args.schedule.now code.procs in
     let x = c.next.new.vector in
     let fault = c.in_err-next.field-0.0 in
     let start = to_come c.args.feed.now (g.I.Source.left c.args.input.now) in
@@ -79,16 +87,18 @@ returns-in_err-next-clause-streams g c =
     let going : before.vectors.ended ≡ false = not_true before.vectors.ended (λ e. let other = (c.next.ensures.once e).0 in cc c.in_err-next.was) in
     let p = err_from_is_err_and c.from_residual.result c.from_residual.ensures.1 in
     let out = stream_fault_at start _ reached c.args.feed.now before.feed c.next.new.feed before.vectors.ended c.next.new.self.ended code.size code.modulus before.vectors.done inv.seen
-    (IsAtEnd reached) answer.0 x fault c.span.ensures.some inv.progress answer.1 going given c.next.ensures.end in
-    rw (p.1, p.2) (streamed (λ y. results code y []) (λ y. runs code y []) code.size code.modulus c.args.feed.now c.next.new.feed start reached (g.O.Sink.taken c.args.output.now) (g.O.Sink.taken before.output)
+    (IsAtEnd reached) answer.0 x fault some inv.progress answer.1 going given c.next.ensures.end in
+    rw (p.1, p.2) (streamed (λ y. results code y turns) (λ y. runs code y turns) code.size code.modulus c.args.feed.now c.next.new.feed start reached (g.O.Sink.taken c.args.output.now) (g.O.Sink.taken before.output)
     c.args.machine.now.state before.machine.state (Err (stream_fault fault)) (inv.progress.bytes ++ answer.0) inv.seen out.0 out.1 c.requires.within
     (fault_within fault _ c.in_err-next.ensures.within) (writes_fault fault _ _ _ inv.wrote) inv.stands)
 
 pub returns-in_err-write_vector-clause-streams : goal.returns-in_err-write_vector-clause-streams
 returns-in_err-write_vector-clause-streams g c =
     let before = c.loop-machine in
+    let some : 0 < c.args.machine.now.code.size = omega (arith, c.requires.some, c.requires.size) in
     let inv = before.invariant in
     let code = c.args.machine.now.code in
+    let turns = turns_of c.args.schedule.now code.procs in
     let taken = g.O.Sink.taken in
     let x = c.next.new.vector in
     let start = to_come c.args.feed.now (g.I.Source.left c.args.input.now) in
@@ -97,23 +107,25 @@ returns-in_err-write_vector-clause-streams g c =
     let ready = rw c.in-Vector.is at c.in_ok-next.ensures.ready refl in
     let p = err_from_is_err_and c.from_residual-in_err-write_vector.result c.from_residual-in_err-write_vector.ensures.1 in
     let pushed = stream_push start _ reached c.args.feed.now.taken before.feed c.next.new.feed before.vectors.ended c.next.new.self.ended code.size code.modulus before.vectors.done inv.seen answer.0 x
-    c.span.ensures.some inv.progress answer.1 (λ e. (answer.2 e, (c.next.ensures.once e).1)) answer.3 in
-    let reads = stream_unwritten start reached c.args.feed.now c.next.new.feed c.next.new.self.ended code.size code.modulus (before.vectors.done + code.size) (inv.seen ++ x ∷ []) (IsAtEnd reached) c.span.ensures.some pushed in
-    rw (p.1, p.2) (streamed (λ y. results code y []) (λ y. runs code y []) code.size code.modulus c.args.feed.now c.next.new.feed start reached (taken c.args.output.now) (taken c.write_vector.new.output)
+    some inv.progress answer.1 (λ e. (answer.2 e, (c.next.ensures.once e).1)) answer.3 in
+    let reads = stream_unwritten start reached c.args.feed.now c.next.new.feed c.next.new.self.ended code.size code.modulus (before.vectors.done + code.size) (inv.seen ++ x ∷ []) (IsAtEnd reached) some pushed in
+    rw (p.1, p.2) (streamed (λ y. results code y turns) (λ y. runs code y turns) code.size code.modulus c.args.feed.now c.next.new.feed start reached (taken c.args.output.now) (taken c.write_vector.new.output)
     c.args.machine.now.state c.transform.new.machine.state (Err WriteFault) pushed.bytes (inv.seen ++ x ∷ []) pushed.consumed reads c.requires.within (λ _. ready.within)
-    (lines_cut (λ y. results code y []) (taken c.args.output.now) (taken before.output) (taken c.write_vector.new.output) inv.seen x c.transform.new.vector
-    (c.transform.ensures.vector ∙ ap (λ k. results k x []) inv.code) inv.wrote c.in_err-write_vector.ensures.bytes)
-    (c.transform.ensures.state ∙ ap (λ k. runs k x []) inv.code ∙ sym (state_behind-push (λ y. runs code y []) c.args.machine.now.state inv.seen x)))
+    (lines_cut (λ y. results code y turns) (taken c.args.output.now) (taken before.output) (taken c.write_vector.new.output) inv.seen x c.transform.new.vector
+    (c.transform.ensures.vector ∙ ap (λ (k : Code). results k x (turns_of c.args.schedule.now k.procs)) inv.code) inv.wrote c.in_err-write_vector.ensures.bytes)
+    (c.transform.ensures.state ∙ ap (λ (k : Code). runs k x (turns_of c.args.schedule.now k.procs)) inv.code ∙ sym (state_behind-push (λ y. runs code y turns) c.args.machine.now.state inv.seen x)))
 
 pub returns-clause-streams : goal.returns-clause-streams
 returns-clause-streams g c =
     let before = c.loop-machine in
+    let some : 0 < c.args.machine.now.code.size = omega (arith, c.requires.some, c.requires.size) in
     let inv = before.invariant in
     let code = c.args.machine.now.code in
+    let turns = turns_of c.args.schedule.now code.procs in
     let start = to_come c.args.feed.now (g.I.Source.left c.args.input.now) in
     let reached = to_come c.next.new.feed (g.I.Source.left c.next.new.source) in
     let answer = rw c.in_default.is at c.in_ok-next.ensures.answer in
     let out = stream_end start _ reached c.args.feed.now before.feed c.next.new.feed before.vectors.ended c.next.new.self.ended code.size code.modulus before.vectors.done inv.seen
-    (IsAtEnd reached) answer.0 c.next.new.vector c.span.ensures.some inv.progress answer.1 (λ e. (answer.2 e, (c.next.ensures.once e).1)) answer.3 c.next.ensures.end in
-    streamed (λ y. results code y []) (λ y. runs code y []) code.size code.modulus c.args.feed.now c.next.new.feed start reached (g.O.Sink.taken c.args.output.now) (g.O.Sink.taken before.output)
+    (IsAtEnd reached) answer.0 c.next.new.vector some inv.progress answer.1 (λ e. (answer.2 e, (c.next.ensures.once e).1)) answer.3 c.next.ensures.end in
+    streamed (λ y. results code y turns) (λ y. runs code y turns) code.size code.modulus c.args.feed.now c.next.new.feed start reached (g.O.Sink.taken c.args.output.now) (g.O.Sink.taken before.output)
     c.args.machine.now.state before.machine.state (Ok tt) (inv.progress.bytes ++ answer.0) inv.seen out.0 out.1 c.requires.within (λ _. c.in_ok-next.ensures.within (λ e. cc)) inv.wrote inv.stands

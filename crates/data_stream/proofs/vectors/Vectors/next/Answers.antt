@@ -85,10 +85,10 @@ returns-clause-ready g c =
 pub returns-clause-residues : goal.returns-clause-residues
 returns-clause-residues g c =
     λ _.
-        let last = c.loop-place in
-        let all = take_all last.place last.vector (omega arith) in
-        let whole = vector_whole _ _ c.args.feed.now last.feed c.args.self.now.ended last.self.ended c.args.self.now.size c.args.modulus.now c.args.self.now.done (take last.place last.vector) last.vector last.invariant.progress
-        all (omega (arith, c.requires.size)) (λ e. (last.invariant.fresh e).2) in
-        let size : c.self-2.inside.size ≡ c.args.self.now.size = ap (λ (v : Cut). v.size) c.self-2.view_is ∙ last.invariant.size in
-        let some : 0 < last.place = omega (arith, size, c.requires.size, c.self-2.invariant) in
-        subst (All (λ v. v < c.args.modulus.now)) (sym whole.3.1.4) (residues_below c.args.modulus.now whole.3.1.0 (last.invariant.positive some))
+    let last = c.loop-place in
+    let all = take_all last.place last.vector (omega arith) in
+    let whole = vector_whole _ _ c.args.feed.now last.feed c.args.self.now.ended last.self.ended c.args.self.now.size c.args.modulus.now c.args.self.now.done (take last.place last.vector) last.vector last.invariant.progress
+    all (omega (arith, c.requires.size)) (λ e. (last.invariant.fresh e).2) in
+    let size : c.self-2.inside.size ≡ c.args.self.now.size = ap (λ (v : Cut). v.size) c.self-2.view_is ∙ last.invariant.size in
+    let some : 0 < last.place = omega (arith, size, c.requires.size, c.self-2.invariant) in
+    subst (All (λ v. v < c.args.modulus.now)) (sym whole.3.1.4) (residues_below c.args.modulus.now whole.3.1.0 (last.invariant.positive some))

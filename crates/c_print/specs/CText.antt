@@ -1,0 +1,95 @@
+-- The C text of a program: its statements and expressions are those of the listing, each in the words of C.
+use Rattle.std.specs.Prelude.{ℕ, ◌+◌, ◌*◌, List, [], ◌∷◌, ◌++◌, length, codes, decimal, flat_map}
+use Rattle.icode.specs.Plain.{PlainOp, PlainStmt, PlainBody, PlainProgram, Load, Store, Zero, Add, Sub, Neg, MulConst, MulTable, Tile, Loop, Do, NoStmts, AndStmts}
+use Rattle.icode.specs.Machine.{whole_lines}
+use Rattle.listing_text.specs.Listing.{sum_text, array_text, header_text}
+
+-- for each lane l, the rest of the line
+unfoldable pub lane_loop : List ℕ
+lane_loop = codes "for (int l = 0; l < V; l++) "
+
+unfoldable pub tile_loops : List ℕ
+tile_loops = codes "for (int k = 0; k < V; k++) for (int l = 0; l < V; l++) "
+
+-- lane l of a register
+abbrev pub lane_text : ℕ → List ℕ
+lane_text register = codes "r[" ++ decimal register ++ codes "][l]"
+
+-- lane l of a register becomes what the text behind it says
+abbrev pub becomes_text : ℕ → List ℕ
+becomes_text register = lane_loop ++ lane_text register ++ codes " = "
+
+unfoldable pub c_op_text : PlainOp → List ℕ
+c_op_text (Load register array place) = becomes_text register ++ array_text array ++ codes "[" ++ sum_text place ++ codes " + l];"
+c_op_text (Store array place register) = lane_loop ++ array_text array ++ codes "[" ++ sum_text place ++ codes " + l] = " ++ lane_text register ++ codes ";"
+c_op_text (Zero register) = becomes_text register ++ codes "0;"
+c_op_text (Add register left right) = becomes_text register ++ codes "add(" ++ lane_text left ++ codes ", " ++ lane_text right ++ codes ");"
+c_op_text (Sub register left right) = becomes_text register ++ codes "sub(" ++ lane_text left ++ codes ", " ++ lane_text right ++ codes ");"
+c_op_text (Neg register source) = becomes_text register ++ codes "sub(0, " ++ lane_text source ++ codes ");"
+c_op_text (MulConst register source factor) = becomes_text register ++ codes "mul(" ++ lane_text source ++ codes ", " ++ decimal factor ++ codes ");"
+c_op_text (MulTable register source table place step) =
+    becomes_text register ++ codes "mul(" ++ lane_text source ++ codes ", t" ++ decimal table ++ codes "[" ++ sum_text place ++ codes " + " ++ decimal step ++ codes " * l]);"
+c_op_text (Tile register source) = tile_loops ++ codes "r[" ++ decimal register ++ codes " + k][l] = r[" ++ decimal source ++ codes " + l][k];"
+
+-- the loop inside so many others begins
+unfoldable pub loop_text : ℕ → ℕ → List ℕ
+loop_text depth count = codes "for (uint64_t v" ++ decimal depth ++ codes " = 0; v" ++ decimal depth ++ codes " < " ++ decimal count ++ codes "; v" ++ decimal depth ++ codes "++) {\n"
+
+abbrev mutual
+  pub c_stmt_text : ℕ → PlainStmt → List ℕ
+  c_stmt_text depth (Loop count body) = loop_text depth count ++ c_body_text (depth + 1) body ++ codes "}\n"
+  c_stmt_text depth (Do op) = c_op_text op ++ codes "\n"
+
+  pub c_body_text : ℕ → PlainBody → List ℕ
+  c_body_text depth NoStmts = []
+  c_body_text depth (AndStmts stmt rest) = c_stmt_text depth stmt ++ c_body_text depth rest
+
+-- the words of an array
+abbrev pub array_words : PlainProgram → ℕ
+array_words p = whole_lines p.size p.line
+
+unfoldable pub include_text : List ℕ
+include_text = codes " */\n#include <stdint.h>\n#define M "
+
+-- the header, the modulus and the lanes
+unfoldable pub constants_text : PlainProgram → List ℕ
+constants_text p = codes "/* " ++ header_text p ++ include_text ++ decimal p.modulus ++ codes "ULL\n#define V " ++ decimal p.lanes ++ codes "\n"
+
+-- the memory and its four arrays
+unfoldable pub memory_text : ℕ → List ℕ
+memory_text words =
+    codes "#define X (W + 0)\n#define Y (W + " ++ decimal words ++ codes ")\n#define A (W + " ++ decimal (2 * words) ++ codes ")\n#define B (W + " ++ decimal (3 * words) ++ codes ")\nstatic uint64_t W[" ++ decimal (4 * words) ++ codes "];\n"
+
+abbrev pub joined_text : List ℕ → List ℕ
+joined_text [] = []
+joined_text (c ∷ cs) = decimal c ++ flat_map (λ c. codes "," ++ decimal c) cs
+
+unfoldable pub c_table_text : ℕ → List ℕ → List ℕ
+c_table_text number entries = codes "static const uint64_t t" ++ decimal number ++ codes "[" ++ decimal (length entries) ++ codes "] = {" ++ joined_text entries ++ codes "};\n"
+
+-- the tables from this number on
+abbrev pub c_tables_text : ℕ → List (List ℕ) → List ℕ
+c_tables_text number [] = []
+c_tables_text number (entries ∷ tables) = c_table_text number entries ++ c_tables_text (number + 1) tables
+
+-- the sum, the difference and the product of two residues
+unfoldable pub add_text : List ℕ
+add_text = codes "static uint64_t add(uint64_t a, uint64_t b) { uint64_t c = a + b; return c >= M ? c - M : c; }\n"
+
+unfoldable pub sub_text : List ℕ
+sub_text = codes "static uint64_t sub(uint64_t a, uint64_t b) { return a >= b ? a - b : a + M - b; }\n"
+
+unfoldable pub mul_text : List ℕ
+mul_text = codes "static uint64_t mul(uint64_t a, uint64_t b) { return (uint64_t)((unsigned __int128)a * b % M); }\n"
+
+-- how a phase begins, for a program with so many registers
+unfoldable pub phase_start_text : ℕ → ℕ → List ℕ
+phase_start_text regs number = codes "void phase" ++ decimal number ++ codes "(uint64_t q) {\nuint64_t r[" ++ decimal regs ++ codes "][V];\n(void)q;\n"
+
+-- the phases from this number on
+abbrev pub c_phases_text : ℕ → ℕ → List PlainBody → List ℕ
+c_phases_text regs number [] = []
+c_phases_text regs number (body ∷ phases) = phase_start_text regs number ++ c_body_text 0 body ++ codes "}\n" ++ c_phases_text regs (number + 1) phases
+
+abbrev pub c_text_of : PlainProgram → List ℕ
+c_text_of p = constants_text p ++ memory_text (array_words p) ++ c_tables_text 0 p.tables ++ add_text ++ sub_text ++ mul_text ++ c_phases_text p.regs 0 p.phases

@@ -1,0 +1,9 @@
+//! The C text of a program.
+#![tactic(auto)]
+
+mod printing;
+
+pub use printing::print_c;
+
+#[cfg(test)]
+mod tests;

@@ -1,0 +1,105 @@
+use super::*;
+use listing_text::read_listing;
+use std::test::*;
+
+const LISTING: &[u8] = b"program size 2 mod 15 procs 1 line 1 lanes 1 regs 5
+phase
+ld r0 X[0]
+ld r1 X[1]
+add r2 r0 r1
+mul r3 r1 4
+add r4 r0 r3
+st Y[0] r2
+st Y[1] r4
+end
+";
+
+const C_TEXT: &[u8] = b"/* program size 2 mod 15 procs 1 line 1 lanes 1 regs 5 */
+#include <stdint.h>
+#define M 15ULL
+#define V 1
+#define X (W + 0)
+#define Y (W + 2)
+#define A (W + 4)
+#define B (W + 6)
+static uint64_t W[8];
+static uint64_t add(uint64_t a, uint64_t b) { uint64_t c = a + b; return c >= M ? c - M : c; }
+static uint64_t sub(uint64_t a, uint64_t b) { return a >= b ? a - b : a + M - b; }
+static uint64_t mul(uint64_t a, uint64_t b) { return (uint64_t)((unsigned __int128)a * b % M); }
+void phase0(uint64_t q) {
+uint64_t r[5][V];
+(void)q;
+for (int l = 0; l < V; l++) r[0][l] = X[0 + l];
+for (int l = 0; l < V; l++) r[1][l] = X[1 + l];
+for (int l = 0; l < V; l++) r[2][l] = add(r[0][l], r[1][l]);
+for (int l = 0; l < V; l++) r[3][l] = mul(r[1][l], 4);
+for (int l = 0; l < V; l++) r[4][l] = add(r[0][l], r[3][l]);
+for (int l = 0; l < V; l++) Y[0 + l] = r[2][l];
+for (int l = 0; l < V; l++) Y[1 + l] = r[4][l];
+}
+";
+
+// The other statements, tables and several phases.
+const FORMS: &[u8] = b"program size 5 mod 17 procs 2 line 4 lanes 2 regs 9
+table 0 values 1
+table 1 values 2 3 16
+phase
+end
+phase
+for v0 4
+zero r0
+for v1 3
+sub r0 r1 r2
+end
+neg r3 r4
+mul r5 r6 t1[0+v0*1] step 1
+tile r0 r4
+st A[0+q*1+(0+v0*1)%2*4] r8
+end
+end
+";
+
+const C_FORMS: &[u8] = b"/* program size 5 mod 17 procs 2 line 4 lanes 2 regs 9 */
+#include <stdint.h>
+#define M 17ULL
+#define V 2
+#define X (W + 0)
+#define Y (W + 8)
+#define A (W + 16)
+#define B (W + 24)
+static uint64_t W[32];
+static const uint64_t t0[1] = {1};
+static const uint64_t t1[3] = {2,3,16};
+static uint64_t add(uint64_t a, uint64_t b) { uint64_t c = a + b; return c >= M ? c - M : c; }
+static uint64_t sub(uint64_t a, uint64_t b) { return a >= b ? a - b : a + M - b; }
+static uint64_t mul(uint64_t a, uint64_t b) { return (uint64_t)((unsigned __int128)a * b % M); }
+void phase0(uint64_t q) {
+uint64_t r[9][V];
+(void)q;
+}
+void phase1(uint64_t q) {
+uint64_t r[9][V];
+(void)q;
+for (uint64_t v0 = 0; v0 < 4; v0++) {
+for (int l = 0; l < V; l++) r[0][l] = 0;
+for (uint64_t v1 = 0; v1 < 3; v1++) {
+for (int l = 0; l < V; l++) r[0][l] = sub(r[1][l], r[2][l]);
+}
+for (int l = 0; l < V; l++) r[3][l] = sub(0, r[4][l]);
+for (int l = 0; l < V; l++) r[5][l] = mul(r[6][l], t1[0+v0*1 + 1 * l]);
+for (int k = 0; k < V; k++) for (int l = 0; l < V; l++) r[0 + k][l] = r[4 + l][k];
+for (int l = 0; l < V; l++) A[0+q*1+(0+v0*1)%2*4 + l] = r[8][l];
+}
+}
+";
+
+#[test]
+fn prints_programs(rt: HostRuntime) -> Result<(), Fail> {
+    let texts: [(&[u8], &[u8]); 2] = [(LISTING, C_TEXT), (FORMS, C_FORMS)];
+    for (listing, c_text) in texts {
+        let program = read_listing(rt.alloc(), listing).ok().ok_or("a listing")?;
+        let printed = print_c(rt.alloc(), &program)?;
+        assert_eq!(rt; printed.as_slice(), c_text);
+    }
+    Ok(())
+}

@@ -1,0 +1,79 @@
+-- Kernels on the machine.
+use Rattle.std.proofs.Common.{◌≡◌, ℕ, ◌*◌, ◌<◌, ◌≤◌, ap, ◌∙◌, List, map}
+use Rattle.std.proofs.lemmas.List.FromFn.{fill_by_all}
+use Rattle.code_laws.specs.Lanes.{Registers, lane_of, AreArithmetic}
+use Rattle.code_laws.proofs.ByLane.{arithmetic_is_by_lane, operations_are_by_lane}
+use Rattle.code_laws.proofs.Placing.{slice_index-map, length-mapped}
+use Rattle.matrix_meaning.specs.declared.Kind.{Kind}
+use Rattle.matrix_meaning.specs.Kind.{transform}
+use Rattle.operators.specs.Sum.{list_below}
+use Rattle.operators.proofs.Lists.{length-list_below, at-list_below}
+use Rattle.tree_model.specs.Breakdown.{Breakdown, size_of, IsWellFormed}
+use Rattle.kernel_gen.specs.Kernel.{tree_make, kernel_of, kernel_cost}
+use Rattle.kernel_gen.specs.Laws.{IsRoot, KernelsTransform, KernelsCost, KernelsRegisters, KernelsAreConstant}
+use Rattle.kernel_gen.proofs.Below.{AllBelow, AllBelow-at}
+use Rattle.kernel_gen.proofs.Pieces.{Does, DoesAt, AreArithmetic-more}
+use Rattle.kernel_gen.proofs.Trees.{does-tree}
+
+-- the first registers
+abbrev pub firsts : ℕ → List ℕ
+firsts n = list_below n (λ k. k)
+
+firsts-below : (n : ℕ) → AllBelow n (firsts n)
+firsts-below n =
+    AllBelow-at n (firsts n) (λ i within.
+    let inside : i < n = rw (length-list_below n (λ k. k)) at within in
+    rw (at-list_below n (λ k. k) i inside) inside)
+
+pub map-firsts : (g : ℕ → ℕ) (n : ℕ) → map g (firsts n) ≡ list_below n g
+map-firsts g n =
+    fill_by_all g (map g (firsts n)) n 0 (length-mapped g (firsts n) ∙ length-list_below n _)
+    (λ i below. slice_index-map g (firsts n) i (rw (length-list_below n (λ k. k)) below) ∙ ap g (at-list_below n (λ k. k) i below))
+
+firsts-residues : (g : ℕ → ℕ) (m n : ℕ) → ((k : ℕ) → k < n → g k < m) → AllBelow m (map g (firsts n))
+firsts-residues g m n small =
+    rw (map-firsts g n) (AllBelow-at m (list_below n g) (λ i within.
+    let inside : i < n = rw (length-list_below n g) at within in
+    rw (at-list_below n g i inside) (small i inside)))
+
+-- what the kernel of a tree does in a lane
+pub kernel-does : (m lanes lane : ℕ) (kind : Kind) (t : Breakdown) (w : ℕ) → 2 ≤ m → lane < lanes → IsWellFormed kind t → IsRoot kind m (size_of t) w →
+    DoesAt m lanes lane (size_of t) (kernel_cost m kind t w) (firsts (size_of t)) (size_of t) (kernel_of m lanes kind t w) (transform kind m (size_of t) w)
+kernel-does m lanes lane kind t w modulus there formed root =
+    let done : Does m lanes lane (size_of t) (size_of t) (kernel_cost m kind t w) (tree_make m lanes kind t w) (transform kind m (size_of t) w) =
+    does-tree m lanes lane modulus there kind t w formed root in
+    done.at (firsts (size_of t)) (size_of t) (length-list_below (size_of t) _) (firsts-below (size_of t))
+
+pub kernels_transform : KernelsTransform
+kernels_transform m lanes regs kind t w s modulus some formed root room wide =
+    let made = kernel_of m lanes kind t w in
+    let first : DoesAt m lanes 0 (size_of t) (kernel_cost m kind t w) (firsts (size_of t)) (size_of t) made (transform kind m (size_of t) w) =
+    kernel-does m lanes 0 kind t w modulus some formed root in
+    let are : AreArithmetic lanes regs made.acts = AreArithmetic-more lanes made.next regs made.acts room first.arithmetic in
+    let by_lane = arithmetic_is_by_lane m lanes regs made.acts s are wide in (
+      by_lane.0,
+      λ lane there small.
+          let g : Registers = lane_of lanes s.registers lane in
+          let done : DoesAt m lanes lane (size_of t) (kernel_cost m kind t w) (firsts (size_of t)) (size_of t) made (transform kind m (size_of t) w) =
+          kernel-does m lanes lane kind t w modulus there formed root in
+          ap (λ (h : Registers). map h made.outs) (by_lane.1 lane there)
+          ∙ done.values g (firsts-residues g m (size_of t) small)
+          ∙ ap (transform kind m (size_of t) w) (map-firsts g (size_of t)),
+    )
+
+pub kernels_cost : KernelsCost
+kernels_cost m lanes kind t w modulus some formed root =
+    let made = kernel_of m lanes kind t w in
+    let done : DoesAt m lanes 0 (size_of t) (kernel_cost m kind t w) (firsts (size_of t)) (size_of t) made (transform kind m (size_of t) w) =
+    kernel-does m lanes 0 kind t w modulus some formed root in
+    operations_are_by_lane lanes made.acts ∙ ap (λ n. lanes * n) done.costs
+
+pub kernels_registers : KernelsRegisters
+kernels_registers m lanes kind t w modulus some formed root =
+    let done : DoesAt m lanes 0 (size_of t) (kernel_cost m kind t w) (firsts (size_of t)) (size_of t) (kernel_of m lanes kind t w) (transform kind m (size_of t) w) = kernel-does m lanes 0 kind t w modulus some formed root in
+    done.next_is
+
+pub kernels_are_constant : KernelsAreConstant
+kernels_are_constant m lanes kind t w modulus some formed root =
+    let done : DoesAt m lanes 0 (size_of t) (kernel_cost m kind t w) (firsts (size_of t)) (size_of t) (kernel_of m lanes kind t w) (transform kind m (size_of t) w) = kernel-does m lanes 0 kind t w modulus some formed root in
+    done.constant

@@ -1,0 +1,87 @@
+-- The code of a node is written by that of its parts.
+use Rattle.std.proofs.Common.{◌≡◌, ℕ, ◌+◌, ◌*◌, ◌++◌, List, [], length, sym, ap, ap₂, subst, ◌∙◌, add-zero}
+use Rattle.icode.specs.declared.action.Action.{Action}
+use Rattle.matrix_meaning.specs.declared.Kind.{Kind}
+use Rattle.operators.specs.Identities.{turn}
+use Rattle.operators.specs.Operator.{good_thomas_in, good_thomas_out}
+use Rattle.operators.specs.Operator.{gather}
+use Rattle.operators.specs.Sum.{list_below}
+use Rattle.ring_mod.specs.Residue.{power_mod}
+use Rattle.tree_model.specs.declared.tree.Rule.{Rule}
+use Rattle.tree_model.specs.declared.tree.Rule.TheVariants.{Gt, Ct, Split}
+use Rattle.tree_model.specs.Breakdown.{Breakdown, node, size_of}
+use Rattle.kernel_gen.specs.declared.writer.Writer.{Writer}
+use Rattle.kernel_gen.specs.Making.{Made, Maker, pick_make, then_make, rows_make}
+use Rattle.kernel_gen.specs.Kernel.{columns_make, twiddled_make, node_make, tree_make, kernel_of}
+use Rattle.kernel_gen.specs.Writing.{next_of, Wrote}
+use Rattle.kernel_gen.proofs.Writes.{wrote-pick, wrote-then, wrote-lanes}
+
+-- the parts of a tree, as the code has them: the trees, their sizes, and their roots
+pub record ArePartsOf (m : ℕ) (rule : Rule) (tree a b : Breakdown) (root r s left right : ℕ) : Type 0 where
+  pub tree_is : tree ≡ node rule a b
+  pub r_is : r ≡ size_of a
+  pub s_is : s ≡ size_of b
+  pub left_is : left ≡ power_mod m root s
+  pub right_is : right ≡ power_mod m root r
+
+module _ (m : ℕ) (kind : Kind) (tree a b : Breakdown) (root r s left right : ℕ) where
+  wrote-node : (rule : Rule) (lanes : ℕ) (old new : Writer) (ins outs : List ℕ) → ArePartsOf m rule tree a b root r s left right →
+      Wrote old new (node_make m lanes rule r s root (tree_make m lanes kind a left) (tree_make m lanes kind b right)) ins outs → Wrote old new (tree_make m lanes kind tree root) ins outs
+  wrote-node rule lanes old new ins outs parts whole =
+      let P = λ (p q u v : ℕ). Wrote old new (node_make m lanes rule p q root (tree_make m lanes kind a u) (tree_make m lanes kind b v)) ins outs in
+      let left_end : left ≡ power_mod m root (size_of b) = parts.left_is ∙ ap (power_mod m root) parts.s_is in
+      let right_end : right ≡ power_mod m root (size_of a) = parts.right_is ∙ ap (power_mod m root) parts.r_is in
+      subst (λ (z : Breakdown). Wrote old new (tree_make m lanes kind z root) ins outs) (sym parts.tree_is)
+      (subst (λ v. P (size_of a) (size_of b) (power_mod m root (size_of b)) v) right_end
+      (subst (λ u. P (size_of a) (size_of b) u right) left_end
+      (subst (λ q. P (size_of a) q left right) parts.s_is
+      (subst (λ p. P p s left right) parts.r_is whole))))
+
+  -- the columns, with the number of lanes that the code began with
+  columns_too : (old mid new : Writer) (y z : List ℕ) → mid.lanes ≡ old.lanes → Wrote mid new (columns_make r s (tree_make m mid.lanes kind a left)) y z → Wrote mid new (columns_make r s (tree_make m old.lanes kind a left)) y z
+  columns_too old mid new y z same q = wrote-lanes mid new old.lanes mid.lanes (λ n. columns_make r s (tree_make m n kind a left)) y z same q
+
+  pub wrote_ct : (old mid new : Writer) (ins x y z : List ℕ) → ArePartsOf m Ct tree a b root r s left right → x ≡ turn r s ins →
+      Wrote old mid (rows_make r s (twiddled_make m old.lanes s root (tree_make m old.lanes kind b right))) x y →
+      Wrote mid new (columns_make r s (tree_make m mid.lanes kind a left)) y z → Wrote old new (tree_make m old.lanes kind tree root) ins z
+  wrote_ct old mid new ins x y z parts x_is p q =
+      let rows : Maker = rows_make r s (twiddled_make m old.lanes s root (tree_make m old.lanes kind b right)) in
+      let columns : Maker = columns_make r s (tree_make m old.lanes kind a left) in
+      wrote-node Ct old.lanes old new ins z parts
+      (wrote-then old old new (pick_make (turn r s)) (then_make rows columns) ins x z (wrote-pick old (turn r s) ins x x_is)
+      (wrote-then old mid new rows columns x y z p (columns_too old mid new y z p.code.lanes q)))
+
+  pub wrote_split : (old mid new : Writer) (ins y z : List ℕ) → ArePartsOf m Split tree a b root r s left right →
+      Wrote old mid (rows_make r s (λ _. tree_make m old.lanes kind b right)) ins y →
+      Wrote mid new (columns_make r s (tree_make m mid.lanes kind a left)) y z → Wrote old new (tree_make m old.lanes kind tree root) ins z
+  wrote_split old mid new ins y z parts p q =
+      wrote-node Split old.lanes old new ins z parts
+      (wrote-then old mid new (rows_make r s (λ _. tree_make m old.lanes kind b right)) (columns_make r s (tree_make m old.lanes kind a left)) ins y z p
+      (columns_too old mid new y z p.code.lanes q))
+
+  pub wrote_gt : (old mid new : Writer) (ins x y z outs : List ℕ) → ArePartsOf m Gt tree a b root r s left right → x ≡ gather (r * s) (good_thomas_in r s) ins →
+      Wrote old mid (rows_make r s (λ _. tree_make m old.lanes kind b right)) x y →
+      Wrote mid new (columns_make r s (tree_make m mid.lanes kind a left)) y z →
+      outs ≡ gather (r * s) (good_thomas_out r s) z → Wrote old new (tree_make m old.lanes kind tree root) ins outs
+  wrote_gt old mid new ins x y z outs parts x_is p q outs_are =
+      let rows : Maker = rows_make r s (λ _. tree_make m old.lanes kind b right) in
+      let columns : Maker = columns_make r s (tree_make m old.lanes kind a left) in
+      let back : Maker = pick_make (gather (r * s) (good_thomas_out r s)) in
+      wrote-node Gt old.lanes old new ins outs parts
+      (wrote-then old old new (pick_make (gather (r * s) (good_thomas_in r s))) (then_make rows (then_make columns back)) ins x outs (wrote-pick old (gather (r * s) (good_thomas_in r s)) ins x x_is)
+      (wrote-then old mid new rows (then_make columns back) x y outs p
+      (wrote-then mid new new columns back y z outs (columns_too old mid new y z p.code.lanes q) (wrote-pick new (gather (r * s) (good_thomas_out r s)) z outs outs_are))))
+
+abbrev pub made_with : List Action → List ℕ → ℕ → Made
+made_with acts outs next = record { acts = acts; outs = outs; next = next }
+
+-- a whole kernel
+pub kernel_written : (m lanes : ℕ) (kind : Kind) (t : Breakdown) (root : ℕ) (old new : Writer) (ins outs : List ℕ) (regs : ℕ) →
+    old.actions.items ≡ [] → old.inputs ≡ size_of t → ins ≡ list_below (size_of t) (λ k. k) → Wrote old new (tree_make m lanes kind t root) ins outs → regs ≡ next_of new →
+    made_with new.actions.items outs regs ≡ kernel_of m lanes kind t root
+kernel_written m lanes kind t root old new ins outs regs none inputs ins_are p regs_are =
+    let first : next_of old ≡ size_of t = ap₂ (λ n xs. n + length {A = Action} xs) inputs none ∙ add-zero (size_of t) in
+    let made = tree_make m lanes kind t root ins (next_of old) in
+    ap₂ (λ acts ys. made_with acts ys regs) (p.code.actions ∙ ap (λ xs. xs ++ made.acts) none) p.outs_are
+    ∙ ap (made_with made.acts made.outs) (regs_are ∙ p.code.next_is)
+    ∙ ap₂ (tree_make m lanes kind t root) ins_are first

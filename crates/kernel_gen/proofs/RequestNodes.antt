@@ -1,0 +1,47 @@
+-- The kernels of the nodes of a request's transform.
+use Rattle.std.proofs.Common.{◌≡◌, ℕ, ◌*◌, ◌%◌, ◌<◌, ◌≤◌, sym, ap, ap₂, ◌∙◌, arith, mul_comm}
+use Rattle.std.proofs.Math.Nat.{mod-eq_of_lt}
+use Rattle.matrix_meaning.specs.declared.Kind.{Kind}
+use Rattle.matrix_meaning.specs.declared.Kind.TheVariants.{Dft, Wht}
+use Rattle.matrix_meaning.specs.declared.Request.{Request}
+use Rattle.matrix_meaning.specs.Valid.{IsValid, HasRoot}
+use Rattle.ring_mod.specs.Residue.{power_mod}
+use Rattle.ring_mod.proofs.Powers.{power_mod_of_power}
+use Rattle.tree_model.specs.Breakdown.{Breakdown, size_of}
+use Rattle.tree_model.specs.Cost.{node_root}
+use Rattle.tree_model.proofs.Splits.{product_div}
+use Rattle.kernel_gen.specs.Kernel.{kernel_of, node_kernel}
+use Rattle.kernel_gen.specs.Making.{Made}
+use Rattle.kernel_gen.specs.Laws.{IsRoot, NodesTransform, NodesCost}
+use Rattle.kernel_gen.proofs.Kernels.{kernels_transform, kernels_cost}
+use Rattle.kernel_gen.proofs.NodeCosts.{cost-same}
+
+-- the root of a part
+part_root : (kind : Kind) (m w n d q : ℕ) → 2 ≤ m → d * q ≡ n → HasRoot kind m w n → IsRoot kind m d (power_mod m w q)
+part_root Wht m w n d q large whole root = tt
+part_root Dft m w n d q large whole root =
+    let least : 1 < m = large in
+    power_mod_of_power m w q d ∙ ap (power_mod m w) (mul_comm q d ∙ whole) ∙ root ∙ sym (mod-eq_of_lt least)
+
+root-of : (c : Request) (t : Breakdown) → IsValid c → c.size % size_of t ≡ 0 → IsRoot c.kind c.modulus (size_of t) (node_root c (size_of t))
+root-of c t valid divides =
+    part_root c.kind c.modulus c.root c.size (size_of t) _ valid.in_range.modulus.0 (product_div c.size (size_of t) divides) valid.root
+
+pub nodes_transform : NodesTransform
+nodes_transform c t regs s valid formed divides room wide =
+    let lanes = valid.in_range.lanes in
+    kernels_transform c.modulus c.lanes regs c.kind t (node_root c (size_of t)) s valid.in_range.modulus.0 (omega arith) formed (root-of c t valid divides) room wide
+
+pub nodes_cost : NodesCost
+nodes_cost c t valid one formed divides is =
+    let lanes = valid.in_range.lanes in
+    let size = valid.in_range.size in
+    kernels_cost c.modulus c.lanes c.kind t (node_root c (size_of t)) valid.in_range.modulus.0 (omega arith) formed (root-of c t valid divides)
+    ∙ ap (λ n. c.lanes * n) (cost-same c one t _ (omega arith) formed (product_div c.size (size_of t) divides) is)
+
+-- code that was written for the fields of a request
+pub written_for : (c r : Request) (t : Breakdown) (m root d : ℕ) (made : Made) → made ≡ kernel_of m r.lanes r.kind t root → r ≡ c → m ≡ r.modulus → root ≡ node_root c d → d ≡ size_of t → made ≡ node_kernel c t
+written_for c r t m root d made written same modulus root_is size =
+    written
+    ∙ ap₂ (λ k w. kernel_of k r.lanes r.kind t w) modulus root_is
+    ∙ ap₂ (λ (z : Request) (e : ℕ). kernel_of z.modulus z.lanes z.kind t (node_root c e)) same size

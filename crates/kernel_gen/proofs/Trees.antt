@@ -1,0 +1,159 @@
+-- The code of a tree computes the tree's transform, at the tree's cost.
+use Rattle.std.proofs.Common.{◌≡◌, ℕ, ◌+◌, ◌*◌, ◌%◌, ◌<◌, ◌≤◌, inl, inr, arith, sym, ap, ap₂, ◌∙◌, List, length, mod-lt, mul_comm, mul-zero}
+use Rattle.std.specs.Prelude.{slice_index, count_ones}
+use lib.Count.{ones}
+use Rattle.std.specs.Int.Bits.{and_zero_r}
+use Rattle.std.proofs.Math.Nat.{mod-eq_of_lt}
+use Rattle.std.proofs.lemmas.Nat.{pow-add}
+use Rattle.std.proofs.lemmas.Bool.{cases_eq}
+use Rattle.matrix_meaning.specs.declared.Kind.{Kind}
+use Rattle.matrix_meaning.specs.declared.Kind.TheVariants.{Dft, Wht}
+use Rattle.operators.specs.Identities.{turn}
+use Rattle.matrix_meaning.specs.Kind.{entry_of, sign, transform, IsPowerOfTwo}
+use Rattle.matrix_meaning.specs.Laws.{twiddle}
+use Rattle.operators.specs.Operator.{good_thomas_in, good_thomas_out}
+use Rattle.operators.specs.Operator.{Operator, gather, scale, stride, block, on_blocks, on_columns, on_each_block}
+use Rattle.operators.specs.Sum.{sum_below}
+use Rattle.matrix_meaning.proofs.CooleyTukey.{cooley_tukey}
+use Rattle.matrix_meaning.proofs.GoodThomas.{good_thomas}
+use Rattle.matrix_meaning.proofs.WalshHadamard.{split}
+use Rattle.operators.proofs.Lists.{length-list_below, at-list_below, list_below-same_rows, at-on_blocks, row-of, column-of, place_below, factor_positive}
+use Rattle.operators.proofs.Places.{stride_below}
+use Rattle.operators.proofs.Sums.{sum_below-add}
+use Rattle.ring_mod.specs.Residue.{power_mod}
+use Rattle.ring_mod.proofs.Powers.{power_mod-zero, power_mod-part}
+use Rattle.tree_model.specs.declared.tree.Rule.TheVariants.{Gt, Ct, Split}
+use Rattle.tree_model.specs.Breakdown.{Breakdown, leaf, node, size_of, IsWellFormed}
+use Rattle.kernel_gen.specs.Making.{Maker, pick_make, then_make, rows_make, diagonal_make}
+use Rattle.kernel_gen.specs.Kernel.{columns_make, node_make, tree_make, product_cost, rule_cost, kernel_cost}
+use Rattle.kernel_gen.specs.Laws.{IsRoot}
+use Rattle.kernel_gen.proofs.Pieces.{Does, does-same, does-price, does-pick, does-then}
+use Rattle.kernel_gen.proofs.Rows.{sum_below-constant, does-rows, does-blocks, does-columns}
+use Rattle.kernel_gen.proofs.Factors.{does-diagonal}
+use Rattle.kernel_gen.proofs.Matrices.{does-matrix}
+
+-- the first column of a transform
+first_column : (kind : Kind) (m w k : ℕ) → 2 ≤ m → entry_of kind m w k 0 ≡ 1
+unfolding ones
+first_column Dft m w k modulus = ap (power_mod m w) (mul-zero k) ∙ power_mod-zero m w ∙ mod-eq_of_lt (omega arith)
+first_column Wht m w k modulus = ap (λ c. sign m (count_ones c)) (and_zero_r k)
+
+-- the places of the permutations
+good_thomas_in_below : (r s p : ℕ) → p < r * s → good_thomas_in r s p < r * s
+good_thomas_in_below r s p below = mod-lt _ (omega arith)
+
+good_thomas_out_below : (r s p : ℕ) → p < r * s → good_thomas_out r s p < r * s
+good_thomas_out_below r s p below =
+    let some_columns : 0 < s = factor_positive r s p below in
+    let some_rows : 0 < r = factor_positive s r p (rw (mul_comm s r) below) in
+    place_below (p % r) (p % s) r s (mod-lt p some_rows) (mod-lt p some_columns)
+
+-- the twiddles of each row stand in one diagonal
+rows-twiddled : (m r s w : ℕ) (f : Operator) (x : List ℕ) →
+    on_each_block r s (λ i y. scale m s (λ k. power_mod m w (i * k)) (f y)) x ≡ scale m (r * s) (twiddle m s w) (on_blocks r s f x)
+rows-twiddled m r s w f x =
+    list_below-same_rows r s _ _ (λ a b row below.
+    ap₂ (λ i j. slice_index (scale m s (λ k. power_mod m w (i * k)) (f (block s i x))) j) (row-of a b s below) (column-of a b s below)
+    ∙ at-list_below s (λ k. (power_mod m w (a * k) * slice_index (f (block s a x)) k) % m) b below
+    ∙ ap₂ (λ e y. (power_mod m w e * y) % m)
+    (sym (ap₂ (λ i j. i * j) (row-of a b s below) (column-of a b s below)))
+    (sym (at-on_blocks r s f x a b row below)))
+
+module _ (m lanes lane : ℕ) (modulus : 2 ≤ m) (there : lane < lanes) where
+  does-ct : (r s w cost price : ℕ) (a b : Maker) → power_mod m w (r * s) ≡ 1 % m →
+      Does m lanes lane r r cost a (transform Dft m r (power_mod m w s)) → Does m lanes lane s s price b (transform Dft m s (power_mod m w r)) →
+      Does m lanes lane (r * s) (r * s) (s * cost + r * price + rule_cost m Ct r s w) (node_make m lanes Ct r s w a b) (transform Dft m (r * s) w)
+  does-ct r s w cost price a b root p q =
+      let right : Operator = transform Dft m s (power_mod m w r) in
+      let left : Operator = transform Dft m r (power_mod m w s) in
+      let factors = λ (i k : ℕ). power_mod m w (i * k) in
+      let charge = λ (i : ℕ). sum_below s (λ k. product_cost m 1 (factors i k)) in
+      let piece : ℕ → Maker = λ i. then_make b (diagonal_make m lanes s (factors i)) in
+      does-same m lanes lane (r * s) (r * s) (s * cost + r * price + rule_cost m Ct r s w) (node_make m lanes Ct r s w a b)
+      (λ x. on_columns r s left (on_each_block r s (λ i y. scale m s (factors i) (right y)) (turn r s x))) (transform Dft m (r * s) w)
+      (λ x size small. ap (on_columns r s left) (rows-twiddled m r s w right (turn r s x)) ∙ sym (cooley_tukey m r s w x root))
+      (λ x size. length-list_below (r * s) _)
+      (does-price m lanes lane (r * s) (r * s) (0 + (sum_below r (λ i. price + charge i) + s * cost)) (s * cost + r * price + rule_cost m Ct r s w) (node_make m lanes Ct r s w a b)
+      (λ x. on_columns r s left (on_each_block r s (λ i y. scale m s (factors i) (right y)) (turn r s x)))
+      (let total = sum_below-add r (λ _. price) charge in let each = sum_below-constant r price in omega arith)
+      (does-then m lanes lane (r * s) (r * s) (r * s) 0 (sum_below r (λ i. price + charge i) + s * cost) (pick_make (turn r s)) (then_make (rows_make r s piece) (columns_make r s a)) (turn r s) (λ x. on_columns r s left (on_each_block r s (λ i y. scale m s (factors i) (right y)) x))
+      (does-pick m lanes lane (r * s) (r * s) (stride r s) (λ i below. (stride_below r s i below).1))
+      (does-then m lanes lane (r * s) (r * s) (r * s) (sum_below r (λ i. price + charge i)) (s * cost) (rows_make r s piece) (columns_make r s a) (on_each_block r s (λ i y. scale m s (factors i) (right y))) (on_columns r s left)
+      (does-rows m lanes lane r s (λ i. price + charge i) piece (λ i y. scale m s (factors i) (right y)) (λ i below.
+      does-then m lanes lane s s s price (charge i) b (diagonal_make m lanes s (factors i)) right (scale m s (factors i)) q
+      (does-diagonal m lanes lane (omega arith) there s (factors i))))
+      (does-columns m lanes lane r s cost a left p))))
+
+  does-gt : (r s w cost price : ℕ) (a b : Maker) (f left right : Operator) →
+      ((x : List ℕ) → f x ≡ gather (r * s) (good_thomas_out r s) (on_columns r s left (on_blocks r s right (gather (r * s) (good_thomas_in r s) x)))) → ((x : List ℕ) → length (f x) ≡ r * s) →
+      Does m lanes lane r r cost a left → Does m lanes lane s s price b right →
+      Does m lanes lane (r * s) (r * s) (s * cost + r * price + rule_cost m Gt r s w) (node_make m lanes Gt r s w a b) f
+  does-gt r s w cost price a b f left right law width p q =
+      does-same m lanes lane (r * s) (r * s) (s * cost + r * price + rule_cost m Gt r s w) (node_make m lanes Gt r s w a b)
+      (λ x. gather (r * s) (good_thomas_out r s) (on_columns r s left (on_blocks r s right (gather (r * s) (good_thomas_in r s) x)))) f
+      (λ x size small. sym (law x)) (λ x size. width x)
+      (does-price m lanes lane (r * s) (r * s) (0 + (r * price + (s * cost + 0))) (s * cost + r * price + rule_cost m Gt r s w) (node_make m lanes Gt r s w a b)
+      (λ x. gather (r * s) (good_thomas_out r s) (on_columns r s left (on_blocks r s right (gather (r * s) (good_thomas_in r s) x))))
+      (omega arith)
+      (does-then m lanes lane (r * s) (r * s) (r * s) 0 (r * price + (s * cost + 0)) (pick_make (gather (r * s) (good_thomas_in r s))) (then_make (rows_make r s (λ _. b)) (then_make (columns_make r s a) (pick_make (gather (r * s) (good_thomas_out r s))))) (gather (r * s) (good_thomas_in r s)) (λ x. gather (r * s) (good_thomas_out r s) (on_columns r s left (on_blocks r s right x)))
+      (does-pick m lanes lane (r * s) (r * s) (good_thomas_in r s) (λ i below. good_thomas_in_below r s i below))
+      (does-then m lanes lane (r * s) (r * s) (r * s) (r * price) (s * cost + 0) (rows_make r s (λ _. b)) (then_make (columns_make r s a) (pick_make (gather (r * s) (good_thomas_out r s)))) (on_blocks r s right) (λ x. gather (r * s) (good_thomas_out r s) (on_columns r s left x))
+      (does-blocks m lanes lane r s price b right q)
+      (does-then m lanes lane (r * s) (r * s) (r * s) (s * cost) 0 (columns_make r s a) (pick_make (gather (r * s) (good_thomas_out r s))) (on_columns r s left) (gather (r * s) (good_thomas_out r s))
+      (does-columns m lanes lane r s cost a left p)
+      (does-pick m lanes lane (r * s) (r * s) (good_thomas_out r s) (λ i below. good_thomas_out_below r s i below))))))
+
+  does-split : (r s w cost price : ℕ) (a b : Maker) (f left right : Operator) →
+      ((x : List ℕ) → f x ≡ on_columns r s left (on_blocks r s right x)) → ((x : List ℕ) → length (f x) ≡ r * s) →
+      Does m lanes lane r r cost a left → Does m lanes lane s s price b right →
+      Does m lanes lane (r * s) (r * s) (s * cost + r * price + rule_cost m Split r s w) (node_make m lanes Split r s w a b) f
+  does-split r s w cost price a b f left right law width p q =
+      does-same m lanes lane (r * s) (r * s) (s * cost + r * price + rule_cost m Split r s w) (node_make m lanes Split r s w a b)
+      (λ x. on_columns r s left (on_blocks r s right x)) f
+      (λ x size small. sym (law x)) (λ x size. width x)
+      (does-price m lanes lane (r * s) (r * s) (r * price + s * cost) (s * cost + r * price + rule_cost m Split r s w) (node_make m lanes Split r s w a b)
+      (λ x. on_columns r s left (on_blocks r s right x))
+      (omega arith)
+      (does-then m lanes lane (r * s) (r * s) (r * s) (r * price) (s * cost) (rows_make r s (λ _. b)) (columns_make r s a) (on_blocks r s right) (on_columns r s left)
+      (does-blocks m lanes lane r s price b right q)
+      (does-columns m lanes lane r s cost a left p)))
+
+  -- a tree for Walsh and Hadamard has a power of two as its size
+  power_of_two : (t : Breakdown) → IsWellFormed Wht t → IsPowerOfTwo (size_of t)
+  power_of_two (leaf d) formed =
+      elim (cases_eq d 1) [
+        | inl one ↦ (0, one)
+        | inr other ↦ (1, omega (arith, formed.0, formed.1))
+      ]
+  power_of_two (node rule a b) formed =
+      let left = power_of_two a formed.1 in
+      let right = power_of_two b formed.2 in
+      (left.0 + right.0, ap₂ (λ x y. x * y) left.1 right.1 ∙ sym (pow-add 2 left.0 right.0))
+
+  some_items : (kind : Kind) (d : ℕ) → IsWellFormed kind (leaf d) → 0 < d
+  some_items Dft d formed = formed
+  some_items Wht d formed = formed.0
+
+  pub does-tree : (kind : Kind) (t : Breakdown) (w : ℕ) → IsWellFormed kind t → IsRoot kind m (size_of t) w →
+      Does m lanes lane (size_of t) (size_of t) (kernel_cost m kind t w) (tree_make m lanes kind t w) (transform kind m (size_of t) w)
+  does-tree kind (leaf d) w formed root =
+      does-matrix m lanes lane (omega arith) there d (entry_of kind m w) (some_items kind d formed) (λ i. first_column kind m w i modulus)
+  does-tree Dft (node Ct a b) w formed root =
+      does-ct (size_of a) (size_of b) w _ _ _ _ root
+      (does-tree Dft a (power_mod m w (size_of b)) formed.1 (power_mod-part m w (size_of a) (size_of b) root))
+      (does-tree Dft b (power_mod m w (size_of a)) formed.2 (power_mod-part m w (size_of b) (size_of a) (ap (power_mod m w) (mul_comm (size_of b) (size_of a)) ∙ root)))
+  does-tree Dft (node Gt a b) w formed root =
+      does-gt (size_of a) (size_of b) w _ _ _ _ (transform Dft m (size_of a * size_of b) w) (transform Dft m (size_of a) (power_mod m w (size_of b))) (transform Dft m (size_of b) (power_mod m w (size_of a)))
+      (λ x. good_thomas m (size_of a) (size_of b) w x root formed.0.allowed)
+      (λ x. length-list_below (size_of a * size_of b) _)
+      (does-tree Dft a (power_mod m w (size_of b)) formed.1 (power_mod-part m w (size_of a) (size_of b) root))
+      (does-tree Dft b (power_mod m w (size_of a)) formed.2 (power_mod-part m w (size_of b) (size_of a) (ap (power_mod m w) (mul_comm (size_of b) (size_of a)) ∙ root)))
+  does-tree Wht (node Split a b) w formed root =
+      does-split (size_of a) (size_of b) w _ _ _ _ (transform Wht m (size_of a * size_of b) w) (transform Wht m (size_of a) w) (transform Wht m (size_of b) w)
+      (λ x. split m (size_of a) (size_of b) w x (omega arith) (power_of_two b formed.2))
+      (λ x. length-list_below (size_of a * size_of b) _)
+      (does-tree Wht a (power_mod m w (size_of b)) formed.1 tt)
+      (does-tree Wht b (power_mod m w (size_of a)) formed.2 tt)
+  does-tree Dft (node Split a b) w formed root = absurd formed.0.allowed
+  does-tree Wht (node Gt a b) w formed root = absurd formed.0.allowed
+  does-tree Wht (node Ct a b) w formed root = absurd formed.0.allowed

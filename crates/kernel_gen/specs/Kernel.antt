@@ -1,0 +1,66 @@
+-- The kernel of a tree, and what it costs.
+use Rattle.std.specs.Prelude.{ℕ, ◌+◌, ◌-◌, ◌*◌, ◌==◌, if◌then◌else◌}
+use Rattle.matrix_meaning.specs.declared.Kind.{Kind}
+use Rattle.matrix_meaning.specs.declared.Kind.TheVariants.{Dft}
+use Rattle.operators.specs.Identities.{turn}
+use Rattle.matrix_meaning.specs.Kind.{entry_of}
+use Rattle.operators.specs.Operator.{good_thomas_in, good_thomas_out}
+use Rattle.operators.specs.Operator.{gather}
+use Rattle.operators.specs.Sum.{sum_below, list_below}
+use Rattle.ring_mod.specs.Residue.{power_mod}
+use Rattle.tree_model.specs.declared.tree.Rule.{Rule}
+use Rattle.tree_model.specs.declared.tree.Rule.TheVariants.{Gt, Ct, Split}
+use Rattle.tree_model.specs.Breakdown.{Breakdown, leaf, node, size_of}
+use Rattle.tree_model.specs.Cost.{node_root}
+use Rattle.matrix_meaning.specs.declared.Request.{Request}
+use Rattle.kernel_gen.specs.Making.{Made, Maker, pick_make, then_make, rows_make, matrix_make, diagonal_make}
+
+-- a piece on each of s columns of r inputs
+abbrev pub columns_make : ℕ → ℕ → Maker → Maker
+columns_make r s a = then_make (pick_make (turn s r)) (then_make (rows_make s r (λ _. a)) (pick_make (turn r s)))
+
+-- a piece on row i of s inputs, and its outputs times the powers of w that the row has
+abbrev pub twiddled_make : ℕ → ℕ → ℕ → ℕ → Maker → ℕ → Maker
+twiddled_make m lanes s w b i = then_make b (diagonal_make m lanes s (λ k. power_mod m w (i * k)))
+
+-- two pieces, of sizes r and s, put together by a rule, for the root w
+abbrev pub node_make : ℕ → ℕ → Rule → ℕ → ℕ → ℕ → Maker → Maker → Maker
+node_make m lanes Gt r s w a b =
+    then_make (pick_make (gather (r * s) (good_thomas_in r s))) (then_make (rows_make r s (λ _. b)) (then_make (columns_make r s a) (pick_make (gather (r * s) (good_thomas_out r s)))))
+node_make m lanes Ct r s w a b =
+    then_make (pick_make (turn r s)) (then_make (rows_make r s (twiddled_make m lanes s w b)) (columns_make r s a))
+node_make m lanes Split r s w a b = then_make (rows_make r s (λ _. b)) (columns_make r s a)
+
+-- the code of a tree for the root w, modulo m
+abbrev pub tree_make : ℕ → ℕ → Kind → Breakdown → ℕ → Maker
+tree_make m lanes kind (leaf d) w = matrix_make m lanes (entry_of kind m w) d
+tree_make m lanes kind (node rule a b) w =
+    node_make m lanes rule (size_of a) (size_of b) w (tree_make m lanes kind a (power_mod m w (size_of b))) (tree_make m lanes kind b (power_mod m w (size_of a)))
+
+-- the code of a tree, with its inputs in the first registers
+abbrev pub kernel_of : ℕ → ℕ → Kind → Breakdown → ℕ → Made
+kernel_of m lanes kind t w = tree_make m lanes kind t w (list_below (size_of t) (λ k. k)) (size_of t)
+
+-- the code of a tree for a node of the request's transform
+abbrev pub node_kernel : Request → Breakdown → Made
+node_kernel c t = kernel_of c.modulus c.lanes c.kind t (node_root c (size_of t))
+
+-- a product by x: by 1 it is nothing, and by -1 it costs `minus`
+abbrev pub product_cost : ℕ → ℕ → ℕ → ℕ
+product_cost m minus x = if x == 1 then 0 else (if x == m - 1 then minus else 1)
+
+-- the products by the entries in the first rows and columns of a matrix
+abbrev pub products_cost : ℕ → ℕ → (ℕ → ℕ → ℕ) → ℕ → ℕ → ℕ
+products_cost m minus e rows columns = sum_below rows (λ k. sum_below columns (λ l. product_cost m minus (e k l)))
+
+-- what a rule adds to its parts' costs: ct multiplies by its twiddles
+abbrev pub rule_cost : ℕ → Rule → ℕ → ℕ → ℕ → ℕ
+rule_cost m Gt r s w = 0
+rule_cost m Ct r s w = products_cost m 1 (entry_of Dft m w) r s
+rule_cost m Split r s w = 0
+
+-- the cost of a tree's code for the root w
+abbrev pub kernel_cost : ℕ → Kind → Breakdown → ℕ → ℕ
+kernel_cost m kind (leaf d) w = d * (d - 1) + products_cost m 0 (entry_of kind m w) d d
+kernel_cost m kind (node rule a b) w =
+    size_of b * kernel_cost m kind a (power_mod m w (size_of b)) + size_of a * kernel_cost m kind b (power_mod m w (size_of a)) + rule_cost m rule (size_of a) (size_of b) w

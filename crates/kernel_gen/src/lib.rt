@@ -1,0 +1,14 @@
+//! Straight-line code for the nodes of a breakdown tree.
+#![tactic(auto)]
+
+mod generate;
+mod laws;
+mod matrix;
+mod nodes;
+mod places;
+mod straight;
+mod writer;
+
+pub use generate::kernel;
+pub use laws::{kernels_transform, nodes_transform};
+pub use straight::Kernel;

@@ -1,0 +1,317 @@
+//! A program as it is read, line by line.
+
+ghost use Rattle.std.specs.Prelude.{◌≡◌, ◌≤◌, ◌&&◌, length, nat_lt, false, None, Some, IfOk};
+ghost use Rattle.std.specs.Option.{option_map};
+ghost use Rattle.std.specs.List.{list_all};
+ghost use Rattle.grammar.specs.Cursor.{Gives, GivesAll, Tells, TellsAll};
+ghost use Rattle.grammar.specs.Reading.{one_of_at, whole};
+ghost use Rattle.grammar.specs.declared.token.ReadError.TheVariants as read_errors;
+ghost use Rattle.icode.specs.Plain.{plain_op, plain_phases};
+ghost use Rattle.listing_text.specs.Acts.{plain_act, ActFits, OpFits};
+ghost use Rattle.listing_text.specs.Acts as plain;
+ghost use Rattle.listing_text.specs.Drafts.{header_at, is_between, is_header_within, outside_words, outside_by, outside_at, plain_draft, act_step, is_empty, table_step, outside_step, draft_step, header_step, read_step, Makes, refusal_of};
+ghost use Rattle.listing_text.specs.declared.drafts.Refusal.TheVariants as refusals;
+
+use crate::acts::{Act, read_act};
+use crate::draft::{Draft, Header, Level};
+use crate::limits::{is_op_within, is_small_positive};
+use grammar::{Cursor, ReadError, Stuck};
+use icode::program::{Op, Stmt};
+use std::alloc::{AllocFailed, Global};
+
+/// Why a line is not taken.
+#[derive(Clone, Copy, PartialEq, Eq, Debug)]
+pub enum Refusal {
+    /// It may not stand there.
+    Line,
+    NoMemory,
+}
+
+impl From<ReadError> for Refusal {
+    ghost from_gives = { λ error e. e ≡ refusal_of error };
+
+    fn from(error: ReadError) -> Refusal {
+        match error {
+            ReadError::Stuck(_) => Refusal::Line,
+            ReadError::NoMemory => Refusal::NoMemory,
+        }
+    }
+}
+
+impl From<Stuck> for Refusal {
+    ghost from_gives = { λ _ e. e ≡ refusals.Line };
+
+    fn from(_stuck: Stuck) -> Refusal {
+        Refusal::Line
+    }
+}
+
+impl<T: Drop> From<AllocFailed<T>> for Refusal {
+    ghost from_gives = { λ _ e. e ≡ refusals.NoMemory };
+
+    fn from(_error: AllocFailed<T>) -> Refusal {
+        Refusal::NoMemory
+    }
+}
+
+fn header_of(cursor: &mut Cursor) -> Result<Header, Stuck>
+    ensures { Gives result cursor.new (header_at cursor.old) }
+{
+    let size = cursor.named_number(b"program size ", u64::MAX)?;
+    let modulus = cursor.named_number(b" mod ", u64::MAX)?;
+    let procs = cursor.named_number(b" procs ", u64::MAX)?;
+    let line = cursor.named_number(b" line ", u64::MAX)?;
+    let lanes = cursor.named_number(b" lanes ", u64::MAX)?;
+    let regs = cursor.named_number(b" regs ", u64::MAX)?;
+    cursor.word(b"\n")?;
+    Ok(Header {
+        size,
+        modulus,
+        procs,
+        line,
+        lanes,
+        regs,
+    })
+}
+
+fn read_header(line: &[u8]) -> Result<Header, Stuck>
+    ensures { GivesAll result (whole header_at line.now) }
+{
+    let mut cursor = Cursor::new(line);
+    let header = header_of(&mut cursor)?;
+    cursor.end()?;
+    Ok(header)
+}
+
+fn is_between(low: u64, high: u64, number: u64) -> bool
+    ensures { result ≡ is_between low high number }
+{
+    low <= number && number <= high
+}
+
+fn is_header_within(header: Header) -> bool
+    ensures { result ≡ is_header_within header }
+{
+    is_between(1, 65_536, header.size)
+        && (is_between(2, (1 << 62) - 1, header.modulus)
+            && (is_between(1, 16, header.procs)
+                && (is_between(1, 64, header.line)
+                    && (is_between(1, 16, header.lanes) && header.regs < 1 << 20))))
+}
+
+/// What the first line says.
+pub fn begun(alloc: Global, line: &[u8]) -> Result<Draft, Refusal>
+    ensures { Makes result (read_step header_step (whole header_at line.now)) }
+{
+    let header = read_header(line)?;
+    if !is_header_within(header) {
+        return Err(Refusal::Line);
+    }
+    Ok(Draft {
+        header,
+        tables: Vec::new(alloc),
+        phases: Vec::new(alloc),
+        is_inside: false,
+        open_loops: Vec::new(alloc),
+        body: Vec::new(alloc),
+    })
+}
+
+// The line begins a phase.
+fn is_phase(cursor: &mut Cursor) -> Result<bool, Stuck>
+    ensures { Gives result cursor.new (one_of_at outside_words cursor.old) }
+{
+    cursor.one_of(&[(b"phase\n".as_slice(), true), (b"table ".as_slice(), false)])
+}
+
+fn table_of(
+    alloc: Global,
+    cursor: &mut Cursor,
+    most: u64,
+) -> Result<Option<(u64, Vec<u64>)>, ReadError>
+    ensures { Tells (λ table. option_map (λ t. (t.0, t.1.items)) table) result cursor.new (outside_by most false cursor.old) }
+{
+    let number = cursor.number(u64::MAX)?;
+    cursor.word(b" values ")?;
+    let entries = cursor.numbers(alloc, b" ", u64::MAX, most)?;
+    cursor.word(b"\n")?;
+    Ok(Some((number, entries)))
+}
+
+fn outside_of(
+    alloc: Global,
+    cursor: &mut Cursor,
+    most: u64,
+) -> Result<Option<(u64, Vec<u64>)>, ReadError>
+    ensures { Tells (λ table. option_map (λ t. (t.0, t.1.items)) table) result cursor.new (outside_at most cursor.old) }
+{
+    let is_phase = is_phase(cursor)?;
+    if is_phase {
+        return Ok(None);
+    }
+    table_of(alloc, cursor, most)
+}
+
+// A line outside of phases: a table's number and its entries, or the begin of a phase.
+fn read_outside(alloc: Global, line: &[u8]) -> Result<Option<(u64, Vec<u64>)>, ReadError>
+    ensures { TellsAll (λ table. option_map (λ t. (t.0, t.1.items)) table) result (whole (outside_at (length line.now)) line.now) }
+{
+    let mut cursor = Cursor::new(line);
+    let outside = outside_of(alloc, &mut cursor, line.len() as u64)?;
+    cursor.end()?;
+    Ok(outside)
+}
+
+fn opened(alloc: Global, draft: Draft, depth: u64, count: u64) -> Result<Draft, Refusal>
+    ensures { Makes result (act_step (plain_draft draft) (plain.Open depth count)) }
+{
+    let open = draft.open_loops.len() as u64;
+    if depth != open || open >= 64 || !is_small_positive(count) {
+        return Err(Refusal::Line);
+    }
+    let mut open_loops = draft.open_loops;
+    open_loops.push(Level {
+        count,
+        before: draft.body,
+    })?;
+    Ok(Draft {
+        header: draft.header,
+        tables: draft.tables,
+        phases: draft.phases,
+        is_inside: true,
+        open_loops,
+        body: Vec::new(alloc),
+    })
+}
+
+fn closed(alloc: Global, draft: Draft) -> Result<Draft, Refusal>
+    ensures { Makes result (act_step (plain_draft draft) plain.Close) }
+{
+    let mut open_loops = draft.open_loops;
+    let mut phases = draft.phases;
+    match open_loops.pop() {
+        None => {
+            phases.push(draft.body)?;
+            Ok(Draft {
+                header: draft.header,
+                tables: draft.tables,
+                phases,
+                is_inside: false,
+                open_loops,
+                body: Vec::new(alloc),
+            })
+        }
+        Some(level) => {
+            let mut body = level.before;
+            body.push(Stmt::Loop {
+                count: level.count,
+                body: draft.body,
+            })?;
+            Ok(Draft {
+                header: draft.header,
+                tables: draft.tables,
+                phases,
+                is_inside: true,
+                open_loops,
+                body,
+            })
+        }
+    }
+}
+
+fn with_op(draft: Draft, op: Op) -> Result<Draft, Refusal>
+    requires { OpFits (plain_op op) }
+    ensures { Makes result (act_step (plain_draft draft) (plain.Do (plain_op op))) }
+{
+    if !is_op_within(draft.header.modulus, &op, draft.open_loops.len() as u64) {
+        return Err(Refusal::Line);
+    }
+    let mut body = draft.body;
+    body.push(Stmt::Do(op))?;
+    Ok(Draft {
+        header: draft.header,
+        tables: draft.tables,
+        phases: draft.phases,
+        is_inside: true,
+        open_loops: draft.open_loops,
+        body,
+    })
+}
+
+fn with_act(alloc: Global, draft: Draft, act: Act) -> Result<Draft, Refusal>
+    requires { ActFits (plain_act act) }
+    ensures { Makes result (act_step (plain_draft draft) (plain_act act)) }
+{
+    match act {
+        Act::Open { depth, count } => opened(alloc, draft, depth, count),
+        Act::Close => closed(alloc, draft),
+        Act::Do(op) => with_op(draft, op),
+    }
+}
+
+fn has_none(phases: &[Vec<Stmt>]) -> bool
+    ensures { result ≡ is_empty (plain_phases phases.now) }
+{
+    match phases {
+        [] => true,
+        [_, ..] => false,
+    }
+}
+
+fn are_below(entries: &[u64], modulus: u64) -> bool
+    ensures { result ≡ list_all (λ c. nat_lt c modulus) entries.now }
+{
+    entries.iter().all(|c| *c < modulus)
+}
+
+fn with_table(alloc: Global, draft: Draft, number: u64, entries: Vec<u64>) -> Result<Draft, Refusal>
+    ensures { Makes result (table_step (plain_draft draft) (number, entries.items)) }
+{
+    let modulus = draft.header.modulus;
+    if number != draft.tables.len() as u64 {
+        return Err(Refusal::Line);
+    }
+    if !has_none(&draft.phases) {
+        return Err(Refusal::Line);
+    }
+    if !are_below(&entries, modulus) {
+        return Err(Refusal::Line);
+    }
+    let mut tables = draft.tables;
+    tables.push(entries)?;
+    Ok(Draft {
+        header: draft.header,
+        tables,
+        phases: draft.phases,
+        is_inside: false,
+        open_loops: Vec::new(alloc),
+        body: Vec::new(alloc),
+    })
+}
+
+fn entered(alloc: Global, draft: Draft) -> Draft
+    ensures { outside_step (plain_draft draft) None ≡ Some (plain_draft result) }
+{
+    Draft {
+        header: draft.header,
+        tables: draft.tables,
+        phases: draft.phases,
+        is_inside: true,
+        open_loops: Vec::new(alloc),
+        body: Vec::new(alloc),
+    }
+}
+
+/// What was read with one line more.
+pub fn with_line(alloc: Global, draft: Draft, line: &[u8]) -> Result<Draft, Refusal>
+    ensures { Makes result (draft_step (plain_draft draft) line.now) }
+{
+    if draft.is_inside {
+        let act = read_act(alloc, line)?;
+        return with_act(alloc, draft, act);
+    }
+    match read_outside(alloc, line)? {
+        None => Ok(entered(alloc, draft)),
+        Some((number, entries)) => with_table(alloc, draft, number, entries),
+    }
+}

@@ -1,0 +1,203 @@
+-- What processors have executed so far.
+use Rattle.std.proofs.Common.{◌≡◌, ℕ, zero, suc, ◌+◌, ◌-◌, ◌*◌, ◌<◌, ◌≤◌, List, [], ◌∷◌, ◌++◌, Bool, true, false, cond, length, map, take, flat_map, Some, refl, sym, ap, ap₂, ◌∙◌, subst, arith, ⊎_elim, append_assoc, length-append, length-take-le, add_comm}
+use Rattle.std.specs.Prelude.{slice_get, slice_index, slice_set}
+use Rattle.std.specs.List.{range_with_len}
+use Rattle.std.proofs.lemmas.Bool.{cases_eq, cases_Bool}
+use Rattle.icode.specs.declared.action.Action.{Action}
+use Rattle.icode.specs.declared.action.Action.TheVariants.{Load, Store, Zero, Add, Sub, Neg, Mul, Tile}
+use Rattle.icode.specs.declared.action.Counts.{Counts}
+use Rattle.icode.specs.Machine.{Code, IsCode, State, acts, is_open, none_done, first_open, phases_after, moved_on, counted, no_counts, counts_of, executed}
+use Rattle.par_machine.specs.Frame.{total}
+use Rattle.icode.proofs.End.{IsOver, none_done-zero}
+use Rattle.icode.proofs.Runs.{closed_over, first_open-open, first_open-closed}
+use Rattle.icode.proofs.Words.{take-next}
+
+-- Counts of one more action
+
+abbrev operations_in : ℕ → Action → ℕ
+operations_in lanes (Add r x y) = lanes
+operations_in lanes (Sub r x y) = lanes
+operations_in lanes (Neg r x) = lanes
+operations_in lanes (Mul r x factors) = lanes
+operations_in lanes _ = 0
+
+abbrev loads_in : ℕ → Action → ℕ
+loads_in lanes (Load r address) = lanes
+loads_in lanes _ = 0
+
+abbrev stores_in : ℕ → Action → ℕ
+stores_in lanes (Store address r) = lanes
+stores_in lanes _ = 0
+
+abbrev plus : ℕ → Action → Counts → Counts
+plus lanes a c = record { operations = c.operations + operations_in lanes a; loads = c.loads + loads_in lanes a; stores = c.stores + stores_in lanes a }
+
+same_counts : (o l s o' l' s' : ℕ) → o ≡ o' → l ≡ l' → s ≡ s' → ◌≡◌ {A = Counts} (record { operations = o; loads = l; stores = s }) (record { operations = o'; loads = l'; stores = s' })
+same_counts o l s o' l' s' eo el es =
+    ap (λ o. record { operations = o; loads = l; stores = s }) eo
+    ∙ (ap (λ l. record { operations = o'; loads = l; stores = s }) el ∙ ap (λ s. record { operations = o'; loads = l'; stores = s }) es)
+
+counted_is : (lanes : ℕ) (a : Action) (c : Counts) → counted lanes a c ≡ plus lanes a c
+counted_is lanes (Load r address) c = same_counts c.operations (c.loads + lanes) c.stores _ _ _ (omega arith) refl (omega arith)
+counted_is lanes (Store address r) c = same_counts c.operations c.loads (c.stores + lanes) _ _ _ (omega arith) (omega arith) refl
+counted_is lanes (Zero r) c = same_counts c.operations c.loads c.stores _ _ _ (omega arith) (omega arith) (omega arith)
+counted_is lanes (Add r x y) c = same_counts (c.operations + lanes) c.loads c.stores _ _ _ refl (omega arith) (omega arith)
+counted_is lanes (Sub r x y) c = same_counts (c.operations + lanes) c.loads c.stores _ _ _ refl (omega arith) (omega arith)
+counted_is lanes (Neg r x) c = same_counts (c.operations + lanes) c.loads c.stores _ _ _ refl (omega arith) (omega arith)
+counted_is lanes (Mul r x factors) c = same_counts (c.operations + lanes) c.loads c.stores _ _ _ refl (omega arith) (omega arith)
+counted_is lanes (Tile r x) c = same_counts c.operations c.loads c.stores _ _ _ (omega arith) (omega arith) (omega arith)
+
+counted_swap : (lanes : ℕ) (a b : Action) (c : Counts) → counted lanes a (counted lanes b c) ≡ counted lanes b (counted lanes a c)
+counted_swap lanes a b c =
+    ap (counted lanes a) (counted_is lanes b c) ∙ (counted_is lanes a (plus lanes b c)
+    ∙ (same_counts _ _ _ _ _ _ (omega arith) (omega arith) (omega arith)
+    ∙ (sym (counted_is lanes b (plus lanes a c)) ∙ ap (counted lanes b) (sym (counted_is lanes a c)))))
+
+pub counts_more : (lanes : ℕ) (xs : List Action) (a : Action) → counts_of lanes (xs ++ a ∷ []) ≡ counted lanes a (counts_of lanes xs)
+counts_more lanes [] a = refl
+counts_more lanes (x ∷ xs) a = ap (counted lanes x) (counts_more lanes xs a) ∙ counted_swap lanes x a (counts_of lanes xs)
+
+-- no count is more than the lanes of all actions
+pub record AreSmall (n : ℕ) (c : Counts) : Type 0 where
+  pub operations : c.operations ≤ n
+  pub loads : c.loads ≤ n
+  pub stores : c.stores ≤ n
+
+in_lanes : (lanes : ℕ) (a : Action) → (operations_in lanes a ≤ lanes) × (loads_in lanes a ≤ lanes) × (stores_in lanes a ≤ lanes)
+in_lanes lanes (Load r address) = (omega arith, omega arith, omega arith)
+in_lanes lanes (Store address r) = (omega arith, omega arith, omega arith)
+in_lanes lanes (Zero r) = (omega arith, omega arith, omega arith)
+in_lanes lanes (Add r x y) = (omega arith, omega arith, omega arith)
+in_lanes lanes (Sub r x y) = (omega arith, omega arith, omega arith)
+in_lanes lanes (Neg r x) = (omega arith, omega arith, omega arith)
+in_lanes lanes (Mul r x factors) = (omega arith, omega arith, omega arith)
+in_lanes lanes (Tile r x) = (omega arith, omega arith, omega arith)
+
+pub counts_small : (lanes : ℕ) (xs : List Action) → AreSmall (length xs * lanes) (counts_of lanes xs)
+counts_small lanes [] = record { operations = omega arith; loads = omega arith; stores = omega arith }
+counts_small lanes (x ∷ xs) =
+    let rest = counts_small lanes xs in
+    let one = in_lanes lanes x in
+    let is = counted_is lanes x (counts_of lanes xs) in
+    record {
+      operations = omega (arith, rest.operations, one.0, ap (λ (c : Counts). c.operations) is);
+      loads = omega (arith, rest.loads, one.1, ap (λ (c : Counts). c.loads) is);
+      stores = omega (arith, rest.stores, one.2, ap (λ (c : Counts). c.stores) is);
+    }
+
+-- What is executed
+
+take_all : (n : ℕ) (xs : List Action) → length xs ≤ n → take n xs ≡ xs
+take_all zero [] le = refl
+take_all (suc n) [] le = refl
+take_all zero (x ∷ xs) le = absurd (omega arith)
+take_all (suc n) (x ∷ xs) le = ap (λ ys. x ∷ ys) (take_all n xs (omega arith))
+
+append_nil : (xs : List Action) → xs ++ [] ≡ xs
+append_nil [] = refl
+append_nil (x ∷ xs) = ap (λ ys. x ∷ ys) (append_nil xs)
+
+empty_is : (xs : List Action) → length xs ≤ 0 → xs ≡ []
+empty_is [] le = refl
+empty_is (x ∷ xs) le = absurd (omega arith)
+
+flat_split : (g : ℕ → List Action) (first n k : ℕ) → flat_map g (range_with_len first (n + k)) ≡ flat_map g (range_with_len first n) ++ flat_map g (range_with_len (first + n) k)
+flat_split g first zero k = ap₂ (λ f n. flat_map g (range_with_len f n)) (omega arith) (omega arith)
+flat_split g first (suc n) k =
+    let e : suc n + k ≡ suc (n + k) = omega arith in
+    let s : first + 1 + n ≡ first + suc n = omega arith in
+    ap (λ j. flat_map g (range_with_len first j)) e
+    ∙ (ap (λ xs. g first ++ xs) (flat_split g (first + 1) n k ∙ ap (λ j. flat_map g (range_with_len (first + 1) n) ++ flat_map g (range_with_len j k)) s)
+    ∙ sym (append_assoc (g first) (flat_map g (range_with_len (first + 1) n)) (flat_map g (range_with_len (first + suc n) k))))
+
+module _ (code : Code) (is : IsCode code) where
+  abbrev all_of : ℕ → ℕ → List Action
+  all_of q phase = acts code phase q
+
+  -- the phases that are passed over have no actions
+  pub passed : (q n phase k : ℕ) → first_open code n phase ≡ phase + k → flat_map (all_of q) (range_with_len phase k) ≡ []
+  passed q n phase zero e = refl
+  passed q zero phase (suc k) e = absurd (omega arith)
+  passed q (suc n) phase (suc k) e =
+      ⊎_elim
+      (λ (o : is_open code phase (none_done code) ≡ true). absurd (omega (arith, first_open-open code n phase o)))
+      (λ (o : is_open code phase (none_done code) ≡ false).
+      let none : acts code phase q ≡ [] = empty_is (acts code phase q) (omega (arith, (closed_over code is phase (none_done code) o).each q, none_done-zero code q)) in
+      ap₂ (λ (xs ys : List Action). xs ++ ys) none (passed q n (phase + 1) k (omega (arith, first_open-closed code n phase o))))
+      (cases_Bool (is_open code phase (none_done code)))
+
+  pub first_open_from : (n phase : ℕ) → phase ≤ first_open code n phase
+  first_open_from zero phase = omega arith
+  first_open_from (suc n) phase =
+      ⊎_elim
+      (λ (o : is_open code phase (none_done code) ≡ true). omega (arith, first_open-open code n phase o))
+      (λ (o : is_open code phase (none_done code) ≡ false). omega (arith, first_open-closed code n phase o, first_open_from n (phase + 1)))
+      (cases_Bool (is_open code phase (none_done code)))
+
+  take_none : (n : ℕ) (xs : List Action) → n ≡ 0 → take n xs ≡ []
+  take_none n xs e = ap (λ k. take k xs) e
+
+  -- at the beginning nothing is
+  pub executed_first : (q n : ℕ) (m : List ℕ) (r : List (List ℕ)) → executed code (record { memory = m; registers = r; phase = first_open code n 0; done = none_done code }) q ≡ []
+  executed_first q n m r =
+      let first : ℕ = first_open code n 0 in
+      ap₂ (λ (xs ys : List Action). xs ++ ys) (passed q n 0 first (omega arith)) (take_none (slice_index (none_done code) q) (acts code first q) (none_done-zero code q))
+
+  -- the phase moves on, and nothing more is
+  pub executed_moved : (s : State) (q : ℕ) → executed code (moved_on code s) q ≡ executed code s q
+  executed_moved s q = at (is_open code s.phase s.done) refl
+    where
+      next : State
+      next = record { memory = s.memory; registers = s.registers; phase = first_open code (phases_after code s.phase) (s.phase + 1); done = none_done code }
+
+      at : (b : Bool) → is_open code s.phase s.done ≡ b → executed code (cond b s next) q ≡ executed code s q
+      at true o = refl
+      at false o =
+          let n : ℕ = phases_after code s.phase in
+          let first : ℕ = first_open code n (s.phase + 1) in
+          let k : ℕ = first - (s.phase + 1) in
+          let from = first_open_from n (s.phase + 1) in
+          let e1 : first ≡ s.phase + suc k = omega (arith, from) in
+          let over = (closed_over code is s.phase s.done o).each q in
+          let rest : flat_map (all_of q) (range_with_len (s.phase + 1) k) ≡ [] = passed q n (s.phase + 1) k (omega (arith, from)) in
+          let there : flat_map (all_of q) (range_with_len 0 first) ≡ flat_map (all_of q) (range_with_len 0 s.phase) ++ acts code s.phase q =
+          ap (λ j. flat_map (all_of q) (range_with_len 0 j)) e1
+          ∙ (flat_split (all_of q) 0 s.phase (suc k)
+          ∙ (ap (λ j. flat_map (all_of q) (range_with_len 0 s.phase) ++ (acts code j q ++ flat_map (all_of q) (range_with_len (j + 1) k))) (zero_plus s.phase)
+          ∙ (ap (λ xs. flat_map (all_of q) (range_with_len 0 s.phase) ++ (acts code s.phase q ++ xs)) rest
+          ∙ ap (λ xs. flat_map (all_of q) (range_with_len 0 s.phase) ++ xs) (append_nil (acts code s.phase q))))) in
+          ap₂ (λ (xs ys : List Action). xs ++ ys) there (take_none (slice_index (none_done code) q) (acts code first q) (none_done-zero code q))
+          ∙ (append_nil (flat_map (all_of q) (range_with_len 0 s.phase) ++ acts code s.phase q)
+          ∙ ap (λ xs. flat_map (all_of q) (range_with_len 0 s.phase) ++ xs) (sym (take_all (slice_index s.done q) (acts code s.phase q) over)))
+        where
+          zero_plus : (n : ℕ) → 0 + n ≡ n
+          zero_plus n = omega arith
+
+  -- how many there are, against all that there are
+  length_flat : (q : ℕ) (lens : List ℕ) → ((phase : ℕ) → length (acts code phase q) ≡ slice_index lens phase) → (phase n : ℕ) → n < length (acts code phase q) → length (flat_map (all_of q) (range_with_len 0 phase)) + suc n ≤ total lens
+  length_flat q lens e phase n lt =
+      let z : (k : ℕ) → 0 + k ≡ k = λ k. omega arith in
+      fronts lens (all_of q) 0 phase n (λ k. ap (λ j. length (acts code j q)) (z k) ∙ e k) (subst (λ j. n < length (acts code j q)) (sym (z phase)) lt)
+    where
+      fronts : (lens : List ℕ) (g : ℕ → List Action) (first phase n : ℕ) → ((k : ℕ) → length (g (first + k)) ≡ slice_index lens k) → n < length (g (first + phase)) → length (flat_map g (range_with_len first phase)) + suc n ≤ total lens
+      fronts [] g first phase n e lt = absurd (omega (arith, e phase))
+      fronts (x ∷ lens) g first zero n e lt =
+          let whole : total (x ∷ lens) ≡ x + total lens = refl in
+          let here : length (g (first + 0)) ≡ x = e 0 in
+          omega (arith, whole, here)
+      fronts (x ∷ lens) g first (suc phase) n e lt =
+          let whole : total (x ∷ lens) ≡ x + total lens = refl in
+          let here : length (g (first + 0)) ≡ x = e 0 in
+          let z : first + 0 ≡ first = omega arith in
+          let s : (k : ℕ) → first + 1 + k ≡ first + suc k = λ k. omega arith in
+          let rest = fronts lens g (first + 1) phase n (λ k. ap (λ j. length (g j)) (s k) ∙ e (suc k)) (omega (arith, ap (λ j. length (g j)) (s phase))) in
+          omega (arith, whole, here, rest, length-append (g first) (flat_map g (range_with_len (first + 1) phase)), ap (λ j. length (g j)) z)
+
+  pub executed_length : (s : State) (q : ℕ) (lens : List ℕ) → ((phase : ℕ) → length (acts code phase q) ≡ slice_index lens phase) → slice_index s.done q < length (acts code s.phase q) → length (executed code s q) + 1 ≤ total lens
+  executed_length s q lens e lt =
+      omega (
+        arith,
+        length-append (flat_map (all_of q) (range_with_len 0 s.phase)) (take (slice_index s.done q) (acts code s.phase q)),
+        length-take-le (slice_index s.done q) (acts code s.phase q) (omega arith),
+        length_flat q lens e s.phase (slice_index s.done q) lt,
+      )

@@ -1,0 +1,38 @@
+use Rattle.std.proofs.Common.{◌≡◌, ◌+◌, ◌-◌, ℕ, cond, length, replicate, sym, ap, ◌∙◌}
+use Rattle.icode.specs.Machine.{is_open, first_open}
+use Rattle.par_machine.specs.Position.{first_position}
+use Rattle.par_machine.proofs.Phases.{open_now, over_now, found_of, none_of}
+use Rattle.par_machine.proofs.phase.settle.Goals as goal
+
+pub returns-in-Some-clause-phase : goal.returns-in-Some-clause-phase
+returns-in-Some-clause-phase c = λ code h procs same.
+    sym (ap (λ b. cond b c.args.phase (first_open code (length c.args.phases.now - (c.args.phase + 1)) (c.args.phase + 1)))
+    (open_now code c.args.phases.now c.args.phase c.in-Some.field-0 c.index-phases-phase.result c.args.done.now h c.requires.phase c.index-phases-phase.is same (found_of c.index-phases-phase.result c.args.phases.now c.args.phase c.args.done.now c.in-Some.field-0 c.index-phases-phase.is c.in-Some.ensures.found)))
+
+pub returns-in-Some-clause-done : goal.returns-in-Some-clause-done
+returns-in-Some-clause-done c = λ code h procs same.
+    sym (ap (λ b. cond b c.args.done.now (replicate {A = ℕ} (length c.args.done.now) 0))
+    (open_now code c.args.phases.now c.args.phase c.in-Some.field-0 c.index-phases-phase.result c.args.done.now h c.requires.phase c.index-phases-phase.is same (found_of c.index-phases-phase.result c.args.phases.now c.args.phase c.args.done.now c.in-Some.field-0 c.index-phases-phase.is c.in-Some.ensures.found)))
+
+pub returns-in-Some-clause-cursors : goal.returns-in-Some-clause-cursors
+returns-in-Some-clause-cursors c = λ code h procs same.
+    sym (ap (λ b. cond b c.args.cursors.now (replicate (length c.args.cursors.now) first_position))
+    (open_now code c.args.phases.now c.args.phase c.in-Some.field-0 c.index-phases-phase.result c.args.done.now h c.requires.phase c.index-phases-phase.is same (found_of c.index-phases-phase.result c.args.phases.now c.args.phase c.args.done.now c.in-Some.field-0 c.index-phases-phase.is c.in-Some.ensures.found)))
+
+pub returns-in-None-clause-phase : goal.returns-in-None-clause-phase
+returns-in-None-clause-phase c = λ code h procs same.
+    c.first_busy.ensures.first code h procs
+    ∙ sym (ap (λ b. cond b c.args.phase (first_open code (length c.args.phases.now - (c.args.phase + 1)) (c.args.phase + 1)))
+    (over_now code c.args.phases.now c.args.phase c.index-phases-phase.result c.args.done.now h c.requires.phase c.index-phases-phase.is same (none_of c.index-phases-phase.result c.args.phases.now c.args.phase c.args.done.now c.index-phases-phase.is c.in-None.ensures.none)))
+
+pub returns-in-None-clause-done : goal.returns-in-None-clause-done
+returns-in-None-clause-done c = λ code h procs same.
+    c.fill.ensures.after (λ y e. e)
+    ∙ sym (ap (λ b. cond b c.args.done.now (replicate {A = ℕ} (length c.args.done.now) 0))
+    (over_now code c.args.phases.now c.args.phase c.index-phases-phase.result c.args.done.now h c.requires.phase c.index-phases-phase.is same (none_of c.index-phases-phase.result c.args.phases.now c.args.phase c.args.done.now c.index-phases-phase.is c.in-None.ensures.none)))
+
+pub returns-in-None-clause-cursors : goal.returns-in-None-clause-cursors
+returns-in-None-clause-cursors c = λ code h procs same.
+    c.rewind_all.ensures
+    ∙ sym (ap (λ b. cond b c.args.cursors.now (replicate (length c.args.cursors.now) first_position))
+    (over_now code c.args.phases.now c.args.phase c.index-phases-phase.result c.args.done.now h c.requires.phase c.index-phases-phase.is same (none_of c.index-phases-phase.result c.args.phases.now c.args.phase c.args.done.now c.index-phases-phase.is c.in-None.ensures.none)))

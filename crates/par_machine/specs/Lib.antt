@@ -1,0 +1,12 @@
+pub mod Header
+pub mod Operation
+pub mod Position
+pub mod Instruction
+pub mod Hand
+pub mod Lengths
+pub mod Frame
+pub mod Plays
+pub mod Answers
+pub mod Running
+pub mod View
+pub mod Translated

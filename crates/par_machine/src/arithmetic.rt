@@ -1,0 +1,52 @@
+// Arithmetic on all lanes.
+
+ghost use Rattle.std.specs.Prelude.{◌≡◌, ℕ, ◌<◌, ◌≤◌, take, slice_index};
+ghost use Rattle.icode.specs.Machine.{lane_by_lane};
+ghost use Rattle.par_machine.specs.Operation.{operated};
+
+use icode::action::MAX_LANES;
+use ring_mod::Modulus;
+
+#[derive(Clone, Copy)]
+pub(crate) enum Operation {
+    Sum,
+    Difference,
+    Product,
+}
+
+pub(crate) fn operate(operation: Operation, modulus: Modulus, a: u64, b: u64) -> u64
+    requires a_in { a < modulus }
+    requires b_in { b < modulus }
+    ensures { result ≡ operated operation modulus a b }
+{
+    match operation {
+        Operation::Sum => modulus.add(a, b),
+        Operation::Difference => modulus.sub(a, b),
+        Operation::Product => modulus.mul(a, b),
+    }
+}
+
+/// The operation on the words of each lane.
+pub(crate) fn combine(
+    operation: Operation,
+    modulus: Modulus,
+    lanes: u64,
+    left: &[u64; MAX_LANES],
+    right: &[u64; MAX_LANES],
+) -> [u64; MAX_LANES]
+    requires lanes { lanes ≤ 16 }
+    requires left_in { (k : ℕ) → slice_index left.now k < modulus }
+    requires right_in { (k : ℕ) → slice_index right.now k < modulus }
+    ensures { take lanes result ≡ lane_by_lane (operated operation modulus) (take lanes left.now) (take lanes right.now) }
+{
+    let mut values = [0; MAX_LANES];
+    for lane in 0..lanes {
+        values[lane as usize] = operate(
+            operation,
+            modulus,
+            left[lane as usize],
+            right[lane as usize],
+        );
+    }
+    values
+}

@@ -1,0 +1,164 @@
+// The action at hand.
+
+ghost use Rattle.std.specs.Prelude.{◌≡◌, ℕ, ◌+◌, ◌-◌, ◌*◌, ◌<◌, ◌≤◌, ◌^◌, [], List, length, map, slice_index, slice_index_or, IsTrue, Vec, All};
+ghost use Rattle.std.proofs.Common.{Global};
+ghost use Rattle.icode.specs.Actions.{array_start, lane_factors, step_of};
+ghost use Rattle.icode.specs.Limits.{is_op_within};
+ghost use Rattle.icode.specs.Plain.{plain_op};
+ghost use Rattle.par_machine.specs.Hand.{step_at, action_of_step, HasPlace};
+ghost use Rattle.par_machine.specs.Instruction.{IsClosed, IsWithin};
+ghost use Rattle.par_machine.specs.Header.{header_of};
+
+use crate::cursor::{Cursor, Instruction};
+use crate::shape::Shape;
+use icode::action::{Action, MAX_LANES};
+use icode::program::{Array, Op};
+
+fn address(room: u64, array: Array, place: u64) -> u64
+    requires inside { place ≤ room }
+    requires small { 4 * room < 2 ^ 64 }
+    ensures { result ≡ array_start room array + place }
+{
+    let start = match array {
+        Array::X => 0,
+        Array::Y => room,
+        Array::A => 2 * room,
+        Array::B => 3 * room,
+    };
+    start + place
+}
+
+/// The factor of each lane, from the table's entry at the place on.
+fn table_factors(entries: &[u64], lanes: u64, place: u64, step: u64) -> [u64; MAX_LANES]
+    requires lanes { (0 < lanes) × (lanes ≤ 16) }
+    requires inside { place + step * (lanes - 1) < length entries.now }
+    ensures { result ≡ lane_factors lanes (λ lane. slice_index entries.now (place + step * lane)) }
+{
+    let mut factors = [0; MAX_LANES];
+    for lane in 0..lanes {
+        factors[lane as usize] = entries[(place + step * lane) as usize];
+    }
+    factors
+}
+
+/// The same factor for each lane.
+fn same_factors(factor: u64, lanes: u64) -> [u64; MAX_LANES]
+    requires lanes { lanes ≤ 16 }
+    ensures { result ≡ lane_factors lanes (λ _. factor) }
+{
+    let mut factors = [0; MAX_LANES];
+    for lane in 0..lanes {
+        factors[lane as usize] = factor;
+    }
+    factors
+}
+
+/// The action of an operation, where these are the values of the open loops on this processor.
+pub(crate) fn action_of(
+    shape: &Shape,
+    tables: &[Vec<u64>],
+    op: &Op,
+    values: &[u64],
+    proc: u64,
+) -> Action
+    requires within { IsTrue (is_op_within shape.now.modulus (plain_op op.now) (length values.now)) }
+    requires numbers { (step_of (header_of shape.now tables.now) (plain_op op.now) values.now proc).peak < 2 ^ 64 }
+    requires place { (step_of (header_of shape.now tables.now) (plain_op op.now) values.now proc).reach ≤ (step_of (header_of shape.now tables.now) (plain_op op.now) values.now proc).room }
+    ensures { result ≡ (step_of (header_of shape.now tables.now) (plain_op op.now) values.now proc).action }
+{
+    match op {
+        Op::Load {
+            register,
+            array,
+            place,
+        } => Action::Load {
+            register: *register,
+            address: address(shape.room, *array, place.value(values, proc)),
+        },
+        Op::Store {
+            array,
+            place,
+            register,
+        } => Action::Store {
+            address: address(shape.room, *array, place.value(values, proc)),
+            register: *register,
+        },
+        Op::Zero { register } => Action::Zero {
+            register: *register,
+        },
+        Op::Add {
+            register,
+            left,
+            right,
+        } => Action::Add {
+            register: *register,
+            left: *left,
+            right: *right,
+        },
+        Op::Sub {
+            register,
+            left,
+            right,
+        } => Action::Sub {
+            register: *register,
+            left: *left,
+            right: *right,
+        },
+        Op::Neg { register, source } => Action::Neg {
+            register: *register,
+            source: *source,
+        },
+        Op::MulConst {
+            register,
+            source,
+            factor,
+        } => Action::Mul {
+            register: *register,
+            source: *source,
+            factors: same_factors(*factor, shape.lanes),
+        },
+        Op::MulTable {
+            register,
+            source,
+            table,
+            place,
+            step,
+        } => Action::Mul {
+            register: *register,
+            source: *source,
+            factors: table_factors(
+                &tables[*table as usize],
+                shape.lanes,
+                place.value(values, proc),
+                *step,
+            ),
+        },
+        Op::Tile { register, source } => Action::Tile {
+            register: *register,
+            source: *source,
+        },
+    }
+}
+
+/// The action at the cursor's place.
+pub(crate) fn at_hand(
+    shape: &Shape,
+    tables: &[Vec<u64>],
+    code: &[Instruction],
+    cursor: &Cursor,
+    proc: u64,
+) -> Action
+    requires inside { cursor.now.at < length code.now }
+    requires closed { All IsClosed code.now }
+    requires within { All (IsWithin shape.now.modulus) code.now }
+    requires place { HasPlace (step_at (header_of shape.now tables.now) code.now proc cursor.now) }
+    ensures { result ≡ action_of_step (step_at (header_of shape.now tables.now) code.now proc cursor.now) }
+{
+    match &code[cursor.at() as usize] {
+        Instruction::Act { op, depth } => {
+            let values = &cursor.values()[..*depth as usize];
+            action_of(shape, tables, op, values, proc)
+        }
+        Instruction::Again { .. } => unreachable!(),
+    }
+}

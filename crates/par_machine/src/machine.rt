@@ -1,0 +1,260 @@
+// The machine.
+
+ghost use Rattle.std.specs.Prelude.{◌≡◌, ℕ, ◌+◌, ◌-◌, ◌*◌, ◌<◌, ◌≤◌, List, [], ◌∷◌, length, All, slice_index, Some, IfSome, IfNone, IfOk, IsTrue, ◌↔◌, replicate, nat_le, None};
+ghost use Rattle.std.specs.List.{find};
+ghost use Rattle.icode.specs.Machine.{acts, next_action, turn, run, answer, completion, finished, start, counts_so_far, padded};
+ghost use Rattle.icode.specs.Program.{code_of, Fits};
+ghost use Rattle.request_text.specs.Turns.{named, turns_of};
+ghost use Rattle.par_machine.specs.Answers.{answered};
+
+use crate::cursor::Cursor;
+use crate::hand::at_hand;
+use crate::make::{
+    NO_COUNTS, compile_phases, copy_tables, make_counts, make_cursors, make_done, make_registers,
+    shape_of,
+};
+use crate::phase::{Routine, first_busy, first_left, rewind_all, settle};
+use crate::shape::Shape;
+use crate::words::{Words, act, clear_all, count};
+use icode::action::{Action, Counts};
+use icode::program::Program;
+use memory::NoMemory;
+use request_text::Schedule;
+use ring_mod::Modulus;
+use std::alloc::Global;
+use std::marker::Model;
+
+/// What a turn did.
+#[derive(Clone, Copy, PartialEq, Eq, Debug)]
+pub enum Turned {
+    Did(Action),
+    /// Another processor has an action left in the phase.
+    Waits,
+    /// All phases are done.
+    Done,
+}
+
+/// A machine of several processors over one memory. It keeps for each processor a place in the program's code and the
+/// counters of its open loops, and no list of actions.
+#[derive(Drop)]
+pub struct Machine {
+    shape: Shape,
+    tables: Vec<Vec<u64>>,
+    phases: Vec<Routine>,
+    memory: Words,
+    registers: Vec<Words>,
+    phase: u64,
+    /// How many actions of the phase each processor has done.
+    done: Vec<u64>,
+    cursors: Vec<Cursor>,
+    counts: Vec<Counts>,
+}
+
+impl Model for Machine {
+    ghost use Rattle.par_machine.specs.Running.{Running};
+
+    ghost Value = { Running };
+
+    ghost use Rattle.par_machine.specs.View.{running_of, IsWhole};
+
+    ghost view = { running_of };
+
+    ghost invariant = { IsWhole };
+}
+
+impl Machine {
+    /// A machine for the program, as after `put` of zeros.
+    pub fn new(alloc: Global, program: &Program) -> Result<Self, NoMemory>
+        requires { Fits program.now }
+        ensures code { IfOk result (λ machine. machine.code ≡ code_of program.now) }
+        ensures state { IfOk result (λ machine. machine.state ≡ start (code_of program.now) (replicate program.now.size 0)) }
+    {
+        let shape = shape_of(program);
+        let tables = copy_tables(alloc, &program.tables)?;
+        let phases = compile_phases(alloc, program)?;
+        let memory = Words::new(alloc, 4 * shape.room)?;
+        let registers = make_registers(alloc, shape.procs, shape.regs * shape.lanes)?;
+        let done = make_done(alloc, shape.procs)?;
+        let cursors = make_cursors(alloc, shape.procs)?;
+        let counts = make_counts(alloc, shape.procs)?;
+        let phase = first_busy(&phases, 0);
+        Ok(Machine {
+            shape,
+            tables,
+            phases,
+            memory,
+            registers,
+            phase,
+            done,
+            cursors,
+            counts,
+        })
+    }
+
+    /// How many actions the processor has left in this phase.
+    fn left(&self, proc: u64) -> u64
+        requires proc { proc < self.now.code.procs }
+        ensures { result ≡ length (acts self.now.code self.now.state.phase proc) - slice_index self.now.state.done proc }
+    {
+        if self.phase == self.phases.len() as u64 {
+            return 0;
+        }
+        self.phases[self.phase as usize].len - self.done[proc as usize]
+    }
+
+    /// The action that the processor has left.
+    fn action(&self, proc: u64) -> Action
+        requires proc { proc < self.now.code.procs }
+        requires left { slice_index self.now.state.done proc < length (acts self.now.code self.now.state.phase proc) }
+        ensures { next_action self.now.code self.now.state proc ≡ Some result }
+    {
+        let routine = &self.phases[self.phase as usize];
+        let cursor = &self.cursors[proc as usize];
+        at_hand(&self.shape, &self.tables, &routine.code, cursor, proc)
+    }
+
+    /// The processor does the action, which is the one that it has left.
+    fn step(&mut self, proc: u64, action: &Action)
+        requires proc { proc < self.old.code.procs }
+        requires hand { next_action self.old.code self.old.state proc ≡ Some action.now }
+        ensures state { self.new.state ≡ turn self.old.code self.old.state proc }
+        ensures code { self.new.code ≡ self.old.code }
+    {
+        act(
+            &self.shape,
+            action,
+            &mut self.memory,
+            &mut self.registers,
+            proc,
+        );
+        let counts = &mut self.counts[proc as usize];
+        count(counts, self.shape.lanes, action);
+        self.done[proc as usize] += 1;
+        let routine = &self.phases[self.phase as usize];
+        let cursor = &mut self.cursors[proc as usize];
+        cursor.advance(&routine.code);
+        self.phase = settle(&self.phases, self.phase, &mut self.done, &mut self.cursors);
+    }
+
+    /// Begins a run on this input: it stands in the first words, all else is 0 and nothing is done.
+    pub fn put(&mut self, input: &[u64])
+        requires size { length input.now ≡ self.old.code.size }
+        requires residues { All (λ v. v < self.old.code.modulus) input.now }
+        ensures state { self.new.state ≡ start self.old.code input.now }
+        ensures code { self.new.code ≡ self.old.code }
+    {
+        self.memory.put(input);
+        clear_all(&mut self.registers, self.shape.regs * self.shape.lanes);
+        self.done.fill(0);
+        rewind_all(&mut self.cursors);
+        self.counts.fill(NO_COUNTS);
+        self.phase = first_busy(&self.phases, 0);
+    }
+
+    /// The turn of a processor: it does the action that it has left in this phase, if there is one.
+    pub fn turn(&mut self, proc: u64) -> Turned
+        requires proc { proc < self.old.code.procs }
+        ensures state { self.new.state ≡ turn self.old.code self.old.state proc }
+        ensures code { self.new.code ≡ self.old.code }
+        ensures answer { answered result ≡ answer self.old.code self.old.state proc }
+    {
+        if self.left(proc) > 0 {
+            let action = self.action(proc);
+            self.step(proc, &action);
+            return Turned::Did(action);
+        }
+        if self.is_over() {
+            Turned::Done
+        } else {
+            Turned::Waits
+        }
+    }
+
+    /// Whether all phases are done.
+    fn is_over(&self) -> bool
+        ensures { IsTrue result ↔ (length self.now.code.lists ≤ self.now.state.phase) }
+    {
+        self.phase == self.phases.len() as u64
+    }
+
+    /// The turns of a schedule, without its completion.
+    pub fn run_list(&mut self, schedule: &Schedule)
+        requires no_stranger { find (λ q. nat_le self.old.code.procs q) (named schedule.now) ≡ None }
+        ensures state { self.new.state ≡ run self.old.code self.old.state (turns_of schedule.now self.old.code.procs) }
+        ensures code { self.new.code ≡ self.old.code }
+    {
+        let procs = self.procs();
+        for i in 0..schedule.len(procs) {
+            let proc = schedule.turn_at(i, procs);
+            self.turn(proc);
+        }
+    }
+
+    /// The processor whose turn is the next of those that finish the run.
+    fn next_proc(&self) -> Option<u64>
+        ensures found { IfSome result (λ q. (q < self.now.code.procs) × (completion self.now.code self.now.state ≡ q ∷ completion self.now.code (turn self.now.code self.now.state q))) }
+        ensures none { IfNone result (completion self.now.code self.now.state ≡ []) }
+    {
+        if self.phase == self.phases.len() as u64 {
+            return None;
+        }
+        first_left(&self.done, self.phases[self.phase as usize].len)
+    }
+
+    /// The turns that finish the run.
+    pub fn finish(&mut self)
+        ensures state { self.new.state ≡ finished self.old.code self.old.state }
+        ensures code { self.new.code ≡ self.old.code }
+    {
+        while let Some(proc) = self.next_proc() {
+            self.turn(proc);
+        }
+    }
+
+    /// A word of memory.
+    pub fn word(&self, place: u64) -> u64
+        requires inside { place < length self.now.state.memory }
+        ensures value { result ≡ slice_index self.now.state.memory place }
+        ensures residue { result < self.now.code.modulus }
+    {
+        self.memory.at(place)
+    }
+
+    /// What the processor has executed so far.
+    pub fn counts(&self, proc: u64) -> Counts
+        requires proc { proc < self.now.code.procs }
+        ensures { result ≡ counts_so_far self.now.code self.now.state proc }
+    {
+        self.counts[proc as usize]
+    }
+
+    /// The number of phases that are over.
+    pub fn phase(&self) -> u64
+        ensures { result ≡ self.now.state.phase }
+    {
+        self.phase
+    }
+
+    /// The program's modulus.
+    pub fn modulus(&self) -> Modulus
+        ensures { result ≡ self.now.code.modulus }
+    {
+        self.shape.modulus
+    }
+
+    /// The number of processors.
+    pub fn procs(&self) -> u64
+        ensures value { result ≡ self.now.code.procs }
+        ensures limits { (1 ≤ result) × (result ≤ 16) }
+    {
+        self.shape.procs
+    }
+
+    /// The number of words of memory.
+    pub fn span(&self) -> u64
+        ensures value { result ≡ 4 * padded self.now.code }
+        ensures memory { result ≡ length self.now.state.memory }
+    {
+        4 * self.shape.room
+    }
+}

@@ -1,0 +1,215 @@
+ghost use Rattle.std.specs.Prelude.{◌≡◌, ℕ, ◌*◌, ◌/◌, ◌%◌, ◌^◌, ◌<◌, ◌≤◌, IfOk, length, slice_index};
+ghost use Rattle.perm_algebra.specs.Affine.{value, top, head, rest_of, divided, mods, reduced};
+ghost use Rattle.perm_algebra.specs.Fits.{Agree, InRange, IsAffine, Stays};
+ghost use Rattle.perm_algebra.specs.Room.{HasTop, CanDivide};
+ghost use Rattle.perm_algebra.specs.Views.{plain_sum};
+
+use crate::Affine;
+use crate::sums::copy;
+use memory::NoMemory;
+use std::alloc::Global;
+
+/// The quotient and the remainder of a sum by a divisor.
+#[derive(Drop)]
+pub struct Parts {
+    pub quot: Affine,
+    pub rem: Affine,
+}
+
+// The parts whose factors s divides, divided by it.
+fn multiples(alloc: Global, s: u64, sum: &Affine) -> Result<Affine, NoMemory>
+    requires { 0 < s }
+    ensures { IfOk result (λ a. plain_sum a ≡ head s (plain_sum sum.now)) }
+{
+    match sum {
+        Affine::Constant(c) => Ok(Affine::Constant(*c / s)),
+        Affine::Variable(factor, variable, rest) => {
+            let rest = multiples(alloc, s, rest)?;
+            if *factor % s == 0 {
+                let rest = Box::new(alloc, rest)?;
+                Ok(Affine::Variable(*factor / s, *variable, rest))
+            } else {
+                Ok(rest)
+            }
+        }
+        Affine::Remainder(factor, of, divisor, rest) => {
+            let rest = multiples(alloc, s, rest)?;
+            if *factor % s == 0 {
+                let of = Box::new(alloc, copy(alloc, of)?)?;
+                let rest = Box::new(alloc, rest)?;
+                Ok(Affine::Remainder(*factor / s, of, *divisor, rest))
+            } else {
+                Ok(rest)
+            }
+        }
+        Affine::Quotient(factor, of, divisor, rest) => {
+            let rest = multiples(alloc, s, rest)?;
+            if *factor % s == 0 {
+                let of = Box::new(alloc, copy(alloc, of)?)?;
+                let rest = Box::new(alloc, rest)?;
+                Ok(Affine::Quotient(*factor / s, of, *divisor, rest))
+            } else {
+                Ok(rest)
+            }
+        }
+    }
+}
+
+// The parts whose factors s does not divide.
+fn others(alloc: Global, s: u64, sum: &Affine) -> Result<Affine, NoMemory>
+    requires { 0 < s }
+    ensures { IfOk result (λ a. plain_sum a ≡ rest_of s (plain_sum sum.now)) }
+{
+    match sum {
+        Affine::Constant(c) => Ok(Affine::Constant(*c % s)),
+        Affine::Variable(factor, variable, rest) => {
+            let rest = others(alloc, s, rest)?;
+            if *factor % s != 0 {
+                let rest = Box::new(alloc, rest)?;
+                Ok(Affine::Variable(*factor, *variable, rest))
+            } else {
+                Ok(rest)
+            }
+        }
+        Affine::Remainder(factor, of, divisor, rest) => {
+            let rest = others(alloc, s, rest)?;
+            if *factor % s != 0 {
+                let of = Box::new(alloc, copy(alloc, of)?)?;
+                let rest = Box::new(alloc, rest)?;
+                Ok(Affine::Remainder(*factor, of, *divisor, rest))
+            } else {
+                Ok(rest)
+            }
+        }
+        Affine::Quotient(factor, of, divisor, rest) => {
+            let rest = others(alloc, s, rest)?;
+            if *factor % s != 0 {
+                let of = Box::new(alloc, copy(alloc, of)?)?;
+                let rest = Box::new(alloc, rest)?;
+                Ok(Affine::Quotient(*factor, of, *divisor, rest))
+            } else {
+                Ok(rest)
+            }
+        }
+    }
+}
+
+// The constant and the factors modulo s, and no part whose factor is then 0.
+fn residues(alloc: Global, s: u64, sum: &Affine) -> Result<Affine, NoMemory>
+    requires { 0 < s }
+    ensures { IfOk result (λ a. plain_sum a ≡ mods s (plain_sum sum.now)) }
+{
+    match sum {
+        Affine::Constant(c) => Ok(Affine::Constant(*c % s)),
+        Affine::Variable(factor, variable, rest) => {
+            let rest = residues(alloc, s, rest)?;
+            if *factor % s != 0 {
+                let rest = Box::new(alloc, rest)?;
+                Ok(Affine::Variable(*factor % s, *variable, rest))
+            } else {
+                Ok(rest)
+            }
+        }
+        Affine::Remainder(factor, of, divisor, rest) => {
+            let rest = residues(alloc, s, rest)?;
+            if *factor % s != 0 {
+                let of = Box::new(alloc, copy(alloc, of)?)?;
+                let rest = Box::new(alloc, rest)?;
+                Ok(Affine::Remainder(*factor % s, of, *divisor, rest))
+            } else {
+                Ok(rest)
+            }
+        }
+        Affine::Quotient(factor, of, divisor, rest) => {
+            let rest = residues(alloc, s, rest)?;
+            if *factor % s != 0 {
+                let of = Box::new(alloc, copy(alloc, of)?)?;
+                let rest = Box::new(alloc, rest)?;
+                Ok(Affine::Quotient(*factor % s, of, *divisor, rest))
+            } else {
+                Ok(rest)
+            }
+        }
+    }
+}
+
+/// A number that no value of the sum is above, where each variable runs below its count.
+#[tactic(auto, using(crate::proofs::PartLaws::quotient_le, crate::proofs::PartLaws::in_range_at))]
+pub fn greatest(counts: &[u64], sum: &Affine) -> u64
+    requires affine { IsAffine (length counts.now) (slice_index counts.now) (plain_sum sum.now) }
+    requires fits { Stays (slice_index counts.now) (value (plain_sum sum.now)) }
+    ensures bound { (vs : ℕ → ℕ) → InRange (slice_index counts.now) vs → value (plain_sum sum.now) vs ≤ result }
+    ensures form { HasTop (slice_index counts.now) (plain_sum sum.now) → result ≡ top (plain_sum sum.now) (slice_index counts.now) }
+{
+    match sum {
+        Affine::Constant(c) => *c,
+        Affine::Variable(factor, variable, rest) => {
+            let most = counts[*variable as usize].saturating_sub(1);
+            factor
+                .saturating_mul(most)
+                .saturating_add(greatest(counts, rest))
+        }
+        Affine::Remainder(factor, _, divisor, rest) => {
+            let most = *divisor - 1;
+            factor
+                .saturating_mul(most)
+                .saturating_add(greatest(counts, rest))
+        }
+        Affine::Quotient(factor, of, divisor, rest) => {
+            let most = greatest(counts, of) / *divisor;
+            factor
+                .saturating_mul(most)
+                .saturating_add(greatest(counts, rest))
+        }
+    }
+}
+
+/// The quotient and the remainder by `s`: read off where the parts show them, else written out.
+#[tactic(auto, using(crate::proofs::Division::affine_head, crate::proofs::Division::affine_rest, crate::proofs::Division::fits_rest, crate::proofs::Division::quotient_read, crate::proofs::Division::remainder_read, crate::proofs::Division::quotient_form, crate::proofs::Division::remainder_form, crate::proofs::Division::quotient_written, crate::proofs::Division::remainder_written))]
+pub fn divide(alloc: Global, counts: &[u64], sum: &Affine, s: u64) -> Result<Parts, NoMemory>
+    requires divisor { 0 < s }
+    requires affine { IsAffine (length counts.now) (slice_index counts.now) (plain_sum sum.now) }
+    requires fits { Stays (slice_index counts.now) (value (plain_sum sum.now)) }
+    ensures quot { IfOk result (λ p. Agree (slice_index counts.now) (value (plain_sum p.quot)) (λ vs. value (plain_sum sum.now) vs / s)) }
+    ensures rem { IfOk result (λ p. Agree (slice_index counts.now) (value (plain_sum p.rem)) (λ vs. value (plain_sum sum.now) vs % s)) }
+    ensures quot_affine { IfOk result (λ p. IsAffine (length counts.now) (slice_index counts.now) (plain_sum p.quot)) }
+    ensures rem_affine { IfOk result (λ p. IsAffine (length counts.now) (slice_index counts.now) (plain_sum p.rem)) }
+
+    // As the definition has them, where the bounds fit.
+    ensures quot_form { CanDivide (slice_index counts.now) s (plain_sum sum.now) → IfOk result (λ p. plain_sum p.quot ≡ (divided (slice_index counts.now) s (plain_sum sum.now)).quot) }
+    ensures rem_form { CanDivide (slice_index counts.now) s (plain_sum sum.now) → IfOk result (λ p. plain_sum p.rem ≡ (divided (slice_index counts.now) s (plain_sum sum.now)).rem) }
+{
+    let rem = others(alloc, s, sum)?;
+    if greatest(counts, &rem) < s {
+        let quot = multiples(alloc, s, sum)?;
+        Ok(Parts { quot, rem })
+    } else {
+        let of = Box::new(alloc, copy(alloc, sum)?)?;
+        let end = Box::new(alloc, Affine::Constant(0))?;
+        let quot = Affine::Quotient(1, of, s, end);
+        let of = Box::new(alloc, copy(alloc, sum)?)?;
+        let end = Box::new(alloc, Affine::Constant(0))?;
+        let rem = Affine::Remainder(1, of, s, end);
+        Ok(Parts { quot, rem })
+    }
+}
+
+/// The sum modulo `n`: a remainder only where the ranges do not show it away.
+#[tactic(auto, using(crate::proofs::Division::affine_mods, crate::proofs::Division::fits_mods, crate::proofs::Division::reduced_read, crate::proofs::Division::reduced_written, crate::proofs::Division::reduced_form, crate::proofs::Division::reduced_form_written))]
+pub fn reduce(alloc: Global, counts: &[u64], n: u64, sum: &Affine) -> Result<Affine, NoMemory>
+    requires divisor { 0 < n }
+    requires affine { IsAffine (length counts.now) (slice_index counts.now) (plain_sum sum.now) }
+    requires fits { Stays (slice_index counts.now) (value (plain_sum sum.now)) }
+    ensures value { IfOk result (λ a. Agree (slice_index counts.now) (value (plain_sum a)) (λ vs. value (plain_sum sum.now) vs % n)) }
+    ensures affine { IfOk result (λ a. IsAffine (length counts.now) (slice_index counts.now) (plain_sum a)) }
+    ensures form { HasTop (slice_index counts.now) (mods n (plain_sum sum.now)) → IfOk result (λ a. plain_sum a ≡ reduced (slice_index counts.now) n (plain_sum sum.now)) }
+{
+    let small = residues(alloc, n, sum)?;
+    if greatest(counts, &small) < n {
+        Ok(small)
+    } else {
+        let of = Box::new(alloc, small)?;
+        let end = Box::new(alloc, Affine::Constant(0))?;
+        Ok(Affine::Remainder(1, of, n, end))
+    }
+}

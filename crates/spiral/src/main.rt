@@ -1,0 +1,26 @@
+//! The program: its words, its standard streams, and the exit code of its status.
+#![tactic(auto)]
+
+use io_edge::{ReadSource, WriteSink};
+use spiral_main::spiral_run;
+use std::process::ExitCode;
+use std::{env, io};
+
+// The program's name and what stands behind it.
+fn words(rt: &HostRuntime) -> io::Result<Vec<String>> {
+    let mut words = Vec::new(rt.alloc());
+    for word in env::args(rt)? {
+        words.push(word)?;
+    }
+    Ok(words)
+}
+
+fn main(rt: HostRuntime) -> ExitCode {
+    let mut input = ReadSource::new(rt.stdin());
+    let mut output = WriteSink::new(rt.stdout());
+    let mut note = WriteSink::new(rt.stderr());
+    // Words that are no text are no command, and neither are no words.
+    let words = words(&rt).unwrap_or(Vec::new(rt.alloc()));
+    let status = spiral_run(rt.alloc(), &words, &mut input, &mut output, &mut note);
+    ExitCode::from(status.code())
+}

@@ -1,0 +1,120 @@
+-- From the words and the first line to a request.
+use Rattle.std.proofs.Common.{◌≡◌, ◌≢◌, ◌<◌, ◌≤◌, ℕ, zero, suc, Bool, true, false, List, [], ◌∷◌, ◌++◌, take, None, Some, Ok, Err, Result, nat_le, length, cond, refl, sym, ap, subst, ◌∙◌, arith, inl, inr}
+use Rattle.std.proofs.lemmas.Grind.{common_steps}
+use Rattle.std.specs.declared.option.Option.{Option}
+use Rattle.std.specs.Io.KnownBytes.{Consumes, IsAtEnd}
+use Rattle.matrix_meaning.specs.declared.Request.{Request}
+use Rattle.request_text.specs.declared.RequestFault.{RequestFault}
+use Rattle.request_text.specs.declared.RequestFault.TheVariants as request
+use Rattle.request_text.specs.Answer.{Answers}
+use Rattle.io_edge.specs.declared.FeedFault.{FeedFault}
+use Rattle.io_edge.specs.declared.FeedFault.TheVariants as feed
+use Rattle.spiral_main.specs.declared.command.Command.{Command}
+use Rattle.spiral_main.specs.declared.status.Status.{Status}
+use Rattle.spiral_main.specs.declared.status.Status.TheVariants.{Success, Usage, ReadFault, WriteFault, NoMemory, TooLong}
+use Rattle.spiral_main.specs.Command.{command_of, or_usage}
+use Rattle.spiral_main.specs.Fault.{status_of_line, status_of_request}
+use Rattle.spiral_main.specs.Line.{first_line, data_of, line_of, IsWholeLine, GivesLine}
+use Rattle.spiral_main.specs.Outcome.{spelt, requested}
+use Rattle.spiral_main.specs.Steps.{Asks}
+
+-- a line of at most 256 bytes, and a longer one
+pub line_short : (bytes line : List ℕ) → first_line bytes ≡ line → length line ≤ 256 → line_of bytes ≡ Ok line
+line_short bytes line same short =
+    let test : nat_le (length line) 256 ≡ true = grind (arith, common_steps) in
+    ap (λ l. cond {A = Result (List ℕ) Status} (nat_le (length l) 256) (Ok l) (Err (TooLong 256))) same
+    ∙ ap (λ b. cond {A = Result (List ℕ) Status} b (Ok line) (Err (TooLong 256))) test
+
+pub line_long : (bytes : List ℕ) → 256 < length (first_line bytes) → line_of bytes ≡ Err (TooLong 256)
+line_long bytes long =
+    let test : nat_le (length (first_line bytes)) 256 ≡ false = grind (arith, common_steps) in
+    ap (λ b. cond {A = Result (List ℕ) Status} b (Ok (first_line bytes)) (Err (TooLong 256))) test
+
+-- the words are no command line
+pub asked_usage : (words : List (List ℕ)) (a : Option (List ℕ)) (taken : ℕ) → command_of words ≡ None → Asks words a a taken (Err Usage)
+asked_usage words None taken none = tt
+asked_usage words (Some bytes) taken none = ([], refl, (λ _. inl (sym (ap or_usage none)), λ e. absurd (cc)))
+
+-- the first line can't be read
+pub asked_line_fault : (words : List (List ℕ)) (before after : Option (List ℕ)) (taken : ℕ) (command : Command) (read buffer : List ℕ) (ended : Type 0) (fault : FeedFault)
+    → command_of words ≡ Some command → Consumes before after read → GivesLine read ended taken buffer (Err fault) → Asks words before after taken (Err (status_of_line fault))
+asked_line_fault words None after taken command read buffer ended fault named consumed given = tt
+asked_line_fault words (Some bytes) None taken command read buffer ended fault named consumed given = consumed
+asked_line_fault words (Some bytes) (Some rest) taken command read buffer ended feed.ReadFault named consumed given = (
+  read,
+  consumed,
+  (λ d. absurd (d.read refl), λ _. given),
+)
+asked_line_fault words (Some bytes) (Some rest) taken command read buffer ended feed.TooLong named consumed given = (
+  read,
+  consumed,
+  (
+    λ _. inr (record { value = command; before = sym (ap or_usage named); behind = inl (sym (line_long (read ++ rest) (given rest))) }),
+    λ e. absurd (cc),
+  ),
+)
+
+request_fault_other : (fault : RequestFault) → status_of_request fault ≡ ReadFault → ⊥
+request_fault_other (request.Syntax at) e = absurd (cc)
+request_fault_other (request.Range field value) e = absurd (cc)
+request_fault_other (request.Shape size) e = absurd (cc)
+request_fault_other (request.LanesLine lanes line) e = absurd (cc)
+
+-- the line spells no request that can be served
+pub asked_request_fault : (words : List (List ℕ)) (before after : Option (List ℕ)) (taken : ℕ) (command : Command) (read line : List ℕ) (fault : RequestFault)
+    → command_of words ≡ Some command → Consumes before after read → IsWholeLine read (IsAtEnd after) line → length line ≤ 256 → Answers line (Err fault)
+    → Asks words before after taken (Err (status_of_request fault))
+asked_request_fault words None after taken command read line fault named consumed whole short answer = tt
+asked_request_fault words (Some bytes) None taken command read line fault named consumed whole short answer = consumed
+asked_request_fault words (Some bytes) (Some rest) taken command read line fault named consumed whole short answer =
+    let there = line_short (read ++ rest) line (whole rest (λ e. e)).0 short in (
+      read,
+      consumed,
+      (
+        λ _. inr (record {
+          value = command;
+          before = sym (ap or_usage named);
+          behind = inr (record { value = line; before = sym there; behind = inl (fault, answer, refl) });
+        }),
+        λ e. absurd (request_fault_other fault e),
+      ),
+    )
+
+-- the command and the request
+pub asked_request : (words : List (List ℕ)) (before after : Option (List ℕ)) (taken : ℕ) (command : Command) (read line : List ℕ) (wanted : Request)
+    → command_of words ≡ Some command → Consumes before after read → taken ≡ length read → IsWholeLine read (IsAtEnd after) line → length line ≤ 256 → Answers line (Ok wanted)
+    → Asks words before after taken (Ok (command, wanted))
+asked_request words None after taken command read line wanted named consumed count whole short answer = tt
+asked_request words (Some bytes) None taken command read line wanted named consumed count whole short answer = consumed
+asked_request words (Some bytes) (Some rest) taken command read line wanted named consumed count whole short answer = (
+  read,
+  consumed,
+  (
+    count,
+    λ more none.
+        let parts = whole more none in (
+          record {
+            value = command;
+            before = sym (ap or_usage named);
+            behind = record { value = line; before = sym (line_short (read ++ more) line parts.0 short); behind = record { value = wanted; before = answer; behind = refl } };
+          },
+          parts.1,
+        ),
+  ),
+)
+
+-- a line's and a request's fault end a run before the output
+pub line_fault_others : (fault : FeedFault) → (status_of_line fault ≢ Success) × (status_of_line fault ≢ WriteFault) × (status_of_line fault ≢ NoMemory)
+line_fault_others feed.ReadFault = (λ e. cc, λ e. cc, λ e. cc)
+line_fault_others feed.TooLong = (λ e. cc, λ e. cc, λ e. cc)
+
+pub request_fault_others : (fault : RequestFault) → (status_of_request fault ≢ Success) × (status_of_request fault ≢ WriteFault) × (status_of_request fault ≢ NoMemory)
+request_fault_others (request.Syntax at) = (λ e. cc, λ e. cc, λ e. cc)
+request_fault_others (request.Range field value) = (λ e. cc, λ e. cc, λ e. cc)
+request_fault_others (request.Shape size) = (λ e. cc, λ e. cc, λ e. cc)
+request_fault_others (request.LanesLine lanes line) = (λ e. cc, λ e. cc, λ e. cc)
+
+pub take_short : (n : ℕ) (xs : List ℕ) → length (take n xs) ≤ n
+take_short zero xs = omega arith
+take_short (suc n) [] = omega arith
+take_short (suc n) (x ∷ xs) = let rest = take_short n xs in omega arith

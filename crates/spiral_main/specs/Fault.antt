@@ -1,0 +1,40 @@
+-- The faults of the parts, as statuses.
+use Rattle.std.specs.Prelude.{ℕ, ◌^◌, Ok, Err, Result}
+use Rattle.io_edge.specs.declared.FeedFault.{FeedFault}
+use Rattle.io_edge.specs.declared.FeedFault.TheVariants as line
+use Rattle.request_text.specs.declared.RequestFault.{RequestFault}
+use Rattle.request_text.specs.declared.RequestFault.TheVariants as request
+use Rattle.generate.specs.declared.GenerateFault.{GenerateFault}
+use Rattle.generate.specs.declared.GenerateFault.TheVariants as generate
+use Rattle.spiral_main.specs.declared.stream.StreamFault.{StreamFault}
+use Rattle.spiral_main.specs.declared.stream.StreamFault.TheVariants as stream
+use Rattle.spiral_main.specs.declared.status.Status.{Status}
+use Rattle.spiral_main.specs.declared.status.Status.TheVariants.{Success, Syntax, Range, Shape, LanesLine, Root, OverBudget, BadNumber, Truncated, ReadFault, WriteFault, NoMemory, TooLong}
+
+-- of the first line
+abbrev pub status_of_line : FeedFault → Status
+status_of_line line.ReadFault = ReadFault
+status_of_line line.TooLong = TooLong 256
+
+abbrev pub status_of_request : RequestFault → Status
+status_of_request (request.Syntax at) = Syntax at
+status_of_request (request.Range field value) = Range field value
+status_of_request (request.Shape size) = Shape size
+status_of_request (request.LanesLine lanes line) = LanesLine lanes line
+
+abbrev pub status_of_generate : GenerateFault → Status
+status_of_generate (generate.Root power) = Root power
+status_of_generate (generate.OverBudget cost budget) = OverBudget cost budget
+status_of_generate generate.NoMemory = NoMemory
+
+abbrev pub status_of_fault : StreamFault → Status
+status_of_fault (stream.BadNumber token) = BadNumber token
+status_of_fault (stream.Truncated have need) = Truncated have need
+status_of_fault stream.TooLong = TooLong (2 ^ 30)
+status_of_fault stream.ReadFault = ReadFault
+status_of_fault stream.WriteFault = WriteFault
+
+-- of a run over the data
+abbrev pub status_of_stream : Result (Unit {0}) StreamFault → Status
+status_of_stream (Ok u) = Success
+status_of_stream (Err fault) = status_of_fault fault

@@ -1,0 +1,63 @@
+-- What the parts of the top call answer.
+use Rattle.std.specs.Prelude.{◌≡◌, ◌≢◌, ◌⊎◌, ℕ, List, [], ◌++◌, length, None, Some, Ok, Err, Result}
+use Rattle.std.specs.declared.option.Option.{Option}
+use Rattle.std.specs.Io.KnownBytes.{Appends}
+use Rattle.matrix_meaning.specs.declared.Request.{Request}
+use Rattle.icode.specs.declared.program.Program.{Program}
+use Rattle.icode.specs.Machine.{Code}
+use Rattle.icode.specs.Program.{code_of}
+use Rattle.generate.specs.Good.{IsGood}
+use Rattle.generate.specs.Planned.{planned}
+use Rattle.io_edge.specs.Taken.{AppendsPrefix}
+use Rattle.spiral_main.specs.declared.command.Command.{Command}
+use Rattle.spiral_main.specs.declared.command.Command.TheVariants.{Run}
+use Rattle.spiral_main.specs.declared.status.Status.{Status}
+use Rattle.spiral_main.specs.declared.status.Status.TheVariants.{Success, ReadFault, WriteFault}
+use Rattle.spiral_main.specs.Line.{data_of, IsPartOfLine}
+use Rattle.spiral_main.specs.Status.{IsDefined}
+use Rattle.spiral_main.specs.Outcome.{requested, priced, Settles, BreaksOff, ComesTo, Accounts}
+
+-- a status that ends a run before the output and the data
+pub record IsRefusal (status : Status) : Type 0 where
+  pub success : status ≢ Success
+  pub read : status ≢ ReadFault
+  pub write : status ≢ WriteFault
+
+-- the command and the request, by the bytes that were read and those that are left; or why there are none
+abbrev pub AsksBy : List (List ℕ) → List ℕ → List ℕ → ℕ → Result (Command × Request) Status → Type 0
+AsksBy words read rest taken (Ok wanted) = (taken ≡ length read)
+    × ((more : List ℕ) → (rest ≡ [] → more ≡ []) → requested words (read ++ more) (Ok wanted) × (data_of (read ++ more) ≡ more))
+AsksBy words read rest taken (Err status) = (IsDefined status → requested words (read ++ rest) (Err status)) × (status ≡ ReadFault → IsPartOfLine read)
+
+-- the same over a source that tells its bytes
+abbrev pub Asks : List (List ℕ) → Option (List ℕ) → Option (List ℕ) → ℕ → Result (Command × Request) Status → Type 0
+Asks words None after taken result = Unit {0}
+Asks words (Some bytes) None taken result = ⊥
+Asks words (Some bytes) (Some rest) taken result = (read : List ℕ) × (bytes ≡ read ++ rest) × AsksBy words read rest taken result
+
+-- the code of a program that is good for the request
+abbrev pub IsGoodCode : Request → Code → Type 0
+IsGoodCode request code = (cost : ℕ) × (program : Program) × (planned request ≡ Ok cost) × IsGood request cost program × (code ≡ code_of program)
+
+-- status and text of a command for a request and its data
+abbrev pub Ends : Command → Request → ℕ → List ℕ → Status → List ℕ → Type 0
+Ends command request room bytes status text =
+    ((priced (planned request) ≡ Err status) × (text ≡ []))
+    ⊎ ((cost : ℕ) × (planned request ≡ Ok cost) × Settles command request cost room bytes status text)
+
+-- status and output of a command, by the data that its input has left
+pub record Performs (command : Command) (request : Request) (room : ℕ) (bytes : List ℕ) (before after : Option (List ℕ)) (status : Status) : Type 0 where
+  pub answer : IsDefined status → (text : List ℕ) × Ends command request room bytes status text × Appends before after text
+  pub read_fault : status ≡ ReadFault → (read : List ℕ) × (rest : List ℕ) × (text : List ℕ) × (cost : ℕ) × (bytes ≡ read ++ rest) × (planned request ≡ Ok cost)
+      × (command ≡ Run) × BreaksOff request read text × Appends before after text
+  pub write_fault : status ≡ WriteFault → (read : List ℕ) × (rest : List ℕ) × (text : List ℕ) × (cost : ℕ) × (bytes ≡ read ++ rest) × (planned request ≡ Ok cost)
+      × ComesTo command request cost read text × AppendsPrefix before after text
+
+-- the same over a source that tells its bytes
+abbrev pub ToldPerforms : Command → Request → ℕ → Option (List ℕ) → Option (List ℕ) → Option (List ℕ) → Status → Type 0
+ToldPerforms command request room None before after status = Unit {0}
+ToldPerforms command request room (Some bytes) before after status = Performs command request room bytes before after status
+
+abbrev pub ToldAccounts : List (List ℕ) → Option (List ℕ) → Option (List ℕ) → Option (List ℕ) → Status → Type 0
+ToldAccounts words None before after status = Unit {0}
+ToldAccounts words (Some bytes) before after status = Accounts words bytes before after status

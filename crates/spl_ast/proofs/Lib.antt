@@ -1,0 +1,5 @@
+pub mod Blocks
+pub mod Contexts
+pub mod Distributing
+pub mod Residues
+pub mod Vectors

@@ -1,0 +1,19 @@
+-- Numbers that count modulo m.
+use Rattle.std.proofs.Common.{◌≡◌, ℕ, ◌*◌, ◌%◌, ap, List}
+use Rattle.std.proofs.lemmas.Nat.{mul-mod_first, pow-mod}
+use Rattle.ring_mod.specs.Residue.{power_mod}
+use Rattle.operators.proofs.Matrices.{matrix_times-same}
+use Rattle.matrix_meaning.specs.declared.Kind.TheVariants.{Dft}
+use Rattle.matrix_meaning.specs.Kind.{transform, entry_of}
+
+pub product_of_reduced : (m a b : ℕ) → (a % m * b) % m ≡ (a * b) % m
+product_of_reduced m a b = mul-mod_first a b m
+
+pub power_of_reduced : (m w e : ℕ) → power_mod m (w % m) e ≡ power_mod m w e
+unfolding power_mod
+power_of_reduced m w e = pow-mod w e m
+
+-- a root counts modulo m
+pub transform_of_reduced : (m n w : ℕ) (x : List ℕ) → transform Dft m n (w % m) x ≡ transform Dft m n w x
+transform_of_reduced m n w x =
+    matrix_times-same m n (entry_of Dft m (w % m)) (entry_of Dft m w) x (λ k l _ _. ap (λ v. v % m) (power_of_reduced m w (k * l)))

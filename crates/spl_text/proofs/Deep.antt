@@ -1,0 +1,259 @@
+-- Where a parenthesis too many stands.
+use Rattle.std.proofs.Common.{◌≡◌, ℕ, zero, suc, ◌+◌, ◌⊎◌, inl, inr, List, [], ◌∷◌, ◌++◌, length, codes, decimal, Result, Ok, Err, Option, Some, None, refl, sym, ap, subst, ◌∙◌, append_assoc, arith, ⊎_elim}
+use Rattle.std.specs.Option.{option_map}
+use Rattle.grammar.specs.Grammar.{one_of, positive, word, Begins}
+use Rattle.grammar.specs.Reading.{Place, start, ended, pure_at, one_of_at}
+use Rattle.grammar.specs.Stops.{Stop, Lost, Fault, and_go_on, spelling_only, passed, tested_at}
+use Rattle.grammar.proofs.Numbers.{NoDigit}
+use Rattle.grammar.proofs.Parts.{Anything}
+use Rattle.grammar.proofs.Places as places
+use Rattle.grammar.proofs.Stops.{Answers}
+use Rattle.spl_ast.specs.Formula.{Formula, Identity, Fourier, Hadamard, Twiddles, Diagonal, Stride, Permutation, GoodThomasIn, GoodThomasOut, Product, TensorLeft, TensorRight, DirectSum}
+use Rattle.spl_text.specs.declared.reading.Head.{Head}
+use Rattle.spl_text.specs.declared.reading.Head.TheVariants as head
+use Rattle.spl_text.specs.Answer.{opened, closed, IsShallow}
+use Rattle.spl_text.specs.Arguments.{factor_at, comma_at, close_at, one_size_at, two_sizes_at, size_value_at, sizes_value_at, values_at}
+use Rattle.spl_text.specs.Fault.{TextFault, TooDeep, Shape, refusal, shape_fault}
+use Rattle.spl_text.specs.Reading.{heads, plain, made_at, arguments_by, two_formulas_by, tensor_left_by, tensor_right_by, too_deep, formula_at, line_at, ended_formula, all_of, whole_line}
+use Rattle.spl_text.specs.Spelling.{spells, spelling, IsFactor, HasSpelling}
+use Rattle.spl_text.proofs.Heads.{head_word, word_of_head, from_heads}
+use Rattle.spl_text.proofs.Nested.{formula_nesting}
+use Rattle.spl_text.proofs.Parentheses.{Opens, then_balanced, one_deeper, balanced, size_balanced, spelling_balanced, shallow_by_count, shallow_both, front_shallow, within_shallow, size_shallow}
+use Rattle.spl_text.proofs.Readers.{heads_reader, factors, commas, one, one_spelt, one_factor, some_arguments, Exposes, formula_reader}
+
+-- ---- a parenthesis so deep
+
+-- where so much is left, a parenthesis is opened behind so many open ones
+pub record IsDeep (depth : ℕ) (text : List ℕ) (left : ℕ) : Type 0 where
+  pub before : List ℕ
+  pub after : List ℕ
+  pub whole : text ≡ before ++ (40 ∷ after)
+  pub long : left ≡ length after + 1
+  pub front : Begins spells (before ++ 40 ∷ [])
+  pub level : Opens depth before
+  pub shallow : IsShallow depth before
+
+-- a part inside another one
+begins_inside : (front back text : List ℕ) (make : Formula → Formula) → ((g : Formula) → HasSpelling g → HasSpelling (make g))
+    → ((g : Formula) → spelling (make g) ≡ front ++ (spelling g ++ back)) → Begins spells text → Begins spells (front ++ text)
+unfolding spells
+begins_inside front back text make has spell b = (
+  b.0 ++ back,
+  make b.1,
+  (
+    has b.1 b.2.0,
+    append_assoc front text (b.0 ++ back) ∙ ap (λ z. front ++ z) (sym (append_assoc text b.0 back) ∙ ap (λ z. z ++ back) b.2.1) ∙ sym (spell b.1),
+  ),
+)
+
+inside : (depth left : ℕ) (front back text rest : List ℕ) (make : Formula → Formula) → ((g : Formula) → HasSpelling g → HasSpelling (make g))
+    → ((g : Formula) → spelling (make g) ≡ front ++ (spelling g ++ back)) → Opens 1 front → IsShallow (suc depth) front → text ≡ front ++ rest → IsDeep depth rest left → IsDeep (suc depth) text left
+inside depth left front back text rest make has spell one_more shallow e d = record {
+  before = front ++ d.before;
+  after = d.after;
+  whole = e ∙ ap (λ z. front ++ z) d.whole ∙ sym (append_assoc front d.before (40 ∷ d.after));
+  long = d.long;
+  front = subst (λ z. Begins spells z) (sym (append_assoc front d.before (40 ∷ []))) (begins_inside front back (d.before ++ 40 ∷ []) make has spell d.front);
+  level = one_deeper depth front d.before one_more d.level;
+  shallow = shallow_both 1 depth (suc depth) front d.before one_more shallow d.shallow (omega arith);
+}
+
+-- ---- steps that stop
+
+same_stop : {A : Type 0} (s t : Stop TextFault) → (let r : Result A (Stop TextFault) = Err s in r ≡ Err t) → s ≡ t
+same_stop s t e = cc
+
+ok_not_err : {A : Type 0} (x : A) (s : Stop TextFault) → (let r : Result A (Stop TextFault) = Ok x in r ≡ Err s) → ⊥
+ok_not_err x s e = cc
+
+lost_not_fault : (left : ℕ) (fault : TextFault) → Lost left ≡ Fault fault → ⊥
+lost_not_fault left fault e = cc
+
+stops : {A B : Type 0} (r : Result (A × Place ℕ) (Stop TextFault)) (next : A → Place ℕ → Result (B × Place ℕ) (Stop TextFault)) (s : Stop TextFault) → and_go_on r next ≡ Err s
+    → (r ≡ Err s) ⊎ ((x : A × Place ℕ) × (r ≡ Ok x) × (next x.0 x.1 ≡ Err s))
+stops (Ok x) next s e = inr (x, refl, e)
+stops (Err t) next s e = inl (ap (λ u. Err u) (same_stop t s e))
+
+-- a step that meets no fault of its own
+goes_past : {A B : Type 0} (r : Result (A × Place ℕ) ℕ) (next : A → Place ℕ → Result (B × Place ℕ) (Stop TextFault)) (fault : TextFault) → and_go_on (spelling_only r) next ≡ Err (Fault fault)
+    → (x : A × Place ℕ) × (r ≡ Ok x) × (next x.0 x.1 ≡ Err (Fault fault))
+goes_past (Ok x) next fault e = (x, refl, e)
+goes_past (Err left) next fault e = absurd (lost_not_fault left fault (same_stop (Lost left) (Fault fault) e))
+
+made_never : {A : Type 0} (read : Place ℕ → Result (A × Place ℕ) ℕ) (make : A → Formula) (place : Place ℕ) (fault : TextFault) → made_at read make place ≡ Err (Fault fault) → ⊥
+made_never read make place fault e =
+    let g = goes_past (read place) (λ x. plain (pure_at (make x))) fault e in ok_not_err (make g.0.0, g.0.1) (Fault fault) g.2
+
+closing_never : (f : Formula) (place : Place ℕ) (fault : TextFault) → and_go_on (plain close_at place) (λ _. plain (pure_at f)) ≡ Err (Fault fault) → ⊥
+closing_never f place fault e =
+    let g = goes_past (close_at place) (λ _. plain (pure_at f)) fault e in ok_not_err (f, g.0.1) (Fault fault) g.2
+
+comma_took : (place : Place ℕ) (x : Unit {0} × Place ℕ) → comma_at place ≡ Ok x → place.rest ≡ codes "," ++ x.1.rest
+comma_took place x e =
+    let took = subst (λ r. places.Answers Anything (word (codes ",")) place r) e (commas.each place) in took.whole ∙ ap (λ z. z ++ x.1.rest) took.spelt
+
+factor_took : (place : Place ℕ) (x : ℕ × Place ℕ) → factor_at place ≡ Ok x → IsFactor x.0 × (place.rest ≡ decimal x.0 ++ x.1.rest)
+factor_took place x e =
+    let took = subst (λ r. places.Answers NoDigit (positive 65537) place r) e (factors.each place) in
+    ((took.spelt.0, took.spelt.1), took.whole ∙ ap (λ z. z ++ x.1.rest) took.spelt.2)
+
+head_took : (place : Place ℕ) (x : Head × Place ℕ) → one_of_at heads place ≡ Ok x → one_of heads (head_word x.0) x.0 × (place.rest ≡ head_word x.0 ++ x.1.rest)
+head_took place x e =
+    let took = subst (λ r. places.Answers Anything (one_of heads) place r) e (heads_reader.each place) in
+    let is = word_of_head took.text x.0 took.spelt in
+    (subst (λ z. one_of heads z x.0) is took.spelt, took.whole ∙ ap (λ z. z ++ x.1.rest) is)
+
+formula_took : (depth : ℕ) (place : Place ℕ) (x : Formula × Place ℕ) → formula_at depth place ≡ Ok x → HasSpelling x.0 × (place.rest ≡ spelling x.0 ++ x.1.rest)
+unfolding spells
+formula_took depth place x e =
+    let took = subst (λ r. Answers Exposes Anything spells place r) e ((formula_reader depth).each place) in
+    (took.spelt.0, took.whole ∙ ap (λ z. z ++ x.1.rest) took.spelt.1)
+
+-- ---- formulas
+
+two_opened : (w : List ℕ) (a : Formula) → Opens 1 w → HasSpelling a → Opens 1 (w ++ (spelling a ++ codes ","))
+two_opened w a o h = then_balanced 1 w (spelling a ++ codes ",") o (balanced (spelling a) (codes ",") (spelling_balanced a h) refl)
+
+module _ (depth : ℕ) (deep : (place : Place ℕ) (left : ℕ) → formula_at depth place ≡ Err (Fault (TooDeep left)) → IsDeep depth place.rest left) where
+  two_deep : (w : List ℕ) (make : Formula → Formula → Formula) → opened w ≡ 1 → closed w ≡ 0 → ((a b : Formula) → HasSpelling a → HasSpelling b → HasSpelling (make a b))
+      → ((a b : Formula) → spelling (make a b) ≡ w ++ (spelling a ++ (codes "," ++ (spelling b ++ codes ")"))))
+      → (text : List ℕ) (place : Place ℕ) (left : ℕ) → text ≡ w ++ place.rest → two_formulas_by (formula_at depth) make place ≡ Err (Fault (TooDeep left)) → IsDeep (suc depth) text left
+  two_deep w make count none has spell text place left t e =
+      let o : Opens 1 w = omega (arith, count, none) in
+      ⊎_elim
+      (λ first. inside depth left w (codes "," ++ (spelling one ++ codes ")")) text place.rest (λ g. make g one) (λ g h. has g one h one_spelt) (λ g. spell g one) o (shallow_by_count (suc depth) w (omega (arith, count))) t (deep place left first))
+      (λ a.
+      let took = formula_took depth place a.0 a.1 in
+      let c = goes_past (comma_at a.0.1) _ (TooDeep left) a.2 in
+      let comma = comma_took a.0.1 c.0 c.1 in
+      ⊎_elim
+      (λ second.
+      inside depth left (w ++ (spelling a.0.0 ++ codes ",")) (codes ")") text c.0.1.rest (λ g. make a.0.0 g) (λ g h. has a.0.0 g took.0 h)
+      (λ g. spell a.0.0 g ∙ ap (λ z. w ++ z) (sym (append_assoc (spelling a.0.0) (codes ",") (spelling g ++ codes ")"))) ∙ sym (append_assoc w (spelling a.0.0 ++ codes ",") (spelling g ++ codes ")")))
+      (two_opened w a.0.0 o took.0)
+      (front_shallow depth w (spelling a.0.0) count none (spelling_balanced a.0.0 took.0) (within_shallow depth a.0.0 (formula_nesting depth place a.0 a.1) took.0))
+      (t ∙ ap (λ z. w ++ z) (took.1 ∙ ap (λ z. spelling a.0.0 ++ z) comma ∙ sym (append_assoc (spelling a.0.0) (codes ",") c.0.1.rest)) ∙ sym (append_assoc w (spelling a.0.0 ++ codes ",") c.0.1.rest))
+      (deep c.0.1 left second))
+      (λ b. absurd (closing_never (make a.0.0 b.0.0) b.0.1 (TooDeep left) b.2))
+      (stops (formula_at depth c.0.1) _ (Fault (TooDeep left)) c.2))
+      (stops (formula_at depth place) _ (Fault (TooDeep left)) e)
+
+  left_deep : (text : List ℕ) (place : Place ℕ) (left : ℕ) → text ≡ codes "LEFT(" ++ place.rest → tensor_left_by (formula_at depth) place ≡ Err (Fault (TooDeep left)) → IsDeep (suc depth) text left
+  left_deep text place left t e =
+      ⊎_elim
+      (λ first. inside depth left (codes "LEFT(") (codes "," ++ (decimal 1 ++ codes ")")) text place.rest (λ g. TensorLeft g 1) (λ g h. (h, one_factor)) (λ g. refl) refl (shallow_by_count (suc depth) (codes "LEFT(") (omega arith)) t (deep place left first))
+      (λ a.
+      let c = goes_past (comma_at a.0.1) _ (TooDeep left) a.2 in
+      let k = goes_past (factor_at c.0.1) _ (TooDeep left) c.2 in
+      absurd (closing_never (TensorLeft a.0.0 k.0.0) k.0.1 (TooDeep left) k.2))
+      (stops (formula_at depth place) _ (Fault (TooDeep left)) e)
+
+  right_deep : (text : List ℕ) (place : Place ℕ) (left : ℕ) → text ≡ codes "RIGHT(" ++ place.rest → tensor_right_by (formula_at depth) place ≡ Err (Fault (TooDeep left)) → IsDeep (suc depth) text left
+  right_deep text place left t e =
+      let k = goes_past (factor_at place) _ (TooDeep left) e in
+      let c = goes_past (comma_at k.0.1) _ (TooDeep left) k.2 in
+      let took = factor_took place k.0 k.1 in
+      let n = k.0.0 in
+      ⊎_elim
+      (λ inner.
+      inside depth left (codes "RIGHT(" ++ (decimal n ++ codes ",")) (codes ")") text c.0.1.rest (λ g. TensorRight n g) (λ g h. (took.0, h))
+      (λ g. ap (λ z. codes "RIGHT(" ++ z) (sym (append_assoc (decimal n) (codes ",") (spelling g ++ codes ")"))))
+      (then_balanced 1 (codes "RIGHT(") (decimal n ++ codes ",") refl (balanced (decimal n) (codes ",") (size_balanced n took.0) refl))
+      (front_shallow depth (codes "RIGHT(") (decimal n) refl refl (size_balanced n took.0) (size_shallow depth n took.0))
+      (t ∙ ap (λ z. codes "RIGHT(" ++ z) (took.1 ∙ ap (λ z. decimal n ++ z) (comma_took k.0.1 c.0 c.1) ∙ sym (append_assoc (decimal n) (codes ",") c.0.1.rest)))
+      (deep c.0.1 left inner))
+      (λ a. absurd (closing_never (TensorRight n a.0.0) a.0.1 (TooDeep left) a.2))
+      (stops (formula_at depth c.0.1) _ (Fault (TooDeep left)) c.2)
+
+  arguments_deep : (h : Head) (text : List ℕ) (place : Place ℕ) (left : ℕ) → text ≡ head_word h ++ place.rest → arguments_by (formula_at depth) h place ≡ Err (Fault (TooDeep left)) → IsDeep (suc depth) text left
+  arguments_deep head.I text place left t e = absurd (made_never one_size_at Identity place (TooDeep left) e)
+  arguments_deep head.Dft text place left t e = absurd (made_never size_value_at (λ x. Fourier x.0 x.1) place (TooDeep left) e)
+  arguments_deep head.Wht text place left t e = absurd (made_never one_size_at Hadamard place (TooDeep left) e)
+  arguments_deep head.T text place left t e = absurd (made_never sizes_value_at (λ x. Twiddles x.0 x.1 x.2) place (TooDeep left) e)
+  arguments_deep head.Diag text place left t e = absurd (made_never values_at Diagonal place (TooDeep left) e)
+  arguments_deep head.L text place left t e = absurd (made_never two_sizes_at (λ x. Stride x.0 x.1) place (TooDeep left) e)
+  arguments_deep head.Perm text place left t e = absurd (made_never values_at Permutation place (TooDeep left) e)
+  arguments_deep head.GtIn text place left t e = absurd (made_never two_sizes_at (λ x. GoodThomasIn x.0 x.1) place (TooDeep left) e)
+  arguments_deep head.GtOut text place left t e = absurd (made_never two_sizes_at (λ x. GoodThomasOut x.0 x.1) place (TooDeep left) e)
+  arguments_deep head.Times text place left t e = two_deep (codes "TIMES(") Product refl refl (λ a b h k. (h, k)) (λ a b. refl) text place left t e
+  arguments_deep head.Sum text place left t e = two_deep (codes "SUM(") DirectSum refl refl (λ a b h k. (h, k)) (λ a b. refl) text place left t e
+  arguments_deep head.Left text place left t e = left_deep text place left t e
+  arguments_deep head.Right text place left t e = right_deep text place left t e
+
+-- a head ends with its one parenthesis
+opening : (h : Head) → (x : List ℕ) × (head_word h ≡ x ++ 40 ∷ []) × Opens 0 x × (opened x ≡ 0)
+opening head.I = (codes "I", refl, refl, refl)
+opening head.Dft = (codes "DFT", refl, refl, refl)
+opening head.Wht = (codes "WHT", refl, refl, refl)
+opening head.T = (codes "T", refl, refl, refl)
+opening head.Diag = (codes "DIAG", refl, refl, refl)
+opening head.L = (codes "L", refl, refl, refl)
+opening head.Perm = (codes "PERM", refl, refl, refl)
+opening head.GtIn = (codes "GTIN", refl, refl, refl)
+opening head.GtOut = (codes "GTOUT", refl, refl, refl)
+opening head.Times = (codes "TIMES", refl, refl, refl)
+opening head.Left = (codes "LEFT", refl, refl, refl)
+opening head.Right = (codes "RIGHT", refl, refl, refl)
+opening head.Sum = (codes "SUM", refl, refl, refl)
+
+deep_left : (n left : ℕ) → Fault (TooDeep n) ≡ Fault (TooDeep left) → n ≡ left
+deep_left n left e = cc
+
+first_deep : (place : Place ℕ) (left : ℕ) (r : Result (Head × Place ℕ) ℕ) → one_of_at heads place ≡ r → too_deep r ≡ Err (Fault (TooDeep left)) → IsDeep 0 place.rest left
+first_deep place left (Err at) is e = absurd (lost_not_fault at (TooDeep left) (same_stop (Lost at) (Fault (TooDeep left)) e))
+first_deep place left (Ok x) is e =
+    let took = head_took place x is in
+    let o = opening x.0 in
+    let some = some_arguments x.0 (head_word x.0) took.0 in
+    let front : Begins spells (head_word x.0) = (
+      some.0,
+      some.1,
+      from_heads (head_word x.0 ++ some.0) some.1 record { front = head_word x.0; rest = some.0; spelt = x.0; whole = refl; begins = took.0; ends = some.2 },
+    ) in
+    record {
+      before = o.0;
+      after = x.1.rest;
+      whole = took.1 ∙ ap (λ z. z ++ x.1.rest) o.1 ∙ append_assoc o.0 (40 ∷ []) x.1.rest;
+      long = sym (deep_left (length x.1.rest + 1) left (same_stop (Fault (TooDeep (length x.1.rest + 1))) (Fault (TooDeep left)) e));
+      front = subst (λ z. Begins spells z) o.1 front;
+      level = o.2;
+      shallow = shallow_by_count 0 o.0 (omega (arith, o.3));
+    }
+
+same_fault : (s t : TextFault) → Fault s ≡ Fault t → s ≡ t
+same_fault s t e = cc
+
+-- a test of shapes finds no depth
+not_by_test : (o : Option (ℕ × ℕ)) (n left : ℕ) (x : Formula × Place ℕ) → passed (option_map (λ p. Shape n p.0 p.1) o) x ≡ Err (Fault (TooDeep left)) → ⊥
+not_by_test None n left x e = ok_not_err x (Fault (TooDeep left)) e
+not_by_test (Some p) n left x e = absurd (let same : Shape n p.0 p.1 ≡ TooDeep left = same_fault (Shape n p.0 p.1) (TooDeep left) (same_stop (Fault (Shape n p.0 p.1)) (Fault (TooDeep left)) e) in cc)
+
+before_test : (n left : ℕ) (r : Result (Formula × Place ℕ) (Stop TextFault)) → tested_at n shape_fault r ≡ Err (Fault (TooDeep left)) → r ≡ Err (Fault (TooDeep left))
+before_test n left (Ok x) e = absurd (not_by_test (refusal x.0) n left x e)
+before_test n left (Err s) e = e
+
+formula_deep : (depth : ℕ) (place : Place ℕ) (left : ℕ) → formula_at depth place ≡ Err (Fault (TooDeep left)) → IsDeep depth place.rest left
+unfolding formula_at
+formula_deep zero place left e = first_deep place left (one_of_at heads place) refl e
+formula_deep (suc depth) place left e =
+    let g = goes_past (one_of_at heads place) (arguments_by (formula_at depth)) (TooDeep left) (before_test (length place.rest) left _ e) in
+    arguments_deep depth (formula_deep depth) g.0.0 place.rest g.0.1 left (head_took place g.0 g.1).1 g.2
+
+-- ---- the line
+
+line_deep : (place : Place ℕ) (left : ℕ) → line_at place ≡ Err (Fault (TooDeep left)) → IsDeep 128 place.rest left
+line_deep place left e =
+    ⊎_elim (λ first. formula_deep 128 place left first)
+    (λ f. absurd (let g = goes_past _ (λ _. plain (pure_at f.0.0)) (TooDeep left) f.2 in ok_not_err (f.0.0, g.0.1) (Fault (TooDeep left)) g.2))
+    (stops (formula_at 128 place) _ (Fault (TooDeep left)) e)
+
+never_at_end : (r : Result Formula ℕ) (fault : TextFault) → ended_formula r ≡ Err (Fault fault) → ⊥
+never_at_end (Ok f) fault e = ok_not_err f (Fault fault) e
+never_at_end (Err left) fault e = lost_not_fault left fault (same_stop (Lost left) (Fault fault) e)
+
+all_deep : (left : ℕ) (r : Result (Formula × Place ℕ) (Stop TextFault)) → all_of r ≡ Err (Fault (TooDeep left)) → r ≡ Err (Fault (TooDeep left))
+all_deep left (Ok x) e = absurd (never_at_end (ended x.0 x.1.rest x.1.far) (TooDeep left) e)
+all_deep left (Err s) e = ap (λ t. Err t) (same_stop s (Fault (TooDeep left)) e)
+
+pub text_deep : (text : List ℕ) (left : ℕ) → whole_line text ≡ Err (Fault (TooDeep left)) → IsDeep 128 text left
+text_deep text left e = line_deep (start text) left (all_deep left (line_at (start text)) e)

@@ -1,0 +1,13 @@
+pub mod Bounds
+pub mod Coprime
+pub mod Deep
+pub mod Fits
+pub mod Heads
+pub mod Judging
+pub mod Nested
+pub mod Parentheses
+pub mod Printable
+pub mod ReadAgain
+pub mod Readers
+pub mod Strays
+pub mod Whole

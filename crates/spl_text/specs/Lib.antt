@@ -1,0 +1,5 @@
+pub mod Spelling
+pub mod Fault
+pub mod Arguments
+pub mod Reading
+pub mod Answer
