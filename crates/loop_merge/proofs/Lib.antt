@@ -9,6 +9,7 @@ pub mod PlaceRoom
 pub mod RuleRoom
 pub mod InnerPlaces
 pub mod Shaped
+pub mod Closed
 pub mod Reaching
 pub mod ListedPlaces
 pub mod PassesStore

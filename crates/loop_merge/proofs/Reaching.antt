@@ -9,25 +9,25 @@ use Rattle.std.proofs.lemmas.List.Elements.{All-nil, All-cons}
 use Rattle.index_fn.specs.Mapping.{Mapping}
 use Rattle.matrix_meaning.specs.declared.Request.{Request}
 use Rattle.matrix_meaning.specs.Valid.{IsValid}
-use Rattle.perm_algebra.specs.Affine.{Fits, Sum, constant, variable, top, scaled, joined}
-use Rattle.perm_algebra.specs.Room.{IsReady}
+use Rattle.perm_algebra.specs.Affine.{Fits, Sum, constant, variable, remainder, quotient, value, top, IsSound, scaled, joined}
+use Rattle.perm_algebra.specs.Fits.{InRange, IsAffine}
 use Rattle.perm_algebra.specs.Views.{plain_sum}
 use Rattle.perm_algebra.specs.declared.Affine.{Affine}
 use Rattle.perm_algebra.specs.declared.Affine.TheVariants.{Constant}
 use Rattle.std.proofs.lemmas.List.FromFn.{map-range_with_len_more}
-use Rattle.perm_algebra.proofs.AffineLaws.{top-scaled}
-use Rattle.perm_algebra.proofs.Counted.{ready-mixed}
-use Rattle.perm_algebra.proofs.Sizes.{scaled-one}
+use Rattle.perm_algebra.proofs.AffineLaws.{top-scaled, value-scaled, value-joined, value-le-top}
+use Rattle.perm_algebra.proofs.PartLaws.{in_range_at}
 use Rattle.loop_merge.specs.Listed.{counts_of, items_of}
 use Rattle.loop_merge.specs.Merge.{PlainPass, merged_of}
 use Rattle.loop_merge.specs.Placed.{AllRoom, place_sum, AreCounts, IsLimitedPass, AllLimited, diagonal_places}
 use Rattle.loop_merge.specs.Reach.{AreFormed, CanName, CanReach, ReachesAll, IsReachable}
 use Rattle.loop_merge.specs.Views.{plain_pass}
 use Rattle.loop_merge.specs.declared.Pass.{Pass}
+use Rattle.loop_merge.proofs.Closed.{AreClosed, IsClosedPass, AreClosedPasses, closed_passes, defined-all}
 use Rattle.loop_merge.proofs.PlaceLimits.{places_are_limited}
 use Rattle.loop_merge.proofs.PlaceRoom.{can_scale, can_join, le-mul_left, scaled-top}
 use Rattle.loop_merge.proofs.PlaceSums.{variable-fits, place_sum-fits, size-positive}
-use Rattle.loop_merge.proofs.PlaceValues.{IsFormedPass, AreFormedPasses, formed-append, formed_passes}
+use Rattle.loop_merge.proofs.PlaceValues.{IsFormedPass, AreFormedPasses, formed-append, formed_passes, sound-place_sum}
 use Rattle.loop_merge.proofs.Shaped.{IsWide, IsShaped, AreShaped, shaped_passes}
 use Rattle.loop_merge.proofs.TreePasses.{tree_passes, merged_of-tree}
 use Rattle.sigma_lower.proofs.Lowering.{part-le}
@@ -80,17 +80,18 @@ length-below (Columns c ∷ path) n d cs h = let more : size_under path n * 2 �
 
 pub record IsItem (counts : List ℕ) (n : ℕ) (e : Sum) : Type 0 where
   pub fits : Fits n e (slice_index counts)
-  pub ready : IsReady (length counts) e
+  pub sound : IsSound e
+  pub affine : IsAffine (length counts) (slice_index counts) e
 
 abbrev AreItems : List ℕ → ℕ → List Sum → Type 0
 AreItems counts n [] = Unit {0}
 AreItems counts n (e ∷ es) = IsItem counts n e × AreItems counts n es
 
 pub constant-item : (counts : List ℕ) (n k : ℕ) → k < n → IsItem counts n (constant k)
-constant-item counts n k h = record { fits = record { proper = tt; small = h; plain = tt }; ready = record { counts = tt; sound = tt } }
+constant-item counts n k h = record { fits = record { proper = tt; small = h; plain = tt }; sound = tt; affine = tt }
 
 variable-item : (counts : List ℕ) (n d : ℕ) → 2 ≤ n → slice_index counts d ≡ n → d < length counts → IsItem counts n (variable 1 d (constant 0))
-variable-item counts n d two is below = record { fits = variable-fits n d (slice_index counts) is two; ready = record { counts = (below, tt); sound = tt } }
+variable-item counts n d two is below = record { fits = variable-fits n d (slice_index counts) is two; sound = tt; affine = (below, tt) }
 
 constants : (counts : List ℕ) (n k len : ℕ) → k + len ≤ n → AreItems counts n (map constant (range_with_len k len))
 constants counts n k zero h = tt
@@ -114,65 +115,99 @@ items-are c counts n d leaf = item_pick counts n (is_kernel c n) _ _ (constants 
 
 -- ---- a place of the path
 
-can_name : (path : Path) (n d : ℕ) (e : Sum) (cs : ℕ → ℕ) → AreCounts path n d cs → Fits n e cs → size_under path n ≤ 65536 → d + length path ≤ 65536 → CanName path n d e
-can_name [] n d e cs h fits high low = tt
-can_name (Blocks c ∷ path) n d e cs h fits high low =
+affine-scaled : (m : ℕ) (cs : ℕ → ℕ) (k : ℕ) (e : Sum) → IsAffine m cs e → IsAffine m cs (scaled k e)
+affine-scaled m cs k (constant c) h = tt
+affine-scaled m cs k (variable f d rest) h = (h.0, affine-scaled m cs k rest h.1)
+affine-scaled m cs k (remainder f of n rest) h = (h.0, h.1, h.2, affine-scaled m cs k rest h.3)
+affine-scaled m cs k (quotient f of n rest) h = (h.0, h.1, h.2, affine-scaled m cs k rest h.3)
+
+affine-joined : (m : ℕ) (cs : ℕ → ℕ) (a e : Sum) → IsAffine m cs a → IsAffine m cs e → IsAffine m cs (joined a e)
+affine-joined m cs (constant c) (constant d) h g = tt
+affine-joined m cs (constant c) (variable f d rest) h g = (g.0, affine-joined m cs (constant c) rest tt g.1)
+affine-joined m cs (constant c) (remainder f of n rest) h g = (g.0, g.1, g.2, affine-joined m cs (constant c) rest tt g.3)
+affine-joined m cs (constant c) (quotient f of n rest) h g = (g.0, g.1, g.2, affine-joined m cs (constant c) rest tt g.3)
+affine-joined m cs (variable f d rest) e h g = (h.0, affine-joined m cs rest e h.1 g)
+affine-joined m cs (remainder f of n rest) e h g = (h.0, h.1, h.2, affine-joined m cs rest e h.3 g)
+affine-joined m cs (quotient f of n rest) e h g = (h.0, h.1, h.2, affine-joined m cs rest e h.3 g)
+
+affine-place : (m : ℕ) (cs : ℕ → ℕ) (path : Path) (n d : ℕ) (e : Sum) → d + length path ≤ m → IsAffine m cs e → IsAffine m cs (place_sum path n d e)
+affine-place m cs [] n d e below h = h
+affine-place m cs (Blocks c ∷ path) n d e below h =
+    affine-joined m cs (scaled (size_under path n) (variable 1 d (constant 0))) (place_sum path n (d + 1) e) (omega arith, tt) (affine-place m cs path n (d + 1) e (omega arith) h)
+affine-place m cs (Columns c ∷ path) n d e below h =
+    affine-joined m cs (scaled c (place_sum path n (d + 1) e)) (variable 1 d (constant 0)) (affine-scaled m cs c (place_sum path n (d + 1) e) (affine-place m cs path n (d + 1) e (omega arith) h)) (omega arith, tt)
+
+-- the values of a place under one tensor more
+pub blocks-value : (w d : ℕ) (e : Sum) (vs : ℕ → ℕ) → value (joined (scaled w (variable 1 d (constant 0))) e) vs ≡ w * vs d + value e vs
+blocks-value w d e vs =
+    let v = variable 1 d (constant 0) in value-joined (scaled w v) e vs ∙ ap (λ x. x + value e vs) (value-scaled w v vs ∙ omega arith)
+
+pub columns-value : (k d : ℕ) (e : Sum) (vs : ℕ → ℕ) → value (joined (scaled k e) (variable 1 d (constant 0))) vs ≡ k * value e vs + vs d
+columns-value k d e vs = value-joined (scaled k e) (variable 1 d (constant 0)) vs ∙ ap (λ x. x + (1 * vs d + 0)) (value-scaled k e vs) ∙ omega arith
+
+place-below : (path : Path) (n d : ℕ) (e : Sum) (cs : ℕ → ℕ) → AreCounts path n d cs → Fits n e cs → IsSound e → (vs : ℕ → ℕ) → InRange cs vs → value (place_sum path n d e) vs < size_under path n
+place-below path n d e cs h fits sound vs range =
+    omega (arith, (place_sum-fits path n d e cs h fits).small, value-le-top (place_sum path n d e) vs cs (sound-place_sum path n d e sound) (λ i. in_range_at cs vs i range))
+
+can_name : (counts : List ℕ) (path : Path) (n d : ℕ) (e : Sum) → AreCounts path n d (slice_index counts) → IsItem counts n e → size_under path n ≤ 65536 → d + length path ≤ 65536 → d + length path ≤ length counts →
+    CanName (length counts) (slice_index counts) path n d e
+can_name counts [] n d e h item high low long = tt
+can_name counts (Blocks c ∷ path) n d e h item high low long =
+    let cs : ℕ → ℕ = slice_index counts in
     let size = size_under path n in
     let v = variable 1 d (constant 0) in
     let fit = variable-fits c d cs h.0 h.1 in
-    let inner = place_sum-fits path n (d + 1) e cs h.2 fits in
+    let inner = place_sum-fits path n (d + 1) e cs h.2 item.fits in
     let positive = size-positive path n (d + 1) cs h.2 in
     let within : size ≤ c * size = le-mul_left c size (omega (arith, h.1)) in
     let whole : size * top v cs ≤ c * size = scaled-top size (top v cs) c fit.small in (
       omega arith,
+      omega arith,
       has_room path n positive (omega arith),
-      can_name path n (d + 1) e cs h.2 fits (omega arith) (omega arith),
+      can_name counts path n (d + 1) e h.2 item (omega arith) (omega arith) (omega arith),
+      affine-place (length counts) cs path n (d + 1) e (omega arith) item.affine,
+      λ vs range. omega (arith, place-below (Blocks c ∷ path) n d e cs h item.fits item.sound vs range),
       can_scale size v cs fit.proper (omega arith),
       can_join (scaled size v) (place_sum path n (d + 1) e) cs (omega (arith, top-scaled size v cs, inner.small)),
     )
-can_name (Columns c ∷ path) n d e cs h fits high low =
+can_name counts (Columns c ∷ path) n d e h item high low long =
+    let cs : ℕ → ℕ = slice_index counts in
     let size = size_under path n in
     let v = variable 1 d (constant 0) in
     let fit = variable-fits c d cs h.0 h.1 in
-    let inner = place_sum-fits path n (d + 1) e cs h.2 fits in
+    let inner = place_sum-fits path n (d + 1) e cs h.2 item.fits in
     let positive = size-positive path n (d + 1) cs h.2 in
     let within : size ≤ c * size = le-mul_left c size (omega (arith, h.1)) in
     let count : c ≤ size * c = le-mul_left size c positive in
     let whole : c * top (place_sum path n (d + 1) e) cs ≤ size * c = scaled-top c (top (place_sum path n (d + 1) e) cs) size inner.small in (
       omega arith,
+      omega arith,
       has_room path n positive (omega arith),
-      can_name path n (d + 1) e cs h.2 fits (omega arith) (omega arith),
+      can_name counts path n (d + 1) e h.2 item (omega arith) (omega arith) (omega arith),
+      affine-place (length counts) cs path n (d + 1) e (omega arith) item.affine,
+      λ vs range. omega (arith, place-below (Columns c ∷ path) n d e cs h item.fits item.sound vs range),
       can_scale c (place_sum path n (d + 1) e) cs inner.proper (omega arith),
       can_join (scaled c (place_sum path n (d + 1) e)) v cs (omega (arith, top-scaled c (place_sum path n (d + 1) e) cs, fit.small)),
     )
 
-ready-place : (m : ℕ) (path : Path) (n d : ℕ) (e : Sum) → d + length path ≤ m → IsReady m e → IsReady m (place_sum path n d e)
-ready-place m [] n d e below h = h
-ready-place m (Blocks c ∷ path) n d e below h =
-    let v = variable 1 d (constant 0) in
-    let rest = place_sum path n (d + 1) e in
-    subst (λ (y : Sum). IsReady m (joined (scaled (size_under path n) v) y)) (scaled-one rest)
-    (ready-mixed m (size_under path n) 1 v rest (record { counts = (omega arith, tt); sound = tt }) (ready-place m path n (d + 1) e (omega arith) h))
-ready-place m (Columns c ∷ path) n d e below h =
-    let v = variable 1 d (constant 0) in
-    let rest = place_sum path n (d + 1) e in
-    subst (λ (y : Sum). IsReady m (joined (scaled c rest) y)) (scaled-one v)
-    (ready-mixed m c 1 rest v (ready-place m path n (d + 1) e (omega arith) h) (record { counts = (omega arith, tt); sound = tt }))
-
 -- ---- a pass
 
-reaches : (counts : List ℕ) (fs : List Mapping) (path : Path) (n : ℕ) (es : List Sum) → AreCounts path n 0 (slice_index counts) → length path ≤ length counts → size_under path n ≤ 65536 → AreFormed fs →
+reaches : (counts : List ℕ) (fs : List Mapping) (path : Path) (n : ℕ) (es : List Sum) → AreCounts path n 0 (slice_index counts) → length path ≤ length counts → size_under path n ≤ 65536 → AreFormed fs → AreClosed (size_under path n) fs →
     ((e : Sum) → Fits n e (slice_index counts) → AllRoom (slice_index counts) fs (place_sum path n 0 e)) → AreItems counts n es → ReachesAll counts fs path n es
-reaches counts fs path n [] h long high formed room items = tt
-reaches counts fs path n (e ∷ es) h long high formed room items = (
-  record {
-    formed = formed;
-    named = can_name path n 0 e (slice_index counts) h items.0.fits high (omega (arith, length-below path n 0 (slice_index counts) h));
-    ready = ready-place (length counts) path n 0 e (omega arith) items.0.ready;
-    room = room e items.0.fits;
-  },
-  reaches counts fs path n es h long high formed room items.1,
-)
+reaches counts fs path n [] h long high formed closed room items = tt
+reaches counts fs path n (e ∷ es) h long high formed closed room items =
+    let cs : ℕ → ℕ = slice_index counts in
+    let below : (vs : ℕ → ℕ) → InRange cs vs → value (place_sum path n 0 e) vs < size_under path n = place-below path n 0 e cs h items.0.fits items.0.sound in (
+      record {
+        formed = formed;
+        named = can_name counts path n 0 e h items.0 high (omega (arith, length-below path n 0 cs h)) (omega arith);
+        affine = affine-place (length counts) cs path n 0 e (omega arith) items.0.affine;
+        fits = λ vs range. omega (arith, below vs range);
+        defined = defined-all (size_under path n) cs fs (place_sum path n 0 e) formed closed (sound-place_sum path n 0 e items.0.sound) below;
+        room = room e items.0.fits;
+      },
+      reaches counts fs path n es h long high formed closed room items.1,
+    )
 
 right_positive : (a b : ℕ) → 0 < a * b → 0 < b
 right_positive a b h = elim (eq-zero-or-pos b) [ inl none ↦ absurd (let gone : a * b ≡ 0 = ap (λ x. a * x) none ∙ mul-zero a in omega arith) | inr positive ↦ positive ]
@@ -205,8 +240,8 @@ shaped_facts c p valid plain shape =
       column = λ e. variable-item counts n (length p.path + 1) (long_leaf c n valid plain e) (ap cs (omega arith) ∙ at-column p.path n) (omega arith);
     }
 
-reachable : (c : Request) (p : PlainPass) → IsValid c → IsTrue (is_plain c) → IsShaped c p → IsFormedPass p → IsLimitedPass c p → IsReachable c p
-reachable c p valid plain shape formed limited =
+reachable : (c : Request) (p : PlainPass) → IsValid c → IsTrue (is_plain c) → IsShaped c p → IsFormedPass p → IsClosedPass c p → IsLimitedPass c p → IsReachable c p
+reachable c p valid plain shape formed closed limited =
     let n = size_of p.tree in
     let counts : List ℕ = counts_of p in
     let cs : ℕ → ℕ = slice_index counts in
@@ -220,15 +255,15 @@ reachable c p valid plain shape formed limited =
     record {
       sized = word_sizes c.kind p.tree shape.formed (omega (arith, facts.within));
       short = omega (arith, facts.short);
-      gathers = reaches counts p.befores p.path n _ facts.run (omega arith) under formed.befores (λ e fits. (limited cs e facts.run fits).gather_room) columns;
-      scatters = reaches counts p.afters p.path n _ facts.run (omega arith) under formed.afters (λ e fits. (limited cs e facts.run fits).scatter_room) rows;
+      gathers = reaches counts p.befores p.path n _ facts.run (omega arith) under formed.befores (subst (λ m. AreClosed m p.befores) (sym shape.size) closed.befores) (λ e fits. (limited cs e facts.run fits).gather_room) columns;
+      scatters = reaches counts p.afters p.path n _ facts.run (omega arith) under formed.afters (subst (λ m. AreClosed m p.afters) (sym shape.size) closed.afters) (λ e fits. (limited cs e facts.run fits).scatter_room) rows;
       multiplies = λ d is.
           let f = formed.multiplies d is in
           let size = shape.multiplies d is in
           let part : d.rows * d.cols ≤ c.size = part-le (copies_of d.path) (d.rows * d.cols) c.size (sym (size_under-copies d.path (d.rows * d.cols)) ∙ size) low in (
             has_room d.path (d.rows * d.cols) (omega (arith, size)) (omega (arith, size)),
             omega arith,
-            reaches counts (diagonal_places d) p.path n _ facts.run (omega arith) under (formed-append d.places _ f.0 f.1) (λ e fits. (limited cs e facts.run fits).multiply_room d is) rows,
+            reaches counts (diagonal_places d) p.path n _ facts.run (omega arith) under (formed-append d.places _ f.0 f.1) (subst (λ m. AreClosed m (diagonal_places d)) (sym shape.size) (closed.multiplies d is)) (λ e fits. (limited cs e facts.run fits).multiply_room d is) rows,
           );
     }
 
@@ -238,9 +273,9 @@ abbrev AreReachable : Request → List PlainPass → Type 0
 AreReachable c [] = Unit {0}
 AreReachable c (p ∷ ps) = IsReachable c p × AreReachable c ps
 
-all_reachable : (c : Request) (ps : List PlainPass) → IsValid c → IsTrue (is_plain c) → AreShaped c ps → AreFormedPasses ps → AllLimited c ps → AreReachable c ps
-all_reachable c [] valid plain s f l = tt
-all_reachable c (p ∷ ps) valid plain s f l = (reachable c p valid plain s.0 f.0 l.0, all_reachable c ps valid plain s.1 f.1 l.1)
+all_reachable : (c : Request) (ps : List PlainPass) → IsValid c → IsTrue (is_plain c) → AreShaped c ps → AreFormedPasses ps → AreClosedPasses c ps → AllLimited c ps → AreReachable c ps
+all_reachable c [] valid plain s f k l = tt
+all_reachable c (p ∷ ps) valid plain s f k l = (reachable c p valid plain s.0 f.0 k.0 l.0, all_reachable c ps valid plain s.1 f.1 k.1 l.1)
 
 all-passes : (c : Request) (ps : List Pass) → AreReachable c (map plain_pass ps) → All (λ p. IsReachable c (plain_pass p)) ps
 all-passes c [] h = All-nil (λ p. IsReachable c (plain_pass p))
@@ -251,7 +286,7 @@ reachable_passes c t ps valid plain h e =
     let limits : AllLimited c (tree_passes c [] [] t) = subst (AllLimited c) (merged_of-tree c t) (places_are_limited c t valid h) in
     all-passes c ps
     (subst (AreReachable c) (sym (e ∙ merged_of-tree c t))
-    (all_reachable c (tree_passes c [] [] t) valid plain (shaped_passes c [] [] t tt h.well_formed h.size) (formed_passes c [] [] t valid h.well_formed h.size tt) limits))
+    (all_reachable c (tree_passes c [] [] t) valid plain (shaped_passes c [] [] t tt h.well_formed h.size) (formed_passes c [] [] t valid h.well_formed h.size tt) (closed_passes c [] [] t valid h.well_formed h.size tt) limits))
 
 -- the items of a list, one by one
 pub all-items : (counts : List ℕ) (fs : List Mapping) (path : Path) (n : ℕ) (es : List Affine) (is : List Sum) → map plain_sum es ≡ is → ReachesAll counts fs path n is → All (λ e. CanReach counts fs path n (plain_sum e)) es

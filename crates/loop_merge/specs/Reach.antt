@@ -1,9 +1,10 @@
 -- Where each place can be made with words of 64 bits.
 use Rattle.std.specs.Prelude.{◌≡◌, ℕ, ◌+◌, ◌*◌, ◌^◌, ◌<◌, List, [], ◌∷◌, length, slice_index, Some}
-use Rattle.index_fn.specs.Mapping.{Mapping, IsWellFormed}
+use Rattle.index_fn.specs.Mapping.{Mapping, IsDefinedAt, IsWellFormed}
 use Rattle.matrix_meaning.specs.declared.Request.{Request}
-use Rattle.perm_algebra.specs.Affine.{Sum, constant, variable, scaled, HasNoList}
-use Rattle.perm_algebra.specs.Room.{CanScale, CanJoin, IsReady}
+use Rattle.perm_algebra.specs.Affine.{Sum, constant, variable, value, scaled, simplified, HasNoList}
+use Rattle.perm_algebra.specs.Fits.{InRange, IsAffine, Stays}
+use Rattle.perm_algebra.specs.Room.{CanScale, CanJoin}
 use Rattle.sigma_lower.specs.Room.{HasRoom}
 use Rattle.loop_merge.specs.Merge.{PlainDiagonal, PlainPass}
 use Rattle.loop_merge.specs.Placed.{AllRoom, place_sum, diagonal_places}
@@ -21,21 +22,30 @@ abbrev pub AreFormed : List Mapping → Type 0
 AreFormed [] = Unit {0}
 AreFormed (f ∷ fs) = IsFormed f × AreFormed fs
 
--- every number on the way to a place of the path fits
-abbrev pub CanName : Path → ℕ → ℕ → Sum → Type 0
-CanName [] n d e = Unit {0}
-CanName (Blocks c ∷ path) n d e =
-    (d + 1 < 2 ^ 64) × HasRoom path n × CanName path n (d + 1) e
+-- each function is defined wherever the variables are below their counts
+abbrev pub AreDefined : (ℕ → ℕ) → List Mapping → Sum → Type 0
+AreDefined cs [] e = Unit {0}
+AreDefined cs (f ∷ fs) e = ((vs : ℕ → ℕ) → InRange cs vs → IsDefinedAt f (value e vs)) × AreDefined cs fs (simplified cs f e)
+
+-- with m counts, every number on the way to a place of the path fits
+abbrev pub CanName : ℕ → (ℕ → ℕ) → Path → ℕ → ℕ → Sum → Type 0
+CanName m cs [] n d e = Unit {0}
+CanName m cs (Blocks c ∷ path) n d e =
+    (d + 1 < 2 ^ 64) × (d < m) × HasRoom path n × CanName m cs path n (d + 1) e
+    × IsAffine m cs (place_sum path n (d + 1) e) × Stays cs (value (place_sum (Blocks c ∷ path) n d e))
     × CanScale (size_under path n) (variable 1 d (constant 0)) × CanJoin (scaled (size_under path n) (variable 1 d (constant 0))) (place_sum path n (d + 1) e)
-CanName (Columns c ∷ path) n d e =
-    (d + 1 < 2 ^ 64) × HasRoom path n × CanName path n (d + 1) e
+CanName m cs (Columns c ∷ path) n d e =
+    (d + 1 < 2 ^ 64) × (d < m) × HasRoom path n × CanName m cs path n (d + 1) e
+    × IsAffine m cs (place_sum path n (d + 1) e) × Stays cs (value (place_sum (Columns c ∷ path) n d e))
     × CanScale c (place_sum path n (d + 1) e) × CanJoin (scaled c (place_sum path n (d + 1) e)) (variable 1 d (constant 0))
 
 -- and to what the functions make of it
 pub record CanReach (counts : List ℕ) (fs : List Mapping) (path : Path) (n : ℕ) (e : Sum) : Type 0 where
   pub formed : AreFormed fs
-  pub named : CanName path n 0 e
-  pub ready : IsReady (length counts) (place_sum path n 0 e)
+  pub named : CanName (length counts) (slice_index counts) path n 0 e
+  pub affine : IsAffine (length counts) (slice_index counts) (place_sum path n 0 e)
+  pub fits : Stays (slice_index counts) (value (place_sum path n 0 e))
+  pub defined : AreDefined (slice_index counts) fs (place_sum path n 0 e)
   pub room : AllRoom (slice_index counts) fs (place_sum path n 0 e)
 
 abbrev pub ReachesAll : List ℕ → List Mapping → Path → ℕ → List Sum → Type 0

@@ -7,10 +7,10 @@ ghost use Rattle.loop_merge.specs.ListedLaw.{ListedPlaces};
 ghost use Rattle.loop_merge.specs.ListedViews.{plain_multiplier, plain_listed};
 ghost use Rattle.loop_merge.specs.Merge.{merged_of};
 ghost use Rattle.loop_merge.specs.Placed.{AllRoom, place_sum, all_simplified, diagonal_places};
-ghost use Rattle.loop_merge.specs.Reach.{AreFormed, CanName, CanReach, IsReachable};
+ghost use Rattle.loop_merge.specs.Reach.{AreDefined, AreFormed, CanName, CanReach, IsReachable};
 ghost use Rattle.loop_merge.specs.Views.{plain_diagonal, plain_pass};
-ghost use Rattle.perm_algebra.specs.Affine.{constant};
-ghost use Rattle.perm_algebra.specs.Room.{IsReady};
+ghost use Rattle.perm_algebra.specs.Affine.{constant, value};
+ghost use Rattle.perm_algebra.specs.Fits.{IsAffine, Stays};
 ghost use Rattle.perm_algebra.specs.Views.{plain_sum};
 ghost use Rattle.sigma_lower.specs.Room.{HasRoom};
 ghost use Rattle.sigma_lower.specs.Wrapped.{inner_of};
@@ -174,36 +174,37 @@ fn place(
     requires { CanReach counts.now (map mapping_of functions.now) path.now size (plain_sum item.now) }
     ensures { IfOk result (λ place. plain_sum place ≡ all_simplified (slice_index counts.now) (map mapping_of functions.now) (place_sum path.now size 0 (plain_sum item.now))) }
 {
-    let natural = natural_place(alloc, path, size, 0, copy(alloc, item)?)?;
+    let natural = natural_place(alloc, counts, path, size, 0, copy(alloc, item)?)?;
     simplify_all(alloc, functions, counts, natural)
 }
 
 // The place of an item in the copy that the variables from this one on name.
 fn natural_place(
     alloc: Global,
+    counts: &[u64],
     path: &[Tensor],
     size: u64,
     variable: u64,
     item: Affine,
 ) -> Result<Affine, NoMemory>
-    requires { CanName path.now size variable (plain_sum item) }
+    requires { CanName (length counts.now) (slice_index counts.now) path.now size variable (plain_sum item) }
     ensures { IfOk result (λ place. plain_sum place ≡ place_sum path.now size variable (plain_sum item)) }
 {
     match path.split_first() {
         None => Ok(item),
         Some((tensor, rest)) => {
-            let inner = natural_place(alloc, rest, size, variable + 1, item)?;
+            let inner = natural_place(alloc, counts, rest, size, variable + 1, item)?;
             let end = Box::new(alloc, Affine::Constant(0))?;
             let copies = Affine::Variable(1, variable, end);
             match tensor {
                 Tensor::Blocks(_) => {
                     let whole = size_of_whole(rest, size);
-                    let begin = scale_sum(alloc, whole, copies)?;
-                    join(alloc, begin, inner)
+                    let begin = scale_sum(alloc, counts, whole, copies)?;
+                    join(alloc, counts, begin, inner)
                 }
                 Tensor::Columns(count) => {
-                    let begin = scale_sum(alloc, *count, inner)?;
-                    join(alloc, begin, copies)
+                    let begin = scale_sum(alloc, counts, *count, inner)?;
+                    join(alloc, counts, begin, copies)
                 }
             }
         }
@@ -218,7 +219,9 @@ fn simplify_all(
     sum: Affine,
 ) -> Result<Affine, NoMemory>
     requires formed { AreFormed (map mapping_of functions.now) }
-    requires ready { IsReady (length counts.now) (plain_sum sum) }
+    requires affine { IsAffine (length counts.now) (slice_index counts.now) (plain_sum sum) }
+    requires fits { Stays (slice_index counts.now) (value (plain_sum sum)) }
+    requires defined { AreDefined (slice_index counts.now) (map mapping_of functions.now) (plain_sum sum) }
     requires room { AllRoom (slice_index counts.now) (map mapping_of functions.now) (plain_sum sum) }
     ensures { IfOk result (λ place. plain_sum place ≡ all_simplified (slice_index counts.now) (map mapping_of functions.now) (plain_sum sum)) }
 {
