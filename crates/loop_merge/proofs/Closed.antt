@@ -1,5 +1,5 @@
 -- The functions of a tree's passes take the places of the whole to places of it, and every number on the way fits 64 bits.
-use Rattle.std.proofs.Common.{◌≡◌, ℕ, ◌+◌, ◌*◌, ◌/◌, ◌%◌, ◌^◌, ◌<◌, ◌≤◌, Bool, true, false, arith, List, [], ◌∷◌, ◌++◌, if◌then◌else◌, subst, ◌∙◌, sym, mod-lt, div-lt_iff_lt-mul, mul-le-mul_left, le-mul_of_pos_right}
+use Rattle.std.proofs.Common.{◌≡◌, ℕ, ◌*◌, ◌/◌, ◌%◌, ◌<◌, ◌≤◌, Bool, true, false, arith, List, [], ◌∷◌, ◌++◌, if◌then◌else◌, subst, ◌∙◌, mod-lt, div-lt_iff_lt-mul, mul-le-mul_left, le-mul_of_pos_right}
 use Rattle.std.specs.Prelude.{Some}
 use Rattle.std.proofs.Math.Nat.{div-add-mod'}
 use Rattle.std.proofs.lemmas.Nat.{mul-le, mul-lt}

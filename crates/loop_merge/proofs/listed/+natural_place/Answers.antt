@@ -1,4 +1,4 @@
-use Rattle.std.proofs.Common.{◌≡◌, ◌+◌, ◌*◌, arith, ap, ap₂, ◌∙◌, slice_index}
+use Rattle.std.proofs.Common.{◌≡◌, ◌+◌, ◌*◌, arith, ap, ap₂, ◌∙◌}
 use Rattle.perm_algebra.specs.Affine.{value}
 use Rattle.perm_algebra.specs.Views.{plain_sum}
 use Rattle.loop_merge.specs.Placed.{place_sum}
