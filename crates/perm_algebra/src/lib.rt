@@ -15,11 +15,10 @@ ghost use Rattle.perm_algebra.specs.ShapeLaw.{ShapeKept};
 ghost use Rattle.perm_algebra.specs.Views.{plain_sum};
 
 use crate::parts::{Parts, divide, reduce};
-use crate::sums::{join, scale_sum};
 use index_fn::Index;
 use memory::NoMemory;
 use std::alloc::Global;
-pub use sums::copy;
+pub use sums::{copy, join, scale_sum};
 
 /// A sum of a constant and of multiples of variables, remainders and quotients. Each part has its factor, and then the
 /// rest of the sum; the constant ends it. A variable is a number: what it runs below is the count at that number.

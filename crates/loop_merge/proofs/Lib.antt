@@ -1,0 +1,16 @@
+pub mod TreePasses
+pub mod PassLaws
+pub mod MergeMeaning
+pub mod Lasts
+pub mod PlaceSums
+pub mod PlaceLimits
+pub mod PlaceValues
+pub mod PlaceRoom
+pub mod RuleRoom
+pub mod InnerPlaces
+pub mod Shaped
+pub mod Closed
+pub mod Reaching
+pub mod ListedPlaces
+pub mod PassesStore
+pub mod Worked

@@ -1,0 +1,186 @@
+-- The sums of a pass have the values of its places.
+use Rattle.std.proofs.Common.{◌≡◌, ℕ, zero, suc, ◌+◌, ◌*◌, ◌<◌, Bool, true, false, arith, refl, ap, ap₂, ◌∙◌, List, [], ◌∷◌, ◌++◌, if◌then◌else◌, zero-mul, mul-zero, inl, inr, subst, eq-zero-or-pos}
+use Rattle.std.specs.Prelude.{Some}
+use Rattle.index_fn.specs.Mapping.{Mapping, Strided, ThomasIn, ThomasBack, at}
+use Rattle.matrix_meaning.specs.declared.Request.{Request}
+use Rattle.matrix_meaning.specs.Valid.{IsValid}
+use Rattle.perm_algebra.specs.Affine.{Sum, constant, variable, value, IsSound, scaled, simplified, AreBelowCounts}
+use Rattle.perm_algebra.proofs.AffineLaws.{value-scaled, value-joined}
+use Rattle.perm_algebra.proofs.Values.{simplifies, sound-scaled, sound-joined}
+use Rattle.loop_merge.specs.Merge.{PlainDiagonal, PlainPass, through, new_pass, scattered, multiplied, at_last}
+use Rattle.loop_merge.specs.Placed.{place_sum, all_simplified, loop_values, ArePlacesValues, AreValuesOf, PlacesAreValues}
+use Rattle.loop_merge.proofs.MergeMeaning.{IsRule, is_rule, coprime_of}
+use Rattle.loop_merge.specs.Reach.{IsFormed, AreFormed}
+use Rattle.loop_merge.proofs.PlaceLimits.{none_is_some, multiplied-is}
+use Rattle.loop_merge.proofs.TreePasses.{rule_waiting, rule_passes, tree_passes, merged_of-tree}
+use Rattle.ring_mod.proofs.Inverses.{AreInverses, inverse_of_s, inverse_of_r, inverses_of}
+use Rattle.sigma_lower.specs.Wrapped.{wrapped, inner_of, unit_of}
+use Rattle.sigma_lower.proofs.Lowering.{units_of}
+use Rattle.tensor_paths.specs.declared.Tensor.TheVariants.{Blocks, Columns}
+use Rattle.tensor_paths.specs.Path.{Path, size_under, place}
+use Rattle.tensor_paths.proofs.Under.{size_under-push}
+use Rattle.tree_model.specs.declared.tree.Rule.{Rule}
+use Rattle.tree_model.specs.declared.tree.Rule.TheVariants.{Gt, Ct, Split}
+use Rattle.tree_model.specs.Breakdown.{Breakdown, leaf, node, size_of, IsWellFormed as IsWellFormedTree}
+use Rattle.tree_model.specs.Cost.{is_kernel}
+
+-- ---- one pass
+
+pub formed-append : (fs : List Mapping) (f : Mapping) → AreFormed fs → IsFormed f → AreFormed (fs ++ f ∷ [])
+formed-append [] f h g = (g, tt)
+formed-append (e ∷ fs) f h g = (h.0, formed-append fs f h.1 g)
+
+value-all : (cs vs : ℕ → ℕ) (fs : List Mapping) (e : Sum) → AreFormed fs → AreBelowCounts vs cs → IsSound e → value (all_simplified cs fs e) vs ≡ through fs (value e vs)
+value-all cs vs [] e h range sound = refl
+value-all cs vs (f ∷ fs) e h range sound =
+    let one = simplifies cs vs f e h.0.formed h.0.no_list sound range in
+    value-all cs vs fs (simplified cs f e) h.1 range one.sound ∙ ap (through fs) one.value_is
+
+pub sound-place_sum : (path : Path) (n d : ℕ) (e : Sum) → IsSound e → IsSound (place_sum path n d e)
+sound-place_sum [] n d e h = h
+sound-place_sum (Blocks c ∷ path) n d e h = sound-joined (scaled (size_under path n) (variable 1 d (constant 0))) (place_sum path n (d + 1) e) tt (sound-place_sum path n (d + 1) e h)
+sound-place_sum (Columns c ∷ path) n d e h = sound-joined (scaled c (place_sum path n (d + 1) e)) (variable 1 d (constant 0)) (sound-scaled c (place_sum path n (d + 1) e) (sound-place_sum path n (d + 1) e h)) tt
+
+value-place_sum : (path : Path) (n d : ℕ) (e : Sum) (vs : ℕ → ℕ) → value (place_sum path n d e) vs ≡ place path n (loop_values path d vs) (value e vs)
+value-place_sum [] n d e vs = refl
+value-place_sum (Blocks c ∷ path) n d e vs =
+    let size = size_under path n in
+    value-joined (scaled size (variable 1 d (constant 0))) (place_sum path n (d + 1) e) vs
+    ∙ ap₂ (λ x y. x + y) (value-scaled size (variable 1 d (constant 0)) vs) (value-place_sum path n (d + 1) e vs)
+    ∙ ap (λ x. x + place path n (loop_values path (d + 1) vs) (value e vs)) (omega arith)
+value-place_sum (Columns c ∷ path) n d e vs =
+    value-joined (scaled c (place_sum path n (d + 1) e)) (variable 1 d (constant 0)) vs
+    ∙ ap (λ x. x + (1 * vs d + 0)) (value-scaled c (place_sum path n (d + 1) e) vs ∙ ap (λ y. c * y) (value-place_sum path n (d + 1) e vs))
+    ∙ omega arith
+
+pub value-at_place : (cs vs : ℕ → ℕ) (path : Path) (n : ℕ) (fs : List Mapping) (e : Sum) → AreFormed fs → AreBelowCounts vs cs → IsSound e →
+    value (all_simplified cs fs (place_sum path n 0 e)) vs ≡ through fs (place path n (loop_values path 0 vs) (value e vs))
+value-at_place cs vs path n fs e h range sound =
+    value-all cs vs fs (place_sum path n 0 e) h range (sound-place_sum path n 0 e sound) ∙ ap (through fs) (value-place_sum path n 0 e vs)
+
+pub through-end : (fs : List Mapping) (f : Mapping) (i : ℕ) → through (fs ++ f ∷ []) i ≡ at f (through fs i)
+through-end [] f i = refl
+through-end (g ∷ fs) f i = through-end fs f (at g i)
+
+pub record IsFormedPass (p : PlainPass) : Type 0 where
+  pub befores : AreFormed p.befores
+  pub afters : AreFormed p.afters
+  pub multiplies : (d : PlainDiagonal) → p.diagonal ≡ Some d → AreFormed d.places × IsFormed (inner_of d.path (d.rows * d.cols))
+
+values-of : (p : PlainPass) → IsFormedPass p → (cs vs : ℕ → ℕ) (e : Sum) → AreBelowCounts vs cs → IsSound e → ArePlacesValues p cs vs e
+values-of p h cs vs e range sound =
+    record {
+      gathers = value-at_place cs vs p.path (size_of p.tree) p.befores e h.befores range sound;
+      scatters = value-at_place cs vs p.path (size_of p.tree) p.afters e h.afters range sound;
+      multiplies = λ d is.
+          let m = h.multiplies d is in
+          value-at_place cs vs p.path (size_of p.tree) (d.places ++ inner_of d.path (d.rows * d.cols) ∷ []) e (formed-append d.places _ m.0 m.1) range sound
+          ∙ through-end d.places (inner_of d.path (d.rows * d.cols)) _;
+    }
+
+-- ---- the functions under tensors are formed
+
+left_positive : (a b : ℕ) → 0 < a * b → 0 < a
+left_positive zero b h = absurd (let none : 0 * b ≡ 0 = zero-mul b in omega arith)
+left_positive (suc a) b h = omega arith
+
+right_positive : (a b : ℕ) → 0 < a * b → 0 < b
+right_positive a b h = elim (eq-zero-or-pos b) [ inl none ↦ absurd (let gone : a * b ≡ 0 = ap (λ x. a * x) none ∙ mul-zero a in omega arith) | inr positive ↦ positive ]
+
+wrapped-formed : (path : Path) (n : ℕ) (f : Mapping) → 0 < size_under path n → IsFormed f → IsFormed (wrapped path n f)
+wrapped-formed [] n f positive h = h
+wrapped-formed (Blocks c ∷ path) n f positive h =
+    let size : 0 < size_under path n = right_positive c (size_under path n) positive in
+    let inner = wrapped-formed path n f size h in record { formed = (omega (arith, size), tt, inner.formed); no_list = (tt, inner.no_list) }
+wrapped-formed (Columns c ∷ path) n f positive h =
+    let count : 0 < c = right_positive (size_under path n) c positive in
+    let inner = wrapped-formed path n f (left_positive (size_under path n) c positive) h in record { formed = (omega (arith, count), inner.formed, tt); no_list = (inner.no_list, tt) }
+
+inner-formed : (path : Path) (n : ℕ) → 0 < size_under path n → IsFormed (inner_of path n)
+inner-formed [] n positive = record { formed = tt; no_list = tt }
+inner-formed (Blocks c ∷ path) n positive =
+    let size : 0 < size_under path n = right_positive c (size_under path n) positive in
+    let inner = inner-formed path n size in record { formed = (omega (arith, size), tt, inner.formed); no_list = (tt, inner.no_list) }
+inner-formed (Columns c ∷ path) n positive =
+    let count : 0 < c = right_positive (size_under path n) c positive in
+    let inner = inner-formed path n (left_positive (size_under path n) c positive) in record { formed = (omega (arith, count), inner.formed, tt); no_list = (inner.no_list, tt) }
+
+whole_positive : (c : Request) (rule : Rule) (path : Path) (r s : ℕ) → IsValid c → IsRule c rule path r s → 0 < size_under path (r * s)
+whole_positive c rule path r s valid h = omega (arith, h.size, valid.in_range.size.0)
+
+waiting_formed : (c : Request) (rule : Rule) (path : Path) (r s : ℕ) (waiting : List Mapping) → IsValid c → IsRule c rule path r s → AreFormed waiting → AreFormed (rule_waiting rule path r s waiting)
+waiting_formed c Gt path r s waiting valid h w =
+    (wrapped-formed path (r * s) (ThomasIn r s) (whole_positive c Gt path r s valid h) (record { formed = (omega (arith, h.left), omega (arith, h.right), omega (arith, h.small)); no_list = tt }), w)
+waiting_formed c Ct path r s waiting valid h w =
+    (wrapped-formed path (r * s) (Strided r s) (whole_positive c Ct path r s valid h) (record { formed = (omega (arith, h.left), omega (arith, h.right), omega (arith, h.small)); no_list = tt }), w)
+waiting_formed c Split path r s waiting valid h w = w
+
+back_formed : (c : Request) (path : Path) (r s : ℕ) → IsValid c → IsRule c Gt path r s → IsFormed (wrapped path (r * s) (ThomasBack r s (unit_of r s) (unit_of s r)))
+back_formed c path r s valid h = wrapped-formed path (r * s) (ThomasBack r s (unit_of r s) (unit_of s r)) (whole_positive c Gt path r s valid h) (from_inverses (inverses_of r s h.left (coprime_of c path r s h).gcd))
+  where
+    from_inverses : (u : ℕ) × (v : ℕ) × AreInverses r s u v → IsFormed (ThomasBack r s (unit_of r s) (unit_of s r))
+    from_inverses (u, v, both) =
+        record {
+          formed = (omega (arith, h.left), omega (arith, h.right), omega (arith, h.small), units_of r s u h.left h.right (inverse_of_s r s u v both), units_of s r v h.right h.left (inverse_of_r r s u v both));
+          no_list = tt;
+        }
+
+-- ---- all passes of a tree
+
+abbrev pub AreFormedPasses : List PlainPass → Type 0
+AreFormedPasses [] = Unit {0}
+AreFormedPasses (p ∷ ps) = IsFormedPass p × AreFormedPasses ps
+
+passes-append : (ps qs : List PlainPass) → AreFormedPasses ps → AreFormedPasses qs → AreFormedPasses (ps ++ qs)
+passes-append [] qs h k = k
+passes-append (p ∷ ps) qs h k = (h.0, passes-append ps qs h.1 k)
+
+passes-last : (f : PlainPass → PlainPass) (ps : List PlainPass) → ((p : PlainPass) → IsFormedPass p → IsFormedPass (f p)) → AreFormedPasses ps → AreFormedPasses (at_last f ps)
+passes-last f [] step h = tt
+passes-last f (p ∷ []) step h = (step p h.0, tt)
+passes-last f (p ∷ q ∷ ps) step h = (h.0, passes-last f (q ∷ ps) step h.1)
+
+scattered-formed : (f : Mapping) (p : PlainPass) → IsFormed f → IsFormedPass p → IsFormedPass (scattered f p)
+scattered-formed f p h k = record { befores = k.befores; afters = formed-append p.afters f k.afters h; multiplies = k.multiplies }
+
+multiplied-formed : (path : Path) (r s : ℕ) (p : PlainPass) → 0 < size_under path (r * s) → IsFormedPass p → IsFormedPass (multiplied path r s p)
+multiplied-formed path r s p positive k =
+    record {
+      befores = k.befores;
+      afters = k.afters;
+      multiplies = λ d e. subst (λ (z : PlainDiagonal). AreFormed z.places × IsFormed (inner_of z.path (z.rows * z.cols))) (multiplied-is path r s p.afters d e) (k.afters, inner-formed path (r * s) positive);
+    }
+
+passes_rule : (c : Request) (rule : Rule) (path : Path) (r s : ℕ) (left right : List PlainPass) → IsValid c → IsRule c rule path r s → AreFormedPasses left → AreFormedPasses right →
+    AreFormedPasses (rule_passes rule path r s left right)
+passes_rule c Gt path r s left right valid h l k =
+    passes-append right _ k (passes-last _ left (λ p q. scattered-formed (wrapped path (r * s) (ThomasBack r s (unit_of r s) (unit_of s r))) p (back_formed c path r s valid h) q) l)
+passes_rule c Ct path r s left right valid h l k =
+    passes-append _ left (passes-last (multiplied path r s) right (λ p q. multiplied-formed path r s p (whole_positive c Ct path r s valid h) q) k) l
+passes_rule c Split path r s left right valid h l k = passes-append right left k l
+
+passes_pick : (b : Bool) (ps qs : List PlainPass) → AreFormedPasses ps → AreFormedPasses qs → AreFormedPasses (if b then ps else qs)
+passes_pick true ps qs h k = h
+passes_pick false ps qs h k = k
+
+new-formed : (path : Path) (waiting : List Mapping) (t : Breakdown) → AreFormed waiting → IsFormedPass (new_pass path t waiting)
+new-formed path waiting t h = record { befores = h; afters = tt; multiplies = λ d e. absurd (none_is_some d e) }
+
+pub formed_passes : (c : Request) (path : Path) (waiting : List Mapping) (t : Breakdown) → IsValid c → IsWellFormedTree c.kind t → size_under path (size_of t) ≡ c.size → AreFormed waiting →
+    AreFormedPasses (tree_passes c path waiting t)
+formed_passes c path waiting (leaf d) valid h e w = (new-formed path waiting (leaf d) w, tt)
+formed_passes c path waiting (node rule a b) valid h e w =
+    let r = size_of a in
+    let s = size_of b in
+    let here : IsRule c rule path r s = is_rule c rule path a b valid h e in
+    passes_pick (is_kernel c (r * s)) _ _ (new-formed path waiting (node rule a b) w, tt)
+    (passes_rule c rule path r s _ _ valid here
+    (formed_passes c (path ++ Columns s ∷ []) [] a valid h.1 (size_under-push path (Columns s) r ∙ e) tt)
+    (formed_passes c (path ++ Blocks r ∷ []) (rule_waiting rule path r s waiting) b valid h.2 (size_under-push path (Blocks r) s ∙ e) (waiting_formed c rule path r s waiting valid here w)))
+
+values-all : (ps : List PlainPass) → AreFormedPasses ps → AreValuesOf ps
+values-all [] h = tt
+values-all (p ∷ ps) h = (values-of p h.0, values-all ps h.1)
+
+pub places_are_values : PlacesAreValues
+places_are_values c t valid h = rw (merged_of-tree c t) (values-all (tree_passes c [] [] t) (formed_passes c [] [] t valid h.well_formed h.size tt))

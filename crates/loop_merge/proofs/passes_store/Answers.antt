@@ -1,0 +1,5 @@
+use Rattle.loop_merge.proofs.PassesStore as laws
+use Rattle.loop_merge.proofs.passes_store.Goals as goal
+
+pub returns : goal.returns
+returns c = laws.passes_store

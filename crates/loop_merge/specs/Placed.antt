@@ -1,0 +1,93 @@
+-- The places of passes as sums of the loops' variables.
+use Rattle.std.specs.Prelude.{◌≡◌, ℕ, ◌+◌, ◌*◌, ◌<◌, ◌≤◌, List, [], ◌∷◌, ◌++◌, Some}
+use Rattle.index_fn.specs.Mapping.{Mapping, at}
+use Rattle.matrix_meaning.specs.declared.Request.{Request}
+use Rattle.matrix_meaning.specs.Valid.{IsValid}
+use Rattle.perm_algebra.specs.Affine.{Fits, Sum, constant, variable, value, IsSound, AreBelowCounts, levels, parts, scaled, joined, simplified}
+use Rattle.perm_algebra.specs.Room.{HasRoomFor}
+use Rattle.sigma_lower.specs.Wrapped.{inner_of}
+use Rattle.loop_merge.specs.Merge.{PlainDiagonal, PlainPass, through, gather_place, scatter_place, merged_of}
+use Rattle.tensor_paths.specs.declared.Tensor.TheVariants.{Blocks, Columns}
+use Rattle.tensor_paths.specs.Path.{Path, size_under, place}
+use Rattle.tree_model.specs.Admissible.{IsAdmissible}
+use Rattle.tree_model.specs.Breakdown.{Breakdown, size_of}
+
+-- the place of e in the copy that the variables from d on name
+abbrev pub place_sum : Path → ℕ → ℕ → Sum → Sum
+place_sum [] n d e = e
+place_sum (Blocks c ∷ path) n d e = joined (scaled (size_under path n) (variable 1 d (constant 0))) (place_sum path n (d + 1) e)
+place_sum (Columns c ∷ path) n d e = joined (scaled c (place_sum path n (d + 1) e)) (variable 1 d (constant 0))
+
+-- the variables from d on run below the path's factors, each at least 2, and no size is 0
+abbrev pub AreCounts : Path → ℕ → ℕ → (ℕ → ℕ) → Type 0
+AreCounts [] n d cs = 0 < n
+AreCounts (Blocks c ∷ path) n d cs = (cs d ≡ c) × (2 ≤ c) × AreCounts path n (d + 1) cs
+AreCounts (Columns c ∷ path) n d cs = (cs d ≡ c) × (2 ≤ c) × AreCounts path n (d + 1) cs
+
+-- one function after the other, at a sum
+abbrev pub all_simplified : (ℕ → ℕ) → List Mapping → Sum → Sum
+all_simplified cs [] e = e
+all_simplified cs (f ∷ fs) e = all_simplified cs fs (simplified cs f e)
+
+-- every number on the way fits 64 bits
+abbrev pub AllRoom : (ℕ → ℕ) → List Mapping → Sum → Type 0
+AllRoom cs [] e = Unit {0}
+AllRoom cs (f ∷ fs) e = HasRoomFor cs f e × AllRoom cs fs (simplified cs f e)
+
+-- the places of the item that e names in its copy: where it is loaded from, and where it is stored
+abbrev pub gather_sum : (ℕ → ℕ) → PlainPass → Sum → Sum
+gather_sum cs p e = all_simplified cs p.befores (place_sum p.path (size_of p.tree) 0 e)
+
+abbrev pub scatter_sum : (ℕ → ℕ) → PlainPass → Sum → Sum
+scatter_sum cs p e = all_simplified cs p.afters (place_sum p.path (size_of p.tree) 0 e)
+
+-- the place of that item in its ct's diagonal
+abbrev pub diagonal_places : PlainDiagonal → List Mapping
+diagonal_places d = d.places ++ inner_of d.path (d.rows * d.cols) ∷ []
+
+abbrev pub diagonal_sum : (ℕ → ℕ) → PlainPass → PlainDiagonal → Sum → Sum
+diagonal_sum cs p d e = all_simplified cs (diagonal_places d) (place_sum p.path (size_of p.tree) 0 e)
+
+-- what a place may be, for a list of so many items: below its size, with no quotient, and not too deep or long
+pub record IsWithinLimits (cs : ℕ → ℕ) (size : ℕ) (e g : Sum) : Type 0 where
+  pub fits : Fits size g cs
+  pub levels : levels g ≤ levels e + 16
+  pub parts : parts g ≤ parts e + 32
+
+-- the places of a pass are within the limits
+pub record ArePlacesLimited (c : Request) (p : PlainPass) (cs : ℕ → ℕ) (e : Sum) : Type 0 where
+  pub gathers : IsWithinLimits cs c.size e (gather_sum cs p e)
+  pub scatters : IsWithinLimits cs c.size e (scatter_sum cs p e)
+  pub gather_room : AllRoom cs p.befores (place_sum p.path (size_of p.tree) 0 e)
+  pub scatter_room : AllRoom cs p.afters (place_sum p.path (size_of p.tree) 0 e)
+  pub multiplies : (d : PlainDiagonal) → p.diagonal ≡ Some d → IsWithinLimits cs (d.rows * d.cols) e (diagonal_sum cs p d e)
+  pub multiply_room : (d : PlainDiagonal) → p.diagonal ≡ Some d → AllRoom cs (diagonal_places d) (place_sum p.path (size_of p.tree) 0 e)
+
+abbrev pub IsLimitedPass : Request → PlainPass → Type 0
+IsLimitedPass c p = (cs : ℕ → ℕ) (e : Sum) → AreCounts p.path (size_of p.tree) 0 cs → Fits (size_of p.tree) e cs → ArePlacesLimited c p cs e
+
+abbrev pub AllLimited : Request → List PlainPass → Type 0
+AllLimited c [] = Unit {0}
+AllLimited c (p ∷ ps) = IsLimitedPass c p × AllLimited c ps
+
+abbrev pub PlacesAreLimited : Type 0
+PlacesAreLimited = (c : Request) (t : Breakdown) → IsValid c → IsAdmissible c t → AllLimited c (merged_of c t)
+
+-- the values of the path's loops, where the loop d has the value vs d
+abbrev pub loop_values : Path → ℕ → (ℕ → ℕ) → List ℕ
+loop_values [] d vs = []
+loop_values (t ∷ path) d vs = vs d ∷ loop_values path (d + 1) vs
+
+-- the sums have the values of the pass's places
+pub record ArePlacesValues (p : PlainPass) (cs vs : ℕ → ℕ) (e : Sum) : Type 0 where
+  pub gathers : value (gather_sum cs p e) vs ≡ gather_place p (loop_values p.path 0 vs) (value e vs)
+  pub scatters : value (scatter_sum cs p e) vs ≡ scatter_place p (loop_values p.path 0 vs) (value e vs)
+  pub multiplies : (d : PlainDiagonal) → p.diagonal ≡ Some d →
+      value (diagonal_sum cs p d e) vs ≡ at (inner_of d.path (d.rows * d.cols)) (through d.places (place p.path (size_of p.tree) (loop_values p.path 0 vs) (value e vs)))
+
+abbrev pub AreValuesOf : List PlainPass → Type 0
+AreValuesOf [] = Unit {0}
+AreValuesOf (p ∷ ps) = ((cs vs : ℕ → ℕ) (e : Sum) → AreBelowCounts vs cs → IsSound e → ArePlacesValues p cs vs e) × AreValuesOf ps
+
+abbrev pub PlacesAreValues : Type 0
+PlacesAreValues = (c : Request) (t : Breakdown) → IsValid c → IsAdmissible c t → AreValuesOf (merged_of c t)

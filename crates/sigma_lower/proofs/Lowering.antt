@@ -1,0 +1,195 @@
+-- Each term does what its step does.
+use Rattle.std.proofs.Common.{◌≡◌, ◌≢◌, ℕ, zero, suc, ◌*◌, ◌%◌, ◌<◌, ◌≤◌, Bool, true, false, arith, refl, sym, ap, ◌∙◌, List, [], ◌∷◌, ◌++◌, inl, inr, mod-lt, if◌then◌else◌, zero-mul, subst, mul_comm}
+use Rattle.std.specs.Prelude.{slice_index, map}
+use Rattle.std.specs.Int.{IsGcd}
+use Rattle.std.proofs.Math.Nat.{suc-mul, zero-mod, mod-eq_of_lt}
+use Rattle.std.proofs.lemmas.Bool.{cases_eq}
+use Rattle.std.proofs.lemmas.Bool.Decides.{nat_tests}
+use Rattle.std.proofs.lemmas.List.FromFn.{fill_by_all}
+use Rattle.std.proofs.lemmas.Nat.{mul-lt, mul-mod_second}
+use Rattle.index_fn.specs.Mapping.{Strided, ThomasIn, ThomasOut, ThomasBack, at, IsUnit}
+use Rattle.index_fn.proofs.Thomas.{thomas_out_undoes, unit_found}
+use Rattle.matrix_meaning.specs.declared.Kind.{Kind}
+use Rattle.matrix_meaning.specs.declared.Kind.TheVariants.{Dft, Wht}
+use Rattle.matrix_meaning.specs.declared.Request.{Request}
+use Rattle.matrix_meaning.specs.Kind.{transform, entry_of}
+use Rattle.operators.specs.Loop.{scatter, IsPermutationBelow}
+use Rattle.operators.specs.Operator.{gather, scale}
+use Rattle.operators.proofs.Lists.{at-list_below, list_below-same, length-list_below, place_below}
+use Rattle.operators.proofs.Places.{stride_below}
+use Rattle.operators.proofs.Scatters.{gather_as_scatter}
+use Rattle.operators.proofs.Sums.{sum_below-same}
+use Rattle.ring_mod.proofs.Inverses.{AreInverses, inverse_of_s, inverse_of_r, inverses_of}
+use Rattle.matrix_meaning.specs.Valid.{IsValid}
+use Rattle.steps.specs.Meaning.{transform_of, core_size, core_on, step_on, all_on}
+use Rattle.steps.specs.Step.{PlainCore, piece, turns, twiddles, thomas_in, thomas_out, PlainStep, rule_steps, steps_of}
+use Rattle.tensor_paths.specs.declared.Tensor.TheVariants.{Blocks, Columns}
+use Rattle.tensor_paths.specs.Loop.{loop_on}
+use Rattle.tensor_paths.specs.Path.{Path, size_under, copies_of, under, place, Reads}
+use Rattle.tensor_paths.proofs.Under.{size_under-push, size_under-copies, under-size}
+use Rattle.tensor_paths.proofs.PathLoops.{loop_is_under}
+use Rattle.tree_model.specs.declared.tree.Rule.{Rule}
+use Rattle.tree_model.specs.declared.tree.Rule.TheVariants.{Gt, Ct, Split}
+use Rattle.tree_model.specs.Breakdown.{Breakdown, leaf, node, size_of, AllowsRule, IsWellFormed}
+use Rattle.tree_model.specs.Cost.{is_kernel}
+use Rattle.sigma_lower.specs.Term.{lowered_core, lowered, term_on, terms_on, diagonal_at, LoweredTransforms}
+use Rattle.sigma_lower.specs.Wrapped.{wrapped, unit_below, unit_of}
+use Rattle.sigma_lower.proofs.Permuted.{StaysBelow, gather-under, scale-under, wrapped-permutes}
+
+-- ---- the steps of a tree are good: of the request's size, and with the factors that their permutations need
+
+pub record AreCoprime (r s : ℕ) : Type 0 where
+  pub left : 0 < r
+  pub right : 0 < s
+  pub gcd : IsGcd r s 1
+  pub small : r * s ≤ 65536
+
+abbrev pub IsGoodCore : PlainCore → Type 0
+IsGoodCore (piece t) = Unit {0}
+IsGoodCore (turns r s) = (0 < r) × (0 < s)
+IsGoodCore (twiddles r s) = Unit {0}
+IsGoodCore (thomas_in r s) = AreCoprime r s
+IsGoodCore (thomas_out r s) = AreCoprime r s
+
+pub record IsGood (c : Request) (s : PlainStep) : Type 0 where
+  pub size : size_under s.path (core_size s.core) ≡ c.size
+  pub core : IsGoodCore s.core
+
+abbrev pub AreGood : Request → List PlainStep → Type 0
+AreGood c [] = Unit {0}
+AreGood c (s ∷ ss) = IsGood c s × AreGood c ss
+
+pub good-append : (c : Request) (ss ts : List PlainStep) → AreGood c ss → AreGood c ts → AreGood c (ss ++ ts)
+good-append c [] ts h k = k
+good-append c (s ∷ ss) ts h k = (h.0, good-append c ss ts h.1 k)
+
+pub part-le : (q d n : ℕ) → q * d ≡ n → 1 ≤ n → d ≤ n
+part-le zero d n e h = absurd (let none : 0 * d ≡ 0 = zero-mul d in omega arith)
+part-le (suc q) d n e h = omega (arith, suc-mul q d)
+
+pub coprime_sizes : (kind : Kind) (r s : ℕ) → AllowsRule kind Gt r s → IsGcd r s 1
+coprime_sizes Dft r s h = h
+coprime_sizes Wht r s h = absurd h
+
+good_rule : (c : Request) (rule : Rule) (path : Path) (r s : ℕ) (left right : List PlainStep) → size_under path (r * s) ≡ c.size → 0 < r → 0 < s → (AllowsRule c.kind rule r s) → r * s ≤ 65536 →
+    AreGood c left → AreGood c right → AreGood c (rule_steps rule path r s left right)
+good_rule c Gt path r s left right e h g allowed small on_left on_right =
+    let both : AreCoprime r s = record { left = h; right = g; gcd = coprime_sizes c.kind r s allowed; small = small } in
+    (record { size = e; core = both }, good-append c right _ on_right (good-append c left _ on_left (record { size = e; core = both }, tt)))
+good_rule c Ct path r s left right e h g allowed small on_left on_right =
+    (record { size = e; core = (h, g) }, good-append c right _ on_right (record { size = e; core = tt }, on_left))
+good_rule c Split path r s left right e h g allowed small on_left on_right = good-append c right left on_right on_left
+
+good_pick : (c : Request) (b : Bool) (ss ts : List PlainStep) → AreGood c ss → AreGood c ts → AreGood c (if b then ss else ts)
+good_pick c true ss ts h k = h
+good_pick c false ss ts h k = k
+
+pub good_steps : (c : Request) (path : Path) (t : Breakdown) → IsValid c → IsWellFormed c.kind t → size_under path (size_of t) ≡ c.size → AreGood c (steps_of c path t)
+good_steps c path (leaf d) valid h e = (record { size = e; core = tt }, tt)
+good_steps c path (node rule a b) valid h e =
+    let r = size_of a in
+    let s = size_of b in
+    let low : 1 ≤ c.size = valid.in_range.size.0 in
+    let high : c.size ≤ 65536 = valid.in_range.size.1 in
+    let within : r * s ≤ c.size = part-le (copies_of path) (r * s) c.size (sym (size_under-copies path (r * s)) ∙ e) low in
+    good_pick c (is_kernel c (r * s)) _ _ (record { size = e; core = tt }, tt)
+    (good_rule c rule path r s _ _ e (omega (arith, h.0.left)) (omega (arith, h.0.right)) h.0.allowed (omega arith)
+    (good_steps c (path ++ Columns s ∷ []) a valid h.1 (size_under-push path (Columns s) r ∙ e))
+    (good_steps c (path ++ Blocks r ∷ []) b valid h.2 (size_under-push path (Blocks r) s ∙ e)))
+
+-- ---- the numbers of the inverse of a Good-Thomas step
+
+unit_from : (r s bound k : ℕ) → bound ≤ r → 1 ≤ s → k < bound → (s * k) % r ≡ 1 % r → IsUnit r s (unit_below r s bound)
+unit_from r s zero k h g below e = absurd (omega arith)
+unit_from r s (suc b) k h g below e =
+    elim (cases_eq ((s * b) % r) (1 % r)) [
+      | inl here ↦ let is : unit_below r s (suc b) ≡ s * b = grind (arith, nat_tests) in rw is (unit_found r s b (omega arith) g here)
+      | inr other ↦
+          let is : unit_below r s (suc b) ≡ unit_below r s b = grind (arith, nat_tests) in
+          let apart : k ≢ b = λ same. other (ap (λ j. (s * j) % r) (sym same) ∙ e) in rw is (unit_from r s b k (omega arith) g (omega arith) e)
+    ]
+
+pub units_of : (r s u : ℕ) → 0 < r → 0 < s → (s * u) % r ≡ 1 % r → IsUnit r s (unit_of r s)
+units_of r s u h g e = unit_from r s r (u % r) (omega arith) (omega arith) (mod-lt u h) (mul-mod_second s u r ∙ e)
+
+pub thomas_permutes : (r s : ℕ) → AreCoprime r s → IsPermutationBelow (r * s) (at (ThomasOut r s)) (at (ThomasBack r s (unit_of r s) (unit_of s r)))
+thomas_permutes r s h = from_inverses (inverses_of r s h.left h.gcd)
+  where
+    from_inverses : (u : ℕ) × (v : ℕ) × AreInverses r s u v → IsPermutationBelow (r * s) (at (ThomasOut r s)) (at (ThomasBack r s (unit_of r s) (unit_of s r)))
+    from_inverses (u, v, both) =
+        let undoes = thomas_out_undoes r s (unit_of r s) (unit_of s r) (omega (arith, h.left)) (omega (arith, h.right)) (omega (arith, h.small))
+        (units_of r s u h.left h.right (inverse_of_s r s u v both)) (units_of s r v h.right h.left (inverse_of_r r s u v both)) in
+        record {
+          there_below = λ i below. place_below (i % r) (i % s) r s (mod-lt i h.left) (mod-lt i h.right);
+          back_below = undoes.permutes.below;
+          back-there = undoes.undoes;
+          there-back = undoes.undone;
+        }
+
+-- a unit of a size that is at least 2 is not 0
+one-positive : (r e : ℕ) → 2 ≤ r → e % r ≡ 1 % r → 0 < e
+one-positive r zero h e =
+    let none : 0 % r ≡ 0 = zero-mod r in
+    let one : 1 % r ≡ 1 = mod-eq_of_lt (omega arith) in absurd (omega arith)
+one-positive r (suc e) h _ = omega arith
+
+pub unit_positive : (r s : ℕ) → AreCoprime r s → 2 ≤ r → 2 ≤ s → (0 < unit_of r s) × (0 < unit_of s r)
+unit_positive r s h two_r two_s = from_inverses (inverses_of r s h.left h.gcd)
+  where
+    from_inverses : (u : ℕ) × (v : ℕ) × AreInverses r s u v → (0 < unit_of r s) × (0 < unit_of s r)
+    from_inverses (u, v, both) =
+        let a = units_of r s u h.left h.right (inverse_of_s r s u v both) in
+        let b = units_of s r v h.right h.left (inverse_of_r r s u v both) in
+        (one-positive r (unit_of r s) two_r a.one, one-positive s (unit_of s r) two_s b.one)
+
+pub unit_small : (r s : ℕ) → AreCoprime r s → (unit_of r s < r * s) × (unit_of s r < r * s)
+unit_small r s h = from_inverses (inverses_of r s h.left h.gcd)
+  where
+    from_inverses : (u : ℕ) × (v : ℕ) × AreInverses r s u v → (unit_of r s < r * s) × (unit_of s r < r * s)
+    from_inverses (u, v, both) =
+        let a = units_of r s u h.left h.right (inverse_of_s r s u v both) in
+        let b = units_of s r v h.right h.left (inverse_of_r r s u v both) in (a.below, subst (λ n. unit_of s r < n) (mul_comm s r) b.below)
+
+-- ---- each term
+
+reads-transform : (kind : Kind) (m n w : ℕ) → Reads n (transform kind m n w)
+reads-transform kind m n w x =
+    list_below-same n _ _ (λ k row. ap (λ y. y % m) (sum_below-same n _ _ (λ l below. ap (λ y. entry_of kind m w k l * y) (at-list_below n (slice_index x) l below))))
+
+nest_on : (c : Request) (path : Path) (t : Breakdown) (x : List ℕ) → size_under path (size_of t) ≡ c.size →
+    loop_on c.size path (size_of t) (place path (size_of t)) (λ vs. transform_of c (size_of t)) (place path (size_of t)) x ≡ under path (size_of t) (transform_of c (size_of t)) x
+nest_on c path t x e =
+    let d = size_of t in
+    let a = transform_of c d in
+    ap (λ n. loop_on n path d (place path d) (λ vs. a) (place path d) x) (sym e)
+    ∙ sym (fill_by_all _ (under path d a x) (size_under path d) 0 (under-size path d a (λ y. length-list_below _ _) x)
+    (λ k below. sym (loop_is_under path d a x (reads-transform c.kind c.modulus d _) k below) ∙ at-list_below (size_under path d) _ k below))
+
+pub turns_below : (r s : ℕ) → StaysBelow (r * s) (at (Strided r s))
+turns_below r s i below = (stride_below r s i below).1
+
+lowered_core_on : (c : Request) (path : Path) (k : PlainCore) (x : List ℕ) → size_under path (core_size k) ≡ c.size → IsGoodCore k →
+    term_on c (lowered_core path k) x ≡ under path (core_size k) (core_on c k) x
+lowered_core_on c path (piece t) x e h = nest_on c path t x e
+lowered_core_on c path (turns r s) x e h =
+    ap (λ n. gather n (at (wrapped path (r * s) (Strided r s))) x) (sym e)
+    ∙ sym (gather-under path (r * s) (Strided r s) x (turns_below r s))
+lowered_core_on c path (twiddles r s) x e h =
+    ap (λ n. scale c.modulus n (diagonal_at c path r s) x) (sym e) ∙ sym (scale-under path c.modulus (r * s) _ x)
+lowered_core_on c path (thomas_in r s) x e h =
+    let positive : 0 < r * s = mul-lt 0 0 r s h.left h.right in
+    ap (λ n. gather n (at (wrapped path (r * s) (ThomasIn r s))) x) (sym e)
+    ∙ sym (gather-under path (r * s) (ThomasIn r s) x (λ i below. mod-lt _ positive))
+lowered_core_on c path (thomas_out r s) x e h =
+    let both = thomas_permutes r s h in
+    ap (λ n. scatter n n (at (wrapped path (r * s) (ThomasBack r s (unit_of r s) (unit_of s r)))) x) (sym e)
+    ∙ sym (gather_as_scatter (size_under path (r * s)) _ _ x (wrapped-permutes path (r * s) (ThomasOut r s) (ThomasBack r s (unit_of r s) (unit_of s r)) both))
+    ∙ sym (gather-under path (r * s) (ThomasOut r s) x both.there_below)
+
+pub lowered_on : (c : Request) (ss : List PlainStep) (x : List ℕ) → AreGood c ss → terms_on c (map lowered ss) x ≡ all_on c ss x
+lowered_on c [] x h = refl
+lowered_on c (s ∷ ss) x h =
+    ap (terms_on c (map lowered ss)) (lowered_core_on c s.path s.core x h.0.size h.0.core) ∙ lowered_on c ss (step_on c s x) h.1
+
+pub lowered_transforms : LoweredTransforms
+lowered_transforms c t x valid h = lowered_on c (steps_of c [] t) x (good_steps c [] t valid h.well_formed h.size)

@@ -1,0 +1,4 @@
+pub mod Equal
+pub mod Under
+pub mod PathPlaces
+pub mod PathLoops
