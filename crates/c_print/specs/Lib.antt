@@ -1,1 +1,2 @@
 pub mod CText
+pub mod CLines
