@@ -29,32 +29,32 @@ c_line_text act = c_act_text act ++ codes "\n"
 
 -- ---- shapes
 
-shape_loop : (a x b y c z d w e rest : List ℕ) → a ++ (x ++ (b ++ (y ++ (c ++ (z ++ (d ++ (w ++ (e ++ rest)))))))) ≡ (a ++ x ++ b ++ y ++ c ++ z ++ d ++ w ++ e) ++ rest
+pub shape_loop : (a x b y c z d w e rest : List ℕ) → a ++ (x ++ (b ++ (y ++ (c ++ (z ++ (d ++ (w ++ (e ++ rest)))))))) ≡ (a ++ x ++ b ++ y ++ c ++ z ++ d ++ w ++ e) ++ rest
 shape_loop a x b y c z d w e rest = simp append_assoc
 
-shape_becomes : (loop r x lane is rest : List ℕ) → loop ++ (r ++ (x ++ (lane ++ (is ++ rest)))) ≡ (loop ++ (r ++ x ++ lane) ++ is) ++ rest
+pub shape_becomes : (loop r x lane is rest : List ℕ) → loop ++ (r ++ (x ++ (lane ++ (is ++ rest)))) ≡ (loop ++ (r ++ x ++ lane) ++ is) ++ rest
 shape_becomes loop r x lane is rest = simp append_assoc
 
-shape_call : (b f r x lane comma y end rest : List ℕ) → b ++ (f ++ (r ++ (x ++ (lane ++ (comma ++ (r ++ (y ++ (lane ++ (end ++ rest))))))))) ≡ (b ++ f ++ (r ++ x ++ lane) ++ comma ++ (r ++ y ++ lane) ++ end) ++ rest
+pub shape_call : (b f r x lane comma y end rest : List ℕ) → b ++ (f ++ (r ++ (x ++ (lane ++ (comma ++ (r ++ (y ++ (lane ++ (end ++ rest))))))))) ≡ (b ++ f ++ (r ++ x ++ lane) ++ comma ++ (r ++ y ++ lane) ++ end) ++ rest
 shape_call b f r x lane comma y end rest = simp append_assoc
 
-shape_one : (b f r x lane end rest : List ℕ) → b ++ (f ++ (r ++ (x ++ (lane ++ (end ++ rest))))) ≡ (b ++ f ++ (r ++ x ++ lane) ++ end) ++ rest
+pub shape_one : (b f r x lane end rest : List ℕ) → b ++ (f ++ (r ++ (x ++ (lane ++ (end ++ rest))))) ≡ (b ++ f ++ (r ++ x ++ lane) ++ end) ++ rest
 shape_one b f r x lane end rest = simp append_assoc
 
-shape_constant : (b f r x lane comma y end rest : List ℕ) → b ++ (f ++ (r ++ (x ++ (lane ++ (comma ++ (y ++ (end ++ rest))))))) ≡ (b ++ f ++ (r ++ x ++ lane) ++ comma ++ y ++ end) ++ rest
+pub shape_constant : (b f r x lane comma y end rest : List ℕ) → b ++ (f ++ (r ++ (x ++ (lane ++ (comma ++ (y ++ (end ++ rest))))))) ≡ (b ++ f ++ (r ++ x ++ lane) ++ comma ++ y ++ end) ++ rest
 shape_constant b f r x lane comma y end rest = simp append_assoc
 
-shape_table : (b f r x lane comma t bracket e plus s end rest : List ℕ)
+pub shape_table : (b f r x lane comma t bracket e plus s end rest : List ℕ)
     → b ++ (f ++ (r ++ (x ++ (lane ++ (comma ++ (t ++ (bracket ++ (e ++ (plus ++ (s ++ (end ++ rest))))))))))) ≡ (b ++ f ++ (r ++ x ++ lane) ++ comma ++ t ++ bracket ++ e ++ plus ++ s ++ end) ++ rest
 shape_table b f r x lane comma t bracket e plus s end rest = simp append_assoc
 
-shape_load : (b a bracket e end rest : List ℕ) → b ++ ((a ++ bracket) ++ (e ++ (end ++ rest))) ≡ (b ++ a ++ bracket ++ e ++ end) ++ rest
+pub shape_load : (b a bracket e end rest : List ℕ) → b ++ ((a ++ bracket) ++ (e ++ (end ++ rest))) ≡ (b ++ a ++ bracket ++ e ++ end) ++ rest
 shape_load b a bracket e end rest = simp append_assoc
 
-shape_store : (loop a bracket e is r x lane end rest : List ℕ) → loop ++ ((a ++ bracket) ++ (e ++ (is ++ (r ++ (x ++ (lane ++ (end ++ rest))))))) ≡ (loop ++ a ++ bracket ++ e ++ is ++ (r ++ x ++ lane) ++ end) ++ rest
+pub shape_store : (loop a bracket e is r x lane end rest : List ℕ) → loop ++ ((a ++ bracket) ++ (e ++ (is ++ (r ++ (x ++ (lane ++ (end ++ rest))))))) ≡ (loop ++ a ++ bracket ++ e ++ is ++ (r ++ x ++ lane) ++ end) ++ rest
 shape_store loop a bracket e is r x lane end rest = simp append_assoc
 
-shape_tile : (loops r x k y end rest : List ℕ) → loops ++ (r ++ (x ++ (k ++ (y ++ (end ++ rest))))) ≡ (loops ++ r ++ x ++ k ++ y ++ end) ++ rest
+pub shape_tile : (loops r x k y end rest : List ℕ) → loops ++ (r ++ (x ++ (k ++ (y ++ (end ++ rest))))) ≡ (loops ++ r ++ x ++ k ++ y ++ end) ++ rest
 shape_tile loops r x k y end rest = simp append_assoc
 
 -- ---- loops and tiles

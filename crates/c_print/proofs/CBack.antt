@@ -1,0 +1,103 @@
+-- The text of a line in C is read back.
+use Rattle.std.proofs.Common.{◌≡◌, ℕ, ◌<◌, ◌≤◌, ◌^◌, Bool, true, false, eqb, ltb, leb, ◌&&◌, List, [], ◌∷◌, ◌++◌, codes, decimal, Option, Some, None, Result, Ok, Err, refl, sym, ap, ◌∙◌, append_assoc, arith, inl, inr}
+use Rattle.std.proofs.lemmas.Bool.{ltb-true, leb-true, and_parts, and_from, eq-eqb, ne_eqb}
+use Rattle.icode.specs.declared.program.Array.{Array}
+use Rattle.icode.specs.declared.program.Array.TheVariants as arrays
+use Rattle.icode.specs.Plain.{PlainExpr, PlainOp, Load, Store, Zero, Add, Sub, Neg, MulConst, MulTable, Tile}
+use Rattle.icode.specs.Limits.{is_small, is_sum_within, is_expr_within, is_op_within, sum_parts, sum_depth}
+use Rattle.grammar.specs.Grammar.{one_of}
+use Rattle.grammar.specs.Reading.{Place, start, and_then, whole, placed, word_at, number_at, named_number_at, one_of_in, one_of_at}
+use Rattle.grammar.proofs.Parts.{Anything, one_of_reader}
+use Rattle.grammar.proofs.Whole.{again}
+use Rattle.listing_text.specs.Listing.{sum_text, array_text}
+use Rattle.listing_text.specs.Reading.{above_all, sum_at}
+use Rattle.listing_text.specs.Acts.{PlainAct, Open, Close, Do}
+use Rattle.listing_text.proofs.ReadBack.{Back, then_back, FirstDigit, first_digit, goes_on, word_back, number_back, named_back, small_fits, place_back}
+use Rattle.listing_text.proofs.ActsBack.{IsActWithin}
+use Rattle.c_print.specs.declared.lines.Word.{Word}
+use Rattle.c_print.specs.declared.lines.Word.TheVariants as words
+use Rattle.c_print.specs.declared.lines.Value.{Value}
+use Rattle.c_print.specs.declared.lines.Value.TheVariants as values
+use Rattle.c_print.specs.CText.{lane_loop, tile_loops, becomes_text, c_op_text}
+use Rattle.c_print.specs.CLines.{c_words, target_words, value_words, factor_words, same_loop, c_factor_at, value_at, target_at, c_operands_at, c_act_at, c_line_at}
+use Rattle.c_print.proofs.CSpelt.{c_act_text, c_line_text, shape_loop, shape_becomes, shape_call, shape_one, shape_constant, shape_table, shape_load, shape_store, shape_tile}
+
+word_key : (w : List ℕ) (word : Word) (place : Place ℕ) (rest : List ℕ) → one_of c_words w word → place.rest ≡ w ++ rest → Back (one_of_at c_words) word place rest
+word_key w word place rest l e =
+    again Anything (one_of c_words) (one_of_at c_words)
+    (one_of_reader Anything (codes "for (uint64_t v", words.For) ((codes "for (int k = 0; k < V; k++) for (int l = 0; l < V; l++) r[", words.Tile) ∷ (codes "for (int l = 0; l < V; l++) ", words.Lanes) ∷ (codes "}", words.End) ∷ []) refl)
+    place w rest word l tt e
+
+target_key : (w : List ℕ) (target : Option Array) (place : Place ℕ) (rest : List ℕ) → one_of target_words w target → place.rest ≡ w ++ rest → Back (one_of_at target_words) target place rest
+target_key w target place rest l e =
+    again Anything (one_of target_words) (one_of_at target_words)
+    (one_of_reader Anything (codes "r[", None) ((codes "X[", Some arrays.X) ∷ (codes "Y[", Some arrays.Y) ∷ (codes "A[", Some arrays.A) ∷ (codes "B[", Some arrays.B) ∷ []) refl)
+    place w rest target l tt e
+
+value_key : (w : List ℕ) (value : Value) (place : Place ℕ) (rest : List ℕ) → one_of value_words w value → place.rest ≡ w ++ rest → Back (one_of_at value_words) value place rest
+value_key w value place rest l e =
+    again Anything (one_of value_words) (one_of_at value_words)
+    (one_of_reader Anything (codes "0;", values.Zero)
+    ((codes "add(r[", values.Add) ∷ (codes "sub(0, r[", values.Neg) ∷ (codes "sub(r[", values.Sub) ∷ (codes "mul(r[", values.Mul)
+    ∷ (codes "X[", values.Load arrays.X) ∷ (codes "Y[", values.Load arrays.Y) ∷ (codes "A[", values.Load arrays.A) ∷ (codes "B[", values.Load arrays.B) ∷ []) refl)
+    place w rest value l tt e
+
+-- a place, behind which this stands
+expr_back : (e : PlainExpr) (loops : ℕ) (w : List ℕ) → is_expr_within e loops ≡ true → loops ≤ 64 → (place : Place ℕ) (rest : List ℕ) → place.rest ≡ sum_text e ++ (codes " + " ++ rest) → Back (sum_at 64) e place (codes " + " ++ rest)
+expr_back e loops w h few place rest is =
+    let limits = and_parts (is_sum_within e loops) (leb (sum_parts e) 64 && leb (sum_depth e) 64) h in
+    let counts = and_parts (leb (sum_parts e) 64) (leb (sum_depth e) 64) limits.1 in
+    place_back e 64 loops limits.0 few (leb-true (sum_parts e) 64 counts.0) (leb-true (sum_depth e) 64 counts.1) place (codes " + " ++ rest) is refl
+
+no_table : (n : ℕ) (rest : List ℕ) (far : ℕ) → n < above_all → placed far (one_of_in factor_words (decimal n ++ rest)) ≡ Ok (false, record { rest = decimal n ++ rest; far = far })
+no_table n rest far fits =
+    let first = first_digit n fits in
+    let other : eqb 116 first.digit ≡ false = ne_eqb 116 first.digit (λ same. omega (arith, first.high, same)) in
+    rw first.whole (rw other refl)
+
+loop_back : (depth count : ℕ) → depth < above_all → count < above_all → (place : Place ℕ) (rest : List ℕ) → place.rest ≡ c_act_text (Open depth count) ++ (10 ∷ rest) → Back c_act_at (Open depth count) place (10 ∷ rest)
+unfolding c_act_at
+loop_back depth count d k place rest e =
+    let t5 : List ℕ = codes "++) {" ++ (10 ∷ rest) in
+    let t4 : List ℕ = codes "; v" ++ (decimal depth ++ t5) in
+    let t3 : List ℕ = codes " < " ++ (decimal count ++ t4) in
+    let t2 : List ℕ = codes " = 0; v" ++ (decimal depth ++ t3) in
+    let is : place.rest ≡ codes "for (uint64_t v" ++ (decimal depth ++ t2) =
+    e ∙ sym (shape_loop (codes "for (uint64_t v") (decimal depth) (codes " = 0; v") (decimal depth) (codes " < ") (decimal count) (codes "; v") (decimal depth) (codes "++) {") (10 ∷ rest)) in
+    let same : (eqb depth depth && eqb depth depth) ≡ true = and_from (eqb depth depth) (eqb depth depth) (eq-eqb depth depth refl) (eq-eqb depth depth refl) in
+    then_back (one_of_at c_words) c_operands_at words.For _ place (decimal depth ++ t2) (10 ∷ rest) (word_key (codes "for (uint64_t v") words.For place (decimal depth ++ t2) (inl (refl, refl)) is) (λ q1 e1.
+    then_back (number_at above_all) _ depth _ q1 t2 (10 ∷ rest) (number_back depth q1 t2 d refl e1) (λ q2 e2.
+    then_back (named_number_at (codes " = 0; v") above_all) _ depth _ q2 t3 (10 ∷ rest) (named_back (codes " = 0; v") depth q2 t3 d refl e2) (λ q3 e3.
+    then_back (named_number_at (codes " < ") above_all) _ count _ q3 t4 (10 ∷ rest) (named_back (codes " < ") count q3 t4 k refl e3) (λ q4 e4.
+    then_back (named_number_at (codes "; v") above_all) _ depth _ q4 t5 (10 ∷ rest) (named_back (codes "; v") depth q4 t5 d refl e4) (λ q5 e5.
+    then_back (word_at (codes "++) {")) _ tt _ q5 (10 ∷ rest) (10 ∷ rest) (word_back (codes "++) {") q5 (10 ∷ rest) e5) (λ q6 e6. (q6, rw same refl, e6)))))))
+
+end_back : (place : Place ℕ) (rest : List ℕ) → place.rest ≡ c_act_text Close ++ (10 ∷ rest) → Back c_act_at Close place (10 ∷ rest)
+unfolding c_act_at
+end_back place rest e =
+    then_back (one_of_at c_words) c_operands_at words.End _ place (10 ∷ rest) (10 ∷ rest) (word_key (codes "}") words.End place (10 ∷ rest) (inr (inr (inr (inl (refl, refl))))) e) (λ q1 e1. (q1, refl, e1))
+
+tile_back : (register source : ℕ) → register < above_all → source < above_all → (place : Place ℕ) (rest : List ℕ) → place.rest ≡ c_act_text (Do (Tile register source)) ++ (10 ∷ rest) → Back c_act_at (Do (Tile register source)) place (10 ∷ rest)
+unfolding c_act_at c_op_text tile_loops
+tile_back register source a b place rest e =
+    let t3 : List ℕ = codes " + l][k];" ++ (10 ∷ rest) in
+    let t2 : List ℕ = codes " + k][l] = r[" ++ (decimal source ++ t3) in
+    let is : place.rest ≡ codes "for (int k = 0; k < V; k++) for (int l = 0; l < V; l++) r[" ++ (decimal register ++ t2) =
+    e ∙ sym (shape_tile tile_loops (codes "r[") (decimal register) (codes " + k][l] = r[") (decimal source) (codes " + l][k];") (10 ∷ rest)) in
+    then_back (one_of_at c_words) c_operands_at words.Tile _ place (decimal register ++ t2) (10 ∷ rest) (word_key (codes "for (int k = 0; k < V; k++) for (int l = 0; l < V; l++) r[") words.Tile place (decimal register ++ t2) (inr (inl (refl, refl))) is) (λ q1 e1.
+    then_back (number_at above_all) _ register _ q1 t2 (10 ∷ rest) (number_back register q1 t2 a refl e1) (λ q2 e2.
+    then_back (named_number_at (codes " + k][l] = r[") above_all) _ source _ q2 t3 (10 ∷ rest) (named_back (codes " + k][l] = r[") source q2 t3 b refl e2) (λ q3 e3.
+    then_back (word_at (codes " + l][k];")) _ tt _ q3 (10 ∷ rest) (10 ∷ rest) (word_back (codes " + l][k];") q3 (10 ∷ rest) e3) (λ q4 e4. (q4, refl, e4)))))
+
+-- a line in which a register becomes something
+becomes_back : (register : ℕ) → register < above_all → (tail : List ℕ) (act : PlainAct) (place : Place ℕ) (rest : List ℕ) → place.rest ≡ becomes_text register ++ tail
+    → ((q : Place ℕ) → q.rest ≡ tail → Back (λ p. and_then (one_of_at value_words p) (value_at register)) act q rest) → Back c_act_at act place rest
+unfolding c_act_at lane_loop
+becomes_back register fits tail act place rest e k =
+    let t3 : List ℕ = codes "][l] = " ++ tail in
+    let t2 : List ℕ = codes "r[" ++ (decimal register ++ t3) in
+    let is : place.rest ≡ codes "for (int l = 0; l < V; l++) " ++ t2 = e ∙ sym (shape_becomes lane_loop (codes "r[") (decimal register) (codes "][l]") (codes " = ") tail) in
+    then_back (one_of_at c_words) c_operands_at words.Lanes act place t2 rest (word_key (codes "for (int l = 0; l < V; l++) ") words.Lanes place t2 (inr (inr (inl (refl, refl)))) is) (λ q1 e1.
+    then_back (one_of_at target_words) target_at None act q1 (decimal register ++ t3) rest (target_key (codes "r[") None q1 (decimal register ++ t3) (inl (refl, refl)) e1) (λ q2 e2.
+    then_back (number_at above_all) _ register act q2 t3 rest (number_back register q2 t3 fits refl e2) (λ q3 e3.
+    then_back (word_at (codes "][l] = ")) _ tt act q3 tail rest (word_back (codes "][l] = ") q3 tail e3) k)))
