@@ -101,3 +101,87 @@ becomes_back register fits tail act place rest e k =
     then_back (one_of_at target_words) target_at None act q1 (decimal register ++ t3) rest (target_key (codes "r[") None q1 (decimal register ++ t3) (inl (refl, refl)) e1) (λ q2 e2.
     then_back (number_at above_all) _ register act q2 t3 rest (number_back register q2 t3 fits refl e2) (λ q3 e3.
     then_back (word_at (codes "][l] = ")) _ tt act q3 tail rest (word_back (codes "][l] = ") q3 tail e3) k)))
+
+-- ---- what a register becomes
+
+zero_back : (register : ℕ) → register < above_all → (place : Place ℕ) (rest : List ℕ) → place.rest ≡ c_act_text (Do (Zero register)) ++ (10 ∷ rest) → Back c_act_at (Do (Zero register)) place (10 ∷ rest)
+unfolding c_op_text
+zero_back register r place rest e =
+    becomes_back register r (codes "0;" ++ (10 ∷ rest)) (Do (Zero register)) place (10 ∷ rest) (e ∙ append_assoc (becomes_text register) (codes "0;") (10 ∷ rest)) (λ q e0.
+    then_back (one_of_at value_words) (value_at register) values.Zero _ q (10 ∷ rest) (10 ∷ rest) (value_key (codes "0;") values.Zero q (10 ∷ rest) (inl (refl, refl)) e0) (λ q1 e1. (q1, refl, e1)))
+
+add_back : (register left right : ℕ) → register < above_all → left < above_all → right < above_all → (place : Place ℕ) (rest : List ℕ) → place.rest ≡ c_act_text (Do (Add register left right)) ++ (10 ∷ rest) → Back c_act_at (Do (Add register left right)) place (10 ∷ rest)
+unfolding c_op_text
+add_back register left right r a b place rest e =
+    let t3 : List ℕ = codes "][l]);" ++ (10 ∷ rest) in
+    let t2 : List ℕ = codes "][l], r[" ++ (decimal right ++ t3) in
+    let t1 : List ℕ = decimal left ++ t2 in
+    becomes_back register r (codes "add(r[" ++ t1) (Do (Add register left right)) place (10 ∷ rest)
+    (e ∙ sym (shape_call (becomes_text register) (codes "add(") (codes "r[") (decimal left) (codes "][l]") (codes ", ") (decimal right) (codes ");") (10 ∷ rest))) (λ q e0.
+    then_back (one_of_at value_words) (value_at register) values.Add _ q t1 (10 ∷ rest) (value_key (codes "add(r[") values.Add q t1 (inr (inl (refl, refl))) e0) (λ q1 e1.
+    then_back (number_at above_all) _ left _ q1 t2 (10 ∷ rest) (number_back left q1 t2 a refl e1) (λ q2 e2.
+    then_back (named_number_at (codes "][l], r[") above_all) _ right _ q2 t3 (10 ∷ rest) (named_back (codes "][l], r[") right q2 t3 b refl e2) (λ q3 e3.
+    then_back (word_at (codes "][l]);")) _ tt _ q3 (10 ∷ rest) (10 ∷ rest) (word_back (codes "][l]);") q3 (10 ∷ rest) e3) (λ q4 e4. (q4, refl, e4))))))
+
+sub_back : (register left right : ℕ) → register < above_all → left < above_all → right < above_all → (place : Place ℕ) (rest : List ℕ) → place.rest ≡ c_act_text (Do (Sub register left right)) ++ (10 ∷ rest) → Back c_act_at (Do (Sub register left right)) place (10 ∷ rest)
+unfolding c_op_text
+sub_back register left right r a b place rest e =
+    let t3 : List ℕ = codes "][l]);" ++ (10 ∷ rest) in
+    let t2 : List ℕ = codes "][l], r[" ++ (decimal right ++ t3) in
+    let t1 : List ℕ = decimal left ++ t2 in
+    becomes_back register r (codes "sub(r[" ++ t1) (Do (Sub register left right)) place (10 ∷ rest)
+    (e ∙ sym (shape_call (becomes_text register) (codes "sub(") (codes "r[") (decimal left) (codes "][l]") (codes ", ") (decimal right) (codes ");") (10 ∷ rest))) (λ q e0.
+    then_back (one_of_at value_words) (value_at register) values.Sub _ q t1 (10 ∷ rest) (value_key (codes "sub(r[") values.Sub q t1 (inr (inr (inr (inl (refl, refl))))) e0) (λ q1 e1.
+    then_back (number_at above_all) _ left _ q1 t2 (10 ∷ rest) (number_back left q1 t2 a refl e1) (λ q2 e2.
+    then_back (named_number_at (codes "][l], r[") above_all) _ right _ q2 t3 (10 ∷ rest) (named_back (codes "][l], r[") right q2 t3 b refl e2) (λ q3 e3.
+    then_back (word_at (codes "][l]);")) _ tt _ q3 (10 ∷ rest) (10 ∷ rest) (word_back (codes "][l]);") q3 (10 ∷ rest) e3) (λ q4 e4. (q4, refl, e4))))))
+
+neg_back : (register source : ℕ) → register < above_all → source < above_all → (place : Place ℕ) (rest : List ℕ) → place.rest ≡ c_act_text (Do (Neg register source)) ++ (10 ∷ rest) → Back c_act_at (Do (Neg register source)) place (10 ∷ rest)
+unfolding c_op_text
+neg_back register source r a place rest e =
+    let t2 : List ℕ = codes "][l]);" ++ (10 ∷ rest) in
+    let t1 : List ℕ = decimal source ++ t2 in
+    becomes_back register r (codes "sub(0, r[" ++ t1) (Do (Neg register source)) place (10 ∷ rest)
+    (e ∙ sym (shape_one (becomes_text register) (codes "sub(0, ") (codes "r[") (decimal source) (codes "][l]") (codes ");") (10 ∷ rest))) (λ q e0.
+    then_back (one_of_at value_words) (value_at register) values.Neg _ q t1 (10 ∷ rest) (value_key (codes "sub(0, r[") values.Neg q t1 (inr (inr (inl (refl, refl)))) e0) (λ q1 e1.
+    then_back (number_at above_all) _ source _ q1 t2 (10 ∷ rest) (number_back source q1 t2 a refl e1) (λ q2 e2.
+    then_back (word_at (codes "][l]);")) _ tt _ q2 (10 ∷ rest) (10 ∷ rest) (word_back (codes "][l]);") q2 (10 ∷ rest) e2) (λ q3 e3. (q3, refl, e3)))))
+
+constant_back : (register source factor : ℕ) → register < above_all → source < above_all → factor < above_all → (place : Place ℕ) (rest : List ℕ) → place.rest ≡ c_act_text (Do (MulConst register source factor)) ++ (10 ∷ rest) → Back c_act_at (Do (MulConst register source factor)) place (10 ∷ rest)
+unfolding c_op_text
+constant_back register source factor r a b place rest e =
+    let t4 : List ℕ = codes ");" ++ (10 ∷ rest) in
+    let t3 : List ℕ = decimal factor ++ t4 in
+    let t2 : List ℕ = codes "][l], " ++ t3 in
+    let t1 : List ℕ = decimal source ++ t2 in
+    becomes_back register r (codes "mul(r[" ++ t1) (Do (MulConst register source factor)) place (10 ∷ rest)
+    (e ∙ sym (shape_constant (becomes_text register) (codes "mul(") (codes "r[") (decimal source) (codes "][l]") (codes ", ") (decimal factor) (codes ");") (10 ∷ rest))) (λ q e0.
+    then_back (one_of_at value_words) (value_at register) values.Mul _ q t1 (10 ∷ rest) (value_key (codes "mul(r[") values.Mul q t1 (inr (inr (inr (inr (inl (refl, refl)))))) e0) (λ q1 e1.
+    then_back (number_at above_all) _ source _ q1 t2 (10 ∷ rest) (number_back source q1 t2 a refl e1) (λ q2 e2.
+    then_back (word_at (codes "][l], ")) _ tt _ q2 t3 (10 ∷ rest) (word_back (codes "][l], ") q2 t3 e2) (λ q3 e3.
+    then_back (one_of_at factor_words) _ false _ q3 t3 (10 ∷ rest) (record { rest = t3; far = q3.far }, ap (λ y. placed q3.far (one_of_in factor_words y)) e3 ∙ no_table factor t4 q3.far b, refl) (λ q4 e4.
+    then_back (number_at above_all) _ factor _ q4 t4 (10 ∷ rest) (number_back factor q4 t4 b refl e4) (λ q5 e5.
+    then_back (word_at (codes ");")) _ tt _ q5 (10 ∷ rest) (10 ∷ rest) (word_back (codes ");") q5 (10 ∷ rest) e5) (λ q6 e6. (q6, refl, e6))))))))
+
+table_back : (register source table : ℕ) (at : PlainExpr) (step loops : ℕ) → register < above_all → source < above_all → table < above_all → step < above_all → is_expr_within at loops ≡ true → loops ≤ 64
+    → (place : Place ℕ) (rest : List ℕ) → place.rest ≡ c_act_text (Do (MulTable register source table at step)) ++ (10 ∷ rest) → Back c_act_at (Do (MulTable register source table at step)) place (10 ∷ rest)
+unfolding c_op_text
+table_back register source table at step loops r a b d h few place rest e =
+    let t7 : List ℕ = codes " * l]);" ++ (10 ∷ rest) in
+    let t6 : List ℕ = decimal step ++ t7 in
+    let t5 : List ℕ = codes " + " ++ t6 in
+    let t4 : List ℕ = sum_text at ++ t5 in
+    let t3 : List ℕ = decimal table ++ (codes "[" ++ t4) in
+    let t2 : List ℕ = codes "][l], " ++ (codes "t" ++ t3) in
+    let t1 : List ℕ = decimal source ++ t2 in
+    becomes_back register r (codes "mul(r[" ++ t1) (Do (MulTable register source table at step)) place (10 ∷ rest)
+    (e ∙ sym (shape_table (becomes_text register) (codes "mul(") (codes "r[") (decimal source) (codes "][l]") (codes ", t") (decimal table) (codes "[") (sum_text at) (codes " + ") (decimal step) (codes " * l]);") (10 ∷ rest))) (λ q e0.
+    then_back (one_of_at value_words) (value_at register) values.Mul _ q t1 (10 ∷ rest) (value_key (codes "mul(r[") values.Mul q t1 (inr (inr (inr (inr (inl (refl, refl)))))) e0) (λ q1 e1.
+    then_back (number_at above_all) _ source _ q1 t2 (10 ∷ rest) (number_back source q1 t2 a refl e1) (λ q2 e2.
+    then_back (word_at (codes "][l], ")) _ tt _ q2 (codes "t" ++ t3) (10 ∷ rest) (word_back (codes "][l], ") q2 (codes "t" ++ t3) e2) (λ q3 e3.
+    then_back (one_of_at factor_words) _ true _ q3 t3 (10 ∷ rest) (record { rest = t3; far = q3.far }, ap (λ y. placed q3.far (one_of_in factor_words y)) e3, refl) (λ q4 e4.
+    then_back (number_at above_all) _ table _ q4 (codes "[" ++ t4) (10 ∷ rest) (number_back table q4 (codes "[" ++ t4) b refl e4) (λ q5 e5.
+    then_back (word_at (codes "[")) _ tt _ q5 t4 (10 ∷ rest) (word_back (codes "[") q5 t4 e5) (λ q6 e6.
+    then_back (sum_at 64) _ at _ q6 t5 (10 ∷ rest) (expr_back at loops [] h few q6 t6 e6) (λ q7 e7.
+    then_back (named_number_at (codes " + ") above_all) _ step _ q7 t7 (10 ∷ rest) (named_back (codes " + ") step q7 t7 d refl e7) (λ q8 e8.
+    then_back (word_at (codes " * l]);")) _ tt _ q8 (10 ∷ rest) (10 ∷ rest) (word_back (codes " * l]);") q8 (10 ∷ rest) e8) (λ q9 e9. (q9, refl, e9)))))))))))
