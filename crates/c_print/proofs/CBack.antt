@@ -185,3 +185,92 @@ table_back register source table at step loops r a b d h few place rest e =
     then_back (sum_at 64) _ at _ q6 t5 (10 ∷ rest) (expr_back at loops [] h few q6 t6 e6) (λ q7 e7.
     then_back (named_number_at (codes " + ") above_all) _ step _ q7 t7 (10 ∷ rest) (named_back (codes " + ") step q7 t7 d refl e7) (λ q8 e8.
     then_back (word_at (codes " * l]);")) _ tt _ q8 (10 ∷ rest) (10 ∷ rest) (word_back (codes " * l]);") q8 (10 ∷ rest) e8) (λ q9 e9. (q9, refl, e9)))))))))))
+
+-- ---- words of arrays
+
+array_value : (array : Array) → one_of value_words (array_text array ++ codes "[") (values.Load array)
+array_value arrays.X = inr (inr (inr (inr (inr (inl (refl, refl))))))
+array_value arrays.Y = inr (inr (inr (inr (inr (inr (inl (refl, refl)))))))
+array_value arrays.A = inr (inr (inr (inr (inr (inr (inr (inl (refl, refl))))))))
+array_value arrays.B = inr (inr (inr (inr (inr (inr (inr (inr (inl (refl, refl)))))))))
+
+array_target : (array : Array) → one_of target_words (array_text array ++ codes "[") (Some array)
+array_target arrays.X = inr (inl (refl, refl))
+array_target arrays.Y = inr (inr (inl (refl, refl)))
+array_target arrays.A = inr (inr (inr (inl (refl, refl))))
+array_target arrays.B = inr (inr (inr (inr (inl (refl, refl)))))
+
+load_back : (register : ℕ) (array : Array) (at : PlainExpr) (loops : ℕ) → register < above_all → is_expr_within at loops ≡ true → loops ≤ 64
+    → (place : Place ℕ) (rest : List ℕ) → place.rest ≡ c_act_text (Do (Load register array at)) ++ (10 ∷ rest) → Back c_act_at (Do (Load register array at)) place (10 ∷ rest)
+unfolding c_op_text
+load_back register array at loops r h few place rest e =
+    let t2 : List ℕ = codes " + l];" ++ (10 ∷ rest) in
+    let t1 : List ℕ = sum_text at ++ t2 in
+    becomes_back register r ((array_text array ++ codes "[") ++ t1) (Do (Load register array at)) place (10 ∷ rest)
+    (e ∙ sym (shape_load (becomes_text register) (array_text array) (codes "[") (sum_text at) (codes " + l];") (10 ∷ rest))) (λ q e0.
+    then_back (one_of_at value_words) (value_at register) (values.Load array) _ q t1 (10 ∷ rest) (value_key (array_text array ++ codes "[") (values.Load array) q t1 (array_value array) e0) (λ q1 e1.
+    then_back (sum_at 64) _ at _ q1 t2 (10 ∷ rest) (expr_back at loops [] h few q1 (codes "l];" ++ (10 ∷ rest)) e1) (λ q2 e2.
+    then_back (word_at (codes " + l];")) _ tt _ q2 (10 ∷ rest) (10 ∷ rest) (word_back (codes " + l];") q2 (10 ∷ rest) e2) (λ q3 e3. (q3, refl, e3)))))
+
+store_back : (array : Array) (at : PlainExpr) (register loops : ℕ) → register < above_all → is_expr_within at loops ≡ true → loops ≤ 64
+    → (place : Place ℕ) (rest : List ℕ) → place.rest ≡ c_act_text (Do (Store array at register)) ++ (10 ∷ rest) → Back c_act_at (Do (Store array at register)) place (10 ∷ rest)
+unfolding c_act_at c_op_text lane_loop
+store_back array at register loops r h few place rest e =
+    let t4 : List ℕ = codes "][l];" ++ (10 ∷ rest) in
+    let t3 : List ℕ = codes " + l] = r[" ++ (decimal register ++ t4) in
+    let t2 : List ℕ = sum_text at ++ t3 in
+    let t1 : List ℕ = (array_text array ++ codes "[") ++ t2 in
+    let is : place.rest ≡ codes "for (int l = 0; l < V; l++) " ++ t1 =
+    e ∙ sym (shape_store lane_loop (array_text array) (codes "[") (sum_text at) (codes " + l] = ") (codes "r[") (decimal register) (codes "][l]") (codes ";") (10 ∷ rest)) in
+    then_back (one_of_at c_words) c_operands_at words.Lanes _ place t1 (10 ∷ rest) (word_key (codes "for (int l = 0; l < V; l++) ") words.Lanes place t1 (inr (inr (inl (refl, refl)))) is) (λ q1 e1.
+    then_back (one_of_at target_words) target_at (Some array) _ q1 t2 (10 ∷ rest) (target_key (array_text array ++ codes "[") (Some array) q1 t2 (array_target array) e1) (λ q2 e2.
+    then_back (sum_at 64) _ at _ q2 t3 (10 ∷ rest) (expr_back at loops [] h few q2 (codes "l] = r[" ++ (decimal register ++ t4)) e2) (λ q3 e3.
+    then_back (named_number_at (codes " + l] = r[") above_all) _ register _ q3 t4 (10 ∷ rest) (named_back (codes " + l] = r[") register q3 t4 r refl e3) (λ q4 e4.
+    then_back (word_at (codes "][l];")) _ tt _ q4 (10 ∷ rest) (10 ∷ rest) (word_back (codes "][l];") q4 (10 ∷ rest) e4) (λ q5 e5. (q5, refl, e5))))))
+
+-- ---- a line
+
+op_back : (m loops : ℕ) (op : PlainOp) → m ≤ above_all → loops ≤ 64 → is_op_within m op loops ≡ true → (place : Place ℕ) (rest : List ℕ) → place.rest ≡ c_act_text (Do op) ++ (10 ∷ rest) → Back c_act_at (Do op) place (10 ∷ rest)
+op_back m loops (Load register array at) below few w place rest e =
+    let limits = and_parts (is_small register) (is_expr_within at loops) w in
+    load_back register array at loops (small_fits register limits.0) limits.1 few place rest e
+op_back m loops (Store array at register) below few w place rest e =
+    let limits = and_parts (is_small register) (is_expr_within at loops) w in
+    store_back array at register loops (small_fits register limits.0) limits.1 few place rest e
+op_back m loops (Zero register) below few w place rest e = zero_back register (small_fits register w) place rest e
+op_back m loops (Add register left right) below few w place rest e =
+    let limits = and_parts (is_small register) (is_small left && is_small right) w in
+    let others = and_parts (is_small left) (is_small right) limits.1 in
+    add_back register left right (small_fits register limits.0) (small_fits left others.0) (small_fits right others.1) place rest e
+op_back m loops (Sub register left right) below few w place rest e =
+    let limits = and_parts (is_small register) (is_small left && is_small right) w in
+    let others = and_parts (is_small left) (is_small right) limits.1 in
+    sub_back register left right (small_fits register limits.0) (small_fits left others.0) (small_fits right others.1) place rest e
+op_back m loops (Neg register source) below few w place rest e =
+    let limits = and_parts (is_small register) (is_small source) w in
+    neg_back register source (small_fits register limits.0) (small_fits source limits.1) place rest e
+op_back m loops (MulConst register source factor) below few w place rest e =
+    let limits = and_parts (is_small register) (is_small source && ltb factor m) w in
+    let others = and_parts (is_small source) (ltb factor m) limits.1 in
+    constant_back register source factor (small_fits register limits.0) (small_fits source others.0) (omega (arith, ltb-true factor m others.1, below)) place rest e
+op_back m loops (MulTable register source table at step) below few w place rest e =
+    let l1 = and_parts (is_small register) (is_small source && (is_small table && (ltb step 2 && is_expr_within at loops))) w in
+    let l2 = and_parts (is_small source) (is_small table && (ltb step 2 && is_expr_within at loops)) l1.1 in
+    let l3 = and_parts (is_small table) (ltb step 2 && is_expr_within at loops) l2.1 in
+    let l4 = and_parts (ltb step 2) (is_expr_within at loops) l3.1 in
+    table_back register source table at step loops (small_fits register l1.0) (small_fits source l2.0) (small_fits table l3.0) (omega (arith, ltb-true step 2 l4.0)) l4.1 few place rest e
+op_back m loops (Tile register source) below few w place rest e =
+    let limits = and_parts (is_small register) (is_small source) w in
+    tile_back register source (small_fits register limits.0) (small_fits source limits.1) place rest e
+
+act_back : (m loops : ℕ) (act : PlainAct) → m ≤ above_all → loops ≤ 64 → IsActWithin m loops act → (place : Place ℕ) (rest : List ℕ) → place.rest ≡ c_act_text act ++ (10 ∷ rest) → Back c_act_at act place (10 ∷ rest)
+act_back m loops (Open depth count) below few w place rest e = loop_back depth count w.0 w.1 place rest e
+act_back m loops Close below few w place rest e = end_back place rest e
+act_back m loops (Do op) below few w place rest e = op_back m loops op below few w place rest e
+
+pub c_line_back : (m loops : ℕ) (act : PlainAct) → m ≤ above_all → loops ≤ 64 → IsActWithin m loops act → whole c_line_at (c_line_text act) ≡ Ok act
+unfolding c_line_at
+c_line_back m loops act below few w =
+    let h = act_back m loops act below few w (start (c_line_text act)) [] refl in
+    let z = word_back (codes "\n") h.0 [] h.2 in
+    rw (h.1, z.1, z.2) refl
