@@ -20,7 +20,7 @@ use Rattle.c_print.specs.declared.lines.Value.{Value}
 use Rattle.c_print.specs.declared.lines.Value.TheVariants as values
 use Rattle.c_print.specs.CText.{lane_loop, tile_loops, becomes_text, c_op_text}
 use Rattle.c_print.specs.CLines.{c_words, target_words, value_words, factor_words, same_loop, c_factor_at, value_at, target_at, c_operands_at, c_act_at, c_line_at}
-use Rattle.c_print.proofs.CSpelt.{c_act_text, c_line_text, shape_loop, shape_becomes, shape_call, shape_one, shape_constant, shape_table, shape_load, shape_store, shape_tile}
+use Rattle.c_print.proofs.CSpelt.{c_act_text, ended_text, shape_loop, shape_becomes, shape_call, shape_one, shape_constant, shape_table, shape_load, shape_store, shape_tile}
 
 word_key : (w : List ℕ) (word : Word) (place : Place ℕ) (rest : List ℕ) → one_of c_words w word → place.rest ≡ w ++ rest → Back (one_of_at c_words) word place rest
 word_key w word place rest l e =
@@ -268,9 +268,9 @@ act_back m loops (Open depth count) below few w place rest e = loop_back depth c
 act_back m loops Close below few w place rest e = end_back place rest e
 act_back m loops (Do op) below few w place rest e = op_back m loops op below few w place rest e
 
-pub c_line_back : (m loops : ℕ) (act : PlainAct) → m ≤ above_all → loops ≤ 64 → IsActWithin m loops act → whole c_line_at (c_line_text act) ≡ Ok act
+pub c_line_back : (m loops : ℕ) (act : PlainAct) → m ≤ above_all → loops ≤ 64 → IsActWithin m loops act → whole c_line_at (ended_text act) ≡ Ok act
 unfolding c_line_at
 c_line_back m loops act below few w =
-    let h = act_back m loops act below few w (start (c_line_text act)) [] refl in
+    let h = act_back m loops act below few w (start (ended_text act)) [] refl in
     let z = word_back (codes "\n") h.0 [] h.2 in
     rw (h.1, z.1, z.2) refl

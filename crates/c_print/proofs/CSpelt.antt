@@ -24,8 +24,8 @@ c_act_text (Open depth count) = codes "for (uint64_t v" ++ decimal depth ++ code
 c_act_text Close = codes "}"
 c_act_text (Do op) = c_op_text op
 
-abbrev pub c_line_text : PlainAct → List ℕ
-c_line_text act = c_act_text act ++ codes "\n"
+abbrev pub ended_text : PlainAct → List ℕ
+ended_text act = c_act_text act ++ codes "\n"
 
 -- ---- shapes
 
@@ -244,11 +244,11 @@ act_spelt : (place : Place ℕ) → Spelt ActFits c_act_text place.rest (c_act_a
 unfolding c_act_at
 act_spelt place = key_then c_words ActFits c_act_text place.rest place _ (λ word q t e l. operands_spelt place.rest word q t e l)
 
-line_spelt_at : (place : Place ℕ) → Spelt ActFits c_line_text place.rest (c_line_at place)
+line_spelt_at : (place : Place ℕ) → Spelt ActFits ended_text place.rest (c_line_at place)
 unfolding c_line_at
 line_spelt_at place =
-    spelt_then ActFits c_act_text ActFits c_line_text place.rest place.rest (c_act_at place) _ (act_spelt place) (λ act q f e.
-    word_then ActFits c_line_text place.rest (codes "\n") q _ (λ w q1 e1. (f, e ∙ ap (λ y. c_act_text act ++ y) e1 ∙ sym (append_assoc (c_act_text act) (codes "\n") q1.rest))))
+    spelt_then ActFits c_act_text ActFits ended_text place.rest place.rest (c_act_at place) _ (act_spelt place) (λ act q f e.
+    word_then ActFits ended_text place.rest (codes "\n") q _ (λ w q1 e1. (f, e ∙ ap (λ y. c_act_text act ++ y) e1 ∙ sym (append_assoc (c_act_text act) (codes "\n") q1.rest))))
 
-pub c_line_spelt : (line : List ℕ) (act : PlainAct) → whole c_line_at line ≡ Ok act → ActFits act × (line ≡ c_line_text act)
-c_line_spelt line act e = whole_spelt ActFits c_line_text line (c_line_at (start line)) act (line_spelt_at (start line)) e
+pub c_line_spelt : (line : List ℕ) (act : PlainAct) → whole c_line_at line ≡ Ok act → ActFits act × (line ≡ ended_text act)
+c_line_spelt line act e = whole_spelt ActFits ended_text line (c_line_at (start line)) act (line_spelt_at (start line)) e

@@ -1,3 +1,4 @@
 pub mod Shapes
 pub mod CSpelt
 pub mod CBack
+pub mod CLineLaws

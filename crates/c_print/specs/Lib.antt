@@ -1,2 +1,3 @@
 pub mod CText
 pub mod CLines
+pub mod CLineTexts

@@ -1,10 +1,11 @@
 //! The lines of a phase in C.
 
-ghost use Rattle.std.specs.Prelude.{◌≡◌};
+ghost use Rattle.std.specs.Prelude.{◌≡◌, ℕ, IfOk, IsOkUnless};
 ghost use Rattle.grammar.specs.Cursor.{Gives, Tells, TellsAll};
 ghost use Rattle.grammar.specs.Reading.{one_of_at, whole};
-ghost use Rattle.listing_text.specs.Acts.{plain_act};
+ghost use Rattle.listing_text.specs.Acts.{PlainAct, plain_act, ActFits};
 ghost use Rattle.c_print.specs.CLines.{c_words, target_words, value_words, factor_words, same_loop, loop_at, tile_at, c_factor_at, value_at, target_at, c_operands_at, c_act_at, c_line_at};
+ghost use Rattle.c_print.specs.CLineTexts.{c_line_text, IsLineOf};
 
 use grammar::{Cursor, ReadError, Stuck};
 use icode::program::{Array, Op};
@@ -270,12 +271,25 @@ fn line_of(alloc: Global, cursor: &mut Cursor) -> Result<Act, ReadError>
     Ok(act)
 }
 
-/// What a line of a phase is, with its end.
-pub fn read_line(alloc: Global, line: &[u8]) -> Result<Act, ReadError>
+fn whole_line(alloc: Global, line: &[u8]) -> Result<Act, ReadError>
     ensures { TellsAll plain_act result (whole c_line_at line.now) }
 {
     let mut cursor = Cursor::new(line);
     let act = line_of(alloc, &mut cursor)?;
     cursor.end()?;
     Ok(act)
+}
+
+/// What a line of a phase in C is, with its end: a part of a reader of whole C texts. Each line of the C text
+/// of a program is read back, and nothing else is read but what is written so. `Stuck` says how many
+/// bytes are left where reading stops.
+pub fn read_c_line(alloc: Global, line: &[u8]) -> Result<Act, ReadError>
+    ensures read { TellsAll plain_act result (whole c_line_at line.now) }
+    ensures text { IfOk result (λ act. ActFits (plain_act act) × (line.now ≡ c_line_text (plain_act act))) }
+    ensures only { (act : PlainAct) → IsLineOf line.now act → IsOkUnless result ReadError.NoMemory × IfOk result (λ found. plain_act found ≡ act) }
+{
+    match whole_line(alloc, line) {
+        Ok(act) => Ok(act),
+        Err(error) => Err(error),
+    }
 }
