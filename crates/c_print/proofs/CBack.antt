@@ -1,5 +1,5 @@
 -- The text of a line in C is read back.
-use Rattle.std.proofs.Common.{◌≡◌, ℕ, ◌<◌, ◌≤◌, ◌^◌, Bool, true, false, eqb, ltb, leb, ◌&&◌, List, [], ◌∷◌, ◌++◌, codes, decimal, Option, Some, None, Result, Ok, Err, refl, sym, ap, ◌∙◌, append_assoc, arith, inl, inr}
+use Rattle.std.proofs.Common.{◌≡◌, ℕ, ◌<◌, ◌≤◌, true, false, eqb, ltb, leb, ◌&&◌, List, [], ◌∷◌, ◌++◌, codes, decimal, Option, Some, None, Ok, refl, sym, ap, ◌∙◌, append_assoc, arith, inl, inr}
 use Rattle.std.proofs.lemmas.Bool.{ltb-true, leb-true, and_parts, and_from, eq-eqb, ne_eqb}
 use Rattle.icode.specs.declared.program.Array.{Array}
 use Rattle.icode.specs.declared.program.Array.TheVariants as arrays
@@ -12,14 +12,14 @@ use Rattle.grammar.proofs.Whole.{again}
 use Rattle.listing_text.specs.Listing.{sum_text, array_text}
 use Rattle.listing_text.specs.Reading.{above_all, sum_at}
 use Rattle.listing_text.specs.Acts.{PlainAct, Open, Close, Do}
-use Rattle.listing_text.proofs.ReadBack.{Back, then_back, FirstDigit, first_digit, goes_on, word_back, number_back, named_back, small_fits, place_back}
+use Rattle.listing_text.proofs.ReadBack.{Back, then_back, first_digit, word_back, number_back, named_back, small_fits, place_back}
 use Rattle.listing_text.proofs.ActsBack.{IsActWithin}
 use Rattle.c_print.specs.declared.lines.Word.{Word}
 use Rattle.c_print.specs.declared.lines.Word.TheVariants as words
 use Rattle.c_print.specs.declared.lines.Value.{Value}
 use Rattle.c_print.specs.declared.lines.Value.TheVariants as values
 use Rattle.c_print.specs.CText.{lane_loop, tile_loops, becomes_text, c_op_text}
-use Rattle.c_print.specs.CLines.{c_words, target_words, value_words, factor_words, same_loop, c_factor_at, value_at, target_at, c_operands_at, c_act_at, c_line_at}
+use Rattle.c_print.specs.CLines.{c_words, target_words, value_words, factor_words, value_at, target_at, c_operands_at, c_act_at, c_line_at}
 use Rattle.c_print.proofs.CSpelt.{c_act_text, ended_text, shape_loop, shape_becomes, shape_call, shape_one, shape_constant, shape_table, shape_load, shape_store, shape_tile}
 
 word_key : (w : List ℕ) (word : Word) (place : Place ℕ) (rest : List ℕ) → one_of c_words w word → place.rest ≡ w ++ rest → Back (one_of_at c_words) word place rest

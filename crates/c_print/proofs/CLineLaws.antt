@@ -1,16 +1,15 @@
 -- Reading a line of a phase in C answers for its text.
-use Rattle.std.proofs.Common.{◌≡◌, ℕ, List, ◌++◌, codes, decimal, Ok, Err, refl, sym, ap, ◌∙◌, append_assoc, Result}
+use Rattle.std.proofs.Common.{◌≡◌, ℕ, List, ◌++◌, codes, decimal, Ok, Err, refl, sym, ap, ◌∙◌, append_assoc}
 use Rattle.grammar.specs.declared.token.ReadError.{ReadError}
 use Rattle.grammar.specs.declared.token.ReadError.TheVariants as errors
 use Rattle.grammar.specs.Cursor.{TellsAll}
 use Rattle.grammar.specs.Reading.{whole}
-use Rattle.listing_text.specs.declared.acts.Act.{Act}
 use Rattle.listing_text.specs.Acts.{PlainAct, plain_act, Open, Close, Do, ActFits}
 use Rattle.listing_text.proofs.ActsBack.{IsActWithin}
 use Rattle.c_print.specs.CText.{loop_text}
 use Rattle.c_print.specs.CLines.{c_line_at}
 use Rattle.c_print.specs.CLineTexts.{c_line_text, MayStand, IsLineOf}
-use Rattle.c_print.proofs.CSpelt.{c_act_text, ended_text, c_line_spelt}
+use Rattle.c_print.proofs.CSpelt.{ended_text, c_line_spelt}
 use Rattle.c_print.proofs.CBack.{c_line_back}
 
 shape_end : (a x b y c z d w e end : List ℕ) → (a ++ x ++ b ++ y ++ c ++ z ++ d ++ w ++ e) ++ end ≡ a ++ x ++ b ++ y ++ c ++ z ++ d ++ w ++ (e ++ end)

@@ -1,9 +1,8 @@
 -- What is read of a line in C is its text.
-use Rattle.std.proofs.Common.{◌≡◌, ℕ, ◌≤◌, Bool, true, false, cond, eqb, ◌&&◌, List, [], ◌∷◌, ◌++◌, codes, decimal, Option, Some, None, Result, Ok, Err, refl, sym, ap, subst, ◌∙◌, append_assoc, inl, inr}
+use Rattle.std.proofs.Common.{◌≡◌, ℕ, ◌≤◌, Bool, true, false, eqb, ◌&&◌, List, ◌++◌, codes, decimal, Option, Some, None, Ok, refl, sym, ap, subst, ◌∙◌, append_assoc, inl, inr}
 use Rattle.std.proofs.lemmas.Bool.{and_parts, eqb-true}
 use Rattle.icode.specs.declared.program.Array.{Array}
 use Rattle.icode.specs.declared.program.Array.TheVariants as arrays
-use Rattle.icode.specs.Plain.{PlainExpr, PlainOp, Load, Store, Zero, Add, Sub, Neg, MulConst, MulTable, Tile}
 use Rattle.icode.specs.Limits.{sum_depth}
 use Rattle.grammar.specs.Grammar.{one_of}
 use Rattle.grammar.specs.Reading.{Place, start, whole}
@@ -16,7 +15,7 @@ use Rattle.c_print.specs.declared.lines.Word.{Word}
 use Rattle.c_print.specs.declared.lines.Word.TheVariants as words
 use Rattle.c_print.specs.declared.lines.Value.{Value}
 use Rattle.c_print.specs.declared.lines.Value.TheVariants as values
-use Rattle.c_print.specs.CText.{lane_loop, tile_loops, lane_text, becomes_text, c_op_text}
+use Rattle.c_print.specs.CText.{lane_loop, tile_loops, becomes_text, c_op_text}
 use Rattle.c_print.specs.CLines.{c_words, target_words, value_words, factor_words, same_loop, loop_at, tile_at, c_factor_at, value_at, target_at, c_operands_at, c_act_at, c_line_at}
 
 abbrev pub c_act_text : PlainAct → List ℕ
@@ -69,9 +68,9 @@ same_spelt s first second count third q true k e =
     rw k (
       tt,
       e
-      ∙ ap (λ n. codes "for (uint64_t v" ++ (decimal first ++ (codes " = 0; v" ++ (decimal n ++ (codes " < " ++ (decimal count ++ (codes "; v" ++ (decimal third ++ (codes "++) {" ++ q.rest))))))))) a
-      ∙ ap (λ n. codes "for (uint64_t v" ++ (decimal first ++ (codes " = 0; v" ++ (decimal first ++ (codes " < " ++ (decimal count ++ (codes "; v" ++ (decimal n ++ (codes "++) {" ++ q.rest))))))))) b
-      ∙ shape_loop (codes "for (uint64_t v") (decimal first) (codes " = 0; v") (decimal first) (codes " < ") (decimal count) (codes "; v") (decimal first) (codes "++) {") q.rest,
+          ∙ ap (λ n. codes "for (uint64_t v" ++ (decimal first ++ (codes " = 0; v" ++ (decimal n ++ (codes " < " ++ (decimal count ++ (codes "; v" ++ (decimal third ++ (codes "++) {" ++ q.rest))))))))) a
+          ∙ ap (λ n. codes "for (uint64_t v" ++ (decimal first ++ (codes " = 0; v" ++ (decimal first ++ (codes " < " ++ (decimal count ++ (codes "; v" ++ (decimal n ++ (codes "++) {" ++ q.rest))))))))) b
+          ∙ shape_loop (codes "for (uint64_t v") (decimal first) (codes " = 0; v") (decimal first) (codes " < ") (decimal count) (codes "; v") (decimal first) (codes "++) {") q.rest,
     )
 same_spelt s first second count third q false k e = rw k tt
 
@@ -93,7 +92,7 @@ tile_spelt s q e =
     word_then ActFits c_act_text s (codes " + l][k];") q2 _ (λ w q3 e3. (
       tt,
       e ∙ ap (λ y. codes "for (int k = 0; k < V; k++) for (int l = 0; l < V; l++) r[" ++ y) (e1 ∙ ap (λ y. decimal register ++ y) (e2 ∙ ap (λ y. codes " + k][l] = r[" ++ (decimal source ++ y)) e3))
-      ∙ shape_tile tile_loops (codes "r[") (decimal register) (codes " + k][l] = r[") (decimal source) (codes " + l][k];") q3.rest,
+          ∙ shape_tile tile_loops (codes "r[") (decimal register) (codes " + k][l] = r[") (decimal source) (codes " + l][k];") q3.rest,
     ))))
 
 -- ---- what a register becomes
@@ -111,7 +110,7 @@ module _ (s : List ℕ) (register : ℕ) where
       word_then ActFits c_act_text s (codes "][l]);") q2 _ (λ w q3 e3. (
         tt,
         e ∙ ap (λ y. becomes_text register ++ (codes "add(r[" ++ y)) (e1 ∙ ap (λ y. decimal left ++ y) (e2 ∙ ap (λ y. codes "][l], r[" ++ (decimal right ++ y)) e3))
-        ∙ shape_call (becomes_text register) (codes "add(") (codes "r[") (decimal left) (codes "][l]") (codes ", ") (decimal right) (codes ");") q3.rest,
+            ∙ shape_call (becomes_text register) (codes "add(") (codes "r[") (decimal left) (codes "][l]") (codes ", ") (decimal right) (codes ");") q3.rest,
       ))))
 
   sub_spelt : (q : Place ℕ) → s ≡ becomes_text register ++ (codes "sub(r[" ++ q.rest) → Spelt ActFits c_act_text s (value_at register values.Sub q)
@@ -122,7 +121,7 @@ module _ (s : List ℕ) (register : ℕ) where
       word_then ActFits c_act_text s (codes "][l]);") q2 _ (λ w q3 e3. (
         tt,
         e ∙ ap (λ y. becomes_text register ++ (codes "sub(r[" ++ y)) (e1 ∙ ap (λ y. decimal left ++ y) (e2 ∙ ap (λ y. codes "][l], r[" ++ (decimal right ++ y)) e3))
-        ∙ shape_call (becomes_text register) (codes "sub(") (codes "r[") (decimal left) (codes "][l]") (codes ", ") (decimal right) (codes ");") q3.rest,
+            ∙ shape_call (becomes_text register) (codes "sub(") (codes "r[") (decimal left) (codes "][l]") (codes ", ") (decimal right) (codes ");") q3.rest,
       ))))
 
   neg_spelt : (q : Place ℕ) → s ≡ becomes_text register ++ (codes "sub(0, r[" ++ q.rest) → Spelt ActFits c_act_text s (value_at register values.Neg q)
@@ -132,7 +131,7 @@ module _ (s : List ℕ) (register : ℕ) where
       word_then ActFits c_act_text s (codes "][l]);") q1 _ (λ w q2 e2. (
         tt,
         e ∙ ap (λ y. becomes_text register ++ (codes "sub(0, r[" ++ y)) (e1 ∙ ap (λ y. decimal source ++ y) e2)
-        ∙ shape_one (becomes_text register) (codes "sub(0, ") (codes "r[") (decimal source) (codes "][l]") (codes ");") q2.rest,
+            ∙ shape_one (becomes_text register) (codes "sub(0, ") (codes "r[") (decimal source) (codes "][l]") (codes ");") q2.rest,
       )))
 
   load_spelt : (array : Array) (q : Place ℕ) → s ≡ becomes_text register ++ ((array_text array ++ codes "[") ++ q.rest) → Spelt ActFits c_act_text s (value_at register (values.Load array) q)
@@ -142,7 +141,7 @@ module _ (s : List ℕ) (register : ℕ) where
       word_then ActFits c_act_text s (codes " + l];") q1 _ (λ w q2 e2. (
         f1,
         e ∙ ap (λ y. becomes_text register ++ ((array_text array ++ codes "[") ++ y)) (e1 ∙ ap (λ y. sum_text at ++ y) e2)
-        ∙ shape_load (becomes_text register) (array_text array) (codes "[") (sum_text at) (codes " + l];") q2.rest,
+            ∙ shape_load (becomes_text register) (array_text array) (codes "[") (sum_text at) (codes " + l];") q2.rest,
       )))
 
   constant_spelt : (source : ℕ) (q : Place ℕ) → s ≡ becomes_text register ++ (codes "mul(r[" ++ (decimal source ++ (codes "][l], " ++ q.rest))) → Spelt ActFits c_act_text s (c_factor_at register source false q)
@@ -152,7 +151,7 @@ module _ (s : List ℕ) (register : ℕ) where
       word_then ActFits c_act_text s (codes ");") q1 _ (λ w q2 e2. (
         tt,
         e ∙ ap (λ y. becomes_text register ++ (codes "mul(r[" ++ (decimal source ++ (codes "][l], " ++ y)))) (e1 ∙ ap (λ y. decimal factor ++ y) e2)
-        ∙ shape_constant (becomes_text register) (codes "mul(") (codes "r[") (decimal source) (codes "][l]") (codes ", ") (decimal factor) (codes ");") q2.rest,
+            ∙ shape_constant (becomes_text register) (codes "mul(") (codes "r[") (decimal source) (codes "][l]") (codes ", ") (decimal factor) (codes ");") q2.rest,
       )))
 
   table_spelt : (source : ℕ) (q : Place ℕ) → s ≡ becomes_text register ++ (codes "mul(r[" ++ (decimal source ++ (codes "][l], t" ++ q.rest))) → Spelt ActFits c_act_text s (c_factor_at register source true q)
@@ -166,7 +165,7 @@ module _ (s : List ℕ) (register : ℕ) where
         f3,
         e ∙ ap (λ y. becomes_text register ++ (codes "mul(r[" ++ (decimal source ++ (codes "][l], t" ++ y))))
             (e1 ∙ ap (λ y. decimal table ++ y) (e2 ∙ ap (λ y. codes "[" ++ y) (e3 ∙ ap (λ y. sum_text at ++ y) (e4 ∙ ap (λ y. codes " + " ++ (decimal step ++ y)) e5))))
-        ∙ shape_table (becomes_text register) (codes "mul(") (codes "r[") (decimal source) (codes "][l]") (codes ", t") (decimal table) (codes "[") (sum_text at) (codes " + ") (decimal step) (codes " * l]);") q5.rest,
+            ∙ shape_table (becomes_text register) (codes "mul(") (codes "r[") (decimal source) (codes "][l]") (codes ", t") (decimal table) (codes "[") (sum_text at) (codes " + ") (decimal step) (codes " * l]);") q5.rest,
       ))))))
 
   factor_spelt : (source : ℕ) (q q1 : Place ℕ) (t : List ℕ) (is_table : Bool) → s ≡ becomes_text register ++ (codes "mul(r[" ++ (decimal source ++ (codes "][l], " ++ q.rest))) → q.rest ≡ t ++ q1.rest → one_of factor_words t is_table
@@ -216,7 +215,7 @@ store_spelt s array q e =
     word_then ActFits c_act_text s (codes "][l];") q2 _ (λ w q3 e3. (
       f1,
       e ∙ ap (λ y. lane_loop ++ ((array_text array ++ codes "[") ++ y)) (e1 ∙ ap (λ y. sum_text at ++ y) (e2 ∙ ap (λ y. codes " + l] = r[" ++ (decimal register ++ y)) e3))
-      ∙ shape_store lane_loop (array_text array) (codes "[") (sum_text at) (codes " + l] = ") (codes "r[") (decimal register) (codes "][l]") (codes ";") q3.rest,
+          ∙ shape_store lane_loop (array_text array) (codes "[") (sum_text at) (codes " + l] = ") (codes "r[") (decimal register) (codes "][l]") (codes ";") q3.rest,
     ))))
 
 target_spelt : (s : List ℕ) (target : Option Array) (q : Place ℕ) (t : List ℕ) → s ≡ lane_loop ++ (t ++ q.rest) → one_of target_words t target → Spelt ActFits c_act_text s (target_at target q)

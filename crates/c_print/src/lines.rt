@@ -213,11 +213,7 @@ fn becomes(
 }
 
 // What the lanes go to, and what it becomes.
-fn lanes_of(
-    alloc: Global,
-    cursor: &mut Cursor,
-    target: Option<Array>,
-) -> Result<Act, ReadError>
+fn lanes_of(alloc: Global, cursor: &mut Cursor, target: Option<Array>) -> Result<Act, ReadError>
     ensures { Tells plain_act result cursor.new (target_at target cursor.old) }
 {
     match target {

@@ -1,4 +1,3 @@
-use Rattle.std.proofs.Common.{Ok, Err}
 use Rattle.listing_text.specs.Acts.{plain_act}
 use Rattle.c_print.proofs.CLineLaws.{line_is_read, same_read, only_memory}
 use Rattle.c_print.proofs.lines.read_c_line.Goals as goal
