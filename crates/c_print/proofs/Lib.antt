@@ -2,3 +2,4 @@ pub mod Shapes
 pub mod CSpelt
 pub mod CBack
 pub mod CLineLaws
+pub mod CTableLaws

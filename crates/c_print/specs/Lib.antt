@@ -1,3 +1,4 @@
 pub mod CText
 pub mod CLines
 pub mod CLineTexts
+pub mod CTables

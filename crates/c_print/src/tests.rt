@@ -216,3 +216,29 @@ fn reads_lines(rt: HostRuntime) {
         assert_eq!(rt; numbers_of(rt.alloc(), line), numbers);
     }
 }
+
+fn table_of(alloc: Global, line: &[u8]) -> Option<(u64, u64, u64)> {
+    let (number, entries) = read_c_table(alloc, line).ok()?;
+    let last = entries.last()?;
+    Some((number, entries.len() as u64, *last))
+}
+
+#[test]
+fn reads_tables(rt: HostRuntime) {
+    let lines: [(&[u8], Option<(u64, u64, u64)>); 8] = [
+        (b"static const uint64_t t0[1] = {1};\n", Some((0, 1, 1))),
+        (
+            b"static const uint64_t t1[3] = {2,3,16};\n",
+            Some((1, 3, 16)),
+        ),
+        (b"static const uint64_t t1[2] = {2,3,16};\n", None),
+        (b"static const uint64_t t1[3] = {2,3, 16};\n", None),
+        (b"static const uint64_t t1[0] = {};\n", None),
+        (b"static const uint64_t t1[3] = {2,3,16};", None),
+        (b"static const uint64_t t1[3] = {2,3,016};\n", None),
+        (b"static uint64_t t1[3] = {2,3,16};\n", None),
+    ];
+    for (line, table) in lines {
+        assert_eq!(rt; table_of(rt.alloc(), line), table);
+    }
+}
