@@ -13,7 +13,7 @@ use Rattle.grammar.proofs.Lists.{numbers_reader}
 use Rattle.grammar.proofs.Whole.{again}
 use Rattle.listing_text.specs.Reading.{above_all}
 use Rattle.listing_text.proofs.Spelt.{Spelt, reader_cases, word_then, named_then}
-use Rattle.listing_text.proofs.ReadBack.{Back, then_back, word_back, named_back}
+use Rattle.listing_text.proofs.ReadBack.{then_back, word_back, named_back}
 use Rattle.listing_text.proofs.ActsSpelt.{whole_spelt}
 use Rattle.listing_text.proofs.OutsideLines.{whole_back}
 use Rattle.c_print.specs.CText.{joined_text, c_table_text}

@@ -3,3 +3,4 @@ pub mod CSpelt
 pub mod CBack
 pub mod CLineLaws
 pub mod CTableLaws
+pub mod CHeaderLaws

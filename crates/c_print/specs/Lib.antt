@@ -2,3 +2,4 @@ pub mod CText
 pub mod CLines
 pub mod CLineTexts
 pub mod CTables
+pub mod CHeaders

@@ -242,3 +242,40 @@ fn reads_tables(rt: HostRuntime) {
         assert_eq!(rt; table_of(rt.alloc(), line), table);
     }
 }
+
+#[test]
+fn reads_headers(rt: HostRuntime) {
+    let header = Header {
+        size: 5,
+        modulus: 17,
+        procs: 2,
+        line: 4,
+        lanes: 2,
+        regs: 9,
+    };
+    let lines: [(&[u8], Option<Header>); 5] = [
+        (
+            b"/* program size 5 mod 17 procs 2 line 4 lanes 2 regs 9 */\n",
+            Some(header),
+        ),
+        (
+            b"/* program size 5 mod 17 procs 2 line 4 lanes 2 regs 9 */",
+            None,
+        ),
+        (
+            b"/* program size 5 mod 17 procs 2 line 4 lanes 2 regs 9\n",
+            None,
+        ),
+        (
+            b"/* program size 5 mod 017 procs 2 line 4 lanes 2 regs 9 */\n",
+            None,
+        ),
+        (
+            b"program size 5 mod 17 procs 2 line 4 lanes 2 regs 9\n",
+            None,
+        ),
+    ];
+    for (line, found) in lines {
+        assert_eq!(rt; read_c_header(line).ok(), found);
+    }
+}
