@@ -1,1 +1,5 @@
 pub mod CText
+pub mod CLines
+pub mod CLineTexts
+pub mod CTables
+pub mod CHeaders

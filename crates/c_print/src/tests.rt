@@ -1,5 +1,7 @@
 use super::*;
-use listing_text::read_listing;
+use icode::program::Op;
+use listing_text::{Act, read_listing};
+use std::alloc::Global;
 use std::test::*;
 
 const LISTING: &[u8] = b"program size 2 mod 15 procs 1 line 1 lanes 1 regs 5
@@ -102,4 +104,178 @@ fn prints_programs(rt: HostRuntime) -> Result<(), Fail> {
         assert_eq!(rt; printed.as_slice(), c_text);
     }
     Ok(())
+}
+
+// The numbers of a line, its place and arrays left out.
+fn numbers_of(alloc: Global, line: &[u8]) -> Option<[u64; 3]> {
+    match read_c_line(alloc, line) {
+        Ok(Act::Open { depth, count }) => Some([depth, count, 0]),
+        Ok(Act::Close) => Some([0, 0, 0]),
+        Ok(Act::Do(op)) => Some(operands_of(op)),
+        Err(_) => None,
+    }
+}
+
+fn operands_of(op: Op) -> [u64; 3] {
+    match op {
+        Op::Load { register, .. } => [register, 0, 0],
+        Op::Store { register, .. } => [register, 0, 0],
+        Op::Zero { register } => [register, 0, 0],
+        Op::Add {
+            register,
+            left,
+            right,
+        } => [register, left, right],
+        Op::Sub {
+            register,
+            left,
+            right,
+        } => [register, left, right],
+        Op::Neg { register, source } => [register, source, 0],
+        Op::MulConst {
+            register,
+            source,
+            factor,
+        } => [register, source, factor],
+        Op::MulTable {
+            register,
+            source,
+            table,
+            ..
+        } => [register, source, table],
+        Op::Tile { register, source } => [register, source, 0],
+    }
+}
+
+#[test]
+fn reads_lines(rt: HostRuntime) {
+    let lines: [(&[u8], Option<[u64; 3]>); 22] = [
+        (b"for (uint64_t v1 = 0; v1 < 3; v1++) {\n", Some([1, 3, 0])),
+        (b"for (uint64_t v1 = 0; v2 < 3; v1++) {\n", None),
+        (b"for (uint64_t v1 = 0; v1 < 3; v2++) {\n", None),
+        (b"}\n", Some([0, 0, 0])),
+        (b"}", None),
+        (b"}\n}\n", None),
+        (
+            b"for (int l = 0; l < V; l++) r[7][l] = X[2 + l];\n",
+            Some([7, 0, 0]),
+        ),
+        (
+            b"for (int l = 0; l < V; l++) A[0+q*1+(0+v0*1)%2*4 + l] = r[8][l];\n",
+            Some([8, 0, 0]),
+        ),
+        (b"for (int l = 0; l < V; l++) C[0 + l] = r[8][l];\n", None),
+        (
+            b"for (int l = 0; l < V; l++) r[6][l] = 0;\n",
+            Some([6, 0, 0]),
+        ),
+        (b"for (int l = 0; l < V; l++) r[6][l] = 1;\n", None),
+        (b"for (int l = 0; l < V; l++) r[06][l] = 0;\n", None),
+        (
+            b"for (int l = 0; l < V; l++) r[2][l] = add(r[0][l], r[1][l]);\n",
+            Some([2, 0, 1]),
+        ),
+        (
+            b"for (int l = 0; l < V; l++) r[2][l] = add(r[0][l], r[1][l]); \n",
+            None,
+        ),
+        (
+            b"for (int l = 0; l < V; l++) r[2][l] = sub(r[3][l], r[1][l]);\n",
+            Some([2, 3, 1]),
+        ),
+        (
+            b"for (int l = 0; l < V; l++) r[3][l] = sub(0, r[4][l]);\n",
+            Some([3, 4, 0]),
+        ),
+        (
+            b"for (int l = 0; l < V; l++) r[3][l] = sub(1, r[4][l]);\n",
+            None,
+        ),
+        (
+            b"for (int l = 0; l < V; l++) r[3][l] = mul(r[1][l], 4);\n",
+            Some([3, 1, 4]),
+        ),
+        (
+            b"for (int l = 0; l < V; l++) r[5][l] = mul(r[6][l], t1[0+v0*1 + 1 * l]);\n",
+            Some([5, 6, 1]),
+        ),
+        (
+            b"for (int l = 0; l < V; l++) r[5][l] = mul(r[6][l], t1[0+v0*1]);\n",
+            None,
+        ),
+        (
+            b"for (int k = 0; k < V; k++) for (int l = 0; l < V; l++) r[0 + k][l] = r[4 + l][k];\n",
+            Some([0, 4, 0]),
+        ),
+        (
+            b"for (int k = 0; k < V; k++) for (int l = 0; l < V; l++) r[0 + k][l] = r[4 + k][l];\n",
+            None,
+        ),
+    ];
+    for (line, numbers) in lines {
+        assert_eq!(rt; numbers_of(rt.alloc(), line), numbers);
+    }
+}
+
+fn table_of(alloc: Global, line: &[u8]) -> Option<(u64, u64, u64)> {
+    let (number, entries) = read_c_table(alloc, line).ok()?;
+    let last = entries.last()?;
+    Some((number, entries.len() as u64, *last))
+}
+
+#[test]
+fn reads_tables(rt: HostRuntime) {
+    let lines: [(&[u8], Option<(u64, u64, u64)>); 8] = [
+        (b"static const uint64_t t0[1] = {1};\n", Some((0, 1, 1))),
+        (
+            b"static const uint64_t t1[3] = {2,3,16};\n",
+            Some((1, 3, 16)),
+        ),
+        (b"static const uint64_t t1[2] = {2,3,16};\n", None),
+        (b"static const uint64_t t1[3] = {2,3, 16};\n", None),
+        (b"static const uint64_t t1[0] = {};\n", None),
+        (b"static const uint64_t t1[3] = {2,3,16};", None),
+        (b"static const uint64_t t1[3] = {2,3,016};\n", None),
+        (b"static uint64_t t1[3] = {2,3,16};\n", None),
+    ];
+    for (line, table) in lines {
+        assert_eq!(rt; table_of(rt.alloc(), line), table);
+    }
+}
+
+#[test]
+fn reads_headers(rt: HostRuntime) {
+    let header = Header {
+        size: 5,
+        modulus: 17,
+        procs: 2,
+        line: 4,
+        lanes: 2,
+        regs: 9,
+    };
+    let lines: [(&[u8], Option<Header>); 5] = [
+        (
+            b"/* program size 5 mod 17 procs 2 line 4 lanes 2 regs 9 */\n",
+            Some(header),
+        ),
+        (
+            b"/* program size 5 mod 17 procs 2 line 4 lanes 2 regs 9 */",
+            None,
+        ),
+        (
+            b"/* program size 5 mod 17 procs 2 line 4 lanes 2 regs 9\n",
+            None,
+        ),
+        (
+            b"/* program size 5 mod 017 procs 2 line 4 lanes 2 regs 9 */\n",
+            None,
+        ),
+        (
+            b"program size 5 mod 17 procs 2 line 4 lanes 2 regs 9\n",
+            None,
+        ),
+    ];
+    for (line, found) in lines {
+        assert_eq!(rt; read_c_header(line).ok(), found);
+    }
 }

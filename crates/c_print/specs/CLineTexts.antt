@@ -1,0 +1,22 @@
+-- The text of a line of a phase in C, and which lines a program may have.
+use Rattle.std.specs.Prelude.{◌≡◌, ℕ, ◌<◌, ◌≤◌, List, ◌++◌, true, codes}
+use Rattle.icode.specs.Limits.{is_op_within}
+use Rattle.listing_text.specs.Reading.{above_all}
+use Rattle.listing_text.specs.Acts.{PlainAct, Open, Close, Do}
+use Rattle.c_print.specs.CText.{c_op_text, loop_text}
+
+-- a loop's begin, an end, or an operation, as these stand in the C text of a program
+abbrev pub c_line_text : PlainAct → List ℕ
+c_line_text (Open depth count) = loop_text depth count
+c_line_text Close = codes "}\n"
+c_line_text (Do op) = c_op_text op ++ codes "\n"
+
+-- an operation within the limits of a program with this modulus, inside so many loops; a loop's numbers are words
+abbrev pub MayStand : ℕ → ℕ → PlainAct → Type 0
+MayStand modulus loops (Open depth count) = (depth < above_all) × (count < above_all)
+MayStand modulus loops Close = Unit {0}
+MayStand modulus loops (Do op) = is_op_within modulus op loops ≡ true
+
+-- the text is the line's, which may stand in some program
+abbrev pub IsLineOf : List ℕ → PlainAct → Type 0
+IsLineOf text act = (modulus : ℕ) × (loops : ℕ) × (modulus ≤ above_all) × (loops ≤ 64) × MayStand modulus loops act × (text ≡ c_line_text act)
