@@ -1,8 +1,8 @@
 //! The program: its words, its standard streams, and the exit code of its status.
 #![tactic(auto)]
 
-use io_edge::{ReadSource, WriteSink};
-use spiral_main::spiral_run;
+use io_edge::{ReadSource, WriteSink, write_all};
+use spiral_main::{Status, spiral_run};
 use std::process::ExitCode;
 use std::{env, io};
 
@@ -19,8 +19,15 @@ fn main(rt: HostRuntime) -> ExitCode {
     let mut input = ReadSource::new(rt.stdin());
     let mut output = WriteSink::new(rt.stdout());
     let mut note = WriteSink::new(rt.stderr());
-    // Words that are no text are no command, and neither are no words.
-    let words = words(&rt).unwrap_or(Vec::new(rt.alloc()));
+    let words = match words(&rt) {
+        Ok(words) => words,
+        Err(error) if error.kind() == io::ErrorKind::OutOfMemory => {
+            let _ = write_all(&mut note, b"spiral: out of memory\n");
+            return ExitCode::from(Status::NoMemory.code());
+        }
+        // Words that are no text are no command, and neither are no words.
+        Err(_) => Vec::new(rt.alloc()),
+    };
     let status = spiral_run(rt.alloc(), &words, &mut input, &mut output, &mut note);
     ExitCode::from(status.code())
 }
