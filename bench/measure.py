@@ -1,7 +1,5 @@
 """Measures the built program, whose path is the first argument."""
-import os
 import random
-import resource
 import subprocess
 import sys
 import tempfile
@@ -21,17 +19,29 @@ def request(size):
 
 
 def run(command, text):
-    """Seconds and peak kilobytes of one call, with its input from a file."""
+    """Seconds of one call, with its input from a file."""
     with tempfile.TemporaryFile() as source, tempfile.TemporaryFile() as target:
         source.write(text.encode())
         source.seek(0)
         begin = time.perf_counter()
-        child = subprocess.Popen([PROGRAM, command], stdin=source, stdout=target)
-        _, status, usage = os.wait4(child.pid, 0)
+        status = subprocess.run([PROGRAM, command], stdin=source, stdout=target).returncode
         seconds = time.perf_counter() - begin
         if status != 0:
             raise SystemExit(f"{command} ended with {status}")
-        return seconds, usage.ru_maxrss
+        return seconds
+
+
+def peak(command, text):
+    """Peak kilobytes of one call, read before its input ends."""
+    child = subprocess.Popen([PROGRAM, command], stdin=subprocess.PIPE, stdout=subprocess.DEVNULL)
+    child.stdin.write(text.encode())
+    child.stdin.flush()
+    time.sleep(0.2)
+    with open(f"/proc/{child.pid}/status") as status:
+        kilobytes = next(line.split()[1] for line in status if line.startswith("VmHWM"))
+    child.stdin.close()
+    child.wait()
+    return kilobytes
 
 
 def vectors(size, count):
@@ -41,7 +51,7 @@ def vectors(size, count):
 
 
 def best(command, text, times=3):
-    return min(run(command, text)[0] for _ in range(times))
+    return min(run(command, text) for _ in range(times))
 
 
 def actions(size):
@@ -61,8 +71,8 @@ def main():
     seconds = best("run", request(2) + data) - start_up
     print(f"data of dft 2: {len(data) / 1e6 / seconds:.1f} MB read a second, with a line written for each vector")
     for count in (10, 1000, 100_000):
-        _, peak = run("run", request(4) + vectors(4, count))
-        print(f"peak memory of dft 4 over {count} vectors: {peak} KB")
+        kilobytes = peak("run", request(4) + vectors(4, count))
+        print(f"peak memory of dft 4 over {count} vectors: {kilobytes} KB")
 
 
 main()
