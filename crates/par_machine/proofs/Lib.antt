@@ -16,3 +16,4 @@ pub mod Translations
 pub mod Tables
 pub mod News
 pub mod Schedules
+pub mod Remaining

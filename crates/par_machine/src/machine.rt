@@ -1,6 +1,6 @@
 // The machine.
 
-ghost use Rattle.std.specs.Prelude.{◌≡◌, ℕ, ◌+◌, ◌-◌, ◌*◌, ◌<◌, ◌≤◌, List, [], ◌∷◌, length, All, slice_index, Some, IfSome, IfNone, IfOk, IsTrue, ◌↔◌, replicate, nat_le, None};
+ghost use Rattle.std.specs.Prelude.{◌≡◌, ℕ, ◌+◌, ◌-◌, ◌*◌, ◌^◌, ◌<◌, ◌≤◌, List, [], ◌∷◌, length, All, slice_index, Some, IfSome, IfNone, IfOk, IsTrue, ◌↔◌, replicate, nat_le, None};
 ghost use Rattle.std.specs.List.{find};
 ghost use Rattle.icode.specs.Machine.{acts, next_action, turn, run, answer, completion, finished, start, counts_so_far, padded};
 ghost use Rattle.icode.specs.Program.{code_of, Fits};
@@ -191,9 +191,10 @@ impl Machine {
     }
 
     /// The processor whose turn is the next of those that finish the run.
-    fn next_proc(&self) -> Option<u64>
+    pub fn next_proc(&self) -> Option<u64>
         ensures found { IfSome result (λ q. (q < self.now.code.procs) × (completion self.now.code self.now.state ≡ q ∷ completion self.now.code (turn self.now.code self.now.state q))) }
         ensures none { IfNone result (completion self.now.code self.now.state ≡ []) }
+        ensures few { length (completion self.now.code self.now.state) < 2 ^ 63 }
     {
         if self.phase == self.phases.len() as u64 {
             return None;
@@ -250,10 +251,19 @@ impl Machine {
         self.shape.procs
     }
 
+    /// The number of lanes.
+    pub fn lanes(&self) -> u64
+        ensures value { result ≡ self.now.code.lanes }
+        ensures limits { (1 ≤ result) × (result ≤ 16) }
+    {
+        self.shape.lanes
+    }
+
     /// The number of words of memory.
     pub fn span(&self) -> u64
         ensures value { result ≡ 4 * padded self.now.code }
         ensures memory { result ≡ length self.now.state.memory }
+        ensures room { (0 < self.now.code.size) × (self.now.code.size ≤ padded self.now.code) }
     {
         4 * self.shape.room
     }

@@ -1,9 +1,9 @@
 -- The reader of the request line reads by its grammar.
-use Rattle.std.proofs.Common.{◌≡◌, ℕ, ◌<◌, ◌≤◌, List, [], ◌∷◌, ◌++◌, refl, sym, subst, codes, Result, arith, inl, inr}
+use Rattle.std.proofs.Common.{◌≡◌, ℕ, ◌<◌, ◌≤◌, List, [], ◌∷◌, refl, sym, subst, codes, Result, arith}
 use Rattle.matrix_meaning.specs.declared.Kind.{Kind}
 use Rattle.matrix_meaning.specs.declared.Kind.TheVariants.{Dft, Wht}
 use Rattle.matrix_meaning.specs.declared.Request.{Request}
-use Rattle.grammar.specs.Grammar.{pure, Follows, Judges, one_of}
+use Rattle.grammar.specs.Grammar.{Judges, one_of}
 use Rattle.grammar.specs.Reading.{whole, one_of_at}
 use Rattle.grammar.proofs.Whole.{whole_judges}
 use Rattle.grammar.proofs.Numbers.{NoDigit}
@@ -20,7 +20,7 @@ small : above_all ≤ above_all
 small = omega arith
 
 kinds_reader : IsReader Anything (one_of kinds) (one_of_at kinds)
-kinds_reader = one_of_reader Anything (codes "dft ", Dft) [] refl
+kinds_reader = one_of_reader Anything (codes "dft ", Dft) ((codes "wht ", Wht) ∷ []) refl
 
 root_reader : (kind : Kind) → IsReader NoDigit (root_of kind) (root_at kind)
 root_reader Dft = named_number_reader (codes " root ") above_all pos small
@@ -48,12 +48,8 @@ request_reader =
 pub line_judges : (text : List ℕ) (r : Result Request ℕ) → whole request_at text ≡ r → Judges request_line text r
 line_judges text r e = subst (Judges request_line text) e (whole_judges Nothing request_line request_at request_reader refl text)
 
-kind_is : (text : List ℕ) (kind : Kind) → one_of kinds text kind → kind ≡ Dft
-kind_is text kind (inl l) = l.1
-kind_is text kind (inr l) = absurd l
-
 -- the fields that the line does not name
 pub line_is_plain : (text : List ℕ) (r : Request) → request_line text r → IsPlain r
 line_is_plain text r l =
     let e = l.ends.ends.ends.ends.ends.1 in
-    subst IsPlain (sym e) record { kind = kind_is l.front l.spelt l.begins; procs = refl; line = refl; lanes = refl; weight = refl }
+    subst IsPlain (sym e) record { procs = refl; line = refl; lanes = refl; weight = refl }

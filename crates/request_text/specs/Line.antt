@@ -3,7 +3,7 @@ use Rattle.std.specs.Prelude.{◌≡◌, ℕ, List, [], ◌∷◌, ◌^◌, code
 use Rattle.matrix_meaning.specs.declared.Kind.{Kind}
 use Rattle.matrix_meaning.specs.declared.Kind.TheVariants.{Dft, Wht}
 use Rattle.matrix_meaning.specs.declared.Request.{Request}
-use Rattle.grammar.specs.Grammar.{◌>>=◌, ◌>>◌, pure, one_of, number, named_number, parts}
+use Rattle.grammar.specs.Grammar.{◌>>=◌, pure, one_of, number, named_number, parts}
 
 -- each number is below this
 abbrev pub above_all : ℕ
@@ -11,7 +11,7 @@ above_all = 2 ^ 64
 
 -- the transforms that a line can name
 abbrev pub kinds : List (List ℕ × Kind)
-kinds = (codes "dft ", Dft) ∷ []
+kinds = (codes "dft ", Dft) ∷ (codes "wht ", Wht) ∷ []
 
 abbrev pub root_of : Kind → List ℕ → ℕ → Type 0
 root_of Dft = named_number (codes " root ") above_all
@@ -45,9 +45,8 @@ request_line = do
   options ← parts above_all optional_parts
   pure (request_of kind size modulus root options)
 
--- a Fourier transform for one processor with one lane, where each operation counts the same
+-- one processor with lines of one word and one lane, where each operation counts the same
 pub record IsPlain (r : Request) : Type 0 where
-  pub kind : r.kind ≡ Dft
   pub procs : r.procs ≡ 1
   pub line : r.line ≡ 1
   pub lanes : r.lanes ≡ 1

@@ -2,6 +2,7 @@
 #![tactic(auto)]
 
 mod fault;
+mod generator;
 mod request;
 mod schedule;
 

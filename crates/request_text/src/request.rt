@@ -26,7 +26,10 @@ fn root_of(cursor: &mut Cursor, kind: Kind) -> Result<u64, Stuck>
 fn request_of(cursor: &mut Cursor) -> Result<Request, Stuck>
     ensures { Gives result cursor.new (request_at cursor.old) }
 {
-    let kind = cursor.one_of(&[(b"dft ".as_slice(), Kind::Dft)])?;
+    let kind = cursor.one_of(&[
+        (b"dft ".as_slice(), Kind::Dft),
+        (b"wht ".as_slice(), Kind::Wht),
+    ])?;
     let size = cursor.number(u64::MAX)?;
     cursor.word(b" mod ")?;
     let modulus = cursor.number(u64::MAX)?;

@@ -3,9 +3,10 @@ ghost use Rattle.std.specs.List.{find};
 ghost use Rattle.grammar.specs.Cursor.{Tells, TellsAll};
 ghost use Rattle.grammar.specs.Reading.{whole};
 ghost use Rattle.request_text.specs.Schedule.{Plan, as_plan, schedule_word, WordAnswers};
-ghost use Rattle.request_text.specs.Turns.{turns_of, named, next_state, state_after};
+ghost use Rattle.request_text.specs.Turns.{turns_of, named, state_after};
 ghost use Rattle.request_text.specs.ScheduleReading.{plan_at, schedule_at};
 
+use crate::generator::state_after;
 use grammar::{Cursor, ReadError};
 use std::alloc::Global;
 use std::marker::Model;
@@ -120,7 +121,8 @@ impl Schedule {
     /// How many turns there are for so many processors.
     pub fn len(&self, p: u64) -> u64
         requires { (1 ≤ p) × (p ≤ 16) }
-        ensures { result ≡ length (turns_of self.now p) }
+        ensures value { result ≡ length (turns_of self.now p) }
+        ensures few { result ≤ 16000000 }
     {
         match &self.turns {
             Turns::Sequential => 0,
@@ -168,20 +170,8 @@ fn first_from(turns: &[u64], p: u64) -> Option<u64>
 
 /// What the generator gives at place `i`, before it is reduced.
 fn generated(seed: u64, i: u64) -> u64
+    requires { i + 1 < 2 ^ 64 }
     ensures { result ≡ state_after (i + 1) seed / 2 ^ 33 }
 {
-    let mut state = seed;
-    for _ in 0..i {
-        state = next_state(state);
-    }
-    next_state(state) >> 33
-}
-
-/// The generator's next state.
-fn next_state(state: u64) -> u64
-    ensures { result ≡ next_state state }
-{
-    state
-        .wrapping_mul(6_364_136_223_846_793_005)
-        .wrapping_add(1_442_695_040_888_963_407)
+    state_after(seed, i + 1) >> 33
 }

@@ -28,12 +28,35 @@ fn reads_a_line(rt: HostRuntime) {
             ..request
         })
     );
+    assert_eq!(rt;
+        read_request(b"wht 8 mod 10 unroll 4"),
+        Ok(Request {
+            kind: Kind::Wht,
+            size: 8,
+            modulus: 10,
+            root: 0,
+            unroll: 4,
+            budget: 100_000_000,
+            ..request
+        })
+    );
+    assert_eq!(rt;
+        read_request(b"wht 6 mod 10 unroll 99"),
+        Err(RequestFault::Range {
+            field: Field::Unroll,
+            value: 99
+        })
+    );
+    assert_eq!(rt;
+        read_request(b"wht 6 mod 10"),
+        Err(RequestFault::Shape { size: 6 })
+    );
 }
 
 // The places come from a matcher of prefixes that is no part of this program.
 #[test]
 fn stuck_places(rt: HostRuntime) {
-    let lines: [(&[u8], u64); 22] = [
+    let lines: [(&[u8], u64); 24] = [
         (b"", 0),
         (b"dft", 3),
         (b"dft  4 mod 17 root 4", 4),
@@ -51,7 +74,9 @@ fn stuck_places(rt: HostRuntime) {
         (b"dft 4 mod 17 root 4 line 1", 20),
         (b"dft 4 mod 17 root 4 lanes 1", 20),
         (b"dft 4 mod 17 root 4 weight 1", 20),
-        (b"wht 4 mod 5", 0),
+        (b"xht 4 mod 5", 0),
+        (b"wht", 3),
+        (b"wht 4 mod 5 root 1", 12),
         (b"dft 4 mod 17 root 4 unroll 8 unroll 8", 29),
         (b"dft 4 mod 17 root 4 budget 9 unroll 8", 28),
         (b"dft 4 mod 17 root 4 unroll 8 bidget 9", 30),
@@ -127,5 +152,13 @@ fn schedules(rt: HostRuntime) -> Result<(), Fail> {
     assert_eq!(rt; rounds.len(5), 15);
     assert_eq!(rt; rounds.turn_at(13, 5), 3);
     assert_eq!(rt; rounds.stranger(1), None);
+    let seeded = read_schedule(rt.alloc(), b"seed:18446744073709551615:1000000")
+        .ok()
+        .ok_or("turns from a seed")?;
+    assert_eq!(rt; seeded.len(16), 1_000_000);
+    assert_eq!(rt; seeded.turn_at(0, 16), 8);
+    assert_eq!(rt; seeded.turn_at(65_535, 16), 9);
+    assert_eq!(rt; seeded.turn_at(524_288, 16), 5);
+    assert_eq!(rt; seeded.turn_at(999_999, 16), 15);
     Ok(())
 }

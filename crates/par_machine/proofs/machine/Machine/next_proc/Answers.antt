@@ -1,4 +1,4 @@
-use Rattle.std.proofs.Common.{◌≡◌, ◌<◌, [], ◌∷◌, ◌∙◌, ap, sym, subst, arith, length, List, ℕ}
+use Rattle.std.proofs.Common.{◌≡◌, ◌<◌, ◌^◌, [], ◌∷◌, ◌∙◌, ap, sym, subst, arith, length, List, ℕ}
 use Rattle.std.specs.Prelude.{IfSome, IfNone}
 use Rattle.std.proofs.lemmas.Option.{IfSome_then}
 use Rattle.icode.specs.Machine.{completion, turn}
@@ -7,6 +7,7 @@ use Rattle.par_machine.specs.Lengths.{IsFirstLeft}
 use Rattle.par_machine.specs.Running.{Running}
 use Rattle.par_machine.specs.View.{running_of}
 use Rattle.par_machine.proofs.Wholes.{nothing_left, next_left, some_left, if_none}
+use Rattle.par_machine.proofs.Remaining.{few_left}
 use Rattle.par_machine.proofs.machine.Machine.next_proc.Goals as goal
 
 pub returns-then-self-len-clause-none : goal.returns-then-self-len-clause-none
@@ -30,3 +31,9 @@ returns-clause-none c =
     let w = c.self.invariant in
     let here : a.phase < length a.phases.items = omega (arith, w.running.phase, c.if-self-len.false, c.len.ensures, a.phases.ok.0) in
     if_none c.first_left.result (λ none. absurd (some_left a c.index.result.now w here c.index.ensures (λ q lt. rw c.deref.ensures.value at none q (omega (arith, lt, ap length c.deref.ensures.value))))) c.first_left.ensures.none
+
+pub returns-then-self-len-clause-few : goal.returns-then-self-len-clause-few
+returns-then-self-len-clause-few c = subst (λ (r : Running). length (completion r.code r.state) < 2 ^ 63) c.self.view_is (few_left c.self.inside c.self.invariant)
+
+pub returns-clause-few : goal.returns-clause-few
+returns-clause-few c = subst (λ (r : Running). length (completion r.code r.state) < 2 ^ 63) c.self.view_is (few_left c.self.inside c.self.invariant)

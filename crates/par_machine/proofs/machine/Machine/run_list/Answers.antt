@@ -9,5 +9,5 @@ pub turn-requires : goal.turn-requires
 turn-requires c =
     let procs = c.procs-procs.result in
     let known : find (λ q. nat_le procs q) (named c.args.schedule.now) ≡ None = subst (λ n. find (λ q. nat_le n q) (named c.args.schedule.now) ≡ None) (sym c.procs-procs.ensures.value) c.requires.no_stranger in
-    let there = turns_there c.args.schedule.now procs (omega (arith, c.procs-procs.ensures.limits.0)) known c.loop-i.i (omega (arith, c.len-i-end.ensures)) in
+    let there = turns_there c.args.schedule.now procs (omega (arith, c.procs-procs.ensures.limits.0)) known c.loop-i.i (omega (arith, c.len-i-end.ensures.value)) in
     record { proc = omega (arith, there, c.turn_at-proc.ensures, c.procs-procs.ensures.value, ap (λ (code : Code). code.procs) c.loop-i.invariant.code) }
