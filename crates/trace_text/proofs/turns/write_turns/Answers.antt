@@ -1,0 +1,38 @@
+use Rattle.std.proofs.Common.{◌≡◌, ◌∙◌, List, ℕ, ap, subst, sym, length}
+use Rattle.std.proofs.lemmas.Result.{err_from_is_err_and}
+use Rattle.icode.specs.Machine.{Code, completion, run}
+use Rattle.io_edge.specs.Taken.{AppendsPrefix, WritesAll}
+use Rattle.io_edge.proofs.TakenLemmas.{prefix_more, writes_after}
+use Rattle.request_text.specs.Turns.{turns_of}
+use Rattle.trace_text.specs.From.{lines_from}
+use Rattle.trace_text.proofs.Lines.{trace_parts, same_rest}
+use Rattle.trace_text.proofs.turns.write_turns.Goals as goal
+
+pub returns-in_err-write_list-clause-bytes : goal.returns-in_err-write_list-clause-bytes
+returns-in_err-write_list-clause-bytes g c =
+    let taken = g.O.Sink.taken in
+    let code = c.args.machine.now.code in
+    let state = c.args.machine.now.state in
+    let turns = turns_of c.args.schedule.now code.procs in
+    let last = run code state turns in
+    let a = taken c.args.output.now in
+    let b = taken c.write_list.new.output in
+    let p = err_from_is_err_and c.from_residual.result c.from_residual.ensures.1 in
+    rw p.1 (subst (AppendsPrefix a b) (sym (trace_parts code state turns))
+    (prefix_more a b (lines_from code state 0 turns) (lines_from code last (length turns) (completion code last)) c.in_err-write_list.ensures.bytes))
+
+pub returns-clause-bytes : goal.returns-clause-bytes
+returns-clause-bytes g c =
+    let taken = g.O.Sink.taken in
+    let code = c.args.machine.now.code in
+    let state = c.args.machine.now.state in
+    let turns = turns_of c.args.schedule.now code.procs in
+    let last = run code state turns in
+    let a = taken c.args.output.now in
+    let b = taken c.write_list.new.output in
+    let d = taken c.write_rest.new.output in
+    let same = c.in_ok-write_list.ensures.code in
+    let count : c.len-count.result ≡ length turns = c.len-count.ensures.value ∙ ap (λ n. length (turns_of c.args.schedule.now n)) (c.procs.ensures.value ∙ ap (λ (k : Code). k.procs) same) in
+    let rest = same_rest (λ (text : List ℕ). WritesAll b d c.write_rest.result text) c.write_list.new.machine.code code c.write_list.new.machine.state last c.len-count.result (length turns) same c.in_ok-write_list.ensures.state count c.write_rest.ensures.bytes in
+    subst (λ (text : List ℕ). WritesAll a d c.write_rest.result text) (sym (trace_parts code state turns))
+    (writes_after a b d (lines_from code state 0 turns) (lines_from code last (length turns) (completion code last)) c.write_rest.result c.in_ok-write_list.ensures.bytes rest)

@@ -1,0 +1,12 @@
+//! The text of a run: a line for each turn, with what the machine answers.
+#![tactic(auto)]
+
+mod text;
+mod turns;
+
+pub use turns::write_turns;
+
+#[cfg(test)]
+mod runs;
+#[cfg(test)]
+mod tests;

@@ -1,0 +1,135 @@
+// The line of a turn.
+
+ghost use Rattle.std.specs.Prelude.{◌≡◌, ◌+◌, ◌*◌, ◌<◌, ◌≤◌, ◌++◌, length, take, codes, decimal, flat_map};
+ghost use Rattle.std.specs.List.{join_by};
+ghost use Rattle.arrayvec.specs.ArrayString.{array_string_len};
+ghost use Rattle.par_machine.specs.Answers.{answered};
+ghost use Rattle.trace_text.specs.Trace.{action_text, answer_text, turn_line};
+
+use arrayvec::ArrayString;
+use icode::action::Action;
+use itoa::Buffer;
+use par_machine::Turned;
+
+/// No line has more bytes: its numbers have up to 20 digits, and there are up to 20 of them.
+const ROOM: usize = 512;
+
+pub(crate) type Line = ArrayString<ROOM>;
+
+/// Appends a word and a number behind it.
+fn put(line: &mut Line, word: &str, number: u64)
+    requires room { array_string_len line.old + length word.now + 20 ≤ 512 }
+    ensures text { line.new.bytes ≡ line.old.bytes ++ word.now ++ decimal number }
+    ensures len { array_string_len line.new ≤ array_string_len line.old + length word.now + 20 }
+{
+    let mut buffer = Buffer::new();
+    line.push_str(word);
+    line.push_str(buffer.format(number));
+}
+
+/// Appends the numbers, each behind a comma.
+fn put_more(line: &mut Line, factors: &[u64])
+    requires room { array_string_len line.old + 21 * length factors.now ≤ 512 }
+    ensures text { line.new.bytes ≡ line.old.bytes ++ flat_map (λ factor. codes "," ++ decimal factor) factors.now }
+    ensures len { array_string_len line.new ≤ array_string_len line.old + 21 * length factors.now }
+{
+    for factor in factors {
+        put(line, ",", *factor);
+    }
+}
+
+/// Appends the numbers, with commas between them.
+fn put_factors(line: &mut Line, factors: &[u64])
+    requires room { array_string_len line.old + 21 * length factors.now ≤ 512 }
+    ensures text { line.new.bytes ≡ line.old.bytes ++ join_by decimal (codes ",") factors.now }
+    ensures len { array_string_len line.new ≤ array_string_len line.old + 21 * length factors.now }
+{
+    if let [first, rest @ ..] = factors {
+        put(line, "", *first);
+        put_more(line, rest);
+    }
+}
+
+/// Appends the text of an action on so many lanes.
+fn put_action(line: &mut Line, lanes: u64, action: &Action)
+    requires lanes { lanes ≤ 16 }
+    requires room { array_string_len line.old ≤ 42 }
+    ensures text { line.new.bytes ≡ line.old.bytes ++ action_text lanes action.now }
+    ensures len { array_string_len line.new ≤ 500 }
+{
+    match action {
+        Action::Load { register, address } => {
+            put(line, "ld r", *register);
+            put(line, " ", *address);
+        }
+        Action::Store { address, register } => {
+            put(line, "st ", *address);
+            put(line, " r", *register);
+        }
+        Action::Zero { register } => put(line, "zero r", *register),
+        Action::Add {
+            register,
+            left,
+            right,
+        } => {
+            put(line, "add r", *register);
+            put(line, " r", *left);
+            put(line, " r", *right);
+        }
+        Action::Sub {
+            register,
+            left,
+            right,
+        } => {
+            put(line, "sub r", *register);
+            put(line, " r", *left);
+            put(line, " r", *right);
+        }
+        Action::Neg { register, source } => {
+            put(line, "neg r", *register);
+            put(line, " r", *source);
+        }
+        Action::Mul {
+            register,
+            source,
+            factors,
+        } => {
+            put(line, "mul r", *register);
+            put(line, " r", *source);
+            line.push_str(" ");
+            put_factors(line, &factors[..lanes as usize]);
+        }
+        Action::Tile { register, source } => {
+            put(line, "tile r", *register);
+            put(line, " r", *source);
+        }
+    }
+}
+
+/// Appends the text of what a turn did.
+fn put_answer(line: &mut Line, lanes: u64, turned: &Turned)
+    requires lanes { lanes ≤ 16 }
+    requires room { array_string_len line.old ≤ 42 }
+    ensures text { line.new.bytes ≡ line.old.bytes ++ answer_text lanes (answered turned.now) }
+    ensures len { array_string_len line.new ≤ 500 }
+{
+    match turned {
+        Turned::Did(action) => put_action(line, lanes, action),
+        Turned::Waits => line.push_str("waits"),
+        Turned::Done => line.push_str("done"),
+    }
+}
+
+/// The line of a turn of a machine with so many lanes.
+pub(crate) fn line_of(number: u64, proc: u64, lanes: u64, turned: &Turned) -> Line
+    requires lanes { lanes ≤ 16 }
+    ensures { result.bytes ≡ turn_line lanes number proc (answered turned.now) }
+{
+    let mut line = Line::new();
+    put(&mut line, "", number);
+    put(&mut line, " ", proc);
+    line.push_str(" ");
+    put_answer(&mut line, lanes, turned);
+    line.push_str("\n");
+    line
+}
