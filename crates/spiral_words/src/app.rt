@@ -1,0 +1,83 @@
+// The command line, as `clap` is told of it.
+ghost use Rattle.std.specs.Prelude.{◌≡◌, IfOk, false};
+ghost use Rattle.clap.specs.Words.{app_of, shape_of, rule_of};
+ghost use Rattle.clap.specs.declared.Command.TheViews.{out-Command as fields_of};
+ghost use Rattle.spiral_words.specs.CommandLine.{option_rule, scheduled, sampled, bare_app, with_bare, plain_app, spiral_app};
+
+use clap::{Arg, ArgAction, Command};
+use std::alloc::{AllocError, Global};
+
+/// An option of one value, with its default.
+fn option<'a>(alloc: Global, name: &'a str, default: &'a str) -> Arg<'a>
+    ensures rule { rule_of result ≡ option_rule name.now default.now }
+    ensures local { result.global ≡ false }
+{
+    Arg::new(alloc, name)
+        .long(name)
+        .action(ArgAction::Set)
+        .default_value(default)
+}
+
+/// A subcommand that takes a schedule.
+fn scheduled<'a>(alloc: Global, name: &'a str) -> Result<Command<'a>, AllocError>
+    ensures shape { IfOk result (λ r. shape_of r ≡ scheduled name.now) }
+    ensures local { IfOk result (λ r. (fields_of r).has_globals ≡ false) }
+{
+    let schedule = option(alloc, "schedule", "seq");
+    Command::new(alloc, name).arg(schedule)
+}
+
+/// A subcommand that takes a seed and a schedule.
+fn sampled<'a>(alloc: Global, name: &'a str) -> Result<Command<'a>, AllocError>
+    ensures shape { IfOk result (λ r. shape_of r ≡ sampled name.now) }
+    ensures local { IfOk result (λ r. (fields_of r).has_globals ≡ false) }
+{
+    let seed = option(alloc, "seed", "0");
+    let schedule = option(alloc, "schedule", "seq");
+    let seeded = Command::new(alloc, name).arg(seed)?;
+    seeded.arg(schedule)
+}
+
+/// The command with one more subcommand, which has no options.
+fn with_bare<'a>(
+    alloc: Global,
+    command: Command<'a>,
+    name: &'a str,
+) -> Result<Command<'a>, AllocError>
+    ensures { IfOk result (λ r. app_of r ≡ with_bare name.now (app_of command.entry)) }
+{
+    command.subcommand(Command::new(alloc, name))
+}
+
+fn bare<'a>(alloc: Global) -> Command<'a>
+    ensures { app_of result ≡ bare_app }
+{
+    Command::new(alloc, "spiral")
+        .disable_help_flag(true)
+        .disable_help_subcommand(true)
+        .subcommand_required(true)
+}
+
+/// The commands that have no options.
+fn plain<'a>(alloc: Global) -> Result<Command<'a>, AllocError>
+    ensures { IfOk result (λ r. app_of r ≡ plain_app) }
+{
+    let plan = with_bare(alloc, bare(alloc), "plan")?;
+    let formula = with_bare(alloc, plan, "formula")?;
+    let code = with_bare(alloc, formula, "code")?;
+    let c = with_bare(alloc, code, "c")?;
+    let cert = with_bare(alloc, c, "cert")?;
+    with_bare(alloc, cert, "check")
+}
+
+/// The whole command line.
+pub(crate) fn spiral_app<'a>(alloc: Global) -> Result<Command<'a>, AllocError>
+    ensures { IfOk result (λ r. app_of r ≡ spiral_app) }
+{
+    let run = scheduled(alloc, "run")?;
+    let trace = scheduled(alloc, "trace")?;
+    let sample = sampled(alloc, "sample")?;
+    let with_run = plain(alloc)?.subcommand(run)?;
+    let with_trace = with_run.subcommand(trace)?;
+    with_trace.subcommand(sample)
+}

@@ -1,0 +1,30 @@
+//! What the words of a command line ask for.
+#![tactic(auto)]
+
+ghost use Rattle.std.specs.Prelude.{◌≡◌, List, None, false};
+ghost use Rattle.clap.specs.Words.{Text, fault_of};
+ghost use Rattle.clap.specs.Walk.{is_empty};
+ghost use Rattle.spiral_words.specs.declared.command.Command.{Command};
+ghost use Rattle.spiral_words.specs.CommandLine.{spiral_app};
+ghost use Rattle.spiral_words.specs.Named.{named_of};
+ghost use Rattle.spiral_words.specs.Asked.{IsAsked, IsUsage};
+
+mod app;
+mod command;
+mod line;
+mod seed;
+
+pub use command::{Command, Refusal, command_of};
+
+/// Words name no command only where clap refuses them.
+pub fn clap_refuses()
+    ensures { (words : List Text) → named_of words ≡ None → is_empty (fault_of spiral_app words) ≡ false }
+{}
+
+/// Words that are no command line ask for nothing.
+pub fn usage_asks_nothing()
+    ensures { (words : List Text) (command : Command) → IsUsage words → IsAsked words command → ⊥ }
+{}
+
+#[cfg(test)]
+mod tests;
