@@ -9,8 +9,9 @@ use Rattle.listing_text.proofs.Spelt.{Spelt, word_then, named_then}
 use Rattle.listing_text.proofs.ReadBack.{Back, then_back, word_back, named_back}
 use Rattle.listing_text.proofs.ActsSpelt.{whole_spelt}
 use Rattle.listing_text.proofs.OutsideLines.{whole_back}
-use Rattle.c_print.specs.declared.header.Header.{Header}
-use Rattle.c_print.specs.CHeaders.{c_header_at, c_header_text, bare_program, header_of, IsHeaderOf}
+use Rattle.listing_text.specs.declared.draft.Header.{Header}
+use Rattle.c_print.specs.CText.{c_header_text}
+use Rattle.c_print.specs.CHeaders.{c_header_at, bare_program, header_of, IsHeaderOf}
 
 abbrev Any : {A : Type 0} → A → Type 0
 Any x = Unit {0}

@@ -6,13 +6,14 @@ use Rattle.std.proofs.lemmas.List.{append-nil, length-append}
 use Rattle.grammar.specs.declared.token.ReadError.{ReadError}
 use Rattle.grammar.specs.declared.token.ReadError.TheVariants as errors
 use Rattle.grammar.specs.Cursor.{TellsAll}
-use Rattle.grammar.specs.Grammar.{numbers, more_numbers}
-use Rattle.grammar.specs.Reading.{Place, start, whole, word_at, named_number_at, numbers_at}
-use Rattle.grammar.proofs.Parts.{Behind, spells_named}
+use Rattle.grammar.specs.Grammar.{named_number, numbers, more_numbers}
+use Rattle.grammar.specs.Reading.{Place, start, and_then, whole, word_at, named_number_at, numbers_at}
+use Rattle.grammar.proofs.Numbers.{NoDigit}
+use Rattle.grammar.proofs.Parts.{Behind, spells_named, named_number_reader}
 use Rattle.grammar.proofs.Lists.{numbers_reader}
 use Rattle.grammar.proofs.Whole.{again}
 use Rattle.listing_text.specs.Reading.{above_all}
-use Rattle.listing_text.proofs.Spelt.{Spelt, reader_cases, word_then, named_then}
+use Rattle.listing_text.proofs.Spelt.{Spelt, reader_cases, word_then}
 use Rattle.listing_text.proofs.ReadBack.{then_back, word_back, named_back}
 use Rattle.listing_text.proofs.ActsSpelt.{whole_spelt}
 use Rattle.listing_text.proofs.OutsideLines.{whole_back}
@@ -69,8 +70,8 @@ all_spells count c entries fits h le = record {
 
 -- ---- what is read is the table's text
 
-abbrev HasEntries : ℕ × List ℕ → Type 0
-HasEntries table = 0 < length table.1
+abbrev pub TableFits : ℕ × List ℕ → Type 0
+TableFits table = (table.0 < above_all) × (0 < length table.1) × (length table.1 < above_all)
 
 abbrev table_text : ℕ × List ℕ → List ℕ
 table_text table = c_table_text table.0 table.1
@@ -81,33 +82,39 @@ shape_left a x b y c z d rest = simp append_assoc
 shape_right : (a x b y c z d : List ℕ) → a ++ x ++ b ++ y ++ c ++ z ++ d ≡ a ++ (x ++ (b ++ (y ++ (c ++ (z ++ d)))))
 shape_right a x b y c z d = simp append_assoc
 
-same_spelt : (s : List ℕ) (number count : ℕ) (entries : List ℕ) (q : Place ℕ) (k : Bool) → eqb (length entries) count ≡ k → 0 < length entries
+same_spelt : (s : List ℕ) (number count : ℕ) (entries : List ℕ) (q : Place ℕ) (k : Bool) → eqb (length entries) count ≡ k → number < above_all → count < above_all → 0 < length entries
     → s ≡ codes "static const uint64_t t" ++ (decimal number ++ (codes "[" ++ (decimal count ++ (codes "] = {" ++ (joined_text entries ++ (codes "};\n" ++ q.rest))))))
-    → Spelt HasEntries table_text s (same_length number count entries q)
+    → Spelt TableFits table_text s (same_length number count entries q)
 unfolding c_table_text
-same_spelt s number count entries q true k some e =
+same_spelt s number count entries q true k fits few some e =
     rw k (
-      some,
+      (fits, some, omega (arith, few, eqb-true (length entries) count k)),
       e ∙ ap (λ n. codes "static const uint64_t t" ++ (decimal number ++ (codes "[" ++ (decimal n ++ (codes "] = {" ++ (joined_text entries ++ (codes "};\n" ++ q.rest))))))) (sym (eqb-true (length entries) count k))
           ∙ shape_left (codes "static const uint64_t t") (decimal number) (codes "[") (decimal (length entries)) (codes "] = {") (joined_text entries) (codes "};\n") q.rest,
     )
-same_spelt s number count entries q false k some e = rw k tt
+same_spelt s number count entries q false k fits few some e = rw k tt
 
-table_spelt : (most : ℕ) (place : Place ℕ) → Spelt HasEntries table_text place.rest (c_table_at most place)
+named_below_then : {B : Type 0} (fits : B → Type 0) (text : B → List ℕ) (start : List ℕ) (w : List ℕ) (place : Place ℕ) (next : ℕ → Place ℕ → Result (B × Place ℕ) ℕ)
+    → ((n : ℕ) (q : Place ℕ) → n < above_all → place.rest ≡ w ++ (decimal n ++ q.rest) → Spelt fits text start (next n q)) → Spelt fits text start (and_then (named_number_at w above_all place) next)
+named_below_then fits text start w place next k =
+    reader_cases NoDigit (named_number w above_all) fits text start place (named_number_at w above_all place) next ((named_number_reader w above_all (omega arith) (omega arith)).each place)
+    (λ x q t e l. k x q l.ends.0 (e ∙ ap (λ y. y ++ q.rest) (l.whole ∙ ap (λ y. y ++ l.rest) l.begins ∙ ap (λ y. w ++ y) l.ends.1) ∙ append_assoc w (decimal x) q.rest))
+
+table_spelt : (most : ℕ) (place : Place ℕ) → Spelt TableFits table_text place.rest (c_table_at most place)
 table_spelt most place =
-    named_then HasEntries table_text place.rest (codes "static const uint64_t t") place _ (λ number q1 e1.
-    named_then HasEntries table_text place.rest (codes "[") q1 _ (λ count q2 e2.
-    word_then HasEntries table_text place.rest (codes "] = {") q2 _ (λ w q3 e3.
-    reader_cases (Behind (codes ",")) (numbers (codes ",") above_all most) HasEntries table_text place.rest q3 (numbers_at (codes ",") above_all most q3) _
+    named_below_then TableFits table_text place.rest (codes "static const uint64_t t") place _ (λ number q1 f1 e1.
+    named_below_then TableFits table_text place.rest (codes "[") q1 _ (λ count q2 f2 e2.
+    word_then TableFits table_text place.rest (codes "] = {") q2 _ (λ w q3 e3.
+    reader_cases (Behind (codes ",")) (numbers (codes ",") above_all most) TableFits table_text place.rest q3 (numbers_at (codes ",") above_all most q3) _
     ((numbers_reader (codes ",") above_all most refl (omega arith) (omega arith)).each q3) (λ entries q4 t4 e4 l4.
-    word_then HasEntries table_text place.rest (codes "};\n") q4 _ (λ w q5 e5.
+    word_then TableFits table_text place.rest (codes "};\n") q4 _ (λ w q5 e5.
     let all = all_spelt most t4 entries l4 in
-    same_spelt place.rest number count entries q5 (eqb (length entries) count) refl all.0
+    same_spelt place.rest number count entries q5 (eqb (length entries) count) refl f1 f2 all.0
     (e1 ∙ ap (λ y. codes "static const uint64_t t" ++ (decimal number ++ y))
     (e2 ∙ ap (λ y. codes "[" ++ (decimal count ++ y)) (e3 ∙ ap (λ y. codes "] = {" ++ y) (e4 ∙ ap (λ y. y ++ q4.rest) all.1 ∙ ap (λ y. joined_text entries ++ y) e5)))))))))
 
-pub table_is_read : (most : ℕ) (line : List ℕ) (table : ℕ × List ℕ) → whole (c_table_at most) line ≡ Ok table → (0 < length table.1) × (line ≡ c_table_text table.0 table.1)
-table_is_read most line table e = whole_spelt HasEntries table_text line (c_table_at most (start line)) table (table_spelt most (start line)) e
+pub table_is_read : (most : ℕ) (line : List ℕ) (table : ℕ × List ℕ) → whole (c_table_at most) line ≡ Ok table → TableFits table × (line ≡ c_table_text table.0 table.1)
+table_is_read most line table e = whole_spelt TableFits table_text line (c_table_at most (start line)) table (table_spelt most (start line)) e
 
 -- ---- the table's text is read back
 
@@ -144,7 +151,7 @@ few : (number c : ℕ) (entries : List ℕ) → length entries ≤ length (c_tab
 unfolding c_table_text
 few number c entries = few_entries (codes "static const uint64_t t" ++ decimal number ++ codes "[" ++ decimal (suc (length entries)) ++ codes "] = {") c entries (codes "};\n")
 
-table_reads : (line : List ℕ) (number : ℕ) (entries : List ℕ) → IsTableOf line number entries → whole (c_table_at (length line)) line ≡ Ok (number, entries)
+pub table_reads : (line : List ℕ) (number : ℕ) (entries : List ℕ) → IsTableOf line number entries → whole (c_table_at (length line)) line ≡ Ok (number, entries)
 table_reads line number [] (fits, some, few_are, all, e) = absurd (omega (arith, some))
 table_reads line number (c ∷ entries) (fits, some, few_are, all, e) =
     let limits = and_parts (ltb c above_all) (list_all (λ c. ltb c above_all) entries) all in

@@ -1,11 +1,11 @@
 -- Reading the first line of a C text.
-use Rattle.std.specs.Prelude.{◌≡◌, ℕ, List, [], ◌++◌, codes, Result}
+use Rattle.std.specs.Prelude.{◌≡◌, ℕ, List, [], codes, Result}
 use Rattle.icode.specs.Plain.{PlainProgram}
 use Rattle.icode.specs.Limits.{IsHeaderWithin}
 use Rattle.grammar.specs.Reading.{Place, ◌>>=◌, pure_at, word_at, named_number_at}
-use Rattle.listing_text.specs.Listing.{header_text}
+use Rattle.listing_text.specs.declared.draft.Header.{Header}
 use Rattle.listing_text.specs.Reading.{above_all}
-use Rattle.c_print.specs.declared.header.Header.{Header}
+use Rattle.c_print.specs.CText.{c_header_text}
 
 abbrev pub c_header_at : Place ℕ → Result (Header × Place ℕ) ℕ
 c_header_at = do
@@ -17,10 +17,6 @@ c_header_at = do
   regs ← named_number_at (codes " regs ") above_all
   _ ← word_at (codes " */\n")
   pure_at record { size = size; modulus = modulus; procs = procs; line = line; lanes = lanes; regs = regs }
-
--- the header of the listing, in a comment
-abbrev pub c_header_text : PlainProgram → List ℕ
-c_header_text p = codes "/* " ++ header_text p ++ codes " */\n"
 
 -- the program with these numbers that does nothing
 abbrev pub bare_program : Header → PlainProgram

@@ -48,17 +48,20 @@ abbrev mutual
 abbrev pub array_words : PlainProgram → ℕ
 array_words p = whole_lines p.size p.line
 
-unfoldable pub include_text : List ℕ
-include_text = codes " */\n#include <stdint.h>\n#define M "
+-- the first line: the header of the listing, in a comment
+abbrev pub c_header_text : PlainProgram → List ℕ
+c_header_text p = codes "/* " ++ header_text p ++ codes " */\n"
 
--- the header, the modulus and the lanes
-unfoldable pub constants_text : PlainProgram → List ℕ
-constants_text p = codes "/* " ++ header_text p ++ include_text ++ decimal p.modulus ++ codes "ULL\n#define V " ++ decimal p.lanes ++ codes "\n"
+-- a number between two texts
+abbrev pub numbered_text : List ℕ → ℕ → List ℕ → List ℕ
+numbered_text before number after = before ++ decimal number ++ after
 
--- the memory and its four arrays
-unfoldable pub memory_text : ℕ → List ℕ
-memory_text words =
-    codes "#define X (W + 0)\n#define Y (W + " ++ decimal words ++ codes ")\n#define A (W + " ++ decimal (2 * words) ++ codes ")\n#define B (W + " ++ decimal (3 * words) ++ codes ")\nstatic uint64_t W[" ++ decimal (4 * words) ++ codes "];\n"
+-- the modulus, the lanes, and the memory with its four arrays of so many words
+unfoldable pub front_text : ℕ → ℕ → ℕ → List ℕ
+front_text modulus lanes words =
+    codes "#include <stdint.h>\n" ++ numbered_text (codes "#define M ") modulus (codes "ULL\n") ++ numbered_text (codes "#define V ") lanes (codes "\n")
+    ++ codes "#define X (W + 0)\n" ++ numbered_text (codes "#define Y (W + ") words (codes ")\n") ++ numbered_text (codes "#define A (W + ") (2 * words) (codes ")\n")
+    ++ numbered_text (codes "#define B (W + ") (3 * words) (codes ")\n") ++ numbered_text (codes "static uint64_t W[") (4 * words) (codes "];\n")
 
 abbrev pub joined_text : List ℕ → List ℕ
 joined_text [] = []
@@ -82,9 +85,12 @@ sub_text = codes "static uint64_t sub(uint64_t a, uint64_t b) { return a >= b ? 
 unfoldable pub mul_text : List ℕ
 mul_text = codes "static uint64_t mul(uint64_t a, uint64_t b) { return (uint64_t)((unsigned __int128)a * b % M); }\n"
 
+unfoldable pub functions_text : List ℕ
+functions_text = add_text ++ sub_text ++ mul_text
+
 -- how a phase begins, for a program with so many registers
 unfoldable pub phase_start_text : ℕ → ℕ → List ℕ
-phase_start_text regs number = codes "void phase" ++ decimal number ++ codes "(uint64_t q) {\nuint64_t r[" ++ decimal regs ++ codes "][V];\n(void)q;\n"
+phase_start_text regs number = numbered_text (codes "void phase") number (codes "(uint64_t q) {\n") ++ numbered_text (codes "uint64_t r[") regs (codes "][V];\n") ++ codes "(void)q;\n"
 
 -- the phases from this number on
 abbrev pub c_phases_text : ℕ → ℕ → List PlainBody → List ℕ
@@ -92,4 +98,4 @@ c_phases_text regs number [] = []
 c_phases_text regs number (body ∷ phases) = phase_start_text regs number ++ c_body_text 0 body ++ codes "}\n" ++ c_phases_text regs (number + 1) phases
 
 abbrev pub c_text_of : PlainProgram → List ℕ
-c_text_of p = constants_text p ++ memory_text (array_words p) ++ c_tables_text 0 p.tables ++ add_text ++ sub_text ++ mul_text ++ c_phases_text p.regs 0 p.phases
+c_text_of p = c_header_text p ++ front_text p.modulus p.lanes (array_words p) ++ c_tables_text 0 p.tables ++ functions_text ++ c_phases_text p.regs 0 p.phases

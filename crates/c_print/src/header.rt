@@ -4,21 +4,11 @@ ghost use Rattle.std.specs.Prelude.{◌≡◌, ℕ, Ok, IfOk};
 ghost use Rattle.icode.specs.Plain.{PlainProgram};
 ghost use Rattle.grammar.specs.Cursor.{Gives, GivesAll};
 ghost use Rattle.grammar.specs.Reading.{whole};
-ghost use Rattle.c_print.specs.CHeaders.{c_header_at, c_header_text, bare_program, header_of, IsHeaderOf};
+ghost use Rattle.c_print.specs.CText.{c_header_text};
+ghost use Rattle.c_print.specs.CHeaders.{c_header_at, bare_program, header_of, IsHeaderOf};
 
 use grammar::{Cursor, Stuck};
-
-/// The numbers of a program, in its first line in C.
-#[derive(Clone, Copy, PartialEq, Eq, Debug)]
-pub struct Header {
-    pub size: u64,
-    pub modulus: u64,
-    pub procs: u64,
-    /// Words of a cache line.
-    pub line: u64,
-    pub lanes: u64,
-    pub regs: u64,
-}
+use listing_text::Header;
 
 fn numbers_of(cursor: &mut Cursor) -> Result<Header, Stuck>
     ensures { Gives result cursor.new (c_header_at cursor.old) }

@@ -1,14 +1,18 @@
-//! The C text of a program, and reading its lines: its header, its tables and its phases.
+//! The C text of a program: printing it, and reading it line by line.
 #![tactic(auto)]
 
+mod draft;
+mod drafts;
 mod header;
 mod lines;
 mod printing;
+mod reading;
 mod tables;
 
-pub use header::{Header, read_c_header};
+pub use header::read_c_header;
 pub use lines::read_c_line;
 pub use printing::print_c;
+pub use reading::{CFault, read_c};
 pub use tables::read_c_table;
 
 #[cfg(test)]

@@ -2,9 +2,10 @@ ghost use Rattle.std.specs.Prelude.{◌≡◌, ◌++◌, ◌+◌, ◌*◌, ◌�
 ghost use Rattle.std.specs.List.{list_all};
 ghost use Rattle.icode.specs.Plain.{plain_expr, plain_op, plain_stmt, plain_body, plain_tables, plain_phases};
 ghost use Rattle.icode.specs.Program.{plain_program};
+ghost use Rattle.icode.specs.Machine.{whole_lines};
 ghost use Rattle.listing_text.specs.Listing.{array_text, sum_text};
 ghost use Rattle.listing_text.specs.Nests.{is_nest_within, are_nests_within};
-ghost use Rattle.c_print.specs.CText.{lane_loop, tile_loops, lane_text, becomes_text, loop_text, c_op_text, c_stmt_text, c_body_text, array_words, include_text, constants_text, memory_text, joined_text, c_table_text, c_tables_text, add_text, sub_text, mul_text, phase_start_text, c_phases_text, c_text_of};
+ghost use Rattle.c_print.specs.CText.{lane_loop, tile_loops, lane_text, becomes_text, loop_text, c_op_text, c_stmt_text, c_body_text, c_header_text, numbered_text, front_text, functions_text, joined_text, c_table_text, c_tables_text, add_text, sub_text, mul_text, phase_start_text, c_phases_text, c_text_of};
 
 use icode::program::{Array, Expr, Op, Program, Stmt};
 use listing_text::{put, put_array, put_expr, put_header};
@@ -209,40 +210,49 @@ fn put_body(out: &mut Vec<u8>, body: &[Stmt]) -> Result<(), AllocError>
     Ok(())
 }
 
-#[tactic(auto, unfolding(crate::specs::CText::include_text))]
-fn put_include(out: &mut Vec<u8>, modulus: u64) -> Result<(), AllocError>
-    ensures { OnOk result (out.new.items ≡ out.old.items ++ include_text ++ decimal modulus) }
-{
-    put(out, b" */\n#include <stdint.h>\n#define M ", modulus)
-}
-
-fn put_constants(out: &mut Vec<u8>, program: &Program) -> Result<(), AllocError>
-    ensures { OnOk result (out.new.items ≡ out.old.items ++ constants_text (plain_program program.now)) }
+fn put_c_header(out: &mut Vec<u8>, program: &Program) -> Result<(), AllocError>
+    ensures { OnOk result (out.new.items ≡ out.old.items ++ c_header_text (plain_program program.now)) }
 {
     put_word(out, b"/* ")?;
     put_header(out, program)?;
-    put_include(out, program.modulus)?;
-    put(out, b"ULL\n#define V ", program.lanes)?;
-    put_word(out, b"\n")
+    put_word(out, b" */\n")
 }
 
-// The number of words of an array.
-fn array_words(program: &Program) -> u64
-    ensures value { result ≡ array_words (plain_program program.now) }
+fn put_numbered(
+    out: &mut Vec<u8>,
+    before: &[u8],
+    number: u64,
+    after: &[u8],
+) -> Result<(), AllocError>
+    ensures { OnOk result (out.new.items ≡ out.old.items ++ numbered_text before.now number after.now) }
+{
+    put(out, before, number)?;
+    out.extend_from_slice(after)
+}
+
+/// The number of words of an array.
+pub fn array_words(size: u64, line: u64) -> u64
+    requires size { size ≤ 65536 }
+    requires line { (1 ≤ line) × (line ≤ 64) }
+    ensures value { result ≡ whole_lines size line }
     ensures bound { result < 2 ^ 32 }
 {
-    (program.size + (program.line - 1)) / program.line * program.line
+    (size + (line - 1)) / line * line
 }
 
-fn put_memory(out: &mut Vec<u8>, words: u64) -> Result<(), AllocError>
+/// Writes what stands between the first line and the tables.
+pub fn put_front(out: &mut Vec<u8>, modulus: u64, lanes: u64, words: u64) -> Result<(), AllocError>
     requires { words < 2 ^ 32 }
-    ensures { OnOk result (out.new.items ≡ out.old.items ++ memory_text words) }
+    ensures { OnOk result (out.new.items ≡ out.old.items ++ front_text modulus lanes words) }
 {
-    put(out, b"#define X (W + 0)\n#define Y (W + ", words)?;
-    put(out, b")\n#define A (W + ", 2 * words)?;
-    put(out, b")\n#define B (W + ", 3 * words)?;
-    put(out, b")\nstatic uint64_t W[", 4 * words)?;
-    put_word(out, b"];\n")
+    put_word(out, b"#include <stdint.h>\n")?;
+    put_numbered(out, b"#define M ", modulus, b"ULL\n")?;
+    put_numbered(out, b"#define V ", lanes, b"\n")?;
+    put_word(out, b"#define X (W + 0)\n")?;
+    put_numbered(out, b"#define Y (W + ", words, b")\n")?;
+    put_numbered(out, b"#define A (W + ", 2 * words, b")\n")?;
+    put_numbered(out, b"#define B (W + ", 3 * words, b")\n")?;
+    put_numbered(out, b"static uint64_t W[", 4 * words, b"];\n")
 }
 
 fn put_joined(out: &mut Vec<u8>, entries: &[u64]) -> Result<(), AllocError>
@@ -307,12 +317,22 @@ fn put_mul(out: &mut Vec<u8>) -> Result<(), AllocError>
     )
 }
 
-fn put_phase_start(out: &mut Vec<u8>, regs: u64, number: u64) -> Result<(), AllocError>
+/// Writes what stands between the tables and the phases.
+pub fn put_functions(out: &mut Vec<u8>) -> Result<(), AllocError>
+    ensures { OnOk result (out.new.items ≡ out.old.items ++ functions_text) }
+{
+    put_add(out)?;
+    put_sub(out)?;
+    put_mul(out)
+}
+
+/// Writes how the phase of this number begins.
+pub fn put_phase_start(out: &mut Vec<u8>, regs: u64, number: u64) -> Result<(), AllocError>
     ensures { OnOk result (out.new.items ≡ out.old.items ++ phase_start_text regs number) }
 {
-    put(out, b"void phase", number)?;
-    put(out, b"(uint64_t q) {\nuint64_t r[", regs)?;
-    put_word(out, b"][V];\n(void)q;\n")
+    put_numbered(out, b"void phase", number, b"(uint64_t q) {\n")?;
+    put_numbered(out, b"uint64_t r[", regs, b"][V];\n")?;
+    put_word(out, b"(void)q;\n")
 }
 
 fn put_phases(out: &mut Vec<u8>, regs: u64, phases: &[Vec<Stmt>]) -> Result<(), AllocError>
@@ -332,12 +352,11 @@ pub fn print_c(alloc: Global, program: &Program) -> Result<Vec<u8>, NoMemory>
     ensures { IfOk result (λ text. text.items ≡ c_text_of (plain_program program.now)) }
 {
     let mut out = Vec::new(alloc);
-    put_constants(&mut out, program)?;
-    put_memory(&mut out, array_words(program))?;
+    put_c_header(&mut out, program)?;
+    let words = array_words(program.size, program.line);
+    put_front(&mut out, program.modulus, program.lanes, words)?;
     put_tables(&mut out, &program.tables)?;
-    put_add(&mut out)?;
-    put_sub(&mut out)?;
-    put_mul(&mut out)?;
+    put_functions(&mut out)?;
     put_phases(&mut out, program.regs, &program.phases)?;
     Ok(out)
 }

@@ -1,24 +1,26 @@
 -- Every listing is read.
-use Rattle.std.proofs.Common.{◌≡◌, ℕ, suc, ◌+◌, ◌-◌, ◌<◌, ◌≤◌, ◌^◌, true, false, cond, eqb, ltb, leb, ◌&&◌, List, [], ◌∷◌, ◌++◌, length, flat_map, codes, decimal, Option, Some, None, Result, Ok, refl, sym, ap, subst, ◌∙◌, append_assoc, arith}
+use Rattle.std.proofs.Common.{◌≡◌, ℕ, ◌+◌, ◌-◌, ◌<◌, ◌≤◌, ◌^◌, true, cond, eqb, ltb, leb, ◌&&◌, List, [], ◌∷◌, ◌++◌, length, flat_map, codes, decimal, Option, Some, None, Result, Ok, refl, sym, ap, subst, ◌∙◌, append_assoc, arith}
 use Rattle.std.specs.List.{list_all}
 use Rattle.std.proofs.lemmas.Bool.{ltb-true, lt-ltb, le-leb, eq-eqb, and_parts, and_from}
 use Rattle.std.proofs.lemmas.List.{append-nil, length-append}
-use Rattle.icode.specs.Plain.{PlainStmt, PlainBody, PlainProgram, PlainOp, Loop, NoStmts, AndStmts, body_of}
-use Rattle.icode.specs.Plain as plain
-use Rattle.icode.specs.Limits.{is_small_positive, is_stmt_within, is_body_within, is_op_within, are_tables_within, IsHeaderWithin}
+use Rattle.icode.specs.Plain.{PlainBody, PlainProgram}
+use Rattle.icode.specs.Limits.{is_body_within, are_tables_within, IsHeaderWithin}
 use Rattle.listing_text.specs.declared.draft.Header.{Header}
 use Rattle.listing_text.specs.Lines.{IsLine, read_lines, valued, Judges}
-use Rattle.listing_text.specs.Listing.{stmt_text, body_text, header_text, table_text, tables_text, phase_text}
+use Rattle.listing_text.specs.Listing.{header_text, table_text, tables_text, phase_text}
 use Rattle.listing_text.specs.Reading.{above_all}
-use Rattle.listing_text.specs.Acts.{PlainAct, Open, Close, Do}
-use Rattle.listing_text.specs.Drafts.{PlainLevel, PlainDraft, program_of, is_between, is_header_within, blank, may_open, act_step, read_step, outside_step, header_step, kept, step, finish}
+use Rattle.grammar.specs.Reading.{whole}
+use Rattle.listing_text.specs.Acts.{Close, act_line_at}
+use Rattle.listing_text.specs.Drafts.{PlainDraft, program_of, is_between, is_header_within, blank, act_step, read_step, outside_at, outside_step, header_step, kept, step, finish}
 use Rattle.listing_text.specs.Texts.{is_listing}
 use Rattle.listing_text.proofs.LineReaders.{line_leads, read_rest, IsLineReader, lines_judge}
-use Rattle.listing_text.proofs.ReadBack.{positive_fits}
 use Rattle.listing_text.proofs.ActsSpelt.{line_text}
-use Rattle.listing_text.proofs.ActsBack.{IsActWithin, line_back}
+use Rattle.listing_text.proofs.ActsBack.{line_back}
 use Rattle.listing_text.proofs.OpenLines.{act_is_line, table_open, header_open}
 use Rattle.listing_text.proofs.OutsideLines.{header_line_text, header_line_back, phase_line_back, table_line_back, more_text}
+use Rattle.listing_text.proofs.NestTexts.{body_lines}
+use Rattle.listing_text.proofs.NestReads.{LeadsOn, inside, between, phase_lines_read}
+use Rattle.listing_text.proofs.DraftTexts.{body_by_lines}
 use Rattle.listing_text.proofs.DraftLaws.{IsGood, written, keeps, goes_on, spelt}
 
 Reads : Option PlainDraft → List ℕ → PlainProgram → Type 0
@@ -28,111 +30,32 @@ leads : (s t : Option PlainDraft) (line rest : List ℕ) (p : PlainProgram) → 
 unfolding Reads
 leads s t line rest p l e r = line_leads step finish s t line rest p l e r
 
--- ---- inside a phase
+-- ---- a phase
 
-inside : Header → List (List ℕ) → List PlainBody → List PlainLevel → List PlainStmt → PlainDraft
-inside h tables phases levels body = record { header = h; tables = tables; phases = phases; is_inside = true; open_loops = levels; body = body }
+act_leads : LeadsOn step finish line_text (λ d. Some d)
+act_leads d t act rest p i below few within e r =
+    line_leads step finish (Some d) (Some t) (line_text act) rest p (act_is_line act)
+    (ap (λ k. kept (cond k (read_step (act_step d) (whole act_line_at (line_text act))) (read_step (outside_step d) (whole (outside_at (length (line_text act))) (line_text act))))) i
+    ∙ ap (λ x. kept (read_step (act_step d) x)) (line_back d.header.modulus (length d.open_loops) act below few within) ∙ ap kept e) r
 
-between : Header → List (List ℕ) → List PlainBody → PlainDraft
-between h tables phases = record { header = h; tables = tables; phases = phases; is_inside = false; open_loops = []; body = [] }
+phase_right : (phase body end rest : List ℕ) → (phase ++ body ++ end) ++ rest ≡ phase ++ (body ++ (end ++ rest))
+phase_right phase body end rest = simp append_assoc
 
-stmts_of : PlainBody → List PlainStmt
-stmts_of NoStmts = []
-stmts_of (AndStmts s rest) = s ∷ stmts_of rest
+phase_is_line : IsLine (codes "phase\n")
+phase_is_line = record { front = codes "phase"; whole = refl; open_front = refl }
 
-body_of-stmts_of : (b : PlainBody) → body_of (stmts_of b) ≡ b
-unfolding stmts_of
-body_of-stmts_of NoStmts = refl
-body_of-stmts_of (AndStmts s rest) = ap (AndStmts s) (body_of-stmts_of rest)
-
-module _ (h : Header) (tables : List (List ℕ)) (phases : List PlainBody) (below : h.modulus ≤ above_all) where
-  act_leads : (levels : List PlainLevel) (body : List PlainStmt) (act : PlainAct) (t : PlainDraft) (rest : List ℕ) (p : PlainProgram) → length levels ≤ 64 → IsActWithin h.modulus (length levels) act
-      → act_step (inside h tables phases levels body) act ≡ Some t → Reads (Some t) rest p → Reads (Some (inside h tables phases levels body)) (line_text act ++ rest) p
-  unfolding inside
-  act_leads levels body act t rest p few within e r =
-      leads (Some (inside h tables phases levels body)) (Some t) (line_text act) rest p (act_is_line h.modulus (length levels) act below few within)
-      (ap (λ x. kept (read_step (act_step (inside h tables phases levels body)) x)) (line_back h.modulus (length levels) act below few within) ∙ ap kept e) r
-
-  op_reads : (op : PlainOp) (levels : List PlainLevel) (body : List PlainStmt) (rest : List ℕ) (p : PlainProgram) → is_op_within h.modulus op (length levels) ≡ true → length levels ≤ 64
-      → Reads (Some (inside h tables phases levels (body ++ plain.Do op ∷ []))) rest p → Reads (Some (inside h tables phases levels body)) (stmt_text (length levels) (plain.Do op) ++ rest) p
-  unfolding inside
-  op_reads op levels body rest p w few r = act_leads levels body (Do op) (inside h tables phases levels (body ++ plain.Do op ∷ [])) rest p few w (rw w refl) r
-
-  open_reads : (count : ℕ) (levels : List PlainLevel) (body : List PlainStmt) (rest : List ℕ) (p : PlainProgram) → is_small_positive count ≡ true → length levels < 64
-      → Reads (Some (inside h tables phases (record { count = count; before = body } ∷ levels) [])) rest p → Reads (Some (inside h tables phases levels body)) (line_text (Open (length levels) count) ++ rest) p
-  unfolding inside
-  open_reads count levels body rest p w few r =
-      let n = length levels in
-      let test : may_open n n count ≡ true = and_from (eqb n n) (ltb n 64 && is_small_positive count) (eq-eqb n n refl) (and_from (ltb n 64) (is_small_positive count) (lt-ltb n 64 few) w) in
-      act_leads levels body (Open n count) (inside h tables phases (record { count = count; before = body } ∷ levels) []) rest p (omega arith) (omega (arith, few), positive_fits count w) (rw test refl) r
-
-  close_reads : (level : PlainLevel) (levels : List PlainLevel) (body : List PlainStmt) (rest : List ℕ) (p : PlainProgram) → suc (length levels) ≤ 64
-      → Reads (Some (inside h tables phases levels (level.before ++ Loop level.count (body_of body) ∷ []))) rest p → Reads (Some (inside h tables phases (level ∷ levels) body)) (line_text Close ++ rest) p
-  unfolding inside
-  close_reads level levels body rest p few r = act_leads (level ∷ levels) body Close (inside h tables phases levels (level.before ++ Loop level.count (body_of body) ∷ [])) rest p few tt refl r
-
-  loop_right : (for body end rest : List ℕ) → (for ++ body ++ end) ++ rest ≡ for ++ (body ++ (end ++ rest))
-  loop_right for body end rest = simp append_assoc
-
-  AllRead : PlainBody → Type 0
-  AllRead b = (levels : List PlainLevel) (body : List PlainStmt) (rest : List ℕ) (p : PlainProgram) → is_body_within h.modulus b (length levels) ≡ true → length levels ≤ 64
-      → Reads (Some (inside h tables phases levels (body ++ stmts_of b))) rest p → Reads (Some (inside h tables phases levels body)) (body_text (length levels) b ++ rest) p
-
-  loop_reads : (count : ℕ) (b : PlainBody) → AllRead b → (levels : List PlainLevel) (body : List PlainStmt) (rest : List ℕ) (p : PlainProgram) → is_stmt_within h.modulus (Loop count b) (length levels) ≡ true → length levels ≤ 64
-      → Reads (Some (inside h tables phases levels (body ++ Loop count b ∷ []))) rest p → Reads (Some (inside h tables phases levels body)) (stmt_text (length levels) (Loop count b) ++ rest) p
-  unfolding AllRead
-  loop_reads count b again levels body rest p w few r =
-      let n = length levels in
-      let level : PlainLevel = record { count = count; before = body } in
-      let limits = and_parts (is_small_positive count) (ltb n 64 && is_body_within h.modulus b (n + 1)) w in
-      let others = and_parts (ltb n 64) (is_body_within h.modulus b (n + 1)) limits.1 in
-      let deep : n < 64 = ltb-true n 64 others.0 in
-      let deeper : n + 1 ≡ suc n = omega arith in
-      let closing : Reads (Some (inside h tables phases (level ∷ levels) (stmts_of b))) (line_text Close ++ rest) p =
-      close_reads level levels (stmts_of b) rest p (omega arith) (subst (λ x. Reads (Some (inside h tables phases levels (body ++ Loop count x ∷ []))) rest p) (sym (body_of-stmts_of b)) r) in
-      let whole_body : Reads (Some (inside h tables phases (level ∷ levels) [])) (body_text (suc n) b ++ (codes "end\n" ++ rest)) p =
-      again (level ∷ levels) [] (codes "end\n" ++ rest) p (subst (λ d. is_body_within h.modulus b d ≡ true) deeper others.1) (omega arith) closing in
-      subst (λ t. Reads (Some (inside h tables phases levels body)) t p) (sym (loop_right (codes "for v" ++ decimal n ++ codes " " ++ decimal count ++ codes "\n") (body_text (n + 1) b) (codes "end\n") rest))
-      (open_reads count levels body (body_text (n + 1) b ++ (codes "end\n" ++ rest)) p limits.0 deep
-      (subst (λ d. Reads (Some (inside h tables phases (level ∷ levels) [])) (body_text d b ++ (codes "end\n" ++ rest)) p) (sym deeper) whole_body))
-
-  mutual
-    unfolding AllRead stmts_of
-
-    body_reads : (b : PlainBody) → AllRead b
-    body_reads NoStmts levels body rest p w few r = subst (λ x. Reads (Some (inside h tables phases levels x)) rest p) (append-nil body) r
-    body_reads (AndStmts s b) levels body rest p w few r =
-        let n = length levels in
-        let limits = and_parts (is_stmt_within h.modulus s n) (is_body_within h.modulus b n) w in
-        subst (λ t. Reads (Some (inside h tables phases levels body)) t p) (sym (append_assoc (stmt_text n s) (body_text n b) rest))
-        (stmt_reads s levels body (body_text n b ++ rest) p limits.0 few
-        (body_reads b levels (body ++ s ∷ []) rest p limits.1 few (subst (λ x. Reads (Some (inside h tables phases levels x)) rest p) (sym (append_assoc body (s ∷ []) (stmts_of b))) r)))
-
-    stmt_reads : (s : PlainStmt) (levels : List PlainLevel) (body : List PlainStmt) (rest : List ℕ) (p : PlainProgram) → is_stmt_within h.modulus s (length levels) ≡ true → length levels ≤ 64
-        → Reads (Some (inside h tables phases levels (body ++ s ∷ []))) rest p → Reads (Some (inside h tables phases levels body)) (stmt_text (length levels) s ++ rest) p
-    stmt_reads (Loop count b) levels body rest p w few r = loop_reads count b (body_reads b) levels body rest p w few r
-    stmt_reads (plain.Do op) levels body rest p w few r = op_reads op levels body rest p w few r
-
-  -- a phase
-  phase_right : (phase body end rest : List ℕ) → (phase ++ body ++ end) ++ rest ≡ phase ++ (body ++ (end ++ rest))
-  phase_right phase body end rest = simp append_assoc
-
-  phase_is_line : IsLine (codes "phase\n")
-  phase_is_line = record { front = codes "phase"; whole = refl; open_front = refl }
-
-  phase_reads : (b : PlainBody) (rest : List ℕ) (p : PlainProgram) → is_body_within h.modulus b 0 ≡ true → Reads (Some (between h tables (phases ++ b ∷ []))) rest p → Reads (Some (between h tables phases)) (phase_text b ++ rest) p
-  unfolding AllRead inside between
-  phase_reads b rest p w r =
-      let closing : Reads (Some (inside h tables phases [] (stmts_of b))) (line_text Close ++ rest) p =
-      act_leads [] (stmts_of b) Close (between h tables (phases ++ b ∷ [])) rest p (omega arith) tt (ap (λ x. Some (between h tables (phases ++ x ∷ []))) (body_of-stmts_of b)) r in
-      subst (λ t. Reads (Some (between h tables phases)) t p) (sym (phase_right (codes "phase\n") (body_text 0 b) (codes "end\n") rest))
-      (leads (Some (between h tables phases)) (Some (inside h tables phases [] [])) (codes "phase\n") (body_text 0 b ++ (codes "end\n" ++ rest)) p phase_is_line
-      (ap (λ x. kept (read_step (outside_step (between h tables phases)) x)) (phase_line_back (length (codes "phase\n"))))
-      (body_reads b [] [] (codes "end\n" ++ rest) p w (omega arith) closing))
+phase_reads : (h : Header) (tables : List (List ℕ)) (phases : List PlainBody) → h.modulus ≤ above_all → (b : PlainBody) (rest : List ℕ) (p : PlainProgram) → is_body_within h.modulus b 0 ≡ true
+    → Reads (Some (between h tables (phases ++ b ∷ []))) rest p → Reads (Some (between h tables phases)) (phase_text b ++ rest) p
+unfolding Reads
+phase_reads h tables phases below b rest p w r =
+    subst (λ t. Reads (Some (between h tables phases)) t p) (sym (ap (λ y. (codes "phase\n" ++ y ++ codes "end\n") ++ rest) (body_by_lines b 0) ∙ phase_right (codes "phase\n") (body_lines line_text 0 b) (line_text Close) rest))
+    (leads (Some (between h tables phases)) (Some (inside h tables phases [] [])) (codes "phase\n") (body_lines line_text 0 b ++ (line_text Close ++ rest)) p phase_is_line
+    (ap (λ x. kept (read_step (outside_step (between h tables phases)) x)) (phase_line_back (length (codes "phase\n"))))
+    (phase_lines_read step finish line_text (λ d. Some d) act_leads h tables phases below b rest p w r))
 
 phases_read : (h : Header) (tables : List (List ℕ)) → h.modulus ≤ above_all → (left phases : List PlainBody) → list_all (λ b. is_body_within h.modulus b 0) left ≡ true → 0 < length (phases ++ left)
     → Reads (Some (between h tables phases)) (flat_map phase_text left) (program_of h tables (phases ++ left))
-unfolding Reads between
+unfolding Reads
 phases_read h tables below [] phases w some =
     read_rest step finish (Some (between h tables phases)) [] refl ∙ finished phases (subst (λ x. 0 < length x) (append-nil phases) some) ∙ ap (λ x. Ok (program_of h tables x)) (sym (append-nil phases))
   where
@@ -148,7 +71,7 @@ phases_read h tables below (b ∷ left) phases w some =
 
 -- ---- tables
 
-all_below : (m : ℕ) (entries : List ℕ) → m ≤ above_all → list_all (λ c. ltb c m) entries ≡ true → list_all (λ c. ltb c above_all) entries ≡ true
+pub all_below : (m : ℕ) (entries : List ℕ) → m ≤ above_all → list_all (λ c. ltb c m) entries ≡ true → list_all (λ c. ltb c above_all) entries ≡ true
 all_below m [] below h = refl
 all_below m (c ∷ entries) below h =
     let limits = and_parts (ltb c m) (list_all (λ c. ltb c m) entries) h in
@@ -163,7 +86,6 @@ few_entries front entries back = omega (arith, length-append (front ++ more_text
 
 table_reads : (h : Header) (tables : List (List ℕ)) (entries rest : List ℕ) (p : PlainProgram) → h.modulus ≤ above_all → length tables < above_all → (ltb 0 (length entries) && list_all (λ c. ltb c h.modulus) entries) ≡ true
     → Reads (Some (between h (tables ++ entries ∷ []) [])) rest p → Reads (Some (between h tables [])) (table_text (length tables) entries ++ rest) p
-unfolding between
 table_reads h tables [] rest p below fits w r = absurd (omega (arith, ltb-true 0 0 (and_parts (ltb 0 0) true w).0))
 table_reads h tables (c ∷ entries) rest p below fits w r =
     let n = length tables in
@@ -173,7 +95,7 @@ table_reads h tables (c ∷ entries) rest p below fits w r =
     let long : length entries ≤ length line = omega (arith, few_entries (codes "table " ++ decimal n ++ codes " values") (c ∷ entries) (codes "\n")) in
     let test : (eqb n n && (true && list_all (λ c. ltb c h.modulus) (c ∷ entries))) ≡ true =
     and_from (eqb n n) (true && list_all (λ c. ltb c h.modulus) (c ∷ entries)) (eq-eqb n n refl) (and_from true (list_all (λ c. ltb c h.modulus) (c ∷ entries)) refl all) in
-    leads (Some (between h tables [])) (Some (between h (tables ++ (c ∷ entries) ∷ []) [])) line rest p (table_open n (c ∷ entries) h.modulus fits below all)
+    leads (Some (between h tables [])) (Some (between h (tables ++ (c ∷ entries) ∷ []) [])) line rest p (table_open n (c ∷ entries))
     (ap (λ x. kept (read_step (outside_step (between h tables [])) x)) (table_line_back (length line) n c entries fits (omega (arith, ltb-true c h.modulus limits.0, below)) (all_below h.modulus entries below limits.1) long)
     ∙ ap (λ k. kept (cond k (Some (between h (tables ++ (c ∷ entries) ∷ []) [])) None)) test) r
 
@@ -198,7 +120,7 @@ header_of p = record { size = p.size; modulus = p.modulus; procs = p.procs; line
 between_from : (low high n : ℕ) → (low ≤ n) × (n ≤ high) → is_between low high n ≡ true
 between_from low high n h = and_from (leb low n) (leb n high) (le-leb low n h.0) (le-leb n high h.1)
 
-within_from : (h : Header) → IsHeaderWithin h.size h.modulus h.procs h.line h.lanes h.regs → is_header_within h ≡ true
+pub within_from : (h : Header) → IsHeaderWithin h.size h.modulus h.procs h.line h.lanes h.regs → is_header_within h ≡ true
 within_from h w =
     and_from (is_between 1 65536 h.size) (is_between 2 (2 ^ 62 - 1) h.modulus && (is_between 1 16 h.procs && (is_between 1 64 h.line && (is_between 1 16 h.lanes && ltb h.regs (2 ^ 20))))) (between_from 1 65536 h.size w.of_size)
     (and_from (is_between 2 (2 ^ 62 - 1) h.modulus) (is_between 1 16 h.procs && (is_between 1 64 h.line && (is_between 1 16 h.lanes && ltb h.regs (2 ^ 20)))) (between_from 2 (2 ^ 62 - 1) h.modulus (w.of_modulus.0, omega (arith, w.of_modulus.1)))
@@ -207,7 +129,6 @@ within_from h w =
     (and_from (is_between 1 16 h.lanes) (ltb h.regs (2 ^ 20)) (between_from 1 16 h.lanes w.of_lanes) (lt-ltb h.regs (2 ^ 20) w.of_regs)))))
 
 header_reads : (h : Header) → IsHeaderWithin h.size h.modulus h.procs h.line h.lanes h.regs → (rest : List ℕ) (p : PlainProgram) → Reads (Some (between h [] [])) rest p → Reads None (header_line_text h ++ rest) p
-unfolding between
 header_reads h w rest p r =
     let size : h.size < above_all = omega (arith, w.of_size.1) in
     let modulus : h.modulus < above_all = omega (arith, w.of_modulus.1) in
@@ -215,7 +136,7 @@ header_reads h w rest p r =
     let line : h.line < above_all = omega (arith, w.of_line.1) in
     let lanes : h.lanes < above_all = omega (arith, w.of_lanes.1) in
     let regs : h.regs < above_all = omega (arith, w.of_regs) in
-    leads None (Some (between h [] [])) (header_line_text h) rest p (header_open h.size h.modulus h.procs h.line h.lanes h.regs size modulus procs line lanes regs)
+    leads None (Some (between h [] [])) (header_line_text h) rest p (header_open h.size h.modulus h.procs h.line h.lanes h.regs)
     (ap (λ x. kept (read_step header_step x)) (header_line_back h size modulus procs line lanes regs) ∙ ap (λ k. kept (cond k (Some (blank h)) None)) (within_from h w)) r
 
 -- ---- a listing

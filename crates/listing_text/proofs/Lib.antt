@@ -1,12 +1,16 @@
 pub mod Views
 pub mod Depths
 pub mod LineReaders
+pub mod LineCalls
 pub mod ReadParts
 pub mod Spelt
 pub mod ReadBack
 pub mod ActsSpelt
 pub mod ActsBack
 pub mod Within
+pub mod GoodDrafts
+pub mod NestTexts
+pub mod NestReads
 pub mod DraftTexts
 pub mod OpenLines
 pub mod OutsideLines

@@ -143,7 +143,7 @@ header_step h = if is_header_within h then Some (blank h) else None
 
 -- ---- all lines
 
-abbrev pub kept : Option PlainDraft → Option (Option PlainDraft)
+abbrev pub kept : {A : Type 0} → Option A → Option (Option A)
 kept None = None
 kept (Some d) = Some (Some d)
 

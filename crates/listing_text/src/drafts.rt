@@ -17,7 +17,7 @@ use crate::draft::{Draft, Header, Level};
 use crate::limits::{is_op_within, is_small_positive};
 use grammar::{Cursor, ReadError, Stuck};
 use icode::program::{Op, Stmt};
-use std::alloc::{AllocFailed, Global};
+use std::alloc::{AllocError, AllocFailed, Global};
 
 /// Why a line is not taken.
 #[derive(Clone, Copy, PartialEq, Eq, Debug)]
@@ -43,6 +43,14 @@ impl From<Stuck> for Refusal {
 
     fn from(_stuck: Stuck) -> Refusal {
         Refusal::Line
+    }
+}
+
+impl From<AllocError> for Refusal {
+    ghost from_gives = { λ _ e. e ≡ refusals.NoMemory };
+
+    fn from(_error: AllocError) -> Refusal {
+        Refusal::NoMemory
     }
 }
 
@@ -99,11 +107,10 @@ fn is_header_within(header: Header) -> bool
                     && (is_between(1, 16, header.lanes) && header.regs < 1 << 20))))
 }
 
-/// What the first line says.
-pub fn begun(alloc: Global, line: &[u8]) -> Result<Draft, Refusal>
-    ensures { Makes result (read_step header_step (whole header_at line.now)) }
+/// What was read of a program with the header alone, if its numbers are within their limits.
+pub fn blank(alloc: Global, header: Header) -> Result<Draft, Refusal>
+    ensures { Makes result (header_step header) }
 {
-    let header = read_header(line)?;
     if !is_header_within(header) {
         return Err(Refusal::Line);
     }
@@ -115,6 +122,14 @@ pub fn begun(alloc: Global, line: &[u8]) -> Result<Draft, Refusal>
         open_loops: Vec::new(alloc),
         body: Vec::new(alloc),
     })
+}
+
+/// What the first line says.
+pub fn begun(alloc: Global, line: &[u8]) -> Result<Draft, Refusal>
+    ensures { Makes result (read_step header_step (whole header_at line.now)) }
+{
+    let header = read_header(line)?;
+    blank(alloc, header)
 }
 
 // The line begins a phase.
@@ -238,7 +253,8 @@ fn with_op(draft: Draft, op: Op) -> Result<Draft, Refusal>
     })
 }
 
-fn with_act(alloc: Global, draft: Draft, act: Act) -> Result<Draft, Refusal>
+/// What was read inside a phase, with one act more.
+pub fn with_act(alloc: Global, draft: Draft, act: Act) -> Result<Draft, Refusal>
     requires { ActFits (plain_act act) }
     ensures { Makes result (act_step (plain_draft draft) (plain_act act)) }
 {
@@ -264,7 +280,13 @@ fn are_below(entries: &[u64], modulus: u64) -> bool
     entries.iter().all(|c| *c < modulus)
 }
 
-fn with_table(alloc: Global, draft: Draft, number: u64, entries: Vec<u64>) -> Result<Draft, Refusal>
+/// What was read, with the table of this number.
+pub fn with_table(
+    alloc: Global,
+    draft: Draft,
+    number: u64,
+    entries: Vec<u64>,
+) -> Result<Draft, Refusal>
     ensures { Makes result (table_step (plain_draft draft) (number, entries.items)) }
 {
     let modulus = draft.header.modulus;
@@ -289,7 +311,8 @@ fn with_table(alloc: Global, draft: Draft, number: u64, entries: Vec<u64>) -> Re
     })
 }
 
-fn entered(alloc: Global, draft: Draft) -> Draft
+/// What was read, with the begin of one phase more.
+pub fn entered(alloc: Global, draft: Draft) -> Draft
     ensures { outside_step (plain_draft draft) None ≡ Some (plain_draft result) }
 {
     Draft {

@@ -10,7 +10,9 @@ mod printing;
 mod reading;
 
 pub use acts::{Act, PARENTHESES};
-pub use listing::{ListingFault, read_listing};
+pub use draft::{Draft, Header, Level};
+pub use drafts::{Refusal, blank, entered, with_act, with_table};
+pub use listing::{ListingFault, cut_line, read_listing};
 pub use printing::{print_listing, put, put_array, put_expr, put_header};
 pub use reading::read_place;
 

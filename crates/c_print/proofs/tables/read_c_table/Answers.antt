@@ -3,7 +3,7 @@ use Rattle.c_print.proofs.CTableLaws.{table_is_read, same_table, only_memory}
 use Rattle.c_print.proofs.tables.read_c_table.Goals as goal
 
 pub returns-in-Ok-clause-text : goal.returns-in-Ok-clause-text
-returns-in-Ok-clause-text c = table_is_read (length c.args.line.now) c.args.line.now (c.in-Ok.table.0, c.in-Ok.table.1.items) c.in-Ok.ensures
+returns-in-Ok-clause-text c = let is = table_is_read (length c.args.line.now) c.args.line.now (c.in-Ok.table.0, c.in-Ok.table.1.items) c.in-Ok.ensures in (is.0.1, is.1)
 
 pub returns-in-Ok-clause-only : goal.returns-in-Ok-clause-only
 returns-in-Ok-clause-only c = λ number entries l. (tt, same_table c.args.line.now c.in-Ok.table.0 c.in-Ok.table.1.items number entries c.in-Ok.ensures l)

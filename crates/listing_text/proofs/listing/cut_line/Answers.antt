@@ -1,4 +1,4 @@
-use Rattle.listing_text.proofs.ListingCalls.{open_more}
+use Rattle.listing_text.proofs.LineCalls.{open_more}
 use Rattle.listing_text.proofs.listing.cut_line.Goals as goal
 
 pub loop-at-preserved : goal.loop-at-preserved

@@ -3,19 +3,19 @@ use Rattle.listing_text.specs.Lines.{later}
 use Rattle.listing_text.specs.Drafts.{plain_draft, plain_draft_or_none, step, finish}
 use Rattle.listing_text.specs.Reads.{Reads}
 use Rattle.listing_text.proofs.LineReaders.{read_rest}
-use Rattle.listing_text.proofs.ListingCalls.{line_fails, line_taken, line_counted}
+use Rattle.listing_text.proofs.LineCalls.{line_fails, line_taken, line_counted}
 use Rattle.listing_text.proofs.listing.drafted.Goals as goal
 
 pub returns-in-Err-Line : goal.returns-in-Err-Line
 returns-in-Err-Line c = (
   c.loop-cut.lines,
   refl,
-  line_fails (plain_draft_or_none c.loop-cut.draft) c.loop-cut.rest.now c.in-Some.cut.0.now c.in-Some.cut.1.now c.loop-cut.lines _ c.in-Some.ensures.0 c.in-Some.ensures.1 (rw c.in-Err-Line.field-0-is at c.in-Err-Line.ensures) c.loop-cut.invariant.so_far,
+  line_fails step finish (plain_draft_or_none c.loop-cut.draft) c.loop-cut.rest.now c.in-Some.cut.0.now c.in-Some.cut.1.now c.loop-cut.lines _ c.in-Some.ensures.0 c.in-Some.ensures.1 (rw c.in-Err-Line.field-0-is at c.in-Err-Line.ensures) c.loop-cut.invariant.so_far,
 )
 
 pub loop-cut-preserved : goal.loop-cut-preserved
 loop-cut-preserved c = record {
-  so_far = line_taken (plain_draft_or_none c.loop-cut.draft) (Some (plain_draft c.in-Ok.next)) c.loop-cut.rest.now c.in-Some.cut.0.now c.in-Some.cut.1.now c.loop-cut.lines _ c.in-Some.ensures.0 c.in-Some.ensures.1 c.in-Ok.ensures c.loop-cut.invariant.so_far;
+  so_far = line_taken step finish (plain_draft_or_none c.loop-cut.draft) (Some (plain_draft c.in-Ok.next)) c.loop-cut.rest.now c.in-Some.cut.0.now c.in-Some.cut.1.now c.loop-cut.lines _ c.in-Some.ensures.0 c.in-Some.ensures.1 c.in-Ok.ensures c.loop-cut.invariant.so_far;
   within = line_counted c.loop-cut.rest.now c.in-Some.cut.0.now c.in-Some.cut.1.now c.loop-cut.lines _ c.in-Some.ensures.0 c.in-Some.ensures.1 c.loop-cut.invariant.within;
 }
 
