@@ -19,7 +19,7 @@ use Rattle.tree_model.proofs.Splits.{div-product, below_product, other_below}
 use Rattle.kernel_gen.specs.Kernel.{products_cost, rule_cost, kernel_cost}
 
 -- a kernel is short
-kernel-short : (c : Request) (d : ℕ) → is_kernel c d ≡ true → nat_le d c.unroll ≡ true
+pub kernel-short : (c : Request) (d : ℕ) → is_kernel c d ≡ true → nat_le d c.unroll ≡ true
 kernel-short c d is = pick (nat_le d c.unroll) refl
   where
     pick : (b : Bool) → nat_le d c.unroll ≡ b → nat_le d c.unroll ≡ true

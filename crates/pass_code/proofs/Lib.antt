@@ -1,0 +1,13 @@
+pub mod Tasks
+pub mod Finish
+pub mod KernelCopies
+pub mod LeafCopies
+pub mod KernelActions
+pub mod KernelSizes
+pub mod Counting
+pub mod Fitting
+pub mod Copies
+pub mod Leaves
+pub mod PassCounts
+pub mod PassFits
+pub mod PassesRun

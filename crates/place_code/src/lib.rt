@@ -1,0 +1,238 @@
+//! Places of passes as expressions of code.
+#![tactic(auto)]
+
+ghost use Rattle.std.specs.Prelude.{◌≡◌, ◌==◌, if◌then◌else◌, IfOk, map};
+ghost use Rattle.icode.specs.Plain.{AndParts, Rem, Quot, Var, parts_of, plain_expr, plain_part};
+ghost use Rattle.perm_algebra.specs.Room as room;
+ghost use Rattle.perm_algebra.specs.Views.{plain_sum};
+ghost use Rattle.place_code.specs.Expressions.{divisions_of, expr_of, factor_at, sum_of};
+ghost use Rattle.place_code.specs.Laws.{CanWrite, PlacesAreCoded};
+
+use icode::program::{Expr, Part};
+use memory::NoMemory;
+use perm_algebra::Affine;
+use std::alloc::Global;
+
+/// The expression of a sum of loop variables, where so many loops are open: the constant, the variables by rising depth,
+/// each with its parts added up, and then the remainders and quotients.
+pub fn place_expr(alloc: Global, sum: &Affine, open_loops: u64) -> Result<Expr, NoMemory>
+    requires { CanWrite (plain_sum sum.now) }
+    ensures { IfOk result (λ e. plain_expr e ≡ expr_of open_loops (plain_sum sum.now)) }
+{
+    let divisions = divisions(alloc, sum, open_loops)?;
+    let place = with_variables(sum, open_loops, divisions)?;
+    Ok(place)
+}
+
+// The remainders and quotients of a sum.
+fn divisions(alloc: Global, sum: &Affine, open_loops: u64) -> Result<Vec<Part>, NoMemory>
+    requires { CanWrite (plain_sum sum.now) }
+    ensures { IfOk result (λ parts. parts_of (map plain_part parts.items) ≡ divisions_of open_loops (plain_sum sum.now)) }
+{
+    match sum {
+        Affine::Constant(_) => Ok(Vec::new(alloc)),
+        Affine::Variable(_, _, rest) => {
+            let parts = divisions(alloc, rest, open_loops)?;
+            Ok(parts)
+        }
+        Affine::Remainder(factor, of, divisor, rest) => {
+            let inner = divisions(alloc, of, open_loops)?;
+            let of = with_variables(of, open_loops, inner)?;
+            let parts = divisions(alloc, rest, open_loops)?;
+            let parts = with_remainder(of, *divisor, *factor, parts)?;
+            Ok(parts)
+        }
+        Affine::Quotient(factor, of, divisor, rest) => {
+            let inner = divisions(alloc, of, open_loops)?;
+            let of = with_variables(of, open_loops, inner)?;
+            let parts = divisions(alloc, rest, open_loops)?;
+            let parts = with_quotient(of, *divisor, *factor, parts)?;
+            Ok(parts)
+        }
+    }
+}
+
+// A multiple of a remainder before other parts.
+fn with_remainder(
+    of: Expr,
+    divisor: u64,
+    factor: u64,
+    others: Vec<Part>,
+) -> Result<Vec<Part>, NoMemory>
+    ensures { IfOk result (λ parts. parts_of (map plain_part parts.items) ≡ AndParts (Rem (plain_expr of) divisor factor) (parts_of (map plain_part others.items))) }
+{
+    let mut parts = others;
+    parts.insert(
+        0,
+        Part::Rem {
+            of,
+            divisor,
+            factor,
+        },
+    )?;
+    Ok(parts)
+}
+
+// A multiple of a quotient before other parts.
+fn with_quotient(
+    of: Expr,
+    divisor: u64,
+    factor: u64,
+    others: Vec<Part>,
+) -> Result<Vec<Part>, NoMemory>
+    ensures { IfOk result (λ parts. parts_of (map plain_part parts.items) ≡ AndParts (Quot (plain_expr of) divisor factor) (parts_of (map plain_part others.items))) }
+{
+    let mut parts = others;
+    parts.insert(
+        0,
+        Part::Quot {
+            of,
+            divisor,
+            factor,
+        },
+    )?;
+    Ok(parts)
+}
+
+// The constant and the variables of a sum, before other parts.
+fn with_variables(sum: &Affine, open_loops: u64, others: Vec<Part>) -> Result<Expr, NoMemory>
+    requires { CanWrite (plain_sum sum.now) }
+    ensures { IfOk result (λ e. plain_expr e ≡ sum_of open_loops (plain_sum sum.now) (parts_of (map plain_part others.items))) }
+{
+    let mut parts = others;
+    for depth in (0..open_loops).rev() {
+        let factor = factor_of(sum, depth);
+        parts = with_variable(depth, factor, parts)?;
+    }
+    Ok(Expr {
+        constant: constant_of(sum),
+        parts,
+    })
+}
+
+// A multiple of a variable before other parts; none where the factor is 0.
+fn with_variable(depth: u64, factor: u64, others: Vec<Part>) -> Result<Vec<Part>, NoMemory>
+    ensures { IfOk result (λ parts. parts_of (map plain_part parts.items) ≡ (if factor == 0 then parts_of (map plain_part others.items) else AndParts (Var depth factor) (parts_of (map plain_part others.items)))) }
+{
+    if factor == 0 {
+        return Ok(others);
+    }
+    let mut parts = others;
+    parts.insert(0, Part::Var { depth, factor })?;
+    Ok(parts)
+}
+
+// The factor of a variable, all its parts together.
+fn factor_of(sum: &Affine, variable: u64) -> u64
+    requires { CanWrite (plain_sum sum.now) }
+    ensures { result ≡ factor_at variable (plain_sum sum.now) }
+{
+    match sum {
+        Affine::Constant(_) => 0,
+        Affine::Variable(factor, other, rest) => {
+            let others = factor_of(rest, variable);
+            if variable == *other {
+                *factor + others
+            } else {
+                others
+            }
+        }
+        Affine::Remainder(_, _, _, rest) => factor_of(rest, variable),
+        Affine::Quotient(_, _, _, rest) => factor_of(rest, variable),
+    }
+}
+
+fn constant_of(sum: &Affine) -> u64
+    ensures { result ≡ room.constant_of (plain_sum sum.now) }
+{
+    match sum {
+        Affine::Constant(constant) => *constant,
+        Affine::Variable(_, _, rest) => constant_of(rest),
+        Affine::Remainder(_, _, _, rest) => constant_of(rest),
+        Affine::Quotient(_, _, _, rest) => constant_of(rest),
+    }
+}
+
+/// The expressions of a pass's places have the places' values, and stand within the limits of programs: a law of the definitions.
+pub fn places_are_coded()
+    ensures { PlacesAreCoded }
+{}
+
+#[cfg(test)]
+mod tests {
+    use super::*;
+    use std::test::Fail;
+
+    // 5 + 3 v2 + 2 v0 + 4 v2 + 2 ((7 + v1 + v0) % 6) + ((v0 + v0) / 3)
+    fn five_and_parts(alloc: Global) -> Result<Affine, Fail>
+        ensures { IfOk result (λ sum. CanWrite (plain_sum sum)) }
+    {
+        let end = Box::new(alloc, Affine::Constant(0))?;
+        let once = Box::new(alloc, Affine::Variable(1, 0, end))?;
+        let twice = Box::new(alloc, Affine::Variable(1, 0, once))?;
+        let five = Box::new(alloc, Affine::Constant(5))?;
+        let halves = Box::new(alloc, Affine::Quotient(1, twice, 3, five))?;
+        let more = Box::new(alloc, Affine::Variable(4, 2, halves))?;
+        let seven = Box::new(alloc, Affine::Constant(7))?;
+        let row = Box::new(alloc, Affine::Variable(1, 0, seven))?;
+        let inner = Box::new(alloc, Affine::Variable(1, 1, row))?;
+        let rest = Box::new(alloc, Affine::Remainder(2, inner, 6, more))?;
+        let first = Box::new(alloc, Affine::Variable(2, 0, rest))?;
+        Ok(Affine::Variable(3, 2, first))
+    }
+
+    // The constant and the variables of a place.
+    fn variables_shown(alloc: Global, place: &Expr) -> Result<String, Fail> {
+        let mut text = format!(in alloc; "{}", place.constant)?;
+        for part in &place.parts {
+            if let Part::Var { depth, factor } = part {
+                text.push_str(format!(in alloc; "+v{depth}*{factor}")?.as_str())?;
+            }
+        }
+        Ok(text)
+    }
+
+    // A place whose remainders and quotients are of constants and variables.
+    fn shown(alloc: Global, place: &Expr) -> Result<String, Fail> {
+        let mut text = format!(in alloc; "{}", place.constant)?;
+        for part in &place.parts {
+            let more = match part {
+                Part::Var { depth, factor } => format!(in alloc; "+v{depth}*{factor}")?,
+                Part::Rem {
+                    of,
+                    divisor,
+                    factor,
+                } => {
+                    let inner = variables_shown(alloc, of)?;
+                    format!(in alloc; "+({inner})%{divisor}*{factor}")?
+                }
+                Part::Quot {
+                    of,
+                    divisor,
+                    factor,
+                } => {
+                    let inner = variables_shown(alloc, of)?;
+                    format!(in alloc; "+({inner})/{divisor}*{factor}")?
+                }
+                _ => format!(in alloc; "+?")?,
+            };
+            text.push_str(more.as_str())?;
+        }
+        Ok(text)
+    }
+
+    // By hand: the parts of a variable added up, by rising depth, inside a remainder too.
+    #[test]
+    fn places(rt: HostRuntime) -> Result<(), Fail> {
+        let alloc = rt.alloc();
+        let sum = five_and_parts(alloc)?;
+        let place = place_expr(alloc, &sum, 3)?;
+        assert_eq!(rt;
+            shown(alloc, &place)?.as_str(),
+            "5+v0*2+v2*7+(7+v0*1+v1*1)%6*2+(0+v0*2)/3*1"
+        );
+        let place = place_expr(alloc, &Affine::Constant(9), 2)?;
+        assert_eq!(rt; shown(alloc, &place)?.as_str(), "9");
+        Ok(())
+    }
+}
