@@ -1,14 +1,13 @@
 pub mod PlainRules
 pub mod PlainSteps
 pub mod PlaceNumbers
-pub mod Within
-pub mod Tasks
-pub mod DenseRows
-pub mod DensePlain
-pub mod Counting
-pub mod OneProcessor
-pub mod LeafActs
-pub mod LeafFits
-pub mod LeafRuns
-pub mod LeafListing
+pub mod Emits
+pub mod EmittedPlaces
+pub mod SharedTables
+pub mod EmittedPasses
+pub mod EmittedLimits
+pub mod PassFacts
+pub mod EmissionLaw
+pub mod CodeTables
+pub mod StatementRules
 mod PowerRules

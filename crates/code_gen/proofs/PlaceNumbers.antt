@@ -1,12 +1,12 @@
 -- The numbers of places.
-use Rattle.std.proofs.Common.{◌≡◌, ◌≢◌, ℕ, ◌+◌, ◌*◌, ◌%◌, ◌^◌, ◌<◌, max, List, [], ◌∷◌, ◌++◌, length, inl, inr, ap, ap₂, sym, ◌∙◌, arith, length-append, subst}
+use Rattle.std.proofs.Common.{◌≡◌, ◌≢◌, ℕ, ◌+◌, ◌*◌, ◌%◌, ◌^◌, ◌<◌, List, [], ◌∷◌, ◌++◌, length, inl, inr, ap, ap₂, sym, ◌∙◌, arith, length-append, subst}
 use Rattle.std.specs.Prelude.{slice_index}
 use Rattle.std.proofs.Math.Seq.{get_or-append_seam}
 use Rattle.std.proofs.lemmas.Bool.{cases_eq}
 use Rattle.std.proofs.lemmas.List.{get_or_append_left}
 use Rattle.std.proofs.lemmas.Nat.{mul-lt}
 use Rattle.icode.specs.Expression.{Numbers, alone, with_sum, with_part, with_factor, sum_numbers}
-use Rattle.code_gen.specs.Places.{variable_place, product_place}
+use Rattle.code_gen.specs.Places.{product_place}
 use Rattle.code_gen.proofs.PlainSteps.{with_value, is-not}
 
 last-value : (vs : List ℕ) (depth v : ℕ) → length vs ≡ depth → slice_index (vs ++ v ∷ []) depth ≡ v
@@ -18,24 +18,6 @@ outer-value vs depth k l size =
 
 inner-value : (vs : List ℕ) (depth k l : ℕ) → length vs ≡ depth → slice_index ((vs ++ k ∷ []) ++ l ∷ []) (depth + 1) ≡ l
 inner-value vs depth k l size = last-value (vs ++ k ∷ []) (depth + 1) l (omega (arith, length-append vs (k ∷ [])))
-
-one-part : (v : ℕ) → with_sum 0 (with_part (alone (v * 1)) (alone 0)) ≡ alone v
-one-part v =
-    let value : 0 + (v * 1 + 0) ≡ v = omega arith in
-    let peak : max (0 + (v * 1 + 0)) (max (v * 1) 0) ≡ v = omega arith in
-    ap₂ (λ (a b : ℕ). let z : Numbers = record { value = a; peak = b } in z) value peak
-
--- a variable's place is its value
-pub variable-numbers : (count depth v q : ℕ) (vs : List ℕ) → (1 < count → length vs ≡ depth) → v < count → sum_numbers (variable_place depth count) (with_value count vs v) q ≡ alone v
-variable-numbers count depth v q vs size below =
-    elim (cases_eq count 1) [
-      | inl one ↦
-          let first : 0 ≡ v = omega arith in
-          subst (λ n. sum_numbers (variable_place depth n) (with_value n vs v) q ≡ alone v) (sym one) (ap alone first)
-      | inr many ↦
-          let deep : length vs ≡ depth = size (omega arith) in
-          rw (is-not count 1 many) (ap (λ u. with_sum 0 (with_part (alone (u * 1)) (alone 0))) (last-value vs depth v deep) ∙ one-part v)
-    ]
 
 -- the numbers of a remainder of a product
 pub product_numbers : ℕ → ℕ → Numbers

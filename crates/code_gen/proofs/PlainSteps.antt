@@ -1,15 +1,14 @@
 -- The steps of statements in a row, and of loops.
-use Rattle.std.proofs.Common.{◌≡◌, ◌≢◌, ℕ, zero, suc, ◌+◌, List, [], ◌∷◌, ◌++◌, flat_map, inl, inr, false, refl, sym, ap, ap₂, ◌∙◌, arith, append-nil, append_assoc, subst}
+use Rattle.std.proofs.Common.{◌≡◌, ◌≢◌, ℕ, zero, suc, ◌+◌, List, [], ◌∷◌, ◌++◌, flat_map, false, refl, sym, ap, ap₂, ◌∙◌, arith, append-nil, append_assoc}
 use Rattle.std.specs.Prelude.{◌==◌, if◌then◌else◌}
 use Rattle.std.specs.List.{range_with_len}
-use Rattle.std.proofs.lemmas.Bool.{cases_eq}
 use Rattle.std.proofs.lemmas.Bool.Decides.{nat_tests}
 use Rattle.std.proofs.lemmas.List.Concat.{flat_map-append}
 use Rattle.icode.specs.Actions.{Step, steps_of_stmt, steps_of_body, actions_of}
 use Rattle.icode.specs.Plain.{PlainBody, PlainProgram, NoStmts, AndStmts}
 use Rattle.code_laws.specs.Nests.{bodies}
 use Rattle.code_laws.proofs.Statements.{range-last}
-use Rattle.code_gen.specs.Bodies.{followed_by, looped}
+use Rattle.code_gen.specs.Bodies.{followed_by}
 
 -- The values of the open loops inside one more, where it has the value v. A loop of one value is not written
 abbrev pub with_value : ℕ → List ℕ → ℕ → List ℕ
@@ -24,18 +23,6 @@ module _ (p : PlainProgram) where
   steps-followed (AndStmts x xs) ys vs q =
       ap (λ zs. steps_of_stmt p x vs q ++ zs) (steps-followed xs ys vs q)
       ∙ sym (append_assoc (steps_of_stmt p x vs q) (steps_of_body p xs vs q) (steps_of_body p ys vs q))
-
-  steps-looped_once : (body : PlainBody) (vs : List ℕ) (q : ℕ) → steps_of_body p (looped 1 body) vs q ≡ flat_map (λ v. steps_of_body p body (with_value 1 vs v) q) (range_with_len 0 1)
-  steps-looped_once body vs q = sym (append-nil (steps_of_body p body vs q))
-
-  pub steps-looped : (count : ℕ) (body : PlainBody) (vs : List ℕ) (q : ℕ) → steps_of_body p (looped count body) vs q ≡ flat_map (λ v. steps_of_body p body (with_value count vs v) q) (range_with_len 0 count)
-  steps-looped count body vs q =
-      elim (cases_eq count 1) [
-        | inl one ↦
-            subst (λ n. steps_of_body p (looped n body) vs q ≡ flat_map (λ v. steps_of_body p body (with_value n vs v) q) (range_with_len 0 n)) (sym one) (steps-looped_once body vs q)
-        | inr many ↦
-            rw (is-not count 1 many) (append-nil (flat_map (λ v. steps_of_body p body (vs ++ v ∷ []) q) (range_with_len 0 count)))
-      ]
 
 pub actions_of-append : (xs ys : List Step) → actions_of (xs ++ ys) ≡ actions_of xs ++ actions_of ys
 actions_of-append [] ys = refl

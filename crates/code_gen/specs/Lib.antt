@@ -1,4 +1,5 @@
 pub mod Places
 pub mod Bodies
-pub mod Dense
-pub mod Leaf
+pub mod Emission
+pub mod EmissionLaws
+pub mod Conditions

@@ -1,23 +1,11 @@
 // Loops.
 ghost use Rattle.std.specs.Prelude.{◌≡◌, IfOk};
 ghost use Rattle.icode.specs.Plain.{plain_body};
-ghost use Rattle.code_gen.specs.Bodies.{looped, nested};
+ghost use Rattle.code_gen.specs.Bodies.{nested};
 
 use icode::program::Stmt;
 use memory::NoMemory;
 use std::alloc::Global;
-
-/// The body for each value of a variable below the count. A loop of one value is not written.
-pub fn in_loop(alloc: Global, count: u64, body: Vec<Stmt>) -> Result<Vec<Stmt>, NoMemory>
-    ensures { IfOk result (λ y. plain_body y.items ≡ looped count (plain_body body.items)) }
-{
-    if count == 1 {
-        return Ok(body);
-    }
-    let mut outer = Vec::new(alloc);
-    outer.push(Stmt::Loop { count, body })?;
-    Ok(outer)
-}
 
 /// The body in loops of these counts, the first the outermost.
 pub fn in_loops(alloc: Global, counts: &[u64], body: Vec<Stmt>) -> Result<Vec<Stmt>, NoMemory>

@@ -1,0 +1,4 @@
+pub mod Whole
+pub mod Acts
+pub mod Emitting
+pub mod Laws
