@@ -1,6 +1,7 @@
--- The program of one pass is good.
-use Rattle.std.proofs.Common.{◌≡◌, ℕ, zero, suc, ◌*◌, ◌<◌, List, [], sym, ap, ◌∙◌, arith}
+-- The program of the chosen tree is good.
+use Rattle.std.proofs.Common.{◌≡◌, ℕ, zero, suc, ◌+◌, ◌*◌, ◌<◌, List, [], sym, ap, ◌∙◌, arith, subst}
 use Rattle.matrix_meaning.specs.declared.Request.{Request}
+use Rattle.icode.specs.Actions.{PlainFits, plain_code}
 use Rattle.icode.specs.declared.action.Counts.{Counts}
 use Rattle.icode.specs.declared.program.Program.{Program}
 use Rattle.icode.specs.Machine.{IsApart, padded, results, whole_counts, words_at}
@@ -8,12 +9,17 @@ use Rattle.icode.specs.Plain.{PlainProgram}
 use Rattle.icode.specs.Program.{Fits, code_of, plain_program}
 use Rattle.icode.proofs.Lists.{code_is}
 use Rattle.icode.proofs.Runs.{memory_of_runs}
-use Rattle.code_gen.specs.Leaf.{Computes, leaf_counts, leaf_listing}
-use Rattle.code_gen.proofs.OneProcessor.{alone-apart}
-use Rattle.generate.specs.Good.{IsGood}
+use Rattle.operators.specs.Sum.{sum_below}
+use Rattle.tree_code.specs.Laws.{Computes, counts_of_tree}
+use Rattle.tree_code.specs.Whole.{tree_listing}
+use Rattle.tree_code.proofs.OneProcessor.{alone-apart}
+use Rattle.tree_model.specs.Breakdown.{Breakdown}
+use Rattle.tree_model.specs.Cost.{cost_of}
+use Rattle.tree_model.specs.Passes.{loads_of, stores_of}
+use Rattle.generate.specs.Good.{IsGood, IsLean}
 use Rattle.generate.specs.Planned.{IsPlain}
 
-module _ (r : Request) (p : Program) (plain : IsPlain r) (listing : plain_program p ≡ leaf_listing r) where
+module _ (r : Request) (t : Breakdown) (p : Program) (plain : IsPlain r) (listing : plain_program p ≡ tree_listing r t) (computes : Computes r t) where
   apart : (phase : ℕ) → IsApart (code_of p) phase
   apart = alone-apart (code_of p) (code_is (plain_program p)) (ap (λ (z : PlainProgram). z.procs) listing)
 
@@ -24,15 +30,18 @@ module _ (r : Request) (p : Program) (plain : IsPlain r) (listing : plain_progra
       let none = memory_of_runs (code_of p) (code_is (plain_program p)) apart x [] in
       ap (λ memory. words_at p.size memory (padded (code_of p))) (first ∙ sym none)
 
-  share : (q : ℕ) → whole_counts (code_of p) 0 ≡ leaf_counts r → q < r.procs → r.procs * (whole_counts (code_of p) q).operations ≡ 2 * r.size * r.size
-  share zero counts below =
-      let one = plain.procs in
-      let total : (whole_counts (code_of p) 0).operations ≡ 2 * r.size * r.size = ap (λ (c : Counts). c.operations) counts in
-      ap (λ k. k * (whole_counts (code_of p) 0).operations) one ∙ omega arith
-  share (suc q) counts below = let one = plain.procs in absurd (omega arith)
+  counts : whole_counts (code_of p) 0 ≡ counts_of_tree r t
+  counts = ap (λ (z : PlainProgram). whole_counts (plain_code z) 0) listing ∙ computes.counts
 
-  pub good : Fits p → Computes r p → whole_counts (code_of p) 0 ≡ leaf_counts r → IsGood r (2 * r.size * r.size) p
-  good fits computes counts =
+  share : (q : ℕ) → q < r.procs → r.procs * (whole_counts (code_of p) q).operations ≡ cost_of r t
+  share zero below =
+      let one = plain.procs in
+      let total : (whole_counts (code_of p) 0).operations ≡ cost_of r t = ap (λ (c : Counts). c.operations) counts in
+      ap (λ k. k * (whole_counts (code_of p) 0).operations) one ∙ omega arith
+  share (suc q) below = let one = plain.procs in absurd (omega arith)
+
+  pub good : IsGood r (cost_of r t) p
+  good =
       record {
         header = record {
           size = ap (λ (z : PlainProgram). z.size) listing;
@@ -41,8 +50,20 @@ module _ (r : Request) (p : Program) (plain : IsPlain r) (listing : plain_progra
           line = ap (λ (z : PlainProgram). z.line) listing;
           lanes = ap (λ (z : PlainProgram). z.lanes) listing ∙ sym plain.lanes;
         };
-        fits = fits;
-        product = λ x turns vector _. any-turns x turns ∙ computes x vector.size vector.residues;
+        fits = subst PlainFits (sym listing) computes.fits;
+        product = λ x turns vector _. any-turns x turns ∙ ap (λ (z : PlainProgram). results (plain_code z) x []) listing ∙ computes.results x vector.size vector.residues;
         apart = apart;
-        operations = λ q below. share q counts below;
+        operations = λ q below. share q below;
+      }
+
+  pub lean : IsLean r t p
+  lean =
+      let one = plain.procs in
+      record {
+        loads =
+            ap (λ n. sum_below n (λ q. (whole_counts (code_of p) q).loads)) one
+            ∙ (let total : (whole_counts (code_of p) 0).loads ≡ loads_of r t = ap (λ (c : Counts). c.loads) counts in omega arith);
+        stores =
+            ap (λ n. sum_below n (λ q. (whole_counts (code_of p) q).stores)) one
+            ∙ (let total : (whole_counts (code_of p) 0).stores ≡ stores_of r t = ap (λ (c : Counts). c.stores) counts in omega arith);
       }

@@ -1,23 +1,21 @@
--- Which requests are refused, and the cost of the others.
-use Rattle.std.specs.Prelude.{◌≡◌, ℕ, ◌*◌, ◌==◌, nat_le, Bool, true, if◌then◌else◌, Result, Ok, Err}
+-- Which requests are refused, and the tree of the others.
+use Rattle.std.specs.Prelude.{◌≡◌, ℕ, ◌==◌, ◌<◌, ◌≤◌, Bool, true, false, Result, Ok, Err}
 use Rattle.ring_mod.specs.Residue.{power_mod}
 use Rattle.matrix_meaning.specs.declared.Kind.{Kind}
 use Rattle.matrix_meaning.specs.declared.Kind.TheVariants.{Dft, Wht}
 use Rattle.matrix_meaning.specs.declared.Request.{Request}
+use Rattle.tree_model.specs.Admissible.{CanDivide, IsChosen, IsLeast}
+use Rattle.tree_model.specs.Breakdown.{Breakdown}
+use Rattle.tree_model.specs.Cost.{cost_of}
 use Rattle.generate.specs.declared.GenerateFault.{GenerateFault}
-use Rattle.generate.specs.declared.GenerateFault.TheVariants.{Root, OverBudget}
+use Rattle.generate.specs.declared.GenerateFault.TheVariants.{Root, NoDivide, OverBudget, NoMemory}
 
--- what may be asked for: a Fourier transform on one processor, word by word, with each operation at the same price
+-- what may be asked for: one processor, word by word, with each operation at the same price
 pub record IsPlain (r : Request) : Type 0 where
-  pub kind : r.kind ≡ Dft
   pub procs : r.procs ≡ 1
   pub line : r.line ≡ 1
   pub lanes : r.lanes ≡ 1
   pub weight : r.weight ≡ 1
-
--- the cost of the only tree: each entry of the matrix is multiplied and added
-abbrev pub least_cost : Request → ℕ
-least_cost r = 2 * r.size * r.size
 
 -- the root to the power of the size
 abbrev pub root_power : Request → ℕ
@@ -28,12 +26,14 @@ abbrev pub has_root : Kind → ℕ → Bool
 has_root Dft power = power == 1
 has_root Wht power = true
 
--- the least cost, where it is within the budget
-abbrev pub within_budget : ℕ → ℕ → Result ℕ GenerateFault
-within_budget cost budget = if nat_le cost budget then Ok cost else Err (OverBudget cost budget)
+-- The root is one of the size.
+abbrev pub IsRooted : Request → Type 0
+IsRooted r = has_root r.kind (root_power r) ≡ true
 
--- the least cost, or the first cause to refuse the request
-abbrev pub planned : Request → Result ℕ GenerateFault
-planned r =
-    if has_root r.kind (root_power r) then within_budget (least_cost r) r.budget
-    else Err (Root (root_power r))
+-- The tree of the request, which is the first of the cheapest and within the budget; or the first cause to refuse the request
+abbrev pub IsPlanned : Request → Result Breakdown GenerateFault → Type 0
+IsPlanned r (Ok t) = IsRooted r × IsChosen r t × (cost_of r t ≤ r.budget)
+IsPlanned r (Err (Root power)) = (has_root r.kind (root_power r) ≡ false) × (power ≡ root_power r)
+IsPlanned r (Err NoDivide) = IsRooted r × (CanDivide r → ⊥)
+IsPlanned r (Err (OverBudget cost budget)) = IsRooted r × IsLeast r cost × (budget ≡ r.budget) × (budget < cost)
+IsPlanned r (Err NoMemory) = ⊥
