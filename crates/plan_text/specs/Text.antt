@@ -1,0 +1,29 @@
+-- The texts of trees and of plans.
+use Rattle.std.specs.Prelude.{ℕ, ◌/◌, nat_le, if◌then◌else◌, List, ◌++◌, codes, decimal}
+use Rattle.matrix_meaning.specs.declared.Request.{Request}
+use Rattle.tree_model.specs.declared.tree.Rule.{Rule}
+use Rattle.tree_model.specs.declared.tree.Rule.TheVariants.{Gt, Ct, Split}
+use Rattle.tree_model.specs.Breakdown.{Breakdown, leaf, node}
+use Rattle.tree_model.specs.Cost.{cost_of}
+
+abbrev pub rule_word : Rule → List ℕ
+rule_word Gt = codes "gt("
+rule_word Ct = codes "ct("
+rule_word Split = codes "split("
+
+-- as `ct(leaf(2),leaf(2))`
+abbrev pub tree_text : Breakdown → List ℕ
+tree_text (leaf d) = codes "leaf(" ++ (decimal d ++ codes ")")
+tree_text (node rule a b) = rule_word rule ++ (tree_text a ++ (codes "," ++ (tree_text b ++ codes ")")))
+
+-- one phase for one processor, and else two
+abbrev pub phases_of : Request → ℕ
+phases_of c = if nat_le c.procs 1 then 1 else 2
+
+-- the tree, its cost, how many phases there are, and the operations of each processor
+abbrev pub plan_text : Request → Breakdown → List ℕ
+plan_text c t =
+    codes "tree " ++ (tree_text t
+    ++ (codes "\ncost " ++ (decimal (cost_of c t)
+    ++ (codes "\nphases " ++ (decimal (phases_of c)
+    ++ (codes "\neach " ++ (decimal (cost_of c t / c.procs) ++ codes "\n")))))))
