@@ -9,13 +9,18 @@ use Rattle.request_text.specs.declared.RequestFault.TheVariants as request
 use Rattle.request_text.specs.Answer.{Answers}
 use Rattle.io_edge.specs.declared.FeedFault.{FeedFault}
 use Rattle.io_edge.specs.declared.FeedFault.TheVariants as feed
-use Rattle.spiral_main.specs.declared.command.Command.{Command}
+use Rattle.spiral_words.specs.declared.Command.{Command}
+use Rattle.spiral_words.specs.declared.Command.TheVariants as command
+use Rattle.spiral_words.specs.Named.{NamedTexts, named_of}
+use Rattle.spiral_words.specs.Named as named
+use Rattle.spiral_words.specs.Asked.{Means, IsAsked}
 use Rattle.spiral_main.specs.declared.status.Status.{Status}
-use Rattle.spiral_main.specs.declared.status.Status.TheVariants.{Success, Usage, ReadFault, WriteFault, NoMemory, TooLong}
-use Rattle.spiral_main.specs.Command.{command_of, or_usage}
+use Rattle.spiral_main.specs.declared.status.Status.TheVariants.{Success, Turn, ReadFault, WriteFault, TooLong}
+use Rattle.spiral_main.specs.Commands.{reads_data, commanded, schedule_of, stranger, admitted}
 use Rattle.spiral_main.specs.Fault.{status_of_line, status_of_request}
 use Rattle.spiral_main.specs.Line.{first_line, data_of, line_of, IsWholeLine, GivesLine}
 use Rattle.spiral_main.specs.Outcome.{spelt, requested}
+use Rattle.spiral_main.specs.Status.{IsDefined}
 use Rattle.spiral_main.specs.Steps.{Asks}
 
 -- a line of at most 256 bytes, and a longer one
@@ -30,14 +35,14 @@ line_long bytes long =
     let test : nat_le (length (first_line bytes)) 256 ≡ false = grind (arith, common_steps) in
     ap (λ b. cond {A = Result (List ℕ) Status} b (Ok (first_line bytes)) (Err (TooLong 256))) test
 
--- the words are no command line
-pub asked_usage : (words : List (List ℕ)) (a : Option (List ℕ)) (taken : ℕ) → command_of words ≡ None → Asks words a a taken (Err Usage)
-asked_usage words None taken none = tt
-asked_usage words (Some bytes) taken none = ([], refl, (λ _. inl (sym (ap or_usage none)), λ e. absurd (cc)))
+-- the words ask for no command that is there
+pub asked_nothing : (words : List (List ℕ)) (a : Option (List ℕ)) (taken : ℕ) (status : Status) → (IsDefined status → commanded words (Err status)) → status ≢ ReadFault → Asks words a a taken (Err status)
+asked_nothing words None taken status refused other = tt
+asked_nothing words (Some bytes) taken status refused other = ([], refl, (λ d. inl (refused d), λ e. absurd (other e)))
 
 -- the first line can't be read
 pub asked_line_fault : (words : List (List ℕ)) (before after : Option (List ℕ)) (taken : ℕ) (command : Command) (read buffer : List ℕ) (ended : Type 0) (fault : FeedFault)
-    → command_of words ≡ Some command → Consumes before after read → GivesLine read ended taken buffer (Err fault) → Asks words before after taken (Err (status_of_line fault))
+    → commanded words (Ok command) → Consumes before after read → GivesLine read ended taken buffer (Err fault) → Asks words before after taken (Err (status_of_line fault))
 asked_line_fault words None after taken command read buffer ended fault named consumed given = tt
 asked_line_fault words (Some bytes) None taken command read buffer ended fault named consumed given = consumed
 asked_line_fault words (Some bytes) (Some rest) taken command read buffer ended feed.ReadFault named consumed given = (
@@ -49,7 +54,7 @@ asked_line_fault words (Some bytes) (Some rest) taken command read buffer ended 
   read,
   consumed,
   (
-    λ _. inr (record { value = command; before = sym (ap or_usage named); behind = inl (sym (line_long (read ++ rest) (given rest))) }),
+    λ _. inr (record { value = command; before = named; behind = inl (sym (line_long (read ++ rest) (given rest))) }),
     λ e. absurd (cc),
   ),
 )
@@ -62,7 +67,7 @@ request_fault_other (request.LanesLine lanes line) e = absurd (cc)
 
 -- the line spells no request that can be served
 pub asked_request_fault : (words : List (List ℕ)) (before after : Option (List ℕ)) (taken : ℕ) (command : Command) (read line : List ℕ) (fault : RequestFault)
-    → command_of words ≡ Some command → Consumes before after read → IsWholeLine read (IsAtEnd after) line → length line ≤ 256 → Answers line (Err fault)
+    → commanded words (Ok command) → Consumes before after read → IsWholeLine read (IsAtEnd after) line → length line ≤ 256 → Answers line (Err fault)
     → Asks words before after taken (Err (status_of_request fault))
 asked_request_fault words None after taken command read line fault named consumed whole short answer = tt
 asked_request_fault words (Some bytes) None taken command read line fault named consumed whole short answer = consumed
@@ -73,20 +78,44 @@ asked_request_fault words (Some bytes) (Some rest) taken command read line fault
       (
         λ _. inr (record {
           value = command;
-          before = sym (ap or_usage named);
+          before = named;
           behind = inr (record { value = line; before = sym there; behind = inl (fault, answer, refl) });
         }),
         λ e. absurd (request_fault_other fault e),
       ),
     )
 
+-- a turn is of a processor that is not there
+pub asked_turn_fault : (words : List (List ℕ)) (before after : Option (List ℕ)) (taken : ℕ) (command : Command) (read line : List ℕ) (wanted : Request) (q : ℕ)
+    → commanded words (Ok command) → Consumes before after read → IsWholeLine read (IsAtEnd after) line → length line ≤ 256 → Answers line (Ok wanted)
+    → stranger (schedule_of command) wanted.procs ≡ Some q → Asks words before after taken (Err (Turn q wanted.procs))
+asked_turn_fault words None after taken command read line wanted q named consumed whole short answer found = tt
+asked_turn_fault words (Some bytes) None taken command read line wanted q named consumed whole short answer found = consumed
+asked_turn_fault words (Some bytes) (Some rest) taken command read line wanted q named consumed whole short answer found =
+    let there = line_short (read ++ rest) line (whole rest (λ e. e)).0 short in (
+      read,
+      consumed,
+      (
+        λ _. inr (record {
+          value = command;
+          before = named;
+          behind = inr (record {
+            value = line;
+            before = sym there;
+            behind = inr (record { value = wanted; before = answer; behind = inl (sym (ap (λ o. admitted o wanted) found)) });
+          });
+        }),
+        λ e. absurd (cc),
+      ),
+    )
+
 -- the command and the request
 pub asked_request : (words : List (List ℕ)) (before after : Option (List ℕ)) (taken : ℕ) (command : Command) (read line : List ℕ) (wanted : Request)
-    → command_of words ≡ Some command → Consumes before after read → taken ≡ length read → IsWholeLine read (IsAtEnd after) line → length line ≤ 256 → Answers line (Ok wanted)
-    → Asks words before after taken (Ok (command, wanted))
-asked_request words None after taken command read line wanted named consumed count whole short answer = tt
-asked_request words (Some bytes) None taken command read line wanted named consumed count whole short answer = consumed
-asked_request words (Some bytes) (Some rest) taken command read line wanted named consumed count whole short answer = (
+    → commanded words (Ok command) → Consumes before after read → taken ≡ length read → IsWholeLine read (IsAtEnd after) line → length line ≤ 256 → Answers line (Ok wanted)
+    → stranger (schedule_of command) wanted.procs ≡ None → Asks words before after taken (Ok (command, wanted))
+asked_request words None after taken command read line wanted named consumed count whole short answer none_found = tt
+asked_request words (Some bytes) None taken command read line wanted named consumed count whole short answer none_found = consumed
+asked_request words (Some bytes) (Some rest) taken command read line wanted named consumed count whole short answer none_found = (
   read,
   consumed,
   (
@@ -95,24 +124,56 @@ asked_request words (Some bytes) (Some rest) taken command read line wanted name
         let parts = whole more none in (
           record {
             value = command;
-            before = sym (ap or_usage named);
-            behind = record { value = line; before = sym (line_short (read ++ more) line parts.0 short); behind = record { value = wanted; before = answer; behind = refl } };
+            before = named;
+            behind = record {
+              value = line;
+              before = sym (line_short (read ++ more) line parts.0 short);
+              behind = record {
+                value = wanted;
+                before = answer;
+                behind = record { value = wanted; before = sym (ap (λ o. admitted o wanted) none_found); behind = refl };
+              };
+            };
           },
           parts.1,
         ),
   ),
 )
 
--- a line's and a request's fault end a run before the output
-pub line_fault_others : (fault : FeedFault) → (status_of_line fault ≢ Success) × (status_of_line fault ≢ WriteFault) × (status_of_line fault ≢ NoMemory)
-line_fault_others feed.ReadFault = (λ e. cc, λ e. cc, λ e. cc)
-line_fault_others feed.TooLong = (λ e. cc, λ e. cc, λ e. cc)
+-- whether the data are read depends on the command's name alone
+abbrev named_reads : NamedTexts → Bool
+named_reads (named.run word) = true
+named_reads _ = false
 
-pub request_fault_others : (fault : RequestFault) → (status_of_request fault ≢ Success) × (status_of_request fault ≢ WriteFault) × (status_of_request fault ≢ NoMemory)
-request_fault_others (request.Syntax at) = (λ e. cc, λ e. cc, λ e. cc)
-request_fault_others (request.Range field value) = (λ e. cc, λ e. cc, λ e. cc)
-request_fault_others (request.Shape size) = (λ e. cc, λ e. cc, λ e. cc)
-request_fault_others (request.LanesLine lanes line) = (λ e. cc, λ e. cc, λ e. cc)
+means_reads : (texts : NamedTexts) (command : Command) → Means texts command → reads_data command ≡ named_reads texts
+means_reads named.plan command means = ap reads_data means
+means_reads named.formula command means = ap reads_data means
+means_reads named.code command means = ap reads_data means
+means_reads named.c command means = ap reads_data means
+means_reads (named.run word) command means = ap reads_data means.2
+means_reads (named.trace word) command means = ap reads_data means.2
+means_reads named.cert command means = ap reads_data means
+means_reads named.check command means = ap reads_data means
+means_reads (named.sample number word) command means = ap reads_data means.4
+
+same_texts : (a b : NamedTexts) → Some a ≡ Some b → a ≡ b
+same_texts a b e = cc
+
+pub reads_same : (words : List (List ℕ)) (a b : Command) → IsAsked words a → IsAsked words b → reads_data a ≡ reads_data b
+reads_same words a b asked other =
+    let same : asked.0 ≡ other.0 = same_texts asked.0 other.0 (sym asked.1 ∙ other.1) in
+    means_reads asked.0 a asked.2 ∙ ap named_reads same ∙ sym (means_reads other.0 b other.2)
+
+-- a line's and a request's fault end a run before the output
+pub line_fault_others : (fault : FeedFault) → (status_of_line fault ≢ Success) × (status_of_line fault ≢ WriteFault)
+line_fault_others feed.ReadFault = (λ e. cc, λ e. cc)
+line_fault_others feed.TooLong = (λ e. cc, λ e. cc)
+
+pub request_fault_others : (fault : RequestFault) → (status_of_request fault ≢ Success) × (status_of_request fault ≢ WriteFault)
+request_fault_others (request.Syntax at) = (λ e. cc, λ e. cc)
+request_fault_others (request.Range field value) = (λ e. cc, λ e. cc)
+request_fault_others (request.Shape size) = (λ e. cc, λ e. cc)
+request_fault_others (request.LanesLine lanes line) = (λ e. cc, λ e. cc)
 
 pub take_short : (n : ℕ) (xs : List ℕ) → length (take n xs) ≤ n
 take_short zero xs = omega arith

@@ -1,5 +1,5 @@
 -- From the parts of a run to its whole account.
-use Rattle.std.proofs.Common.{◌≡◌, ◌≢◌, ◌<◌, ◌≤◌, ◌+◌, ◌-◌, ◌*◌, ◌/◌, ℕ, zero, suc, true, List, [], ◌∷◌, ◌++◌, None, Some, Ok, Err, Result, IsSome, IfSome, length, take, drop, refl, sym, ap, subst, ◌∙◌, arith, append_assoc, length-append, inl, inr}
+use Rattle.std.proofs.Common.{◌≡◌, ◌≢◌, ◌<◌, ◌≤◌, ◌+◌, ◌-◌, ◌*◌, ◌/◌, ℕ, zero, suc, true, List, [], ◌∷◌, ◌++◌, None, Some, Ok, Err, Result, IfSome, length, take, drop, refl, sym, ap, subst, ◌∙◌, arith, append_assoc, length-append, inl, inr}
 use Rattle.std.proofs.Math.Nat.{div-mul-le_self}
 use Rattle.std.proofs.lemmas.List.{length-take-le, length-drop, length-map}
 use Rattle.std.proofs.KnownBytes.{Appends-nil}
@@ -8,6 +8,7 @@ use Rattle.std.specs.declared.option.Option.{Option}
 use Rattle.std.specs.Io.KnownBytes.{Appends, Consumes, IsAtEnd, prepend_known}
 use Rattle.matrix_meaning.specs.declared.Request.{Request}
 use Rattle.matrix_meaning.specs.Valid.{IsInRange}
+use Rattle.request_text.specs.Schedule.{Plan}
 use Rattle.icode.specs.Machine.{Code, State, results, runs}
 use Rattle.io_edge.specs.Faults.{HasCause, Reports}
 use Rattle.io_edge.specs.Feed.{Fed, limit}
@@ -18,37 +19,40 @@ use Rattle.data_stream.specs.Reading.{residues}
 use Rattle.data_stream.proofs.VectorLemmas.{residues_below}
 use Rattle.generate.specs.declared.GenerateFault.{GenerateFault}
 use Rattle.generate.specs.declared.GenerateFault.TheVariants as generate
-use Rattle.generate.specs.Planned.{planned}
-use Rattle.spiral_main.specs.declared.command.Command.{Command}
-use Rattle.spiral_main.specs.declared.command.Command.TheVariants as command
+use Rattle.generate.specs.Planned.{IsPlanned}
+use Rattle.tree_model.specs.Breakdown.{Breakdown}
+use Rattle.spiral_words.specs.declared.Command.{Command}
+use Rattle.spiral_words.specs.declared.Command.TheVariants as command
 use Rattle.spiral_main.specs.declared.status.Status.{Status}
 use Rattle.spiral_main.specs.declared.status.Status.TheVariants.{Success, ReadFault, WriteFault, NoMemory}
 use Rattle.spiral_main.specs.declared.stream.StreamFault.{StreamFault}
 use Rattle.spiral_main.specs.declared.stream.StreamFault.TheVariants as stream
-use Rattle.spiral_main.specs.Command.{command_of}
+use Rattle.spiral_main.specs.Commands.{IsServed}
 use Rattle.spiral_main.specs.Fault.{status_of_generate, status_of_fault, status_of_stream}
 use Rattle.spiral_main.specs.Line.{data_of}
 use Rattle.spiral_main.specs.Status.{IsDefined}
 use Rattle.spiral_main.specs.Stream.{group_vectors, vectors_of, lines, data_answer, data_vectors, Reads, Streams}
-use Rattle.spiral_main.specs.Outcome.{priced, requested, ordered, product, IsListing, Settles, BreaksOff, ComesTo, room_behind, Accounts, Notes}
+use Rattle.spiral_main.specs.Outcome.{IsRefused, requested, ordered, product, IsTextOf, Settles, BreaksOff, ComesTo, room_behind, Accounts, Notes}
 use Rattle.spiral_main.specs.Steps.{IsRefusal, AsksBy, Asks, IsGoodCode, Ends, Performs, ToldPerforms, ToldAccounts}
 
 -- Refusals
 
 -- why there is no program
-pub generate_refused : (request : Request) (fault : GenerateFault) → (fault ≢ generate.NoMemory → planned request ≡ Err fault) → IsDefined (status_of_generate fault) → priced (planned request) ≡ Err (status_of_generate fault)
-generate_refused request (generate.Root power) p d = ap priced (p (λ e. cc))
-generate_refused request (generate.OverBudget cost budget) p d = ap priced (p (λ e. cc))
+pub generate_refused : (request : Request) (fault : GenerateFault) → (fault ≢ generate.NoMemory → IsPlanned request (Err fault)) → IsDefined (status_of_generate fault) → IsRefused request (status_of_generate fault)
+generate_refused request (generate.Root power) p d = (generate.Root power, p (λ e. cc), refl)
+generate_refused request generate.NoDivide p d = (generate.NoDivide, p (λ e. cc), refl)
+generate_refused request (generate.OverBudget cost budget) p d = (generate.OverBudget cost budget, p (λ e. cc), refl)
 generate_refused request generate.NoMemory p d = absurd (d.memory refl)
 
 pub generate_refusal : (fault : GenerateFault) → IsRefusal (status_of_generate fault)
 generate_refusal (generate.Root power) = record { success = λ e. cc; read = λ e. cc; write = λ e. cc }
+generate_refusal generate.NoDivide = record { success = λ e. cc; read = λ e. cc; write = λ e. cc }
 generate_refusal (generate.OverBudget cost budget) = record { success = λ e. cc; read = λ e. cc; write = λ e. cc }
 generate_refusal generate.NoMemory = record { success = λ e. cc; read = λ e. cc; write = λ e. cc }
 
 -- a command that a refusal ends before its output
 pub performs_refused : (wanted : Command) (request : Request) (room : ℕ) (bytes : List ℕ) (out : Option (List ℕ)) (status : Status)
-    → (IsDefined status → priced (planned request) ≡ Err status) → IsRefusal status → Performs wanted request room bytes out out status
+    → (IsDefined status → IsRefused request status) → IsRefusal status → Performs wanted request room bytes out out status
 performs_refused wanted request room bytes out status p r = record {
   answer = λ d. ([], inl (p d, refl), Appends-nil out);
   read_fault = λ e. absurd (r.read e);
@@ -56,26 +60,26 @@ performs_refused wanted request room bytes out status p r = record {
 }
 
 pub told_refused : (wanted : Command) (request : Request) (room : ℕ) (before out : Option (List ℕ)) (status : Status)
-    → (IsDefined status → priced (planned request) ≡ Err status) → IsRefusal status → ToldPerforms wanted request room before out out status
+    → (IsDefined status → IsRefused request status) → IsRefusal status → ToldPerforms wanted request room before out out status
 told_refused wanted request room None out status p r = tt
 told_refused wanted request room (Some bytes) out status p r = performs_refused wanted request room bytes out status p r
 
--- The listing
+-- Texts that need no data
 
-pub performs_listing : (request : Request) (room : ℕ) (bytes : List ℕ) (out out' : Option (List ℕ)) (cost : ℕ) (text : List ℕ)
-    → planned request ≡ Ok cost → IsListing request cost text → Appends out out' text → Performs command.Code request room bytes out out' Success
-performs_listing request room bytes out out' cost text p l w = record {
-  answer = λ d. (text, inr (cost, p, (refl, l)), w);
+pub performs_text : (wanted : Command) (request : Request) (room : ℕ) (bytes : List ℕ) (out out' : Option (List ℕ)) (tree : Breakdown) (text : List ℕ)
+    → IsPlanned request (Ok tree) → IsTextOf wanted request tree text → Appends out out' text → Performs wanted request room bytes out out' Success
+performs_text wanted request room bytes out out' tree text p l w = record {
+  answer = λ d. (text, inr (tree, p, inr (refl, l)), w);
   read_fault = λ e. absurd (cc);
   write_fault = λ e. absurd (cc);
 }
 
-pub performs_cut : (request : Request) (room : ℕ) (bytes : List ℕ) (out out' : Option (List ℕ)) (cost : ℕ) (text : List ℕ)
-    → planned request ≡ Ok cost → IsListing request cost text → AppendsPrefix out out' text → Performs command.Code request room bytes out out' WriteFault
-performs_cut request room bytes out out' cost text p l w = record {
+pub performs_cut : (wanted : Command) (request : Request) (room : ℕ) (bytes : List ℕ) (out out' : Option (List ℕ)) (tree : Breakdown) (text : List ℕ)
+    → IsPlanned request (Ok tree) → IsTextOf wanted request tree text → AppendsPrefix out out' text → Performs wanted request room bytes out out' WriteFault
+performs_cut wanted request room bytes out out' tree text p l w = record {
   answer = λ d. absurd (d.write refl);
   read_fault = λ e. absurd (cc);
-  write_fault = λ _. ([], bytes, text, cost, refl, p, l, w);
+  write_fault = λ _. ([], bytes, text, tree, refl, p, inr l, w);
 }
 
 -- The lines of a run
@@ -102,66 +106,66 @@ reads_vectors size modulus old new read ended vectors (Err stream.ReadFault) s =
 reads_vectors size modulus old new read ended vectors (Err stream.WriteFault) s = (tokens read, s.2)
 
 -- the machine's lines are those of the matrix
-good_lines : (request : Request) (code : Code) (vectors : List (List ℕ)) → IsGoodCode request code → 0 < request.modulus → 0 < request.size → (0 < request.procs)
-    → (ts : List (List ℕ)) × (vectors_of request.size request.modulus ts ≡ vectors) → lines (λ x. results code x []) vectors ≡ lines (product request) vectors
-good_lines request code vectors good some sized procs made =
+good_lines : (request : Request) (code : Code) (turns : List ℕ) (vectors : List (List ℕ)) → IsGoodCode request code → 0 < request.modulus → All (λ q. q < request.procs) turns
+    → (ts : List (List ℕ)) × (vectors_of request.size request.modulus ts ≡ vectors) → lines (λ x. results code x turns) vectors ≡ lines (product request) vectors
+good_lines request code turns vectors good some there made =
     let apart = good.3.product in
-    let f : List ℕ → List ℕ = λ x. results code x [] in
+    let f : List ℕ → List ℕ = λ x. results code x turns in
     let same : (x : List ℕ) → length x ≡ request.size → All (λ v. v < request.modulus) x → f x ≡ product request x =
-    λ x full below. ap (λ k. results k x []) good.4 ∙ apart x [] (record { size = full; residues = below }) (λ k d h. absurd (omega arith)) in
+    λ x full below. ap (λ k. results k x turns) good.4 ∙ apart x turns (record { size = full; residues = below }) there in
     subst (λ (v : List (List ℕ)). lines f v ≡ lines (product request) v) made.1
     (lines_equal request.size request.modulus f (product request) same some (length made.0 / request.size) made.0 (div-mul-le_self (length made.0) request.size))
 
 -- A run over the data
 
 -- the text is known by what the data call for
-run_answer : (request : Request) (code : Code) (room : ℕ) (bytes : List ℕ) (vectors : List (List ℕ)) (out out' : Option (List ℕ)) (result : Result (Unit {0}) StreamFault) (good : IsGoodCode request code)
-    → lines (λ x. results code x []) vectors ≡ lines (product request) vectors
+run_answer : (plan : Plan) (request : Request) (code : Code) (turns : List ℕ) (room : ℕ) (bytes : List ℕ) (vectors : List (List ℕ)) (out out' : Option (List ℕ)) (result : Result (Unit {0}) StreamFault) (good : IsGoodCode request code)
+    → lines (λ x. results code x turns) vectors ≡ lines (product request) vectors
     → data_answer request.size room bytes ≡ result → data_vectors request.size request.modulus room bytes ≡ vectors
-    → Appends out out' (lines (λ x. results code x []) vectors)
-    → (text : List ℕ) × Ends command.Run request room bytes (status_of_stream result) text × Appends out out' text
-run_answer request code room bytes vectors out out' result good same answer seen w = (
+    → Appends out out' (lines (λ x. results code x turns) vectors)
+    → (text : List ℕ) × Ends (command.Run plan) request room bytes (status_of_stream result) text × Appends out out' text
+run_answer plan request code turns room bytes vectors out out' result good same answer seen w = (
   lines (product request) (data_vectors request.size request.modulus room bytes),
-  inr (good.0, good.2, (ap status_of_stream (sym answer), refl)),
+  inr (good.0, good.2, inl (ap status_of_stream (sym answer), refl)),
   subst (Appends out out') (same ∙ ap (lines (product request)) (sym seen)) w,
 )
 
-pub performs_run : (request : Request) (code : Code) (old new : Fed) (before after out out' : Option (List ℕ)) (first last : State) (result : Result (Unit {0}) StreamFault)
-    → IsGoodCode request code → 0 < request.modulus → 0 < request.size → 0 < request.procs
-    → Streams (λ x. results code x []) (λ x. runs code x []) request.size request.modulus old new before after out out' first last result
-    → ToldPerforms command.Run request (limit - old.taken) before out out' (status_of_stream result)
-performs_run request code old new None after out out' first last result good some sized procs s = tt
-performs_run request code old new (Some bytes) None out out' first last result good some sized procs s = absurd s.consumed
-performs_run request code old new (Some bytes) (Some rest) out out' first last (Ok u) good some sized procs s =
-    let same = good_lines request code s.vectors good some sized procs (reads_vectors request.size request.modulus old new s.read (rest ≡ []) s.vectors (Ok u) s.answer) in
+pub performs_run : (plan : Plan) (request : Request) (code : Code) (turns : List ℕ) (old new : Fed) (before after out out' : Option (List ℕ)) (first last : State) (result : Result (Unit {0}) StreamFault)
+    → IsGoodCode request code → 0 < request.modulus → All (λ q. q < request.procs) turns
+    → Streams (λ x. line_of (results code x turns)) (λ x. runs code x turns) request.size request.modulus old new before after out out' first last result
+    → ToldPerforms (command.Run plan) request (limit - old.taken) before out out' (status_of_stream result)
+performs_run plan request code turns old new None after out out' first last result good some there s = tt
+performs_run plan request code turns old new (Some bytes) None out out' first last result good some there s = absurd s.consumed
+performs_run plan request code turns old new (Some bytes) (Some rest) out out' first last (Ok u) good some there s =
+    let same = good_lines request code turns s.vectors good some there (reads_vectors request.size request.modulus old new s.read (rest ≡ []) s.vectors (Ok u) s.answer) in
     record {
-      answer = λ d. run_answer request code _ bytes s.vectors out out' (Ok u) good same s.told.0 s.told.1 s.wrote;
+      answer = λ d. run_answer plan request code turns _ bytes s.vectors out out' (Ok u) good same s.told.0 s.told.1 s.wrote;
       read_fault = λ e. absurd (cc);
       write_fault = λ e. absurd (cc);
     }
-performs_run request code old new (Some bytes) (Some rest) out out' first last (Err (stream.Truncated have need)) good some sized procs s =
-    let same = good_lines request code s.vectors good some sized procs (reads_vectors request.size request.modulus old new s.read (rest ≡ []) s.vectors (Err (stream.Truncated have need)) s.answer) in
+performs_run plan request code turns old new (Some bytes) (Some rest) out out' first last (Err (stream.Truncated have need)) good some there s =
+    let same = good_lines request code turns s.vectors good some there (reads_vectors request.size request.modulus old new s.read (rest ≡ []) s.vectors (Err (stream.Truncated have need)) s.answer) in
     record {
-      answer = λ d. run_answer request code _ bytes s.vectors out out' (Err (stream.Truncated have need)) good same s.told.0 s.told.1 s.wrote;
+      answer = λ d. run_answer plan request code turns _ bytes s.vectors out out' (Err (stream.Truncated have need)) good same s.told.0 s.told.1 s.wrote;
       read_fault = λ e. absurd (cc);
       write_fault = λ e. absurd (cc);
     }
-performs_run request code old new (Some bytes) (Some rest) out out' first last (Err (stream.BadNumber token)) good some sized procs s =
-    let same = good_lines request code s.vectors good some sized procs (reads_vectors request.size request.modulus old new s.read (rest ≡ []) s.vectors (Err (stream.BadNumber token)) s.answer) in
+performs_run plan request code turns old new (Some bytes) (Some rest) out out' first last (Err (stream.BadNumber token)) good some there s =
+    let same = good_lines request code turns s.vectors good some there (reads_vectors request.size request.modulus old new s.read (rest ≡ []) s.vectors (Err (stream.BadNumber token)) s.answer) in
     record {
-      answer = λ d. run_answer request code _ bytes s.vectors out out' (Err (stream.BadNumber token)) good same s.told.0 s.told.1 s.wrote;
+      answer = λ d. run_answer plan request code turns _ bytes s.vectors out out' (Err (stream.BadNumber token)) good same s.told.0 s.told.1 s.wrote;
       read_fault = λ e. absurd (cc);
       write_fault = λ e. absurd (cc);
     }
-performs_run request code old new (Some bytes) (Some rest) out out' first last (Err stream.TooLong) good some sized procs s =
-    let same = good_lines request code s.vectors good some sized procs (reads_vectors request.size request.modulus old new s.read (rest ≡ []) s.vectors (Err stream.TooLong) s.answer) in
+performs_run plan request code turns old new (Some bytes) (Some rest) out out' first last (Err stream.TooLong) good some there s =
+    let same = good_lines request code turns s.vectors good some there (reads_vectors request.size request.modulus old new s.read (rest ≡ []) s.vectors (Err stream.TooLong) s.answer) in
     record {
-      answer = λ d. run_answer request code _ bytes s.vectors out out' (Err stream.TooLong) good same s.told.0 s.told.1 s.wrote;
+      answer = λ d. run_answer plan request code turns _ bytes s.vectors out out' (Err stream.TooLong) good same s.told.0 s.told.1 s.wrote;
       read_fault = λ e. absurd (cc);
       write_fault = λ e. absurd (cc);
     }
-performs_run request code old new (Some bytes) (Some rest) out out' first last (Err stream.ReadFault) good some sized procs s =
-    let same = good_lines request code s.vectors good some sized procs (reads_vectors request.size request.modulus old new s.read (rest ≡ []) s.vectors (Err stream.ReadFault) s.answer) in
+performs_run plan request code turns old new (Some bytes) (Some rest) out out' first last (Err stream.ReadFault) good some there s =
+    let same = good_lines request code turns s.vectors good some there (reads_vectors request.size request.modulus old new s.read (rest ≡ []) s.vectors (Err stream.ReadFault) s.answer) in
     record {
       answer = λ d. absurd (d.read refl);
       read_fault = λ _. (
@@ -171,14 +175,13 @@ performs_run request code old new (Some bytes) (Some rest) out out' first last (
         good.0,
         s.consumed,
         good.2,
-        refl,
         (s.answer.1, refl),
         subst (Appends out out') (same ∙ ap (lines (product request)) (sym s.answer.2)) s.wrote,
       );
       write_fault = λ e. absurd (cc);
     }
-performs_run request code old new (Some bytes) (Some rest) out out' first last (Err stream.WriteFault) good some sized procs s =
-    let same = good_lines request code s.vectors good some sized procs (reads_vectors request.size request.modulus old new s.read (rest ≡ []) s.vectors (Err stream.WriteFault) s.answer) in
+performs_run plan request code turns old new (Some bytes) (Some rest) out out' first last (Err stream.WriteFault) good some there s =
+    let same = good_lines request code turns s.vectors good some there (reads_vectors request.size request.modulus old new s.read (rest ≡ []) s.vectors (Err stream.WriteFault) s.answer) in
     record {
       answer = λ d. absurd (d.write refl);
       read_fault = λ e. absurd (cc);
@@ -189,21 +192,21 @@ performs_run request code old new (Some bytes) (Some rest) out out' first last (
         good.0,
         s.consumed,
         good.2,
-        (s.answer.1, refl),
+        inl (s.answer.1, refl),
         subst (AppendsPrefix out out') (same ∙ ap (lines (product request)) (sym s.answer.2)) s.wrote,
       );
     }
 
-pub performs_good : (request : Request) (code : Code) (old new : Fed) (before after out out' : Option (List ℕ)) (first last : State) (result : Result (Unit {0}) StreamFault)
-    → IsGoodCode request code → IsInRange request
-    → Streams (λ x. results code x []) (λ x. runs code x []) code.size code.modulus old new before after out out' first last result
-    → ToldPerforms command.Run request (limit - old.taken) before out out' (status_of_stream result)
-performs_good request code old new before after out out' first last result good in_range s =
+pub performs_good : (plan : Plan) (request : Request) (code : Code) (turns : List ℕ) (old new : Fed) (before after out out' : Option (List ℕ)) (first last : State) (result : Result (Unit {0}) StreamFault)
+    → IsGoodCode request code → IsInRange request → All (λ q. q < request.procs) turns
+    → Streams (λ x. line_of (results code x turns)) (λ x. runs code x turns) code.size code.modulus old new before after out out' first last result
+    → ToldPerforms (command.Run plan) request (limit - old.taken) before out out' (status_of_stream result)
+performs_good plan request code turns old new before after out out' first last result good in_range there s =
     let size : code.size ≡ request.size = ap (λ (k : Code). k.size) good.4 ∙ good.3.header.size in
     let modulus : code.modulus ≡ request.modulus = ap (λ (k : Code). k.modulus) good.4 ∙ good.3.header.modulus in
-    let sized = subst (λ n. Streams (λ x. results code x []) (λ x. runs code x []) n code.modulus old new before after out out' first last result) size s in
-    let made = subst (λ n. Streams (λ x. results code x []) (λ x. runs code x []) request.size n old new before after out out' first last result) modulus sized in
-    performs_run request code old new before after out out' first last result good (omega (arith, in_range.modulus.0)) (omega (arith, in_range.size.0)) (omega (arith, in_range.procs.0)) made
+    let sized = subst (λ n. Streams (λ x. line_of (results code x turns)) (λ x. runs code x turns) n code.modulus old new before after out out' first last result) size s in
+    let made = subst (λ n. Streams (λ x. line_of (results code x turns)) (λ x. runs code x turns) request.size n old new before after out out' first last result) modulus sized in
+    performs_run plan request code turns old new before after out out' first last result good (omega (arith, in_range.modulus.0)) there made
 
 -- the faults of a run over the data, as statuses
 from_read : (fault : StreamFault) → status_of_fault fault ≡ ReadFault → fault ≡ stream.ReadFault
@@ -277,10 +280,10 @@ accounts_after words bytes read rest taken wanted out out' status whole asked p 
           let found = p.answer d in (
             found.0,
             (elim found.1 [
-              | inl refused ↦ inl (inr (record { value = wanted; before = requested_here; behind = inl (sym refused.0) }), refused.1)
+              | inl refused ↦ inl (inr (record { value = wanted; before = requested_here; behind = inl refused.0 }), refused.1)
               | inr settled ↦ inr (
-                record { command = wanted.0; request = wanted.1; cost = settled.0 },
-                record { value = wanted; before = requested_here; behind = record { value = settled.0; before = sym (ap priced settled.1); behind = refl } },
+                record { command = wanted.0; request = wanted.1; tree = settled.0 },
+                record { value = wanted; before = requested_here; behind = record { value = settled.0; before = settled.1; behind = refl } },
                 subst (λ n. Settles wanted.0 wanted.1 settled.0 n (data_of bytes) status found.0) room
                     (subst (λ b. Settles wanted.0 wanted.1 settled.0 (limit - taken) b status found.0) (sym data_here) settled.2),
               )
@@ -295,12 +298,11 @@ accounts_after words bytes read rest taken wanted out out' status whole asked p 
             found.2,
             whole ∙ ap (λ l. read ++ l) found.4 ∙ sym (append_assoc read found.0 found.1),
             inr (
-              record { command = wanted.0; request = wanted.1; cost = found.3 },
-              record { value = wanted; before = at.0; behind = record { value = found.3; before = sym (ap priced found.5); behind = refl } },
-              found.6,
-              subst (λ b. BreaksOff wanted.1 b found.2) (sym at.1) found.7,
+              record { command = wanted.0; request = wanted.1; tree = found.3 },
+              record { value = wanted; before = at.0; behind = record { value = found.3; before = found.5; behind = refl } },
+              subst (λ b. BreaksOff wanted.0 wanted.1 found.3 b found.2) (sym at.1) found.6,
             ),
-            found.8,
+            found.7,
           );
       write_fault = λ e.
           let found = p.write_fault e in
@@ -310,8 +312,8 @@ accounts_after words bytes read rest taken wanted out out' status whole asked p 
             found.2,
             whole ∙ ap (λ l. read ++ l) found.4 ∙ sym (append_assoc read found.0 found.1),
             (
-              record { command = wanted.0; request = wanted.1; cost = found.3 },
-              record { value = wanted; before = at.0; behind = record { value = found.3; before = sym (ap priced found.5); behind = refl } },
+              record { command = wanted.0; request = wanted.1; tree = found.3 },
+              record { value = wanted; before = at.0; behind = record { value = found.3; before = found.5; behind = refl } },
               subst (λ b. ComesTo wanted.0 wanted.1 found.3 b found.2) (sym at.1) found.6,
             ),
             found.7,
@@ -326,7 +328,7 @@ accounted words (Some bytes) (Some rest) taken wanted out out' status a p = acco
 
 -- a run that ends with the first line
 pub accounted_early : (words : List (List ℕ)) (before after : Option (List ℕ)) (taken : ℕ) (out : Option (List ℕ)) (status : Status)
-    → Asks words before after taken (Err status) → status ≢ WriteFault → (status ≡ ReadFault → IsSome (command_of words)) → ToldAccounts words before out out status
+    → Asks words before after taken (Err status) → status ≢ WriteFault → (status ≡ ReadFault → IsServed words) → ToldAccounts words before out out status
 accounted_early words None after taken out status a w c = tt
 accounted_early words (Some bytes) None taken out status a w c = absurd a
 accounted_early words (Some bytes) (Some rest) taken out status a w c = record {

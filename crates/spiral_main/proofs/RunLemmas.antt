@@ -1,8 +1,17 @@
--- The ends of an input, and the parts of a note.
-use Rattle.std.proofs.Common.{◌≡◌, ℕ, List, [], ◌∷◌, ◌++◌, None, Some, Ok, Err, Result, refl, sym, ap, ◌∙◌, append_assoc, append-nil}
+-- The ends of an input, the turns of a run, and the parts of a note.
+use Rattle.std.proofs.Common.{◌≡◌, ◌<◌, ◌≤◌, ℕ, subst, arith, All, List, [], ◌∷◌, ◌++◌, None, Some, Ok, Err, Result, refl, sym, ap, ◌∙◌, append_assoc, append-nil}
+use Rattle.std.proofs.lemmas.List.Elements.{All-from_get_or}
 use Rattle.std.specs.List.{concat}
 use Rattle.std.specs.declared.option.Option.{Option}
 use Rattle.std.specs.Io.KnownBytes.{IsAtEnd, prepend_known}
+use Rattle.matrix_meaning.specs.declared.Request.{Request}
+use Rattle.matrix_meaning.specs.Valid.{IsInRange}
+use Rattle.icode.specs.Machine.{Code}
+use Rattle.request_text.specs.Schedule.{Plan}
+use Rattle.request_text.specs.Turns.{turns_of}
+use Rattle.par_machine.proofs.Schedules.{turns_there}
+use Rattle.spiral_main.specs.Steps.{IsGoodCode}
+use Rattle.spiral_main.specs.Stream.{HasNoStranger}
 
 -- where nothing is to come, nothing is left
 pub left_ended : (held : List ℕ) (left : Option (List ℕ)) → IsAtEnd (prepend_known held left) → IsAtEnd left
@@ -17,3 +26,16 @@ five_parts a b c d e =
     ap (λ l. a ++ (b ++ (l ++ rest))) (sym (append-nil c))
     ∙ ap (λ l. a ++ l) (sym (append_assoc b (c ++ []) rest))
     ∙ sym (append_assoc a (b ++ (c ++ [])) rest)
+
+-- a good program has the request's processors
+good_procs : (request : Request) (code : Code) → IsGoodCode request code → code.procs ≡ request.procs
+good_procs request code good = ap (λ (k : Code). k.procs) good.4 ∙ good.3.header.procs
+
+-- the turns of a schedule are of these processors
+pub good_stranger : (plan : Plan) (request : Request) (code : Code) → IsGoodCode request code → HasNoStranger plan request.procs → HasNoStranger plan code.procs
+good_stranger plan request code good none = subst (HasNoStranger plan) (sym (good_procs request code good)) none
+
+pub good_turns : (plan : Plan) (request : Request) (code : Code) → IsGoodCode request code → IsInRange request → HasNoStranger plan request.procs → All (λ q. q < request.procs) (turns_of plan code.procs)
+good_turns plan request code good in_range none =
+    subst (λ p. All (λ q. q < request.procs) (turns_of plan p)) (sym (good_procs request code good))
+    (All-from_get_or (λ q. q < request.procs) (turns_of plan request.procs) 0 (turns_there plan request.procs (omega (arith, in_range.procs.0)) none))

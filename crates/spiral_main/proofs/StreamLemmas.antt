@@ -17,7 +17,6 @@ use Rattle.io_edge.specs.Feed.{Fed, limit}
 use Rattle.io_edge.specs.Taken.{AppendsPrefix}
 use Rattle.io_edge.proofs.TakenLemmas.{prefix_after}
 use Rattle.data_stream.specs.Data.{tokens, closed_part, is_good}
-use Rattle.data_stream.specs.Line.{line_of}
 use Rattle.data_stream.specs.Reading.{AreTokens, IsPart, GivesVector, residues}
 use Rattle.data_stream.specs.declared.vectors.Next.{Next}
 use Rattle.data_stream.specs.declared.vectors.Next.TheVariants.{Vector, End}
@@ -26,7 +25,7 @@ use Rattle.data_stream.specs.declared.DataFault.TheVariants as data_fault
 use Rattle.data_stream.proofs.TokensLemmas.{not_ended}
 use Rattle.data_stream.proofs.TokenLemmas.{both_left, both_right}
 use Rattle.data_stream.proofs.VectorLemmas.{closed_after}
-use Rattle.spiral_main.specs.Stream.{group_vectors, vectors_of, lines, state_behind, good_front, bad_after, answer_of, vectors_seen, data_answer, data_vectors, Answers, ToldAnswers, Reads, Writes, Streams}
+use Rattle.spiral_main.specs.Stream.{group_vectors, vectors_of, texts, state_behind, good_front, bad_after, answer_of, vectors_seen, data_answer, data_vectors, Answers, ToldAnswers, Reads, Writes, Streams}
 use Rattle.spiral_main.specs.declared.stream.StreamFault.{StreamFault}
 use Rattle.spiral_main.specs.StreamFault.{stream_fault}
 use Rattle.spiral_main.specs.declared.stream.StreamFault.TheVariants.{BadNumber, Truncated, TooLong, ReadFault, WriteFault}
@@ -46,10 +45,9 @@ vectors_more size modulus us more some full =
 pub vectors_few : (size modulus : ℕ) (ts : List (List ℕ)) → length ts < size → vectors_of size modulus ts ≡ []
 vectors_few size modulus ts few = ap (λ n. group_vectors size modulus n ts) (div-eq_of_lt few)
 
--- a line more
-pub lines-push : (f : List ℕ → List ℕ) (vectors : List (List ℕ)) (x : List ℕ) → lines f (vectors ++ x ∷ []) ≡ lines f vectors ++ line_of (f x)
-lines-push f vectors x =
-    flat_map-append (λ v. line_of (f v)) vectors (x ∷ []) ∙ ap (λ l. lines f vectors ++ l) (append-nil (line_of (f x)))
+-- a text more
+pub texts-push : (text : List ℕ → List ℕ) (vectors : List (List ℕ)) (x : List ℕ) → texts text (vectors ++ x ∷ []) ≡ texts text vectors ++ text x
+texts-push text vectors x = flat_map-append text vectors (x ∷ []) ∙ ap (λ l. texts text vectors ++ l) (append-nil (text x))
 
 -- the last vector leaves what it leaves
 pub state_behind-push : {S : Type 0} (leaves : List ℕ → S) (state : S) (vectors : List (List ℕ)) (x : List ℕ) → state_behind leaves state (vectors ++ x ∷ []) ≡ leaves x
@@ -338,16 +336,16 @@ words_at-more n xs i = ap (λ m. words_at m xs i) (add-one n) ∙ words_at-suc n
 pub word_more : (n : ℕ) (xs : List ℕ) (i v : ℕ) (front : List ℕ) → front ≡ words_at n xs i → v ≡ slice_index xs (i + n) → front ++ v ∷ [] ≡ words_at (n + 1) xs i
 word_more n xs i v front p q = ap (λ l. l ++ v ∷ []) p ∙ ap (λ w. words_at n xs i ++ w ∷ []) q ∙ sym (words_at-more n xs i)
 
--- a line more was written, or a prefix of it
-pub lines_more : (f : List ℕ → List ℕ) (a b c : Option (List ℕ)) (seen : List (List ℕ)) (x v : List ℕ) → v ≡ f x → Appends a b (lines f seen) → Appends b c (line_of v) → Appends a c (lines f (seen ++ x ∷ []))
-lines_more f a b c seen x v e p w =
-    subst (Appends a c) (sym (lines-push f seen x)) (Appends-trans a b c (lines f seen) (line_of (f x)) p (subst (λ u. Appends b c (line_of u)) e w))
+-- a text more was written, or a prefix of it
+pub texts_more : (text : List ℕ → List ℕ) (a b c : Option (List ℕ)) (seen : List (List ℕ)) (x v : List ℕ) → v ≡ text x → Appends a b (texts text seen) → Appends b c v → Appends a c (texts text (seen ++ x ∷ []))
+texts_more text a b c seen x v e p w =
+    subst (Appends a c) (sym (texts-push text seen x)) (Appends-trans a b c (texts text seen) (text x) p (subst (Appends b c) e w))
 
-pub lines_cut : (f : List ℕ → List ℕ) (a b c : Option (List ℕ)) (seen : List (List ℕ)) (x v : List ℕ) → v ≡ f x → Appends a b (lines f seen) → AppendsPrefix b c (line_of v) → AppendsPrefix a c (lines f (seen ++ x ∷ []))
-lines_cut f a b c seen x v e p w =
-    subst (AppendsPrefix a c) (sym (lines-push f seen x)) (prefix_after a b c (lines f seen) (line_of (f x)) p (subst (λ u. AppendsPrefix b c (line_of u)) e w))
+pub texts_cut : (text : List ℕ → List ℕ) (a b c : Option (List ℕ)) (seen : List (List ℕ)) (x v : List ℕ) → v ≡ text x → Appends a b (texts text seen) → AppendsPrefix b c v → AppendsPrefix a c (texts text (seen ++ x ∷ []))
+texts_cut text a b c seen x v e p w =
+    subst (AppendsPrefix a c) (sym (texts-push text seen x)) (prefix_after a b c (texts text seen) (text x) p (subst (AppendsPrefix b c) e w))
 
--- after a fault of the data the output has taken all lines
+-- after a fault of the data the output has taken all texts
 pub writes_fault : (fault : DataFault) (a b : Option (List ℕ)) (text : List ℕ) → Appends a b text → Writes a b (Err (stream_fault fault)) text
 writes_fault (data_fault.BadNumber token) a b text w = w
 writes_fault (data_fault.Truncated have need) a b text w = w
@@ -368,12 +366,12 @@ fault_within data_fault.TooLong fits w other = absurd (other refl)
 fault_within data_fault.ReadFault fits w other = w (λ e. cc)
 
 -- the whole account of a run
-pub streamed : {S : Type 0} (f : List ℕ → List ℕ) (leaves : List ℕ → S) (size modulus : ℕ) (old new : Fed) (before after out out' : Option (List ℕ)) (first last : S)
+pub streamed : {S : Type 0} (text : List ℕ → List ℕ) (leaves : List ℕ → S) (size modulus : ℕ) (old new : Fed) (before after out out' : Option (List ℕ)) (first last : S)
     (result : Result (Unit {0}) StreamFault) (read : List ℕ) (vectors : List (List ℕ))
     → Consumes before after read → Reads size modulus old new read (IsAtEnd after) vectors result → old.taken ≤ limit → (result ≢ Err TooLong → new.taken ≤ limit)
-    → Writes out out' result (lines f vectors) → last ≡ state_behind leaves first vectors
-    → Streams f leaves size modulus old new before after out out' first last result
-streamed f leaves size modulus old new before after out out' first last result read vectors consumed answer start within wrote stands = record {
+    → Writes out out' result (texts text vectors) → last ≡ state_behind leaves first vectors
+    → Streams text leaves size modulus old new before after out out' first last result
+streamed text leaves size modulus old new before after out out' first last result read vectors consumed answer start within wrote stands = record {
   read = read;
   vectors = vectors;
   consumed = consumed;

@@ -9,7 +9,7 @@ use Rattle.generate.specs.declared.GenerateFault.TheVariants as generate
 use Rattle.spiral_main.specs.declared.stream.StreamFault.{StreamFault}
 use Rattle.spiral_main.specs.declared.stream.StreamFault.TheVariants as stream
 use Rattle.spiral_main.specs.declared.status.Status.{Status}
-use Rattle.spiral_main.specs.declared.status.Status.TheVariants.{Success, Syntax, Range, Shape, LanesLine, Root, OverBudget, BadNumber, Truncated, ReadFault, WriteFault, NoMemory, TooLong}
+use Rattle.spiral_main.specs.declared.status.Status.TheVariants.{Success, Syntax, Range, Shape, LanesLine, Root, NoDivide, OverBudget, BadNumber, Truncated, ReadFault, WriteFault, NoMemory, TooLong}
 
 -- of the first line
 abbrev pub status_of_line : FeedFault → Status
@@ -24,6 +24,7 @@ status_of_request (request.LanesLine lanes line) = LanesLine lanes line
 
 abbrev pub status_of_generate : GenerateFault → Status
 status_of_generate (generate.Root power) = Root power
+status_of_generate generate.NoDivide = NoDivide
 status_of_generate (generate.OverBudget cost budget) = OverBudget cost budget
 status_of_generate generate.NoMemory = NoMemory
 

@@ -1,7 +1,8 @@
-pub mod Command
+pub mod Commands
 pub mod Fault
 pub mod Line
 pub mod Outcome
+pub mod Sample
 pub mod Stage
 pub mod Status
 pub mod Steps

@@ -1,5 +1,5 @@
 -- What the program answers for its words and the bytes of its input, and what it writes.
-use Rattle.std.specs.Prelude.{◌≡◌, ◌⊎◌, ℕ, ◌-◌, true, List, [], ◌++◌, length, IsSome, Ok, Err, Result}
+use Rattle.std.specs.Prelude.{◌≡◌, ◌⊎◌, ℕ, ◌-◌, true, List, [], ◌∷◌, ◌++◌, length, Ok, Err, Result}
 use Rattle.std.specs.List.{list_all}
 use Rattle.std.specs.declared.option.Option.{Option}
 use Rattle.std.specs.Io.KnownBytes.{Appends}
@@ -9,21 +9,31 @@ use Rattle.icode.specs.declared.program.Program.{Program}
 use Rattle.request_text.specs.declared.RequestFault.{RequestFault}
 use Rattle.request_text.specs.Answer.{Answers}
 use Rattle.generate.specs.declared.GenerateFault.{GenerateFault}
-use Rattle.generate.specs.Good.{IsGood}
-use Rattle.generate.specs.Planned.{planned}
+use Rattle.generate.specs.Good.{IsGood, IsLean}
+use Rattle.generate.specs.Planned.{IsPlanned}
 use Rattle.icode.specs.Program.{plain_program}
+use Rattle.tree_model.specs.Breakdown.{Breakdown}
+use Rattle.tree_model.specs.Cost.{cost_of}
+use Rattle.tree_model.specs.Passes.{loads_of, stores_of}
+use Rattle.breakdown.specs.Expansion.{expansion}
+use Rattle.plan_cert.specs.declared.certificate.Row.{Row}
+use Rattle.plan_cert.specs.Table.{IsTableText}
+use Rattle.plan_text.specs.Text.{plan_text}
+use Rattle.spl_text.specs.Spelling.{spelling}
 use Rattle.listing_text.specs.Listing.{listing_of}
+use Rattle.c_print.specs.CText.{c_text_of}
 use Rattle.io_edge.specs.Faults.{Rose}
 use Rattle.io_edge.specs.Feed.{limit}
 use Rattle.io_edge.specs.Taken.{AppendsPrefix}
 use Rattle.data_stream.specs.Data.{tokens, closed_part, is_good}
-use Rattle.spiral_main.specs.declared.command.Command.{Command}
-use Rattle.spiral_main.specs.declared.command.Command.TheVariants.{Run, Code}
+use Rattle.spiral_words.specs.declared.Command.{Command}
+use Rattle.spiral_words.specs.declared.Command.TheVariants as command
 use Rattle.spiral_main.specs.declared.status.Status.{Status}
 use Rattle.spiral_main.specs.declared.status.Status.TheVariants.{Success, ReadFault, WriteFault}
-use Rattle.spiral_main.specs.Command.{command_of, or_usage}
+use Rattle.spiral_main.specs.Commands.{commanded, IsServed, scheduled}
 use Rattle.spiral_main.specs.Fault.{status_of_request, status_of_generate, status_of_stream}
 use Rattle.spiral_main.specs.Line.{line_of, data_of, IsPartOfLine}
+use Rattle.spiral_main.specs.Sample.{sample_vector, weighted_sum, sample_text}
 use Rattle.spiral_main.specs.Stage.{Stage, given, ◌>>=◌}
 use Rattle.spiral_main.specs.Status.{IsDefined}
 use Rattle.spiral_main.specs.Stream.{lines, vectors_of, data_answer, data_vectors}
@@ -35,33 +45,35 @@ abbrev pub spelt : List ℕ → Stage Request
 spelt line (Ok request) = Answers line (Ok request)
 spelt line (Err status) = (fault : RequestFault) × Answers line (Err fault) × (status ≡ status_of_request fault)
 
-abbrev pub priced : Result ℕ GenerateFault → Result ℕ Status
-priced (Ok cost) = Ok cost
-priced (Err fault) = Err (status_of_generate fault)
+-- the first cause to refuse the request
+abbrev pub IsRefused : Request → Status → Type 0
+IsRefused request status = (fault : GenerateFault) × IsPlanned request (Err fault) × (status ≡ status_of_generate fault)
 
--- the least cost of the request, if its root is one and the cost is within its budget
-abbrev pub affordable : Request → Stage ℕ
-affordable request = given (priced (planned request))
+-- the chosen tree of the request, if its root is one, some tree fits and the least cost is within its budget
+abbrev pub affordable : Request → Stage Breakdown
+affordable request (Ok tree) = IsPlanned request (Ok tree)
+affordable request (Err status) = IsRefused request status
 
 -- the command and the request
 abbrev pub requested : List (List ℕ) → List ℕ → Stage (Command × Request)
 requested words bytes = do
-  command ← given (or_usage (command_of words))
+  command ← commanded words
   line ← given (line_of bytes)
   request ← spelt line
-  given (Ok (command, request))
+  served ← given (scheduled command request)
+  given (Ok (command, served))
 
--- what is to be done, and the least cost of a program for it
+-- what is to be done, and the tree of a program for it
 pub record Job : Type 0 where
   pub command : Command
   pub request : Request
-  pub cost : ℕ
+  pub tree : Breakdown
 
 abbrev pub ordered : List (List ℕ) → List ℕ → Stage Job
 ordered words bytes = do
   wanted ← requested words bytes
-  cost ← affordable wanted.1
-  given (Ok (record { command = wanted.0; request = wanted.1; cost = cost }))
+  tree ← affordable wanted.1
+  given (Ok (record { command = wanted.0; request = wanted.1; tree = tree }))
 
 -- What is written
 
@@ -69,16 +81,55 @@ ordered words bytes = do
 abbrev pub product : Request → List ℕ → List ℕ
 product r x = transform r.kind r.modulus r.size r.root x
 
--- the text is the listing of a program that is good for the request
-abbrev pub IsListing : Request → ℕ → List ℕ → Type 0
-IsListing request cost text = (program : Program) × IsGood request cost program × (text ≡ listing_of (plain_program program))
+-- a good program for the request, which executes, loads and stores exactly what the tree does
+abbrev pub IsProgramOf : Request → Breakdown → Program → Type 0
+IsProgramOf request tree program = IsGood request (cost_of request tree) program × IsLean request tree program
+
+-- the text is the listing of such a program
+abbrev pub IsListing : Request → Breakdown → List ℕ → Type 0
+IsListing request tree text = (program : Program) × IsProgramOf request tree program × (text ≡ listing_of (plain_program program))
+
+-- the text is the C text of such a program
+abbrev pub IsCText : Request → Breakdown → List ℕ → Type 0
+IsCText request tree text = (program : Program) × IsProgramOf request tree program × (text ≡ c_text_of (plain_program program))
+
+-- the text has the weighted sum of the matrix times the seed's vector, and what the tree costs, loads and stores
+abbrev pub IsSampleText : Request → ℕ → Breakdown → List ℕ → Type 0
+IsSampleText request seed tree text =
+    text ≡ sample_text (weighted_sum request.modulus (product request (sample_vector request.modulus request.size seed))) (cost_of request tree) (loads_of request tree) (stores_of request tree)
+
+-- the tree, its cost, the phases and each processor's operations
+abbrev pub IsPlanText : Request → Breakdown → List ℕ → Type 0
+IsPlanText request tree text = text ≡ plan_text request tree
+
+-- the formula of the tree, and a line end
+abbrev pub IsFormulaText : Request → Breakdown → List ℕ → Type 0
+IsFormulaText request tree text = text ≡ spelling (expansion request tree) ++ 10 ∷ []
+
+-- the line of the table with the least cost and the first choice of each size
+abbrev pub IsCertificate : Request → List ℕ → Type 0
+IsCertificate request text = (rows : List Row) × IsTableText request text rows
+
+-- the text of a command that needs no data
+abbrev pub IsTextOf : Command → Request → Breakdown → List ℕ → Type 0
+IsTextOf command.Plan request tree text = IsPlanText request tree text
+IsTextOf command.Formula request tree text = IsFormulaText request tree text
+IsTextOf command.Cert request tree text = IsCertificate request text
+IsTextOf command.Code request tree text = IsListing request tree text
+IsTextOf command.C request tree text = IsCText request tree text
+IsTextOf (command.Sample seed schedule) request tree text = IsSampleText request seed tree text
+IsTextOf _ request tree text = ⊥
+
+-- the text of a command that goes over the data, of which these vectors are whole
+abbrev pub IsTextOfData : Command → Request → Breakdown → List (List ℕ) → List ℕ → Type 0
+IsTextOfData (command.Run schedule) request tree vectors text = text ≡ lines (product request) vectors
+IsTextOfData _ request tree vectors text = ⊥
 
 -- the status and the text of a job, for data of which so many bytes may come
-abbrev pub Settles : Command → Request → ℕ → ℕ → List ℕ → Status → List ℕ → Type 0
-Settles Run request cost room bytes status text =
-    (status ≡ status_of_stream (data_answer request.size room bytes))
-    × (text ≡ lines (product request) (data_vectors request.size request.modulus room bytes))
-Settles Code request cost room bytes status text = (status ≡ Success) × IsListing request cost text
+abbrev pub Settles : Command → Request → Breakdown → ℕ → List ℕ → Status → List ℕ → Type 0
+Settles wanted request tree room bytes status text =
+    ((status ≡ status_of_stream (data_answer request.size room bytes)) × IsTextOfData wanted request tree (data_vectors request.size request.modulus room bytes) text)
+    ⊎ ((status ≡ Success) × IsTextOf wanted request tree text)
 
 -- as many bytes as the limit leaves behind the first line
 abbrev pub room_behind : List ℕ → ℕ
@@ -88,26 +139,26 @@ room_behind bytes = limit - (length bytes - length (data_of bytes))
 abbrev pub IsOutcome : List (List ℕ) → List ℕ → Status → List ℕ → Type 0
 IsOutcome words bytes status text =
     (ordered words bytes (Err status) × (text ≡ []))
-    ⊎ ((job : Job) × ordered words bytes (Ok job) × Settles job.command job.request job.cost (room_behind bytes) (data_of bytes) status text)
+    ⊎ ((job : Job) × ordered words bytes (Ok job) × Settles job.command job.request job.tree (room_behind bytes) (data_of bytes) status text)
 
 -- What a fault of the outside leaves
 
--- the data of a run show no fault, and these are the lines of the vectors that are whole in them, though more may follow
-abbrev pub BreaksOff : Request → List ℕ → List ℕ → Type 0
-BreaksOff request bytes text =
-    (list_all is_good (tokens bytes) ≡ true) × (text ≡ lines (product request) (vectors_of request.size request.modulus (tokens (closed_part bytes))))
+-- the data show no fault, and this is the text for the vectors that are whole in them, though more may follow
+abbrev pub BreaksOff : Command → Request → Breakdown → List ℕ → List ℕ → Type 0
+BreaksOff wanted request tree bytes text =
+    (list_all is_good (tokens bytes) ≡ true) × IsTextOfData wanted request tree (vectors_of request.size request.modulus (tokens (closed_part bytes))) text
 
 -- The bytes that were read show no fault: they are a part of the first line, and nothing is written, or a job and a part of its data
 abbrev pub IsBrokenOff : List (List ℕ) → List ℕ → List ℕ → Type 0
 IsBrokenOff words read text =
-    (IsSome (command_of words) × IsPartOfLine read × (text ≡ []))
-    ⊎ ((job : Job) × ordered words read (Ok job) × (job.command ≡ Run) × BreaksOff job.request (data_of read) text)
+    (IsServed words × IsPartOfLine read × (text ≡ []))
+    ⊎ ((job : Job) × ordered words read (Ok job) × BreaksOff job.command job.request job.tree (data_of read) text)
 
 -- the text to which a job and the data that were read have come
-abbrev pub ComesTo : Command → Request → ℕ → List ℕ → List ℕ → Type 0
-ComesTo Run request cost bytes text =
-    (list_all is_good (tokens bytes) ≡ true) × (text ≡ lines (product request) (vectors_of request.size request.modulus (tokens bytes)))
-ComesTo Code request cost bytes text = IsListing request cost text
+abbrev pub ComesTo : Command → Request → Breakdown → List ℕ → List ℕ → Type 0
+ComesTo wanted request tree bytes text =
+    ((list_all is_good (tokens bytes) ≡ true) × IsTextOfData wanted request tree (vectors_of request.size request.modulus (tokens bytes)) text)
+    ⊎ IsTextOf wanted request tree text
 
 -- Status and output of a run, by all the bytes of its input
 pub record Accounts (words : List (List ℕ)) (bytes : List ℕ) (before after : Option (List ℕ)) (status : Status) : Type 0 where
@@ -117,7 +168,7 @@ pub record Accounts (words : List (List ℕ)) (bytes : List ℕ) (before after :
   pub read_fault : status ≡ ReadFault → (read : List ℕ) × (rest : List ℕ) × (text : List ℕ) × (bytes ≡ read ++ rest) × IsBrokenOff words read text × Appends before after text
   -- a write failed at a job's text, of which the output took a front
   pub write_fault : status ≡ WriteFault → (read : List ℕ) × (rest : List ℕ) × (text : List ℕ) × (bytes ≡ read ++ rest)
-      × ((job : Job) × ordered words read (Ok job) × ComesTo job.command job.request job.cost (data_of read) text) × AppendsPrefix before after text
+      × ((job : Job) × ordered words read (Ok job) × ComesTo job.command job.request job.tree (data_of read) text) × AppendsPrefix before after text
 
 -- the line went to the note whole, or a prefix of it where the note failed
 abbrev pub Notes : Option (List ℕ) → Option (List ℕ) → ℕ → ℕ → List ℕ → Type 0

@@ -4,7 +4,7 @@ use Rattle.std.specs.List.{concat}
 use Rattle.request_text.specs.declared.fault.Field.{Field}
 use Rattle.request_text.specs.declared.fault.Field.TheVariants.{Size, Mod, Root, Procs, Line, Lanes, Unroll, Budget, Weight}
 use Rattle.spiral_main.specs.declared.status.Status.{Status}
-use Rattle.spiral_main.specs.declared.status.Status.TheVariants.{Success, Usage, Syntax, Range, Shape, LanesLine, OverBudget, BadNumber, Truncated, ReadFault, WriteFault, NoMemory, TooLong}
+use Rattle.spiral_main.specs.declared.status.Status.TheVariants.{Success, Usage, Syntax, Range, Shape, LanesLine, Turn, NoDivide, OverBudget, BadNumber, Truncated, ReadFault, WriteFault, NoMemory, TooLong}
 use Rattle.spiral_main.specs.declared.status.Status.TheVariants as status
 
 abbrev pub code_of : Status → ℕ
@@ -14,7 +14,9 @@ code_of (Syntax at) = 3
 code_of (Range field value) = 4
 code_of (Shape size) = 4
 code_of (LanesLine lanes line) = 4
+code_of (Turn q p) = 5
 code_of (status.Root power) = 6
+code_of NoDivide = 7
 code_of (OverBudget cost budget) = 8
 code_of (BadNumber token) = 9
 code_of (Truncated have need) = 9
@@ -42,7 +44,9 @@ note_line (Syntax at) = concat (codes "spiral: syntax at byte " ∷ decimal at �
 note_line (Range field value) = concat (codes "spiral: " ∷ field_word field ∷ codes " " ∷ decimal value ∷ codes " is out of range\n" ∷ [])
 note_line (Shape size) = concat (codes "spiral: wht size " ∷ decimal size ∷ codes " is not a power of two\n" ∷ [])
 note_line (LanesLine lanes line) = concat (codes "spiral: lanes " ∷ decimal lanes ∷ codes " do not divide line " ∷ decimal line ∷ codes "\n" ∷ [])
+note_line (Turn q p) = concat (codes "spiral: turn names processor " ∷ decimal q ∷ codes " of " ∷ decimal p ∷ codes "\n" ∷ [])
 note_line (status.Root power) = concat (codes "spiral: root to the size is " ∷ decimal power ∷ codes ", not 1\n" ∷ [])
+note_line NoDivide = codes "spiral: no split fits procs, line and lanes\n"
 note_line (OverBudget cost budget) = concat (codes "spiral: least cost " ∷ decimal cost ∷ codes " is over budget " ∷ decimal budget ∷ codes "\n" ∷ [])
 note_line (BadNumber token) = concat (codes "spiral: token " ∷ decimal token ∷ codes " is not a number\n" ∷ [])
 note_line (Truncated have need) = concat (codes "spiral: input ends with " ∷ decimal have ∷ codes " of " ∷ decimal need ∷ codes " numbers\n" ∷ [])

@@ -6,16 +6,17 @@ use Rattle.matrix_meaning.specs.declared.Request.{Request}
 use Rattle.icode.specs.declared.program.Program.{Program}
 use Rattle.icode.specs.Machine.{Code}
 use Rattle.icode.specs.Program.{code_of}
-use Rattle.generate.specs.Good.{IsGood}
-use Rattle.generate.specs.Planned.{planned}
+use Rattle.generate.specs.Good.{IsGood, IsLean}
+use Rattle.generate.specs.Planned.{IsPlanned}
+use Rattle.tree_model.specs.Breakdown.{Breakdown}
+use Rattle.tree_model.specs.Cost.{cost_of}
 use Rattle.io_edge.specs.Taken.{AppendsPrefix}
-use Rattle.spiral_main.specs.declared.command.Command.{Command}
-use Rattle.spiral_main.specs.declared.command.Command.TheVariants.{Run}
+use Rattle.spiral_words.specs.declared.Command.{Command}
 use Rattle.spiral_main.specs.declared.status.Status.{Status}
 use Rattle.spiral_main.specs.declared.status.Status.TheVariants.{Success, ReadFault, WriteFault}
 use Rattle.spiral_main.specs.Line.{data_of, IsPartOfLine}
 use Rattle.spiral_main.specs.Status.{IsDefined}
-use Rattle.spiral_main.specs.Outcome.{requested, priced, Settles, BreaksOff, ComesTo, Accounts}
+use Rattle.spiral_main.specs.Outcome.{requested, IsRefused, Settles, BreaksOff, ComesTo, Accounts}
 
 -- a status that ends a run before the output and the data
 pub record IsRefusal (status : Status) : Type 0 where
@@ -37,21 +38,21 @@ Asks words (Some bytes) (Some rest) taken result = (read : List ℕ) × (bytes �
 
 -- the code of a program that is good for the request
 abbrev pub IsGoodCode : Request → Code → Type 0
-IsGoodCode request code = (cost : ℕ) × (program : Program) × (planned request ≡ Ok cost) × IsGood request cost program × (code ≡ code_of program)
+IsGoodCode request code = (tree : Breakdown) × (program : Program) × IsPlanned request (Ok tree) × IsGood request (cost_of request tree) program × (code ≡ code_of program) × IsLean request tree program
 
 -- status and text of a command for a request and its data
 abbrev pub Ends : Command → Request → ℕ → List ℕ → Status → List ℕ → Type 0
 Ends command request room bytes status text =
-    ((priced (planned request) ≡ Err status) × (text ≡ []))
-    ⊎ ((cost : ℕ) × (planned request ≡ Ok cost) × Settles command request cost room bytes status text)
+    (IsRefused request status × (text ≡ []))
+    ⊎ ((tree : Breakdown) × IsPlanned request (Ok tree) × Settles command request tree room bytes status text)
 
 -- status and output of a command, by the data that its input has left
 pub record Performs (command : Command) (request : Request) (room : ℕ) (bytes : List ℕ) (before after : Option (List ℕ)) (status : Status) : Type 0 where
   pub answer : IsDefined status → (text : List ℕ) × Ends command request room bytes status text × Appends before after text
-  pub read_fault : status ≡ ReadFault → (read : List ℕ) × (rest : List ℕ) × (text : List ℕ) × (cost : ℕ) × (bytes ≡ read ++ rest) × (planned request ≡ Ok cost)
-      × (command ≡ Run) × BreaksOff request read text × Appends before after text
-  pub write_fault : status ≡ WriteFault → (read : List ℕ) × (rest : List ℕ) × (text : List ℕ) × (cost : ℕ) × (bytes ≡ read ++ rest) × (planned request ≡ Ok cost)
-      × ComesTo command request cost read text × AppendsPrefix before after text
+  pub read_fault : status ≡ ReadFault → (read : List ℕ) × (rest : List ℕ) × (text : List ℕ) × (tree : Breakdown) × (bytes ≡ read ++ rest) × IsPlanned request (Ok tree)
+      × BreaksOff command request tree read text × Appends before after text
+  pub write_fault : status ≡ WriteFault → (read : List ℕ) × (rest : List ℕ) × (text : List ℕ) × (tree : Breakdown) × (bytes ≡ read ++ rest) × IsPlanned request (Ok tree)
+      × ComesTo command request tree read text × AppendsPrefix before after text
 
 -- the same over a source that tells its bytes
 abbrev pub ToldPerforms : Command → Request → ℕ → Option (List ℕ) → Option (List ℕ) → Option (List ℕ) → Status → Type 0

@@ -24,9 +24,13 @@ group_vectors size modulus (suc count) ts = residues modulus (take size ts) ∷ 
 abbrev pub vectors_of : ℕ → ℕ → List (List ℕ) → List (List ℕ)
 vectors_of size modulus ts = group_vectors size modulus (length ts / size) ts
 
+-- the texts of the vectors, one after another
+abbrev pub texts : (List ℕ → List ℕ) → List (List ℕ) → List ℕ
+texts text vectors = flat_map text vectors
+
 -- a line for each vector, of what f makes of it
 abbrev pub lines : (List ℕ → List ℕ) → List (List ℕ) → List ℕ
-lines f vectors = flat_map (λ x. line_of (f x)) vectors
+lines f vectors = texts (λ x. line_of (f x)) vectors
 
 -- what the last vector leaves, or what was there where there is none
 abbrev pub state_behind : {S : Type 0} → (List ℕ → S) → S → List (List ℕ) → S
@@ -99,15 +103,15 @@ abbrev pub Writes : Option (List ℕ) → Option (List ℕ) → Result (Unit {0}
 Writes before after (Err WriteFault) text = AppendsPrefix before after text
 Writes before after result text = Appends before after text
 
--- What a run has read, written and left, which writes a line of what f makes of each vector and is then where the vector leaves it
-pub record Streams {S : Type 0} (f : List ℕ → List ℕ) (leaves : List ℕ → S) (size modulus : ℕ) (old new : Fed) (before after : Option (List ℕ))
+-- What a run has read, written and left, which writes the text of each vector and is then where the vector leaves it
+pub record Streams {S : Type 0} (text : List ℕ → List ℕ) (leaves : List ℕ → S) (size modulus : ℕ) (old new : Fed) (before after : Option (List ℕ))
     (out out' : Option (List ℕ)) (first last : S) (result : Result (Unit {0}) StreamFault) : Type 0 where
   pub read : List ℕ
   pub vectors : List (List ℕ)
   pub consumed : Consumes before after read
   pub answer : Reads size modulus old new read (IsAtEnd after) vectors result
   pub told : ToldAnswers size modulus (limit - old.taken) before vectors result
-  pub wrote : Writes out out' result (lines f vectors)
+  pub wrote : Writes out out' result (texts text vectors)
   pub stands : last ≡ state_behind leaves first vectors
 
 -- each turn that the schedule names is of a processor that there is

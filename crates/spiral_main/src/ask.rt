@@ -1,21 +1,25 @@
 // What the words and the first line ask for.
-ghost use Rattle.std.specs.Prelude.{◌≡◌, ◌≢◌, ◌≤◌, Some, IsSome, IfOk, IfErr, OnOk, IsErrOf, map, string_bytes};
+ghost use Rattle.std.specs.Prelude.{◌≡◌, ◌≢◌, ◌≤◌, ℕ, Some, Ok, Err, IfOk, IfErr, OnOk, IsErrOf, map, string_bytes};
 ghost use Rattle.matrix_meaning.specs.Valid.{IsInRange};
 ghost use Rattle.generate.specs.Planned.{IsPlain};
 ghost use Rattle.io_edge.specs.Faults.{Reports};
 ghost use Rattle.io_edge.specs.Feed.{to_come, limit};
-ghost use Rattle.spiral_main.specs.Command.{command_of};
-ghost use Rattle.spiral_main.specs.Steps.{Asks};
+ghost use Rattle.spiral_main.specs.Commands.{has_text, is_there, commanded, IsServed, schedule_of, stranger};
+ghost use Rattle.spiral_main.specs.Status.{IsDefined};
+ghost use Rattle.spiral_main.specs.Steps.{IsRefusal, Asks};
+ghost use Rattle.spiral_main.specs.Stream.{HasNoStranger};
 
 use crate::Status;
-use crate::command::Command;
 use crate::line::{LINE_LIMIT, read_line};
 use io_edge::{Feed, Source};
 use matrix_meaning::Request;
 use request_text::read_request;
+use spiral_words::{Command, Refusal, command_of};
+use std::alloc::Global;
 
-/// The command that the words name, and the request that the first line of the input spells.
+/// The command that the words ask for, and the request that the first line of the input spells.
 pub(crate) fn ask<I: Source>(
+    alloc: Global,
     words: &Vec<String>,
     feed: &mut Feed,
     input: &mut I,
@@ -23,17 +27,69 @@ pub(crate) fn ask<I: Source>(
     requires fresh { feed.old.taken ≡ 0 }
     ensures told { Asks (map string_bytes words.now.items) (to_come feed.old (I.left input.old)) (to_come feed.new (I.left input.new)) feed.new.taken result }
     ensures within { OnOk result (feed.new.taken ≤ limit) }
-    ensures command { IfOk result (λ wanted. command_of (map string_bytes words.now.items) ≡ Some wanted.0) }
+    ensures command { IfOk result (λ wanted. commanded (map string_bytes words.now.items) (Ok wanted.0)) }
     ensures request { IfOk result (λ wanted. IsInRange wanted.1 × IsPlain wanted.1) }
+    ensures turns { IfOk result (λ wanted. HasNoStranger (schedule_of wanted.0) wanted.1.procs) }
     ensures read { Reports (I.faults input.old) (I.faults input.new) (IsErrOf result Status.ReadFault) }
-    ensures after { IsErrOf result Status.ReadFault → IsSome (command_of (map string_bytes words.now.items)) }
-    ensures others { IfErr result (λ status. (status ≢ Status.Success) × (status ≢ Status.WriteFault) × (status ≢ Status.NoMemory)) }
+    ensures after { IsErrOf result Status.ReadFault → IsServed (map string_bytes words.now.items) }
+    ensures others { IfErr result (λ status. (status ≢ Status.Success) × (status ≢ Status.WriteFault)) }
 {
-    let Some(command) = Command::from_words(words) else {
-        return Err(Status::Usage);
-    };
+    let command = served(alloc, words)?;
     let mut line = [0; LINE_LIMIT];
     let count = read_line(feed, input, &mut line)?;
     let request = read_request(&line[..count])?;
+    check_turns(&command, request.procs)?;
     Ok((command, request))
+}
+
+// The command that the words ask for, if it is there.
+fn served(alloc: Global, words: &Vec<String>) -> Result<Command, Status>
+    ensures command { IfOk result (λ command. commanded (map string_bytes words.now.items) (Ok command)) }
+    ensures refused { IfErr result (λ status. IsDefined status → commanded (map string_bytes words.now.items) (Err status)) }
+    ensures refusal { IfErr result IsRefusal }
+{
+    match command_of(alloc, words) {
+        Ok(command) => {
+            if is_there(&command) {
+                Ok(command)
+            } else {
+                Err(Status::Usage)
+            }
+        }
+        Err(Refusal::Usage) => Err(Status::Usage),
+        Err(Refusal::NoMemory) => Err(Status::NoMemory),
+    }
+}
+
+// Whether the program can do the command. A command that it can't do yet is answered as words that are none.
+fn is_there(command: &Command) -> bool
+    ensures { result ≡ is_there command.now }
+{
+    match command {
+        Command::Plan | Command::Formula | Command::Cert => true,
+        Command::Run { .. } | Command::Code | Command::C | Command::Sample { .. } => true,
+        _ => false,
+    }
+}
+
+// Each turn that the command's schedule names is of one of so many processors.
+fn check_turns(command: &Command, p: u64) -> Result<(), Status>
+    ensures none { OnOk result (HasNoStranger (schedule_of command.now) p) }
+    ensures first { IfErr result (λ status. (q : ℕ) × (stranger (schedule_of command.now) p ≡ Some q) × (status ≡ Status.Turn q p)) }
+{
+    match stranger(command, p) {
+        Some(q) => Err(Status::Turn { q, p }),
+        None => Ok(()),
+    }
+}
+
+fn stranger(command: &Command, p: u64) -> Option<u64>
+    ensures { result ≡ stranger (schedule_of command.now) p }
+{
+    match command {
+        Command::Run { schedule } => schedule.stranger(p),
+        Command::Trace { schedule } => schedule.stranger(p),
+        Command::Sample { schedule, .. } => schedule.stranger(p),
+        _ => None,
+    }
 }

@@ -2,14 +2,16 @@
 #![tactic(auto)]
 
 mod ask;
-mod command;
 mod line;
+mod plans;
 mod run;
+mod sample;
 mod status;
 mod stream;
+mod texts;
 
-pub use command::Command;
 pub use run::spiral_run;
+pub use spiral_words::Command;
 pub use status::Status;
 pub use stream::{StreamFault, run_stream};
 

@@ -28,8 +28,12 @@ pub enum Status {
     Shape { size: u64 },
     /// There are several processors, and the lanes do not divide the line.
     LanesLine { lanes: u64, line: u64 },
+    /// The schedule's first turn of a processor that is none of so many.
+    Turn { q: u64, p: u64 },
     /// The root to the power of the size, which is not 1.
     Root { power: u64 },
+    /// No tree fits the request's processors, line and lanes.
+    NoDivide,
     /// The least cost of a program exceeds the budget.
     OverBudget { cost: u64, budget: u64 },
     /// The first token of the data that is no number. Tokens are counted from 1.
@@ -55,7 +59,9 @@ impl Status {
             Status::Usage => 2,
             Status::Syntax { .. } => 3,
             Status::Range { .. } | Status::Shape { .. } | Status::LanesLine { .. } => 4,
+            Status::Turn { .. } => 5,
             Status::Root { .. } => 6,
+            Status::NoDivide => 7,
             Status::OverBudget { .. } => 8,
             Status::BadNumber { .. } | Status::Truncated { .. } => 9,
             Status::ReadFault => 10,
@@ -108,6 +114,7 @@ impl From<GenerateFault> for Status {
     fn from(fault: GenerateFault) -> Self {
         match fault {
             GenerateFault::Root { power } => Status::Root { power },
+            GenerateFault::NoDivide => Status::NoDivide,
             GenerateFault::OverBudget { cost, budget } => Status::OverBudget { cost, budget },
             GenerateFault::NoMemory => Status::NoMemory,
         }
@@ -261,9 +268,13 @@ pub(crate) fn write_note<E: Sink>(note: &mut E, status: Status) -> Result<(), Wr
                 b"\n",
             )
         }
+        Status::Turn { q, p } => {
+            note_numbers(note, b"spiral: turn names processor ", q, b" of ", p, b"\n")
+        }
         Status::Root { power } => {
             note_number(note, b"spiral: root to the size is ", power, b", not 1\n")
         }
+        Status::NoDivide => { write_all(note, b"spiral: no split fits procs, line and lanes\n") }
         Status::OverBudget { cost, budget } => {
             note_numbers(
                 note,

@@ -3,6 +3,7 @@ ghost use Rattle.std.specs.Prelude.{◌≡◌, ◌≢◌, ◌<◌, ◌≤◌, le
 ghost use Rattle.icode.specs.Machine.{results, runs};
 ghost use Rattle.io_edge.specs.Faults.{Reports};
 ghost use Rattle.io_edge.specs.Feed.{to_come, limit};
+ghost use Rattle.data_stream.specs.Line.{line_of};
 ghost use Rattle.request_text.specs.Turns.{turns_of};
 ghost use Rattle.spiral_main.specs.Stream.{HasNoStranger, Streams};
 
@@ -53,8 +54,8 @@ impl From<WriteFault> for StreamFault {
     }
 }
 
-// Runs the machine on the vector, and puts the results in its place.
-fn transform(machine: &mut Machine, schedule: &Schedule, vector: &mut [u64])
+/// Runs the machine on the vector, and puts the results in its place.
+pub(crate) fn transform(machine: &mut Machine, schedule: &Schedule, vector: &mut [u64])
     requires some { 0 < length vector.old }
     requires size { length vector.old ≡ machine.old.code.size }
     requires residues { All (λ v. v < machine.old.code.modulus) vector.old }
@@ -91,7 +92,7 @@ pub fn run_stream<I: Source, O: Sink>(
     requires within { feed.old.taken ≤ limit }
 
     // What it read, wrote and left, also of a source that doesn't tell its bytes.
-    ensures streams { Streams (λ x. results machine.old.code x (turns_of schedule.now machine.old.code.procs))
+    ensures streams { Streams (λ x. line_of (results machine.old.code x (turns_of schedule.now machine.old.code.procs)))
         (λ x. runs machine.old.code x (turns_of schedule.now machine.old.code.procs))
         machine.old.code.size machine.old.code.modulus feed.old feed.new
         (to_come feed.old (I.left input.old)) (to_come feed.new (I.left input.new))

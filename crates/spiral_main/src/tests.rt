@@ -2,328 +2,354 @@ ghost use Rattle.std.specs.Prelude.{◌<◌};
 
 use super::*;
 use io_edge::{CountSink, MemSink, MemSource};
-use request_text::Field;
 use std::alloc::Global;
+use std::process::Abort;
 use std::test::Fail;
 
 const FOURIER: &[u8] = b"dft 4 mod 17 root 4\n1 2 3 4\n";
 
-// What a run of a command over the input answers, writes and notes.
+const RESULT: &[u8] = b"10 7 15 6\n";
+
+// What a run answers, writes and notes. The status is seen by its code, and by the note.
 #[derive(Drop)]
 struct Seen {
-    status: Status,
+    code: u8,
     output: MemSink,
     note: MemSink,
 }
 
-fn run_over(
-    alloc: Global,
-    command: &str,
-    input: &[u8],
+// How the source and the sink behave.
+#[derive(Drop)]
+struct Outside {
     step: u64,
     read_fails: Vec<u64>,
     room: u64,
     write_fails: Vec<u64>,
-) -> Result<Seen, Fail>
-    requires { 0 < step }
+}
+
+fn run_over(alloc: Global, line: &str, input: &[u8], outside: Outside) -> Result<Seen, Fail>
+    requires { 0 < outside.step }
 {
-    let words = vec![in alloc; "spiral".to_string(alloc)?, command.to_string(alloc)?]?;
-    let mut source = MemSource::new(input.to_vec(alloc)?, step, read_fails);
-    let mut output = MemSink::new(alloc, room, write_fails)?;
+    let mut words = Vec::new(alloc);
+    for word in line.split(' ') {
+        words.push(word.to_string(alloc)?)?;
+    }
+    let mut source = MemSource::new(input.to_vec(alloc)?, outside.step, outside.read_fails);
+    let mut output = MemSink::new(alloc, outside.room, outside.write_fails)?;
     let mut note = MemSink::new(alloc, 200, Vec::new(alloc))?;
     let status = spiral_run(alloc, &words, &mut source, &mut output, &mut note);
     Ok(Seen {
-        status,
+        code: status.code(),
         output,
         note,
     })
 }
 
-// The worked examples, with the input in one piece and byte by byte. Results are computed by hand from the matrices.
+fn run_whole(alloc: Global, line: &str, input: &[u8], step: u64) -> Result<Seen, Fail>
+    requires { 0 < step }
+{
+    let outside = Outside {
+        step,
+        read_fails: Vec::new(alloc),
+        room: 2000,
+        write_fails: Vec::new(alloc),
+    };
+    run_over(alloc, line, input, outside)
+}
+
+// Straight-line code of a whole transform.
+const LISTING: &[u8] = b"program size 4 mod 17 procs 1 line 1 lanes 1 regs 13
+phase
+ld r0 X[0]
+ld r1 X[1]
+ld r2 X[2]
+ld r3 X[3]
+add r4 r0 r2
+sub r5 r0 r2
+add r6 r1 r3
+sub r7 r1 r3
+mul r8 r7 4
+add r9 r4 r6
+sub r10 r4 r6
+add r11 r5 r8
+sub r12 r5 r8
+st Y[0] r9
+st Y[1] r11
+st Y[2] r10
+st Y[3] r12
+end
+";
+
+// Two passes over longer leaves, which share the table of powers, with the diagonal merged into the first.
+const LOOPS: &[u8] = b"program size 9 mod 19 procs 1 line 1 lanes 1 regs 4
+table 0 values 1 7 11
+table 1 values 1 1 1 1 4 16 1 16 9
+phase
+for v0 3
+for v1 3
+zero r0
+for v2 3
+ld r1 X[0+v0*1+v2*3]
+mul r2 r1 t0[0+(0+v1*v2*1)%3*1] step 0
+add r0 r0 r2
+end
+mul r3 r0 t1[0+v0*3+v1*1] step 0
+st A[0+v0*3+v1*1] r3
+end
+end
+for v0 3
+for v1 3
+zero r0
+for v2 3
+ld r1 A[0+v0*1+v2*3]
+mul r2 r1 t0[0+(0+v1*v2*1)%3*1] step 0
+add r0 r0 r2
+end
+st Y[0+v0*1+v1*3] r0
+end
+end
+end
+";
+
+const C_TEXT: &[u8] = b"/* program size 2 mod 15 procs 1 line 1 lanes 1 regs 5 */
+#include <stdint.h>
+#define M 15ULL
+#define V 1
+#define X (W + 0)
+#define Y (W + 2)
+#define A (W + 4)
+#define B (W + 6)
+static uint64_t W[8];
+static uint64_t add(uint64_t a, uint64_t b) { uint64_t c = a + b; return c >= M ? c - M : c; }
+static uint64_t sub(uint64_t a, uint64_t b) { return a >= b ? a - b : a + M - b; }
+static uint64_t mul(uint64_t a, uint64_t b) { return (uint64_t)((unsigned __int128)a * b % M); }
+void phase0(uint64_t q) {
+uint64_t r[5][V];
+(void)q;
+for (int l = 0; l < V; l++) r[0][l] = X[0 + l];
+for (int l = 0; l < V; l++) r[1][l] = X[1 + l];
+for (int l = 0; l < V; l++) r[2][l] = add(r[0][l], r[1][l]);
+for (int l = 0; l < V; l++) r[3][l] = mul(r[1][l], 4);
+for (int l = 0; l < V; l++) r[4][l] = add(r[0][l], r[3][l]);
+for (int l = 0; l < V; l++) Y[0 + l] = r[2][l];
+for (int l = 0; l < V; l++) Y[1 + l] = r[4][l];
+}
+";
+
+const USAGE: &[u8] =
+    b"spiral: usage: spiral plan|formula|code|c|run|trace|cert|check|sample [--schedule WORD] [--seed NUMBER]\n";
+
+// A command line and an input, and what comes of it: the status' code, the output and the note.
+type Row = (
+    &'static str,
+    &'static [u8],
+    u8,
+    &'static [u8],
+    &'static [u8],
+);
+
+fn try_rows(rt: &impl Abort, alloc: Global, rows: &[Row]) -> Result<(), Fail> {
+    for row in rows {
+        let (line, input, code, text, note) = *row;
+        let seen = run_whole(alloc, line, input, 4096)?;
+        assert_eq!(rt; seen.code, code, "{line} on {input:?}");
+        assert_eq!(rt; seen.output.bytes(), text, "{line} on {input:?}");
+        assert_eq!(rt; seen.note.bytes(), note, "{line} on {input:?}");
+    }
+    Ok(())
+}
+
+// Results are computed by hand from the matrices and the rules, and by Python from the generator.
 #[test]
 fn worked_examples(rt: HostRuntime) -> Result<(), Fail> {
-    let alloc = rt.alloc();
-    let rows: [(&[u8], &[u8], Status, &[u8]); 22] = [
-        (FOURIER, b"10 7 15 6\n", Status::Success, b""),
-        (b"dft 1 mod 2 root 1\n1", b"1\n", Status::Success, b""),
+    let rows: [Row; 15] = [
+        ("spiral run", FOURIER, 0, RESULT, b""),
         (
-            b"dft 6 mod 7 root 3\n0 1 0 0 0 0\n",
-            b"1 3 2 6 4 5\n",
-            Status::Success,
+            "spiral plan",
+            FOURIER,
+            0,
+            b"tree ct(leaf(2),leaf(2))\ncost 9\nphases 1\neach 9\n",
             b"",
         ),
-        (b"dft 2 mod 15 root 4\n1 1", b"2 5\n", Status::Success, b""),
         (
+            "spiral formula",
+            FOURIER,
+            0,
+            b"TIMES(LEFT(DFT(2,16),2),TIMES(T(4,2,4),TIMES(RIGHT(2,DFT(2,16)),L(4,2))))\n",
+            b"",
+        ),
+        (
+            "spiral cert",
+            FOURIER,
+            0,
+            b"{\"rows\":[[2,2,\"leaf\",0,0],[4,9,\"ct\",2,2]],\"size\":4,\"version\":1}\n",
+            b"",
+        ),
+        (
+            "spiral run",
+            b"wht 8 mod 10 unroll 2\n1 2 3 4 5 6 7 8",
+            0,
+            b"6 6 2 0 4 0 0 0\n",
+            b"",
+        ),
+        (
+            "spiral run",
+            b"dft 9 mod 19 root 4 unroll 2\n1 2 3 4 5 6 7 8 9",
+            0,
+            b"7 3 12 11 13 16 18 17 7\n",
+            b"",
+        ),
+        ("spiral run --schedule seed:7:9", FOURIER, 0, RESULT, b""),
+        ("spiral run", b"dft 1 mod 2 root 1\n1", 0, b"1\n", b""),
+        (
+            "spiral run",
             b"dft 2 mod 4611686018427387903 root 4611686018427387902\n18446744073709551615 1",
+            0,
             b"4 2\n",
-            Status::Success,
             b"",
         ),
         (
-            b"dft 4 mod 10 root 9 unroll 2 budget 32\n1 2 3 4",
-            b"0 8 0 8\n",
-            Status::Success,
+            "spiral run --schedule=turns:0,0",
+            b"dft 4 mod 10 root 9 unroll 2 budget 32\n1 2 3 4 4 3 2 1",
+            0,
+            b"0 8 0 8\n0 2 0 2\n",
             b"",
         ),
-        (b"dft 4 mod 17 root 4", b"", Status::Success, b""),
+        ("spiral code --", FOURIER, 0, LISTING, b""),
         (
-            b"dft 4 mod 17 root 4\n1 2 3 4 4 3 2 1",
-            b"10 7 15 6\n10 10 2 11\n",
-            Status::Success,
+            "spiral code",
+            b"dft 9 mod 19 root 4 unroll 2\n",
+            0,
+            LOOPS,
+            b"",
+        ),
+        ("spiral c", b"dft 2 mod 15 root 4\n", 0, C_TEXT, b""),
+        (
+            "spiral sample",
+            b"dft 2 mod 10 root 9\nx",
+            0,
+            b"sum 5\noperations 2\nloads 2\nstores 2\n",
             b"",
         ),
         (
-            b"dft 4 mod 17 root 3\n1 2 3 4\n",
+            "spiral sample --seed 18446744073709551615 --schedule rr:3",
+            b"dft 6 mod 7 root 3",
+            0,
+            b"sum 3\noperations 26\nloads 6\nstores 6\n",
             b"",
-            Status::Root { power: 13 },
-            b"spiral: root to the size is 13, not 1\n",
         ),
+    ];
+    try_rows(&rt, rt.alloc(), &rows)
+}
+
+#[test]
+fn refusals(rt: HostRuntime) -> Result<(), Fail> {
+    let rows: [Row; 11] = [
+        ("spiral jump", FOURIER, 2, b"", USAGE),
+        ("spiral run --seed 1", FOURIER, 2, b"", USAGE),
+        ("spiral check", FOURIER, 2, b"", USAGE),
         (
-            b"dft 11 mod 23 root 2 budget 241\n",
-            b"",
-            Status::OverBudget {
-                cost: 242,
-                budget: 241,
-            },
-            b"spiral: least cost 242 is over budget 241\n",
-        ),
-        (
-            b"dft 4 mod 17 root 4\n1 2 3 4 1 2 3",
-            b"10 7 15 6\n",
-            Status::Truncated { have: 3, need: 4 },
-            b"spiral: input ends with 3 of 4 numbers\n",
-        ),
-        (
-            b"dft 4 mod 17 root 4\n1 2 x 4",
-            b"",
-            Status::BadNumber { token: 3 },
-            b"spiral: token 3 is not a number\n",
-        ),
-        (
-            b"dft 4 mod 17 root 4\n1 2 3 4 -1",
-            b"10 7 15 6\n",
-            Status::BadNumber { token: 5 },
-            b"spiral: token 5 is not a number\n",
-        ),
-        (
-            b"dft 4 mod 17 root 4\n18446744073709551616",
-            b"",
-            Status::BadNumber { token: 1 },
-            b"spiral: token 1 is not a number\n",
-        ),
-        (
+            "spiral run",
             b"dft 4 mod 17 rot 4\n",
+            3,
             b"",
-            Status::Syntax { at: 15 },
             b"spiral: syntax at byte 15\n",
         ),
         (
-            b"",
-            b"",
-            Status::Syntax { at: 0 },
-            b"spiral: syntax at byte 0\n",
-        ),
-        (
-            b"dft 4 mod 17",
-            b"",
-            Status::Syntax { at: 12 },
-            b"spiral: syntax at byte 12\n",
-        ),
-        (
-            b"dft 4 mod 17 root 4 \n",
-            b"",
-            Status::Syntax { at: 20 },
-            b"spiral: syntax at byte 20\n",
-        ),
-        (
-            b"dft 70000 mod 17 root 1\n",
-            b"",
-            Status::Range {
-                field: Field::Size,
-                value: 70000,
-            },
-            b"spiral: size 70000 is out of range\n",
-        ),
-        (
-            b"dft 2 mod 4611686018427387904 root 1\n",
-            b"",
-            Status::Range {
-                field: Field::Mod,
-                value: 4611686018427387904,
-            },
-            b"spiral: mod 4611686018427387904 is out of range\n",
-        ),
-        (
+            "spiral code",
             b"dft 4 mod 17 root 17\n",
+            4,
             b"",
-            Status::Range {
-                field: Field::Root,
-                value: 17,
-            },
             b"spiral: root 17 is out of range\n",
         ),
         (
-            &[b'x'; 257],
+            "spiral run --schedule turns:0,1,2",
+            b"dft 4 mod 17 root 3\n",
+            5,
             b"",
-            Status::TooLong { limit: 256 },
+            b"spiral: turn names processor 1 of 1\n",
+        ),
+        (
+            "spiral sample",
+            b"dft 4 mod 17 root 3\n",
+            6,
+            b"",
+            b"spiral: root to the size is 13, not 1\n",
+        ),
+        (
+            "spiral c",
+            b"dft 11 mod 23 root 2 budget 241\n",
+            8,
+            b"",
+            b"spiral: least cost 242 is over budget 241\n",
+        ),
+        (
+            "spiral run",
+            b"dft 4 mod 17 root 4\n1 2 3 4 1 2 3",
+            9,
+            RESULT,
+            b"spiral: input ends with 3 of 4 numbers\n",
+        ),
+        (
+            "spiral run",
+            b"dft 4 mod 17 root 4\n1 2 3 4 -1",
+            9,
+            RESULT,
+            b"spiral: token 5 is not a number\n",
+        ),
+        (
+            "spiral run",
+            &[b'x'; 257],
+            13,
+            b"",
             b"spiral: more than 256 bytes\n",
         ),
     ];
-    for (input, text, status, line) in rows {
-        for step in [1, 4096] {
-            let seen = run_over(
-                alloc,
-                "run",
-                input,
-                step,
-                Vec::new(alloc),
-                100,
-                Vec::new(alloc),
-            )?;
-            assert_eq!(rt; seen.status, status, "{input:?} in steps of {step}");
-            assert_eq!(rt; seen.output.bytes(), text, "{input:?} in steps of {step}");
-            assert_eq!(rt; seen.note.bytes(), line, "{input:?} in steps of {step}");
-        }
-    }
-    Ok(())
+    try_rows(&rt, rt.alloc(), &rows)
 }
 
-const LISTING: &[u8] = b"program size 4 mod 17 procs 1 line 1 lanes 1 regs 3\n\
-table 0 values 1 4 16 13\nphase\nfor v0 4\nzero r0\nfor v1 4\nld r1 X[0+v1*1]\n\
-mul r2 r1 t0[0+(0+v0*v1*1)%4*1] step 0\nadd r0 r0 r2\nend\nst Y[0+v0*1] r0\nend\nend\n";
-
+// The input has 28 bytes, so the call 28 is the one that finds its end. The output has 10.
 #[test]
-fn listings_and_words(rt: HostRuntime) -> Result<(), Fail> {
-    let alloc = rt.alloc();
-    let seen = run_over(
-        alloc,
-        "code",
-        FOURIER,
-        1,
-        Vec::new(alloc),
-        1000,
-        Vec::new(alloc),
-    )?;
-    assert_eq!(rt; seen.status, Status::Success);
-    assert_eq!(rt; seen.output.bytes(), LISTING);
-    let other = run_over(
-        alloc,
-        "jump",
-        FOURIER,
-        1,
-        Vec::new(alloc),
-        1000,
-        Vec::new(alloc),
-    )?;
-    assert_eq!(rt; other.status, Status::Usage);
-    assert_eq!(rt; other.output.bytes(), b"".as_slice());
-    assert_eq!(rt;
-        other.note.bytes(),
-        b"spiral: usage: spiral plan|formula|code|c|run|trace|cert|check|sample [--schedule WORD] [--seed NUMBER]\n".as_slice()
-    );
-
-    let mut source = MemSource::new(FOURIER.to_vec(alloc)?, 1, Vec::new(alloc));
-    let mut output = CountSink::new();
-    let mut note = CountSink::new();
-    let alone = vec![in alloc; "spiral".to_string(alloc)?]?;
-    assert_eq!(rt;
-        spiral_run(alloc, &alone, &mut source, &mut output, &mut note),
-        Status::Usage
-    );
-    assert_eq!(rt; output.count, 0);
-    let ended = vec![in alloc;
-        "spiral".to_string(alloc)?,
-        "code".to_string(alloc)?,
-        "--".to_string(alloc)?,
-    ]?;
-    assert_eq!(rt;
-        spiral_run(alloc, &ended, &mut source, &mut output, &mut note),
-        Status::Success
-    );
-    assert_eq!(rt; output.count, LISTING.len() as u64);
-    Ok(())
-}
-
-// The input has 28 bytes, so the call 28 is the one that finds its end.
-#[test]
-fn failing_reads(rt: HostRuntime) -> Result<(), Fail> {
+fn failing_streams(rt: HostRuntime) -> Result<(), Fail> {
     let alloc = rt.alloc();
     for call in 0..30 {
-        let seen = run_over(
-            alloc,
-            "run",
-            FOURIER,
-            1,
-            vec![in alloc; call]?,
-            100,
-            Vec::new(alloc),
-        )?;
-        let status = if call < 29 {
-            Status::ReadFault
-        } else {
-            Status::Success
+        let outside = Outside {
+            step: 1,
+            read_fails: vec![in alloc; call]?,
+            room: 100,
+            write_fails: Vec::new(alloc),
         };
-        let text: &[u8] = if call < 28 { b"" } else { b"10 7 15 6\n" };
-        let line: &[u8] = if call < 29 {
-            b"spiral: read failed\n"
+        let seen = run_over(alloc, "spiral run", FOURIER, outside)?;
+        let (code, note): (u8, &[u8]) = if call < 29 {
+            (10, b"spiral: read failed\n")
         } else {
-            b""
+            (0, b"")
         };
-        assert_eq!(rt; seen.status, status, "a fault at call {call}");
+        let text: &[u8] = if call < 28 { b"" } else { RESULT };
+        assert_eq!(rt; seen.code, code, "a fault at call {call}");
         assert_eq!(rt; seen.output.bytes(), text, "a fault at call {call}");
-        assert_eq!(rt; seen.note.bytes(), line, "a fault at call {call}");
+        assert_eq!(rt; seen.note.bytes(), note, "a fault at call {call}");
     }
-    let block = run_over(
-        alloc,
-        "run",
-        FOURIER,
-        4096,
-        vec![in alloc; 2]?,
-        100,
-        Vec::new(alloc),
-    )?;
-    assert_eq!(rt; block.status, Status::Success);
-    Ok(())
-}
-
-#[test]
-fn failing_writes(rt: HostRuntime) -> Result<(), Fail> {
-    let alloc = rt.alloc();
-    let text = b"10 7 15 6\n".as_slice();
-    for room in 0..11 {
-        let seen = run_over(
-            alloc,
-            "run",
-            FOURIER,
-            1,
-            Vec::new(alloc),
+    for room in 0..10 {
+        let outside = Outside {
+            step: 4096,
+            read_fails: Vec::new(alloc),
             room,
-            Vec::new(alloc),
-        )?;
-        let status = if room < 10 {
-            Status::WriteFault
-        } else {
-            Status::Success
+            write_fails: Vec::new(alloc),
         };
-        assert_eq!(rt; seen.status, status, "room {room}");
+        let seen = run_over(alloc, "spiral run", FOURIER, outside)?;
+        assert_eq!(rt; seen.code, 11, "room {room}");
         assert_eq!(rt;
             seen.output.bytes(),
-            &text[..seen.output.bytes().len().min(10)],
+            &RESULT[..(room as usize).min(10)],
             "room {room}"
         );
-        assert_eq!(rt; seen.output.bytes().len() as u64, room, "room {room}");
+        assert_eq!(rt;
+            seen.note.bytes(),
+            b"spiral: write failed\n".as_slice(),
+            "room {room}"
+        );
     }
-    let first = run_over(
-        alloc,
-        "run",
-        FOURIER,
-        1,
-        Vec::new(alloc),
-        100,
-        vec![in alloc; 0]?,
-    )?;
-    assert_eq!(rt; first.status, Status::WriteFault);
-    assert_eq!(rt; first.output.bytes(), b"".as_slice());
 
     // A failing note changes no status.
     let words = vec![in alloc; "spiral".to_string(alloc)?, "run".to_string(alloc)?]?;
@@ -341,18 +367,17 @@ fn failing_writes(rt: HostRuntime) -> Result<(), Fail> {
 fn cut_inputs(rt: HostRuntime) -> Result<(), Fail> {
     let alloc = rt.alloc();
     for len in 0..FOURIER.len() {
-        let cut = &FOURIER[..len];
-        let seen = run_over(alloc, "run", cut, 1, Vec::new(alloc), 100, Vec::new(alloc))?;
-        let have = (len.saturating_sub(19) / 2) as u64;
-        let status = if len < 19 {
-            Status::Syntax { at: len as u64 }
+        let seen = run_whole(alloc, "spiral run", &FOURIER[..len], 1)?;
+        let have = len.saturating_sub(19) / 2;
+        let code = if len < 19 {
+            3
         } else if have == 0 || have == 4 {
-            Status::Success
+            0
         } else {
-            Status::Truncated { have, need: 4 }
+            9
         };
-        assert_eq!(rt; seen.status, status, "{len} bytes");
-        let text: &[u8] = if len < 27 { b"" } else { b"10 7 15 6\n" };
+        assert_eq!(rt; seen.code, code, "{len} bytes");
+        let text: &[u8] = if len < 27 { b"" } else { RESULT };
         assert_eq!(rt; seen.output.bytes(), text, "{len} bytes");
     }
     Ok(())

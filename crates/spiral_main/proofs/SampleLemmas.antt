@@ -1,0 +1,119 @@
+-- The vector of a seed, and what a run on it counts.
+use Rattle.std.proofs.Common.{◌≡◌, ◌<◌, ◌≤◌, ◌+◌, ◌*◌, ◌%◌, ℕ, zero, suc, List, [], ◌∷◌, ◌++◌, length, slice_index, All, Ok, refl, sym, ap, ap₂, subst, ◌∙◌, arith, mod-lt, zero-add}
+use Rattle.std.proofs.lemmas.Nat.{mul-mod}
+use Rattle.std.proofs.lemmas.List.Elements.{All-map}
+use Rattle.std.proofs.lemmas.List.FromFn.{map-range_with_len_more}
+use Rattle.std.specs.List.{range_with_len}
+use Rattle.operators.specs.Sum.{sum_below, list_below}
+use Rattle.operators.proofs.Sums.{sum_below-same, sum_below_more}
+use Rattle.operators.proofs.Lists.{length-list_below}
+use Rattle.matrix_meaning.specs.declared.Request.{Request}
+use Rattle.matrix_meaning.specs.Valid.{IsInRange}
+use Rattle.icode.specs.declared.action.Counts.{Counts}
+use Rattle.icode.specs.Machine.{Code, State, IsCode, IsApart, results, runs, counts_so_far, whole_counts}
+use Rattle.icode.specs.Program.{plain_program, code_of}
+use Rattle.icode.proofs.Lists.{code_is}
+use Rattle.icode.proofs.Runs.{counts_of_runs}
+use Rattle.request_text.specs.Schedule.{Plan}
+use Rattle.request_text.specs.Turns.{next_state, state_after, turns_of}
+use Rattle.generate.specs.Good.{IsVector}
+use Rattle.generate.specs.Planned.{IsPlain, IsPlanned}
+use Rattle.tree_model.specs.Breakdown.{Breakdown}
+use Rattle.tree_model.specs.Cost.{cost_of}
+use Rattle.tree_model.specs.Passes.{loads_of, stores_of}
+use Rattle.spiral_main.specs.Outcome.{product, IsSampleText}
+use Rattle.spiral_main.specs.Sample.{sample_vector, weighted_sum, sample_text}
+use Rattle.spiral_main.specs.Steps.{IsGoodCode}
+use Rattle.spiral_main.specs.Stream.{HasNoStranger}
+use Rattle.spiral_main.proofs.RunLemmas.{good_turns}
+
+-- the generator goes on
+pub state_more : (n v : ℕ) → state_after (n + 1) v ≡ next_state (state_after n v)
+state_more zero v = refl
+state_more (suc n) v = let on : suc n + 1 ≡ suc (n + 1) = omega arith in ap (λ k. state_after k v) on ∙ state_more n (next_state v)
+
+-- one datum more
+pub sample_more : (modulus seed n state next v : ℕ) (front : List ℕ) → front ≡ sample_vector modulus n seed → state ≡ state_after n seed → next ≡ next_state state → v ≡ next % modulus
+    → front ++ v ∷ [] ≡ sample_vector modulus (n + 1) seed
+sample_more modulus seed n state next v front p s e d =
+    let datum : v ≡ state_after (n + 1) seed % modulus = d ∙ ap (λ k. k % modulus) (e ∙ ap next_state s ∙ sym (state_more n seed)) in
+    ap₂ (λ l w. l ++ w ∷ []) p datum ∙ sym (map-range_with_len_more (λ i. state_after (i + 1) seed % modulus) 0 n n (zero-add n))
+
+-- one term more
+pub weight_more : (m n sum weight x v term total : ℕ) (y : List ℕ) → sum ≡ sum_below n (λ k. (k + 1) * slice_index y k) % m → weight ≡ (n + 1) % m → x ≡ slice_index y n → v ≡ x % m → term ≡ (weight * v) % m
+    → total ≡ (sum + term) % m → total ≡ sum_below (n + 1) (λ k. (k + 1) * slice_index y k) % m
+weight_more m n sum weight x v term total y s w at d t all =
+    let item : term ≡ ((n + 1) * slice_index y n) % m = t ∙ ap₂ (λ a b. (a * b) % m) w (d ∙ ap (λ k. k % m) at) ∙ sym (mul-mod (n + 1) (slice_index y n) m) in
+    all ∙ sum_below_more m n sum term (λ k. (k + 1) * slice_index y k) s item
+
+pub sample_below : (modulus size seed : ℕ) → 0 < modulus → All (λ v. v < modulus) (sample_vector modulus size seed)
+sample_below modulus size seed some = All-map (λ v. v < modulus) (λ i. state_after (i + 1) seed % modulus) (range_with_len 0 size) (λ k d _. mod-lt _ some)
+
+-- and they are residues of a good program's machine
+pub sample_residues : (request : Request) (code : Code) (m n seed : ℕ) (xs : List ℕ) → IsGoodCode request code → IsInRange request → m ≡ code.modulus → xs ≡ sample_vector m n seed → All (λ v. v < code.modulus) xs
+sample_residues request code m n seed xs good in_range same is =
+    let of_request : code.modulus ≡ request.modulus = ap (λ (k : Code). k.modulus) good.4 ∙ good.3.header.modulus in
+    let some : 0 < code.modulus = omega (arith, of_request, in_range.modulus.0) in
+    rw (is, same) (sample_below code.modulus n seed some)
+
+pub sum_alone : (n : ℕ) (f : ℕ → ℕ) → n ≡ 1 → f 0 ≡ sum_below n f
+sum_alone n f one = let here : f 0 ≡ sum_below 1 f = omega arith in here ∙ ap (λ k. sum_below k f) (sym one)
+
+share_alone : (n c : ℕ) (f : ℕ → ℕ) → n ≡ 1 → ((q : ℕ) → q < n → n * f q ≡ c) → sum_below n f ≡ c
+share_alone n c f one each =
+    let whole : 1 * f 0 ≡ c = ap (λ k. k * f 0) (sym one) ∙ each 0 (omega (arith, one)) in
+    sym (sum_alone n f one) ∙ omega (arith, whole)
+
+-- the vector of a seed is one of the request
+pub sample_is : (request : Request) (code : Code) (m n seed : ℕ) → IsGoodCode request code → m ≡ code.modulus → n ≡ code.size → sample_vector m n seed ≡ sample_vector request.modulus request.size seed
+sample_is request code m n seed good modulus size =
+    ap₂ (λ k l. sample_vector k l seed) (modulus ∙ ap (λ (k : Code). k.modulus) good.4 ∙ good.3.header.modulus) (size ∙ ap (λ (k : Code). k.size) good.4 ∙ good.3.header.size)
+
+sample_fits : (request : Request) (seed : ℕ) → IsInRange request → IsVector request (sample_vector request.modulus request.size seed)
+sample_fits request seed in_range = record {
+  size = length-list_below request.size (λ i. state_after (i + 1) seed % request.modulus);
+  residues = sample_below request.modulus request.size seed (omega (arith, in_range.modulus.0));
+}
+
+-- what the parts of a sample come to
+pub sampled : (request : Request) (code after : Code) (plan : Plan) (m n seed : ℕ) (vector y : List ℕ) (state : State) (sum : ℕ) (counts : Counts) (text : List ℕ)
+    → IsGoodCode request code → IsInRange request → IsPlain request → HasNoStranger plan request.procs
+    → after ≡ code → m ≡ code.modulus → n ≡ code.size → vector ≡ sample_vector m n seed
+    → y ≡ results code vector (turns_of plan code.procs) → state ≡ runs code vector (turns_of plan code.procs) → sum ≡ weighted_sum m y
+    → counts.operations ≡ sum_below after.procs (λ q. (counts_so_far after state q).operations)
+    → counts.loads ≡ sum_below after.procs (λ q. (counts_so_far after state q).loads)
+    → counts.stores ≡ sum_below after.procs (λ q. (counts_so_far after state q).stores)
+    → text ≡ sample_text sum counts.operations counts.loads counts.stores
+    → (tree : Breakdown) × IsPlanned request (Ok tree) × IsSampleText request seed tree text
+sampled request code after plan m n seed vector y state sum counts text good in_range plain none same modulus size v run ran s operations loads stores t =
+    let turns = turns_of plan code.procs in
+    let program = good.1 in
+    let is : IsCode code = subst IsCode (sym good.4) (code_is (plain_program program)) in
+    let apart : (phase : ℕ) → IsApart code phase = λ phase. subst (λ (k : Code). IsApart k phase) (sym good.4) (good.3.apart phase) in
+    let here : vector ≡ sample_vector request.modulus request.size seed = v ∙ sample_is request code m n seed good modulus size in
+    let fits : IsVector request vector = subst (IsVector request) (sym here) (sample_fits request seed in_range) in
+    let times : y ≡ product request vector = run ∙ ap (λ k. results k vector turns) good.4 ∙ good.3.product vector turns fits (good_turns plan request code good in_range none) in
+    let of_request : m ≡ request.modulus = modulus ∙ ap (λ (k : Code). k.modulus) good.4 ∙ good.3.header.modulus in
+    let whole : (q : ℕ) → counts_so_far code state q ≡ whole_counts code q = λ q. ap (λ s. counts_so_far code s q) ran ∙ counts_of_runs code is apart vector turns q in
+    let alone : (code_of program).procs ≡ 1 = good.3.header.procs ∙ plain.procs in
+    let share : (q : ℕ) → q < (code_of program).procs → (code_of program).procs * (whole_counts (code_of program) q).operations ≡ cost_of request good.0 =
+    λ q below. ap (λ n. n * (whole_counts (code_of program) q).operations) good.3.header.procs ∙ good.3.operations q (subst (λ n. q < n) good.3.header.procs below) in
+    let sum_is = s ∙ ap₂ weighted_sum of_request (times ∙ ap (product request) here) in
+    let operations_is : counts.operations ≡ cost_of request good.0 =
+    operations ∙ ap (λ (k : Code). sum_below k.procs (λ q. (counts_so_far k state q).operations)) same
+    ∙ sum_below-same code.procs _ _ (λ q _. ap (λ (c : Counts). c.operations) (whole q))
+    ∙ ap (λ (k : Code). sum_below k.procs (λ q. (whole_counts k q).operations)) good.4
+    ∙ share_alone (code_of program).procs (cost_of request good.0) (λ q. (whole_counts (code_of program) q).operations) alone share in
+    let loads_is : counts.loads ≡ loads_of request good.0 =
+    loads ∙ ap (λ (k : Code). sum_below k.procs (λ q. (counts_so_far k state q).loads)) same
+    ∙ sum_below-same code.procs _ _ (λ q _. ap (λ (c : Counts). c.loads) (whole q)) ∙ ap (λ (k : Code). sum_below k.procs (λ q. (whole_counts k q).loads)) good.4
+    ∙ ap (λ n. sum_below n (λ q. (whole_counts (code_of program) q).loads)) good.3.header.procs ∙ good.5.loads in
+    let stores_is : counts.stores ≡ stores_of request good.0 =
+    stores ∙ ap (λ (k : Code). sum_below k.procs (λ q. (counts_so_far k state q).stores)) same
+    ∙ sum_below-same code.procs _ _ (λ q _. ap (λ (c : Counts). c.stores) (whole q)) ∙ ap (λ (k : Code). sum_below k.procs (λ q. (whole_counts k q).stores)) good.4
+    ∙ ap (λ n. sum_below n (λ q. (whole_counts (code_of program) q).stores)) good.3.header.procs ∙ good.5.stores in
+    let text_is =
+    t ∙ ap (λ k. sample_text k counts.operations counts.loads counts.stores) sum_is
+    ∙ ap (λ k. sample_text (weighted_sum request.modulus (product request (sample_vector request.modulus request.size seed))) k counts.loads counts.stores) operations_is
+    ∙ ap₂ (sample_text (weighted_sum request.modulus (product request (sample_vector request.modulus request.size seed))) (cost_of request good.0)) loads_is stores_is in
+    (good.0, good.2, text_is)

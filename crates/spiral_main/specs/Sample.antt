@@ -1,0 +1,16 @@
+-- What `sample` makes and counts.
+use Rattle.std.specs.Prelude.{ℕ, ◌+◌, ◌*◌, ◌%◌, List, ◌++◌, length, slice_index, codes, decimal}
+use Rattle.operators.specs.Sum.{sum_below, list_below}
+use Rattle.request_text.specs.Turns.{state_after}
+
+-- the vector of a seed: numbers of the generator, reduced
+abbrev pub sample_vector : ℕ → ℕ → ℕ → List ℕ
+sample_vector modulus size seed = list_below size (λ i. state_after (i + 1) seed % modulus)
+
+-- the sum over k of (k + 1) times item k, modulo m
+abbrev pub weighted_sum : ℕ → List ℕ → ℕ
+weighted_sum m y = sum_below (length y) (λ k. (k + 1) * slice_index y k) % m
+
+abbrev pub sample_text : ℕ → ℕ → ℕ → ℕ → List ℕ
+sample_text sum operations loads stores =
+    codes "sum " ++ decimal sum ++ codes "\noperations " ++ decimal operations ++ codes "\nloads " ++ decimal loads ++ codes "\nstores " ++ decimal stores ++ codes "\n"

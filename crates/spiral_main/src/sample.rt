@@ -1,0 +1,104 @@
+// One vector of the generator: the sum of its transform, and what a run on it counts.
+ghost use Rattle.std.specs.Prelude.{◌≡◌, ◌++◌, length, Ok, Err, IfOk, IfErr};
+ghost use Rattle.operators.specs.Sum.{sum_below};
+ghost use Rattle.matrix_meaning.specs.Valid.{IsInRange};
+ghost use Rattle.icode.specs.Machine.{counts_so_far};
+ghost use Rattle.generate.specs.Planned.{IsPlain, IsPlanned};
+ghost use Rattle.tree_model.specs.Breakdown.{Breakdown};
+ghost use Rattle.request_text.specs.Turns.{next_state};
+ghost use Rattle.spiral_main.specs.Outcome.{IsRefused, IsSampleText};
+ghost use Rattle.spiral_main.specs.Sample.{sample_vector, weighted_sum, sample_text};
+ghost use Rattle.spiral_main.specs.Status.{IsDefined};
+ghost use Rattle.spiral_main.specs.Steps.{IsRefusal};
+ghost use Rattle.spiral_main.specs.Stream.{HasNoStranger};
+
+use crate::Status;
+use crate::stream::transform;
+use crate::texts::engine;
+use icode::action::Counts;
+use listing_text::put;
+use matrix_meaning::Request;
+use memory::NoMemory;
+use par_machine::Machine;
+use request_text::Schedule;
+use ring_mod::Modulus;
+use std::alloc::Global;
+
+// The generator's next state.
+fn next_state(state: u64) -> u64
+    ensures { result ≡ next_state state }
+{
+    state
+        .wrapping_mul(6_364_136_223_846_793_005)
+        .wrapping_add(1_442_695_040_888_963_407)
+}
+
+// Puts the vector of the seed into the slice.
+fn fill(vector: &mut [u64], modulus: Modulus, seed: u64)
+    ensures { vector.new ≡ sample_vector modulus (length vector.old) seed }
+{
+    let mut state = seed;
+    for place in 0..vector.len() {
+        state = next_state(state);
+        vector[place] = modulus.reduce(state);
+    }
+}
+
+// The sum of the items, each as many times as its place, which is counted from 1.
+fn weighted_sum(modulus: Modulus, vector: &[u64]) -> u64
+    ensures { result ≡ weighted_sum modulus vector.now }
+{
+    let mut sum = modulus.reduce(0);
+    for place in 0..vector.len() {
+        let weight = modulus.reduce(place as u64 + 1);
+        let term = modulus.mul(weight, modulus.reduce(vector[place]));
+        sum = modulus.add(sum, term);
+    }
+    sum
+}
+
+// What the processors have executed together. There is one so far.
+fn all_counts(machine: &Machine) -> Counts
+    requires alone { machine.now.code.procs ≡ 1 }
+    ensures operations { result.operations ≡ sum_below machine.now.code.procs (λ q. (counts_so_far machine.now.code machine.now.state q).operations) }
+    ensures loads { result.loads ≡ sum_below machine.now.code.procs (λ q. (counts_so_far machine.now.code machine.now.state q).loads) }
+    ensures stores { result.stores ≡ sum_below machine.now.code.procs (λ q. (counts_so_far machine.now.code machine.now.state q).stores) }
+{
+    machine.counts(0)
+}
+
+fn sample_text(alloc: Global, sum: u64, counts: &Counts) -> Result<Vec<u8>, NoMemory>
+    ensures { IfOk result (λ text. text.items ≡ sample_text sum counts.now.operations counts.now.loads counts.now.stores) }
+{
+    let mut text = Vec::new(alloc);
+    put(&mut text, b"sum ", sum)?;
+    put(&mut text, b"\noperations ", counts.operations)?;
+    put(&mut text, b"\nloads ", counts.loads)?;
+    put(&mut text, b"\nstores ", counts.stores)?;
+    text.extend_from_slice(b"\n")?;
+    Ok(text)
+}
+
+/// The sum of the transform of the seed's vector, run under the schedule, and what the run counts.
+pub(crate) fn sample(
+    alloc: Global,
+    request: &Request,
+    seed: u64,
+    schedule: &Schedule,
+) -> Result<Vec<u8>, Status>
+    requires in_range { IsInRange request.now }
+    requires plain { IsPlain request.now }
+    requires turns { HasNoStranger schedule.now request.now.procs }
+    ensures text { IfOk result (λ text. (tree : Breakdown) × IsPlanned request.now (Ok tree) × IsSampleText request.now seed tree text.items) }
+    ensures refused { IfErr result (λ status. IsDefined status → IsRefused request.now status) }
+    ensures refusal { IfErr result IsRefusal }
+{
+    let (mut machine, mut vector) = engine(alloc, request)?;
+    let modulus = machine.modulus();
+    fill(&mut vector, modulus, seed);
+    transform(&mut machine, schedule, &mut vector);
+    let sum = weighted_sum(modulus, &vector);
+    let counts = all_counts(&machine);
+    let text = sample_text(alloc, sum, &counts)?;
+    Ok(text)
+}
