@@ -5,6 +5,8 @@ import sys
 import tempfile
 import time
 
+from listing import actions
+
 PROGRAM = sys.argv[1]
 MODULUS = 12289
 GENERATOR = 11  # a primitive root modulo 12289
@@ -15,7 +17,7 @@ def root(size):
 
 
 def request(size):
-    return f"dft {size} mod {MODULUS} root {root(size)} unroll 2\n"
+    return f"dft {size} mod {MODULUS} root {root(size)}\n"
 
 
 def run(command, text):
@@ -54,19 +56,24 @@ def best(command, text, times=3):
     return min(run(command, text) for _ in range(times))
 
 
-def actions(size):
-    """Of the pass of a leaf: for each output a zero and a store, and three actions for each input."""
-    return size * (2 + 3 * size)
+def listing(text):
+    return subprocess.run([PROGRAM, "code"], input=text.encode(), capture_output=True, check=True).stdout.decode()
 
 
 def main():
     start_up = best("run", request(4), 20)
     print(f"start-up: {start_up * 1000:.1f} ms")
-    for size, count in ((64, 1000), (1024, 8)):
+    for size, count in ((64, 1000), (1024, 100)):
         none = best("run", request(size))
         many = best("run", request(size) + vectors(size, count))
-        each = (many - none) / count / actions(size)
-        print(f"run of dft {size}: {each * 1e9:.1f} ns for each action, over {count} vectors")
+        each = (many - none) / count
+        number = actions(listing(request(size)))
+        print(f"run of dft {size}: {each * 1e6:.0f} us for each vector of {number} actions, data and lines with them")
+    for text in (f"dft 65536 mod 65537 root 3\n", "wht 65536 mod 65537\n"):
+        print(f"code of {text.strip()}: {best('code', text) * 1000:.0f} ms")
+    large = "dft 65536 mod 65537 root 3\n"
+    one = best("run", large + " ".join(str(k) for k in range(65536)) + "\n")
+    print(f"run of one vector of {large.strip()}: {one * 1000:.0f} ms with start-up")
     data = vectors(2, 400_000)
     seconds = best("run", request(2) + data) - start_up
     print(f"data of dft 2: {len(data) / 1e6 / seconds:.1f} MB read a second, with a line written for each vector")

@@ -20,6 +20,7 @@ vectors() {
 compared() {
   local name=$1
   shift
+  : >"$work/got"
   if "$top/examples/compile.sh" "$work/text.c" "$work/program" "$@" 2>"$work/errors" &&
     "$work/program" <"$work/data" >"$work/got" 2>>"$work/errors" && cmp -s "$work/got" "$work/wanted"; then
     passed=$((passed + 1))
@@ -27,11 +28,13 @@ compared() {
     failed=$((failed + 1))
     echo "differs: $name by $*"
     head -n 5 "$work/errors"
+    diff "$work/wanted" "$work/got" | head -n 4 || true
   fi
 }
 
 while read -r request; do
   [ -n "$request" ] || continue
+  last=$request
   size=$(echo "$request" | cut -d' ' -f2)
   echo "$request" | "$program" c >"$work/text.c"
   vectors "$size" 5 >"$work/data"
@@ -46,8 +49,10 @@ while read -r request; do
 done <"$top/examples/requests"
 
 if command -v gcc >/dev/null; then
-  compared "$request" gcc -O1 -g -fsanitize=thread
-  compared "$request" gcc -O1 -g -fsanitize=address,undefined
+  compared "$last" gcc -O1 -g -fsanitize=thread
+  compared "$last" gcc -O1 -g -fsanitize=address,undefined
+else
+  echo "skipped: the sanitizers, since gcc is not here"
 fi
 echo "examples: $passed passed, $failed failed"
 [ "$failed" -eq 0 ]
