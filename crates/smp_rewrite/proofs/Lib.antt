@@ -1,0 +1,9 @@
+pub mod Sized
+pub mod Tensors
+pub mod Cores
+pub mod Dealt
+pub mod Factors
+pub mod Shares
+pub mod Shapes
+pub mod TreeLaws
+pub mod Moves

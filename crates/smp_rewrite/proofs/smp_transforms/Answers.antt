@@ -1,0 +1,5 @@
+use Rattle.smp_rewrite.proofs.TreeLaws as laws
+use Rattle.smp_rewrite.proofs.smp_transforms.Goals as goal
+
+pub returns : goal.returns
+returns c = laws.smp_transforms

@@ -1,0 +1,62 @@
+-- How the steps of a tree are cut for p processors, on lists of n words (Franchetti et al., 2006).
+use Rattle.std.specs.Prelude.{ℕ, suc, ◌/◌, ◌==◌, Bool, true, false, if◌then◌else◌, List, [], ◌∷◌, length, take, drop}
+use Rattle.std.specs.List.{flat_map}
+use Rattle.matrix_meaning.specs.declared.Request.{Request}
+use Rattle.steps.specs.Step.{PlainCore, piece, turns, twiddles, thomas_in, thomas_out, PlainStep, step, steps_of}
+use Rattle.tensor_paths.specs.declared.Tensor.TheVariants.{Blocks, Columns}
+use Rattle.tensor_paths.specs.Path.{Path}
+use Rattle.tree_model.specs.Breakdown.{Breakdown}
+use Rattle.smp_rewrite.specs.Smp.{PlainFactor, blocks, diagonals, move_before, move_after, PlainSmp, within}
+
+-- a permutation of whole lines or a diagonal, as it is
+abbrev pub whole_factor : Path → PlainCore → PlainFactor
+whole_factor path (piece t) = blocks (step path (piece t))
+whole_factor path (turns r s) = move_before (step path (turns r s))
+whole_factor path (twiddles r s) = diagonals (step path (twiddles r s))
+whole_factor path (thomas_in r s) = move_before (step path (thomas_in r s))
+whole_factor path (thomas_out r s) = move_after (step path (thomas_out r s))
+
+-- The root's permutation L(r * s, r) is `(I_p tensor L(r * s / p, r / p)) (L(p * s, p) tensor I_(r / p))`.
+-- In its right part `I_r tensor A` is `I_p tensor (I_(r / p) tensor A)`. In its left part, for A of size m = n / s,
+-- `A tensor I_s` is `(L(m * p, m) tensor I_(s / p)) (I_p tensor (A tensor I_(s / p))) (L(m * p, p) tensor I_(s / p))`; its permutations move whole lines.
+abbrev pub cut_factors : ℕ → ℕ → Path → PlainCore → List PlainFactor
+cut_factors n p [] (turns r s) = move_before (step (within (Columns (r / p)) []) (turns p s)) ∷ blocks (step [] (turns (r / p) s)) ∷ []
+cut_factors n p [] core = whole_factor [] core ∷ []
+cut_factors n p (Blocks r ∷ path) core = blocks (step (within (Blocks (r / p)) path) core) ∷ []
+cut_factors n p (Columns s ∷ path) (piece t) =
+    move_before (step (within (Columns (s / p)) []) (turns p (n / s)))
+    ∷ blocks (step (within (Columns (s / p)) path) (piece t))
+    ∷ move_after (step (within (Columns (s / p)) []) (turns (n / s) p)) ∷ []
+cut_factors n p (Columns s ∷ path) core = whole_factor (Columns s ∷ path) core ∷ []
+
+-- the factors of a step; with one processor it is one block
+abbrev pub factors_of : ℕ → ℕ → PlainStep → List PlainFactor
+factors_of n p s = if p == 1 then blocks s ∷ [] else cut_factors n p s.path s.core
+
+-- whether a path is one of the root's left part
+abbrev pub is_left : Path → Bool
+is_left [] = false
+is_left (Blocks r ∷ path) = false
+is_left (Columns s ∷ path) = true
+
+-- how many steps come before those of the root's left part
+abbrev pub right_count : List PlainStep → ℕ
+right_count [] = 0
+right_count (s ∷ ss) = if is_left s.path then 0 else suc (right_count ss)
+
+-- how many steps the processors do before they wait for one another; one processor does all
+abbrev pub first_count : ℕ → List PlainStep → ℕ
+first_count p ss = if p == 1 then length ss else right_count ss
+
+-- the formula of steps on lists of n words
+abbrev pub cut : ℕ → ℕ → ℕ → List PlainStep → PlainSmp
+cut n p line ss = record {
+  procs = p;
+  line = line;
+  first = flat_map (factors_of n p) (take (first_count p ss) ss);
+  second = flat_map (factors_of n p) (drop (first_count p ss) ss);
+}
+
+-- the formula of a tree
+abbrev pub smp_of : Request → Breakdown → PlainSmp
+smp_of c t = cut c.size c.procs c.line (steps_of c [] t)

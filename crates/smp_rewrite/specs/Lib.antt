@@ -1,0 +1,4 @@
+pub mod Smp
+pub mod Cut
+pub mod Views
+pub mod Laws

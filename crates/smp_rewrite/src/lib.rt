@@ -1,0 +1,289 @@
+//! Formulas for processors: the steps of a tree, cut into blocks of equal size and moves of whole lines (Franchetti et al., SC 2006).
+#![tactic(auto)]
+
+ghost use Rattle.std.specs.Prelude.{◌≡◌, ◌+◌, ◌*◌, ◌<◌, ◌≤◌, [], ◌∷◌, ◌++◌, All, IfOk, List, OnOk, drop, length, map, ℕ};
+ghost use Rattle.std.specs.List.{flat_map};
+ghost use Rattle.steps.specs.Meaning.{transform_of};
+ghost use Rattle.steps.specs.Step.{step, turns};
+ghost use Rattle.steps.specs.Views.{plain_core, plain_step};
+ghost use Rattle.tensor_paths.specs.declared.Tensor.TheVariants.{Columns};
+ghost use Rattle.tree_model.specs.Admissible.{IsAdmissible};
+ghost use Rattle.tree_model.specs.Breakdown.{breakdown_of};
+ghost use Rattle.tree_model.specs.Cost.{cost_of};
+ghost use Rattle.smp_rewrite.specs.Cut.{cut, cut_factors, factors_of, first_count, is_left, right_count, smp_of, whole_factor};
+ghost use Rattle.smp_rewrite.specs.Laws.{IsShaped, MovesLines, SmpCosts, SmpShaped, SmpTransforms, step_size};
+ghost use Rattle.smp_rewrite.specs.Smp.{PlainFactor, smp_on, smp_share, within};
+ghost use Rattle.smp_rewrite.specs.Views.{plain_factor, plain_smp};
+
+#[cfg(test)]
+mod tests;
+
+use memory::NoMemory;
+use std::alloc::Global;
+use steps::{Core, Step, steps_of_tree};
+use tensor_paths::Tensor;
+use tree_model::{Ctx, Tree};
+
+/// A factor of a formula for several processors, of which each does an equal part.
+#[derive(Drop)]
+pub enum Factor {
+    /// The same step for each processor, on a block of consecutive words of its own.
+    Blocks(Step),
+    /// A diagonal over all words, of which each processor has an equal part.
+    Diagonals(Step),
+    /// A permutation of all words that moves whole lines, for the block after it to take its words by.
+    MoveBefore(Step),
+    /// A permutation of all words that moves whole lines, for the block before it to store its words by.
+    MoveAfter(Step),
+}
+
+/// A formula for processors: factors in the order in which they are applied.
+#[derive(Drop)]
+pub struct SmpSpl {
+    pub procs: u64,
+    /// How many words a line has.
+    pub line: u64,
+    /// The factors of the root's right part; with one processor all of them.
+    pub first: Vec<Factor>,
+    /// The factors of the root's left part.
+    pub second: Vec<Factor>,
+}
+
+/// The formula of a tree for the request's processors.
+pub fn to_smp(alloc: Global, c: &Ctx, tree: &Tree) -> Result<SmpSpl, NoMemory>
+    requires { IsAdmissible c.now (breakdown_of tree.now) }
+    ensures form { IfOk result (λ f. plain_smp f ≡ smp_of c.now (breakdown_of tree.now)) }
+    ensures meaning { IfOk result (λ f. (x : List ℕ) → smp_on c.now (plain_smp f) x ≡ transform_of c.now c.now.size x) }
+    ensures operations { IfOk result (λ f. f.procs * smp_share c.now (plain_smp f) ≡ cost_of c.now (breakdown_of tree.now)) }
+    ensures shape { IfOk result (λ f. IsShaped c.now (plain_smp f)) }
+{
+    let _request = c.request();
+    let steps = steps_of_tree(alloc, c, tree)?;
+    let formula = cut_steps(alloc, c, &steps)?;
+    Ok(formula)
+}
+
+// The formula of steps.
+fn cut_steps(alloc: Global, c: &Ctx, steps: &[Step]) -> Result<SmpSpl, NoMemory>
+    requires { All (λ s. step_size (plain_step s) ≡ c.now.size) steps.now }
+    ensures { IfOk result (λ f. plain_smp f ≡ cut c.now.size c.now.procs c.now.line (map plain_step steps.now)) }
+{
+    let request = c.request();
+    let (right, left) = steps.split_at(first_count(request.procs, steps));
+    let first = factors_in(alloc, c, right)?;
+    let second = factors_in(alloc, c, left)?;
+    Ok(SmpSpl {
+        procs: request.procs,
+        line: request.line,
+        first,
+        second,
+    })
+}
+
+// How many steps the processors do before they wait for one another; one processor does all.
+fn first_count(procs: u64, steps: &[Step]) -> usize
+    ensures value { result ≡ first_count procs (map plain_step steps.now) }
+    ensures inside { result ≤ length steps.now }
+{
+    if procs == 1 {
+        steps.len()
+    } else {
+        right_count(steps)
+    }
+}
+
+// How many steps come before those of the root's left part.
+fn right_count(steps: &[Step]) -> usize
+    ensures value { result ≡ right_count (map plain_step steps.now) }
+    ensures inside { result ≤ length steps.now }
+{
+    let mut count = 0;
+    for step in steps {
+        if is_left(step) {
+            return count;
+        }
+        count += 1;
+    }
+    count
+}
+
+fn is_left(step: &Step) -> bool
+    ensures { result ≡ is_left (plain_step step.now).path }
+{
+    match step.path.split_first() {
+        Some((Tensor::Columns(_), _)) => true,
+        Some((Tensor::Blocks(_), _)) | None => false,
+    }
+}
+
+// The factors of steps.
+fn factors_in(alloc: Global, c: &Ctx, steps: &[Step]) -> Result<Vec<Factor>, NoMemory>
+    requires { All (λ s. step_size (plain_step s) ≡ c.now.size) steps.now }
+    ensures { IfOk result (λ factors. map plain_factor factors.items ≡ flat_map (factors_of c.now.size c.now.procs) (map plain_step steps.now)) }
+{
+    let mut factors = Vec::new(alloc);
+    for step in steps {
+        add_factors(alloc, c, &mut factors, step)?;
+    }
+    Ok(factors)
+}
+
+// Appends the factors of a step.
+fn add_factors(
+    alloc: Global,
+    c: &Ctx,
+    factors: &mut Vec<Factor>,
+    step: &Step,
+) -> Result<(), NoMemory>
+    requires { step_size (plain_step step.now) ≡ c.now.size }
+    ensures { OnOk result (map plain_factor factors.new.items ≡ map plain_factor factors.old.items ++ factors_of c.now.size c.now.procs (plain_step step.now)) }
+{
+    let request = c.request();
+    if request.procs == 1 {
+        let block = step_of(alloc, &step.path, &step.core)?;
+        factors.push(Factor::Blocks(block))?;
+        return Ok(());
+    }
+    add_cut(alloc, request.size, request.procs, factors, step)
+}
+
+// Appends the factors of a step on lists of `size` words.
+fn add_cut(
+    alloc: Global,
+    size: u64,
+    procs: u64,
+    factors: &mut Vec<Factor>,
+    step: &Step,
+) -> Result<(), NoMemory>
+    requires procs { 0 < procs }
+    requires low { 0 < size }
+    requires size { step_size (plain_step step.now) ≡ size }
+    ensures { OnOk result (map plain_factor factors.new.items ≡ map plain_factor factors.old.items ++ cut_factors size procs (plain_step step.now).path (plain_step step.now).core) }
+{
+    match (step.path.split_first(), &step.core) {
+        (None, Core::Turns { rows, cols }) => {
+            let width = rows / procs;
+            let before = turn(alloc, width, procs, *cols)?;
+            let block = turn(alloc, 1, width, *cols)?;
+            factors.push(Factor::MoveBefore(before))?;
+            factors.push(Factor::Blocks(block))?;
+        }
+        (Some((Tensor::Blocks(rows), rest)), core) => {
+            let block = step_within(alloc, Tensor::Blocks(rows / procs), rest, core)?;
+            factors.push(Factor::Blocks(block))?;
+        }
+        (Some((Tensor::Columns(cols), rest)), Core::Piece(_)) => {
+            let (width, rows) = (cols / procs, size / cols);
+            let before = turn(alloc, width, procs, rows)?;
+            let block = step_within(alloc, Tensor::Columns(width), rest, &step.core)?;
+            let after = turn(alloc, width, rows, procs)?;
+            factors.push(Factor::MoveBefore(before))?;
+            factors.push(Factor::Blocks(block))?;
+            factors.push(Factor::MoveAfter(after))?;
+        }
+        _ => factors.push(whole_factor(alloc, step)?)?,
+    }
+    Ok(())
+}
+
+// A permutation of whole lines or a diagonal, as it is.
+fn whole_factor(alloc: Global, step: &Step) -> Result<Factor, NoMemory>
+    ensures { IfOk result (λ f. plain_factor f ≡ whole_factor (plain_step step.now).path (plain_step step.now).core) }
+{
+    let whole = step_of(alloc, &step.path, &step.core)?;
+    match &step.core {
+        Core::Piece(_) => Ok(Factor::Blocks(whole)),
+        Core::Twiddles { .. } => Ok(Factor::Diagonals(whole)),
+        Core::Turns { .. } | Core::ThomasIn { .. } => Ok(Factor::MoveBefore(whole)),
+        Core::ThomasOut { .. } => Ok(Factor::MoveAfter(whole)),
+    }
+}
+
+// `L(rows * cols, rows) tensor I_width`.
+fn turn(alloc: Global, width: u64, rows: u64, cols: u64) -> Result<Step, NoMemory>
+    ensures { IfOk result (λ s. plain_step s ≡ step (within (Columns width) []) (turns rows cols)) }
+{
+    step_within(
+        alloc,
+        Tensor::Columns(width),
+        &[],
+        &Core::Turns { rows, cols },
+    )
+}
+
+/// A step under one more tensor, unless that has a single copy.
+pub fn step_within(
+    alloc: Global,
+    tensor: Tensor,
+    path: &[Tensor],
+    core: &Core,
+) -> Result<Step, NoMemory>
+    ensures { IfOk result (λ s. plain_step s ≡ step (within tensor path.now) (plain_core core.now)) }
+{
+    let path = within(alloc, tensor, path)?;
+    step_of(alloc, &path, core)
+}
+
+/// The path with one more tensor around it, unless that has a single copy.
+pub fn within(alloc: Global, tensor: Tensor, path: &[Tensor]) -> Result<Vec<Tensor>, NoMemory>
+    ensures { IfOk result (λ longer. longer.items ≡ within tensor path.now) }
+{
+    let mut longer = path.to_vec(alloc)?;
+    if tensor.count() != 1 {
+        longer.insert(0, tensor)?;
+    }
+    Ok(longer)
+}
+
+/// A step of this path and core, in other memory.
+pub fn step_of(alloc: Global, path: &[Tensor], core: &Core) -> Result<Step, NoMemory>
+    ensures { IfOk result (λ s. plain_step s ≡ step path.now (plain_core core.now)) }
+{
+    let path = path.to_vec(alloc)?;
+    let core = copied(alloc, core)?;
+    Ok(Step { path, core })
+}
+
+fn copied(alloc: Global, core: &Core) -> Result<Core, NoMemory>
+    ensures { IfOk result (λ other. plain_core other ≡ plain_core core.now) }
+{
+    match core {
+        Core::Piece(tree) => Ok(Core::Piece(tree.copied(alloc)?)),
+        Core::Turns { rows, cols } => Ok(Core::Turns {
+            rows: *rows,
+            cols: *cols,
+        }),
+        Core::Twiddles { rows, cols } => Ok(Core::Twiddles {
+            rows: *rows,
+            cols: *cols,
+        }),
+        Core::ThomasIn { rows, cols } => Ok(Core::ThomasIn {
+            rows: *rows,
+            cols: *cols,
+        }),
+        Core::ThomasOut { rows, cols } => Ok(Core::ThomasOut {
+            rows: *rows,
+            cols: *cols,
+        }),
+    }
+}
+
+/// The formula of a tree does its transform: a law of the definitions.
+pub fn smp_transforms()
+    ensures { SmpTransforms }
+{}
+
+/// The processors do a tree's cost in equal shares: a law of the definitions.
+pub fn smp_costs()
+    ensures { SmpCosts }
+{}
+
+/// Each factor of a tree's formula is blocks of equal size, a diagonal of equal parts, or a move of whole lines: a law of the definitions.
+pub fn smp_shaped()
+    ensures { SmpShaped }
+{}
+
+/// A move of a formula takes what goes to a line from a line: a law of the definitions.
+pub fn moves_lines()
+    ensures { MovesLines }
+{}

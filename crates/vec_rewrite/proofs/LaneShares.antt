@@ -1,0 +1,97 @@
+-- Each processor's operations stay the same on lanes.
+use Rattle.std.proofs.Common.{◌≡◌, ℕ, ◌+◌, ◌*◌, ◌/◌, ◌<◌, arith, refl, sym, ap, ◌∙◌, List, [], ◌∷◌, ◌++◌}
+use Rattle.std.specs.Prelude.{map, Option, None, Some}
+use Rattle.std.proofs.Math.Nat.{mul-div_right}
+use Rattle.matrix_meaning.specs.declared.Request.{Request}
+use Rattle.smp_rewrite.specs.Smp as smp
+use Rattle.smp_rewrite.specs.Smp.{within}
+use Rattle.smp_rewrite.proofs.Tensors.{copies-within}
+use Rattle.steps.specs.Step.{PlainCore, piece, turns, twiddles, thomas_in, thomas_out, step, core_cost, operations_of}
+use Rattle.tensor_paths.specs.declared.Tensor.{Tensor}
+use Rattle.tensor_paths.specs.declared.Tensor.TheVariants.{Blocks, Columns}
+use Rattle.tensor_paths.specs.Path.{Path, count_of, copies_of}
+use Rattle.vec_rewrite.specs.declared.Deal.{Deal}
+use Rattle.vec_rewrite.specs.declared.Grid.{Grid}
+use Rattle.vec_rewrite.specs.Turning.{kept, settled, grouped, order_after, narrowed, block_factors, laned, laned_from}
+use Rattle.vec_rewrite.specs.Vectors.{PlainFactor, lanes, diagonals, move_before, move_after, share_of, shares_in}
+use Rattle.vec_rewrite.proofs.Following.{IsWide, BlockFollows, Follows, AllFollow}
+
+pub shares_in-append : (c : Request) (p v : ℕ) (fs gs : List PlainFactor) → shares_in c p v (fs ++ gs) ≡ shares_in c p v fs + shares_in c p v gs
+shares_in-append c p v [] gs = omega arith
+shares_in-append c p v (f ∷ fs) gs = let rest = shares_in-append c p v fs gs in omega (arith, rest)
+
+settled-share : (c : Request) (p v : ℕ) (d : Deal) (o : Option Grid) → shares_in c p v (settled d o) ≡ 0
+settled-share c p v d None = refl
+settled-share c p v d (Some g) = omega arith
+
+grouped-share : (c : Request) (p v : ℕ) (d : Deal) (o : Option Grid) (g : Grid) → shares_in c p v (grouped d o g) ≡ 0
+grouped-share c p v d None g = omega arith
+grouped-share c p v d (Some h) g = refl
+
+-- a factor after words that are brought into their own order
+share-after : (c : Request) (p v : ℕ) (d : Deal) (o : Option Grid) (f : PlainFactor) → shares_in c p v (settled d o ++ f ∷ []) ≡ share_of c p v f
+share-after c p v d o f =
+    let both = shares_in-append c p v (settled d o) (f ∷ []) in
+    let none = settled-share c p v d o in omega (arith, both, none)
+
+-- a step under one v-th of so many copies, on v lanes
+lane-share : (c : Request) (v : ℕ) (t : Tensor) (path : Path) (core : PlainCore) (w : ℕ) → w ≡ count_of t * v → v * (copies_of (within t path) * core_cost c core) ≡ w * copies_of path * core_cost c core
+lane-share c v t path core w h =
+    ap (λ n. v * (n * core_cost c core)) (copies-within t path) ∙ omega arith ∙ sym (ap (λ n. n * copies_of path * core_cost c core) h)
+
+-- a diagonal in each of p blocks
+whole-share : (c : Request) (p : ℕ) (path : Path) (core : PlainCore) → 0 < p → operations_of c (step (within (Blocks p) path) core) / p ≡ operations_of c (step path core)
+whole-share c p path core positive =
+    let all : operations_of c (step (within (Blocks p) path) core) ≡ p * (copies_of path * core_cost c core) = ap (λ n. n * core_cost c core) (copies-within (Blocks p) path) ∙ omega arith in
+    ap (λ n. n / p) all ∙ mul-div_right (copies_of path * core_cost c core) positive
+
+column-share : (c : Request) (d : Deal) (o : Option Grid) (w : ℕ) (path : Path) (core : PlainCore) → IsWide d.lanes w →
+    shares_in c d.procs d.lanes (settled d o ++ lanes (narrowed d.lanes (Columns w ∷ path) core) ∷ []) ≡ operations_of c (step (Columns w ∷ path) core)
+column-share c d o w path core h =
+    share-after c d.procs d.lanes d o (lanes (narrowed d.lanes (Columns w ∷ path) core)) ∙ lane-share c d.lanes (Columns (w / d.lanes)) path core w h
+
+block-share : (c : Request) (d : Deal) (o : Option Grid) (path : Path) (core : PlainCore) → 0 < d.procs → BlockFollows d o path core →
+    shares_in c d.procs d.lanes (block_factors d o path core) ≡ operations_of c (step path core)
+block-share c d o [] (piece t) positive h = absurd h
+block-share c d o [] (turns r s) positive h = share-after c d.procs d.lanes d o (lanes (step [] (turns (r / d.lanes) s))) ∙ omega arith
+block-share c d o [] (twiddles r s) positive h =
+    share-after c d.procs d.lanes d o (diagonals (step (within (Blocks d.procs) []) (twiddles r s))) ∙ whole-share c d.procs [] (twiddles r s) positive
+block-share c d o [] (thomas_in r s) positive h = absurd h
+block-share c d o [] (thomas_out r s) positive h = absurd h
+block-share c d o (Blocks r ∷ path) core positive h =
+    let g : Grid = record { groups = r / d.lanes; tiles = d.block / r / d.lanes } in
+    let lane = lanes (step (within (Blocks (r / d.lanes)) path) core) in
+    let both = shares_in-append c d.procs d.lanes (grouped d o g) (lane ∷ []) in
+    let none = grouped-share c d.procs d.lanes d o g in
+    let one = lane-share c d.lanes (Blocks (r / d.lanes)) path core r h.0 in omega (arith, both, none, one)
+block-share c d o (Columns w ∷ path) (piece t) positive h = column-share c d o w path (piece t) h
+block-share c d o (Columns w ∷ path) (turns r s) positive h = column-share c d o w path (turns r s) h
+block-share c d o (Columns w ∷ path) (twiddles r s) positive h =
+    share-after c d.procs d.lanes d o (diagonals (step (within (Blocks d.procs) (Columns w ∷ path)) (twiddles r s))) ∙ whole-share c d.procs (Columns w ∷ path) (twiddles r s) positive
+block-share c d o (Columns w ∷ path) (thomas_in r s) positive h = column-share c d o w path (thomas_in r s) h
+block-share c d o (Columns w ∷ path) (thomas_out r s) positive h = column-share c d o w path (thomas_out r s) h
+
+one-share : (c : Request) (d : Deal) (o : Option Grid) (f : smp.PlainFactor) → 0 < d.procs → Follows d o f → shares_in c d.procs d.lanes (laned d o f) ≡ smp.share_of c d.procs f
+one-share c d o (smp.blocks s) positive h = block-share c d o s.path s.core positive h
+one-share c d o (smp.diagonals s) positive h = share-after c d.procs d.lanes d o (diagonals s)
+one-share c d o (smp.move_before s) positive h = share-after c d.procs d.lanes d o (move_before (narrowed d.lanes s.path s.core))
+one-share c d o (smp.move_after s) positive h = share-after c d.procs d.lanes d o (move_after (narrowed d.lanes s.path s.core))
+
+pub laned-share : (c : Request) (d : Deal) (o : Option Grid) (fs : List smp.PlainFactor) → 0 < d.procs → AllFollow d o fs → shares_in c d.procs d.lanes (laned_from d o fs) ≡ smp.shares_in c d.procs fs
+laned-share c d o [] positive h = settled-share c d.procs d.lanes d o
+laned-share c d o (f ∷ fs) positive h =
+    let both = shares_in-append c d.procs d.lanes (laned d o f) (laned_from d (order_after d f) fs) in
+    let one = one-share c d o f positive h.0 in
+    let rest = laned-share c d (order_after d f) fs positive h.1 in omega (arith, both, one, rest)
+
+-- ---- one lane
+
+kept-one : (c : Request) (p : ℕ) (f : smp.PlainFactor) → share_of c p 1 (kept f) ≡ smp.share_of c p f
+kept-one c p (smp.blocks s) = omega arith
+kept-one c p (smp.diagonals s) = refl
+kept-one c p (smp.move_before s) = refl
+kept-one c p (smp.move_after s) = refl
+
+pub kept-share : (c : Request) (p : ℕ) (fs : List smp.PlainFactor) → shares_in c p 1 (map kept fs) ≡ smp.shares_in c p fs
+kept-share c p [] = refl
+kept-share c p (f ∷ fs) = let one = kept-one c p f in let rest = kept-share c p fs in omega (arith, one, rest)

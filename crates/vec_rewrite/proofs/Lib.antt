@@ -1,0 +1,10 @@
+pub mod PlainSteps
+pub mod Rows
+pub mod Blocks
+pub mod Whole
+pub mod Following
+pub mod LaneShares
+pub mod StepFollows
+pub mod TreeFollows
+pub mod LaneLaws
+pub mod LaneShapes

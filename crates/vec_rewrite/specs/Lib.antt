@@ -1,0 +1,4 @@
+pub mod Vectors
+pub mod Turning
+pub mod Views
+pub mod Laws

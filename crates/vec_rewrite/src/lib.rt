@@ -1,0 +1,413 @@
+//! Formulas for lanes: factors for processors, cut into vectors and tiles.
+#![tactic(auto)]
+
+ghost use Rattle.std.specs.Prelude.{◌≡◌, ◌+◌, ◌*◌, ◌<◌, [], ◌∷◌, ◌++◌, All, IfOk, List, None, OnOk, map, ℕ};
+ghost use Rattle.tensor_paths.specs.declared.Tensor.TheVariants.{Blocks};
+ghost use Rattle.smp_rewrite.specs.Cut.{smp_of};
+ghost use Rattle.steps.specs.Meaning.{transform_of};
+ghost use Rattle.tree_model.specs.Admissible.{IsAdmissible};
+ghost use Rattle.tree_model.specs.Breakdown.{breakdown_of};
+ghost use Rattle.tree_model.specs.Cost.{cost_of};
+ghost use Rattle.smp_rewrite.specs.Smp.{smp_on, smp_share, within};
+ghost use Rattle.smp_rewrite.specs.Views.{plain_factor, plain_smp};
+ghost use Rattle.steps.specs.Step.{step, turns};
+ghost use Rattle.steps.specs.Views.{plain_core, plain_step};
+ghost use Rattle.vec_rewrite.specs.Laws.{HasRows, HasRowsUnder, IsLaned, IsSmpOf, PlainSteps, VecKeeps, VecShaped};
+ghost use Rattle.vec_rewrite.specs.Turning.{block_factors, grid_after, grouped, joined, kept, laned, laned_from, narrowed, order_after, parted, phase_of, settled, vec_of};
+ghost use Rattle.vec_rewrite.specs.Vectors.{factor_step, vec_on, vec_share, vec_steps};
+ghost use Rattle.vec_rewrite.specs.Views.{plain_vec, plain_vec_factor};
+
+#[cfg(test)]
+mod tests;
+
+use memory::NoMemory;
+use smp_rewrite::{Factor, SmpSpl, step_of, step_within, to_smp, within};
+use std::alloc::Global;
+use steps::{Core, Step};
+use tensor_paths::Tensor;
+use tree_model::{Ctx, Tree};
+
+/// A factor of a formula for processors and lanes.
+#[derive(Drop)]
+pub enum VecFactor {
+    /// The same step on each lane of each processor's block: in the block it is `A tensor I_v`, for v lanes.
+    Lanes(Step),
+    /// A diagonal over all words, of which each processor has an equal part.
+    Diagonals(Step),
+    /// A permutation of the vectors of all words, for the factor after it to take its words by.
+    MoveBefore(Step),
+    /// A permutation of the vectors of all words, for the factor before it to store its words by.
+    MoveAfter(Step),
+    /// The tile `L(v * v, v)` under these tensors in each processor's block.
+    Tiles(Vec<Tensor>),
+}
+
+/// A formula for processors and lanes: factors in the order in which they are applied.
+#[derive(Drop)]
+pub struct VecSpl {
+    pub procs: u64,
+    pub lanes: u64,
+    /// The factors of the root's right part; with one processor all of them.
+    pub first: Vec<VecFactor>,
+    /// The factors of the root's left part.
+    pub second: Vec<VecFactor>,
+}
+
+/// The processors, how many words the block of each has, and the lanes.
+#[derive(Clone, Copy)]
+struct Deal {
+    procs: u64,
+    block: u64,
+    lanes: u64,
+}
+
+/// How the rows of a block lie in groups: each has as many rows as there are lanes, side by side, and so many tiles reach across it.
+#[derive(Clone, Copy)]
+struct Grid {
+    groups: u64,
+    tiles: u64,
+}
+
+/// The formula of a tree for the request's processors and lanes.
+pub fn vec_of_tree(alloc: Global, c: &Ctx, tree: &Tree) -> Result<VecSpl, NoMemory>
+    requires { IsAdmissible c.now (breakdown_of tree.now) }
+    ensures form { IfOk result (λ g. plain_vec g ≡ vec_of c.now (smp_of c.now (breakdown_of tree.now))) }
+    ensures meaning { IfOk result (λ g. (x : List ℕ) → vec_on c.now (plain_vec g) x ≡ transform_of c.now c.now.size x) }
+    ensures operations { IfOk result (λ g. g.procs * vec_share c.now (plain_vec g) ≡ cost_of c.now (breakdown_of tree.now)) }
+    ensures shape { IfOk result (λ g. IsLaned c.now (plain_vec g)) }
+{
+    let f = to_smp(alloc, c, tree)?;
+    let g = to_vec(alloc, c, f)?;
+    Ok(g)
+}
+
+/// The formula for the request's lanes.
+pub fn to_vec(alloc: Global, c: &Ctx, f: SmpSpl) -> Result<VecSpl, NoMemory>
+    requires { IsSmpOf c.now (plain_smp f) }
+    ensures form { IfOk result (λ g. plain_vec g ≡ vec_of c.now (plain_smp f)) }
+    ensures meaning { IfOk result (λ g. (x : List ℕ) → vec_on c.now (plain_vec g) x ≡ smp_on c.now (plain_smp f) x) }
+    ensures operations { IfOk result (λ g. vec_share c.now (plain_vec g) ≡ smp_share c.now (plain_smp f)) }
+    ensures shape { IfOk result (λ g. IsLaned c.now (plain_vec g)) }
+{
+    let _request = c.request();
+    let formula = lanes_of(alloc, c, &f)?;
+    Ok(formula)
+}
+
+// Both phases.
+fn lanes_of(alloc: Global, c: &Ctx, f: &SmpSpl) -> Result<VecSpl, NoMemory>
+    requires { IsSmpOf c.now (plain_smp f.now) }
+    ensures { IfOk result (λ g. plain_vec g ≡ vec_of c.now (plain_smp f.now)) }
+{
+    let request = c.request();
+    let deal = Deal {
+        procs: f.procs,
+        block: request.size / f.procs,
+        lanes: request.lanes,
+    };
+    let first = phase(alloc, deal, &f.first)?;
+    let second = phase(alloc, deal, &f.second)?;
+    Ok(VecSpl {
+        procs: f.procs,
+        lanes: request.lanes,
+        first,
+        second,
+    })
+}
+
+// The factors of one phase.
+fn phase(alloc: Global, d: Deal, factors: &[Factor]) -> Result<Vec<VecFactor>, NoMemory>
+    requires lanes { 0 < d.lanes }
+    requires rows { All (λ f. HasRows (plain_factor f)) factors.now }
+    ensures { IfOk result (λ out. map plain_vec_factor out.items ≡ phase_of d (map plain_factor factors.now)) }
+{
+    if d.lanes == 1 {
+        let same = kept_all(alloc, factors)?;
+        Ok(same)
+    } else {
+        let cut = laned_all(alloc, d, factors)?;
+        Ok(cut)
+    }
+}
+
+// On one lane each factor is as it was.
+fn kept_all(alloc: Global, factors: &[Factor]) -> Result<Vec<VecFactor>, NoMemory>
+    ensures { IfOk result (λ out. map plain_vec_factor out.items ≡ map kept (map plain_factor factors.now)) }
+{
+    let mut out = Vec::new(alloc);
+    for factor in factors {
+        let same = kept(alloc, factor)?;
+        out.push(same)?;
+    }
+    Ok(out)
+}
+
+fn kept(alloc: Global, factor: &Factor) -> Result<VecFactor, NoMemory>
+    ensures { IfOk result (λ f. plain_vec_factor f ≡ kept (plain_factor factor.now)) }
+{
+    match factor {
+        Factor::Blocks(s) => Ok(VecFactor::Lanes(step_of(alloc, &s.path, &s.core)?)),
+        Factor::Diagonals(s) => Ok(VecFactor::Diagonals(step_of(alloc, &s.path, &s.core)?)),
+        Factor::MoveBefore(s) => Ok(VecFactor::MoveBefore(step_of(alloc, &s.path, &s.core)?)),
+        Factor::MoveAfter(s) => Ok(VecFactor::MoveAfter(step_of(alloc, &s.path, &s.core)?)),
+    }
+}
+
+// The factors on several lanes.
+fn laned_all(alloc: Global, d: Deal, factors: &[Factor]) -> Result<Vec<VecFactor>, NoMemory>
+    requires lanes { 0 < d.lanes }
+    requires rows { All (λ f. HasRows (plain_factor f)) factors.now }
+    ensures { IfOk result (λ out. map plain_vec_factor out.items ≡ laned_from d None (map plain_factor factors.now)) }
+{
+    let mut out = Vec::new(alloc);
+    let mut order = None;
+    for factor in factors {
+        add_laned(alloc, d, &mut out, order, factor)?;
+        order = order_after(d, factor);
+    }
+    add_settled(alloc, d, &mut out, order)?;
+    Ok(out)
+}
+
+// The groups in which the words lie after a factor, if any.
+fn order_after(d: Deal, factor: &Factor) -> Option<Grid>
+    requires lanes { 0 < d.lanes }
+    requires rows { HasRows (plain_factor factor.now) }
+    ensures { result ≡ order_after d (plain_factor factor.now) }
+{
+    match factor {
+        Factor::Blocks(step) => grid_after(d, step),
+        Factor::Diagonals(_) | Factor::MoveBefore(_) | Factor::MoveAfter(_) => None,
+    }
+}
+
+fn grid_after(d: Deal, step: &Step) -> Option<Grid>
+    requires lanes { 0 < d.lanes }
+    requires rows { HasRowsUnder (plain_step step.now).path }
+    ensures { result ≡ grid_after d (plain_step step.now).path (plain_step step.now).core }
+{
+    match (step.path.split_first(), &step.core) {
+        (None, Core::Turns { rows, cols }) => Some(Grid {
+            groups: rows / d.lanes,
+            tiles: cols / d.lanes,
+        }),
+        (Some((Tensor::Blocks(rows), _)), _) => Some(Grid {
+            groups: rows / d.lanes,
+            tiles: d.block / rows / d.lanes,
+        }),
+        _ => None,
+    }
+}
+
+// Appends the factors of a factor, where the words may lie in groups.
+fn add_laned(
+    alloc: Global,
+    d: Deal,
+    out: &mut Vec<VecFactor>,
+    order: Option<Grid>,
+    factor: &Factor,
+) -> Result<(), NoMemory>
+    requires lanes { 0 < d.lanes }
+    requires rows { HasRows (plain_factor factor.now) }
+    ensures { OnOk result (map plain_vec_factor out.new.items ≡ map plain_vec_factor out.old.items ++ laned d order (plain_factor factor.now)) }
+{
+    match factor {
+        Factor::Blocks(step) => add_block(alloc, d, out, order, step),
+        Factor::Diagonals(step) => {
+            add_settled(alloc, d, out, order)?;
+            out.push(VecFactor::Diagonals(step_of(alloc, &step.path, &step.core)?))?;
+            Ok(())
+        }
+        Factor::MoveBefore(step) => {
+            add_settled(alloc, d, out, order)?;
+            out.push(VecFactor::MoveBefore(narrowed(alloc, d.lanes, step)?))?;
+            Ok(())
+        }
+        Factor::MoveAfter(step) => {
+            add_settled(alloc, d, out, order)?;
+            out.push(VecFactor::MoveAfter(narrowed(alloc, d.lanes, step)?))?;
+            Ok(())
+        }
+    }
+}
+
+// Appends the factors of a block's step, where the words may lie in groups.
+fn add_block(
+    alloc: Global,
+    d: Deal,
+    out: &mut Vec<VecFactor>,
+    order: Option<Grid>,
+    step: &Step,
+) -> Result<(), NoMemory>
+    requires lanes { 0 < d.lanes }
+    requires rows { HasRowsUnder (plain_step step.now).path }
+    ensures { OnOk result (map plain_vec_factor out.new.items ≡ map plain_vec_factor out.old.items ++ block_factors d order (plain_step step.now).path (plain_step step.now).core) }
+{
+    match (step.path.split_first(), &step.core) {
+        (None, Core::Turns { rows, cols }) => {
+            let turns = Core::Turns {
+                rows: rows / d.lanes,
+                cols: *cols,
+            };
+            add_settled(alloc, d, out, order)?;
+            out.push(VecFactor::Lanes(step_of(alloc, &[], &turns)?))?;
+        }
+        (Some((Tensor::Blocks(rows), rest)), core) => {
+            let grid = Grid {
+                groups: rows / d.lanes,
+                tiles: d.block / rows / d.lanes,
+            };
+            add_grouped(alloc, d, out, order, grid)?;
+            let lane = step_within(alloc, Tensor::Blocks(grid.groups), rest, core)?;
+            out.push(VecFactor::Lanes(lane))?;
+        }
+        (None | Some((Tensor::Columns(_), _)), Core::Twiddles { .. }) => {
+            let whole = step_within(alloc, Tensor::Blocks(d.procs), &step.path, &step.core)?;
+            add_settled(alloc, d, out, order)?;
+            out.push(VecFactor::Diagonals(whole))?;
+        }
+        _ => {
+            add_settled(alloc, d, out, order)?;
+            out.push(VecFactor::Lanes(narrowed(alloc, d.lanes, step)?))?;
+        }
+    }
+    Ok(())
+}
+
+// What each lane does of a step in columns.
+fn narrowed(alloc: Global, lanes: u64, step: &Step) -> Result<Step, NoMemory>
+    requires { 0 < lanes }
+    ensures { IfOk result (λ s. plain_step s ≡ narrowed lanes (plain_step step.now).path (plain_step step.now).core) }
+{
+    match step.path.split_first() {
+        Some((Tensor::Columns(cols), rest)) => {
+            step_within(alloc, Tensor::Columns(cols / lanes), rest, &step.core)
+        }
+        Some((Tensor::Blocks(_), _)) | None => step_of(alloc, &step.path, &step.core),
+    }
+}
+
+// Brings the words into their own order, where they may lie in groups.
+fn add_settled(
+    alloc: Global,
+    d: Deal,
+    out: &mut Vec<VecFactor>,
+    order: Option<Grid>,
+) -> Result<(), NoMemory>
+    ensures { OnOk result (map plain_vec_factor out.new.items ≡ map plain_vec_factor out.old.items ++ settled d order) }
+{
+    let Some(grid) = order else { return Ok(()) };
+    out.push(VecFactor::Tiles(tiles(alloc, grid)?))?;
+    let back = group_turn(alloc, d, grid, d.lanes, grid.tiles)?;
+    out.push(VecFactor::MoveAfter(back))?;
+    Ok(())
+}
+
+// Brings the words into groups, where they may lie so already.
+fn add_grouped(
+    alloc: Global,
+    d: Deal,
+    out: &mut Vec<VecFactor>,
+    order: Option<Grid>,
+    grid: Grid,
+) -> Result<(), NoMemory>
+    ensures { OnOk result (map plain_vec_factor out.new.items ≡ map plain_vec_factor out.old.items ++ grouped d order grid) }
+{
+    if order.is_some() {
+        return Ok(());
+    }
+    let there = group_turn(alloc, d, grid, grid.tiles, d.lanes)?;
+    out.push(VecFactor::MoveBefore(there))?;
+    out.push(VecFactor::Tiles(tiles(alloc, grid)?))?;
+    Ok(())
+}
+
+// The tensors of the tiles of a block.
+fn tiles(alloc: Global, grid: Grid) -> Result<Vec<Tensor>, NoMemory>
+    ensures { IfOk result (λ path. path.items ≡ within (Blocks grid.groups) (within (Blocks grid.tiles) [])) }
+{
+    let across = within(alloc, Tensor::Blocks(grid.tiles), &[])?;
+    within(alloc, Tensor::Blocks(grid.groups), &across)
+}
+
+// `L(rows * cols, rows)` in each group of each block.
+fn group_turn(alloc: Global, d: Deal, grid: Grid, rows: u64, cols: u64) -> Result<Step, NoMemory>
+    ensures { IfOk result (λ s. plain_step s ≡ step (within (Blocks d.procs) (within (Blocks grid.groups) [])) (turns rows cols)) }
+{
+    let groups = within(alloc, Tensor::Blocks(grid.groups), &[])?;
+    step_within(
+        alloc,
+        Tensor::Blocks(d.procs),
+        &groups,
+        &Core::Turns { rows, cols },
+    )
+}
+
+/// The steps of a formula for processors and lanes, on all words.
+pub fn steps_of_vec(alloc: Global, g: &VecSpl) -> Result<Vec<Step>, NoMemory>
+    ensures { IfOk result (λ steps. map plain_step steps.items ≡ vec_steps (plain_vec g.now)) }
+{
+    let mut steps = Vec::new(alloc);
+    add_steps(alloc, g.procs, g.lanes, &mut steps, &g.first)?;
+    add_steps(alloc, g.procs, g.lanes, &mut steps, &g.second)?;
+    Ok(steps)
+}
+
+fn add_steps(
+    alloc: Global,
+    procs: u64,
+    lanes: u64,
+    steps: &mut Vec<Step>,
+    factors: &[VecFactor],
+) -> Result<(), NoMemory>
+    ensures { OnOk result (map plain_step steps.new.items ≡ map plain_step steps.old.items ++ map (factor_step procs lanes) (map plain_vec_factor factors.now)) }
+{
+    for factor in factors {
+        let step = step_of_factor(alloc, procs, lanes, factor)?;
+        steps.push(step)?;
+    }
+    Ok(())
+}
+
+// The step that a factor is on all words.
+fn step_of_factor(
+    alloc: Global,
+    procs: u64,
+    lanes: u64,
+    factor: &VecFactor,
+) -> Result<Step, NoMemory>
+    ensures { IfOk result (λ s. plain_step s ≡ factor_step procs lanes (plain_vec_factor factor.now)) }
+{
+    match factor {
+        VecFactor::Lanes(s) => {
+            let path = within(alloc, Tensor::Columns(lanes), &s.path)?;
+            step_within(alloc, Tensor::Blocks(procs), &path, &s.core)
+        }
+        VecFactor::Diagonals(s) => step_of(alloc, &s.path, &s.core),
+        VecFactor::MoveBefore(s) | VecFactor::MoveAfter(s) => {
+            step_within(alloc, Tensor::Columns(lanes), &s.path, &s.core)
+        }
+        VecFactor::Tiles(path) => {
+            let tile = Core::Turns {
+                rows: lanes,
+                cols: lanes,
+            };
+            step_within(alloc, Tensor::Blocks(procs), path, &tile)
+        }
+    }
+}
+
+/// For one processor and one lane the steps of a tree stay as they are: a law of the definitions.
+pub fn plain_steps()
+    ensures { PlainSteps }
+{}
+
+/// The lanes of a tree's formula do what it does, in as many operations: a law of the definitions.
+pub fn vec_keeps()
+    ensures { VecKeeps }
+{}
+
+/// Each factor of a tree's formula is `A tensor I_v` or tiles in blocks of equal size, a diagonal of equal parts, or a permutation of vectors: a law of the definitions.
+pub fn vec_shaped()
+    ensures { VecShaped }
+{}
