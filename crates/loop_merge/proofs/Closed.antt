@@ -1,8 +1,6 @@
 -- The functions of a tree's passes take the places of the whole to places of it, and every number on the way fits 64 bits.
-use Rattle.std.proofs.Common.{◌≡◌, ℕ, ◌*◌, ◌/◌, ◌%◌, ◌<◌, ◌≤◌, Bool, true, false, arith, List, [], ◌∷◌, ◌++◌, if◌then◌else◌, subst, ◌∙◌, mod-lt, div-lt_iff_lt-mul, mul-le-mul_left, le-mul_of_pos_right}
+use Rattle.std.proofs.Common.{◌≡◌, ℕ, ◌*◌, ◌/◌, ◌%◌, ◌<◌, ◌≤◌, Bool, true, false, arith, List, [], ◌∷◌, ◌++◌, if◌then◌else◌, subst, ◌∙◌, mod-lt, div-lt_iff_lt-mul}
 use Rattle.std.specs.Prelude.{Some}
-use Rattle.std.proofs.Math.Nat.{div-add-mod'}
-use Rattle.std.proofs.lemmas.Nat.{mul-le, mul-lt}
 use Rattle.index_fn.specs.Mapping.{Mapping, Strided, ThomasIn, ThomasBack, at, IsDefinedAt}
 use Rattle.matrix_meaning.specs.declared.Request.{Request}
 use Rattle.matrix_meaning.specs.Valid.{IsValid}
@@ -16,11 +14,10 @@ use Rattle.loop_merge.specs.Placed.{diagonal_places}
 use Rattle.loop_merge.specs.Reach.{AreDefined, AreFormed}
 use Rattle.loop_merge.proofs.MergeMeaning.{IsRule, is_rule, coprime_of}
 use Rattle.loop_merge.proofs.PlaceLimits.{none_is_some, multiplied-is}
-use Rattle.loop_merge.proofs.PlaceRoom.{le-mul_left}
 use Rattle.loop_merge.proofs.TreePasses.{rule_waiting, rule_passes, tree_passes}
 use Rattle.sigma_lower.specs.Wrapped.{wrapped, inner_of, unit_of}
+pub use Rattle.sigma_lower.proofs.Closed.{IsClosed, closed-wrapped, thomas_in-closed, thomas_back-closed}
 use Rattle.sigma_lower.proofs.Lowering.{turns_below, unit_small}
-use Rattle.sigma_lower.proofs.Permuted.{StaysBelow, wrapped-below}
 use Rattle.tensor_paths.specs.declared.Tensor.TheVariants.{Blocks, Columns}
 use Rattle.tensor_paths.specs.Path.{Path, size_under}
 use Rattle.tensor_paths.proofs.Under.{size_under-push}
@@ -28,11 +25,6 @@ use Rattle.tree_model.specs.declared.tree.Rule.{Rule}
 use Rattle.tree_model.specs.declared.tree.Rule.TheVariants.{Gt, Ct, Split}
 use Rattle.tree_model.specs.Breakdown.{Breakdown, leaf, node, size_of, IsWellFormed}
 use Rattle.tree_model.specs.Cost.{is_kernel}
-
--- a function of the numbers below n
-pub record IsClosed (n : ℕ) (f : Mapping) : Type 0 where
-  pub defined : (i : ℕ) → i < n → IsDefinedAt f i
-  pub below : StaysBelow n (at f)
 
 abbrev pub AreClosed : ℕ → List Mapping → Type 0
 AreClosed n [] = Unit {0}
@@ -43,24 +35,6 @@ closed-append n [] f h g = (g, tt)
 closed-append n (e ∷ fs) f h g = (h.0, closed-append n fs f h.1 g)
 
 -- ---- under tensors
-
-wrapped-defined : (path : Path) (n : ℕ) (f : Mapping) → IsClosed n f → size_under path n ≤ 65536 → (i : ℕ) → i < size_under path n → IsDefinedAt (wrapped path n f) i
-wrapped-defined [] n f h high i below = h.defined i below
-wrapped-defined (Blocks c ∷ path) n f h high i below =
-    let size = size_under path n in
-    let positive : 0 < size = factor_positive c size i below in
-    let count : 0 < c = factor_positive size c i (omega arith) in
-    let within : size ≤ c * size = le-mul_left c size count in
-    (tt, wrapped-defined path n f h (omega arith) (i % size) (mod-lt i positive), omega (arith, wrapped-below (Blocks c ∷ path) n f h.below i below))
-wrapped-defined (Columns c ∷ path) n f h high i below =
-    let size = size_under path n in
-    let positive : 0 < c = factor_positive size c i below in
-    let within : size ≤ size * c = le-mul_of_pos_right {m = c} size positive in
-    (wrapped-defined path n f h (omega arith) (i / c) ((div-lt_iff_lt-mul positive).1 below), tt, omega (arith, wrapped-below (Columns c ∷ path) n f h.below i below))
-
-closed-wrapped : (c : Request) (path : Path) (n : ℕ) (f : Mapping) → c.size ≤ 65536 → size_under path n ≡ c.size → IsClosed n f → IsClosed c.size (wrapped path n f)
-closed-wrapped c path n f high e h =
-    subst (λ m. IsClosed m (wrapped path n f)) e (record { defined = wrapped-defined path n f h (omega arith); below = wrapped-below path n f h.below })
 
 inner-below : (path : Path) (n i : ℕ) → i < size_under path n → at (inner_of path n) i < n
 inner-below [] n i below = below
@@ -83,28 +57,6 @@ closed-inner c path n high e within =
     subst (λ m. IsClosed m (inner_of path n)) e (record { defined = inner-defined path n (omega arith); below = λ i below. omega (arith, inner-below path n i below) })
 
 -- ---- the permutations of a rule
-
-thomas_in-closed : (r s : ℕ) → 0 < r → 0 < s → r * s ≤ 65536 → IsClosed (r * s) (ThomasIn r s)
-thomas_in-closed r s pr ps high =
-    record {
-      defined = λ i below.
-          let part : r * (i % s) ≤ r * s = mul-le-mul_left r (omega (arith, mod-lt i ps)) in
-          (below, omega (arith, div-add-mod' i s));
-      below = λ i below. mod-lt _ (mul-lt 0 0 r s pr ps);
-    }
-
-thomas_back-closed : (r s u v : ℕ) → 0 < r → 0 < s → r * s ≤ 65536 → u < r * s → v < r * s → IsClosed (r * s) (ThomasBack r s u v)
-thomas_back-closed r s u v pr ps high pu pv =
-    record {
-      defined = λ i below.
-          let row : i / s < r = (div-lt_iff_lt-mul ps).1 below in
-          let rows : r ≤ r * s = le-mul_of_pos_right {m = s} r ps in
-          let columns : s ≤ r * s = le-mul_left r s pr in
-          let one : i / s * u ≤ 65536 * 65536 = mul-le (i / s) u 65536 65536 (omega arith) (omega arith) in
-          let other : i % s * v ≤ 65536 * 65536 = mul-le (i % s) v 65536 65536 (omega (arith, mod-lt i ps)) (omega arith) in
-          (below, omega arith);
-      below = λ i below. mod-lt _ (mul-lt 0 0 r s pr ps);
-    }
 
 waiting_closed : (c : Request) (rule : Rule) (path : Path) (r s : ℕ) (waiting : List Mapping) → c.size ≤ 65536 → IsRule c rule path r s → AreClosed c.size waiting → AreClosed c.size (rule_waiting rule path r s waiting)
 waiting_closed c Gt path r s waiting high h w = (closed-wrapped c path (r * s) (ThomasIn r s) high h.size (thomas_in-closed r s h.left h.right h.small), w)

@@ -14,3 +14,4 @@ pub mod Reaching
 pub mod ListedPlaces
 pub mod PassesStore
 pub mod Worked
+pub mod Walks

@@ -31,7 +31,7 @@ use Rattle.loop_merge.proofs.PlaceValues.{IsFormedPass, AreFormedPasses, formed-
 use Rattle.loop_merge.proofs.Shaped.{IsWide, IsShaped, AreShaped, shaped_passes}
 use Rattle.loop_merge.proofs.TreePasses.{tree_passes, merged_of-tree}
 use Rattle.sigma_lower.proofs.Lowering.{part-le}
-use Rattle.sigma_lower.proofs.Roomy.{has_room}
+use Rattle.sigma_spl.proofs.Moves.{has_room}
 use Rattle.steps.proofs.WordSizes.{word_sizes}
 use Rattle.tensor_paths.specs.declared.Tensor.TheVariants.{Blocks, Columns}
 use Rattle.tensor_paths.specs.Path.{Path, count_of, size_under, copies_of}

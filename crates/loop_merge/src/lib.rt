@@ -1,25 +1,30 @@
 //! Permutations and diagonals merged into the loops beside them (Franchetti et al., 2005).
 #![tactic(auto)]
 
-ghost use Rattle.std.specs.Prelude.{◌≡◌, ℕ, List, [], ◌∷◌, ◌++◌, IfOk, OnOk, map};
+ghost use Rattle.std.specs.Prelude.{◌≡◌, ℕ, List, IfOk, map};
 ghost use Rattle.index_fn.specs.Index.{mapping_of};
 ghost use Rattle.loop_merge.specs.Laws.{counted, MergeKeeps, MergeCounts};
-ghost use Rattle.loop_merge.specs.Merge.{Merging, scattered, multiplied, at_last, merge_term, merged, merged_of, passes_on};
+ghost use Rattle.loop_merge.specs.Merge.{scattered, multiplied, at_last, merged_of, passes_on};
 ghost use Rattle.loop_merge.specs.Placed.{AllLimited, AreValuesOf, PlacesAreLimited, PlacesAreValues};
 ghost use Rattle.loop_merge.specs.Stores.{PassesStore};
-ghost use Rattle.loop_merge.specs.Views.{plain_pass, plain_merging};
-ghost use Rattle.sigma_lower.specs.Views.{plain_term};
+ghost use Rattle.loop_merge.specs.Views.{plain_pass, plain_walked};
+ghost use Rattle.loop_merge.specs.Walk.{walked, with_gather, with_scatter, with_term, passes_in};
+ghost use Rattle.sigma_lower.specs.Term.{diag, nest};
+ghost use Rattle.sigma_spl.specs.Views.{plain_places, plain_sigma};
 ghost use Rattle.steps.specs.Meaning.{transform_of};
 ghost use Rattle.tree_model.specs.Admissible.{IsAdmissible};
 ghost use Rattle.tree_model.specs.Breakdown.{breakdown_of};
 ghost use Rattle.tree_model.specs.Passes.{passes_of};
 
 mod listed;
+mod merged;
 
 use index_fn::Index;
-pub use listed::{ListedPass, Multiplier, listed_passes, listed_places};
+pub use listed::{ListedPass, Multiplier, listed_places};
 use memory::NoMemory;
-use sigma_lower::{Term, lower};
+pub use merged::{Merged, merge, merged_tree};
+use sigma_lower::lower;
+use sigma_spl::{Places, Sigma};
 use std::alloc::Global;
 use steps::steps_of_tree;
 use tensor_paths::Tensor;
@@ -44,9 +49,11 @@ pub struct Pass {
     pub afters: Vec<Index>,
 }
 
-/// The gathers that wait for the next pass, the latest first, and the passes so far.
+/// The path of the copies that were gathered last, the gathers that wait for the next pass, the latest first, and the
+/// passes so far.
 #[derive(Drop)]
 pub struct State {
+    pub path: Vec<Tensor>,
     pub waiting: Vec<Index>,
     pub passes: Vec<Pass>,
 }
@@ -62,64 +69,157 @@ pub fn passes_of_tree(alloc: Global, c: &Ctx, tree: &Tree) -> Result<Vec<Pass>, 
 {
     let _request = c.request();
     let steps = steps_of_tree(alloc, c, tree)?;
-    let terms = lower(alloc, &steps)?;
-    let passes = merge(alloc, &terms)?;
+    let formula = lower(alloc, c, &steps)?;
+    let passes = passes_of_formula(alloc, &formula)?;
     Ok(passes)
 }
 
-/// The passes of terms: each gather goes into the pass after it, and each scatter or diagonal into the pass before it.
-pub fn merge(alloc: Global, terms: &[Term]) -> Result<Vec<Pass>, NoMemory>
-    ensures { let start : Merging = record { waiting = []; passes = [] } in IfOk result (λ passes. map plain_pass passes.items ≡ (merged start (map plain_term terms.now)).passes) }
+/// The passes of a formula: each gather goes into the pass after it, and each scatter or diagonal into the pass before it.
+pub fn passes_of_formula(alloc: Global, formula: &Sigma) -> Result<Vec<Pass>, NoMemory>
+    ensures { IfOk result (λ passes. map plain_pass passes.items ≡ passes_in (plain_sigma formula.now)) }
 {
-    let mut state = State {
+    let start = State {
+        path: Vec::new(alloc),
         waiting: Vec::new(alloc),
         passes: Vec::new(alloc),
     };
-    for term in terms {
-        state = merge_one(alloc, state, term)?;
-    }
+    let state = walk(alloc, start, formula)?;
     Ok(state.passes)
 }
 
-// One term more.
-fn merge_one(alloc: Global, state: State, term: &Term) -> Result<State, NoMemory>
-    ensures { IfOk result (λ next. plain_merging next ≡ merge_term (plain_merging state) (plain_term term.now)) }
+// The parts of a formula, in the order in which they are applied.
+fn walk(alloc: Global, state: State, formula: &Sigma) -> Result<State, NoMemory>
+    ensures { IfOk result (λ next. plain_walked next ≡ walked (plain_walked state) (plain_sigma formula.now)) }
 {
-    let State { waiting, passes } = state;
-    match term {
-        Term::Gath(f) => {
+    match formula {
+        Sigma::Sum { body, .. } => {
+            let next = walk(alloc, state, body)?;
+            Ok(next)
+        }
+        Sigma::Gath(places) => {
+            let next = gather(alloc, state, places)?;
+            Ok(next)
+        }
+        Sigma::Scat(places) => {
+            let next = scatter_whole(alloc, state, places)?;
+            Ok(next)
+        }
+        Sigma::DiagAt { path, rows, cols } => {
+            let next = multiply_whole(alloc, state, path, *rows, *cols)?;
+            Ok(next)
+        }
+        Sigma::Kernel(tree) | Sigma::Dense(tree) => {
+            let next = begin_pass(alloc, state, tree)?;
+            Ok(next)
+        }
+        Sigma::Tile { .. } => Ok(state),
+        Sigma::Compose(a, b) => {
+            let next = walk(alloc, state, b)?;
+            let last = walk(alloc, next, a)?;
+            Ok(last)
+        }
+    }
+}
+
+// A gather waits, and that of a copy says which copies the next pass runs over.
+fn gather(alloc: Global, state: State, places: &Places) -> Result<State, NoMemory>
+    ensures { IfOk result (λ next. plain_walked next ≡ with_gather (plain_walked state) (plain_places places.now)) }
+{
+    let State {
+        path: old,
+        waiting,
+        passes,
+    } = state;
+    match places {
+        Places::Whole(f) => {
             let mut waiting = waiting;
             waiting.insert(0, f.copy(alloc)?)?;
-            Ok(State { waiting, passes })
-        }
-        Term::Scat(f) => {
-            let f = f.copy(alloc)?;
-            let passes = scatter_last(passes, f)?;
-            Ok(State { waiting, passes })
-        }
-        Term::DiagAt { path, rows, cols } => {
-            let path = path.as_slice().to_vec(alloc)?;
-            let passes = multiply_last(alloc, passes, path, *rows, *cols)?;
-            Ok(State { waiting, passes })
-        }
-        Term::Nest { path, tree } => {
-            let path = path.as_slice().to_vec(alloc)?;
-            let tree = tree.copied(alloc)?;
-            let pass = Pass {
-                path,
-                tree,
-                befores: waiting,
-                diagonal: None,
-                afters: Vec::new(alloc),
-            };
-            let mut passes = passes;
-            passes.push(pass)?;
             Ok(State {
-                waiting: Vec::new(alloc),
+                path: old,
+                waiting,
+                passes,
+            })
+        }
+        Places::Copy { path, .. } => {
+            let path = path.as_slice().to_vec(alloc)?;
+            Ok(State {
+                path,
+                waiting,
                 passes,
             })
         }
     }
+}
+
+fn scatter_whole(alloc: Global, state: State, places: &Places) -> Result<State, NoMemory>
+    ensures { IfOk result (λ next. plain_walked next ≡ with_scatter (plain_walked state) (plain_places places.now)) }
+{
+    match places {
+        Places::Whole(f) => {
+            let State {
+                path,
+                waiting,
+                passes,
+            } = state;
+            let f = f.copy(alloc)?;
+            let passes = scatter_last(passes, f)?;
+            Ok(State {
+                path,
+                waiting,
+                passes,
+            })
+        }
+        Places::Copy { .. } => Ok(state),
+    }
+}
+
+fn multiply_whole(
+    alloc: Global,
+    state: State,
+    diagonal: &[Tensor],
+    rows: u64,
+    cols: u64,
+) -> Result<State, NoMemory>
+    ensures { IfOk result (λ next. plain_walked next ≡ with_term (plain_walked state) (diag diagonal.now rows cols)) }
+{
+    let State {
+        path,
+        waiting,
+        passes,
+    } = state;
+    let diagonal = diagonal.to_vec(alloc)?;
+    let passes = multiply_last(alloc, passes, diagonal, rows, cols)?;
+    Ok(State {
+        path,
+        waiting,
+        passes,
+    })
+}
+
+fn begin_pass(alloc: Global, state: State, tree: &Tree) -> Result<State, NoMemory>
+    ensures { IfOk result (λ next. plain_walked next ≡ with_term (plain_walked state) (nest (plain_walked state).path (breakdown_of tree.now))) }
+{
+    let State {
+        path,
+        waiting,
+        passes,
+    } = state;
+    let copies = path.as_slice().to_vec(alloc)?;
+    let tree = tree.copied(alloc)?;
+    let pass = Pass {
+        path: copies,
+        tree,
+        befores: waiting,
+        diagonal: None,
+        afters: Vec::new(alloc),
+    };
+    let mut passes = passes;
+    passes.push(pass)?;
+    Ok(State {
+        path,
+        waiting: Vec::new(alloc),
+        passes,
+    })
 }
 
 fn scatter_last(passes: Vec<Pass>, f: Index) -> Result<Vec<Pass>, NoMemory>

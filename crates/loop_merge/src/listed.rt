@@ -1,11 +1,10 @@
 // The passes of a tree, with the place of each item as a sum of the loops' variables.
 ghost use Rattle.std.specs.List.{range_with_len};
-ghost use Rattle.std.specs.Prelude.{◌≡◌, ◌*◌, ◌^◌, ◌<◌, ◌++◌, ◌∷◌, [], IsTrue, IfOk, All, length, map, slice_index};
+ghost use Rattle.std.specs.Prelude.{◌≡◌, ◌*◌, ◌^◌, ◌<◌, ◌++◌, ◌∷◌, [], IfOk, All, length, map, slice_index};
 ghost use Rattle.index_fn.specs.Index.{mapping_of};
 ghost use Rattle.loop_merge.specs.Listed.{items_of, places_of, PlainMultiplier, listed_of};
 ghost use Rattle.loop_merge.specs.ListedLaw.{ListedPlaces};
 ghost use Rattle.loop_merge.specs.ListedViews.{plain_multiplier, plain_listed};
-ghost use Rattle.loop_merge.specs.Merge.{merged_of};
 ghost use Rattle.loop_merge.specs.Placed.{AllRoom, place_sum, all_simplified, diagonal_places};
 ghost use Rattle.loop_merge.specs.Reach.{AreDefined, AreFormed, CanName, CanReach, IsReachable};
 ghost use Rattle.loop_merge.specs.Views.{plain_diagonal, plain_pass};
@@ -15,11 +14,8 @@ ghost use Rattle.perm_algebra.specs.Views.{plain_sum};
 ghost use Rattle.sigma_lower.specs.Room.{HasRoom};
 ghost use Rattle.sigma_lower.specs.Wrapped.{inner_of};
 ghost use Rattle.tensor_paths.specs.Path.{count_of};
-ghost use Rattle.tree_model.specs.Admissible.{IsAdmissible};
-ghost use Rattle.tree_model.specs.Breakdown.{breakdown_of};
-ghost use Rattle.tree_model.specs.Cost.{is_plain};
 
-use crate::{Diagonal, Pass, copies, passes_of_tree};
+use crate::{Diagonal, Pass, copies};
 use index_fn::Index;
 use memory::NoMemory;
 use perm_algebra::{Affine, copy, join, scale_sum, simplify};
@@ -49,19 +45,8 @@ pub struct ListedPass {
     pub scatters: Vec<Affine>,
 }
 
-/// The passes of a tree, on one processor and one lane.
-pub fn listed_passes(alloc: Global, c: &Ctx, tree: &Tree) -> Result<Vec<ListedPass>, NoMemory>
-    requires admissible { IsAdmissible c.now (breakdown_of tree.now) }
-    requires plain { IsTrue (is_plain c.now) }
-    ensures { IfOk result (λ passes. map plain_listed passes.items ≡ map (listed_of c.now) (merged_of c.now (breakdown_of tree.now))) }
-{
-    let _request = c.request();
-    let passes = passes_of_tree(alloc, c, tree)?;
-    let listed = list_all(alloc, c, &passes)?;
-    Ok(listed)
-}
-
-fn list_all(alloc: Global, c: &Ctx, passes: &[Pass]) -> Result<Vec<ListedPass>, NoMemory>
+/// The passes, with the places of their items.
+pub(crate) fn list_all(alloc: Global, c: &Ctx, passes: &[Pass]) -> Result<Vec<ListedPass>, NoMemory>
     requires { All (λ p. IsReachable c.now (plain_pass p)) passes.now }
     ensures { IfOk result (λ listed. map plain_listed listed.items ≡ map (listed_of c.now) (map plain_pass passes.now)) }
 {
@@ -296,6 +281,7 @@ pub fn listed_places()
 #[cfg(test)]
 mod tests {
     use super::*;
+    use crate::{Merged, merged_tree};
     use matrix_meaning::{Kind, Request};
     use std::test::Fail;
     use tree_model::admissible;
@@ -328,22 +314,29 @@ mod tests {
         }
     }
 
-    fn listing(alloc: Global, passes: &[ListedPass]) -> Result<String, Fail> {
+    fn listing(alloc: Global, merged: &Merged) -> Result<String, Fail> {
         let mut text = String::new(alloc);
-        for pass in passes {
-            for sum in &pass.gathers {
-                text.push_str(format!(in alloc; "ld {sum}; ")?.as_str())?;
-            }
-            if let Some(multiplier) = &pass.multiplier {
-                for sum in &multiplier.places {
-                    text.push_str(format!(in alloc; "mul {sum}; ")?.as_str())?;
-                }
-            }
-            for sum in &pass.scatters {
-                text.push_str(format!(in alloc; "st {sum}; ")?.as_str())?;
+        for phase in &merged.phases {
+            for pass in phase {
+                list_pass(alloc, &mut text, pass)?;
             }
         }
         Ok(text)
+    }
+
+    fn list_pass(alloc: Global, text: &mut String, pass: &ListedPass) -> Result<(), Fail> {
+        for sum in &pass.gathers {
+            text.push_str(format!(in alloc; "ld {sum}; ")?.as_str())?;
+        }
+        if let Some(multiplier) = &pass.multiplier {
+            for sum in &multiplier.places {
+                text.push_str(format!(in alloc; "mul {sum}; ")?.as_str())?;
+            }
+        }
+        for sum in &pass.scatters {
+            text.push_str(format!(in alloc; "st {sum}; ")?.as_str())?;
+        }
+        Ok(())
     }
 
     // By hand, from the places of a step by strides: `k * 2 + i` before it and `i * 2 + k` after its right part.
@@ -356,9 +349,9 @@ mod tests {
         let tree = Tree::Ct(left, right);
         assert!(rt; admissible(&c, &tree));
         assert!(rt; c.is_plain());
-        let passes = listed_passes(alloc, &c, &tree)?;
+        let merged = merged_tree(alloc, &c, &tree)?;
         assert_eq!(rt;
-            listing(alloc, &passes)?.as_str(),
+            listing(alloc, &merged)?.as_str(),
             "ld 0+v0*1; ld 2+v0*1; mul 0+v0*2; mul 1+v0*2; st 0+v0*2; st 1+v0*2; ld 0+v0*1; ld 2+v0*1; st 0+v0*1; st 2+v0*1; "
         );
         Ok(())
@@ -374,9 +367,9 @@ mod tests {
         let tree = Tree::Gt(left, right);
         assert!(rt; admissible(&c, &tree));
         assert!(rt; c.is_plain());
-        let passes = listed_passes(alloc, &c, &tree)?;
+        let merged = merged_tree(alloc, &c, &tree)?;
         assert_eq!(rt;
-            listing(alloc, &passes)?.as_str(),
+            listing(alloc, &merged)?.as_str(),
             "ld 0+(0+v0*3+v2*2)%6*1; st 0+v0*3+v1*1; ld 0+v0*1; ld 3+v0*1; st 0+(0+v0*4)%6*1; st 0+(3+v0*4)%6*1; "
         );
         Ok(())

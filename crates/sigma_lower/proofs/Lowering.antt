@@ -1,8 +1,8 @@
 -- Each term does what its step does.
-use Rattle.std.proofs.Common.{◌≡◌, ◌≢◌, ℕ, zero, suc, ◌*◌, ◌%◌, ◌<◌, ◌≤◌, Bool, true, false, arith, refl, sym, ap, ◌∙◌, List, [], ◌∷◌, ◌++◌, inl, inr, mod-lt, if◌then◌else◌, zero-mul, subst, mul_comm}
+use Rattle.std.proofs.Common.{◌≡◌, ◌≢◌, ℕ, zero, suc, ◌*◌, ◌%◌, ◌<◌, ◌≤◌, Bool, true, false, arith, refl, sym, ap, ◌∙◌, List, [], ◌∷◌, ◌++◌, inl, inr, mod-lt, if◌then◌else◌, subst, mul_comm}
 use Rattle.std.specs.Prelude.{slice_index, map}
 use Rattle.std.specs.Int.{IsGcd}
-use Rattle.std.proofs.Math.Nat.{suc-mul, zero-mod, mod-eq_of_lt}
+use Rattle.std.proofs.Math.Nat.{zero-mod, mod-eq_of_lt}
 use Rattle.std.proofs.lemmas.Bool.{cases_eq}
 use Rattle.std.proofs.lemmas.Bool.Decides.{nat_tests}
 use Rattle.std.proofs.lemmas.List.FromFn.{fill_by_all}
@@ -23,6 +23,8 @@ use Rattle.ring_mod.proofs.Inverses.{AreInverses, inverse_of_s, inverse_of_r, in
 use Rattle.matrix_meaning.specs.Valid.{IsValid}
 use Rattle.steps.specs.Meaning.{transform_of, core_size, core_on, step_on, all_on}
 use Rattle.steps.specs.Step.{PlainCore, piece, turns, twiddles, thomas_in, thomas_out, PlainStep, rule_steps, steps_of}
+use Rattle.steps.proofs.WordSizes.{word_sizes}
+use Rattle.sigma_spl.proofs.Moves.{within_whole}
 use Rattle.tensor_paths.specs.declared.Tensor.TheVariants.{Blocks, Columns}
 use Rattle.tensor_paths.specs.Loop.{loop_on}
 use Rattle.tensor_paths.specs.Path.{Path, size_under, copies_of, under, place, Reads}
@@ -30,42 +32,20 @@ use Rattle.tensor_paths.proofs.Under.{size_under-push, size_under-copies, under-
 use Rattle.tensor_paths.proofs.PathLoops.{loop_is_under}
 use Rattle.tree_model.specs.declared.tree.Rule.{Rule}
 use Rattle.tree_model.specs.declared.tree.Rule.TheVariants.{Gt, Ct, Split}
-use Rattle.tree_model.specs.Breakdown.{Breakdown, leaf, node, size_of, AllowsRule, IsWellFormed}
+use Rattle.tree_model.specs.Admissible.{IsAdmissible}
+use Rattle.tree_model.specs.Breakdown.{Breakdown, leaf, node, size_of, AllowsRule, IsWellFormed, HasWordSizes}
 use Rattle.tree_model.specs.Cost.{is_kernel}
 use Rattle.sigma_lower.specs.Term.{lowered_core, lowered, term_on, terms_on, diagonal_at, LoweredTransforms}
 use Rattle.sigma_lower.specs.Wrapped.{wrapped, unit_below, unit_of}
 use Rattle.sigma_lower.proofs.Permuted.{StaysBelow, gather-under, scale-under, wrapped-permutes}
-
 -- ---- the steps of a tree are good: of the request's size, and with the factors that their permutations need
 
-pub record AreCoprime (r s : ℕ) : Type 0 where
-  pub left : 0 < r
-  pub right : 0 < s
-  pub gcd : IsGcd r s 1
-  pub small : r * s ≤ 65536
-
-abbrev pub IsGoodCore : PlainCore → Type 0
-IsGoodCore (piece t) = Unit {0}
-IsGoodCore (turns r s) = (0 < r) × (0 < s)
-IsGoodCore (twiddles r s) = Unit {0}
-IsGoodCore (thomas_in r s) = AreCoprime r s
-IsGoodCore (thomas_out r s) = AreCoprime r s
-
-pub record IsGood (c : Request) (s : PlainStep) : Type 0 where
-  pub size : size_under s.path (core_size s.core) ≡ c.size
-  pub core : IsGoodCore s.core
-
-abbrev pub AreGood : Request → List PlainStep → Type 0
-AreGood c [] = Unit {0}
-AreGood c (s ∷ ss) = IsGood c s × AreGood c ss
+pub use Rattle.sigma_lower.specs.Good.{AreCoprime, IsGoodCore, IsGood, AreGood}
+pub use Rattle.sigma_spl.proofs.Moves.{part-le}
 
 pub good-append : (c : Request) (ss ts : List PlainStep) → AreGood c ss → AreGood c ts → AreGood c (ss ++ ts)
 good-append c [] ts h k = k
 good-append c (s ∷ ss) ts h k = (h.0, good-append c ss ts h.1 k)
-
-pub part-le : (q d n : ℕ) → q * d ≡ n → 1 ≤ n → d ≤ n
-part-le zero d n e h = absurd (let none : 0 * d ≡ 0 = zero-mul d in omega arith)
-part-le (suc q) d n e h = omega (arith, suc-mul q d)
 
 pub coprime_sizes : (kind : Kind) (r s : ℕ) → AllowsRule kind Gt r s → IsGcd r s 1
 coprime_sizes Dft r s h = h
@@ -84,15 +64,18 @@ good_pick : (c : Request) (b : Bool) (ss ts : List PlainStep) → AreGood c ss �
 good_pick c true ss ts h k = h
 good_pick c false ss ts h k = k
 
+words_of : (c : Request) (path : Path) (t : Breakdown) → IsValid c → IsWellFormed c.kind t → size_under path (size_of t) ≡ c.size → HasWordSizes t
+words_of c path t valid h e = word_sizes c.kind t h (omega (arith, within_whole c path (size_of t) valid e, valid.in_range.size.1))
+
 pub good_steps : (c : Request) (path : Path) (t : Breakdown) → IsValid c → IsWellFormed c.kind t → size_under path (size_of t) ≡ c.size → AreGood c (steps_of c path t)
-good_steps c path (leaf d) valid h e = (record { size = e; core = tt }, tt)
+good_steps c path (leaf d) valid h e = (record { size = e; core = words_of c path (leaf d) valid h e }, tt)
 good_steps c path (node rule a b) valid h e =
     let r = size_of a in
     let s = size_of b in
     let low : 1 ≤ c.size = valid.in_range.size.0 in
     let high : c.size ≤ 65536 = valid.in_range.size.1 in
     let within : r * s ≤ c.size = part-le (copies_of path) (r * s) c.size (sym (size_under-copies path (r * s)) ∙ e) low in
-    good_pick c (is_kernel c (r * s)) _ _ (record { size = e; core = tt }, tt)
+    good_pick c (is_kernel c (r * s)) _ _ (record { size = e; core = words_of c path (node rule a b) valid h e }, tt)
     (good_rule c rule path r s _ _ e (omega (arith, h.0.left)) (omega (arith, h.0.right)) h.0.allowed (omega arith)
     (good_steps c (path ++ Columns s ∷ []) a valid h.1 (size_under-push path (Columns s) r ∙ e))
     (good_steps c (path ++ Blocks r ∷ []) b valid h.2 (size_under-push path (Blocks r) s ∙ e)))
@@ -142,6 +125,12 @@ unit_positive r s h two_r two_s = from_inverses (inverses_of r s h.left h.gcd)
         let b = units_of s r v h.right h.left (inverse_of_r r s u v both) in
         (one-positive r (unit_of r s) two_r a.one, one-positive s (unit_of s r) two_s b.one)
 
+pub both_units : (r s : ℕ) → AreCoprime r s → IsUnit r s (unit_of r s) × IsUnit s r (unit_of s r)
+both_units r s h = from_inverses (inverses_of r s h.left h.gcd)
+  where
+    from_inverses : (u : ℕ) × (v : ℕ) × AreInverses r s u v → IsUnit r s (unit_of r s) × IsUnit s r (unit_of s r)
+    from_inverses (u, v, both) = (units_of r s u h.left h.right (inverse_of_s r s u v both), units_of s r v h.right h.left (inverse_of_r r s u v both))
+
 pub unit_small : (r s : ℕ) → AreCoprime r s → (unit_of r s < r * s) × (unit_of s r < r * s)
 unit_small r s h = from_inverses (inverses_of r s h.left h.gcd)
   where
@@ -152,7 +141,7 @@ unit_small r s h = from_inverses (inverses_of r s h.left h.gcd)
 
 -- ---- each term
 
-reads-transform : (kind : Kind) (m n w : ℕ) → Reads n (transform kind m n w)
+pub reads-transform : (kind : Kind) (m n w : ℕ) → Reads n (transform kind m n w)
 reads-transform kind m n w x =
     list_below-same n _ _ (λ k row. ap (λ y. y % m) (sum_below-same n _ _ (λ l below. ap (λ y. entry_of kind m w k l * y) (at-list_below n (slice_index x) l below))))
 
@@ -168,7 +157,7 @@ nest_on c path t x e =
 pub turns_below : (r s : ℕ) → StaysBelow (r * s) (at (Strided r s))
 turns_below r s i below = (stride_below r s i below).1
 
-lowered_core_on : (c : Request) (path : Path) (k : PlainCore) (x : List ℕ) → size_under path (core_size k) ≡ c.size → IsGoodCore k →
+pub lowered_core_on : (c : Request) (path : Path) (k : PlainCore) (x : List ℕ) → size_under path (core_size k) ≡ c.size → IsGoodCore k →
     term_on c (lowered_core path k) x ≡ under path (core_size k) (core_on c k) x
 lowered_core_on c path (piece t) x e h = nest_on c path t x e
 lowered_core_on c path (turns r s) x e h =
@@ -193,3 +182,6 @@ lowered_on c (s ∷ ss) x h =
 
 pub lowered_transforms : LoweredTransforms
 lowered_transforms c t x valid h = lowered_on c (steps_of c [] t) x (good_steps c [] t valid h.well_formed h.size)
+
+pub good_of_tree : (c : Request) (t : Breakdown) (ss : List PlainStep) → IsValid c → IsAdmissible c t → ss ≡ steps_of c [] t → AreGood c ss
+good_of_tree c t ss valid h e = rw e (good_steps c [] t valid h.well_formed h.size)

@@ -1,0 +1,4 @@
+pub mod Moves
+pub mod Means
+pub mod Stores
+pub mod Turns
