@@ -1,13 +1,9 @@
-pub mod PlainRules
-pub mod PlainSteps
-pub mod PlaceNumbers
-pub mod Emits
-pub mod EmittedPlaces
-pub mod SharedTables
-pub mod EmittedPasses
-pub mod EmittedLimits
-pub mod PassFacts
-pub mod EmissionLaw
-pub mod CodeTables
-pub mod StatementRules
-mod PowerRules
+pub mod Arrays
+pub mod Runs
+pub mod Counts
+pub mod Emitted
+pub mod Tables
+pub mod Few
+pub mod OneProcessor
+pub mod Emitting
+pub mod Trees

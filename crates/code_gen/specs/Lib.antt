@@ -1,5 +1,5 @@
-pub mod Places
-pub mod Bodies
-pub mod Emission
-pub mod EmissionLaws
-pub mod Conditions
+pub mod Whole
+pub mod Acts
+pub mod Emitting
+pub mod Laws
+pub mod Views

@@ -1,10 +1,8 @@
-// Laws of emission.
+// What the programs of trees do.
 
-ghost use Rattle.code_gen.specs.Conditions.{PassesCanBeEmitted};
-ghost use Rattle.code_gen.specs.EmissionLaws.{PassesAreEmitted};
+ghost use Rattle.code_gen.specs.Laws.{TreesCompute};
 
-/// The passes of a tree can be emitted, and their statements are their actions, at places that are inside: a law of the definitions.
-pub fn passes_are_emitted()
-    ensures emitted { PassesAreEmitted }
-    ensures can { PassesCanBeEmitted }
+/// The program of each tree computes its request's transform, at the tree's counts: a law of the definitions.
+pub fn trees_compute()
+    ensures { TreesCompute }
 {}

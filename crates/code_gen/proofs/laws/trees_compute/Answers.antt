@@ -1,0 +1,5 @@
+use Rattle.code_gen.proofs.Trees as laws
+use Rattle.code_gen.proofs.laws.trees_compute.Goals as goal
+
+pub returns : goal.returns
+returns c = laws.trees_compute

@@ -1,0 +1,104 @@
+-- The statements of a pass stand within the limits of programs.
+use Rattle.std.proofs.Common.{◌≡◌, ◌≢◌, ℕ, zero, suc, ◌+◌, ◌*◌, ◌^◌, ◌<◌, ◌≤◌, All, Bool, true, ◌&&◌, nat_lt, nat_le, List, [], ◌∷◌, length, refl, ap₂, arith, subst}
+use Rattle.std.specs.Prelude.{slice_index, Option, Some, None}
+use Rattle.std.proofs.lemmas.Bool.Decides.{nat_tests}
+use Rattle.icode.specs.declared.action.Action.{Action}
+use Rattle.icode.specs.declared.action.Action.TheVariants as actions
+use Rattle.icode.specs.declared.program.Array.{Array}
+use Rattle.icode.specs.Actions.{FactorsFit}
+use Rattle.icode.proofs.Bools.{both_true}
+use Rattle.icode.specs.Limits.{is_small, is_small_positive, is_expr_within, is_op_within, is_body_within}
+use Rattle.icode.specs.Plain.{PlainBody, PlainExpr, PlainOp, NoStmts, AndStmts, Loop, Do, Load, Store, Add, MulTable}
+use Rattle.code_laws.specs.Lanes.{IsArithmetic, AreArithmetic}
+use Rattle.pass_statements.specs.Bodies.{followed_by, nested}
+use Rattle.pass_statements.specs.Emission.{do_only, in_a_row, sum_at, finish_body, straight_body, op_of}
+use Rattle.pass_statements.specs.Places.{product_place}
+use Rattle.pass_statements.proofs.PlainSteps.{is-not}
+use Rattle.loop_merge.specs.Listed.{PlainMultiplier}
+use Rattle.perm_algebra.specs.Affine.{Sum}
+use Rattle.place_code.specs.Expressions.{expr_of}
+
+pub both : (a b : Bool) → a ≡ true → b ≡ true → (a && b) ≡ true
+both a b h k = ap₂ (λ x y. x && y) h k
+
+small-is : (n : ℕ) → n < 2 ^ 32 → is_small n ≡ true
+small-is n h = grind (arith, nat_tests)
+
+test-below : (a b : ℕ) → a < b → nat_lt a b ≡ true
+test-below a b h = grind (arith, nat_tests)
+
+test-most : (a b : ℕ) → a ≤ b → nat_le a b ≡ true
+test-most a b h = grind (arith, nat_tests)
+
+positive-is : (n : ℕ) → 0 < n → n < 2 ^ 32 → is_small_positive n ≡ true
+positive-is n some h = both (nat_lt 0 n) (is_small n) (test-below 0 n some) (small-is n h)
+
+-- the places of a pass's items stand within the limits
+abbrev pub ArePlaces : ℕ → ℕ → List Sum → Type 0
+ArePlaces n open_loops sums = (i : ℕ) → i < n → is_expr_within (expr_of open_loops (sum_at sums i)) open_loops ≡ true
+
+module _ (m : ℕ) where
+  pub within-followed : (xs ys : PlainBody) (open_loops : ℕ) → is_body_within m xs open_loops ≡ true → is_body_within m ys open_loops ≡ true → is_body_within m (followed_by xs ys) open_loops ≡ true
+  within-followed NoStmts ys open_loops h k = k
+  within-followed (AndStmts x xs) ys open_loops h k = let parts = both_true _ _ h in both _ _ parts.0 (within-followed xs ys open_loops parts.1 k)
+
+  pub within-in_a_row : (n : ℕ) (body : ℕ → PlainBody) (open_loops : ℕ) → ((k : ℕ) → k < n → is_body_within m (body k) open_loops ≡ true) → is_body_within m (in_a_row n body) open_loops ≡ true
+  within-in_a_row zero body open_loops h = refl
+  within-in_a_row (suc n) body open_loops h = within-followed (in_a_row n body) (body n) open_loops (within-in_a_row n body open_loops (λ k below. h k (omega arith))) (h n (omega arith))
+
+  pub within-do : (op : PlainOp) (rest : PlainBody) (open_loops : ℕ) → is_op_within m op open_loops ≡ true → is_body_within m rest open_loops ≡ true → is_body_within m (AndStmts (Do op) rest) open_loops ≡ true
+  within-do op rest open_loops h k = both _ _ h k
+
+  pub within-loop : (count : ℕ) (body rest : PlainBody) (open_loops : ℕ) → 0 < count → count < 2 ^ 32 → open_loops < 64 → is_body_within m body (open_loops + 1) ≡ true → is_body_within m rest open_loops ≡ true →
+      is_body_within m (AndStmts (Loop count body) rest) open_loops ≡ true
+  within-loop count body rest open_loops some small shallow h k =
+      both _ _ (both _ _ (positive-is count some small) (both _ _ (test-below open_loops 64 shallow) h)) k
+
+  pub within-nested : (counts : List ℕ) (body : PlainBody) (open_loops deep : ℕ) → All (λ n. (2 ≤ n) × (n ≤ 65536)) counts → open_loops + length counts ≡ deep → deep ≤ 64 → is_body_within m body deep ≡ true → is_body_within m (nested counts body) open_loops ≡ true
+  within-nested [] body open_loops deep all is shallow h = let same : deep ≡ open_loops = omega arith in subst (λ (o : ℕ). is_body_within m body o ≡ true) same h
+  within-nested (count ∷ counts) body open_loops deep all is shallow h =
+      let first = all 0 0 (omega arith) in
+      within-loop count (nested counts body) NoStmts open_loops (omega arith) (omega arith) (omega arith)
+      (within-nested counts body (open_loops + 1) deep (λ k d below. all (suc k) d (omega arith)) (omega arith) shallow h) refl
+
+  -- ---- operations
+
+  pub loads-within : (n open_loops : ℕ) (array : Array) (sums : List Sum) → n < 2 ^ 32 → ArePlaces n open_loops sums → is_body_within m (in_a_row n (λ k. do_only (Load k array (expr_of open_loops (sum_at sums k))))) open_loops ≡ true
+  loads-within n open_loops array sums small h =
+      within-in_a_row n (λ k. do_only (Load k array (expr_of open_loops (sum_at sums k)))) open_loops (λ k below. within-do (Load k array (expr_of open_loops (sum_at sums k))) NoStmts open_loops (both _ _ (small-is k (omega arith)) (h k below)) refl)
+
+  pub finish-within : (o : Option PlainMultiplier) (n open_loops table i from free : ℕ) (scatters : List Sum) (target : Array) → i < n → ArePlaces n open_loops scatters → ((d : PlainMultiplier) → o ≡ Some d → ArePlaces n open_loops d.places) → table < 2 ^ 32 → from < 2 ^ 32 → free < 2 ^ 32 →
+      is_body_within m (finish_body o scatters open_loops table target i from free) open_loops ≡ true
+  finish-within None n open_loops table i from free scatters target below h k t f g = within-do (Store target (expr_of open_loops (sum_at scatters i)) from) NoStmts open_loops (both _ _ (small-is from f) (h i below)) refl
+  finish-within (Some d) n open_loops table i from free scatters target below h k t f g =
+      within-do (MulTable free from table (expr_of open_loops (sum_at d.places i)) 0) (do_only (Store target (expr_of open_loops (sum_at scatters i)) free)) open_loops
+      (both _ _ (small-is free g) (both _ _ (small-is from f) (both _ _ (small-is table t) (k d refl i below))))
+      (within-do (Store target (expr_of open_loops (sum_at scatters i)) free) NoStmts open_loops (both _ _ (small-is free g) (h i below)) refl)
+
+  pub term-within : (open_loops table : ℕ) (array : Array) (input entry : PlainExpr) → table < 2 ^ 32 → is_expr_within input open_loops ≡ true → is_expr_within entry open_loops ≡ true →
+      is_body_within m (AndStmts (Do (Load 1 array input)) (AndStmts (Do (MulTable 2 1 table entry 0)) (AndStmts (Do (Add 0 0 2)) NoStmts))) open_loops ≡ true
+  term-within open_loops table array input entry t h k = both _ _ h (both _ _ (both _ _ (small-is table t) k) refl)
+
+  op-within : (next open_loops : ℕ) (a : Action) → next < 2 ^ 32 → IsArithmetic 1 next a → FactorsFit m a → is_op_within m (op_of a) open_loops ≡ true
+  op-within next open_loops (actions.Load r address) small are fit = absurd are
+  op-within next open_loops (actions.Store address r) small are fit = absurd are
+  op-within next open_loops (actions.Zero r) small are fit = small-is r (omega (arith, are))
+  op-within next open_loops (actions.Add r x y) small are fit = both _ _ (small-is r (omega (arith, are.0))) (both _ _ (small-is x (omega (arith, are.1))) (small-is y (omega (arith, are.2))))
+  op-within next open_loops (actions.Sub r x y) small are fit = both _ _ (small-is r (omega (arith, are.0))) (both _ _ (small-is x (omega (arith, are.1))) (small-is y (omega (arith, are.2))))
+  op-within next open_loops (actions.Neg r x) small are fit = both _ _ (small-is r (omega (arith, are.0))) (small-is x (omega (arith, are.1)))
+  op-within next open_loops (actions.Mul r x factors) small are fit =
+      both _ _ (small-is r (omega (arith, are.0))) (both _ _ (small-is x (omega (arith, are.1))) (test-below (slice_index factors 0) m (fit 0 0 (omega (arith, are.2)))))
+  op-within next open_loops (actions.Tile r x) small are fit = absurd are
+
+  pub straight-within : (next open_loops : ℕ) (more : List Action) → next < 2 ^ 32 → AreArithmetic 1 next more → All (FactorsFit m) more → is_body_within m (straight_body more) open_loops ≡ true
+  straight-within next open_loops [] small are fit = refl
+  straight-within next open_loops (a ∷ more) small are fit =
+      both _ _ (op-within next open_loops a small are.0 (fit 0 a (omega arith))) (straight-within next open_loops more small are.1 (λ k d below. fit (suc k) d (omega arith)))
+
+-- the place of an entry of a longer leaf's table
+pub product-within : (depth n : ℕ) → n ≢ 1 → 0 < n → n < 2 ^ 32 → is_expr_within (product_place depth n) (depth + 2) ≡ true
+product-within depth n many some small =
+    rw (is-not n 1 many)
+    (both _ _
+    (both _ _ (both _ _ (both _ _ (both _ _ (test-below depth (depth + 1) (omega arith)) (both _ _ (test-below (depth + 1) (depth + 2) (omega arith)) refl)) (both _ _ (test-most 0 (65 + (depth * 64 + (depth + 1))) (omega arith)) refl)) (both _ _ (positive-is n some small) refl)) refl)
+    refl)

@@ -1,0 +1,63 @@
+-- The numbers of places.
+use Rattle.std.proofs.Common.{◌≡◌, ◌≢◌, ℕ, ◌+◌, ◌*◌, ◌%◌, ◌^◌, ◌<◌, List, [], ◌∷◌, ◌++◌, length, inl, inr, ap, ap₂, sym, ◌∙◌, arith, length-append, subst}
+use Rattle.std.specs.Prelude.{slice_index}
+use Rattle.std.proofs.Math.Seq.{get_or-append_seam}
+use Rattle.std.proofs.lemmas.Bool.{cases_eq}
+use Rattle.std.proofs.lemmas.List.{get_or_append_left}
+use Rattle.std.proofs.lemmas.Nat.{mul-lt}
+use Rattle.icode.specs.Expression.{Numbers, alone, with_sum, with_part, with_factor, sum_numbers}
+use Rattle.pass_statements.specs.Places.{product_place}
+use Rattle.pass_statements.proofs.PlainSteps.{with_value, is-not}
+
+last-value : (vs : List ℕ) (depth v : ℕ) → length vs ≡ depth → slice_index (vs ++ v ∷ []) depth ≡ v
+last-value vs depth v size = ap (slice_index (vs ++ v ∷ [])) (sym size) ∙ get_or-append_seam vs v [] 0
+
+outer-value : (vs : List ℕ) (depth k l : ℕ) → length vs ≡ depth → slice_index ((vs ++ k ∷ []) ++ l ∷ []) depth ≡ k
+outer-value vs depth k l size =
+    get_or_append_left (vs ++ k ∷ []) (l ∷ []) 0 depth (omega (arith, length-append vs (k ∷ []))) ∙ last-value vs depth k size
+
+inner-value : (vs : List ℕ) (depth k l : ℕ) → length vs ≡ depth → slice_index ((vs ++ k ∷ []) ++ l ∷ []) (depth + 1) ≡ l
+inner-value vs depth k l size = last-value (vs ++ k ∷ []) (depth + 1) l (omega (arith, length-append vs (k ∷ [])))
+
+-- the numbers of a remainder of a product
+pub product_numbers : ℕ → ℕ → Numbers
+product_numbers both count =
+    with_sum 0 (with_part (with_factor (with_sum 0 (with_part (with_factor (alone both) both 1) (alone 0))) ((0 + (both * 1 + 0)) % count) 1) (alone 0))
+
+pub product-numbers : (count depth k l q : ℕ) (vs : List ℕ) → count ≢ 1 → length vs ≡ depth → sum_numbers (product_place depth count) (with_value count (with_value count vs k) l) q ≡ product_numbers (k * l) count
+unfolding product_numbers
+product-numbers count depth k l q vs many size =
+    rw (is-not count 1 many) (ap (λ n. product_numbers n count) (ap₂ (λ a b. a * b) (outer-value vs depth k l size) (inner-value vs depth k l size)))
+
+product_numbers-value : (both count : ℕ) → (product_numbers both count).value ≡ both % count
+unfolding product_numbers
+product_numbers-value both count =
+    let inside : 0 + (both * 1 + 0) ≡ both = omega arith in
+    let outside : 0 + (((0 + (both * 1 + 0)) % count) * 1 + 0) ≡ (0 + (both * 1 + 0)) % count = omega arith in
+    outside ∙ ap (λ n. n % count) inside
+
+product_numbers-peak : (both count : ℕ) → both < 2 ^ 64 → 0 < count → count < 2 ^ 32 → (product_numbers both count).peak < 2 ^ 64
+unfolding product_numbers
+product_numbers-peak both count small some few =
+    let rest : (0 + (both * 1 + 0)) % count < count = omega arith in omega arith
+
+-- the place of an entry
+pub product-value : (count depth k l q : ℕ) (vs : List ℕ) → length vs ≡ depth → k < count → l < count → (sum_numbers (product_place depth count) (with_value count (with_value count vs k) l) q).value ≡ (k * l) % count
+product-value count depth k l q vs size row column =
+    elim (cases_eq count 1) [
+      | inl one ↦
+          let first : 0 ≡ (k * l) % count = omega arith in
+          subst (λ n. (sum_numbers (product_place depth n) (with_value n (with_value n vs k) l) q).value ≡ (k * l) % count) (sym one) first
+      | inr many ↦ ap (λ (z : Numbers). z.value) (product-numbers count depth k l q vs many size) ∙ product_numbers-value (k * l) count
+    ]
+
+pub product-peak : (count depth k l q : ℕ) (vs : List ℕ) → length vs ≡ depth → k < count → l < count → count < 2 ^ 32 → (sum_numbers (product_place depth count) (with_value count (with_value count vs k) l) q).peak < 2 ^ 64
+product-peak count depth k l q vs size row column few =
+    elim (cases_eq count 1) [
+      | inl one ↦
+          let least : 0 < 2 ^ 64 = omega arith in
+          subst (λ n. (sum_numbers (product_place depth n) (with_value n (with_value n vs k) l) q).peak < 2 ^ 64) (sym one) least
+      | inr many ↦
+          let product : k * l < 2 ^ 32 * 2 ^ 32 = mul-lt k l (2 ^ 32) (2 ^ 32) (omega arith) (omega arith) in
+          subst (λ (z : Numbers). z.peak < 2 ^ 64) (sym (product-numbers count depth k l q vs many size)) (product_numbers-peak (k * l) count (omega arith) (omega arith) few)
+    ]

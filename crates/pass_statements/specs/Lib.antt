@@ -1,0 +1,5 @@
+pub mod Places
+pub mod Bodies
+pub mod Emission
+pub mod EmissionLaws
+pub mod Conditions

@@ -1,9 +1,0 @@
-pub mod Arrays
-pub mod Runs
-pub mod Counts
-pub mod Emitted
-pub mod Tables
-pub mod Few
-pub mod OneProcessor
-pub mod Emitting
-pub mod Trees
