@@ -1,18 +1,18 @@
 -- The program of the chosen tree is good.
-use Rattle.std.proofs.Common.{◌≡◌, ℕ, zero, suc, ◌+◌, ◌*◌, ◌<◌, List, [], sym, ap, ◌∙◌, arith, subst}
+use Rattle.std.proofs.Common.{◌≡◌, ℕ, zero, suc, ◌*◌, ◌<◌, List, [], sym, ap, ◌∙◌, arith, subst}
 use Rattle.matrix_meaning.specs.declared.Request.{Request}
 use Rattle.icode.specs.Actions.{PlainFits, plain_code}
 use Rattle.icode.specs.declared.action.Counts.{Counts}
 use Rattle.icode.specs.declared.program.Program.{Program}
 use Rattle.icode.specs.Machine.{IsApart, padded, results, whole_counts, words_at}
 use Rattle.icode.specs.Plain.{PlainProgram}
-use Rattle.icode.specs.Program.{Fits, code_of, plain_program}
+use Rattle.icode.specs.Program.{code_of, plain_program}
 use Rattle.icode.proofs.Lists.{code_is}
 use Rattle.icode.proofs.Runs.{memory_of_runs}
 use Rattle.operators.specs.Sum.{sum_below}
-use Rattle.tree_code.specs.Laws.{Computes, counts_of_tree}
-use Rattle.tree_code.specs.Whole.{tree_listing}
-use Rattle.tree_code.proofs.OneProcessor.{alone-apart}
+use Rattle.code_gen.specs.Laws.{Computes, counts_of_tree}
+use Rattle.code_gen.specs.Whole.{tree_listing}
+use Rattle.code_gen.proofs.OneProcessor.{alone-apart}
 use Rattle.tree_model.specs.Breakdown.{Breakdown}
 use Rattle.tree_model.specs.Cost.{cost_of}
 use Rattle.tree_model.specs.Passes.{loads_of, stores_of}

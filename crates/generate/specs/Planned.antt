@@ -37,3 +37,13 @@ IsPlanned r (Err (Root power)) = (has_root r.kind (root_power r) ≡ false) × (
 IsPlanned r (Err NoDivide) = IsRooted r × (CanDivide r → ⊥)
 IsPlanned r (Err (OverBudget cost budget)) = IsRooted r × IsLeast r cost × (budget ≡ r.budget) × (budget < cost)
 IsPlanned r (Err NoMemory) = ⊥
+
+-- the root is one of the size, and some tree fits
+abbrev pub IsAdmitted : Request → Type 0
+IsAdmitted r = IsRooted r × CanDivide r
+
+-- the first cause to refuse the request whatever its budget
+abbrev pub IsBarred : Request → GenerateFault → Type 0
+IsBarred r (Root power) = (has_root r.kind (root_power r) ≡ false) × (power ≡ root_power r)
+IsBarred r NoDivide = IsRooted r × (CanDivide r → ⊥)
+IsBarred r _ = ⊥

@@ -2,23 +2,30 @@
 //! turns, shares no line, and executes exactly the operations of the cheapest tree.
 #![tactic(auto)]
 
-ghost use Rattle.std.specs.Prelude.{◌≡◌, ◌≢◌, Ok, Err, IfOk, IfErr};
+ghost use Rattle.std.specs.Prelude.{◌≡◌, ◌≢◌, false, Ok, Err, IfOk, IfErr, OnOk, OnErr, IsTrue};
 ghost use Rattle.matrix_meaning.specs.Valid.{IsInRange, IsValid};
+ghost use Rattle.code_gen.specs.Whole.{tree_listing};
+ghost use Rattle.icode.specs.Program.{plain_program};
+ghost use Rattle.tree_model.specs.Admissible.{IsAdmissible};
 ghost use Rattle.tree_model.specs.Breakdown.{breakdown_of};
-ghost use Rattle.tree_model.specs.Cost.{cost_of};
+ghost use Rattle.tree_model.specs.Cost.{cost_of, is_plain};
 ghost use Rattle.generate.specs.Good.{IsGood, IsLean};
-ghost use Rattle.generate.specs.Planned.{IsPlain, IsPlanned};
+ghost use Rattle.generate.specs.Planned.{IsPlain, IsPlanned, IsAdmitted, IsBarred, IsRooted, has_root, root_power};
 ghost use Rattle.generate.specs.declared.GenerateFault.TheVariants as fault;
 
+use code_gen::emit;
 use icode::program::Program;
+use loop_merge::merge;
 use matrix_meaning::{Kind, Request};
 use memory::NoMemory;
 use plan_search::{Plan, PlanError, best};
 use ring_mod::Modulus;
+use sigma_lower::lower;
+use smp_rewrite::to_smp;
 use std::alloc::Global;
 use thiserror::Error;
-use tree_code::tree_program;
-use tree_model::Ctx;
+use tree_model::{Ctx, Tree, divides};
+use vec_rewrite::{steps_of_vec, to_vec};
 
 /// The cheapest tree with its cost, and its program.
 #[derive(Drop)]
@@ -66,13 +73,13 @@ impl From<PlanError> for GenerateFault {
     }
 }
 
-/// The cheapest tree of the request, or the first cause to refuse it.
-pub fn plan(alloc: Global, request: &Request) -> Result<Plan, GenerateFault>
+// The root to the power of the size is 1, or this is the power.
+fn check_root(request: &Request) -> Result<(), GenerateFault>
     requires { IsInRange request.now }
-    ensures planned { IfOk result (λ plan. IsPlanned request.now (Ok (breakdown_of plan.tree))) }
-    ensures cost { IfOk result (λ plan. plan.cost ≡ cost_of request.now (breakdown_of plan.tree)) }
-    ensures valid { IfOk result (λ plan. IsValid request.now) }
-    ensures refused { IfErr result (λ cause. cause ≢ fault.NoMemory → IsPlanned request.now (Err cause)) }
+    ensures rooted { OnOk result (IsRooted request.now) }
+    ensures valid { OnOk result (IsValid request.now) }
+    ensures other { OnErr result (has_root request.now.kind (root_power request.now) ≡ false) }
+    ensures power { IfErr result (λ cause. cause ≡ fault.Root (root_power request.now)) }
 {
     if request.kind == Kind::Dft {
         let modulus = Modulus::new(request.modulus).unwrap();
@@ -81,6 +88,32 @@ pub fn plan(alloc: Global, request: &Request) -> Result<Plan, GenerateFault>
             return Err(GenerateFault::Root { power });
         }
     }
+    Ok(())
+}
+
+/// Whether some program computes the request's transform, whatever its cost; or the first cause why none does.
+pub fn admit(request: &Request) -> Result<(), GenerateFault>
+    requires { IsInRange request.now }
+    ensures admitted { OnOk result (IsAdmitted request.now) }
+    ensures valid { OnOk result (IsValid request.now) }
+    ensures barred { IfErr result (IsBarred request.now) }
+{
+    check_root(request)?;
+    if !divides(&Ctx::new(request)) {
+        return Err(GenerateFault::NoDivide);
+    }
+    Ok(())
+}
+
+/// The cheapest tree of the request, or the first cause to refuse it.
+pub fn plan(alloc: Global, request: &Request) -> Result<Plan, GenerateFault>
+    requires { IsInRange request.now }
+    ensures planned { IfOk result (λ plan. IsPlanned request.now (Ok (breakdown_of plan.tree))) }
+    ensures cost { IfOk result (λ plan. plan.cost ≡ cost_of request.now (breakdown_of plan.tree)) }
+    ensures valid { IfOk result (λ plan. IsValid request.now) }
+    ensures refused { IfErr result (λ cause. cause ≢ fault.NoMemory → IsPlanned request.now (Err cause)) }
+{
+    check_root(request)?;
     let context = Ctx::new(request);
     let plan = best(alloc, &context, request.budget)?;
     Ok(plan)
@@ -100,6 +133,24 @@ pub fn generate(alloc: Global, request: &Request) -> Result<Product, GenerateFau
     let context = Ctx::new(request);
     let program = tree_program(alloc, &context, &plan.tree)?;
     Ok(Product { plan, program })
+}
+
+// The program of a tree: its steps, dealt to processors and lanes, become loops, the loops are merged, and what is merged
+// is written as code.
+fn tree_program(alloc: Global, c: &Ctx, tree: &Tree) -> Result<Program, NoMemory>
+    requires admissible { IsAdmissible c.now (breakdown_of tree.now) }
+    requires plain { IsTrue (is_plain c.now) }
+    requires weight { c.now.weight ≡ 1 }
+    ensures { IfOk result (λ p. plain_program p ≡ tree_listing c.now (breakdown_of tree.now)) }
+{
+    let _request = c.request();
+    let blocks = to_smp(alloc, c, tree)?;
+    let vectors = to_vec(alloc, c, blocks)?;
+    let steps = steps_of_vec(alloc, &vectors)?;
+    let loops = lower(alloc, c, &steps)?;
+    let merged = merge(alloc, c, &loops)?;
+    let program = emit(alloc, c, &merged)?;
+    Ok(program)
 }
 
 #[cfg(test)]

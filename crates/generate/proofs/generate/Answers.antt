@@ -2,9 +2,9 @@ use Rattle.std.proofs.Common.{◌≡◌, ap, ap₂, ◌∙◌, eq-eqb}
 use Rattle.std.specs.Prelude.{◌&&◌}
 use Rattle.icode.specs.Program.{plain_program}
 use Rattle.matrix_meaning.specs.declared.Request.{Request}
-use Rattle.tree_code.specs.Laws.{Computes}
-use Rattle.tree_code.specs.Whole.{tree_listing}
-use Rattle.tree_code.proofs.Trees.{trees_compute}
+use Rattle.code_gen.specs.Laws.{Computes}
+use Rattle.code_gen.specs.Whole.{tree_listing}
+use Rattle.code_gen.proofs.Trees.{trees_compute}
 use Rattle.tree_model.specs.Breakdown.{breakdown_of}
 use Rattle.generate.proofs.Goodness.{good, lean}
 use Rattle.generate.proofs.generate.Goals as goal
