@@ -85,6 +85,16 @@ counts_small lanes (x ∷ xs) =
       stores = omega (arith, rest.stores, one.2, ap (λ (c : Counts). c.stores) is);
     }
 
+-- one action more counts at most the lanes more
+pub counted_at_most : (lanes : ℕ) (a : Action) (c : Counts) → ((counted lanes a c).operations ≤ c.operations + lanes) × ((counted lanes a c).loads ≤ c.loads + lanes) × ((counted lanes a c).stores ≤ c.stores + lanes)
+counted_at_most lanes a c =
+    let one = in_lanes lanes a in
+    let is = counted_is lanes a c in (
+      omega (arith, one.0, ap (λ (c : Counts). c.operations) is),
+      omega (arith, one.1, ap (λ (c : Counts). c.loads) is),
+      omega (arith, one.2, ap (λ (c : Counts). c.stores) is),
+    )
+
 -- What is executed
 
 take_all : (n : ℕ) (xs : List Action) → length xs ≤ n → take n xs ≡ xs
@@ -200,4 +210,13 @@ module _ (code : Code) (is : IsCode code) where
         length-append (flat_map (all_of q) (range_with_len 0 s.phase)) (take (slice_index s.done q) (acts code s.phase q)),
         length-take-le (slice_index s.done q) (acts code s.phase q) (omega arith),
         length_flat q lens e s.phase (slice_index s.done q) lt,
+      )
+
+  pub executed_room : (s : State) (q n : ℕ) (lens : List ℕ) → ((phase : ℕ) → length (acts code phase q) ≡ slice_index lens phase) → 0 < n → slice_index s.done q + n ≤ length (acts code s.phase q) → length (executed code s q) + n ≤ total lens
+  executed_room s q n lens e some most =
+      omega (
+        arith,
+        length-append (flat_map (all_of q) (range_with_len 0 s.phase)) (take (slice_index s.done q) (acts code s.phase q)),
+        length-take-le (slice_index s.done q) (acts code s.phase q) (omega arith),
+        length_flat q lens e s.phase (slice_index s.done q + n - 1) (omega arith),
       )

@@ -17,3 +17,6 @@ pub mod Tables
 pub mod News
 pub mod Schedules
 pub mod Remaining
+pub mod Playings
+pub mod Advances
+pub mod Starting

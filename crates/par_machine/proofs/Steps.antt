@@ -34,11 +34,11 @@ moved_on_is code s = at (is_open code s.phase s.done)
     at true = refl
     at false = refl
 
-length-with_words : (vs xs : List ℕ) (i : ℕ) → length (with_words xs i vs) ≡ length xs
+pub length-with_words : (vs xs : List ℕ) (i : ℕ) → length (with_words xs i vs) ≡ length xs
 length-with_words [] xs i = refl
 length-with_words (v ∷ vs) xs i = length-with_words vs (slice_set xs i v) (i + 1) ∙ length-set xs i v
 
-length-memory_after : (lanes : ℕ) (action : Action) (s : Local) → length (memory_after lanes action s) ≡ length s.memory
+pub length-memory_after : (lanes : ℕ) (action : Action) (s : Local) → length (memory_after lanes action s) ≡ length s.memory
 length-memory_after lanes (Store address r) s = length-with_words (register_of lanes s.registers r) s.memory address
 length-memory_after lanes _ s = refl
 

@@ -1,5 +1,6 @@
 -- Tables that are copied one after another.
-use Rattle.std.proofs.Common.{◌≡◌, ℕ, ◌+◌, ◌<◌, List, [], ◌∷◌, ◌++◌, length, map, take, get_or, Vec, Global, refl, sym, ap, ap₂, ◌∙◌}
+use Rattle.std.proofs.Common.{◌≡◌, ℕ, zero, suc, arith, ◌+◌, ◌<◌, List, [], ◌∷◌, ◌++◌, length, map, take, get_or, Vec, Global, refl, sym, ap, ap₂, ◌∙◌}
+use Rattle.std.specs.Prelude.{slice_index_or}
 use Rattle.std.proofs.lemmas.List.{take_more}
 use Rattle.icode.specs.Plain.{plain_tables}
 
@@ -14,3 +15,9 @@ table_more tables copy after i t new lt e same h ea =
     ∙ (ap₂ (λ xs (x : List ℕ). xs ++ x ∷ []) h same
     ∙ (sym (tables_more (take i tables) t)
     ∙ ap plain_tables (ap (λ (x : Vec ℕ Global). take i tables ++ x ∷ []) e ∙ sym (take_more tables i t lt)))))
+
+-- an entry that is there shows that its table is
+pub table_is : (tables : List (Vec ℕ Global)) (i : ℕ) (t : Vec ℕ Global) → 0 < length (slice_index_or (plain_tables tables) i []) → t ≡ get_or tables i t → slice_index_or (plain_tables tables) i [] ≡ t.items
+table_is [] i t some e = absurd (omega arith)
+table_is (x ∷ tables) zero t some e = ap (λ (v : Vec ℕ Global). v.items) (sym e)
+table_is (x ∷ tables) (suc i) t some e = table_is tables i t some e

@@ -1,5 +1,5 @@
 -- What a machine's methods find.
-use Rattle.std.proofs.Common.{⊎_elim, zero, ap₂, length-set, replicate, if◌then◌else◌, ◌^◌, ◌≡◌, ◌≢◌, ℕ, suc, ◌+◌, ◌-◌, ◌<◌, ◌≤◌, List, [], ◌∷◌, length, get_or, All, Option, None, Some, true, false, refl, sym, ap, ◌∙◌, subst, arith}
+use Rattle.std.proofs.Common.{⊎_elim, zero, ap₂, length-set, replicate, if◌then◌else◌, ◌^◌, ◌≡◌, ◌≢◌, ℕ, suc, ◌+◌, ◌-◌, ◌<◌, ◌≤◌, List, [], ◌∷◌, length, get_or, All, Option, None, Some, true, false, refl, sym, ap, ◌∙◌, subst, arith, Vec, Global}
 use Rattle.std.specs.Prelude.{slice_get, slice_index, slice_index_or, slice_set, IfNone, IfSome}
 use Rattle.std.proofs.lemmas.Bool.{false≢true, cases_lt}
 use Rattle.std.proofs.lemmas.Grind.{get_or_default_zero}
@@ -13,9 +13,11 @@ use Rattle.icode.proofs.Completion.{completion_past, completion_step}
 use Rattle.par_machine.specs.declared.machine.Machine.TheInside.{Inside}
 use Rattle.par_machine.specs.declared.phase.Routine.{Routine}
 use Rattle.par_machine.specs.Lengths.{HasLengths, IsFirstLeft}
-use Rattle.par_machine.specs.Instruction.{IsClosed}
+use Rattle.par_machine.specs.Instruction.{IsClosed, IsWithin}
+use Rattle.par_machine.specs.declared.cursor.Instruction.{Instruction}
+use Rattle.par_machine.specs.Header.{header_of}
 use Rattle.par_machine.specs.Operation.{AddressFits}
-use Rattle.par_machine.specs.Hand.{step_at, action_of_step}
+use Rattle.par_machine.specs.Hand.{step_at, action_of_step, Runs}
 use Rattle.par_machine.specs.Position.{Position, next_position, first_position}
 use Rattle.par_machine.specs.Running.{Running}
 use Rattle.par_machine.specs.Frame.{Frame, Stand, code_of_frame, places_in, lens_of, total, IsReady, IsRunning}
@@ -88,7 +90,7 @@ item_at [] i lt = absurd (omega arith)
 item_at (x ∷ xs) zero lt = (x, refl)
 item_at (x ∷ xs) (suc i) lt = item_at xs i (omega arith)
 
-one_len : (lens : List ℕ) (i : ℕ) → slice_index lens i ≤ total lens
+pub one_len : (lens : List ℕ) (i : ℕ) → slice_index lens i ≤ total lens
 one_len [] i = omega arith
 one_len (n ∷ lens) zero = lt_first n (total lens)
   where

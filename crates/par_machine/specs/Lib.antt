@@ -6,7 +6,9 @@ pub mod Hand
 pub mod Lengths
 pub mod Frame
 pub mod Plays
+pub mod Played
 pub mod Answers
+pub mod Unfinished
 pub mod Running
 pub mod View
 pub mod Translated

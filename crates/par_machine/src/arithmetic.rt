@@ -5,7 +5,7 @@ ghost use Rattle.icode.specs.Machine.{lane_by_lane};
 ghost use Rattle.par_machine.specs.Operation.{operated};
 
 use icode::action::MAX_LANES;
-use ring_mod::Modulus;
+use quick_mod::QuickModulus;
 
 #[derive(Clone, Copy)]
 pub(crate) enum Operation {
@@ -14,10 +14,11 @@ pub(crate) enum Operation {
     Product,
 }
 
-pub(crate) fn operate(operation: Operation, modulus: Modulus, a: u64, b: u64) -> u64
-    requires a_in { a < modulus }
-    requires b_in { b < modulus }
-    ensures { result ≡ operated operation modulus a b }
+#[inline]
+pub(crate) fn operate(operation: Operation, modulus: &QuickModulus, a: u64, b: u64) -> u64
+    requires a_in { a < modulus.now }
+    requires b_in { b < modulus.now }
+    ensures { result ≡ operated operation modulus.now a b }
 {
     match operation {
         Operation::Sum => modulus.add(a, b),
@@ -29,15 +30,15 @@ pub(crate) fn operate(operation: Operation, modulus: Modulus, a: u64, b: u64) ->
 /// The operation on the words of each lane.
 pub(crate) fn combine(
     operation: Operation,
-    modulus: Modulus,
+    modulus: &QuickModulus,
     lanes: u64,
     left: &[u64; MAX_LANES],
     right: &[u64; MAX_LANES],
 ) -> [u64; MAX_LANES]
     requires lanes { lanes ≤ 16 }
-    requires left_in { (k : ℕ) → slice_index left.now k < modulus }
-    requires right_in { (k : ℕ) → slice_index right.now k < modulus }
-    ensures { take lanes result ≡ lane_by_lane (operated operation modulus) (take lanes left.now) (take lanes right.now) }
+    requires left_in { (k : ℕ) → slice_index left.now k < modulus.now }
+    requires right_in { (k : ℕ) → slice_index right.now k < modulus.now }
+    ensures { take lanes result ≡ lane_by_lane (operated operation modulus.now) (take lanes left.now) (take lanes right.now) }
 {
     let mut values = [0; MAX_LANES];
     for lane in 0..lanes {

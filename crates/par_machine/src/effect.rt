@@ -1,18 +1,20 @@
-// What an action does.
+// What the operations do to registers and memory.
 
-ghost use Rattle.std.specs.Prelude.{◌≡◌, ℕ, ◌+◌, ◌*◌, ◌<◌, ◌≤◌, ◌⊎◌, length, slice_index};
-ghost use Rattle.icode.specs.Machine.{effect, lane_by_lane, transposed, with_words, words_at};
-ghost use Rattle.icode.specs.Actions.{RegistersFit, FactorsFit};
-ghost use Rattle.par_machine.specs.Operation.{AddressFits, operated};
+ghost use Rattle.std.specs.Prelude.{◌≡◌, ℕ, ◌+◌, ◌-◌, ◌*◌, ◌<◌, ◌≤◌, ◌⊎◌, All, length, map, slice_index};
+ghost use Rattle.icode.specs.Actions.{lane_factors};
+ghost use Rattle.icode.specs.Machine.{lane_by_lane, transposed, with_words, words_at};
+ghost use Rattle.par_machine.specs.Operation.{operated};
+ghost use Rattle.ring_mod.specs.Residue.{negation_mod};
 ghost use Rattle.par_machine.specs.declared.arithmetic.Operation.TheVariants.{Product};
 
 use crate::arithmetic::{Operation, combine, operate};
+use crate::hand::{same_factors, table_factors};
 use crate::lanes::{read_lanes, write_lanes};
-use icode::action::{Action, MAX_LANES};
-use ring_mod::Modulus;
+use icode::action::MAX_LANES;
+use quick_mod::QuickModulus;
 
 /// Transposes as many registers as there are lanes.
-fn transpose(registers: &mut [u64], register: u64, source: u64, lanes: u64)
+pub(crate) fn transpose(registers: &mut [u64], register: u64, source: u64, lanes: u64)
     requires lanes { lanes ≤ 16 }
     requires register { (register + lanes) * lanes ≤ length registers.old }
     requires source { (source + lanes) * lanes ≤ length registers.old }
@@ -29,7 +31,8 @@ fn transpose(registers: &mut [u64], register: u64, source: u64, lanes: u64)
 }
 
 /// Copies the words of each lane.
-fn copy_lanes(from: &[u64], at: u64, to: &mut [u64], place: u64, lanes: u64)
+#[inline]
+pub(crate) fn copy_lanes(from: &[u64], at: u64, to: &mut [u64], place: u64, lanes: u64)
     requires lanes { lanes ≤ 16 }
     requires from { at + lanes ≤ length from.now }
     requires to { place + lanes ≤ length to.old }
@@ -44,9 +47,10 @@ fn copy_lanes(from: &[u64], at: u64, to: &mut [u64], place: u64, lanes: u64)
 }
 
 /// The operation on two registers, whose words begin at these places.
-fn combine_registers(
+#[inline]
+pub(crate) fn combine_registers(
     operation: Operation,
-    modulus: Modulus,
+    modulus: &QuickModulus,
     lanes: u64,
     registers: &mut [u64],
     place: u64,
@@ -57,8 +61,8 @@ fn combine_registers(
     requires place { place + lanes ≤ length registers.old }
     requires left { left + lanes ≤ length registers.old }
     requires right { right + lanes ≤ length registers.old }
-    requires residues { (k : ℕ) → slice_index registers.old k < modulus }
-    ensures { registers.new ≡ with_words registers.old place (lane_by_lane (operated operation modulus) (words_at lanes registers.old left) (words_at lanes registers.old right)) }
+    requires residues { (k : ℕ) → slice_index registers.old k < modulus.now }
+    ensures { registers.new ≡ with_words registers.old place (lane_by_lane (operated operation modulus.now) (words_at lanes registers.old left) (words_at lanes registers.old right)) }
 {
     if lanes == 1 {
         registers[place as usize] = operate(
@@ -77,7 +81,7 @@ fn combine_registers(
 
 /// Multiplies a register, whose words begin at `source`, by the factors of the lanes.
 fn scale_register(
-    modulus: Modulus,
+    modulus: &QuickModulus,
     lanes: u64,
     registers: &mut [u64],
     place: u64,
@@ -87,9 +91,9 @@ fn scale_register(
     requires lanes { lanes ≤ 16 }
     requires place { place + lanes ≤ length registers.old }
     requires source { source + lanes ≤ length registers.old }
-    requires residues { (k : ℕ) → slice_index registers.old k < modulus }
-    requires factors { (k : ℕ) → slice_index factors.now k < modulus }
-    ensures { registers.new ≡ with_words registers.old place (lane_by_lane (operated Product modulus) (words_at lanes registers.old source) factors.now) }
+    requires residues { (k : ℕ) → slice_index registers.old k < modulus.now }
+    requires factors { (k : ℕ) → slice_index factors.now k < modulus.now }
+    ensures { registers.new ≡ with_words registers.old place (lane_by_lane (operated Product modulus.now) (words_at lanes registers.old source) factors.now) }
 {
     if lanes == 1 {
         registers[place as usize] = modulus.mul(registers[source as usize], factors[0]);
@@ -100,79 +104,74 @@ fn scale_register(
     write_lanes(registers, place, &values, lanes);
 }
 
-/// Does the action on the memory and one processor's registers.
-pub(crate) fn apply(
-    modulus: Modulus,
+/// Multiplies a register, whose words begin at `source`, by the same factor on all lanes.
+#[inline]
+pub(crate) fn scale_by_constant(
+    modulus: &QuickModulus,
     lanes: u64,
-    regs: u64,
-    action: &Action,
-    memory: &mut [u64],
     registers: &mut [u64],
+    place: u64,
+    source: u64,
+    factor: u64,
+)
+    requires lanes { (0 < lanes) × (lanes ≤ 16) }
+    requires place { place + lanes ≤ length registers.old }
+    requires source { source + lanes ≤ length registers.old }
+    requires residues { (k : ℕ) → slice_index registers.old k < modulus.now }
+    requires factors { All (λ c. c < modulus.now) (lane_factors lanes (λ _. factor)) }
+    ensures { registers.new ≡ with_words registers.old place (lane_by_lane (operated Product modulus.now) (words_at lanes registers.old source) (lane_factors lanes (λ _. factor))) }
+{
+    if lanes == 1 {
+        registers[place as usize] = modulus.mul(registers[source as usize], factor);
+        return;
+    }
+    let factors = same_factors(factor, lanes);
+    scale_register(modulus, lanes, registers, place, source, &factors);
+}
+
+/// Multiplies a register, whose words begin at `source`, by the entries of each lane, from `at` on.
+#[inline]
+pub(crate) fn scale_by_entries(
+    modulus: &QuickModulus,
+    lanes: u64,
+    registers: &mut [u64],
+    place: u64,
+    source: u64,
+    entries: &[u64],
+    at: u64,
+    step: u64,
+)
+    requires lanes { (0 < lanes) × (lanes ≤ 16) }
+    requires place { place + lanes ≤ length registers.old }
+    requires source { source + lanes ≤ length registers.old }
+    requires inside { at + step * (lanes - 1) < length entries.now }
+    requires residues { (k : ℕ) → slice_index registers.old k < modulus.now }
+    requires factors { All (λ c. c < modulus.now) (lane_factors lanes (λ lane. slice_index entries.now (at + step * lane))) }
+    ensures { registers.new ≡ with_words registers.old place (lane_by_lane (operated Product modulus.now) (words_at lanes registers.old source) (lane_factors lanes (λ lane. slice_index entries.now (at + step * lane)))) }
+{
+    if lanes == 1 {
+        registers[place as usize] = modulus.mul(registers[source as usize], entries[at as usize]);
+        return;
+    }
+    let factors = table_factors(entries, lanes, at, step);
+    scale_register(modulus, lanes, registers, place, source, &factors);
+}
+
+/// The negative of a register, whose words begin at `source`.
+pub(crate) fn negate_register(
+    modulus: &QuickModulus,
+    lanes: u64,
+    registers: &mut [u64],
+    place: u64,
+    source: u64,
 )
     requires lanes { lanes ≤ 16 }
-    requires file { length registers.old ≡ regs * lanes }
-    requires registers { RegistersFit regs lanes action.now }
-    requires factors { FactorsFit modulus action.now }
-    requires address { AddressFits lanes (length memory.old) action.now }
-    requires residues { (k : ℕ) → slice_index registers.old k < modulus }
-    ensures memory { memory.new ≡ (effect modulus lanes action.now (record { memory = memory.old; registers = registers.old })).memory }
-    ensures registers { registers.new ≡ (effect modulus lanes action.now (record { memory = memory.old; registers = registers.old })).registers }
+    requires place { place + lanes ≤ length registers.old }
+    requires source { source + lanes ≤ length registers.old }
+    requires residues { (k : ℕ) → slice_index registers.old k < modulus.now }
+    ensures { registers.new ≡ with_words registers.old place (map (negation_mod modulus.now) (words_at lanes registers.old source)) }
 {
-    match action {
-        Action::Load { register, address } => {
-            copy_lanes(memory, *address, registers, *register * lanes, lanes);
-        }
-        Action::Store { address, register } => {
-            copy_lanes(registers, *register * lanes, memory, *address, lanes);
-        }
-        Action::Zero { register } => {
-            write_lanes(registers, *register * lanes, &[0; MAX_LANES], lanes);
-        }
-        Action::Add {
-            register,
-            left,
-            right,
-        } => {
-            let place = *register * lanes;
-            combine_registers(
-                Operation::Sum,
-                modulus,
-                lanes,
-                registers,
-                place,
-                *left * lanes,
-                *right * lanes,
-            );
-        }
-        Action::Sub {
-            register,
-            left,
-            right,
-        } => {
-            let place = *register * lanes;
-            combine_registers(
-                Operation::Difference,
-                modulus,
-                lanes,
-                registers,
-                place,
-                *left * lanes,
-                *right * lanes,
-            );
-        }
-        Action::Neg { register, source } => {
-            let x = read_lanes(registers, *source * lanes, lanes);
-            let values = combine(Operation::Difference, modulus, lanes, &[0; MAX_LANES], &x);
-            write_lanes(registers, *register * lanes, &values, lanes);
-        }
-        Action::Mul {
-            register,
-            source,
-            factors,
-        } => {
-            let place = *register * lanes;
-            scale_register(modulus, lanes, registers, place, *source * lanes, factors);
-        }
-        Action::Tile { register, source } => transpose(registers, *register, *source, lanes),
-    }
+    let x = read_lanes(registers, source, lanes);
+    let values = combine(Operation::Difference, modulus, lanes, &[0; MAX_LANES], &x);
+    write_lanes(registers, place, &values, lanes);
 }

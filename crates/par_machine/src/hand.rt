@@ -14,7 +14,8 @@ use crate::shape::Shape;
 use icode::action::{Action, MAX_LANES};
 use icode::program::{Array, Op};
 
-fn address(room: u64, array: Array, place: u64) -> u64
+#[inline]
+pub(crate) fn address(room: u64, array: Array, place: u64) -> u64
     requires inside { place ≤ room }
     requires small { 4 * room < 2 ^ 64 }
     ensures { result ≡ array_start room array + place }
@@ -29,7 +30,7 @@ fn address(room: u64, array: Array, place: u64) -> u64
 }
 
 /// The factor of each lane, from the table's entry at the place on.
-fn table_factors(entries: &[u64], lanes: u64, place: u64, step: u64) -> [u64; MAX_LANES]
+pub(crate) fn table_factors(entries: &[u64], lanes: u64, place: u64, step: u64) -> [u64; MAX_LANES]
     requires lanes { (0 < lanes) × (lanes ≤ 16) }
     requires inside { place + step * (lanes - 1) < length entries.now }
     ensures { result ≡ lane_factors lanes (λ lane. slice_index entries.now (place + step * lane)) }
@@ -42,7 +43,7 @@ fn table_factors(entries: &[u64], lanes: u64, place: u64, step: u64) -> [u64; MA
 }
 
 /// The same factor for each lane.
-fn same_factors(factor: u64, lanes: u64) -> [u64; MAX_LANES]
+pub(crate) fn same_factors(factor: u64, lanes: u64) -> [u64; MAX_LANES]
     requires lanes { lanes ≤ 16 }
     ensures { result ≡ lane_factors lanes (λ _. factor) }
 {

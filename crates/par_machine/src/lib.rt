@@ -10,6 +10,8 @@ mod lanes;
 mod machine;
 mod make;
 mod phase;
+mod place;
+mod play;
 mod shape;
 #[cfg(test)]
 mod tests;

@@ -6,6 +6,7 @@ ghost use Rattle.icode.specs.Machine.{acts, next_action, turn, run, answer, comp
 ghost use Rattle.icode.specs.Program.{code_of, Fits};
 ghost use Rattle.request_text.specs.Turns.{named, turns_of};
 ghost use Rattle.par_machine.specs.Answers.{answered};
+ghost use Rattle.par_machine.specs.Unfinished.{IsUnfinished};
 
 use crate::cursor::Cursor;
 use crate::hand::at_hand;
@@ -15,7 +16,7 @@ use crate::make::{
 };
 use crate::phase::{Routine, first_busy, first_left, rewind_all, settle};
 use crate::shape::Shape;
-use crate::words::{Words, act, clear_all, count};
+use crate::words::{Words, clear_all, play_on};
 use icode::action::{Action, Counts};
 use icode::program::Program;
 use memory::NoMemory;
@@ -113,27 +114,36 @@ impl Machine {
         at_hand(&self.shape, &self.tables, &routine.code, cursor, proc)
     }
 
-    /// The processor does the action, which is the one that it has left.
-    fn step(&mut self, proc: u64, action: &Action)
+    /// The processor does so many of the actions that it has left.
+    fn advance(&mut self, proc: u64, count: u64)
         requires proc { proc < self.old.code.procs }
-        requires hand { next_action self.old.code self.old.state proc ≡ Some action.now }
-        ensures state { self.new.state ≡ turn self.old.code self.old.state proc }
+        requires some { 0 < count }
+        requires left { slice_index self.old.state.done proc + count ≤ length (acts self.old.code self.old.state.phase proc) }
+        ensures state { self.new.state ≡ run self.old.code self.old.state (replicate count proc) }
         ensures code { self.new.code ≡ self.old.code }
     {
-        act(
-            &self.shape,
-            action,
-            &mut self.memory,
-            &mut self.registers,
-            proc,
-        );
-        let counts = &mut self.counts[proc as usize];
-        count(counts, self.shape.lanes, action);
-        self.done[proc as usize] += 1;
         let routine = &self.phases[self.phase as usize];
         let cursor = &mut self.cursors[proc as usize];
-        cursor.advance(&routine.code);
-        self.phase = settle(&self.phases, self.phase, &mut self.done, &mut self.cursors);
+        let counts = &mut self.counts[proc as usize];
+        play_on(
+            &self.shape,
+            &self.tables,
+            &routine.code,
+            cursor,
+            proc,
+            count,
+            &mut self.memory,
+            &mut self.registers,
+            counts,
+        );
+        self.done[proc as usize] += count;
+        self.phase = settle(
+            &self.phases,
+            self.phase,
+            &mut self.done,
+            &mut self.cursors,
+            proc,
+        );
     }
 
     /// Begins a run on this input: it stands in the first words, all else is 0 and nothing is done.
@@ -160,13 +170,25 @@ impl Machine {
     {
         if self.left(proc) > 0 {
             let action = self.action(proc);
-            self.step(proc, &action);
+            self.advance(proc, 1);
             return Turned::Did(action);
         }
         if self.is_over() {
             Turned::Done
         } else {
             Turned::Waits
+        }
+    }
+
+    /// The turn of a processor, whose answer nobody asks for.
+    #[inline]
+    fn pass(&mut self, proc: u64)
+        requires proc { proc < self.old.code.procs }
+        ensures state { self.new.state ≡ turn self.old.code self.old.state proc }
+        ensures code { self.new.code ≡ self.old.code }
+    {
+        if self.left(proc) != 0 {
+            self.advance(proc, 1);
         }
     }
 
@@ -186,7 +208,7 @@ impl Machine {
         let procs = self.procs();
         for i in 0..schedule.len(procs) {
             let proc = schedule.turn_at(i, procs);
-            self.turn(proc);
+            self.pass(proc);
         }
     }
 
@@ -202,13 +224,25 @@ impl Machine {
         first_left(&self.done, self.phases[self.phase as usize].len)
     }
 
+    /// The processor that does all that it has left in the phase next, where the run is finished.
+    fn unfinished(&self) -> Option<u64>
+        ensures found { IfSome result (IsUnfinished self.now.code self.now.state) }
+        ensures none { IfNone result (completion self.now.code self.now.state ≡ []) }
+    {
+        if self.phase == self.phases.len() as u64 {
+            return None;
+        }
+        first_left(&self.done, self.phases[self.phase as usize].len)
+    }
+
     /// The turns that finish the run.
     pub fn finish(&mut self)
         ensures state { self.new.state ≡ finished self.old.code self.old.state }
         ensures code { self.new.code ≡ self.old.code }
     {
-        while let Some(proc) = self.next_proc() {
-            self.turn(proc);
+        while let Some(proc) = self.unfinished() {
+            let left = self.left(proc);
+            self.advance(proc, left);
         }
     }
 
@@ -240,7 +274,7 @@ impl Machine {
     pub fn modulus(&self) -> Modulus
         ensures { result ≡ self.now.code.modulus }
     {
-        self.shape.modulus
+        self.shape.modulus.modulus()
     }
 
     /// The number of processors.

@@ -16,6 +16,7 @@ use crate::words::Words;
 use icode::action::Counts;
 use icode::program::Program;
 use memory::NoMemory;
+use quick_mod::QuickModulus;
 use ring_mod::Modulus;
 use std::alloc::Global;
 
@@ -36,7 +37,7 @@ pub(crate) fn shape_of(program: &Program) -> Shape
 {
     Shape {
         size: program.size,
-        modulus: Modulus::new(program.modulus).unwrap(),
+        modulus: QuickModulus::new(Modulus::new(program.modulus).unwrap()),
         procs: program.procs,
         line: program.line,
         lanes: program.lanes,

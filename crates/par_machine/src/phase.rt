@@ -42,20 +42,27 @@ pub(crate) fn first_busy(phases: &[Routine], from: u64) -> u64
 }
 
 /// Where no action is left in the phase, nothing is done of the next one that has an action. The result
-/// is the phase.
+/// is the phase. The processor is asked first, so that most calls look at no other.
+#[inline]
 pub(crate) fn settle(
     phases: &[Routine],
     phase: u64,
     done: &mut [u64],
     cursors: &mut [Cursor],
+    proc: u64,
 ) -> u64
+    requires proc { proc < length done.old }
     requires phase { phase < length phases.now }
     ensures phase { (code : Code) → HasLengths code phases.now → 0 < code.procs → code.procs ≡ length done.old → result ≡ (if is_open code phase done.old then phase else first_open code (length phases.now - (phase + 1)) (phase + 1)) }
     ensures done { (code : Code) → HasLengths code phases.now → 0 < code.procs → code.procs ≡ length done.old → done.new ≡ (if is_open code phase done.old then done.old else replicate (length done.old) 0) }
     ensures cursors { (code : Code) → HasLengths code phases.now → 0 < code.procs → code.procs ≡ length done.old → cursors.new ≡ (if is_open code phase done.old then cursors.old else replicate (length cursors.old) first_position) }
     ensures within { result ≤ length phases.now }
 {
-    match first_left(done, phases[phase as usize].len) {
+    let len = phases[phase as usize].len;
+    if done[proc as usize] < len {
+        return phase;
+    }
+    match first_left(done, len) {
         Some(_) => phase,
         None => {
             done.fill(0);

@@ -4,12 +4,12 @@ ghost use Rattle.std.specs.Prelude.{◌≡◌};
 ghost use Rattle.icode.specs.Limits.{IsHeaderWithin};
 ghost use Rattle.icode.specs.Machine.{whole_lines};
 
-use ring_mod::Modulus;
+use quick_mod::QuickModulus;
 
-#[derive(Clone, Copy)]
+#[derive(Drop)]
 pub(crate) struct Shape {
     pub(crate) size: u64,
-    pub(crate) modulus: Modulus,
+    pub(crate) modulus: QuickModulus,
     pub(crate) procs: u64,
     pub(crate) line: u64,
     pub(crate) lanes: u64,

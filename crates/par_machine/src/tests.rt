@@ -215,7 +215,9 @@ fn run_all(machine: &mut Machine, schedule: &Schedule) -> bool
 
 #[test]
 fn one_processor(rt: HostRuntime) -> Result<(), Fail> {
-    let mut machine = pair_machine(rt.alloc()).map_err(|_| "out of memory")?;
+    let Ok(mut machine) = pair_machine(rt.alloc()) else {
+        return Err(Fail::from("out of memory"));
+    };
     machine.put(&[1, 1]);
     for i in 0..7u64 {
         let turned = machine.turn(0);
@@ -236,7 +238,9 @@ fn one_processor(rt: HostRuntime) -> Result<(), Fail> {
 
 #[test]
 fn two_processors(rt: HostRuntime) -> Result<(), Fail> {
-    let mut machine = quad_machine(rt.alloc()).map_err(|_| "out of memory")?;
+    let Ok(mut machine) = quad_machine(rt.alloc()) else {
+        return Err(Fail::from("out of memory"));
+    };
     machine.put(&[1, 2, 3, 4]);
     for i in 0..8u64 {
         let turned = machine.turn(1);

@@ -1,13 +1,15 @@
 // Words of memory or of registers.
 
-ghost use Rattle.std.specs.Prelude.{◌≡◌, ℕ, ◌+◌, ◌-◌, ◌*◌, ◌^◌, ◌<◌, ◌≤◌, ◌++◌, List, [], length, replicate, slice_index, slice_index_or, slice_set, IfOk};
-ghost use Rattle.icode.specs.Machine.{effect, counted, no_counts};
-ghost use Rattle.icode.specs.Actions.{RegistersFit, FactorsFit};
-ghost use Rattle.par_machine.specs.Operation.{AddressFits};
+ghost use Rattle.std.specs.Prelude.{◌≡◌, ℕ, ◌+◌, ◌-◌, ◌*◌, ◌^◌, ◌<◌, ◌≤◌, ◌++◌, List, [], length, replicate, slice_index, slice_index_or, slice_set, IfOk, All};
+ghost use Rattle.par_machine.specs.Hand.{step_at, Runs};
+ghost use Rattle.par_machine.specs.Header.{header_of};
+ghost use Rattle.par_machine.specs.Instruction.{IsClosed, IsWithin};
+ghost use Rattle.par_machine.specs.Played.{played};
+ghost use Rattle.par_machine.specs.Position.{positions};
 
-use crate::effect::apply;
+use crate::cursor::{Cursor, Instruction};
 use crate::shape::Shape;
-use icode::action::{Action, Counts};
+use icode::action::Counts;
 use memory::NoMemory;
 use std::alloc::Global;
 use std::marker::Model;
@@ -59,45 +61,77 @@ impl Words {
         self.words[place as usize]
     }
 
-    /// Does the action on these registers and the memory.
-    pub(crate) fn act(&mut self, shape: &Shape, action: &Action, memory: &mut Words)
+    /// Does so many actions on these registers and the memory, from the cursor's place on.
+    #[inline]
+    pub(crate) fn play(
+        &mut self,
+        shape: &Shape,
+        tables: &[Vec<u64>],
+        code: &[Instruction],
+        cursor: &mut Cursor,
+        proc: u64,
+        count: u64,
+        memory: &mut Words,
+        counts: &mut Counts,
+    )
+        requires closed { All IsClosed code.now }
+        requires within { All (IsWithin shape.now.modulus) code.now }
+        requires runs { All (λ place. Runs (header_of shape.now tables.now) (step_at (header_of shape.now tables.now) code.now proc place)) (positions code.now count cursor.old) }
+        requires memory { length memory.old ≡ 4 * shape.now.room }
+        requires words { (k : ℕ) → slice_index memory.old k < shape.now.modulus }
         requires file { length self.old ≡ shape.now.regs * shape.now.lanes }
-        requires registers { RegistersFit shape.now.regs shape.now.lanes action.now }
-        requires factors { FactorsFit shape.now.modulus action.now }
-        requires address { AddressFits shape.now.lanes (length memory.old) action.now }
         requires residues { (k : ℕ) → slice_index self.old k < shape.now.modulus }
-        ensures memory { memory.new ≡ (effect shape.now.modulus shape.now.lanes action.now (record { memory = memory.old; registers = self.old })).memory }
-        ensures registers { self.new ≡ (effect shape.now.modulus shape.now.lanes action.now (record { memory = memory.old; registers = self.old })).registers }
+        requires operations { counts.old.operations + count * shape.now.lanes < 2 ^ 64 }
+        requires loads { counts.old.loads + count * shape.now.lanes < 2 ^ 64 }
+        requires stores { counts.old.stores + count * shape.now.lanes < 2 ^ 64 }
+        ensures memory { memory.new ≡ (played (header_of shape.now tables.now) code.now proc count (record { memory = memory.old; registers = self.old; place = cursor.old; counts = counts.old })).memory }
+        ensures registers { self.new ≡ (played (header_of shape.now tables.now) code.now proc count (record { memory = memory.old; registers = self.old; place = cursor.old; counts = counts.old })).registers }
+        ensures counts { counts.new ≡ (played (header_of shape.now tables.now) code.now proc count (record { memory = memory.old; registers = self.old; place = cursor.old; counts = counts.old })).counts }
+        ensures cursor { cursor.new ≡ (played (header_of shape.now tables.now) code.now proc count (record { memory = memory.old; registers = self.old; place = cursor.old; counts = counts.old })).place }
     {
-        apply(
-            shape.modulus,
-            shape.lanes,
-            shape.regs,
-            action,
+        cursor.play(
+            shape,
+            tables,
+            code,
+            proc,
+            count,
             &mut memory.words,
             &mut self.words,
+            counts,
         );
     }
 }
 
-/// One processor does the action.
-pub(crate) fn act(
+/// One processor does so many actions, from its cursor's place on.
+#[inline]
+pub(crate) fn play_on(
     shape: &Shape,
-    action: &Action,
+    tables: &[Vec<u64>],
+    code: &[Instruction],
+    cursor: &mut Cursor,
+    proc: u64,
+    count: u64,
     memory: &mut Words,
     registers: &mut Vec<Words>,
-    proc: u64,
+    counts: &mut Counts,
 )
     requires proc { proc < length registers.old.items }
+    requires closed { All IsClosed code.now }
+    requires within { All (IsWithin shape.now.modulus) code.now }
+    requires runs { All (λ place. Runs (header_of shape.now tables.now) (step_at (header_of shape.now tables.now) code.now proc place)) (positions code.now count cursor.old) }
+    requires memory { length memory.old ≡ 4 * shape.now.room }
+    requires words { (k : ℕ) → slice_index memory.old k < shape.now.modulus }
     requires file { length (slice_index_or registers.old.items proc []) ≡ shape.now.regs * shape.now.lanes }
-    requires registers { RegistersFit shape.now.regs shape.now.lanes action.now }
-    requires factors { FactorsFit shape.now.modulus action.now }
-    requires address { AddressFits shape.now.lanes (length memory.old) action.now }
     requires residues { (k : ℕ) → slice_index (slice_index_or registers.old.items proc []) k < shape.now.modulus }
-    ensures memory { memory.new ≡ (effect shape.now.modulus shape.now.lanes action.now (record { memory = memory.old; registers = slice_index_or registers.old.items proc [] })).memory }
-    ensures registers { registers.new.items ≡ slice_set registers.old.items proc (effect shape.now.modulus shape.now.lanes action.now (record { memory = memory.old; registers = slice_index_or registers.old.items proc [] })).registers }
+    requires operations { counts.old.operations + count * shape.now.lanes < 2 ^ 64 }
+    requires loads { counts.old.loads + count * shape.now.lanes < 2 ^ 64 }
+    requires stores { counts.old.stores + count * shape.now.lanes < 2 ^ 64 }
+    ensures memory { memory.new ≡ (played (header_of shape.now tables.now) code.now proc count (record { memory = memory.old; registers = (slice_index_or registers.old.items proc []); place = cursor.old; counts = counts.old })).memory }
+    ensures registers { registers.new.items ≡ slice_set registers.old.items proc (played (header_of shape.now tables.now) code.now proc count (record { memory = memory.old; registers = (slice_index_or registers.old.items proc []); place = cursor.old; counts = counts.old })).registers }
+    ensures counts { counts.new ≡ (played (header_of shape.now tables.now) code.now proc count (record { memory = memory.old; registers = (slice_index_or registers.old.items proc []); place = cursor.old; counts = counts.old })).counts }
+    ensures cursor { cursor.new ≡ (played (header_of shape.now tables.now) code.now proc count (record { memory = memory.old; registers = (slice_index_or registers.old.items proc []); place = cursor.old; counts = counts.old })).place }
 {
-    registers[proc as usize].act(shape, action, memory);
+    registers[proc as usize].play(shape, tables, code, cursor, proc, count, memory, counts);
 }
 
 /// 0 in all registers.
@@ -107,22 +141,5 @@ pub(crate) fn clear_all(registers: &mut [Words], count: u64)
 {
     for file in registers.iter_mut() {
         file.clear();
-    }
-}
-
-/// Counts an action.
-pub(crate) fn count(counts: &mut Counts, lanes: u64, action: &Action)
-    requires operations { counts.old.operations + lanes < 2 ^ 64 }
-    requires loads { counts.old.loads + lanes < 2 ^ 64 }
-    requires stores { counts.old.stores + lanes < 2 ^ 64 }
-    ensures { counts.new ≡ counted lanes action.now counts.old }
-{
-    match action {
-        Action::Load { .. } => counts.loads += lanes,
-        Action::Store { .. } => counts.stores += lanes,
-        Action::Add { .. } | Action::Sub { .. } | Action::Neg { .. } | Action::Mul { .. } => {
-            counts.operations += lanes;
-        }
-        Action::Zero { .. } | Action::Tile { .. } => {}
     }
 }

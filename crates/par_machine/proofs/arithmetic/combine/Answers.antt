@@ -8,5 +8,5 @@ loop-lane-preserved c =
     let inv = c.loop-lane.invariant in
     record {
       whole = length-set c.loop-lane.values c.loop-lane.lane _ ∙ inv.whole;
-      combined = combine_step (operated c.args.operation c.args.modulus) c.loop-lane.values c.args.left.now c.args.right.now c.loop-lane.lane _ inv.whole c.told-left c.told-right (omega arith) c.operate.ensures inv.combined;
+      combined = combine_step (operated c.args.operation c.args.modulus.now) c.loop-lane.values c.args.left.now c.args.right.now c.loop-lane.lane _ inv.whole c.told-left c.told-right (omega arith) c.operate.ensures inv.combined;
     }

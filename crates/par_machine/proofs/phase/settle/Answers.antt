@@ -1,7 +1,8 @@
-use Rattle.std.proofs.Common.{◌≡◌, ◌+◌, ◌-◌, ℕ, cond, length, replicate, sym, ap, ◌∙◌}
+use Rattle.std.proofs.Common.{arith, ◌≡◌, ◌+◌, ◌-◌, ℕ, cond, length, replicate, sym, ap, ◌∙◌}
 use Rattle.icode.specs.Machine.{is_open, first_open}
 use Rattle.par_machine.specs.Position.{first_position}
-use Rattle.par_machine.proofs.Phases.{open_now, over_now, found_of, none_of}
+use Rattle.par_machine.specs.declared.phase.Routine.{Routine}
+use Rattle.par_machine.proofs.Phases.{opens, len_at, open_now, over_now, found_of, none_of}
 use Rattle.par_machine.proofs.phase.settle.Goals as goal
 
 pub returns-in-Some-clause-phase : goal.returns-in-Some-clause-phase
@@ -36,3 +37,21 @@ returns-in-None-clause-cursors c = λ code h procs same.
     c.rewind_all.ensures
     ∙ sym (ap (λ b. cond b c.args.cursors.now (replicate (length c.args.cursors.now) first_position))
     (over_now code c.args.phases.now c.args.phase c.index-phases-phase.result c.args.done.now h c.requires.phase c.index-phases-phase.is same (none_of c.index-phases-phase.result c.args.phases.now c.args.phase c.args.done.now c.index-phases-phase.is c.in-None.ensures.none)))
+
+pub returns-then-done-proc-clause-phase : goal.returns-then-done-proc-clause-phase
+returns-then-done-proc-clause-phase c = λ code h procs same.
+    let r = c.index-phases-phase.result in
+    sym (ap (λ b. cond b c.args.phase (first_open code (length c.args.phases.now - (c.args.phase + 1)) (c.args.phase + 1)))
+    (opens code c.args.phases.now c.args.phase c.args.proc r.len c.args.done.now h (len_at c.args.phases.now c.args.phase r c.requires.phase c.index-phases-phase.is) (omega (arith, same, c.requires.proc)) (omega (arith, c.if-done-proc.true, ap (λ (x : Routine). x.len) c.index-phases-phase.is))))
+
+pub returns-then-done-proc-clause-done : goal.returns-then-done-proc-clause-done
+returns-then-done-proc-clause-done c = λ code h procs same.
+    let r = c.index-phases-phase.result in
+    sym (ap (λ b. cond b c.args.done.now (replicate {A = ℕ} (length c.args.done.now) 0))
+    (opens code c.args.phases.now c.args.phase c.args.proc r.len c.args.done.now h (len_at c.args.phases.now c.args.phase r c.requires.phase c.index-phases-phase.is) (omega (arith, same, c.requires.proc)) (omega (arith, c.if-done-proc.true, ap (λ (x : Routine). x.len) c.index-phases-phase.is))))
+
+pub returns-then-done-proc-clause-cursors : goal.returns-then-done-proc-clause-cursors
+returns-then-done-proc-clause-cursors c = λ code h procs same.
+    let r = c.index-phases-phase.result in
+    sym (ap (λ b. cond b c.args.cursors.now (replicate (length c.args.cursors.now) first_position))
+    (opens code c.args.phases.now c.args.phase c.args.proc r.len c.args.done.now h (len_at c.args.phases.now c.args.phase r c.requires.phase c.index-phases-phase.is) (omega (arith, same, c.requires.proc)) (omega (arith, c.if-done-proc.true, ap (λ (x : Routine). x.len) c.index-phases-phase.is))))

@@ -5,8 +5,8 @@ use Rattle.request_text.specs.Turns.{named, turns_of}
 use Rattle.par_machine.proofs.Schedules.{turns_there}
 use Rattle.par_machine.proofs.machine.Machine.run_list.Goals as goal
 
-pub turn-requires : goal.turn-requires
-turn-requires c =
+pub pass-requires : goal.pass-requires
+pass-requires c =
     let procs = c.procs-procs.result in
     let known : find (λ q. nat_le procs q) (named c.args.schedule.now) ≡ None = subst (λ n. find (λ q. nat_le n q) (named c.args.schedule.now) ≡ None) (sym c.procs-procs.ensures.value) c.requires.no_stranger in
     let there = turns_there c.args.schedule.now procs (omega (arith, c.procs-procs.ensures.limits.0)) known c.loop-i.i (omega (arith, c.len-i-end.ensures.value)) in

@@ -1,0 +1,15 @@
+use Rattle.std.proofs.Common.{◌≡◌, ◌+◌, ◌^◌, ◌<◌, drop, map, length}
+use Rattle.std.specs.Prelude.{IsTrue}
+use Rattle.std.specs.List.{list_all}
+use Rattle.icode.specs.Expression.{expr_numbers, parts_numbers}
+use Rattle.icode.specs.Limits.{is_part_within}
+use Rattle.icode.specs.Plain.{parts_of, plain_part}
+use Rattle.par_machine.proofs.place.place_value.Given as goal
+
+abbrev pub invariant-loop-part : goal.invariant-loop-part
+invariant-loop-part l = record {
+  sum_so_far : l.sum + (parts_numbers (parts_of (map plain_part (drop l.part-index l.part-items))) l.values l.proc).value ≡ (expr_numbers l.place l.values l.proc).value;
+  total_fits : (expr_numbers l.place l.values l.proc).value < 2 ^ 64;
+  parts_fit : (parts_numbers (parts_of (map plain_part (drop l.part-index l.part-items))) l.values l.proc).peak < 2 ^ 64;
+  parts_within : IsTrue (list_all (λ part. is_part_within (plain_part part) (length l.values)) (drop l.part-index l.part-items));
+}
