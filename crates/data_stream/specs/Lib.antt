@@ -1,5 +1,6 @@
 pub mod Data
 pub mod Ending
+pub mod Held
 pub mod Line
 pub mod Reading
 pub mod Token

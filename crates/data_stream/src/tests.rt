@@ -1,7 +1,7 @@
 ghost use Rattle.std.specs.Prelude.{◌<◌};
 
 use super::*;
-use io_edge::{CountSink, Feed, MemSink, MemSource};
+use io_edge::{CountSink, Feed, MemSink, MemSource, WriteFault};
 use ring_mod::Modulus;
 use std::alloc::Global;
 use std::test::Fail;
@@ -98,6 +98,17 @@ fn failing_reads(rt: HostRuntime) -> Result<(), Fail> {
         assert_eq!(rt; output.bytes(), text, "a fault at call {call}");
         assert_eq!(rt; next, end, "a fault at call {call}");
     }
+    Ok(())
+}
+
+// A short line is one write.
+#[test]
+fn short_lines(rt: HostRuntime) -> Result<(), Fail> {
+    let alloc = rt.alloc();
+    let mut output = MemSink::new(alloc, 100, vec![in alloc; 1]?)?;
+    assert_eq!(rt; write_vector(&mut output, &[1, 22, 333]), Ok(()));
+    assert_eq!(rt; write_vector(&mut output, &[4]), Err(WriteFault));
+    assert_eq!(rt; output.bytes(), b"1 22 333\n".as_slice());
     Ok(())
 }
 

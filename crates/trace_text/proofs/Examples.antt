@@ -1,5 +1,5 @@
 -- Programs of the tests, written out.
-use Rattle.std.proofs.Common.{◌≡◌, ℕ, zero, suc, ◌-◌, ◌^◌, List, [], ◌∷◌, refl}
+use Rattle.std.proofs.Common.{◌≡◌, ℕ, zero, suc, ◌-◌, ◌^◌, [], ◌∷◌, refl}
 use Rattle.std.specs.Prelude.{slice_index_or}
 use Rattle.icode.specs.declared.program.Array.TheVariants as arrays
 use Rattle.icode.specs.Actions.{PlainFits}

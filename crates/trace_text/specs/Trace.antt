@@ -26,9 +26,13 @@ answer_text lanes Done = codes "done"
 abbrev pub turn_line : ℕ → ℕ → ℕ → Answer → List ℕ
 turn_line lanes number q given = decimal number ++ codes " " ++ decimal q ++ codes " " ++ answer_text lanes given ++ codes "\n"
 
--- the line of turn i, which is taken in the state after the turns before it
+-- what turn i answers, which is taken in the state after the turns before it
+abbrev pub answer_at : Code → State → List ℕ → ℕ → Answer
+answer_at code s turns i = answer code (run code s (take i turns)) (slice_index turns i)
+
+-- the line of turn i
 abbrev pub line_at : Code → State → List ℕ → ℕ → List ℕ
-line_at code s turns i = turn_line code.lanes i (slice_index turns i) (answer code (run code s (take i turns)) (slice_index turns i))
+line_at code s turns i = turn_line code.lanes i (slice_index turns i) (answer_at code s turns i)
 
 -- the lines of turns from a state on
 abbrev pub lines_of_turns : Code → State → List ℕ → List ℕ

@@ -1,6 +1,7 @@
 //! The text of a run: a line for each turn, with what the machine answers.
 #![tactic(auto)]
 
+pub mod laws;
 mod text;
 mod turns;
 

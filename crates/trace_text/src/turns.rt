@@ -6,8 +6,9 @@ ghost use Rattle.icode.specs.Machine.{answer, completion, finished, run, turn};
 ghost use Rattle.io_edge.specs.Faults.{HasCause};
 ghost use Rattle.io_edge.specs.Taken.{WritesAll};
 ghost use Rattle.request_text.specs.Turns.{named, turns_of};
+ghost use Rattle.trace_text.specs.Course.{CompletionActs, EachActs, PassesThrough};
 ghost use Rattle.trace_text.specs.From.{lines_from};
-ghost use Rattle.trace_text.specs.Trace.{turn_line, trace_of};
+ghost use Rattle.trace_text.specs.Trace.{completed, turn_line, trace_of};
 
 use crate::text::line_of;
 use io_edge::{Sink, WriteFault, write_all};
@@ -42,6 +43,7 @@ fn write_list<O: Sink>(
     ensures bytes { WritesAll (O.taken output.old) (O.taken output.new) result (lines_from machine.old.code machine.old.state 0 (turns_of schedule.now machine.old.code.procs)) }
     ensures cause { HasCause (O.faults output.old) (O.faults output.new) result }
     ensures state { OnOk result (machine.new.state ≡ run machine.old.code machine.old.state (turns_of schedule.now machine.old.code.procs)) }
+    ensures way { PassesThrough machine.old.code machine.old.state (turns_of schedule.now machine.old.code.procs) machine.new.state }
     ensures code { machine.new.code ≡ machine.old.code }
 {
     let procs = machine.procs();
@@ -58,6 +60,8 @@ fn write_rest<O: Sink>(machine: &mut Machine, first: u64, output: &mut O) -> Res
     ensures bytes { WritesAll (O.taken output.old) (O.taken output.new) result (lines_from machine.old.code machine.old.state first (completion machine.old.code machine.old.state)) }
     ensures cause { HasCause (O.faults output.old) (O.faults output.new) result }
     ensures state { OnOk result (machine.new.state ≡ finished machine.old.code machine.old.state) }
+    ensures way { PassesThrough machine.old.code machine.old.state (completion machine.old.code machine.old.state) machine.new.state }
+    ensures act { OnOk result (EachActs machine.old.code machine.old.state (completion machine.old.code machine.old.state)) }
     ensures code { machine.new.code ≡ machine.old.code }
 {
     let mut number = first;
@@ -84,6 +88,10 @@ pub fn write_turns<O: Sink>(
     ensures cause { HasCause (O.faults output.old) (O.faults output.new) result }
     ensures state { OnOk result (machine.new.state ≡ finished machine.old.code (run machine.old.code machine.old.state (turns_of schedule.now machine.old.code.procs))) }
     ensures code { machine.new.code ≡ machine.old.code }
+    // Wherever a fault met it, the machine stands behind a front of these turns.
+    ensures way { PassesThrough machine.old.code machine.old.state (completed machine.old.code machine.old.state (turns_of schedule.now machine.old.code.procs)) machine.new.state }
+    // The lines of the completion are those of actions.
+    ensures act { OnOk result (CompletionActs machine.old.code machine.old.state (turns_of schedule.now machine.old.code.procs)) }
 {
     write_list(machine, schedule, output)?;
     let count = schedule.len(machine.procs());

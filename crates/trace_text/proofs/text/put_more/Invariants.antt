@@ -1,4 +1,4 @@
-use Rattle.std.proofs.Common.{ℕ, ◌≡◌, ◌≤◌, ◌+◌, ◌*◌, ◌-◌, ◌++◌, codes, decimal, drop, flat_map, length}
+use Rattle.std.proofs.Common.{ℕ, ◌≡◌, ◌≤◌, ◌+◌, ◌*◌, ◌++◌, codes, decimal, drop, flat_map}
 use Rattle.arrayvec.specs.ArrayString.{array_string_len}
 use Rattle.trace_text.proofs.text.put_more.Given as goal
 

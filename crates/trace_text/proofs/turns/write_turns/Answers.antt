@@ -5,6 +5,7 @@ use Rattle.io_edge.specs.Taken.{AppendsPrefix, WritesAll}
 use Rattle.io_edge.proofs.TakenLemmas.{prefix_more, writes_after}
 use Rattle.request_text.specs.Turns.{turns_of}
 use Rattle.trace_text.specs.From.{lines_from}
+use Rattle.trace_text.proofs.Courses.{passes_more, passes_after, same_acts, on_ok}
 use Rattle.trace_text.proofs.Lines.{trace_parts, same_rest}
 use Rattle.trace_text.proofs.turns.write_turns.Goals as goal
 
@@ -36,3 +37,24 @@ returns-clause-bytes g c =
     let rest = same_rest (λ (text : List ℕ). WritesAll b d c.write_rest.result text) c.write_list.new.machine.code code c.write_list.new.machine.state last c.len-count.result (length turns) same c.in_ok-write_list.ensures.state count c.write_rest.ensures.bytes in
     subst (λ (text : List ℕ). WritesAll a d c.write_rest.result text) (sym (trace_parts code state turns))
     (writes_after a b d (lines_from code state 0 turns) (lines_from code last (length turns) (completion code last)) c.write_rest.result c.in_ok-write_list.ensures.bytes rest)
+
+pub returns-in_err-write_list-clause-way : goal.returns-in_err-write_list-clause-way
+returns-in_err-write_list-clause-way g c =
+    let code = c.args.machine.now.code in
+    let state = c.args.machine.now.state in
+    let turns = turns_of c.args.schedule.now code.procs in
+    passes_more code state turns (completion code (run code state turns)) c.write_list.new.machine.state c.in_err-write_list.ensures.way
+
+pub returns-clause-way : goal.returns-clause-way
+returns-clause-way g c =
+    let code = c.args.machine.now.code in
+    let state = c.args.machine.now.state in
+    let turns = turns_of c.args.schedule.now code.procs in
+    passes_after c.write_list.new.machine.code code c.write_list.new.machine.state state turns c.write_rest.new.machine.state c.in_ok-write_list.ensures.code c.in_ok-write_list.ensures.state c.write_rest.ensures.way
+
+pub returns-clause-act : goal.returns-clause-act
+returns-clause-act g c =
+    let code = c.args.machine.now.code in
+    let state = c.args.machine.now.state in
+    let turns = turns_of c.args.schedule.now code.procs in
+    on_ok c.write_rest.result (same_acts c.write_list.new.machine.code code c.write_list.new.machine.state state turns c.in_ok-write_list.ensures.code c.in_ok-write_list.ensures.state) c.write_rest.ensures.act

@@ -1,4 +1,4 @@
-use Rattle.std.proofs.Common.{◌≡◌, ◌<◌, ◌+◌, ◌%◌, ◌++◌, refl, sym, ap, subst, ◌∙◌, arith, take, length, false}
+use Rattle.std.proofs.Common.{◌≡◌, ◌<◌, ◌+◌, ◌++◌, refl, sym, ap, subst, ◌∙◌, arith, take, length, false}
 use Rattle.std.proofs.lemmas.List.{length-take-le, take_all, take_more_set}
 use Rattle.std.specs.List.{All}
 use Rattle.data_stream.specs.Vectors.{Cut}

@@ -1,0 +1,9 @@
+// A law of runs.
+
+ghost use Rattle.trace_text.specs.Course.{CompletionsAct};
+
+/// After any list of turns, each of the turns that complete it does an action: of every code, from the
+/// start of a run on any input. So a trace says `waits` and `done` in the lines of its schedule alone.
+pub fn completions_act()
+    ensures { CompletionsAct }
+{}
