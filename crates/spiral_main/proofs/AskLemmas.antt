@@ -16,7 +16,7 @@ use Rattle.spiral_words.specs.Named as named
 use Rattle.spiral_words.specs.Asked.{Means, IsAsked}
 use Rattle.spiral_main.specs.declared.status.Status.{Status}
 use Rattle.spiral_main.specs.declared.status.Status.TheVariants.{Success, Turn, ReadFault, WriteFault, TooLong}
-use Rattle.spiral_main.specs.Commands.{reads_data, commanded, schedule_of, stranger, admitted}
+use Rattle.spiral_main.specs.Commands.{reads_rest, commanded, schedule_of, stranger, admitted}
 use Rattle.spiral_main.specs.Fault.{status_of_line, status_of_request}
 use Rattle.spiral_main.specs.Line.{first_line, data_of, line_of, IsWholeLine, GivesLine}
 use Rattle.spiral_main.specs.Outcome.{spelt, requested}
@@ -35,7 +35,7 @@ line_long bytes long =
     let test : nat_le (length (first_line bytes)) 256 ≡ false = grind (arith, common_steps) in
     ap (λ b. cond {A = Result (List ℕ) Status} b (Ok (first_line bytes)) (Err (TooLong 256))) test
 
--- the words ask for no command that is there
+-- the words ask for no command
 pub asked_nothing : (words : List (List ℕ)) (a : Option (List ℕ)) (taken : ℕ) (status : Status) → (IsDefined status → commanded words (Err status)) → status ≢ ReadFault → Asks words a a taken (Err status)
 asked_nothing words None taken status refused other = tt
 asked_nothing words (Some bytes) taken status refused other = ([], refl, (λ d. inl (refused d), λ e. absurd (other e)))
@@ -140,26 +140,28 @@ asked_request words (Some bytes) (Some rest) taken command read line wanted name
   ),
 )
 
--- whether the data are read depends on the command's name alone
+-- whether the input is read to its end depends on the command's name alone
 abbrev named_reads : NamedTexts → Bool
 named_reads (named.run word) = true
+named_reads (named.trace word) = true
+named_reads named.check = true
 named_reads _ = false
 
-means_reads : (texts : NamedTexts) (command : Command) → Means texts command → reads_data command ≡ named_reads texts
-means_reads named.plan command means = ap reads_data means
-means_reads named.formula command means = ap reads_data means
-means_reads named.code command means = ap reads_data means
-means_reads named.c command means = ap reads_data means
-means_reads (named.run word) command means = ap reads_data means.2
-means_reads (named.trace word) command means = ap reads_data means.2
-means_reads named.cert command means = ap reads_data means
-means_reads named.check command means = ap reads_data means
-means_reads (named.sample number word) command means = ap reads_data means.4
+means_reads : (texts : NamedTexts) (command : Command) → Means texts command → reads_rest command ≡ named_reads texts
+means_reads named.plan command means = ap reads_rest means
+means_reads named.formula command means = ap reads_rest means
+means_reads named.code command means = ap reads_rest means
+means_reads named.c command means = ap reads_rest means
+means_reads (named.run word) command means = ap reads_rest means.2
+means_reads (named.trace word) command means = ap reads_rest means.2
+means_reads named.cert command means = ap reads_rest means
+means_reads named.check command means = ap reads_rest means
+means_reads (named.sample number word) command means = ap reads_rest means.4
 
 same_texts : (a b : NamedTexts) → Some a ≡ Some b → a ≡ b
 same_texts a b e = cc
 
-pub reads_same : (words : List (List ℕ)) (a b : Command) → IsAsked words a → IsAsked words b → reads_data a ≡ reads_data b
+pub reads_same : (words : List (List ℕ)) (a b : Command) → IsAsked words a → IsAsked words b → reads_rest a ≡ reads_rest b
 reads_same words a b asked other =
     let same : asked.0 ≡ other.0 = same_texts asked.0 other.0 (sym asked.1 ∙ other.1) in
     means_reads asked.0 a asked.2 ∙ ap named_reads same ∙ sym (means_reads other.0 b other.2)

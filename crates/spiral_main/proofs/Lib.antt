@@ -1,5 +1,10 @@
 pub mod AskLemmas
 pub mod LineLemmas
+pub mod OneOutcome
+pub mod OneRequest
+pub mod OneTable
+pub mod OneText
+pub mod OneTree
 pub mod OutcomeLemmas
 pub mod RunLemmas
 pub mod SampleLemmas

@@ -1,38 +1,50 @@
 -- From the parts of a run to its whole account.
-use Rattle.std.proofs.Common.{◌≡◌, ◌≢◌, ◌<◌, ◌≤◌, ◌+◌, ◌-◌, ◌*◌, ◌/◌, ℕ, zero, suc, true, List, [], ◌∷◌, ◌++◌, None, Some, Ok, Err, Result, IfSome, length, take, drop, refl, sym, ap, subst, ◌∙◌, arith, append_assoc, length-append, inl, inr}
+use Rattle.std.proofs.Common.{◌≡◌, ◌≢◌, ◌<◌, ◌≤◌, ◌+◌, ◌-◌, ◌*◌, ◌/◌, ℕ, zero, suc, true, false, List, [], ◌∷◌, ◌++◌, None, Some, Ok, Err, Result, IfSome, length, take, drop, refl, sym, ap, subst, ◌∙◌, arith, append_assoc, append-nil, length-append, inl, inr}
 use Rattle.std.proofs.Math.Nat.{div-mul-le_self}
 use Rattle.std.proofs.lemmas.List.{length-take-le, length-drop, length-map}
-use Rattle.std.proofs.KnownBytes.{Appends-nil}
+use Rattle.std.proofs.KnownBytes.{Appends-nil, Appends-trans}
 use Rattle.std.specs.List.{All, list_all}
 use Rattle.std.specs.declared.option.Option.{Option}
 use Rattle.std.specs.Io.KnownBytes.{Appends, Consumes, IsAtEnd, prepend_known}
 use Rattle.matrix_meaning.specs.declared.Request.{Request}
 use Rattle.matrix_meaning.specs.Valid.{IsInRange}
 use Rattle.request_text.specs.Schedule.{Plan}
+use Rattle.request_text.specs.Turns.{turns_of}
 use Rattle.icode.specs.Machine.{Code, State, results, runs}
 use Rattle.io_edge.specs.Faults.{HasCause, Reports}
 use Rattle.io_edge.specs.Feed.{Fed, limit}
 use Rattle.io_edge.specs.Taken.{AppendsPrefix, WritesAll}
+use Rattle.io_edge.proofs.TakenLemmas.{prefix_after}
 use Rattle.data_stream.specs.Data.{tokens, closed_part, is_good}
 use Rattle.data_stream.specs.Line.{line_of}
 use Rattle.data_stream.specs.Reading.{residues}
 use Rattle.data_stream.proofs.VectorLemmas.{residues_below}
 use Rattle.generate.specs.declared.GenerateFault.{GenerateFault}
 use Rattle.generate.specs.declared.GenerateFault.TheVariants as generate
-use Rattle.generate.specs.Planned.{IsPlanned}
-use Rattle.tree_model.specs.Breakdown.{Breakdown}
+use Rattle.generate.specs.Planned.{IsPlanned, IsAdmitted, IsBarred}
+use Rattle.icode.specs.declared.program.Program.{Program}
+use Rattle.icode.specs.Program.{plain_program, code_of}
+use Rattle.listing_text.specs.Listing.{listing_of}
+use Rattle.input_rest.specs.declared.RestFault.{RestFault}
+use Rattle.input_rest.specs.declared.RestFault.TheVariants as rest_fault
+use Rattle.input_rest.specs.Rest.{GivesRest}
+use Rattle.plan_cert.specs.declared.verdict.Verdict.{Verdict}
+use Rattle.plan_cert.specs.declared.verdict.Verdict.TheVariants as verdict
+use Rattle.plan_cert.specs.Verdict.{IsVerdict}
 use Rattle.spiral_words.specs.declared.Command.{Command}
 use Rattle.spiral_words.specs.declared.Command.TheVariants as command
 use Rattle.spiral_main.specs.declared.status.Status.{Status}
 use Rattle.spiral_main.specs.declared.status.Status.TheVariants.{Success, ReadFault, WriteFault, NoMemory}
 use Rattle.spiral_main.specs.declared.stream.StreamFault.{StreamFault}
 use Rattle.spiral_main.specs.declared.stream.StreamFault.TheVariants as stream
-use Rattle.spiral_main.specs.Commands.{IsServed}
-use Rattle.spiral_main.specs.Fault.{status_of_generate, status_of_fault, status_of_stream}
+use Rattle.spiral_main.specs.Checked.{certificate_limit, status_of_verdict, least_line, verdict_text}
+use Rattle.spiral_main.specs.Commands.{reads_certificate, has_text, AskForCommand}
+use Rattle.spiral_main.specs.Fault.{status_of_generate, status_of_rest, status_of_fault, status_of_stream}
 use Rattle.spiral_main.specs.Line.{data_of}
 use Rattle.spiral_main.specs.Status.{IsDefined}
-use Rattle.spiral_main.specs.Stream.{group_vectors, vectors_of, lines, data_answer, data_vectors, Reads, Streams}
-use Rattle.spiral_main.specs.Outcome.{IsRefused, requested, ordered, product, IsTextOf, Settles, BreaksOff, ComesTo, room_behind, Accounts, Notes}
+use Rattle.spiral_main.specs.Stream.{group_vectors, vectors_of, texts, lines, run_text, data_answer, data_vectors, Reads, Streams, HasNoStranger}
+use Rattle.spiral_main.specs.Outcome.{IsRefused, IsShutOut, IsAffordable, IsAccepted, IsDeclined, requested, Job, ordered, product, IsProgramFor, IsTextOf, IsTextOfData, Settles, BreaksOff, ComesTo, room_behind, Accounts, Notes}
+use Rattle.spiral_main.proofs.StreamLemmas.{vectors_few}
 use Rattle.spiral_main.specs.Steps.{IsRefusal, AsksBy, Asks, IsGoodCode, Ends, Performs, ToldPerforms, ToldAccounts}
 
 -- Refusals
@@ -50,9 +62,47 @@ generate_refusal generate.NoDivide = record { success = λ e. cc; read = λ e. c
 generate_refusal (generate.OverBudget cost budget) = record { success = λ e. cc; read = λ e. cc; write = λ e. cc }
 generate_refusal generate.NoMemory = record { success = λ e. cc; read = λ e. cc; write = λ e. cc }
 
+pub generate_barred : (request : Request) (fault : GenerateFault) → IsBarred request fault → IsShutOut request (status_of_generate fault)
+generate_barred request fault barred = (fault, barred, refl)
+
+-- a command that reads no certificate wants a plan
+pub plan_accepted : (wanted : Command) (request : Request) → reads_certificate wanted ≡ false → IsAffordable request → IsAccepted wanted request
+plan_accepted command.Plan request other p = p
+plan_accepted command.Formula request other p = p
+plan_accepted command.Code request other p = p
+plan_accepted command.C request other p = p
+plan_accepted (command.Run schedule) request other p = p
+plan_accepted (command.Trace schedule) request other p = p
+plan_accepted command.Cert request other p = p
+plan_accepted command.Check request other p = absurd (cc)
+plan_accepted (command.Sample seed schedule) request other p = p
+
+pub plan_declined : (wanted : Command) (request : Request) (status : Status) → reads_certificate wanted ≡ false → IsRefused request status → IsDeclined wanted request status
+plan_declined command.Plan request status other p = p
+plan_declined command.Formula request status other p = p
+plan_declined command.Code request status other p = p
+plan_declined command.C request status other p = p
+plan_declined (command.Run schedule) request status other p = p
+plan_declined (command.Trace schedule) request status other p = p
+plan_declined command.Cert request status other p = p
+plan_declined command.Check request status other p = absurd (cc)
+plan_declined (command.Sample seed schedule) request status other p = p
+
+-- a command has a text of the request alone, or reads its input to its end
+pub text_alone : (wanted : Command) → has_text wanted ≡ true → reads_certificate wanted ≡ false
+text_alone command.Plan h = refl
+text_alone command.Formula h = refl
+text_alone command.Code h = refl
+text_alone command.C h = refl
+text_alone (command.Run schedule) h = refl
+text_alone (command.Trace schedule) h = refl
+text_alone command.Cert h = refl
+text_alone command.Check h = absurd (cc)
+text_alone (command.Sample seed schedule) h = refl
+
 -- a command that a refusal ends before its output
 pub performs_refused : (wanted : Command) (request : Request) (room : ℕ) (bytes : List ℕ) (out : Option (List ℕ)) (status : Status)
-    → (IsDefined status → IsRefused request status) → IsRefusal status → Performs wanted request room bytes out out status
+    → (IsDefined status → IsDeclined wanted request status) → IsRefusal status → Performs wanted request room bytes out out status
 performs_refused wanted request room bytes out status p r = record {
   answer = λ d. ([], inl (p d, refl), Appends-nil out);
   read_fault = λ e. absurd (r.read e);
@@ -60,26 +110,26 @@ performs_refused wanted request room bytes out status p r = record {
 }
 
 pub told_refused : (wanted : Command) (request : Request) (room : ℕ) (before out : Option (List ℕ)) (status : Status)
-    → (IsDefined status → IsRefused request status) → IsRefusal status → ToldPerforms wanted request room before out out status
+    → (IsDefined status → IsDeclined wanted request status) → IsRefusal status → ToldPerforms wanted request room before out out status
 told_refused wanted request room None out status p r = tt
 told_refused wanted request room (Some bytes) out status p r = performs_refused wanted request room bytes out status p r
 
--- Texts that need no data
+-- Texts of the request alone
 
-pub performs_text : (wanted : Command) (request : Request) (room : ℕ) (bytes : List ℕ) (out out' : Option (List ℕ)) (tree : Breakdown) (text : List ℕ)
-    → IsPlanned request (Ok tree) → IsTextOf wanted request tree text → Appends out out' text → Performs wanted request room bytes out out' Success
-performs_text wanted request room bytes out out' tree text p l w = record {
-  answer = λ d. (text, inr (tree, p, inr (refl, l)), w);
+pub performs_text : (wanted : Command) (request : Request) (room : ℕ) (bytes : List ℕ) (out out' : Option (List ℕ)) (text : List ℕ)
+    → IsAccepted wanted request → IsTextOf wanted request text → Appends out out' text → Performs wanted request room bytes out out' Success
+performs_text wanted request room bytes out out' text p l w = record {
+  answer = λ d. (text, inr (p, inr (inl (refl, l))), w);
   read_fault = λ e. absurd (cc);
   write_fault = λ e. absurd (cc);
 }
 
-pub performs_cut : (wanted : Command) (request : Request) (room : ℕ) (bytes : List ℕ) (out out' : Option (List ℕ)) (tree : Breakdown) (text : List ℕ)
-    → IsPlanned request (Ok tree) → IsTextOf wanted request tree text → AppendsPrefix out out' text → Performs wanted request room bytes out out' WriteFault
-performs_cut wanted request room bytes out out' tree text p l w = record {
+pub performs_cut : (wanted : Command) (request : Request) (room : ℕ) (bytes : List ℕ) (out out' : Option (List ℕ)) (text : List ℕ)
+    → IsAccepted wanted request → IsTextOf wanted request text → AppendsPrefix out out' text → Performs wanted request room bytes out out' WriteFault
+performs_cut wanted request room bytes out out' text p l w = record {
   answer = λ d. absurd (d.write refl);
   read_fault = λ e. absurd (cc);
-  write_fault = λ _. ([], bytes, text, tree, refl, p, inr l, w);
+  write_fault = λ _. ([], bytes, text, refl, p, inr (inl l), w);
 }
 
 -- The lines of a run
@@ -116,97 +166,249 @@ good_lines request code turns vectors good some there made =
     subst (λ (v : List (List ℕ)). lines f v ≡ lines (product request) v) made.1
     (lines_equal request.size request.modulus f (product request) same some (length made.0 / request.size) made.0 (div-mul-le_self (length made.0) request.size))
 
--- A run over the data
+-- Runs over the data
+
+-- behind the front, the texts of whole vectors are the text of the command
+abbrev pub IsTextFor : Command → Request → List ℕ → (List ℕ → List ℕ) → Type 0
+IsTextFor wanted request front text = (ts : List (List ℕ)) → IsTextOfData wanted request (vectors_of request.size request.modulus ts) (front ++ texts text (vectors_of request.size request.modulus ts))
 
 -- the text is known by what the data call for
-run_answer : (plan : Plan) (request : Request) (code : Code) (turns : List ℕ) (room : ℕ) (bytes : List ℕ) (vectors : List (List ℕ)) (out out' : Option (List ℕ)) (result : Result (Unit {0}) StreamFault) (good : IsGoodCode request code)
-    → lines (λ x. results code x turns) vectors ≡ lines (product request) vectors
-    → data_answer request.size room bytes ≡ result → data_vectors request.size request.modulus room bytes ≡ vectors
-    → Appends out out' (lines (λ x. results code x turns) vectors)
-    → (text : List ℕ) × Ends (command.Run plan) request room bytes (status_of_stream result) text × Appends out out' text
-run_answer plan request code turns room bytes vectors out out' result good same answer seen w = (
-  lines (product request) (data_vectors request.size request.modulus room bytes),
-  inr (good.0, good.2, inl (ap status_of_stream (sym answer), refl)),
-  subst (Appends out out') (same ∙ ap (lines (product request)) (sym seen)) w,
+stream_answer : (wanted : Command) (request : Request) (room : ℕ) (bytes text : List ℕ) (vectors : List (List ℕ)) (out out' : Option (List ℕ)) (result : Result (Unit {0}) StreamFault)
+    → IsAccepted wanted request → IsTextOfData wanted request vectors text
+    → data_answer request.size room bytes ≡ result → data_vectors request.size request.modulus room bytes ≡ vectors → Appends out out' text
+    → (text : List ℕ) × Ends wanted request room bytes (status_of_stream result) text × Appends out out' text
+stream_answer wanted request room bytes text vectors out out' result there told answer seen w = (
+  text,
+  inr (there, inl (ap status_of_stream (sym answer), subst (λ (v : List (List ℕ)). IsTextOfData wanted request v text) (sym seen) told)),
+  w,
 )
 
+-- by each way in which it may end
+performed : {S : Type 0} (wanted : Command) (request : Request) (front : List ℕ) (text : List ℕ → List ℕ) (leaves : List ℕ → S) (old new : Fed) (bytes rest : List ℕ) (start out out' : Option (List ℕ)) (first last : S)
+    (result : Result (Unit {0}) StreamFault)
+    → IsAccepted wanted request → (s : Streams text leaves request.size request.modulus old new (Some bytes) (Some rest) out out' first last result)
+    → IsTextOfData wanted request s.vectors (front ++ texts text s.vectors) → Appends start out front
+    → Performs wanted request (limit - old.taken) bytes start out' (status_of_stream result)
+performed wanted request front text leaves old new bytes rest start out out' first last (Ok u) there s told begun = record {
+  answer = λ d. stream_answer wanted request _ bytes (front ++ texts text s.vectors) s.vectors start out' (Ok u) there told s.told.0 s.told.1 (Appends-trans start out out' front (texts text s.vectors) begun s.wrote);
+  read_fault = λ e. absurd (cc);
+  write_fault = λ e. absurd (cc);
+}
+performed wanted request front text leaves old new bytes rest start out out' first last (Err (stream.Truncated have need)) there s told begun = record {
+  answer = λ d. stream_answer wanted request _ bytes (front ++ texts text s.vectors) s.vectors start out' (Err (stream.Truncated have need)) there told s.told.0 s.told.1 (Appends-trans start out out' front (texts text s.vectors) begun s.wrote);
+  read_fault = λ e. absurd (cc);
+  write_fault = λ e. absurd (cc);
+}
+performed wanted request front text leaves old new bytes rest start out out' first last (Err (stream.BadNumber token)) there s told begun = record {
+  answer = λ d. stream_answer wanted request _ bytes (front ++ texts text s.vectors) s.vectors start out' (Err (stream.BadNumber token)) there told s.told.0 s.told.1 (Appends-trans start out out' front (texts text s.vectors) begun s.wrote);
+  read_fault = λ e. absurd (cc);
+  write_fault = λ e. absurd (cc);
+}
+performed wanted request front text leaves old new bytes rest start out out' first last (Err stream.TooLong) there s told begun = record {
+  answer = λ d. stream_answer wanted request _ bytes (front ++ texts text s.vectors) s.vectors start out' (Err stream.TooLong) there told s.told.0 s.told.1 (Appends-trans start out out' front (texts text s.vectors) begun s.wrote);
+  read_fault = λ e. absurd (cc);
+  write_fault = λ e. absurd (cc);
+}
+performed wanted request front text leaves old new bytes rest start out out' first last (Err stream.ReadFault) there s told begun = record {
+  answer = λ d. absurd (d.read refl);
+  read_fault = λ _. (
+    s.read,
+    rest,
+    front ++ texts text s.vectors,
+    s.consumed,
+    there,
+    inl (s.answer.1, subst (λ (v : List (List ℕ)). IsTextOfData wanted request v (front ++ texts text s.vectors)) (sym s.answer.2) told),
+    Appends-trans start out out' front (texts text s.vectors) begun s.wrote,
+  );
+  write_fault = λ e. absurd (cc);
+}
+performed wanted request front text leaves old new bytes rest start out out' first last (Err stream.WriteFault) there s told begun = record {
+  answer = λ d. absurd (d.write refl);
+  read_fault = λ e. absurd (cc);
+  write_fault = λ _. (
+    s.read,
+    rest,
+    front ++ texts text s.vectors,
+    s.consumed,
+    there,
+    inl (s.answer.1, subst (λ (v : List (List ℕ)). IsTextOfData wanted request v (front ++ texts text s.vectors)) (sym s.answer.2) told),
+    prefix_after start out out' front (texts text s.vectors) begun s.wrote,
+  );
+}
+
+performs_stream : {S : Type 0} (wanted : Command) (request : Request) (front : List ℕ) (text : List ℕ → List ℕ) (leaves : List ℕ → S) (old new : Fed) (before after start out out' : Option (List ℕ)) (first last : S)
+    (result : Result (Unit {0}) StreamFault)
+    → IsAccepted wanted request → IsTextFor wanted request front text → Appends start out front
+    → Streams text leaves request.size request.modulus old new before after out out' first last result
+    → ToldPerforms wanted request (limit - old.taken) before start out' (status_of_stream result)
+performs_stream wanted request front text leaves old new None after start out out' first last result there writes begun s = tt
+performs_stream wanted request front text leaves old new (Some bytes) None start out out' first last result there writes begun s = absurd s.consumed
+performs_stream wanted request front text leaves old new (Some bytes) (Some rest) start out out' first last result there writes begun s =
+    let whole = front ++ texts text s.vectors in
+    let made = reads_vectors request.size request.modulus old new s.read (rest ≡ []) s.vectors result s.answer in
+    let told : IsTextOfData wanted request s.vectors whole = subst (λ (v : List (List ℕ)). IsTextOfData wanted request v (front ++ texts text v)) made.1 (writes made.0) in
+    performed wanted request front text leaves old new bytes rest start out out' first last result there s told begun
+
+-- the stream of a good program is one of the request
+stream_of_request : {S : Type 0} (request : Request) (code : Code) (text : List ℕ → List ℕ) (leaves : List ℕ → S) (old new : Fed) (before after out out' : Option (List ℕ)) (first last : S) (result : Result (Unit {0}) StreamFault)
+    → code.size ≡ request.size → code.modulus ≡ request.modulus
+    → Streams text leaves code.size code.modulus old new before after out out' first last result → Streams text leaves request.size request.modulus old new before after out out' first last result
+stream_of_request request code text leaves old new before after out out' first last result size modulus s =
+    subst (λ n. Streams text leaves request.size n old new before after out out' first last result) modulus
+    (subst (λ n. Streams text leaves n code.modulus old new before after out out' first last result) size s)
+
 pub performs_run : (plan : Plan) (request : Request) (code : Code) (turns : List ℕ) (old new : Fed) (before after out out' : Option (List ℕ)) (first last : State) (result : Result (Unit {0}) StreamFault)
-    → IsGoodCode request code → 0 < request.modulus → All (λ q. q < request.procs) turns
-    → Streams (λ x. line_of (results code x turns)) (λ x. runs code x turns) request.size request.modulus old new before after out out' first last result
+    → IsGoodCode request code → IsInRange request → All (λ q. q < request.procs) turns
+    → Streams (run_text false code turns) (λ x. runs code x turns) code.size code.modulus old new before after out out' first last result
     → ToldPerforms (command.Run plan) request (limit - old.taken) before out out' (status_of_stream result)
-performs_run plan request code turns old new None after out out' first last result good some there s = tt
-performs_run plan request code turns old new (Some bytes) None out out' first last result good some there s = absurd s.consumed
-performs_run plan request code turns old new (Some bytes) (Some rest) out out' first last (Ok u) good some there s =
-    let same = good_lines request code turns s.vectors good some there (reads_vectors request.size request.modulus old new s.read (rest ≡ []) s.vectors (Ok u) s.answer) in
-    record {
-      answer = λ d. run_answer plan request code turns _ bytes s.vectors out out' (Ok u) good same s.told.0 s.told.1 s.wrote;
-      read_fault = λ e. absurd (cc);
-      write_fault = λ e. absurd (cc);
-    }
-performs_run plan request code turns old new (Some bytes) (Some rest) out out' first last (Err (stream.Truncated have need)) good some there s =
-    let same = good_lines request code turns s.vectors good some there (reads_vectors request.size request.modulus old new s.read (rest ≡ []) s.vectors (Err (stream.Truncated have need)) s.answer) in
-    record {
-      answer = λ d. run_answer plan request code turns _ bytes s.vectors out out' (Err (stream.Truncated have need)) good same s.told.0 s.told.1 s.wrote;
-      read_fault = λ e. absurd (cc);
-      write_fault = λ e. absurd (cc);
-    }
-performs_run plan request code turns old new (Some bytes) (Some rest) out out' first last (Err (stream.BadNumber token)) good some there s =
-    let same = good_lines request code turns s.vectors good some there (reads_vectors request.size request.modulus old new s.read (rest ≡ []) s.vectors (Err (stream.BadNumber token)) s.answer) in
-    record {
-      answer = λ d. run_answer plan request code turns _ bytes s.vectors out out' (Err (stream.BadNumber token)) good same s.told.0 s.told.1 s.wrote;
-      read_fault = λ e. absurd (cc);
-      write_fault = λ e. absurd (cc);
-    }
-performs_run plan request code turns old new (Some bytes) (Some rest) out out' first last (Err stream.TooLong) good some there s =
-    let same = good_lines request code turns s.vectors good some there (reads_vectors request.size request.modulus old new s.read (rest ≡ []) s.vectors (Err stream.TooLong) s.answer) in
-    record {
-      answer = λ d. run_answer plan request code turns _ bytes s.vectors out out' (Err stream.TooLong) good same s.told.0 s.told.1 s.wrote;
-      read_fault = λ e. absurd (cc);
-      write_fault = λ e. absurd (cc);
-    }
-performs_run plan request code turns old new (Some bytes) (Some rest) out out' first last (Err stream.ReadFault) good some there s =
-    let same = good_lines request code turns s.vectors good some there (reads_vectors request.size request.modulus old new s.read (rest ≡ []) s.vectors (Err stream.ReadFault) s.answer) in
-    record {
-      answer = λ d. absurd (d.read refl);
-      read_fault = λ _. (
-        s.read,
-        rest,
-        lines (product request) (vectors_of request.size request.modulus (tokens (closed_part s.read))),
-        good.0,
-        s.consumed,
-        good.2,
-        (s.answer.1, refl),
-        subst (Appends out out') (same ∙ ap (lines (product request)) (sym s.answer.2)) s.wrote,
-      );
-      write_fault = λ e. absurd (cc);
-    }
-performs_run plan request code turns old new (Some bytes) (Some rest) out out' first last (Err stream.WriteFault) good some there s =
-    let same = good_lines request code turns s.vectors good some there (reads_vectors request.size request.modulus old new s.read (rest ≡ []) s.vectors (Err stream.WriteFault) s.answer) in
+performs_run plan request code turns old new before after out out' first last result good in_range there s =
+    let size : code.size ≡ request.size = ap (λ (k : Code). k.size) good.4 ∙ good.3.header.size in
+    let modulus : code.modulus ≡ request.modulus = ap (λ (k : Code). k.modulus) good.4 ∙ good.3.header.modulus in
+    let sized = stream_of_request request code (run_text false code turns) (λ x. runs code x turns) old new before after out out' first last result size modulus s in
+    let writes : IsTextFor (command.Run plan) request [] (run_text false code turns) =
+    λ ts. good_lines request code turns (vectors_of request.size request.modulus ts) good (omega (arith, in_range.modulus.0)) there (ts, refl) in
+    performs_stream (command.Run plan) request [] (run_text false code turns) (λ x. runs code x turns) old new before after out out out' first last result (good.0, good.2) writes (Appends-nil out) sized
+
+-- what a traced run stands on: the listing of a program for the request, and its code
+abbrev pub IsTraced : Request → List ℕ → Code → Type 0
+IsTraced request listing code = (program : Program) × IsProgramFor request program × (listing ≡ listing_of (plain_program program)) × (code ≡ code_of program)
+
+traced_affordable : (request : Request) (listing : List ℕ) (code : Code) → IsTraced request listing code → IsAffordable request
+traced_affordable request listing code made = (made.1.0, made.1.1)
+
+traced_procs : (request : Request) (listing : List ℕ) (code : Code) → IsTraced request listing code → code.procs ≡ request.procs
+traced_procs request listing code made = ap (λ (k : Code). k.procs) made.3 ∙ made.1.2.0.header.procs
+
+pub traced_stranger : (plan : Plan) (request : Request) (listing : List ℕ) (code : Code) → IsTraced request listing code → HasNoStranger plan request.procs → HasNoStranger plan code.procs
+traced_stranger plan request listing code made none = subst (HasNoStranger plan) (sym (traced_procs request listing code made)) none
+
+traced_writes : (plan : Plan) (request : Request) (listing : List ℕ) (code : Code) → IsTraced request listing code
+    → IsTextFor (command.Trace plan) request listing (run_text true code (turns_of plan code.procs))
+traced_writes plan request listing code made ts =
+    let vectors = vectors_of request.size request.modulus ts in
+    let same : run_text true code (turns_of plan code.procs) ≡ run_text true (code_of made.0) (turns_of plan request.procs) =
+    ap (λ n. run_text true code (turns_of plan n)) (traced_procs request listing code made) ∙ ap (λ (k : Code). run_text true k (turns_of plan request.procs)) made.3 in
+    (made.0, made.1, ap (λ l. l ++ texts (run_text true code (turns_of plan code.procs)) vectors) made.2 ∙ ap (λ (f : List ℕ → List ℕ). listing_of (plain_program made.0) ++ texts f vectors) same)
+
+pub performs_trace : (plan : Plan) (request : Request) (listing : List ℕ) (code : Code) (old new : Fed) (before after start out out' : Option (List ℕ)) (first last : State) (result : Result (Unit {0}) StreamFault)
+    → IsTraced request listing code → Appends start out listing
+    → Streams (run_text true code (turns_of plan code.procs)) (λ x. runs code x (turns_of plan code.procs)) code.size code.modulus old new before after out out' first last result
+    → ToldPerforms (command.Trace plan) request (limit - old.taken) before start out' (status_of_stream result)
+performs_trace plan request listing code old new before after start out out' first last result made begun s =
+    let size : code.size ≡ request.size = ap (λ (k : Code). k.size) made.3 ∙ made.1.2.0.header.size in
+    let modulus : code.modulus ≡ request.modulus = ap (λ (k : Code). k.modulus) made.3 ∙ made.1.2.0.header.modulus in
+    let text = run_text true code (turns_of plan code.procs) in
+    let leaves : List ℕ → State = λ x. runs code x (turns_of plan code.procs) in
+    let sized = stream_of_request request code text leaves old new before after out out' first last result size modulus s in
+    performs_stream (command.Trace plan) request listing text leaves old new before after start out out' first last result (traced_affordable request listing code made) (traced_writes plan request listing code made) begun sized
+
+-- a trace whose listing is not written whole
+pub listing_cut : (plan : Plan) (request : Request) (listing : List ℕ) (code : Code) (room : ℕ) (before out out' : Option (List ℕ))
+    → IsTraced request listing code → IsInRange request → AppendsPrefix out out' listing → ToldPerforms (command.Trace plan) request room before out out' WriteFault
+listing_cut plan request listing code room None out out' made in_range w = tt
+listing_cut plan request listing code room (Some bytes) out out' made in_range w =
+    let text = run_text true code (turns_of plan code.procs) in
+    let none : vectors_of request.size request.modulus [] ≡ [] = vectors_few request.size request.modulus [] (omega (arith, in_range.size.0)) in
+    let alone : listing ++ texts text (vectors_of request.size request.modulus []) ≡ listing = ap (λ (v : List (List ℕ)). listing ++ texts text v) none ∙ append-nil listing in
     record {
       answer = λ d. absurd (d.write refl);
       read_fault = λ e. absurd (cc);
       write_fault = λ _. (
-        s.read,
-        rest,
-        lines (product request) (vectors_of request.size request.modulus (tokens s.read)),
-        good.0,
-        s.consumed,
-        good.2,
-        inl (s.answer.1, refl),
-        subst (AppendsPrefix out out') (same ∙ ap (lines (product request)) (sym s.answer.2)) s.wrote,
+        [],
+        bytes,
+        listing,
+        refl,
+        traced_affordable request listing code made,
+        inl (refl, subst (IsTextOfData (command.Trace plan) request (vectors_of request.size request.modulus [])) alone (traced_writes plan request listing code made [])),
+        w,
       );
     }
 
-pub performs_good : (plan : Plan) (request : Request) (code : Code) (turns : List ℕ) (old new : Fed) (before after out out' : Option (List ℕ)) (first last : State) (result : Result (Unit {0}) StreamFault)
-    → IsGoodCode request code → IsInRange request → All (λ q. q < request.procs) turns
-    → Streams (λ x. line_of (results code x turns)) (λ x. runs code x turns) code.size code.modulus old new before after out out' first last result
-    → ToldPerforms (command.Run plan) request (limit - old.taken) before out out' (status_of_stream result)
-performs_good plan request code turns old new before after out out' first last result good in_range there s =
-    let size : code.size ≡ request.size = ap (λ (k : Code). k.size) good.4 ∙ good.3.header.size in
-    let modulus : code.modulus ≡ request.modulus = ap (λ (k : Code). k.modulus) good.4 ∙ good.3.header.modulus in
-    let sized = subst (λ n. Streams (λ x. line_of (results code x turns)) (λ x. runs code x turns) n code.modulus old new before after out out' first last result) size s in
-    let made = subst (λ n. Streams (λ x. line_of (results code x turns)) (λ x. runs code x turns) request.size n old new before after out out' first last result) modulus sized in
-    performs_run plan request code turns old new before after out out' first last result good (omega (arith, in_range.modulus.0)) there made
+-- Certificates
+
+-- a command that has no memory
+performs_nothing : (wanted : Command) (request : Request) (room : ℕ) (bytes : List ℕ) (out : Option (List ℕ)) → Performs wanted request room bytes out out NoMemory
+performs_nothing wanted request room bytes out = record { answer = λ d. absurd (d.memory refl); read_fault = λ e. absurd (cc); write_fault = λ e. absurd (cc) }
+
+pub told_nothing : (wanted : Command) (request : Request) (room : ℕ) (before out : Option (List ℕ)) → ToldPerforms wanted request room before out out NoMemory
+told_nothing wanted request room None out = tt
+told_nothing wanted request room (Some bytes) out = performs_nothing wanted request room bytes out
+
+judged_performs : (request : Request) (room : ℕ) (bytes : List ℕ) (out out' : Option (List ℕ)) (found : Verdict)
+    → IsAdmitted request → length bytes ≤ certificate_limit → IsVerdict request bytes found → Appends out out' (verdict_text found)
+    → Performs command.Check request room bytes out out' (status_of_verdict found)
+judged_performs request room bytes out out' (verdict.Least cost) there few judged w = record {
+  answer = λ d. (least_line cost, inr (there, inr (inr (refl, inr (few, (verdict.Least cost, judged, refl, refl))))), w);
+  read_fault = λ e. absurd (cc);
+  write_fault = λ e. absurd (cc);
+}
+judged_performs request room bytes out out' verdict.Unread there few judged w = record {
+  answer = λ d. ([], inr (there, inr (inr (refl, inr (few, (verdict.Unread, judged, refl, refl))))), w);
+  read_fault = λ e. absurd (cc);
+  write_fault = λ e. absurd (cc);
+}
+judged_performs request room bytes out out' (verdict.Wrong size given found) there few judged w = record {
+  answer = λ d. ([], inr (there, inr (inr (refl, inr (few, (verdict.Wrong size given found, judged, refl, refl))))), w);
+  read_fault = λ e. absurd (cc);
+  write_fault = λ e. absurd (cc);
+}
+
+-- a check whose input has no rest that can be judged
+pub performs_unread : (request : Request) (room : ℕ) (before after out : Option (List ℕ)) (read : List ℕ) (fault : RestFault)
+    → IsAdmitted request → Consumes before after read → GivesRest certificate_limit read (IsAtEnd after) (Err fault) → ToldPerforms command.Check request room before out out (status_of_rest fault)
+performs_unread request room None after out read fault there consumed given = tt
+performs_unread request room (Some bytes) None out read fault there consumed given = absurd consumed
+performs_unread request room (Some bytes) (Some rest) out read rest_fault.TooLong there consumed given =
+    let count : length bytes ≡ length read + length rest = ap length consumed ∙ length-append read rest in
+    let long : certificate_limit < length bytes = omega (arith, count, given) in
+    record {
+      answer = λ d. ([], inr (there, inr (inr (refl, inl (long, refl, refl)))), Appends-nil out);
+      read_fault = λ e. absurd (cc);
+      write_fault = λ e. absurd (cc);
+    }
+performs_unread request room (Some bytes) (Some rest) out read rest_fault.ReadFault there consumed given = record {
+  answer = λ d. absurd (d.read refl);
+  read_fault = λ _. (read, rest, [], consumed, there, inr (refl, given, refl), Appends-nil out);
+  write_fault = λ e. absurd (cc);
+}
+performs_unread request room (Some bytes) (Some rest) out read rest_fault.NoMemory there consumed given = performs_nothing command.Check request room bytes out
+
+-- the verdict on the bytes, as it was found
+pub judged_of : (request own : Request) (text seen : List ℕ) (found other : Verdict) → own ≡ request → seen ≡ text → other ≡ found → IsVerdict own seen other → IsVerdict request text found
+judged_of request own text seen found other p q e judged =
+    subst (λ (v : Verdict). IsVerdict request text v) e (subst (λ (l : List ℕ). IsVerdict request l other) q (subst (λ (r : Request). IsVerdict r seen other) p judged))
+
+-- a rest that was judged
+pub performs_judged : (request : Request) (room : ℕ) (before after out out' : Option (List ℕ)) (read text : List ℕ) (found : Verdict)
+    → IsAdmitted request → Consumes before after read → text ≡ read → IsAtEnd after → length read ≤ certificate_limit → IsVerdict request text found → Appends out out' (verdict_text found)
+    → ToldPerforms command.Check request room before out out' (status_of_verdict found)
+performs_judged request room None after out out' read text found there consumed same end short judged w = tt
+performs_judged request room (Some bytes) None out out' read text found there consumed same end short judged w = absurd consumed
+performs_judged request room (Some bytes) (Some rest) out out' read text found there consumed same end short judged w =
+    let whole : bytes ≡ read = consumed ∙ ap (λ l. read ++ l) end ∙ append-nil read in
+    let few : length bytes ≤ certificate_limit = subst (λ l. length l ≤ certificate_limit) (sym whole) short in
+    let here : IsVerdict request bytes found = subst (λ l. IsVerdict request l found) (same ∙ sym whole) judged in
+    judged_performs request room bytes out out' found there few here w
+
+-- a rest that was judged right, and the line that says so was not written whole
+pub performs_judged_cut : (request : Request) (room : ℕ) (before after out out' : Option (List ℕ)) (read text : List ℕ) (cost : ℕ)
+    → IsAdmitted request → Consumes before after read → text ≡ read → IsAtEnd after → length read ≤ certificate_limit → IsVerdict request text (verdict.Least cost) → AppendsPrefix out out' (least_line cost)
+    → ToldPerforms command.Check request room before out out' WriteFault
+performs_judged_cut request room None after out out' read text cost there consumed same end short judged w = tt
+performs_judged_cut request room (Some bytes) None out out' read text cost there consumed same end short judged w = absurd consumed
+performs_judged_cut request room (Some bytes) (Some rest) out out' read text cost there consumed same end short judged w = record {
+  answer = λ d. absurd (d.write refl);
+  read_fault = λ e. absurd (cc);
+  write_fault = λ _. (
+    read,
+    rest,
+    least_line cost,
+    consumed,
+    there,
+    inr (inr (refl, end, short, (verdict.Least cost, subst (λ l. IsVerdict request l (verdict.Least cost)) same judged, refl, refl))),
+    w,
+  );
+}
 
 -- the faults of a run over the data, as statuses
 from_read : (fault : StreamFault) → status_of_fault fault ≡ ReadFault → fault ≡ stream.ReadFault
@@ -250,6 +452,10 @@ reports_write before now fault r = record {
   told = λ h. ap status_of_fault (failed_same fault stream.WriteFault (r.told h));
 }
 
+-- of a second call, where the first left the count as it was
+pub reports_after : {A : Type 0} (before mid now : ℕ) → mid ≡ before → Reports mid now A → Reports before now A
+reports_after before mid now e r = rw (sym e) r
+
 pub fault_success : (fault : StreamFault) → status_of_fault fault ≡ Success → ⊥
 fault_success (stream.BadNumber token) e = absurd (cc)
 fault_success (stream.Truncated have need) e = absurd (cc)
@@ -275,48 +481,41 @@ accounts_after words bytes read rest taken wanted out out' status whole asked p 
     let room : limit - taken ≡ room_behind bytes = ap (λ n. limit - n) (let first = asked.0 in omega arith) in
     let behind : (read' rest' : List ℕ) → rest ≡ read' ++ rest' → requested words (read ++ read') (Ok wanted) × (data_of (read ++ read') ≡ read') =
     λ read' rest' e. asked.1 read' (λ none. nothing_before read' rest' (sym e ∙ none)) in
+    let job : Job = record { command = wanted.0; request = wanted.1 } in
     record {
       answer = λ d.
           let found = p.answer d in (
             found.0,
             (elim found.1 [
-              | inl refused ↦ inl (inr (record { value = wanted; before = requested_here; behind = inl refused.0 }), refused.1)
+              | inl refused ↦ inl (inr (record { value = wanted; before = requested_here; behind = refused.0 }), refused.1)
               | inr settled ↦ inr (
-                record { command = wanted.0; request = wanted.1; tree = settled.0 },
-                record { value = wanted; before = requested_here; behind = record { value = settled.0; before = settled.1; behind = refl } },
-                subst (λ n. Settles wanted.0 wanted.1 settled.0 n (data_of bytes) status found.0) room
-                    (subst (λ b. Settles wanted.0 wanted.1 settled.0 (limit - taken) b status found.0) (sym data_here) settled.2),
+                job,
+                record { value = wanted; before = requested_here; behind = (settled.0, refl) },
+                subst (λ n. Settles wanted.0 wanted.1 n (data_of bytes) status found.0) room
+                    (subst (λ b. Settles wanted.0 wanted.1 (limit - taken) b status found.0) (sym data_here) settled.1),
               )
             ]),
             found.2,
           );
       read_fault = λ e.
           let found = p.read_fault e in
-          let at = behind found.0 found.1 found.4 in (
+          let at = behind found.0 found.1 found.3 in (
             read ++ found.0,
             found.1,
             found.2,
-            whole ∙ ap (λ l. read ++ l) found.4 ∙ sym (append_assoc read found.0 found.1),
-            inr (
-              record { command = wanted.0; request = wanted.1; tree = found.3 },
-              record { value = wanted; before = at.0; behind = record { value = found.3; before = found.5; behind = refl } },
-              subst (λ b. BreaksOff wanted.0 wanted.1 found.3 b found.2) (sym at.1) found.6,
-            ),
-            found.7,
+            whole ∙ ap (λ l. read ++ l) found.3 ∙ sym (append_assoc read found.0 found.1),
+            inr (job, record { value = wanted; before = at.0; behind = (found.4, refl) }, subst (λ b. BreaksOff wanted.0 wanted.1 b found.2) (sym at.1) found.5),
+            found.6,
           );
       write_fault = λ e.
           let found = p.write_fault e in
-          let at = behind found.0 found.1 found.4 in (
+          let at = behind found.0 found.1 found.3 in (
             read ++ found.0,
             found.1,
             found.2,
-            whole ∙ ap (λ l. read ++ l) found.4 ∙ sym (append_assoc read found.0 found.1),
-            (
-              record { command = wanted.0; request = wanted.1; tree = found.3 },
-              record { value = wanted; before = at.0; behind = record { value = found.3; before = found.5; behind = refl } },
-              subst (λ b. ComesTo wanted.0 wanted.1 found.3 b found.2) (sym at.1) found.6,
-            ),
-            found.7,
+            whole ∙ ap (λ l. read ++ l) found.3 ∙ sym (append_assoc read found.0 found.1),
+            (job, record { value = wanted; before = at.0; behind = (found.4, refl) }, subst (λ b. ComesTo wanted.0 wanted.1 b found.1 found.2) (sym at.1) found.5),
+            found.6,
           );
     }
 
@@ -328,7 +527,7 @@ accounted words (Some bytes) (Some rest) taken wanted out out' status a p = acco
 
 -- a run that ends with the first line
 pub accounted_early : (words : List (List ℕ)) (before after : Option (List ℕ)) (taken : ℕ) (out : Option (List ℕ)) (status : Status)
-    → Asks words before after taken (Err status) → status ≢ WriteFault → (status ≡ ReadFault → IsServed words) → ToldAccounts words before out out status
+    → Asks words before after taken (Err status) → status ≢ WriteFault → (status ≡ ReadFault → AskForCommand words) → ToldAccounts words before out out status
 accounted_early words None after taken out status a w c = tt
 accounted_early words (Some bytes) None taken out status a w c = absurd a
 accounted_early words (Some bytes) (Some rest) taken out status a w c = record {

@@ -84,7 +84,7 @@ pub sampled : (request : Request) (code after : Code) (plan : Plan) (m n seed : 
     → counts.loads ≡ sum_below after.procs (λ q. (counts_so_far after state q).loads)
     → counts.stores ≡ sum_below after.procs (λ q. (counts_so_far after state q).stores)
     → text ≡ sample_text sum counts.operations counts.loads counts.stores
-    → (tree : Breakdown) × IsPlanned request (Ok tree) × IsSampleText request seed tree text
+    → IsSampleText request seed text
 sampled request code after plan m n seed vector y state sum counts text good in_range plain none same modulus size v run ran s operations loads stores t =
     let turns = turns_of plan code.procs in
     let program = good.1 in

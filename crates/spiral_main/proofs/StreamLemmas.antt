@@ -1,18 +1,17 @@
 -- Vectors that come one by one.
-use Rattle.std.proofs.Common.{◌≡◌, ◌<◌, ◌≤◌, ◌+◌, ◌/◌, ◌%◌, ℕ, suc, Bool, true, false, ◌&&◌, List, [], ◌∷◌, ◌++◌, None, Some, Ok, Err, Result, nat_lt, ◌==◌, ◌-◌, ◌≢◌, zero, length, take, drop, refl, sym, ap, subst, ◌∙◌, arith, append_assoc, append-nil, length-append, cond, add_assoc, add-one, add-zero, slice_index, ◌*◌, replicate}
+use Rattle.std.proofs.Common.{◌≡◌, ◌<◌, ◌≤◌, ◌+◌, ◌/◌, ◌%◌, ℕ, suc, Bool, true, false, ◌&&◌, List, [], ◌∷◌, ◌++◌, None, Some, Ok, Err, Result, OnOk, nat_lt, ◌==◌, ◌-◌, ◌≢◌, zero, length, take, drop, refl, sym, ap, subst, ◌∙◌, arith, append_assoc, append-nil, length-append, cond, add_assoc, add-one, add-zero, slice_index}
 use Rattle.std.proofs.Math.Nat.{add-div_left, div-eq_of_lt, mod-eq_of_lt, add-mod_left}
 use Rattle.std.proofs.Math.Seq.{take-append_seam, take-append-add, drop-append_seam}
 use Rattle.std.proofs.KnownBytes.{Consumes-nil, Consumes-trans, Appends-trans}
 use Rattle.std.proofs.lemmas.List.Folds.{list_all-append}
 use Rattle.std.proofs.lemmas.Grind.{common_steps, flat_map-append}
-use Rattle.std.proofs.lemmas.List.{take_all, length-replicate}
+use Rattle.std.proofs.lemmas.List.{take_all}
 use Rattle.std.specs.List.{list_all}
 use Rattle.std.specs.declared.option.Option.{Option}
 use Rattle.std.specs.Io.KnownBytes.{Appends, Consumes, IsAtEnd}
-use Rattle.icode.specs.Machine.{Code, State, whole_lines, padded, start, run, finished, runs, words_at}
+use Rattle.icode.specs.Machine.{Code, State, padded, start, run, finished, runs, results, words_at}
 use Rattle.request_text.specs.Schedule.{Plan}
 use Rattle.request_text.specs.Turns.{turns_of}
-use Rattle.par_machine.proofs.Starts.{room_for}
 use Rattle.io_edge.specs.Feed.{Fed, limit}
 use Rattle.io_edge.specs.Taken.{AppendsPrefix}
 use Rattle.io_edge.proofs.TakenLemmas.{prefix_after}
@@ -25,7 +24,7 @@ use Rattle.data_stream.specs.declared.DataFault.TheVariants as data_fault
 use Rattle.data_stream.proofs.TokensLemmas.{not_ended}
 use Rattle.data_stream.proofs.TokenLemmas.{both_left, both_right}
 use Rattle.data_stream.proofs.VectorLemmas.{closed_after}
-use Rattle.spiral_main.specs.Stream.{group_vectors, vectors_of, texts, state_behind, good_front, bad_after, answer_of, vectors_seen, data_answer, data_vectors, Answers, ToldAnswers, Reads, Writes, Streams}
+use Rattle.spiral_main.specs.Stream.{group_vectors, vectors_of, texts, turn_lines, state_behind, good_front, bad_after, answer_of, vectors_seen, data_answer, data_vectors, Answers, ToldAnswers, Reads, Writes, Streams}
 use Rattle.spiral_main.specs.declared.stream.StreamFault.{StreamFault}
 use Rattle.spiral_main.specs.StreamFault.{stream_fault}
 use Rattle.spiral_main.specs.declared.stream.StreamFault.TheVariants.{BadNumber, Truncated, TooLong, ReadFault, WriteFault}
@@ -369,7 +368,7 @@ fault_within data_fault.ReadFault fits w other = w (λ e. cc)
 pub streamed : {S : Type 0} (text : List ℕ → List ℕ) (leaves : List ℕ → S) (size modulus : ℕ) (old new : Fed) (before after out out' : Option (List ℕ)) (first last : S)
     (result : Result (Unit {0}) StreamFault) (read : List ℕ) (vectors : List (List ℕ))
     → Consumes before after read → Reads size modulus old new read (IsAtEnd after) vectors result → old.taken ≤ limit → (result ≢ Err TooLong → new.taken ≤ limit)
-    → Writes out out' result (texts text vectors) → last ≡ state_behind leaves first vectors
+    → Writes out out' result (texts text vectors) → (result ≢ Err WriteFault → last ≡ state_behind leaves first vectors)
     → Streams text leaves size modulus old new before after out out' first last result
 streamed text leaves size modulus old new before after out out' first last result read vectors consumed answer start within wrote stands = record {
   read = read;
@@ -381,20 +380,30 @@ streamed text leaves size modulus old new before after out out' first last resul
   stands = stands;
 }
 
--- the machine's arrays have room for the vector
-room_at_least : (size line : ℕ) → 0 < size → size ≤ 4 * whole_lines size line → size ≤ whole_lines size line
-room_at_least size zero some fits = absurd (omega arith)
-room_at_least size (suc line) some fits = room_for size (suc line) (omega arith)
-
-pub room_is : (code : Code) (x : List ℕ) (span : ℕ) → length x ≡ code.size → 0 < code.size → span ≡ 4 * padded code → span ≡ length (start code x).memory → code.size ≤ padded code
-room_is code x span full some value memory =
-    let rest = 4 * padded code - code.size in
-    let count : length (start code x).memory ≡ length x + rest = length-append x (replicate rest 0) ∙ ap (λ n. length x + n) (length-replicate rest 0) in
-    room_at_least code.size code.line some (omega arith)
-
 -- the turns of a schedule, and then those that complete it
 pub whole_run : (plan : Plan) (code first second : Code) (x : List ℕ) (begun turned ended : State) → first ≡ code → begun ≡ start code x → second ≡ first
     → turned ≡ run first begun (turns_of plan first.procs) → ended ≡ finished second turned → ended ≡ runs code x (turns_of plan code.procs)
 whole_run plan code first second x begun turned ended p b q t e =
     e ∙ ap (λ k. finished k turned) (q ∙ p)
     ∙ ap (λ s. finished code s) (t ∙ ap (λ (k : Code). run k begun (turns_of plan k.procs)) p ∙ ap (λ s. run code s (turns_of plan code.procs)) b)
+
+-- the words that a run leaves
+pub results_left : (plan : Plan) (code last : Code) (x : List ℕ) (ended : State) → last ≡ code → ended ≡ runs code x (turns_of plan code.procs)
+    → words_at last.size ended.memory (padded last) ≡ results code x (turns_of plan code.procs)
+results_left plan code last x ended p e = ap (λ (k : Code). words_at k.size ended.memory (padded k)) p ∙ ap (λ (s : State). words_at code.size s.memory (padded code)) e
+
+-- what holds at any rate holds at `Ok`
+pub held_at_ok : {T E : Type 0} {P : Type 0} (result : Result T E) → P → OnOk result P
+held_at_ok (Ok x) p = p
+held_at_ok (Err e) p = tt
+
+-- the lines of turns from a vector's start
+pub lines_begun : (asked : Bool) (plan : Plan) (code own : Code) (x : List ℕ) (begun : State) → own ≡ code → begun ≡ start code x
+    → turn_lines asked own begun (turns_of plan own.procs) ≡ turn_lines asked code (start code x) (turns_of plan code.procs)
+lines_begun asked plan code own x begun p b = ap (λ (k : Code). turn_lines asked k begun (turns_of plan k.procs)) p ∙ ap (λ s. turn_lines asked code s (turns_of plan code.procs)) b
+
+-- the state behind turns from a vector's start
+pub state_begun : (plan : Plan) (code own : Code) (x : List ℕ) (begun ended : State) → own ≡ code → begun ≡ start code x
+    → ended ≡ finished own (run own begun (turns_of plan own.procs)) → ended ≡ runs code x (turns_of plan code.procs)
+state_begun plan code own x begun ended p b e =
+    e ∙ ap (λ (k : Code). finished k (run k begun (turns_of plan k.procs))) p ∙ ap (λ s. finished code (run code s (turns_of plan code.procs))) b

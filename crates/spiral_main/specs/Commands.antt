@@ -1,12 +1,12 @@
--- The commands that the words ask for, and which of them are there.
-use Rattle.std.specs.Prelude.{◌≡◌, ◌⊎◌, ℕ, ◌||◌, Bool, true, false, List, None, Some, Ok, Err, Result, find, nat_le}
+-- The commands that the words ask for, and what they read.
+use Rattle.std.specs.Prelude.{◌≡◌, ℕ, ◌||◌, Bool, true, false, List, None, Some, Ok, Err, Result, find, nat_le}
 use Rattle.std.specs.declared.option.Option.{Option}
 use Rattle.matrix_meaning.specs.declared.Request.{Request}
 use Rattle.request_text.specs.Schedule.{Plan as Turns, Sequential}
 use Rattle.request_text.specs.Turns.{named}
 use Rattle.spiral_words.specs.Asked.{IsAsked, IsUsage}
 use Rattle.spiral_words.specs.declared.Command.{Command}
-use Rattle.spiral_words.specs.declared.Command.TheVariants.{Plan, Formula, Cert, Code, C, Run, Trace, Sample}
+use Rattle.spiral_words.specs.declared.Command.TheVariants.{Plan, Formula, Cert, Check, Code, C, Run, Trace, Sample}
 use Rattle.spiral_main.specs.Stage.{Stage}
 use Rattle.spiral_main.specs.declared.status.Status.{Status}
 use Rattle.spiral_main.specs.declared.status.Status.TheVariants.{Usage, Turn}
@@ -14,7 +14,17 @@ use Rattle.spiral_main.specs.declared.status.Status.TheVariants.{Usage, Turn}
 -- the commands that go over the data
 abbrev pub reads_data : Command → Bool
 reads_data (Run schedule) = true
+reads_data (Trace schedule) = true
 reads_data _ = false
+
+-- the command that judges a certificate
+abbrev pub reads_certificate : Command → Bool
+reads_certificate Check = true
+reads_certificate _ = false
+
+-- the commands that read their input to its end
+abbrev pub reads_rest : Command → Bool
+reads_rest command = reads_data command || reads_certificate command
 
 -- the commands that write a text of the request alone
 abbrev pub has_text : Command → Bool
@@ -26,22 +36,25 @@ has_text C = true
 has_text (Sample seed schedule) = true
 has_text _ = false
 
--- the other commands are not there yet
-abbrev pub is_there : Command → Bool
-is_there command = reads_data command || has_text command
+-- the commands that print no program. Of programs any good one will do
+abbrev pub prints_one_text : Command → Bool
+prints_one_text Code = false
+prints_one_text C = false
+prints_one_text (Trace schedule) = false
+prints_one_text _ = true
 
--- the command that the words ask for, if it is there
+-- the command that the words ask for
 abbrev pub commanded : List (List ℕ) → Stage Command
-commanded words (Ok command) = IsAsked words command × (is_there command ≡ true)
-commanded words (Err status) = (status ≡ Usage) × (IsUsage words ⊎ ((command : Command) × IsAsked words command × (is_there command ≡ false)))
+commanded words (Ok command) = IsAsked words command
+commanded words (Err status) = (status ≡ Usage) × IsUsage words
 
--- the words ask for a command that is there
-abbrev pub IsServed : List (List ℕ) → Type 0
-IsServed words = (command : Command) × commanded words (Ok command)
+-- the words ask for a command
+abbrev pub AskForCommand : List (List ℕ) → Type 0
+AskForCommand words = (command : Command) × IsAsked words command
 
--- the words ask for a command that goes over the data
-abbrev pub AskForData : List (List ℕ) → Type 0
-AskForData words = (command : Command) × IsAsked words command × (reads_data command ≡ true)
+-- the words ask for a command that reads its input to its end
+abbrev pub AskForRest : List (List ℕ) → Type 0
+AskForRest words = (command : Command) × IsAsked words command × (reads_rest command ≡ true)
 
 -- the schedule that a command takes
 abbrev pub schedule_of : Command → Turns

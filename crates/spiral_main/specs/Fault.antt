@@ -2,6 +2,8 @@
 use Rattle.std.specs.Prelude.{ℕ, ◌^◌, Ok, Err, Result}
 use Rattle.io_edge.specs.declared.FeedFault.{FeedFault}
 use Rattle.io_edge.specs.declared.FeedFault.TheVariants as line
+use Rattle.input_rest.specs.declared.RestFault.{RestFault}
+use Rattle.input_rest.specs.declared.RestFault.TheVariants as rest
 use Rattle.request_text.specs.declared.RequestFault.{RequestFault}
 use Rattle.request_text.specs.declared.RequestFault.TheVariants as request
 use Rattle.generate.specs.declared.GenerateFault.{GenerateFault}
@@ -27,6 +29,12 @@ status_of_generate (generate.Root power) = Root power
 status_of_generate generate.NoDivide = NoDivide
 status_of_generate (generate.OverBudget cost budget) = OverBudget cost budget
 status_of_generate generate.NoMemory = NoMemory
+
+-- of the rest of the input, which is a certificate
+abbrev pub status_of_rest : RestFault → Status
+status_of_rest rest.ReadFault = ReadFault
+status_of_rest rest.TooLong = TooLong 65536
+status_of_rest rest.NoMemory = NoMemory
 
 abbrev pub status_of_fault : StreamFault → Status
 status_of_fault (stream.BadNumber token) = BadNumber token

@@ -1,5 +1,5 @@
 -- What the program answers for its words and the bytes of its input, and what it writes.
-use Rattle.std.specs.Prelude.{◌≡◌, ◌⊎◌, ℕ, ◌-◌, true, List, [], ◌∷◌, ◌++◌, length, Ok, Err, Result}
+use Rattle.std.specs.Prelude.{◌≡◌, ◌⊎◌, ℕ, ◌-◌, ◌≤◌, true, List, [], ◌∷◌, ◌++◌, length, Ok, Err, Result}
 use Rattle.std.specs.List.{list_all}
 use Rattle.std.specs.declared.option.Option.{Option}
 use Rattle.std.specs.Io.KnownBytes.{Appends}
@@ -10,8 +10,10 @@ use Rattle.request_text.specs.declared.RequestFault.{RequestFault}
 use Rattle.request_text.specs.Answer.{Answers}
 use Rattle.generate.specs.declared.GenerateFault.{GenerateFault}
 use Rattle.generate.specs.Good.{IsGood, IsLean}
-use Rattle.generate.specs.Planned.{IsPlanned}
-use Rattle.icode.specs.Program.{plain_program}
+use Rattle.generate.specs.Planned.{IsPlanned, IsAdmitted, IsBarred}
+use Rattle.icode.specs.Program.{plain_program, code_of}
+use Rattle.request_text.specs.Schedule.{Plan as Turns}
+use Rattle.request_text.specs.Turns.{turns_of}
 use Rattle.tree_model.specs.Breakdown.{Breakdown}
 use Rattle.tree_model.specs.Cost.{cost_of}
 use Rattle.tree_model.specs.Passes.{loads_of, stores_of}
@@ -30,13 +32,14 @@ use Rattle.spiral_words.specs.declared.Command.{Command}
 use Rattle.spiral_words.specs.declared.Command.TheVariants as command
 use Rattle.spiral_main.specs.declared.status.Status.{Status}
 use Rattle.spiral_main.specs.declared.status.Status.TheVariants.{Success, ReadFault, WriteFault}
-use Rattle.spiral_main.specs.Commands.{commanded, IsServed, scheduled}
+use Rattle.spiral_main.specs.Checked.{certificate_limit, IsJudged, IsChecked}
+use Rattle.spiral_main.specs.Commands.{reads_certificate, commanded, AskForCommand, scheduled}
 use Rattle.spiral_main.specs.Fault.{status_of_request, status_of_generate, status_of_stream}
 use Rattle.spiral_main.specs.Line.{line_of, data_of, IsPartOfLine}
 use Rattle.spiral_main.specs.Sample.{sample_vector, weighted_sum, sample_text}
 use Rattle.spiral_main.specs.Stage.{Stage, given, ◌>>=◌}
 use Rattle.spiral_main.specs.Status.{IsDefined}
-use Rattle.spiral_main.specs.Stream.{lines, vectors_of, data_answer, data_vectors}
+use Rattle.spiral_main.specs.Stream.{texts, lines, run_text, vectors_of, data_answer, data_vectors}
 
 -- The stages
 
@@ -49,10 +52,23 @@ spelt line (Err status) = (fault : RequestFault) × Answers line (Err fault) × 
 abbrev pub IsRefused : Request → Status → Type 0
 IsRefused request status = (fault : GenerateFault) × IsPlanned request (Err fault) × (status ≡ status_of_generate fault)
 
--- the chosen tree of the request, if its root is one, some tree fits and the least cost is within its budget
-abbrev pub affordable : Request → Stage Breakdown
-affordable request (Ok tree) = IsPlanned request (Ok tree)
-affordable request (Err status) = IsRefused request status
+-- the first cause to refuse it whatever its budget
+abbrev pub IsShutOut : Request → Status → Type 0
+IsShutOut request status = (fault : GenerateFault) × IsBarred request fault × (status ≡ status_of_generate fault)
+
+-- the root is one of the size, some tree fits, and the least cost is within the budget
+abbrev pub IsAffordable : Request → Type 0
+IsAffordable request = (tree : Breakdown) × IsPlanned request (Ok tree)
+
+-- the request is one for the command. `check` asks for no budget
+abbrev pub IsAccepted : Command → Request → Type 0
+IsAccepted command.Check request = IsAdmitted request
+IsAccepted _ request = IsAffordable request
+
+-- the request is none for the command
+abbrev pub IsDeclined : Command → Request → Status → Type 0
+IsDeclined command.Check request status = IsShutOut request status
+IsDeclined _ request status = IsRefused request status
 
 -- the command and the request
 abbrev pub requested : List (List ℕ) → List ℕ → Stage (Command × Request)
@@ -63,17 +79,19 @@ requested words bytes = do
   served ← given (scheduled command request)
   given (Ok (command, served))
 
--- what is to be done, and the tree of a program for it
+-- what is to be done
 pub record Job : Type 0 where
   pub command : Command
   pub request : Request
-  pub tree : Breakdown
+
+abbrev pub accepted : Command → Request → Stage Job
+accepted wanted request (Ok job) = IsAccepted wanted request × (job ≡ record { command = wanted; request = request })
+accepted wanted request (Err status) = IsDeclined wanted request status
 
 abbrev pub ordered : List (List ℕ) → List ℕ → Stage Job
 ordered words bytes = do
   wanted ← requested words bytes
-  tree ← affordable wanted.1
-  given (Ok (record { command = wanted.0; request = wanted.1; tree = tree }))
+  accepted wanted.0 wanted.1
 
 -- What is written
 
@@ -85,51 +103,67 @@ product r x = transform r.kind r.modulus r.size r.root x
 abbrev pub IsProgramOf : Request → Breakdown → Program → Type 0
 IsProgramOf request tree program = IsGood request (cost_of request tree) program × IsLean request tree program
 
+-- such a program for the chosen tree
+abbrev pub IsProgramFor : Request → Program → Type 0
+IsProgramFor request program = (tree : Breakdown) × IsPlanned request (Ok tree) × IsProgramOf request tree program
+
 -- the text is the listing of such a program
-abbrev pub IsListing : Request → Breakdown → List ℕ → Type 0
-IsListing request tree text = (program : Program) × IsProgramOf request tree program × (text ≡ listing_of (plain_program program))
+abbrev pub IsListing : Request → List ℕ → Type 0
+IsListing request text = (program : Program) × IsProgramFor request program × (text ≡ listing_of (plain_program program))
 
 -- the text is the C text of such a program
-abbrev pub IsCText : Request → Breakdown → List ℕ → Type 0
-IsCText request tree text = (program : Program) × IsProgramOf request tree program × (text ≡ c_text_of (plain_program program))
+abbrev pub IsCText : Request → List ℕ → Type 0
+IsCText request text = (program : Program) × IsProgramFor request program × (text ≡ c_text_of (plain_program program))
 
--- the text has the weighted sum of the matrix times the seed's vector, and what the tree costs, loads and stores
-abbrev pub IsSampleText : Request → ℕ → Breakdown → List ℕ → Type 0
-IsSampleText request seed tree text =
-    text ≡ sample_text (weighted_sum request.modulus (product request (sample_vector request.modulus request.size seed))) (cost_of request tree) (loads_of request tree) (stores_of request tree)
+-- the text has the weighted sum of the matrix times the seed's vector, and what the chosen tree costs, loads and stores
+abbrev pub IsSampleText : Request → ℕ → List ℕ → Type 0
+IsSampleText request seed text = (tree : Breakdown) × IsPlanned request (Ok tree)
+    × (text ≡ sample_text (weighted_sum request.modulus (product request (sample_vector request.modulus request.size seed))) (cost_of request tree) (loads_of request tree) (stores_of request tree))
 
--- the tree, its cost, the phases and each processor's operations
-abbrev pub IsPlanText : Request → Breakdown → List ℕ → Type 0
-IsPlanText request tree text = text ≡ plan_text request tree
+-- the chosen tree, its cost, the phases and each processor's operations
+abbrev pub IsPlanText : Request → List ℕ → Type 0
+IsPlanText request text = (tree : Breakdown) × IsPlanned request (Ok tree) × (text ≡ plan_text request tree)
 
--- the formula of the tree, and a line end
-abbrev pub IsFormulaText : Request → Breakdown → List ℕ → Type 0
-IsFormulaText request tree text = text ≡ spelling (expansion request tree) ++ 10 ∷ []
+-- the formula of the chosen tree, and a line end
+abbrev pub IsFormulaText : Request → List ℕ → Type 0
+IsFormulaText request text = (tree : Breakdown) × IsPlanned request (Ok tree) × (text ≡ spelling (expansion request tree) ++ 10 ∷ [])
 
 -- the line of the table with the least cost and the first choice of each size
 abbrev pub IsCertificate : Request → List ℕ → Type 0
 IsCertificate request text = (rows : List Row) × IsTableText request text rows
 
--- the text of a command that needs no data
-abbrev pub IsTextOf : Command → Request → Breakdown → List ℕ → Type 0
-IsTextOf command.Plan request tree text = IsPlanText request tree text
-IsTextOf command.Formula request tree text = IsFormulaText request tree text
-IsTextOf command.Cert request tree text = IsCertificate request text
-IsTextOf command.Code request tree text = IsListing request tree text
-IsTextOf command.C request tree text = IsCText request tree text
-IsTextOf (command.Sample seed schedule) request tree text = IsSampleText request seed tree text
-IsTextOf _ request tree text = ⊥
+-- the text of a command that reads nothing behind the first line
+abbrev pub IsTextOf : Command → Request → List ℕ → Type 0
+IsTextOf command.Plan request text = IsPlanText request text
+IsTextOf command.Formula request text = IsFormulaText request text
+IsTextOf command.Cert request text = IsCertificate request text
+IsTextOf command.Code request text = IsListing request text
+IsTextOf command.C request text = IsCText request text
+IsTextOf (command.Sample seed schedule) request text = IsSampleText request seed text
+IsTextOf _ request text = ⊥
+
+-- the listing of a good program, and for each vector the lines of its run under the schedule and the line of its results
+abbrev pub IsTrace : Turns → Request → List (List ℕ) → List ℕ → Type 0
+IsTrace schedule request vectors text = (program : Program) × IsProgramFor request program
+    × (text ≡ listing_of (plain_program program) ++ texts (run_text true (code_of program) (turns_of schedule request.procs)) vectors)
 
 -- the text of a command that goes over the data, of which these vectors are whole
-abbrev pub IsTextOfData : Command → Request → Breakdown → List (List ℕ) → List ℕ → Type 0
-IsTextOfData (command.Run schedule) request tree vectors text = text ≡ lines (product request) vectors
-IsTextOfData _ request tree vectors text = ⊥
+abbrev pub IsTextOfData : Command → Request → List (List ℕ) → List ℕ → Type 0
+IsTextOfData (command.Run schedule) request vectors text = text ≡ lines (product request) vectors
+IsTextOfData (command.Trace schedule) request vectors text = IsTrace schedule request vectors text
+IsTextOfData _ request vectors text = ⊥
 
--- the status and the text of a job, for data of which so many bytes may come
-abbrev pub Settles : Command → Request → Breakdown → ℕ → List ℕ → Status → List ℕ → Type 0
-Settles wanted request tree room bytes status text =
-    ((status ≡ status_of_stream (data_answer request.size room bytes)) × IsTextOfData wanted request tree (data_vectors request.size request.modulus room bytes) text)
-    ⊎ ((status ≡ Success) × IsTextOf wanted request tree text)
+-- the status and the text of a command that goes over the data, of which so many bytes may come
+abbrev pub IsAnswerToData : Command → Request → ℕ → List ℕ → Status → List ℕ → Type 0
+IsAnswerToData wanted request room bytes status text =
+    (status ≡ status_of_stream (data_answer request.size room bytes)) × IsTextOfData wanted request (data_vectors request.size request.modulus room bytes) text
+
+-- the status and the text of a command for a request, by the bytes behind the first line, of which so many may come
+abbrev pub Settles : Command → Request → ℕ → List ℕ → Status → List ℕ → Type 0
+Settles wanted request room bytes status text =
+    IsAnswerToData wanted request room bytes status text
+    ⊎ (((status ≡ Success) × IsTextOf wanted request text)
+    ⊎ ((reads_certificate wanted ≡ true) × IsChecked request bytes status text))
 
 -- as many bytes as the limit leaves behind the first line
 abbrev pub room_behind : List ℕ → ℕ
@@ -139,26 +173,28 @@ room_behind bytes = limit - (length bytes - length (data_of bytes))
 abbrev pub IsOutcome : List (List ℕ) → List ℕ → Status → List ℕ → Type 0
 IsOutcome words bytes status text =
     (ordered words bytes (Err status) × (text ≡ []))
-    ⊎ ((job : Job) × ordered words bytes (Ok job) × Settles job.command job.request job.tree (room_behind bytes) (data_of bytes) status text)
+    ⊎ ((job : Job) × ordered words bytes (Ok job) × Settles job.command job.request (room_behind bytes) (data_of bytes) status text)
 
 -- What a fault of the outside leaves
 
--- the data show no fault, and this is the text for the vectors that are whole in them, though more may follow
-abbrev pub BreaksOff : Command → Request → Breakdown → List ℕ → List ℕ → Type 0
-BreaksOff wanted request tree bytes text =
-    (list_all is_good (tokens bytes) ≡ true) × IsTextOfData wanted request tree (vectors_of request.size request.modulus (tokens (closed_part bytes))) text
+-- The bytes behind the first line show no fault so far. For data the text is that of the vectors that are whole in them, though more may follow; a certificate has none yet
+abbrev pub BreaksOff : Command → Request → List ℕ → List ℕ → Type 0
+BreaksOff wanted request bytes text =
+    ((list_all is_good (tokens bytes) ≡ true) × IsTextOfData wanted request (vectors_of request.size request.modulus (tokens (closed_part bytes))) text)
+    ⊎ ((reads_certificate wanted ≡ true) × (length bytes ≤ certificate_limit) × (text ≡ []))
 
--- The bytes that were read show no fault: they are a part of the first line, and nothing is written, or a job and a part of its data
+-- The bytes that were read show no fault: they are a part of the first line, and nothing is written, or a job and a part of what stands behind it
 abbrev pub IsBrokenOff : List (List ℕ) → List ℕ → List ℕ → Type 0
 IsBrokenOff words read text =
-    (IsServed words × IsPartOfLine read × (text ≡ []))
-    ⊎ ((job : Job) × ordered words read (Ok job) × BreaksOff job.command job.request job.tree (data_of read) text)
+    (AskForCommand words × IsPartOfLine read × (text ≡ []))
+    ⊎ ((job : Job) × ordered words read (Ok job) × BreaksOff job.command job.request (data_of read) text)
 
--- the text to which a job and the data that were read have come
-abbrev pub ComesTo : Command → Request → Breakdown → List ℕ → List ℕ → Type 0
-ComesTo wanted request tree bytes text =
-    ((list_all is_good (tokens bytes) ≡ true) × IsTextOfData wanted request tree (vectors_of request.size request.modulus (tokens bytes)) text)
-    ⊎ IsTextOf wanted request tree text
+-- the text to which a command has come by the bytes that it read behind the first line, where this is left
+abbrev pub ComesTo : Command → Request → List ℕ → List ℕ → List ℕ → Type 0
+ComesTo wanted request bytes left text =
+    ((list_all is_good (tokens bytes) ≡ true) × IsTextOfData wanted request (vectors_of request.size request.modulus (tokens bytes)) text)
+    ⊎ (IsTextOf wanted request text
+    ⊎ ((reads_certificate wanted ≡ true) × (left ≡ []) × (length bytes ≤ certificate_limit) × IsJudged request bytes Success text))
 
 -- Status and output of a run, by all the bytes of its input
 pub record Accounts (words : List (List ℕ)) (bytes : List ℕ) (before after : Option (List ℕ)) (status : Status) : Type 0 where
@@ -168,7 +204,7 @@ pub record Accounts (words : List (List ℕ)) (bytes : List ℕ) (before after :
   pub read_fault : status ≡ ReadFault → (read : List ℕ) × (rest : List ℕ) × (text : List ℕ) × (bytes ≡ read ++ rest) × IsBrokenOff words read text × Appends before after text
   -- a write failed at a job's text, of which the output took a front
   pub write_fault : status ≡ WriteFault → (read : List ℕ) × (rest : List ℕ) × (text : List ℕ) × (bytes ≡ read ++ rest)
-      × ((job : Job) × ordered words read (Ok job) × ComesTo job.command job.request job.tree (data_of read) text) × AppendsPrefix before after text
+      × ((job : Job) × ordered words read (Ok job) × ComesTo job.command job.request (data_of read) rest text) × AppendsPrefix before after text
 
 -- the line went to the note whole, or a prefix of it where the note failed
 abbrev pub Notes : Option (List ℕ) → Option (List ℕ) → ℕ → ℕ → List ℕ → Type 0

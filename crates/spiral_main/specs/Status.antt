@@ -4,7 +4,7 @@ use Rattle.std.specs.List.{concat}
 use Rattle.request_text.specs.declared.fault.Field.{Field}
 use Rattle.request_text.specs.declared.fault.Field.TheVariants.{Size, Mod, Root, Procs, Line, Lanes, Unroll, Budget, Weight}
 use Rattle.spiral_main.specs.declared.status.Status.{Status}
-use Rattle.spiral_main.specs.declared.status.Status.TheVariants.{Success, Usage, Syntax, Range, Shape, LanesLine, Turn, NoDivide, OverBudget, BadNumber, Truncated, ReadFault, WriteFault, NoMemory, TooLong}
+use Rattle.spiral_main.specs.declared.status.Status.TheVariants.{Success, Usage, Syntax, Range, Shape, LanesLine, Turn, NoDivide, OverBudget, BadNumber, Truncated, ReadFault, WriteFault, NoMemory, TooLong, Unread, Wrong}
 use Rattle.spiral_main.specs.declared.status.Status.TheVariants as status
 
 abbrev pub code_of : Status → ℕ
@@ -24,6 +24,8 @@ code_of ReadFault = 10
 code_of WriteFault = 11
 code_of NoMemory = 12
 code_of (TooLong limit) = 13
+code_of Unread = 14
+code_of (Wrong size given found) = 14
 
 -- a field's word in a request line
 abbrev pub field_word : Field → List ℕ
@@ -54,6 +56,9 @@ note_line ReadFault = codes "spiral: read failed\n"
 note_line WriteFault = codes "spiral: write failed\n"
 note_line NoMemory = codes "spiral: out of memory\n"
 note_line (TooLong limit) = concat (codes "spiral: more than " ∷ decimal limit ∷ codes " bytes\n" ∷ [])
+note_line Unread = codes "spiral: certificate unreadable\n"
+note_line (Wrong size given found) =
+    concat (codes "spiral: certificate row " ∷ decimal size ∷ codes " gives " ∷ decimal given ∷ codes ", found " ∷ decimal found ∷ codes "\n" ∷ [])
 
 -- the words and the bytes call for the status: it is neither a fault of the outside nor want of memory
 pub record IsDefined (status : Status) : Type 0 where

@@ -16,7 +16,7 @@ use Rattle.spiral_main.specs.declared.status.Status.{Status}
 use Rattle.spiral_main.specs.declared.status.Status.TheVariants.{Success, ReadFault, WriteFault}
 use Rattle.spiral_main.specs.Line.{data_of, IsPartOfLine}
 use Rattle.spiral_main.specs.Status.{IsDefined}
-use Rattle.spiral_main.specs.Outcome.{requested, IsRefused, Settles, BreaksOff, ComesTo, Accounts}
+use Rattle.spiral_main.specs.Outcome.{requested, IsAccepted, IsDeclined, Settles, BreaksOff, ComesTo, Accounts}
 
 -- a status that ends a run before the output and the data
 pub record IsRefusal (status : Status) : Type 0 where
@@ -40,19 +40,19 @@ Asks words (Some bytes) (Some rest) taken result = (read : List ℕ) × (bytes �
 abbrev pub IsGoodCode : Request → Code → Type 0
 IsGoodCode request code = (tree : Breakdown) × (program : Program) × IsPlanned request (Ok tree) × IsGood request (cost_of request tree) program × (code ≡ code_of program) × IsLean request tree program
 
--- status and text of a command for a request and its data
+-- status and text of a command for a request, by what its input has left
 abbrev pub Ends : Command → Request → ℕ → List ℕ → Status → List ℕ → Type 0
 Ends command request room bytes status text =
-    (IsRefused request status × (text ≡ []))
-    ⊎ ((tree : Breakdown) × IsPlanned request (Ok tree) × Settles command request tree room bytes status text)
+    (IsDeclined command request status × (text ≡ []))
+    ⊎ (IsAccepted command request × Settles command request room bytes status text)
 
--- status and output of a command, by the data that its input has left
+-- status and output of a command, by what its input has left
 pub record Performs (command : Command) (request : Request) (room : ℕ) (bytes : List ℕ) (before after : Option (List ℕ)) (status : Status) : Type 0 where
   pub answer : IsDefined status → (text : List ℕ) × Ends command request room bytes status text × Appends before after text
-  pub read_fault : status ≡ ReadFault → (read : List ℕ) × (rest : List ℕ) × (text : List ℕ) × (tree : Breakdown) × (bytes ≡ read ++ rest) × IsPlanned request (Ok tree)
-      × BreaksOff command request tree read text × Appends before after text
-  pub write_fault : status ≡ WriteFault → (read : List ℕ) × (rest : List ℕ) × (text : List ℕ) × (tree : Breakdown) × (bytes ≡ read ++ rest) × IsPlanned request (Ok tree)
-      × ComesTo command request tree read text × AppendsPrefix before after text
+  pub read_fault : status ≡ ReadFault → (read : List ℕ) × (rest : List ℕ) × (text : List ℕ) × (bytes ≡ read ++ rest) × IsAccepted command request
+      × BreaksOff command request read text × Appends before after text
+  pub write_fault : status ≡ WriteFault → (read : List ℕ) × (rest : List ℕ) × (text : List ℕ) × (bytes ≡ read ++ rest) × IsAccepted command request
+      × ComesTo command request read rest text × AppendsPrefix before after text
 
 -- the same over a source that tells its bytes
 abbrev pub ToldPerforms : Command → Request → ℕ → Option (List ℕ) → Option (List ℕ) → Option (List ℕ) → Status → Type 0

@@ -1,8 +1,9 @@
 -- Data as a stream of vectors: which vectors they have, how they end, and what a run over them reads, writes and leaves.
-use Rattle.std.specs.Prelude.{◌≡◌, ℕ, zero, suc, ◌+◌, ◌-◌, ◌/◌, ◌%◌, ◌<◌, Bool, true, false, List, [], ◌∷◌, ◌++◌, length, take, drop, None, Some, Ok, Err, Result, if◌then◌else◌, nat_le, nat_lt, find, ◌==◌}
+use Rattle.std.specs.Prelude.{◌≡◌, ◌≢◌, ℕ, zero, suc, ◌+◌, ◌-◌, ◌/◌, ◌%◌, ◌<◌, Bool, true, false, List, [], ◌∷◌, ◌++◌, length, take, drop, None, Some, Ok, Err, Result, if◌then◌else◌, nat_le, nat_lt, find, ◌==◌}
 use Rattle.std.specs.List.{list_all, flat_map}
 use Rattle.std.specs.declared.option.Option.{Option}
 use Rattle.std.specs.Io.KnownBytes.{Appends, Consumes, IsAtEnd}
+use Rattle.icode.specs.Machine.{Code, State, start, results}
 use Rattle.request_text.specs.Schedule.{Plan}
 use Rattle.request_text.specs.Turns.{named}
 use Rattle.io_edge.specs.Feed.{Fed, limit}
@@ -10,6 +11,7 @@ use Rattle.io_edge.specs.Taken.{AppendsPrefix}
 use Rattle.data_stream.specs.Data.{tokens, closed_part, is_good}
 use Rattle.data_stream.specs.Reading.{residues}
 use Rattle.data_stream.specs.Line.{line_of}
+use Rattle.trace_text.specs.Trace.{trace_of}
 use Rattle.spiral_main.specs.declared.stream.StreamFault.{StreamFault}
 use Rattle.spiral_main.specs.declared.stream.StreamFault.TheVariants.{BadNumber, Truncated, TooLong, ReadFault, WriteFault}
 
@@ -31,6 +33,14 @@ texts text vectors = flat_map text vectors
 -- a line for each vector, of what f makes of it
 abbrev pub lines : (List ℕ → List ℕ) → List (List ℕ) → List ℕ
 lines f vectors = texts (λ x. line_of (f x)) vectors
+
+-- the lines of a run's turns, where they are asked for
+abbrev pub turn_lines : Bool → Code → State → List ℕ → List ℕ
+turn_lines asked code state turns = if asked then trace_of code state turns else []
+
+-- the text of a vector's run: the lines of its turns, where they are asked for, and the line of its results
+abbrev pub run_text : Bool → Code → List ℕ → List ℕ → List ℕ
+run_text asked code turns x = turn_lines asked code (start code x) turns ++ line_of (results code x turns)
 
 -- what the last vector leaves, or what was there where there is none
 abbrev pub state_behind : {S : Type 0} → (List ℕ → S) → S → List (List ℕ) → S
@@ -103,7 +113,7 @@ abbrev pub Writes : Option (List ℕ) → Option (List ℕ) → Result (Unit {0}
 Writes before after (Err WriteFault) text = AppendsPrefix before after text
 Writes before after result text = Appends before after text
 
--- What a run has read, written and left, which writes the text of each vector and is then where the vector leaves it
+-- What a run has read, written and left, which writes the text of each vector and is then where the vector leaves it, unless the output fails in between
 pub record Streams {S : Type 0} (text : List ℕ → List ℕ) (leaves : List ℕ → S) (size modulus : ℕ) (old new : Fed) (before after : Option (List ℕ))
     (out out' : Option (List ℕ)) (first last : S) (result : Result (Unit {0}) StreamFault) : Type 0 where
   pub read : List ℕ
@@ -112,7 +122,7 @@ pub record Streams {S : Type 0} (text : List ℕ → List ℕ) (leaves : List �
   pub answer : Reads size modulus old new read (IsAtEnd after) vectors result
   pub told : ToldAnswers size modulus (limit - old.taken) before vectors result
   pub wrote : Writes out out' result (texts text vectors)
-  pub stands : last ≡ state_behind leaves first vectors
+  pub stands : result ≢ Err WriteFault → last ≡ state_behind leaves first vectors
 
 -- each turn that the schedule names is of a processor that there is
 abbrev pub HasNoStranger : Plan → ℕ → Type 0

@@ -3,8 +3,8 @@ ghost use Rattle.std.specs.Prelude.{◌≡◌, ◌≢◌, ◌≤◌, ℕ, Some, 
 ghost use Rattle.matrix_meaning.specs.Valid.{IsInRange};
 ghost use Rattle.generate.specs.Planned.{IsPlain};
 ghost use Rattle.io_edge.specs.Faults.{Reports};
-ghost use Rattle.io_edge.specs.Feed.{to_come, limit};
-ghost use Rattle.spiral_main.specs.Commands.{has_text, is_there, commanded, IsServed, schedule_of, stranger};
+ghost use Rattle.io_edge.specs.Feed.{to_come};
+ghost use Rattle.spiral_main.specs.Commands.{commanded, AskForCommand, schedule_of, stranger};
 ghost use Rattle.spiral_main.specs.Status.{IsDefined};
 ghost use Rattle.spiral_main.specs.Steps.{IsRefusal, Asks};
 ghost use Rattle.spiral_main.specs.Stream.{HasNoStranger};
@@ -26,15 +26,15 @@ pub(crate) fn ask<I: Source>(
 ) -> Result<(Command, Request), Status>
     requires fresh { feed.old.taken ≡ 0 }
     ensures told { Asks (map string_bytes words.now.items) (to_come feed.old (I.left input.old)) (to_come feed.new (I.left input.new)) feed.new.taken result }
-    ensures within { OnOk result (feed.new.taken ≤ limit) }
+    ensures within { OnOk result (feed.new.taken ≤ 257) }
     ensures command { IfOk result (λ wanted. commanded (map string_bytes words.now.items) (Ok wanted.0)) }
     ensures request { IfOk result (λ wanted. IsInRange wanted.1 × IsPlain wanted.1) }
     ensures turns { IfOk result (λ wanted. HasNoStranger (schedule_of wanted.0) wanted.1.procs) }
     ensures read { Reports (I.faults input.old) (I.faults input.new) (IsErrOf result Status.ReadFault) }
-    ensures after { IsErrOf result Status.ReadFault → IsServed (map string_bytes words.now.items) }
+    ensures after { IsErrOf result Status.ReadFault → AskForCommand (map string_bytes words.now.items) }
     ensures others { IfErr result (λ status. (status ≢ Status.Success) × (status ≢ Status.WriteFault)) }
 {
-    let command = served(alloc, words)?;
+    let command = asked(alloc, words)?;
     let mut line = [0; LINE_LIMIT];
     let count = read_line(feed, input, &mut line)?;
     let request = read_request(&line[..count])?;
@@ -42,33 +42,16 @@ pub(crate) fn ask<I: Source>(
     Ok((command, request))
 }
 
-// The command that the words ask for, if it is there.
-fn served(alloc: Global, words: &Vec<String>) -> Result<Command, Status>
+// The command that the words ask for.
+fn asked(alloc: Global, words: &Vec<String>) -> Result<Command, Status>
     ensures command { IfOk result (λ command. commanded (map string_bytes words.now.items) (Ok command)) }
     ensures refused { IfErr result (λ status. IsDefined status → commanded (map string_bytes words.now.items) (Err status)) }
     ensures refusal { IfErr result IsRefusal }
 {
     match command_of(alloc, words) {
-        Ok(command) => {
-            if is_there(&command) {
-                Ok(command)
-            } else {
-                Err(Status::Usage)
-            }
-        }
+        Ok(command) => Ok(command),
         Err(Refusal::Usage) => Err(Status::Usage),
         Err(Refusal::NoMemory) => Err(Status::NoMemory),
-    }
-}
-
-// Whether the program can do the command. A command that it can't do yet is answered as words that are none.
-fn is_there(command: &Command) -> bool
-    ensures { result ≡ is_there command.now }
-{
-    match command {
-        Command::Plan | Command::Formula | Command::Cert => true,
-        Command::Run { .. } | Command::Code | Command::C | Command::Sample { .. } => true,
-        _ => false,
     }
 }
 

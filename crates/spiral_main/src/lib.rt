@@ -1,7 +1,16 @@
 //! The program: words and an input to an output, a note and a status.
 #![tactic(auto)]
 
+ghost use Rattle.std.specs.Prelude.{◌≡◌, ℕ, true, List};
+ghost use Rattle.spiral_words.specs.Asked.{IsAsked};
+ghost use Rattle.spiral_words.specs.declared.Command.{Command as SpecCommand};
+ghost use Rattle.spiral_main.specs.declared.status.Status.{Status as SpecStatus};
+ghost use Rattle.spiral_main.specs.Commands.{prints_one_text};
+ghost use Rattle.spiral_main.specs.Outcome.{IsOutcome};
+
 mod ask;
+mod check;
+mod data;
 mod line;
 mod plans;
 mod run;
@@ -14,6 +23,17 @@ pub use run::spiral_run;
 pub use spiral_words::Command;
 pub use status::Status;
 pub use stream::{StreamFault, run_stream};
+
+/// The words and the bytes of a call determine its status.
+pub fn calls_have_one_status()
+    ensures { (words : List (List ℕ)) (bytes : List ℕ) (a b : SpecStatus) (s t : List ℕ) → IsOutcome words bytes a s → IsOutcome words bytes b t → a ≡ b }
+{}
+
+/// The words and the bytes of a call determine its text, but for the commands that print a program.
+pub fn calls_have_one_text()
+    ensures { (words : List (List ℕ)) (bytes : List ℕ) (wanted : SpecCommand) (a b : SpecStatus) (s t : List ℕ) → IsAsked words wanted
+        → prints_one_text wanted ≡ true → IsOutcome words bytes a s → IsOutcome words bytes b t → s ≡ t }
+{}
 
 #[cfg(test)]
 mod tests;

@@ -1,10 +1,10 @@
 // The texts of a request's plan: its lines, its formula and its certificate.
-ghost use Rattle.std.specs.Prelude.{◌≡◌, ◌++◌, ◌∷◌, [], Ok, IfOk, IfErr};
+ghost use Rattle.std.specs.Prelude.{◌≡◌, ◌++◌, ◌∷◌, [], Ok, IfOk, IfErr, OnOk};
 ghost use Rattle.matrix_meaning.specs.Valid.{IsInRange, IsValid};
 ghost use Rattle.generate.specs.Planned.{IsPlain, IsPlanned};
-ghost use Rattle.tree_model.specs.Breakdown.{Breakdown, breakdown_of};
+ghost use Rattle.tree_model.specs.Breakdown.{breakdown_of};
 ghost use Rattle.tree_model.specs.Cost.{cost_of};
-ghost use Rattle.spiral_main.specs.Outcome.{IsRefused, IsPlanText, IsFormulaText, IsCertificate};
+ghost use Rattle.spiral_main.specs.Outcome.{IsRefused, IsAffordable, IsPlanText, IsFormulaText, IsCertificate};
 ghost use Rattle.spiral_main.specs.Status.{IsDefined};
 ghost use Rattle.spiral_main.specs.Steps.{IsRefusal};
 
@@ -26,6 +26,7 @@ fn chosen(alloc: Global, request: &Request) -> Result<Plan, Status>
     ensures planned { IfOk result (λ plan. IsPlanned request.now (Ok (breakdown_of plan.tree))) }
     ensures cost { IfOk result (λ plan. plan.cost ≡ cost_of request.now (breakdown_of plan.tree)) }
     ensures valid { IfOk result (λ plan. IsValid request.now) }
+    ensures affordable { OnOk result (IsAffordable request.now) }
     ensures refused { IfErr result (λ status. IsDefined status → IsRefused request.now status) }
     ensures refusal { IfErr result IsRefusal }
 {
@@ -36,7 +37,8 @@ fn chosen(alloc: Global, request: &Request) -> Result<Plan, Status>
 /// The tree, its cost, its phases, and the operations of each processor.
 pub(crate) fn plan_lines(alloc: Global, request: &Request) -> Result<Vec<u8>, Status>
     requires in_range { IsInRange request.now }
-    ensures text { IfOk result (λ text. (tree : Breakdown) × IsPlanned request.now (Ok tree) × IsPlanText request.now tree text.items) }
+    ensures affordable { OnOk result (IsAffordable request.now) }
+    ensures text { IfOk result (λ text. IsPlanText request.now text.items) }
     ensures refused { IfErr result (λ status. IsDefined status → IsRefused request.now status) }
     ensures refusal { IfErr result IsRefusal }
 {
@@ -57,7 +59,8 @@ fn ended(mut text: Vec<u8>) -> Result<Vec<u8>, NoMemory>
 #[tactic(auto, using(crate::proofs::PlanLemmas::whole_divides))]
 pub(crate) fn formula(alloc: Global, request: &Request) -> Result<Vec<u8>, Status>
     requires in_range { IsInRange request.now }
-    ensures text { IfOk result (λ text. (tree : Breakdown) × IsPlanned request.now (Ok tree) × IsFormulaText request.now tree text.items) }
+    ensures affordable { OnOk result (IsAffordable request.now) }
+    ensures text { IfOk result (λ text. IsFormulaText request.now text.items) }
     ensures refused { IfErr result (λ status. IsDefined status → IsRefused request.now status) }
     ensures refusal { IfErr result IsRefusal }
 {
@@ -73,7 +76,8 @@ pub(crate) fn formula(alloc: Global, request: &Request) -> Result<Vec<u8>, Statu
 pub(crate) fn certificate(alloc: Global, request: &Request) -> Result<Vec<u8>, Status>
     requires in_range { IsInRange request.now }
     requires plain { IsPlain request.now }
-    ensures text { IfOk result (λ text. (tree : Breakdown) × IsPlanned request.now (Ok tree) × IsCertificate request.now text.items) }
+    ensures affordable { OnOk result (IsAffordable request.now) }
+    ensures text { IfOk result (λ text. IsCertificate request.now text.items) }
     ensures refused { IfErr result (λ status. IsDefined status → IsRefused request.now status) }
     ensures refusal { IfErr result IsRefusal }
 {

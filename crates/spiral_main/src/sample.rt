@@ -1,12 +1,11 @@
 // One vector of the generator: the sum of its transform, and what a run on it counts.
-ghost use Rattle.std.specs.Prelude.{◌≡◌, ◌++◌, length, Ok, Err, IfOk, IfErr};
+ghost use Rattle.std.specs.Prelude.{◌≡◌, ◌++◌, length, Ok, Err, IfOk, IfErr, OnOk};
 ghost use Rattle.operators.specs.Sum.{sum_below};
 ghost use Rattle.matrix_meaning.specs.Valid.{IsInRange};
 ghost use Rattle.icode.specs.Machine.{counts_so_far};
-ghost use Rattle.generate.specs.Planned.{IsPlain, IsPlanned};
-ghost use Rattle.tree_model.specs.Breakdown.{Breakdown};
+ghost use Rattle.generate.specs.Planned.{IsPlain};
 ghost use Rattle.request_text.specs.Turns.{next_state};
-ghost use Rattle.spiral_main.specs.Outcome.{IsRefused, IsSampleText};
+ghost use Rattle.spiral_main.specs.Outcome.{IsRefused, IsAffordable, IsSampleText};
 ghost use Rattle.spiral_main.specs.Sample.{sample_vector, weighted_sum, sample_text};
 ghost use Rattle.spiral_main.specs.Status.{IsDefined};
 ghost use Rattle.spiral_main.specs.Steps.{IsRefusal};
@@ -89,7 +88,8 @@ pub(crate) fn sample(
     requires in_range { IsInRange request.now }
     requires plain { IsPlain request.now }
     requires turns { HasNoStranger schedule.now request.now.procs }
-    ensures text { IfOk result (λ text. (tree : Breakdown) × IsPlanned request.now (Ok tree) × IsSampleText request.now seed tree text.items) }
+    ensures affordable { OnOk result (IsAffordable request.now) }
+    ensures text { IfOk result (λ text. IsSampleText request.now seed text.items) }
     ensures refused { IfErr result (λ status. IsDefined status → IsRefused request.now status) }
     ensures refusal { IfErr result IsRefusal }
 {

@@ -5,9 +5,11 @@ ghost use Rattle.io_edge.specs.Faults.{HasCause};
 ghost use Rattle.io_edge.specs.Taken.{WritesAll};
 ghost use Rattle.spiral_main.specs.Status.{code_of, field_word, note_line};
 
+use crate::check::CERTIFICATE_LIMIT;
 use crate::line::LINE_LIMIT;
 use crate::stream::StreamFault;
 use generate::GenerateFault;
+use input_rest::RestFault;
 use io_edge::{Feed, FeedFault, Sink, WriteFault, write_all, write_parts};
 use itoa::Buffer;
 use memory::NoMemory;
@@ -45,8 +47,12 @@ pub enum Status {
     /// The output failed.
     WriteFault,
     NoMemory,
-    /// The line or the input has more bytes than this.
+    /// The line, the input or the certificate has more bytes than this.
     TooLong { limit: u64 },
+    /// What stands behind the request line is no certificate for the request.
+    Unread,
+    /// The certificate's first wrong row: its size, its cost, and the cost that was found in its place.
+    Wrong { size: u64, given: u64, found: u64 },
 }
 
 impl Status {
@@ -68,6 +74,7 @@ impl Status {
             Status::WriteFault => 11,
             Status::NoMemory => 12,
             Status::TooLong { .. } => 13,
+            Status::Unread | Status::Wrong { .. } => 14,
         }
     }
 }
@@ -134,6 +141,23 @@ impl From<StreamFault> for Status {
             StreamFault::TooLong => Status::TooLong { limit: Feed::LIMIT },
             StreamFault::ReadFault => Status::ReadFault,
             StreamFault::WriteFault => Status::WriteFault,
+        }
+    }
+}
+
+impl From<RestFault> for Status {
+    ghost use Rattle.std.specs.Prelude.{◌≡◌};
+    ghost use Rattle.spiral_main.specs.Fault.{status_of_rest};
+
+    ghost from_gives = { λ fault status. status ≡ status_of_rest fault };
+
+    fn from(fault: RestFault) -> Self {
+        match fault {
+            RestFault::ReadFault => Status::ReadFault,
+            RestFault::TooLong => Status::TooLong {
+                limit: CERTIFICATE_LIMIT,
+            },
+            RestFault::NoMemory => Status::NoMemory,
         }
     }
 }
@@ -237,6 +261,28 @@ fn note_range<E: Sink>(note: &mut E, field: Field, value: u64) -> Result<(), Wri
     )
 }
 
+// Writes what is wrong with a certificate's row.
+fn note_row<E: Sink>(note: &mut E, size: u64, given: u64, found: u64) -> Result<(), WriteFault>
+    ensures bytes { WritesAll (E.taken note.old) (E.taken note.new) result (note_line (Status.Wrong size given found)) }
+    ensures cause { HasCause (E.faults note.old) (E.faults note.new) result }
+{
+    let mut sizes = Buffer::new();
+    let mut costs = Buffer::new();
+    let mut found_costs = Buffer::new();
+    write_parts(
+        note,
+        &[
+            b"spiral: certificate row ",
+            sizes.format(size).as_bytes(),
+            b" gives ",
+            costs.format(given).as_bytes(),
+            b", found ",
+            found_costs.format(found).as_bytes(),
+            b"\n",
+        ],
+    )
+}
+
 /// Writes the line of a status.
 pub(crate) fn write_note<E: Sink>(note: &mut E, status: Status) -> Result<(), WriteFault>
     ensures bytes { WritesAll (E.taken note.old) (E.taken note.new) result (note_line status) }
@@ -304,5 +350,7 @@ pub(crate) fn write_note<E: Sink>(note: &mut E, status: Status) -> Result<(), Wr
         Status::TooLong { limit } => {
             note_number(note, b"spiral: more than ", limit, b" bytes\n")
         }
+        Status::Unread => write_all(note, b"spiral: certificate unreadable\n"),
+        Status::Wrong { size, given, found } => note_row(note, size, given, found),
     }
 }

@@ -1,16 +1,17 @@
-// A run over a stream: the line of each vector.
-ghost use Rattle.std.specs.Prelude.{◌≡◌, ◌≢◌, ◌<◌, ◌≤◌, length, All, Err, IsErrOf};
-ghost use Rattle.icode.specs.Machine.{results, runs};
-ghost use Rattle.io_edge.specs.Faults.{Reports};
+// A run over a stream: the lines of each vector.
+ghost use Rattle.std.specs.Prelude.{◌≡◌, ◌≢◌, ◌<◌, ◌≤◌, length, All, Err, OnOk, IsErrOf};
+ghost use Rattle.icode.specs.Machine.{words_at, padded, run, finished, results, runs};
+ghost use Rattle.io_edge.specs.Faults.{HasCause, Reports};
 ghost use Rattle.io_edge.specs.Feed.{to_come, limit};
-ghost use Rattle.data_stream.specs.Line.{line_of};
+ghost use Rattle.io_edge.specs.Taken.{WritesAll};
 ghost use Rattle.request_text.specs.Turns.{turns_of};
-ghost use Rattle.spiral_main.specs.Stream.{HasNoStranger, Streams};
+ghost use Rattle.spiral_main.specs.Stream.{HasNoStranger, turn_lines, run_text, Streams};
 
 use data_stream::{DataFault, Next, Vectors, write_vector};
 use io_edge::{Feed, Sink, Source, WriteFault};
 use par_machine::Machine;
 use request_text::Schedule;
+use trace_text::write_turns;
 
 /// Why a run over a stream ended before the stream.
 #[derive(Clone, Copy, Debug, PartialEq, Eq)]
@@ -54,9 +55,20 @@ impl From<WriteFault> for StreamFault {
     }
 }
 
+// Puts the words of the machine's second array into the slice.
+fn take_results(machine: &Machine, vector: &mut [u64])
+    requires size { length vector.old ≡ machine.now.code.size }
+    ensures { vector.new ≡ words_at machine.now.code.size machine.now.state.memory (padded machine.now.code) }
+{
+    let first = machine.span() / 4;
+    prove!(machine.span() == 4 * first);
+    for place in 0..vector.len() {
+        vector[place] = machine.word(first + place as u64);
+    }
+}
+
 /// Runs the machine on the vector, and puts the results in its place.
 pub(crate) fn transform(machine: &mut Machine, schedule: &Schedule, vector: &mut [u64])
-    requires some { 0 < length vector.old }
     requires size { length vector.old ≡ machine.old.code.size }
     requires residues { All (λ v. v < machine.old.code.modulus) vector.old }
     requires no_stranger { HasNoStranger schedule.now machine.old.code.procs }
@@ -65,22 +77,65 @@ pub(crate) fn transform(machine: &mut Machine, schedule: &Schedule, vector: &mut
     ensures code { machine.new.code ≡ machine.old.code }
 {
     machine.put(vector);
-    let first = machine.span() / 4;
     machine.run_list(schedule);
     machine.finish();
-    prove!(machine.span() == 4 * first);
-    for place in 0..vector.len() {
-        vector[place] = machine.word(first + place as u64);
+    take_results(machine, vector);
+}
+
+// Takes the turns of the schedule and those that complete them, and writes a line of each where lines are asked for.
+fn take_turns<O: Sink>(
+    machine: &mut Machine,
+    schedule: &Schedule,
+    lines: bool,
+    output: &mut O,
+) -> Result<(), WriteFault>
+    requires no_stranger { HasNoStranger schedule.now machine.old.code.procs }
+    ensures bytes { WritesAll (O.taken output.old) (O.taken output.new) result
+        (turn_lines lines machine.old.code machine.old.state (turns_of schedule.now machine.old.code.procs)) }
+    ensures cause { HasCause (O.faults output.old) (O.faults output.new) result }
+    ensures state { OnOk result (machine.new.state ≡ finished machine.old.code (run machine.old.code machine.old.state (turns_of schedule.now machine.old.code.procs))) }
+    ensures code { machine.new.code ≡ machine.old.code }
+{
+    if lines {
+        return write_turns(machine, schedule, output);
     }
+    machine.run_list(schedule);
+    machine.finish();
+    Ok(())
+}
+
+// Runs the machine on the vector, writes a line of each turn where lines are asked for, and then the line of the results,
+// which it puts in the vector's place.
+fn write_run<O: Sink>(
+    machine: &mut Machine,
+    schedule: &Schedule,
+    lines: bool,
+    output: &mut O,
+    vector: &mut [u64],
+) -> Result<(), WriteFault>
+    requires size { length vector.old ≡ machine.old.code.size }
+    requires residues { All (λ v. v < machine.old.code.modulus) vector.old }
+    requires no_stranger { HasNoStranger schedule.now machine.old.code.procs }
+    ensures bytes { WritesAll (O.taken output.old) (O.taken output.new) result
+        (run_text lines machine.old.code (turns_of schedule.now machine.old.code.procs) vector.old) }
+    ensures cause { HasCause (O.faults output.old) (O.faults output.new) result }
+    ensures state { OnOk result (machine.new.state ≡ runs machine.old.code vector.old (turns_of schedule.now machine.old.code.procs)) }
+    ensures code { machine.new.code ≡ machine.old.code }
+{
+    machine.put(vector);
+    take_turns(machine, schedule, lines, output)?;
+    take_results(machine, vector);
+    write_vector(output, vector)
 }
 
 /// Runs the machine on each vector of the data, by the turns of the schedule and those that complete them, and writes
-/// the line of its results before it reads the next.
+/// the line of its results before it reads the next. Where lines are asked for, one for each turn comes before it.
 ///
 /// The data go on where the feed stands. The slice is room for a vector, which has at least one number.
 pub fn run_stream<I: Source, O: Sink>(
     machine: &mut Machine,
     schedule: &Schedule,
+    lines: bool,
     feed: &mut Feed,
     input: &mut I,
     output: &mut O,
@@ -92,7 +147,7 @@ pub fn run_stream<I: Source, O: Sink>(
     requires within { feed.old.taken ≤ limit }
 
     // What it read, wrote and left, also of a source that doesn't tell its bytes.
-    ensures streams { Streams (λ x. line_of (results machine.old.code x (turns_of schedule.now machine.old.code.procs)))
+    ensures streams { Streams (run_text lines machine.old.code (turns_of schedule.now machine.old.code.procs))
         (λ x. runs machine.old.code x (turns_of schedule.now machine.old.code.procs))
         machine.old.code.size machine.old.code.modulus feed.old feed.new
         (to_come feed.old (I.left input.old)) (to_come feed.new (I.left input.new))
@@ -107,8 +162,7 @@ pub fn run_stream<I: Source, O: Sink>(
     let modulus = machine.modulus();
     let mut vectors = Vectors::new(vector.len() as u64);
     while let Next::Vector = vectors.next(&modulus, feed, input, vector)? {
-        transform(machine, schedule, vector);
-        write_vector(output, vector)?;
+        write_run(machine, schedule, lines, output, vector)?;
     }
     Ok(())
 }

@@ -136,6 +136,70 @@ for (int l = 0; l < V; l++) Y[1 + l] = r[4][l];
 }
 ";
 
+const PAIR: &[u8] = b"dft 2 mod 15 root 4\n1 1\n";
+
+const PAIR_LISTING: &[u8] = b"program size 2 mod 15 procs 1 line 1 lanes 1 regs 5
+phase
+ld r0 X[0]
+ld r1 X[1]
+add r2 r0 r1
+mul r3 r1 4
+add r4 r0 r3
+st Y[0] r2
+st Y[1] r4
+end
+";
+
+const PAIR_TRACE: &[u8] = b"program size 2 mod 15 procs 1 line 1 lanes 1 regs 5
+phase
+ld r0 X[0]
+ld r1 X[1]
+add r2 r0 r1
+mul r3 r1 4
+add r4 r0 r3
+st Y[0] r2
+st Y[1] r4
+end
+0 0 ld r0 0
+1 0 ld r1 1
+2 0 add r2 r0 r1
+3 0 mul r3 r1 4
+4 0 add r4 r0 r3
+5 0 st 2 r2
+6 0 st 3 r4
+2 5
+";
+
+// A turn more than the run has.
+const LATE_TRACE: &[u8] = b"program size 2 mod 15 procs 1 line 1 lanes 1 regs 5
+phase
+ld r0 X[0]
+ld r1 X[1]
+add r2 r0 r1
+mul r3 r1 4
+add r4 r0 r3
+st Y[0] r2
+st Y[1] r4
+end
+0 0 ld r0 0
+1 0 ld r1 1
+2 0 add r2 r0 r1
+3 0 mul r3 r1 4
+4 0 add r4 r0 r3
+5 0 st 2 r2
+6 0 st 3 r4
+7 0 done
+2 5
+";
+
+const CERTIFIED: &[u8] = b"dft 4 mod 17 root 4
+{\"rows\":[[2,2,\"leaf\",0,0],[4,9,\"ct\",2,2]],\"size\":4,\"version\":1}
+";
+
+const LEAST: &[u8] = b"least 9\n";
+
+const UNREADABLE: &[u8] = b"spiral: certificate unreadable\n";
+
 const USAGE: &[u8] =
     b"spiral: usage: spiral plan|formula|code|c|run|trace|cert|check|sample [--schedule WORD] [--seed NUMBER]\n";
 
@@ -162,8 +226,32 @@ fn try_rows(rt: &impl Abort, alloc: Global, rows: &[Row]) -> Result<(), Fail> {
 // Results are computed by hand from the matrices and the rules, and by Python from the generator.
 #[test]
 fn worked_examples(rt: HostRuntime) -> Result<(), Fail> {
-    let rows: [Row; 15] = [
+    let rows: [Row; 21] = [
         ("spiral run", FOURIER, 0, RESULT, b""),
+        ("spiral trace", PAIR, 0, PAIR_TRACE, b""),
+        (
+            "spiral trace --schedule turns:0,0,0,0,0,0,0,0",
+            PAIR,
+            0,
+            LATE_TRACE,
+            b"",
+        ),
+        ("spiral trace", b"dft 2 mod 15 root 4", 0, PAIR_LISTING, b""),
+        ("spiral check", CERTIFIED, 0, LEAST, b""),
+        (
+            "spiral check",
+            b"dft 4 mod 17 root 4\n{\"rows\": [[2, 2, \"leaf\", 0, 0], [4, 9, \"ct\", 2, 2]], \"size\": 4, \"version\": 1}",
+            0,
+            LEAST,
+            b"",
+        ),
+        (
+            "spiral check",
+            b"dft 4 mod 17 root 4 budget 1\n{\"rows\":[[2,2,\"leaf\",0,0],[4,9,\"ct\",2,2]],\"size\":4,\"version\":1}",
+            0,
+            LEAST,
+            b"",
+        ),
         (
             "spiral plan",
             FOURIER,
@@ -244,10 +332,24 @@ fn worked_examples(rt: HostRuntime) -> Result<(), Fail> {
 
 #[test]
 fn refusals(rt: HostRuntime) -> Result<(), Fail> {
-    let rows: [Row; 11] = [
+    let rows: [Row; 13] = [
         ("spiral jump", FOURIER, 2, b"", USAGE),
         ("spiral run --seed 1", FOURIER, 2, b"", USAGE),
-        ("spiral check", FOURIER, 2, b"", USAGE),
+        (
+            "spiral trace",
+            b"dft 2 mod 15 root 4\n1 x",
+            9,
+            PAIR_LISTING,
+            b"spiral: token 2 is not a number\n",
+        ),
+        (
+            "spiral check",
+            b"dft 4 mod 17 root 3\n{\"rows\":[[2,2,\"leaf\",0,0],[4,9,\"ct\",2,2]],\"size\":4,\"version\":1}",
+            6,
+            b"",
+            b"spiral: root to the size is 13, not 1\n",
+        ),
+        ("spiral check", FOURIER, 14, b"", UNREADABLE),
         (
             "spiral run",
             b"dft 4 mod 17 rot 4\n",
@@ -308,47 +410,158 @@ fn refusals(rt: HostRuntime) -> Result<(), Fail> {
     try_rows(&rt, rt.alloc(), &rows)
 }
 
-// The input has 28 bytes, so the call 28 is the one that finds its end. The output has 10.
+// What a certificate is judged to be.
 #[test]
-fn failing_streams(rt: HostRuntime) -> Result<(), Fail> {
-    let alloc = rt.alloc();
-    for call in 0..30 {
+fn certificates(rt: HostRuntime) -> Result<(), Fail> {
+    let rows: [Row; 9] = [
+        (
+            "spiral check",
+            b"dft 4 mod 17 root 4\n{\"rows\":[[2,2,\"leaf\",0,0],[4,8,\"ct\",2,2]],\"size\":4,\"version\":1}",
+            14,
+            b"",
+            b"spiral: certificate row 4 gives 8, found 9\n",
+        ),
+        (
+            "spiral check",
+            b"dft 4 mod 17 root 4\n{\"rows\":[[2,3,\"leaf\",0,0],[4,9,\"ct\",2,2]],\"size\":4,\"version\":1}",
+            14,
+            b"",
+            b"spiral: certificate row 2 gives 3, found 2\n",
+        ),
+        (
+            "spiral check",
+            b"dft 4 mod 17 root 4\n{\"rows\":[[2,2,\"leaf\",0,0],[4,9,\"leaf\",0,0]],\"size\":4,\"version\":1}",
+            14,
+            b"",
+            b"spiral: certificate row 4 gives 9, found 16\n",
+        ),
+        ("spiral check", b"dft 4 mod 17 root 4", 14, b"", UNREADABLE),
+        (
+            "spiral check",
+            b"dft 4 mod 17 root 4\n{\"rows\":[[2,2,\"leaf\",0,0],[4,9,\"ct\",2,2]],\"size\":4,\"version\":2}",
+            14,
+            b"",
+            UNREADABLE,
+        ),
+        (
+            "spiral check",
+            b"dft 4 mod 17 root 4\n{\"rows\":[[4,9,\"ct\",2,2],[2,2,\"leaf\",0,0]],\"size\":4,\"version\":1}",
+            14,
+            b"",
+            UNREADABLE,
+        ),
+        (
+            "spiral check",
+            b"dft 4 mod 17 root 4\n{\"rows\":[[2,2,\"leaf\",0,0],[4,9,\"ct\",2,2]],\"size\":4,\"version\":1,\"more\":1}",
+            14,
+            b"",
+            UNREADABLE,
+        ),
+        (
+            "spiral check",
+            b"dft 4 mod 17 root 4\n{\"rows\":[[2,2,\"leaf\",0,0],[4,9,\"ct\",1,4]],\"size\":4,\"version\":1}",
+            14,
+            b"",
+            UNREADABLE,
+        ),
+        (
+            "spiral check",
+            b"dft 4 mod 17 root 4\n{\"rows\":[[2,2,\"leaf\",0,0],[4,9,\"split\",2,2]],\"size\":4,\"version\":1}",
+            14,
+            b"",
+            UNREADABLE,
+        ),
+    ];
+    try_rows(&rt, rt.alloc(), &rows)?;
+
+    // As long as may be, and one byte more.
+    let limits: [(usize, u8, &[u8]); 2] = [
+        (65_536, 14, UNREADABLE),
+        (65_537, 13, b"spiral: more than 65536 bytes\n"),
+    ];
+    for (len, code, note) in limits {
+        let mut input = b"dft 4 mod 17 root 4\n".to_vec(rt.alloc())?;
+        input.resize(20 + len, b' ')?;
+        let seen = run_whole(rt.alloc(), "spiral check", &input, 4096)?;
+        assert_eq!(rt; seen.code, code, "{len} bytes");
+        assert_eq!(rt; seen.output.bytes(), b"".as_slice(), "{len} bytes");
+        assert_eq!(rt; seen.note.bytes(), note, "{len} bytes");
+    }
+    Ok(())
+}
+
+// A command line and an input whose first line has 20 bytes, and the output where a read fails behind that line, where it
+// fails at the input's end, and where none does.
+type Failing = (
+    &'static str,
+    &'static [u8],
+    &'static [u8],
+    &'static [u8],
+    &'static [u8],
+);
+
+// Bytes are read one by one, so each call reads the byte of its number, and the call behind the last finds the end.
+fn fail_reads(rt: &impl Abort, alloc: Global, failing: &Failing) -> Result<(), Fail> {
+    let (line, input, early, late, text) = *failing;
+    for call in 0..input.len() + 2 {
         let outside = Outside {
             step: 1,
-            read_fails: vec![in alloc; call]?,
-            room: 100,
+            read_fails: vec![in alloc; call as u64]?,
+            room: 2000,
             write_fails: Vec::new(alloc),
         };
-        let seen = run_over(alloc, "spiral run", FOURIER, outside)?;
-        let (code, note): (u8, &[u8]) = if call < 29 {
-            (10, b"spiral: read failed\n")
+        let seen = run_over(alloc, line, input, outside)?;
+        let (code, wanted): (u8, &[u8]) = if call < 20 {
+            (10, b"")
+        } else if call < input.len() {
+            (10, early)
+        } else if call == input.len() {
+            (10, late)
         } else {
-            (0, b"")
+            (0, text)
         };
-        let text: &[u8] = if call < 28 { b"" } else { RESULT };
-        assert_eq!(rt; seen.code, code, "a fault at call {call}");
-        assert_eq!(rt; seen.output.bytes(), text, "a fault at call {call}");
-        assert_eq!(rt; seen.note.bytes(), note, "a fault at call {call}");
+        assert_eq!(rt; seen.code, code, "{line}: a fault at call {call}");
+        assert_eq!(rt;
+            seen.output.bytes(),
+            wanted,
+            "{line}: a fault at call {call}"
+        );
     }
-    for room in 0..10 {
+    Ok(())
+}
+
+fn fail_writes(rt: &impl Abort, alloc: Global, failing: &Failing) -> Result<(), Fail> {
+    let (line, input, _, _, text) = *failing;
+    for room in 0..text.len() {
         let outside = Outside {
             step: 4096,
             read_fails: Vec::new(alloc),
-            room,
+            room: room as u64,
             write_fails: Vec::new(alloc),
         };
-        let seen = run_over(alloc, "spiral run", FOURIER, outside)?;
-        assert_eq!(rt; seen.code, 11, "room {room}");
-        assert_eq!(rt;
-            seen.output.bytes(),
-            &RESULT[..(room as usize).min(10)],
-            "room {room}"
-        );
+        let seen = run_over(alloc, line, input, outside)?;
+        assert_eq!(rt; seen.code, 11, "{line}: room {room}");
+        assert_eq!(rt; seen.output.bytes(), &text[..room], "{line}: room {room}");
         assert_eq!(rt;
             seen.note.bytes(),
             b"spiral: write failed\n".as_slice(),
-            "room {room}"
+            "{line}: room {room}"
         );
+    }
+    Ok(())
+}
+
+#[test]
+fn failing_streams(rt: HostRuntime) -> Result<(), Fail> {
+    let alloc = rt.alloc();
+    let rows: [Failing; 3] = [
+        ("spiral run", FOURIER, b"", RESULT, RESULT),
+        ("spiral trace", PAIR, PAIR_LISTING, PAIR_TRACE, PAIR_TRACE),
+        ("spiral check", CERTIFIED, b"", b"", LEAST),
+    ];
+    for row in &rows {
+        fail_reads(&rt, alloc, row)?;
+        fail_writes(&rt, alloc, row)?;
     }
 
     // A failing note changes no status.

@@ -1,12 +1,15 @@
 // The texts of commands that need no data.
-ghost use Rattle.std.specs.Prelude.{◌≡◌, true, vec_len, Ok, Err, IfOk, IfErr, ◌<◌};
+ghost use Rattle.std.specs.Prelude.{◌≡◌, true, vec_len, Ok, Err, IfOk, IfErr, OnOk, ◌<◌};
 ghost use Rattle.matrix_meaning.specs.Valid.{IsInRange};
+ghost use Rattle.icode.specs.declared.program.Program.{Program as SpecProgram};
+ghost use Rattle.icode.specs.Program.{plain_program, code_of};
+ghost use Rattle.listing_text.specs.Listing.{listing_of};
 ghost use Rattle.generate.specs.Good.{IsGood, IsLean};
 ghost use Rattle.generate.specs.Planned.{IsPlain, IsPlanned};
-ghost use Rattle.tree_model.specs.Breakdown.{Breakdown, breakdown_of};
+ghost use Rattle.tree_model.specs.Breakdown.{breakdown_of};
 ghost use Rattle.tree_model.specs.Cost.{cost_of};
 ghost use Rattle.spiral_main.specs.Commands.{has_text, schedule_of};
-ghost use Rattle.spiral_main.specs.Outcome.{IsRefused, IsListing, IsCText, IsTextOf};
+ghost use Rattle.spiral_main.specs.Outcome.{IsRefused, IsAffordable, IsProgramFor, IsListing, IsCText, IsTextOf};
 ghost use Rattle.spiral_main.specs.Status.{IsDefined};
 ghost use Rattle.spiral_main.specs.Steps.{IsRefusal, IsGoodCode};
 ghost use Rattle.spiral_main.specs.Stream.{HasNoStranger};
@@ -29,6 +32,8 @@ fn good_product(alloc: Global, request: &Request) -> Result<Product, Status>
     ensures planned { IfOk result (λ product. IsPlanned request.now (Ok (breakdown_of product.plan.tree))) }
     ensures good { IfOk result (λ product. IsGood request.now (cost_of request.now (breakdown_of product.plan.tree)) product.program) }
     ensures lean { IfOk result (λ product. IsLean request.now (breakdown_of product.plan.tree) product.program) }
+    ensures program { IfOk result (λ product. IsProgramFor request.now product.program) }
+    ensures affordable { OnOk result (IsAffordable request.now) }
     ensures refused { IfErr result (λ status. IsDefined status → IsRefused request.now status) }
     ensures refusal { IfErr result IsRefusal }
 {
@@ -40,6 +45,7 @@ fn good_product(alloc: Global, request: &Request) -> Result<Product, Status>
 pub(crate) fn engine(alloc: Global, request: &Request) -> Result<(Machine, Vec<u64>), Status>
     requires in_range { IsInRange request.now }
     requires plain { IsPlain request.now }
+    ensures affordable { OnOk result (IsAffordable request.now) }
     ensures machine { IfOk result (λ made. IsGoodCode request.now made.0.code) }
     ensures room { IfOk result (λ made. vec_len made.1 ≡ made.0.code.size) }
     ensures some { IfOk result (λ made. 0 < vec_len made.1) }
@@ -52,11 +58,33 @@ pub(crate) fn engine(alloc: Global, request: &Request) -> Result<(Machine, Vec<u
     Ok((machine, vector))
 }
 
+/// The listing of a good program for the request, a machine with the program, and room for a vector.
+pub(crate) fn traced_engine(
+    alloc: Global,
+    request: &Request,
+) -> Result<(Vec<u8>, Machine, Vec<u64>), Status>
+    requires in_range { IsInRange request.now }
+    requires plain { IsPlain request.now }
+    ensures program { IfOk result (λ made. (program : SpecProgram) × IsProgramFor request.now program
+        × (made.0.items ≡ listing_of (plain_program program)) × (made.1.code ≡ code_of program)) }
+    ensures room { IfOk result (λ made. vec_len made.2 ≡ made.1.code.size) }
+    ensures some { IfOk result (λ made. 0 < vec_len made.2) }
+    ensures refused { IfErr result (λ status. IsDefined status → IsRefused request.now status) }
+    ensures refusal { IfErr result IsRefusal }
+{
+    let product = good_product(alloc, request)?;
+    let text = print_listing(alloc, &product.program)?;
+    let machine = Machine::new(alloc, &product.program)?;
+    let vector = vec![in alloc; 0; request.size as usize]?;
+    Ok((text, machine, vector))
+}
+
 // The listing of a good program for the request.
 fn listing(alloc: Global, request: &Request) -> Result<Vec<u8>, Status>
     requires in_range { IsInRange request.now }
     requires plain { IsPlain request.now }
-    ensures text { IfOk result (λ text. (tree : Breakdown) × IsPlanned request.now (Ok tree) × IsListing request.now tree text.items) }
+    ensures affordable { OnOk result (IsAffordable request.now) }
+    ensures text { IfOk result (λ text. IsListing request.now text.items) }
     ensures refused { IfErr result (λ status. IsDefined status → IsRefused request.now status) }
     ensures refusal { IfErr result IsRefusal }
 {
@@ -69,7 +97,8 @@ fn listing(alloc: Global, request: &Request) -> Result<Vec<u8>, Status>
 fn c_text(alloc: Global, request: &Request) -> Result<Vec<u8>, Status>
     requires in_range { IsInRange request.now }
     requires plain { IsPlain request.now }
-    ensures text { IfOk result (λ text. (tree : Breakdown) × IsPlanned request.now (Ok tree) × IsCText request.now tree text.items) }
+    ensures affordable { OnOk result (IsAffordable request.now) }
+    ensures text { IfOk result (λ text. IsCText request.now text.items) }
     ensures refused { IfErr result (λ status. IsDefined status → IsRefused request.now status) }
     ensures refusal { IfErr result IsRefusal }
 {
@@ -88,7 +117,8 @@ pub(crate) fn text_of(
     requires plain { IsPlain request.now }
     requires turns { HasNoStranger (schedule_of command.now) request.now.procs }
     requires textual { has_text command.now ≡ true }
-    ensures text { IfOk result (λ text. (tree : Breakdown) × IsPlanned request.now (Ok tree) × IsTextOf command.now request.now tree text.items) }
+    ensures affordable { OnOk result (IsAffordable request.now) }
+    ensures text { IfOk result (λ text. IsTextOf command.now request.now text.items) }
     ensures refused { IfErr result (λ status. IsDefined status → IsRefused request.now status) }
     ensures refusal { IfErr result IsRefusal }
 {

@@ -2,15 +2,15 @@ use Rattle.std.proofs.Common.{◌≡◌, ◌<◌, ◌+◌, ◌++◌, ◌∷◌, 
 use Rattle.std.proofs.lemmas.Result.{err_from_is_err_and}
 use Rattle.std.proofs.KnownBytes.{Appends-nil}
 use Rattle.std.specs.Io.KnownBytes.{IsAtEnd}
-use Rattle.icode.specs.Machine.{Code, results, runs}
+use Rattle.icode.specs.Machine.{Code, runs}
 use Rattle.request_text.specs.Turns.{turns_of}
 use Rattle.io_edge.specs.Feed.{to_come}
-use Rattle.data_stream.specs.Line.{line_of}
 use Rattle.data_stream.specs.Reading.{GivesVector}
 use Rattle.data_stream.specs.Vectors.{Cut, IsReady}
 use Rattle.data_stream.proofs.TokenLemmas.{not_true}
 use Rattle.data_stream.proofs.TokensLemmas.{not_ended, reports_none}
 use Rattle.data_stream.proofs.VectorLemmas.{vector_counted}
+use Rattle.spiral_main.specs.Stream.{run_text}
 use Rattle.spiral_main.specs.StreamFault.{stream_fault}
 use Rattle.spiral_main.specs.declared.stream.StreamFault.TheVariants.{WriteFault}
 use Rattle.spiral_main.proofs.StreamLemmas.{StreamProgress, no_stream, stream_push, stream_unwritten, stream_end, stream_fault_at, state_behind-push, texts_more, texts_cut, writes_fault, fault_within, streamed}
@@ -61,14 +61,15 @@ loop-machine-preserved g c =
       seen = inv.seen ++ x ∷ [];
       progress = rw done (stream_push _ _ _ c.args.feed.now.taken before.feed c.next.new.feed before.vectors.ended c.next.new.self.ended code.size code.modulus before.vectors.done inv.seen answer.0 x
           some inv.progress answer.1 (λ e. (answer.2 e, (c.next.ensures.once e).1)) answer.3);
-      wrote = texts_more (λ y. line_of (results code y turns)) (taken c.args.output.now) (taken before.output) (taken c.write_vector.new.output) inv.seen x (line_of c.transform.new.vector)
-          (ap line_of (c.transform.ensures.vector ∙ ap (λ (k : Code). results k x (turns_of c.args.schedule.now k.procs)) inv.code)) inv.wrote c.in_ok-write_vector.ensures.bytes;
-      stands = c.transform.ensures.state ∙ ap (λ (k : Code). runs k x (turns_of c.args.schedule.now k.procs)) inv.code ∙ sym (state_behind-push (λ y. runs code y turns) c.args.machine.now.state inv.seen x);
+      wrote = texts_more (run_text c.args.lines code turns) (taken c.args.output.now) (taken before.output) (taken c.write_run.new.output) inv.seen x
+          (run_text c.args.lines before.machine.code (turns_of c.args.schedule.now before.machine.code.procs) x)
+          (ap (λ (k : Code). run_text c.args.lines k (turns_of c.args.schedule.now k.procs) x) inv.code) inv.wrote c.in_ok-write_run.ensures.bytes;
+      stands = c.in_ok-write_run.ensures.state ∙ ap (λ (k : Code). runs k x (turns_of c.args.schedule.now k.procs)) inv.code ∙ sym (state_behind-push (λ y. runs code y turns) c.args.machine.now.state inv.seen x);
       ready = rw c.in-Vector.is at c.in_ok-next.ensures.ready refl;
       size = c.next.ensures.size ∙ inv.size;
-      code = c.transform.ensures.code ∙ inv.code;
+      code = c.write_run.ensures.code ∙ inv.code;
       reads = reports_none _ _ _ c.in_ok-next.ensures.cause (λ e. cc) ∙ inv.reads;
-      writes = c.in_ok-write_vector.ensures.cause.ok ∙ inv.writes;
+      writes = c.in_ok-write_run.ensures.cause.ok ∙ inv.writes;
     }
 
 pub returns-in_err-next-clause-streams : goal.returns-in_err-next-clause-streams
@@ -89,12 +90,12 @@ returns-in_err-next-clause-streams g c =
     let p = err_from_is_err_and c.from_residual.result c.from_residual.ensures.1 in
     let out = stream_fault_at start _ reached c.args.feed.now before.feed c.next.new.feed before.vectors.ended c.next.new.self.ended code.size code.modulus before.vectors.done inv.seen
     (IsAtEnd reached) answer.0 x fault some inv.progress answer.1 going given c.next.ensures.end in
-    rw (p.1, p.2) (streamed (λ y. line_of (results code y turns)) (λ y. runs code y turns) code.size code.modulus c.args.feed.now c.next.new.feed start reached (g.O.Sink.taken c.args.output.now) (g.O.Sink.taken before.output)
+    rw (p.1, p.2) (streamed (run_text c.args.lines code turns) (λ y. runs code y turns) code.size code.modulus c.args.feed.now c.next.new.feed start reached (g.O.Sink.taken c.args.output.now) (g.O.Sink.taken before.output)
     c.args.machine.now.state before.machine.state (Err (stream_fault fault)) (inv.progress.bytes ++ answer.0) inv.seen out.0 out.1 c.requires.within
-    (fault_within fault _ c.in_err-next.ensures.within) (writes_fault fault _ _ _ inv.wrote) inv.stands)
+    (fault_within fault _ c.in_err-next.ensures.within) (writes_fault fault _ _ _ inv.wrote) (λ _. inv.stands))
 
-pub returns-in_err-write_vector-clause-streams : goal.returns-in_err-write_vector-clause-streams
-returns-in_err-write_vector-clause-streams g c =
+pub returns-in_err-write_run-clause-streams : goal.returns-in_err-write_run-clause-streams
+returns-in_err-write_run-clause-streams g c =
     let before = c.loop-machine in
     let some : 0 < c.args.machine.now.code.size = omega (arith, c.requires.some, c.requires.size) in
     let inv = before.invariant in
@@ -106,15 +107,16 @@ returns-in_err-write_vector-clause-streams g c =
     let reached = to_come c.next.new.feed (g.I.Source.left c.next.new.source) in
     let answer = rw (c.in-Vector.is, inv.size, c.modulus-modulus.ensures) at c.in_ok-next.ensures.answer in
     let ready = rw c.in-Vector.is at c.in_ok-next.ensures.ready refl in
-    let p = err_from_is_err_and c.from_residual-in_err-write_vector.result c.from_residual-in_err-write_vector.ensures.1 in
+    let p = err_from_is_err_and c.from_residual-in_err-write_run.result c.from_residual-in_err-write_run.ensures.1 in
     let pushed = stream_push start _ reached c.args.feed.now.taken before.feed c.next.new.feed before.vectors.ended c.next.new.self.ended code.size code.modulus before.vectors.done inv.seen answer.0 x
     some inv.progress answer.1 (λ e. (answer.2 e, (c.next.ensures.once e).1)) answer.3 in
     let reads = stream_unwritten start reached c.args.feed.now c.next.new.feed c.next.new.self.ended code.size code.modulus (before.vectors.done + code.size) (inv.seen ++ x ∷ []) (IsAtEnd reached) some pushed in
-    rw (p.1, p.2) (streamed (λ y. line_of (results code y turns)) (λ y. runs code y turns) code.size code.modulus c.args.feed.now c.next.new.feed start reached (taken c.args.output.now) (taken c.write_vector.new.output)
-    c.args.machine.now.state c.transform.new.machine.state (Err WriteFault) pushed.bytes (inv.seen ++ x ∷ []) pushed.consumed reads c.requires.within (λ _. ready.within)
-    (texts_cut (λ y. line_of (results code y turns)) (taken c.args.output.now) (taken before.output) (taken c.write_vector.new.output) inv.seen x (line_of c.transform.new.vector)
-    (ap line_of (c.transform.ensures.vector ∙ ap (λ (k : Code). results k x (turns_of c.args.schedule.now k.procs)) inv.code)) inv.wrote c.in_err-write_vector.ensures.bytes)
-    (c.transform.ensures.state ∙ ap (λ (k : Code). runs k x (turns_of c.args.schedule.now k.procs)) inv.code ∙ sym (state_behind-push (λ y. runs code y turns) c.args.machine.now.state inv.seen x)))
+    rw (p.1, p.2) (streamed (run_text c.args.lines code turns) (λ y. runs code y turns) code.size code.modulus c.args.feed.now c.next.new.feed start reached (taken c.args.output.now) (taken c.write_run.new.output)
+    c.args.machine.now.state c.write_run.new.machine.state (Err WriteFault) pushed.bytes (inv.seen ++ x ∷ []) pushed.consumed reads c.requires.within (λ _. ready.within)
+    (texts_cut (run_text c.args.lines code turns) (taken c.args.output.now) (taken before.output) (taken c.write_run.new.output) inv.seen x
+    (run_text c.args.lines before.machine.code (turns_of c.args.schedule.now before.machine.code.procs) x)
+    (ap (λ (k : Code). run_text c.args.lines k (turns_of c.args.schedule.now k.procs) x) inv.code) inv.wrote c.in_err-write_run.ensures.bytes)
+    (λ other. absurd (other refl)))
 
 pub returns-clause-streams : goal.returns-clause-streams
 returns-clause-streams g c =
@@ -128,5 +130,5 @@ returns-clause-streams g c =
     let answer = rw c.in_default.is at c.in_ok-next.ensures.answer in
     let out = stream_end start _ reached c.args.feed.now before.feed c.next.new.feed before.vectors.ended c.next.new.self.ended code.size code.modulus before.vectors.done inv.seen
     (IsAtEnd reached) answer.0 c.next.new.vector some inv.progress answer.1 (λ e. (answer.2 e, (c.next.ensures.once e).1)) answer.3 c.next.ensures.end in
-    streamed (λ y. line_of (results code y turns)) (λ y. runs code y turns) code.size code.modulus c.args.feed.now c.next.new.feed start reached (g.O.Sink.taken c.args.output.now) (g.O.Sink.taken before.output)
-    c.args.machine.now.state before.machine.state (Ok tt) (inv.progress.bytes ++ answer.0) inv.seen out.0 out.1 c.requires.within (λ _. c.in_ok-next.ensures.within (λ e. cc)) inv.wrote inv.stands
+    streamed (run_text c.args.lines code turns) (λ y. runs code y turns) code.size code.modulus c.args.feed.now c.next.new.feed start reached (g.O.Sink.taken c.args.output.now) (g.O.Sink.taken before.output)
+    c.args.machine.now.state before.machine.state (Ok tt) (inv.progress.bytes ++ answer.0) inv.seen out.0 out.1 c.requires.within (λ _. c.in_ok-next.ensures.within (λ e. cc)) inv.wrote (λ _. inv.stands)

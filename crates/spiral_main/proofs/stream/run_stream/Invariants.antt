@@ -1,14 +1,14 @@
 use Rattle.std.proofs.Common.{◌≡◌, ◌≤◌, ◌-◌, true, [], List, ℕ}
 use Rattle.std.specs.Io.KnownBytes.{Appends, IsAtEnd}
-use Rattle.icode.specs.Machine.{results, runs}
+use Rattle.icode.specs.Machine.{runs}
 use Rattle.request_text.specs.Turns.{turns_of}
 use Rattle.io_edge.specs.Feed.{to_come, limit}
 use Rattle.data_stream.specs.Vectors.{IsReady}
-use Rattle.spiral_main.specs.Stream.{lines, state_behind}
+use Rattle.spiral_main.specs.Stream.{texts, run_text, state_behind}
 use Rattle.spiral_main.proofs.StreamLemmas.{StreamProgress}
 use Rattle.spiral_main.proofs.stream.run_stream.Given as goal
 
--- the bytes so far are whole vectors, whose lines the output took, the machine is where the last left it, and nothing failed
+-- the bytes so far are whole vectors, whose texts the output took, the machine is where the last left it, and nothing failed
 abbrev pub invariant-loop-machine : goal.invariant-loop-machine
 invariant-loop-machine g l =
     let left = g.I.Source.left in
@@ -17,7 +17,7 @@ invariant-loop-machine g l =
       seen : List (List ℕ);
       progress : StreamProgress (to_come l.fn.feed (left l.fn.input)) (to_come l.feed (left l.input)) l.fn.feed.taken l.feed.taken l.vectors.ended
           l.fn.machine.code.size l.fn.machine.code.modulus l.vectors.done seen;
-      wrote : Appends (taken l.fn.output) (taken l.output) (lines (λ x. results l.fn.machine.code x (turns_of l.schedule l.fn.machine.code.procs)) seen);
+      wrote : Appends (taken l.fn.output) (taken l.output) (texts (run_text l.lines l.fn.machine.code (turns_of l.schedule l.fn.machine.code.procs)) seen);
       stands : l.machine.state ≡ state_behind (λ x. runs l.fn.machine.code x (turns_of l.schedule l.fn.machine.code.procs)) l.fn.machine.state seen;
       ready : IsReady l.vectors l.feed (to_come l.feed (left l.input));
       size : l.vectors.size ≡ l.fn.machine.code.size;

@@ -2,16 +2,16 @@ use Rattle.std.proofs.Common.{Ok, Err}
 use Rattle.std.proofs.lemmas.Result.{err_from_is_err_and}
 use Rattle.request_text.specs.Turns.{turns_of}
 use Rattle.io_edge.specs.Feed.{to_come}
-use Rattle.spiral_main.proofs.OutcomeLemmas.{performs_good, fault_success, fault_has_memory, reports_read, reports_write}
+use Rattle.spiral_main.proofs.OutcomeLemmas.{performs_run, fault_success, fault_has_memory, reports_read, reports_write}
 use Rattle.spiral_main.proofs.RunLemmas.{good_turns}
-use Rattle.spiral_main.proofs.run.run.Goals as goal
+use Rattle.spiral_main.proofs.data.run.Goals as goal
 
 pub returns-in_err-run_stream-clause-told : goal.returns-in_err-run_stream-clause-told
 returns-in_err-run_stream-clause-told g c =
     let taken = g.O.Sink.taken in
     let code = c.in_ok-machine.machine.code in
     let p = err_from_is_err_and c.from_residual-in_err-run_stream.result c.from_residual-in_err-run_stream.ensures.1 in
-    rw (p.1, p.2) (performs_good c.args.schedule.now c.args.request.now code (turns_of c.args.schedule.now code.procs) c.args.feed.now c.run_stream.new.feed
+    rw (p.1, p.2) (performs_run c.args.schedule.now c.args.request.now code (turns_of c.args.schedule.now code.procs) c.args.feed.now c.run_stream.new.feed
     (to_come c.args.feed.now (g.I.Source.left c.args.input.now)) (to_come c.run_stream.new.feed (g.I.Source.left c.run_stream.new.input))
     (taken c.args.output.now) (taken c.run_stream.new.output) c.in_ok-machine.machine.state c.run_stream.new.machine.state (Err c.in_err-run_stream.field-0.0)
     c.in_ok-machine.ensures.machine c.requires.in_range (good_turns c.args.schedule.now c.args.request.now code c.in_ok-machine.ensures.machine c.requires.in_range c.requires.turns)
@@ -43,7 +43,7 @@ pub returns-clause-told : goal.returns-clause-told
 returns-clause-told g c =
     let taken = g.O.Sink.taken in
     let code = c.in_ok-machine.machine.code in
-    performs_good c.args.schedule.now c.args.request.now code (turns_of c.args.schedule.now code.procs) c.args.feed.now c.run_stream.new.feed
+    performs_run c.args.schedule.now c.args.request.now code (turns_of c.args.schedule.now code.procs) c.args.feed.now c.run_stream.new.feed
     (to_come c.args.feed.now (g.I.Source.left c.args.input.now)) (to_come c.run_stream.new.feed (g.I.Source.left c.run_stream.new.input))
     (taken c.args.output.now) (taken c.run_stream.new.output) c.in_ok-machine.machine.state c.run_stream.new.machine.state (Ok tt)
     c.in_ok-machine.ensures.machine c.requires.in_range (good_turns c.args.schedule.now c.args.request.now code c.in_ok-machine.ensures.machine c.requires.in_range c.requires.turns)

@@ -1,0 +1,252 @@
+-- The words and the bytes of a call determine its status.
+use Rattle.std.proofs.Common.{◌≡◌, ◌<◌, ◌≤◌, ℕ, Bool, true, false, List, [], length, Ok, Err, Result, refl, sym, ap, ap₂, subst, ◌∙◌, arith, ◌⊎◌, inl, inr}
+use Rattle.matrix_meaning.specs.declared.Request.{Request}
+use Rattle.request_text.specs.declared.RequestFault.{RequestFault}
+use Rattle.request_text.specs.Answer.{Answers}
+use Rattle.spiral_words.specs.declared.Command.{Command}
+use Rattle.spiral_words.specs.declared.Command.TheVariants as command
+use Rattle.spiral_words.proofs.Usage.{usage_nothing}
+use Rattle.generate.specs.declared.GenerateFault.{GenerateFault}
+use Rattle.generate.specs.declared.GenerateFault.TheVariants as generate
+use Rattle.generate.specs.Planned.{IsPlanned, IsAdmitted, IsBarred}
+use Rattle.tree_model.specs.Admissible.{CanDivide, RootFits, IsCandidate}
+use Rattle.tree_model.specs.Breakdown.{Breakdown, leaf, node, size_of}
+use Rattle.tree_model.specs.Cost.{cost_of, is_plain}
+use Rattle.tree_model.specs.declared.tree.Rule.TheVariants.{Gt, Ct, Split}
+use Rattle.plan_cert.proofs.OneVerdict.{one_verdict}
+use Rattle.spiral_main.specs.declared.status.Status.{Status}
+use Rattle.spiral_main.specs.Checked.{IsChecked, status_of_verdict}
+use Rattle.spiral_main.specs.Commands.{reads_certificate, commanded, scheduled}
+use Rattle.spiral_main.specs.Fault.{status_of_request, status_of_generate}
+use Rattle.spiral_main.specs.Line.{line_of}
+use Rattle.spiral_main.specs.Outcome.{spelt, IsRefused, IsShutOut, IsAccepted, IsDeclined, requested, Job, accepted, ordered, IsTextOf, IsTextOfData, Settles, IsOutcome, room_behind}
+use Rattle.spiral_main.specs.Line.{data_of}
+use Rattle.spiral_main.specs.Stage.{Stage, given, GoesOn, ◌>>=◌}
+use Rattle.spiral_main.proofs.OneRequest.{request_once, asked_once, answer_clash, fault_once}
+
+-- Stages
+
+-- at most one answer is right
+abbrev pub IsDecided : {A : Type 0} → Stage A → Type 0
+IsDecided {A} stage = (x y : Result A Status) → stage x → stage y → x ≡ y
+
+abbrev pub done : {A : Type 0} → A → Result A Status
+done value = Ok value
+
+abbrev pub ended : {A : Type 0} → Status → Result A Status
+ended status = Err status
+
+pub done_same : {A : Type 0} (a b : A) → done a ≡ done b → a ≡ b
+done_same a b e = cc
+
+ended_same : {A : Type 0} (s t : Status) → ended {A = A} s ≡ ended t → s ≡ t
+ended_same s t e = cc
+
+pub done_ended : {A : Type 0} (a : A) (s : Status) → done a ≡ ended s → ⊥
+done_ended a s e = absurd (cc)
+
+given_decided : {A : Type 0} (answer : Result A Status) → IsDecided (given answer)
+given_decided answer x y p q = p ∙ sym q
+
+behind_same : {A B : Type 0} (first : Stage A) (next : A → Stage B) → IsDecided first → ((a : A) → IsDecided (next a)) → (x y : Result B Status)
+    → GoesOn first next x → GoesOn first next y → x ≡ y
+behind_same {A} {B} first next d n x y p q =
+    let same : p.value ≡ q.value = done_same p.value q.value (d (Ok p.value) (Ok q.value) p.before q.before) in
+    n q.value x y (subst (λ (a : A). next a x) same p.behind) q.behind
+
+stage_clash : {A B : Type 0} (first : Stage A) (next : A → Stage B) (s : Status) (y : Result B Status) → IsDecided first → first (Err s) → GoesOn first next y → ⊥
+stage_clash first next s y d p q = done_ended q.value s (d (Ok q.value) (Err s) q.before p)
+
+bind_decided : {A B : Type 0} (first : Stage A) (next : A → Stage B) → IsDecided first → ((a : A) → IsDecided (next a)) → IsDecided (first >>= next)
+bind_decided first next d n (Ok a) (Ok b) p q = behind_same first next d n (Ok a) (Ok b) p q
+bind_decided first next d n (Ok a) (Err t) p (inl q) = absurd (stage_clash first next t (Ok a) d q p)
+bind_decided first next d n (Ok a) (Err t) p (inr q) = behind_same first next d n (Ok a) (Err t) p q
+bind_decided first next d n (Err s) (Ok b) (inl p) q = absurd (stage_clash first next s (Ok b) d p q)
+bind_decided first next d n (Err s) (Ok b) (inr p) q = behind_same first next d n (Err s) (Ok b) p q
+bind_decided first next d n (Err s) (Err t) (inl p) (inl q) = ap ended (ended_same s t (d (Err s) (Err t) p q))
+bind_decided first next d n (Err s) (Err t) (inl p) (inr q) = absurd (stage_clash first next s (Err t) d p q)
+bind_decided first next d n (Err s) (Err t) (inr p) (inl q) = absurd (stage_clash first next t (Err s) d q p)
+bind_decided first next d n (Err s) (Err t) (inr p) (inr q) = behind_same first next d n (Err s) (Err t) p q
+
+-- The words and the line
+
+commanded_decided : (words : List (List ℕ)) → IsDecided (commanded words)
+commanded_decided words (Ok a) (Ok b) p q = ap done (asked_once words a b p q)
+commanded_decided words (Ok a) (Err t) p q = absurd (usage_nothing words a q.1 p)
+commanded_decided words (Err s) (Ok b) p q = absurd (usage_nothing words b p.1 q)
+commanded_decided words (Err s) (Err t) p q = ap ended (p.0 ∙ sym q.0)
+
+spelt_decided : (line : List ℕ) → IsDecided (spelt line)
+spelt_decided line (Ok a) (Ok b) p q = ap done (request_once line a b p.0 q.0)
+spelt_decided line (Ok a) (Err t) p q = absurd (answer_clash line a q.0 p q.1)
+spelt_decided line (Err s) (Ok b) p q = absurd (answer_clash line b p.0 q p.1)
+spelt_decided line (Err s) (Err t) p q = ap ended (p.2 ∙ ap status_of_request (fault_once line p.0 q.0 p.1 q.1) ∙ sym q.2)
+
+requested_decided : (words : List (List ℕ)) (bytes : List ℕ) → IsDecided (requested words bytes)
+requested_decided words bytes =
+    bind_decided (commanded words) _ (commanded_decided words) (λ command.
+    bind_decided (given (line_of bytes)) _ (given_decided (line_of bytes)) (λ line.
+    bind_decided (spelt line) _ (spelt_decided line) (λ request.
+    bind_decided (given (scheduled command request)) _ (given_decided (scheduled command request)) (λ served. given_decided (Ok (command, served))))))
+
+-- The request for the command
+
+fits_divides : (r : Request) (t : Breakdown) → RootFits r t → CanDivide r
+fits_divides r (leaf d) fits = absurd fits
+fits_divides r (node Gt a b) fits = absurd fits
+fits_divides r (node Ct a b) fits = inr (size_of a, size_of b, fits)
+fits_divides r (node Split a b) fits = inr (size_of a, size_of b, fits)
+
+candidate_divides : (r : Request) (t : Breakdown) → IsCandidate r r.size t → CanDivide r
+candidate_divides r t candidate = cases (is_plain r) refl
+  where
+    cases : (b : Bool) → is_plain r ≡ b → CanDivide r
+    cases true e = inl e
+    cases false e = fits_divides r t (candidate.root refl e)
+
+two_values : (b : Bool) → b ≡ true → b ≡ false → ⊥
+two_values b p q = absurd (cc)
+
+plan_clash : (r : Request) (t : Breakdown) (fault : GenerateFault) → IsPlanned r (Ok t) → IsPlanned r (Err fault) → ⊥
+plan_clash r t (generate.Root power) p q = two_values _ p.0 q.0
+plan_clash r t generate.NoDivide p q = q.1 (candidate_divides r t p.1.candidate)
+plan_clash r t (generate.OverBudget cost budget) p q =
+    let least : cost ≤ cost_of r t = q.1.bound t p.1.candidate in
+    absurd (omega (arith, least, p.2, q.2, q.3))
+plan_clash r t generate.NoMemory p q = q
+
+refusal_once : (r : Request) (f g : GenerateFault) → IsPlanned r (Err f) → IsPlanned r (Err g) → f ≡ g
+refusal_once r (generate.Root power) (generate.Root other) p q = ap generate.Root (p.1 ∙ sym q.1)
+refusal_once r (generate.Root power) generate.NoDivide p q = absurd (two_values _ q.0 p.0)
+refusal_once r (generate.Root power) (generate.OverBudget cost budget) p q = absurd (two_values _ q.0 p.0)
+refusal_once r (generate.Root power) generate.NoMemory p q = absurd q
+refusal_once r generate.NoDivide (generate.Root power) p q = absurd (two_values _ p.0 q.0)
+refusal_once r generate.NoDivide generate.NoDivide p q = refl
+refusal_once r generate.NoDivide (generate.OverBudget cost budget) p q = absurd (p.1 (candidate_divides r q.1.reached.0 q.1.reached.1))
+refusal_once r generate.NoDivide generate.NoMemory p q = absurd q
+refusal_once r (generate.OverBudget cost budget) (generate.Root power) p q = absurd (two_values _ p.0 q.0)
+refusal_once r (generate.OverBudget cost budget) generate.NoDivide p q = absurd (q.1 (candidate_divides r p.1.reached.0 p.1.reached.1))
+refusal_once r (generate.OverBudget cost budget) (generate.OverBudget other limit) p q =
+    let one : cost ≤ cost_of r q.1.reached.0 = p.1.bound q.1.reached.0 q.1.reached.1 in
+    let two : other ≤ cost_of r p.1.reached.0 = q.1.bound p.1.reached.0 p.1.reached.1 in
+    let same : cost ≡ other = omega (arith, one, two, p.1.reached.2, q.1.reached.2) in
+    ap₂ generate.OverBudget same (p.2 ∙ sym q.2)
+refusal_once r (generate.OverBudget cost budget) generate.NoMemory p q = absurd q
+refusal_once r generate.NoMemory g p q = absurd p
+
+bar_clash : (r : Request) (fault : GenerateFault) → IsAdmitted r → IsBarred r fault → ⊥
+bar_clash r (generate.Root power) p q = two_values _ p.0 q.0
+bar_clash r generate.NoDivide p q = q.1 p.1
+bar_clash r (generate.OverBudget cost budget) p q = q
+bar_clash r generate.NoMemory p q = q
+
+bar_once : (r : Request) (f g : GenerateFault) → IsBarred r f → IsBarred r g → f ≡ g
+bar_once r (generate.Root power) (generate.Root other) p q = ap generate.Root (p.1 ∙ sym q.1)
+bar_once r (generate.Root power) generate.NoDivide p q = absurd (two_values _ q.0 p.0)
+bar_once r (generate.Root power) (generate.OverBudget cost budget) p q = absurd q
+bar_once r (generate.Root power) generate.NoMemory p q = absurd q
+bar_once r generate.NoDivide (generate.Root power) p q = absurd (two_values _ p.0 q.0)
+bar_once r generate.NoDivide generate.NoDivide p q = refl
+bar_once r generate.NoDivide (generate.OverBudget cost budget) p q = absurd q
+bar_once r generate.NoDivide generate.NoMemory p q = absurd q
+bar_once r (generate.OverBudget cost budget) g p q = absurd p
+bar_once r generate.NoMemory g p q = absurd p
+
+refused_once : (r : Request) (s t : Status) → IsRefused r s → IsRefused r t → s ≡ t
+refused_once r s t p q = p.2 ∙ ap status_of_generate (refusal_once r p.0 q.0 p.1 q.1) ∙ sym q.2
+
+shut_out_once : (r : Request) (s t : Status) → IsShutOut r s → IsShutOut r t → s ≡ t
+shut_out_once r s t p q = p.2 ∙ ap status_of_generate (bar_once r p.0 q.0 p.1 q.1) ∙ sym q.2
+
+accepted_clash : (wanted : Command) (r : Request) (s : Status) → IsAccepted wanted r → IsDeclined wanted r s → ⊥
+accepted_clash command.Plan r s p q = plan_clash r p.0 q.0 p.1 q.1
+accepted_clash command.Formula r s p q = plan_clash r p.0 q.0 p.1 q.1
+accepted_clash command.Code r s p q = plan_clash r p.0 q.0 p.1 q.1
+accepted_clash command.C r s p q = plan_clash r p.0 q.0 p.1 q.1
+accepted_clash (command.Run schedule) r s p q = plan_clash r p.0 q.0 p.1 q.1
+accepted_clash (command.Trace schedule) r s p q = plan_clash r p.0 q.0 p.1 q.1
+accepted_clash command.Cert r s p q = plan_clash r p.0 q.0 p.1 q.1
+accepted_clash command.Check r s p q = bar_clash r q.0 p q.1
+accepted_clash (command.Sample seed schedule) r s p q = plan_clash r p.0 q.0 p.1 q.1
+
+declined_once : (wanted : Command) (r : Request) (s t : Status) → IsDeclined wanted r s → IsDeclined wanted r t → s ≡ t
+declined_once command.Plan r s t p q = refused_once r s t p q
+declined_once command.Formula r s t p q = refused_once r s t p q
+declined_once command.Code r s t p q = refused_once r s t p q
+declined_once command.C r s t p q = refused_once r s t p q
+declined_once (command.Run schedule) r s t p q = refused_once r s t p q
+declined_once (command.Trace schedule) r s t p q = refused_once r s t p q
+declined_once command.Cert r s t p q = refused_once r s t p q
+declined_once command.Check r s t p q = shut_out_once r s t p q
+declined_once (command.Sample seed schedule) r s t p q = refused_once r s t p q
+
+accepted_decided : (wanted : Command) (r : Request) → IsDecided (accepted wanted r)
+accepted_decided wanted r (Ok a) (Ok b) p q = ap done (p.1 ∙ sym q.1)
+accepted_decided wanted r (Ok a) (Err t) p q = absurd (accepted_clash wanted r t p.0 q)
+accepted_decided wanted r (Err s) (Ok b) p q = absurd (accepted_clash wanted r s q.0 p)
+accepted_decided wanted r (Err s) (Err t) p q = ap ended (declined_once wanted r s t p q)
+
+pub ordered_decided : (words : List (List ℕ)) (bytes : List ℕ) → IsDecided (ordered words bytes)
+ordered_decided words bytes = bind_decided (requested words bytes) _ (requested_decided words bytes) (λ wanted. accepted_decided wanted.0 wanted.1)
+
+-- The job
+
+pub data_or_text : (wanted : Command) (r : Request) (vectors : List (List ℕ)) (s t : List ℕ) → IsTextOfData wanted r vectors s → IsTextOf wanted r t → ⊥
+data_or_text command.Plan r vectors s t p q = p
+data_or_text command.Formula r vectors s t p q = p
+data_or_text command.Code r vectors s t p q = p
+data_or_text command.C r vectors s t p q = p
+data_or_text (command.Run schedule) r vectors s t p q = q
+data_or_text (command.Trace schedule) r vectors s t p q = q
+data_or_text command.Cert r vectors s t p q = p
+data_or_text command.Check r vectors s t p q = p
+data_or_text (command.Sample seed schedule) r vectors s t p q = p
+
+pub data_or_check : (wanted : Command) (r : Request) (vectors : List (List ℕ)) (s : List ℕ) → IsTextOfData wanted r vectors s → reads_certificate wanted ≡ true → ⊥
+data_or_check (command.Run schedule) r vectors s p q = absurd (cc)
+data_or_check (command.Trace schedule) r vectors s p q = absurd (cc)
+data_or_check command.Plan r vectors s p q = p
+data_or_check command.Formula r vectors s p q = p
+data_or_check command.Code r vectors s p q = p
+data_or_check command.C r vectors s p q = p
+data_or_check command.Cert r vectors s p q = p
+data_or_check command.Check r vectors s p q = p
+data_or_check (command.Sample seed schedule) r vectors s p q = p
+
+pub text_or_check : (wanted : Command) (r : Request) (s : List ℕ) → IsTextOf wanted r s → reads_certificate wanted ≡ true → ⊥
+text_or_check command.Plan r s p q = absurd (cc)
+text_or_check command.Formula r s p q = absurd (cc)
+text_or_check command.Code r s p q = absurd (cc)
+text_or_check command.C r s p q = absurd (cc)
+text_or_check command.Cert r s p q = absurd (cc)
+text_or_check (command.Sample seed schedule) r s p q = absurd (cc)
+text_or_check (command.Run schedule) r s p q = p
+text_or_check (command.Trace schedule) r s p q = p
+text_or_check command.Check r s p q = p
+
+checked_once : (r : Request) (bytes : List ℕ) (a b : Status) (s t : List ℕ) → IsChecked r bytes a s → IsChecked r bytes b t → a ≡ b
+checked_once r bytes a b s t (inl p) (inl q) = p.1 ∙ sym q.1
+checked_once r bytes a b s t (inl p) (inr q) = absurd (omega (arith, p.0, q.0))
+checked_once r bytes a b s t (inr p) (inl q) = absurd (omega (arith, p.0, q.0))
+checked_once r bytes a b s t (inr p) (inr q) = p.1.2 ∙ ap status_of_verdict (one_verdict r bytes p.1.0 q.1.0 p.1.1 q.1.1) ∙ sym q.1.2
+
+settled_once : (wanted : Command) (r : Request) (room : ℕ) (bytes : List ℕ) (a b : Status) (s t : List ℕ)
+    → Settles wanted r room bytes a s → Settles wanted r room bytes b t → a ≡ b
+settled_once wanted r room bytes a b s t (inl p) (inl q) = p.0 ∙ sym q.0
+settled_once wanted r room bytes a b s t (inl p) (inr (inl q)) = absurd (data_or_text wanted r _ s t p.1 q.1)
+settled_once wanted r room bytes a b s t (inl p) (inr (inr q)) = absurd (data_or_check wanted r _ s p.1 q.0)
+settled_once wanted r room bytes a b s t (inr (inl p)) (inl q) = absurd (data_or_text wanted r _ t s q.1 p.1)
+settled_once wanted r room bytes a b s t (inr (inl p)) (inr (inl q)) = p.0 ∙ sym q.0
+settled_once wanted r room bytes a b s t (inr (inl p)) (inr (inr q)) = absurd (text_or_check wanted r s p.1 q.0)
+settled_once wanted r room bytes a b s t (inr (inr p)) (inl q) = absurd (data_or_check wanted r _ t q.1 p.0)
+settled_once wanted r room bytes a b s t (inr (inr p)) (inr (inl q)) = absurd (text_or_check wanted r t q.1 p.0)
+settled_once wanted r room bytes a b s t (inr (inr p)) (inr (inr q)) = checked_once r bytes a b s t p.1 q.1
+
+pub one_status : (words : List (List ℕ)) (bytes : List ℕ) (a b : Status) (s t : List ℕ) → IsOutcome words bytes a s → IsOutcome words bytes b t → a ≡ b
+one_status words bytes a b s t (inl p) (inl q) = ended_same a b (ordered_decided words bytes (Err a) (Err b) p.0 q.0)
+one_status words bytes a b s t (inl p) (inr q) = absurd (done_ended q.0 a (ordered_decided words bytes (Ok q.0) (Err a) q.1 p.0))
+one_status words bytes a b s t (inr p) (inl q) = absurd (done_ended p.0 b (ordered_decided words bytes (Ok p.0) (Err b) p.1 q.0))
+one_status words bytes a b s t (inr p) (inr q) =
+    let same : p.0 ≡ q.0 = done_same p.0 q.0 (ordered_decided words bytes (Ok p.0) (Ok q.0) p.1 q.1) in
+    settled_once q.0.command q.0.request (room_behind bytes) (data_of bytes) a b s t
+    (subst (λ (job : Job). Settles job.command job.request (room_behind bytes) (data_of bytes) a s) same p.2) q.2

@@ -1,0 +1,151 @@
+-- A command line asks for one command, and a request line spells one request or has one fault.
+use Rattle.std.proofs.Common.{◌≡◌, ◌<◌, ◌≤◌, ◌-◌, ◌^◌, ◌%◌, ◌==◌, ◌&&◌, ℕ, Bool, true, false, List, Ok, Err, Result, None, Some, cond, nat_le, nat_lt, refl, sym, ap, ap₂, subst, ◌∙◌, arith, ◌⊎◌, inl, inr}
+use Rattle.std.proofs.lemmas.Grind.{common_steps}
+use Rattle.std.specs.declared.option.Option.{Option}
+use Rattle.std.specs.Int.{is_power_of_two}
+use Rattle.matrix_meaning.specs.declared.Kind.{Kind}
+use Rattle.matrix_meaning.specs.declared.Kind.TheVariants.{Dft, Wht}
+use Rattle.matrix_meaning.specs.declared.Request.{Request}
+use Rattle.matrix_meaning.specs.Valid.{IsInRange, HasShape}
+use Rattle.grammar.specs.Grammar.{Judges, IsStuck}
+use Rattle.request_text.specs.declared.fault.Field.{Field}
+use Rattle.request_text.specs.declared.fault.Field.TheVariants.{Size, Mod, Root, Procs, Line, Lanes, Unroll, Budget, Weight}
+use Rattle.request_text.specs.declared.fault.RequestFault.{RequestFault}
+use Rattle.request_text.specs.declared.fault.RequestFault.TheVariants.{Syntax, Range, Shape, LanesLine}
+use Rattle.request_text.specs.Line.{request_line}
+use Rattle.request_text.specs.Limits.{◌>>◌, within, below, shaped, divided, judged}
+use Rattle.request_text.specs.Answer.{IsFaultOf, Answers}
+use Rattle.request_text.specs.Schedule.{Plan, schedule_word}
+use Rattle.request_text.proofs.Line.{line_judges}
+use Rattle.request_text.proofs.ScheduleWord.{word_judges}
+use Rattle.spiral_words.specs.declared.Command.{Command}
+use Rattle.spiral_words.specs.declared.Command.TheVariants as command
+use Rattle.spiral_words.specs.Named.{NamedTexts}
+use Rattle.spiral_words.specs.Named as named
+use Rattle.spiral_words.specs.Asked.{Means, IsAsked}
+
+-- a text spells one value
+spelt_once : {S A : Type 0} (L : List S → A → Type 0) (text : List S) (r : Result A ℕ) (a b : A) → Judges L text r → L text a → L text b → a ≡ b
+spelt_once L text (Ok value) a b j p q = j.1 a p ∙ sym (j.1 b q)
+spelt_once L text (Err left) a b j p q = absurd (j.1.nothing a p)
+
+schedule_once : (word : List ℕ) (s t : Plan) → schedule_word word s → schedule_word word t → s ≡ t
+schedule_once word s t p q = spelt_once schedule_word word _ s t (word_judges word _ refl) p q
+
+pub request_once : (line : List ℕ) (r s : Request) → request_line line r → request_line line s → r ≡ s
+request_once line r s p q = spelt_once request_line line _ r s (line_judges line _ refl) p q
+
+-- ---- commands
+
+some_same : {A : Type 0} (a b : A) → Some a ≡ Some b → a ≡ b
+some_same a b e = cc
+
+means_once : (texts : NamedTexts) (a b : Command) → Means texts a → Means texts b → a ≡ b
+means_once named.plan a b p q = p ∙ sym q
+means_once named.formula a b p q = p ∙ sym q
+means_once named.code a b p q = p ∙ sym q
+means_once named.c a b p q = p ∙ sym q
+means_once (named.run word) a b p q = p.2 ∙ ap command.Run (schedule_once word p.0 q.0 p.1 q.1) ∙ sym q.2
+means_once (named.trace word) a b p q = p.2 ∙ ap command.Trace (schedule_once word p.0 q.0 p.1 q.1) ∙ sym q.2
+means_once named.cert a b p q = p ∙ sym q
+means_once named.check a b p q = p ∙ sym q
+means_once (named.sample number word) a b p q = p.4 ∙ ap₂ command.Sample (some_same p.0 q.0 (sym p.2 ∙ q.2)) (schedule_once word p.1 q.1 p.3 q.3) ∙ sym q.4
+
+pub asked_once : (words : List (List ℕ)) (a b : Command) → IsAsked words a → IsAsked words b → a ≡ b
+asked_once words a b p q =
+    let same : p.0 ≡ q.0 = some_same p.0 q.0 (sym p.1 ∙ q.1) in
+    means_once q.0 a b (subst (λ (t : NamedTexts). Means t a) same p.2) q.2
+
+-- ---- the limits of a request
+
+abbrev passed : Result (Unit {0}) RequestFault
+passed = Ok tt
+
+then_ok : (t : Result (Unit {0}) RequestFault) (n : Result Request RequestFault) (r : Request) → t ≡ passed → n ≡ Ok r → (t >> n) ≡ Ok r
+then_ok (Ok x) n r e f = f
+then_ok (Err fault) n r e f = absurd (cc)
+
+within_ok : (field : Field) (v low high : ℕ) → (low ≤ v) × (v ≤ high) → within field v low high ≡ passed
+within_ok field v low high h =
+    let above = h.0 in
+    let under = h.1 in
+    let x : nat_le low v ≡ true = grind (arith, common_steps) in
+    let y : nat_le v high ≡ true = grind (arith, common_steps) in
+    ap (λ b. cond (b && nat_le v high) passed (Err (Range field v))) x ∙ ap (λ b. cond b passed (Err (Range field v))) y
+
+below_ok : (field : Field) (v limit : ℕ) → v < limit → below field v limit ≡ passed
+below_ok field v limit h =
+    let x : nat_lt v limit ≡ true = grind (arith, common_steps) in
+    ap (λ b. cond b passed (Err (Range field v))) x
+
+shaped_ok : (kind : Kind) (size : ℕ) → HasShape kind size → shaped kind size ≡ passed
+shaped_ok Dft size h = refl
+shaped_ok Wht size h = ap (λ b. cond b passed (Err (Shape size))) h
+
+divided_ok : (procs line lanes : ℕ) → (1 < procs → line % lanes ≡ 0) → divided procs line lanes ≡ passed
+divided_ok procs line lanes h = cases (nat_le procs 1) refl
+  where
+    cases : (k : Bool) → nat_le procs 1 ≡ k → cond k passed (cond (line % lanes == 0) passed (Err (LanesLine lanes line))) ≡ passed
+    cases true e = refl
+    cases false e =
+        let more : 1 < procs = grind (arith, common_steps) in
+        ap (λ n. cond (n == 0) passed (Err (LanesLine lanes line))) (h more)
+
+judged_ok : (r : Request) → IsInRange r → judged r ≡ Ok r
+unfolding judged
+judged_ok r v =
+    then_ok (within Size r.size 1 65536) _ r (within_ok Size r.size 1 65536 v.size)
+    (then_ok (within Mod r.modulus 2 (2 ^ 62 - 1)) _ r (within_ok Mod r.modulus 2 (2 ^ 62 - 1) v.modulus)
+    (then_ok (below Root r.root r.modulus) _ r (below_ok Root r.root r.modulus v.root)
+    (then_ok (within Procs r.procs 1 16) _ r (within_ok Procs r.procs 1 16 v.procs)
+    (then_ok (within Line r.line 1 64) _ r (within_ok Line r.line 1 64 v.line)
+    (then_ok (within Lanes r.lanes 1 16) _ r (within_ok Lanes r.lanes 1 16 v.lanes)
+    (then_ok (within Unroll r.unroll 2 64) _ r (within_ok Unroll r.unroll 2 64 v.unroll)
+    (then_ok (within Budget r.budget 1 1000000000000) _ r (within_ok Budget r.budget 1 1000000000000 v.budget)
+    (then_ok (within Weight r.weight 1 1000) _ r (within_ok Weight r.weight 1 1000 v.weight)
+    (then_ok (shaped r.kind r.size) _ r (shaped_ok r.kind r.size v.shape)
+    (then_ok (divided r.procs r.line r.lanes) _ r (divided_ok r.procs r.line r.lanes v.lanes_in_line) refl))))))))))
+
+-- ---- what is answered for a line
+
+abbrev faulty : RequestFault → Result Request RequestFault
+faulty fault = Err fault
+
+faulty_same : (f g : RequestFault) → faulty f ≡ faulty g → f ≡ g
+faulty_same f g e = cc
+
+fault_clash : (line : List ℕ) (r : Request) (fault : RequestFault) → request_line line r → IsInRange r → IsFaultOf line fault → ⊥
+fault_clash line r fault p v q =
+    let e : Ok r ≡ faulty fault = sym (judged_ok r v) ∙ ap judged (request_once line r q.0 p q.1) ∙ q.2 in
+    absurd (cc)
+
+pub answer_clash : (line : List ℕ) (r : Request) (fault : RequestFault) → Answers line (Ok r) → Answers line (Err fault) → ⊥
+answer_clash line r (Syntax at) p q = q.nothing r p.0
+answer_clash line r (Range field value) p q = fault_clash line r (Range field value) p.0 p.1 q
+answer_clash line r (Shape size) p q = fault_clash line r (Shape size) p.0 p.1 q
+answer_clash line r (LanesLine lanes length) p q = fault_clash line r (LanesLine lanes length) p.0 p.1 q
+
+-- a line is stuck, or spells a request with this fault
+abbrev IsFaulty : List ℕ → RequestFault → Type 0
+IsFaulty line fault = ((at : ℕ) × (fault ≡ Syntax at) × IsStuck request_line line at) ⊎ IsFaultOf line fault
+
+faulty_by : (line : List ℕ) (fault : RequestFault) → Answers line (Err fault) → IsFaulty line fault
+faulty_by line (Syntax at) p = inl (at, refl, p)
+faulty_by line (Range field value) p = inr p
+faulty_by line (Shape size) p = inr p
+faulty_by line (LanesLine lanes length) p = inr p
+
+stuck_once : (line : List ℕ) (a b : ℕ) → IsStuck request_line line a → IsStuck request_line line b → a ≡ b
+stuck_once line a b p q =
+    let one : b ≤ a = p.place.longest b q.place.within q.place.begins in
+    let other : a ≤ b = q.place.longest a p.place.within p.place.begins in
+    omega (arith, one, other)
+
+faulty_once : (line : List ℕ) (f g : RequestFault) → IsFaulty line f → IsFaulty line g → f ≡ g
+faulty_once line f g (inl p) (inl q) = p.1 ∙ ap Syntax (stuck_once line p.0 q.0 p.2 q.2) ∙ sym q.1
+faulty_once line f g (inl p) (inr q) = absurd (p.2.nothing q.0 q.1)
+faulty_once line f g (inr p) (inl q) = absurd (q.2.nothing p.0 p.1)
+faulty_once line f g (inr p) (inr q) = faulty_same f g (sym p.2 ∙ ap judged (request_once line p.0 q.0 p.1 q.1) ∙ q.2)
+
+pub fault_once : (line : List ℕ) (f g : RequestFault) → Answers line (Err f) → Answers line (Err g) → f ≡ g
+fault_once line f g p q = faulty_once line f g (faulty_by line f p) (faulty_by line g q)

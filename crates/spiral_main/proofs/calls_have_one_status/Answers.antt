@@ -1,0 +1,5 @@
+use Rattle.spiral_main.proofs.OneOutcome.{one_status}
+use Rattle.spiral_main.proofs.calls_have_one_status.Goals as goal
+
+pub returns : goal.returns
+returns c = one_status

@@ -1,0 +1,5 @@
+use Rattle.spiral_main.proofs.OneText.{one_text}
+use Rattle.spiral_main.proofs.calls_have_one_text.Goals as goal
+
+pub returns : goal.returns
+returns c = one_text

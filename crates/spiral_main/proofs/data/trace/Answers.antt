@@ -1,0 +1,62 @@
+use Rattle.std.proofs.Common.{◌≡◌, ◌-◌, ◌∙◌, Ok, Err, sym, ap, subst}
+use Rattle.std.proofs.lemmas.Result.{err_from_is_err_and}
+use Rattle.io_edge.specs.Feed.{to_come, limit}
+use Rattle.spiral_main.proofs.OutcomeLemmas.{performs_trace, listing_cut, traced_stranger, fault_success, fault_has_memory, reports_read, reports_write, reports_after}
+use Rattle.spiral_main.proofs.data.trace.Goals as goal
+
+pub run_stream-requires-clause-no_stranger : goal.run_stream-requires-clause-no_stranger
+run_stream-requires-clause-no_stranger g c =
+    traced_stranger c.args.schedule.now c.args.request.now c.in_ok-listing.listing.items c.in_ok-listing.machine.code c.in_ok-listing.ensures.program c.requires.turns
+
+pub returns-in_err-write_all-clause-told : goal.returns-in_err-write_all-clause-told
+returns-in_err-write_all-clause-told g c =
+    let p = err_from_is_err_and c.from_residual-in_err-write_all.result c.from_residual-in_err-write_all.ensures.1 in
+    let wrote = rw c.deref.ensures.value at c.in_err-write_all.ensures.bytes in
+    rw (p.1, p.2) (listing_cut c.args.schedule.now c.args.request.now c.in_ok-listing.listing.items c.in_ok-listing.machine.code (limit - c.args.feed.now.taken)
+    (to_come c.args.feed.now (g.I.Source.left c.args.input.now)) (g.O.Sink.taken c.args.output.now) (g.O.Sink.taken c.write_all.new.sink)
+    c.in_ok-listing.ensures.program c.requires.in_range wrote)
+
+pub returns-in_err-run_stream-clause-told : goal.returns-in_err-run_stream-clause-told
+returns-in_err-run_stream-clause-told g c =
+    let taken = g.O.Sink.taken in
+    let p = err_from_is_err_and c.from_residual-in_err-run_stream.result c.from_residual-in_err-run_stream.ensures.1 in
+    let wrote = rw c.deref.ensures.value at c.in_ok-write_all.ensures.bytes in
+    rw (p.1, p.2) (performs_trace c.args.schedule.now c.args.request.now c.in_ok-listing.listing.items c.in_ok-listing.machine.code c.args.feed.now c.run_stream.new.feed
+    (to_come c.args.feed.now (g.I.Source.left c.args.input.now)) (to_come c.run_stream.new.feed (g.I.Source.left c.run_stream.new.input))
+    (taken c.args.output.now) (taken c.write_all.new.sink) (taken c.run_stream.new.output) c.in_ok-listing.machine.state c.run_stream.new.machine.state (Err c.in_err-run_stream.field-0.0)
+    c.in_ok-listing.ensures.program wrote c.in_err-run_stream.ensures.streams)
+
+pub returns-in_err-run_stream-clause-end : goal.returns-in_err-run_stream-clause-end
+returns-in_err-run_stream-clause-end g c =
+    let p = err_from_is_err_and c.from_residual-in_err-run_stream.result c.from_residual-in_err-run_stream.ensures.1 in
+    rw (p.1, p.2) (λ e. absurd (fault_success c.in_err-run_stream.field-0.0 e))
+
+pub returns-in_err-run_stream-clause-read : goal.returns-in_err-run_stream-clause-read
+returns-in_err-run_stream-clause-read g c =
+    let faults = g.I.Source.faults in
+    let p = err_from_is_err_and c.from_residual-in_err-run_stream.result c.from_residual-in_err-run_stream.ensures.1 in
+    rw (p.1, p.2) (reports_read (faults c.args.input.now) (faults c.run_stream.new.input) c.in_err-run_stream.field-0.0 c.in_err-run_stream.ensures.read)
+
+pub returns-in_err-run_stream-clause-write : goal.returns-in_err-run_stream-clause-write
+returns-in_err-run_stream-clause-write g c =
+    let faults = g.O.Sink.faults in
+    let p = err_from_is_err_and c.from_residual-in_err-run_stream.result c.from_residual-in_err-run_stream.ensures.1 in
+    rw (p.1, p.2) (reports_after (faults c.args.output.now) (faults c.write_all.new.sink) (faults c.run_stream.new.output) c.in_ok-write_all.ensures.cause.ok
+    (reports_write (faults c.write_all.new.sink) (faults c.run_stream.new.output) c.in_err-run_stream.field-0.0 c.in_err-run_stream.ensures.write))
+
+pub returns-in_err-run_stream-clause-memory : goal.returns-in_err-run_stream-clause-memory
+returns-in_err-run_stream-clause-memory g c =
+    let p = err_from_is_err_and c.from_residual-in_err-run_stream.result c.from_residual-in_err-run_stream.ensures.1 in
+    rw (p.1, p.2) (λ e. absurd (fault_has_memory c.in_err-run_stream.field-0.0 e))
+
+pub returns-clause-told : goal.returns-clause-told
+returns-clause-told g c =
+    let taken = g.O.Sink.taken in
+    let wrote = rw c.deref.ensures.value at c.in_ok-write_all.ensures.bytes in
+    performs_trace c.args.schedule.now c.args.request.now c.in_ok-listing.listing.items c.in_ok-listing.machine.code c.args.feed.now c.run_stream.new.feed
+    (to_come c.args.feed.now (g.I.Source.left c.args.input.now)) (to_come c.run_stream.new.feed (g.I.Source.left c.run_stream.new.input))
+    (taken c.args.output.now) (taken c.write_all.new.sink) (taken c.run_stream.new.output) c.in_ok-listing.machine.state c.run_stream.new.machine.state (Ok tt)
+    c.in_ok-listing.ensures.program wrote c.in_ok-run_stream.ensures.streams
+
+pub returns-clause-end : goal.returns-clause-end
+returns-clause-end g c = λ _. c.in_ok-run_stream.ensures.streams.answer.1

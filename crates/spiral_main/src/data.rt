@@ -1,0 +1,86 @@
+// The commands that go over the vectors of the data.
+ghost use Rattle.std.specs.Prelude.{◌≡◌, ◌-◌, ◌≤◌, []};
+ghost use Rattle.std.specs.Io.KnownBytes.{Appends, IsAtEnd};
+ghost use Rattle.matrix_meaning.specs.Valid.{IsInRange};
+ghost use Rattle.generate.specs.Planned.{IsPlain};
+ghost use Rattle.io_edge.specs.Faults.{Reports};
+ghost use Rattle.io_edge.specs.Feed.{to_come, limit};
+ghost use Rattle.spiral_main.specs.Stage.{status_of};
+ghost use Rattle.spiral_main.specs.Steps.{ToldPerforms};
+ghost use Rattle.spiral_main.specs.Stream.{HasNoStranger};
+
+use crate::Status;
+use crate::stream::run_stream;
+use crate::texts::{engine, traced_engine};
+use io_edge::{Feed, Sink, Source, write_all};
+use matrix_meaning::Request;
+use request_text::Schedule;
+use spiral_words::Command;
+use std::alloc::Global;
+
+/// Writes the line of each vector's transform.
+pub(crate) fn run<I: Source, O: Sink>(
+    alloc: Global,
+    request: &Request,
+    schedule: &Schedule,
+    feed: &mut Feed,
+    input: &mut I,
+    output: &mut O,
+) -> Result<(), Status>
+    requires in_range { IsInRange request.now }
+    requires plain { IsPlain request.now }
+    requires turns { HasNoStranger schedule.now request.now.procs }
+    requires within { feed.old.taken ≤ limit }
+    ensures told { ToldPerforms (Command.Run schedule.now) request.now (limit - feed.old.taken) (to_come feed.old (I.left input.old))
+        (O.taken output.old) (O.taken output.new) (status_of result) }
+    ensures end { status_of result ≡ Status.Success → IsAtEnd (to_come feed.new (I.left input.new)) }
+    ensures read { Reports (I.faults input.old) (I.faults input.new) (status_of result ≡ Status.ReadFault) }
+    ensures write { Reports (O.faults output.old) (O.faults output.new) (status_of result ≡ Status.WriteFault) }
+    ensures memory { status_of result ≡ Status.NoMemory → Appends (O.taken output.old) (O.taken output.new) [] }
+{
+    let (mut machine, mut vector) = engine(alloc, request)?;
+    run_stream(
+        &mut machine,
+        schedule,
+        false,
+        feed,
+        input,
+        output,
+        &mut vector,
+    )?;
+    Ok(())
+}
+
+/// Writes the listing, and then for each vector the lines of its turns and the line of its transform.
+pub(crate) fn trace<I: Source, O: Sink>(
+    alloc: Global,
+    request: &Request,
+    schedule: &Schedule,
+    feed: &mut Feed,
+    input: &mut I,
+    output: &mut O,
+) -> Result<(), Status>
+    requires in_range { IsInRange request.now }
+    requires plain { IsPlain request.now }
+    requires turns { HasNoStranger schedule.now request.now.procs }
+    requires within { feed.old.taken ≤ limit }
+    ensures told { ToldPerforms (Command.Trace schedule.now) request.now (limit - feed.old.taken) (to_come feed.old (I.left input.old))
+        (O.taken output.old) (O.taken output.new) (status_of result) }
+    ensures end { status_of result ≡ Status.Success → IsAtEnd (to_come feed.new (I.left input.new)) }
+    ensures read { Reports (I.faults input.old) (I.faults input.new) (status_of result ≡ Status.ReadFault) }
+    ensures write { Reports (O.faults output.old) (O.faults output.new) (status_of result ≡ Status.WriteFault) }
+    ensures memory { status_of result ≡ Status.NoMemory → Appends (O.taken output.old) (O.taken output.new) [] }
+{
+    let (listing, mut machine, mut vector) = traced_engine(alloc, request)?;
+    write_all(output, &listing)?;
+    run_stream(
+        &mut machine,
+        schedule,
+        true,
+        feed,
+        input,
+        output,
+        &mut vector,
+    )?;
+    Ok(())
+}
