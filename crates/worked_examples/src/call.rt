@@ -1,0 +1,65 @@
+// Calls of the program over memory.
+
+ghost use Rattle.std.specs.Prelude.{◌<◌};
+
+use io_edge::{MemSink, MemSource};
+use spiral_main::spiral_run;
+use std::alloc::Global;
+use std::test::Fail;
+
+/// How the source and the sinks behave: how many bytes a read gives at most, which read fails and which write, how many
+/// bytes the output takes, and how many the note takes.
+#[derive(Clone, Copy)]
+pub(crate) struct Outside {
+    pub(crate) step: u64,
+    pub(crate) read_fails: Option<u64>,
+    pub(crate) write_fails: Option<u64>,
+    pub(crate) room: u64,
+    pub(crate) note_room: u64,
+}
+
+/// Nothing fails, and there is room for every text of these tests.
+pub(crate) const AMPLE: Outside = Outside {
+    step: 4096,
+    read_fails: None,
+    write_fails: None,
+    room: 20_000,
+    note_room: 200,
+};
+
+/// What a call answers, writes and notes.
+#[derive(Drop)]
+pub(crate) struct Seen {
+    pub(crate) code: u8,
+    pub(crate) output: MemSink,
+    pub(crate) note: MemSink,
+}
+
+fn list(alloc: Global, call: Option<u64>) -> Result<Vec<u64>, Fail> {
+    let mut calls = Vec::new(alloc);
+    if let Some(call) = call {
+        calls.push(call)?;
+    }
+    Ok(calls)
+}
+
+/// The call of these words, which are joined by spaces, on this input.
+pub(crate) fn call(alloc: Global, line: &str, input: &[u8], outside: &Outside) -> Result<Seen, Fail>
+    requires { 0 < outside.now.step }
+{
+    let mut words = Vec::new(alloc);
+    for word in line.split(' ') {
+        words.push(word.to_string(alloc)?)?;
+    }
+    let read_fails = list(alloc, outside.read_fails)?;
+    let mut source = MemSource::new(input.to_vec(alloc)?, outside.step, read_fails);
+    let write_fails = list(alloc, outside.write_fails)?;
+    let mut output = MemSink::new(alloc, outside.room, write_fails)?;
+    let mut note = MemSink::new(alloc, outside.note_room, Vec::new(alloc))?;
+    let status = spiral_run(alloc, &words, &mut source, &mut output, &mut note);
+    Ok(Seen {
+        code: status.code(),
+        output,
+        note,
+    })
+}

@@ -1,0 +1,262 @@
+"""Compares the program, the first word, with the reference over a list of requests that is the same at each run. Each
+comparison is of the status, the output and the note. The last line counts them."""
+
+import subprocess
+import sys
+from math import gcd
+
+from emission import Emitter, actions, loads_and_stores, run
+from reference import answer, vectors
+from transforms import Refused, admitted, certificate, certificate_rows, every_tree, read_request, transform
+
+# Requests that the documents speak of, and the ends of the limits.
+NAMED = """
+dft 1 mod 2 root 1
+dft 2 mod 2 root 1
+dft 2 mod 15 root 4
+dft 2 mod 10 root 9
+dft 2 mod 4611686018427387903 root 4611686018427387902
+dft 4 mod 17 root 4
+dft 4 mod 17 root 3
+dft 4 mod 17 root 4 budget 8
+dft 4 mod 10 root 9
+dft 4 mod 10 root 9 unroll 2
+dft 6 mod 7 root 3
+dft 8 mod 17 root 2
+dft 9 mod 19 root 4 unroll 2
+dft 9 mod 19 root 4 unroll 16
+dft 11 mod 23 root 2 budget 241
+dft 11 mod 23 root 2 budget 242
+dft 15 mod 31 root 9
+dft 16 mod 17 root 3
+dft 16 mod 17 root 3 unroll 16
+dft 30 mod 31 root 3 unroll 2
+dft 60 mod 61 root 2 unroll 2
+dft 210 mod 211 root 2
+dft 210 mod 211 root 2 unroll 2
+dft 240 mod 241 root 7 unroll 64
+dft 251 mod 503 root 2
+dft 256 mod 257 root 3 unroll 64
+wht 1 mod 2
+wht 2 mod 2
+wht 4 mod 5
+wht 8 mod 10 unroll 2
+wht 64 mod 97 unroll 4
+wht 256 mod 4611686018427387903 unroll 2
+"""
+
+# Requests for processors, cache lines and lanes.
+SPREAD = """
+dft 1 mod 2 root 1 procs 2
+dft 4 mod 17 root 4 procs 2 line 1
+dft 4 mod 17 root 4 lanes 2
+dft 4 mod 17 root 3 procs 2
+dft 6 mod 7 root 3 lanes 2
+dft 8 mod 17 root 2 procs 2 line 2
+dft 16 mod 17 root 3 procs 2 line 2
+dft 16 mod 17 root 3 procs 2 line 2 lanes 2
+dft 36 mod 37 root 2 procs 2 line 3 unroll 2
+dft 64 mod 193 root 125 lanes 8 unroll 2
+dft 81 mod 163 root 38 procs 3 line 3 lanes 3
+dft 144 mod 31 root 30 procs 3 line 4 unroll 3
+dft 225 mod 101 root 1 procs 3 line 5 unroll 2
+dft 256 mod 257 root 3 procs 4 line 4 lanes 4
+wht 4 mod 5 lanes 2
+wht 16 mod 10 procs 4
+wht 64 mod 97 procs 2 line 4 lanes 4 unroll 2
+wht 256 mod 4611686018427387903 procs 2 line 8 lanes 2
+"""
+
+# Sizes for which only what needs no plain sum is compared.
+LARGE = ["dft 65536 mod 65537 root 3", "wht 65536 mod 65536", "dft 30030 mod 30031 root 1 budget 1000000000000"]
+
+UNROLLS = [2, 2, 3, 4, 5, 6, 7, 8, 8, 8, 9, 12, 16, 25, 32, 64]
+
+# Moduli with roots of many orders, and an element whose powers give them.
+RICH = [(17, 3), (97, 5), (257, 3), (2161, 23), (12289, 11), (65537, 3), (998244353, 3), (2**61 - 1, 37)]
+
+
+class Numbers:
+    def __init__(self, seed):
+        self.value = seed
+
+    def next(self):
+        self.value = (self.value * 6364136223846793005 + 1442695040888963407) % 2**64
+        return self.value
+
+    def below(self, end):
+        return (self.next() >> 33) % end
+
+    def one_of(self, items):
+        return items[self.below(len(items))]
+
+
+def order(root, modulus):
+    """The least power that is 1, where it is 256 or less."""
+    value = root
+    for power in range(1, 257):
+        if value == 1:
+            return power
+        value = value * root % modulus
+    return None
+
+
+def any_root(numbers):
+    """A request for any modulus, any unit of it, and any multiple of the unit's order."""
+    while True:
+        modulus = 2 + numbers.below(2000)
+        root = 1 + numbers.below(modulus - 1)
+        power = order(root, modulus) if gcd(root, modulus) == 1 else None
+        if power:
+            size = power * (1 + numbers.below(256 // power))
+            return f"dft {size} mod {modulus} root {root} unroll {numbers.one_of(UNROLLS)}"
+
+
+def rich_root(numbers):
+    """A request for a root of any order that divides one less than a prime modulus."""
+    modulus, element = numbers.one_of(RICH)
+    size = numbers.one_of([n for n in range(2, 257) if (modulus - 1) % n == 0])
+    root = pow(element, (modulus - 1) // size, modulus)
+    return f"dft {size} mod {modulus} root {root} unroll {numbers.one_of(UNROLLS)}"
+
+
+def power_of_two(numbers):
+    """A request for a root 2^e modulo 2^62 - 1, which is no prime."""
+    exponent = 1 + numbers.below(61)
+    power = 62 // gcd(62, exponent)
+    size = power * (1 + numbers.below(256 // power))
+    return f"dft {size} mod {2**62 - 1} root {2**exponent} unroll {numbers.one_of(UNROLLS)}"
+
+
+def hadamard(numbers):
+    modulus = 2 + numbers.one_of([numbers.below(100), numbers.next() % (2**62 - 2)])
+    return f"wht {2**numbers.below(9)} mod {modulus} unroll {numbers.one_of(UNROLLS)}"
+
+
+def requests():
+    numbers = Numbers(7)
+    makers = [any_root] * 120 + [rich_root] * 100 + [power_of_two] * 20 + [hadamard] * 30
+    return NAMED.split("\n")[1:-1] + [make(numbers) for make in makers]
+
+
+class Sweep:
+    def __init__(self, program):
+        self.program, self.passed, self.failed = program, 0, 0
+
+    def call(self, words, text):
+        done = subprocess.run([self.program, *words.split()], input=text.encode(), capture_output=True)
+        return done.returncode, done.stdout.decode(), done.stderr.decode()
+
+    def compare(self, words, text, wanted):
+        """Whether the program answers as it is wanted: a text with success, or the code and note of a refusal."""
+        got = self.call(words, text)
+        wanted = (0, wanted, "") if isinstance(wanted, str) else (wanted[0], "", f"spiral: {wanted[1]}\n")
+        if got == wanted:
+            self.passed += 1
+            return
+        self.failed += 1
+        print(f"differs: {words}, {text.splitlines()[0]}")
+        for mine, other in zip(map(str, wanted), map(str, got)):
+            pairs = zip(mine.splitlines() + ["(end)"], other.splitlines() + ["(end)"])
+            for pair in [pair for pair in pairs if pair[0] != pair[1]][:1]:
+                print("  wanted {}\n  got    {}".format(*pair))
+
+    def is_there(self, command, line, missing, what):
+        """Whether the program knows the command and the line, by a status that is not that of what is missing."""
+        is_there = self.call(command, line)[0] != missing
+        if not is_there:
+            print(f"skipped: {what} not there")
+        return is_there
+
+
+def wanted(command, line, data=(), seed=0):
+    try:
+        return answer(command, read_request(line), data, seed)
+    except Refused as refused:
+        return refused.args
+
+
+def data_of(line, numbers):
+    """Two vectors of words, and a text of them with white space of each kind."""
+    data = [numbers.next() for _ in range(2 * read_request(line).size)]
+    tokens = (f"{'000' * (at % 5 == 0) if x < 10**17 else ''}{x}{' ' * (at % 2)}" for at, x in enumerate(data))
+    return data, "".join(token + numbers.one_of(" \t\n\r") for token in tokens)
+
+
+def checks(sweep, line, numbers):
+    """The certificate is accepted, and refused at a row with another cost."""
+    request = read_request(line)
+    rows = list(certificate_rows(request))
+    sweep.compare("check", f"{line}\n{certificate(request, rows)}", f"least {rows[-1][1]}\n")
+    at = numbers.below(len(rows))
+    size, cost, *rest = rows[at]
+    rows[at] = (size, cost + 1, *rest)
+    note = f"certificate row {size} gives {cost + 1}, found {cost}"
+    sweep.compare("check", f"{line}\n{certificate(request, rows)}", (14, note))
+
+
+def budgets(sweep, line, cost):
+    """A budget of the least cost is enough, and one less is not."""
+    line = line.split(" budget")[0]
+    for budget in (cost, cost - 1):
+        if budget > 0:
+            bounded = f"{line} budget {budget}"
+            sweep.compare("plan", bounded, wanted("plan", bounded))
+
+
+def agrees_with_itself(request, cost, tree, data):
+    """The plan is the first of the cheapest of all trees, and the listed program leaves the plain sums at its counts."""
+    if request.size <= 24:
+        assert min(every_tree(request, request.size)) == (cost, tree)
+    if request.size <= 64:
+        vector = next(vectors(request, data))
+        program = Emitter(request, tree).program
+        assert run(program, vector) == transform(request, vector)
+        words = [word for _, (word, *_) in actions(program)]
+        loads, stores = words.count("ld"), words.count("st")
+        assert (request.lanes * loads, request.lanes * stores) == loads_and_stores(request, tree)
+        others = words.count("zero") + words.count("tile")
+        assert request.lanes * (len(words) - loads - stores - others) == cost
+
+
+def swept(sweep, line, numbers, has_check, has_trace):
+    """All commands of a request. What the reference itself says of it is asked to agree first."""
+    request = read_request(line)
+    data, text = data_of(line, numbers)
+    seed = numbers.next()
+    for command in ("plan", "formula", "cert", "code", "c"):
+        sweep.compare(command, line, wanted(command, line))
+    sweep.compare(f"sample --seed {seed}", line, wanted("sample", line, seed=seed))
+    sweep.compare("run", f"{line}\n{text}", wanted("run", line, data))
+    try:
+        cost, tree = admitted(request)
+    except Refused:
+        return
+    agrees_with_itself(request, cost, tree, data)
+    budgets(sweep, line, cost)
+    if has_check:
+        checks(sweep, line, numbers)
+    if has_trace and cost < 1500:
+        sweep.compare("trace", f"{line}\n{text}", wanted("trace", line, data))
+
+
+def main():
+    sweep = Sweep(sys.argv[1])
+    one = "dft 1 mod 2 root 1\n"
+    has_check = sweep.is_there("check", one, 2, "the command check is")
+    has_trace = sweep.is_there("trace", one, 2, "the command trace is")
+    is_spread = sweep.is_there("plan", "wht 4 mod 5 procs 2 lanes 1\n", 3, "the words procs, line and lanes are")
+    numbers = Numbers(11)
+    for line in requests() + (SPREAD.split("\n")[1:-1] if is_spread else []):
+        swept(sweep, line, numbers, has_check, has_trace)
+    for line in LARGE:
+        for command in ("plan", "formula", "cert", "code"):
+            sweep.compare(command, line, wanted(command, line))
+    for line in LARGE[:2]:
+        sweep.compare("sample", line, wanted("sample", line))
+    print(f"sweep: {sweep.passed} passed, {sweep.failed} failed")
+    sys.exit(sweep.failed != 0)
+
+
+if __name__ == "__main__":
+    main()
