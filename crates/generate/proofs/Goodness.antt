@@ -13,13 +13,14 @@ use Rattle.operators.specs.Sum.{sum_below}
 use Rattle.code_gen.specs.Laws.{Computes, counts_of_tree}
 use Rattle.code_gen.specs.Whole.{tree_listing}
 use Rattle.code_gen.proofs.OneProcessor.{alone-apart}
+use Rattle.lean_code.specs.Parts.{IsLeanCode}
 use Rattle.tree_model.specs.Breakdown.{Breakdown}
 use Rattle.tree_model.specs.Cost.{cost_of}
 use Rattle.tree_model.specs.Passes.{loads_of, stores_of}
 use Rattle.generate.specs.Good.{IsGood, IsLean}
 use Rattle.generate.specs.Planned.{IsPlain}
 
-module _ (r : Request) (t : Breakdown) (p : Program) (plain : IsPlain r) (listing : plain_program p ≡ tree_listing r t) (computes : Computes r t) where
+module _ (r : Request) (t : Breakdown) (p : Program) (plain : IsPlain r) (listing : plain_program p ≡ tree_listing r t) (computes : Computes r t) (lean_tree : IsLeanCode r t (plain_code (tree_listing r t))) where
   apart : (phase : ℕ) → IsApart (code_of p) phase
   apart = alone-apart (code_of p) (code_is (plain_program p)) (ap (λ (z : PlainProgram). z.procs) listing)
 
@@ -60,6 +61,7 @@ module _ (r : Request) (t : Breakdown) (p : Program) (plain : IsPlain r) (listin
   lean =
       let one = plain.procs in
       record {
+        parts = λ _. subst (λ (z : PlainProgram). IsLeanCode r t (plain_code z)) (sym listing) lean_tree;
         loads =
             ap (λ n. sum_below n (λ q. (whole_counts (code_of p) q).loads)) one
             ∙ (let total : (whole_counts (code_of p) 0).loads ≡ loads_of r t = ap (λ (c : Counts). c.loads) counts in omega arith);

@@ -5,6 +5,7 @@ use Rattle.matrix_meaning.specs.Kind.{transform}
 use Rattle.icode.specs.declared.program.Program.{Program}
 use Rattle.icode.specs.Machine.{IsApart, results, whole_counts}
 use Rattle.icode.specs.Program.{Fits, code_of}
+use Rattle.lean_code.specs.Parts.{IsLeanCode}
 use Rattle.operators.specs.Sum.{sum_below}
 use Rattle.tree_model.specs.Breakdown.{Breakdown}
 use Rattle.tree_model.specs.Passes.{loads_of, stores_of}
@@ -33,7 +34,8 @@ pub record IsGood (r : Request) (least : ℕ) (p : Program) : Type 0 where
   pub apart : (phase : ℕ) → IsApart (code_of p) phase
   pub operations : (q : ℕ) → q < r.procs → r.procs * (whole_counts (code_of p) q).operations ≡ least
 
--- All processors together load and store exactly what the passes of the tree do
+-- All processors together load and store exactly what the passes of the tree do. On one processor the actions are one part for each pass, in order, with the pass's operations, loads and stores, between its two arrays
 pub record IsLean (r : Request) (t : Breakdown) (p : Program) : Type 0 where
+  pub parts : r.procs ≡ 1 → IsLeanCode r t (code_of p)
   pub loads : sum_below r.procs (λ q. (whole_counts (code_of p) q).loads) ≡ loads_of r t
   pub stores : sum_below r.procs (λ q. (whole_counts (code_of p) q).stores) ≡ stores_of r t

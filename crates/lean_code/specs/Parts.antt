@@ -1,7 +1,7 @@
 -- A list of actions as parts, one for each pass.
 use Rattle.std.specs.Prelude.{◌≡◌, ℕ, suc, ◌+◌, ◌<◌, ◌≤◌, IsTrue, List, [], ◌∷◌, ◌++◌, length, All}
 use Rattle.icode.specs.Actions.{array_start, plain_code}
-use Rattle.icode.specs.Machine.{acts, counts_of, whole_lines}
+use Rattle.icode.specs.Machine.{Code, acts, counts_of, whole_lines}
 use Rattle.icode.specs.declared.action.Action.{Action}
 use Rattle.icode.specs.declared.action.Action.TheVariants.{Load, Store, Zero, Add, Sub, Neg, Mul, Tile}
 use Rattle.icode.specs.declared.program.Array.{Array}
@@ -52,10 +52,12 @@ pub record IsLeanList (c : Request) (t : Breakdown) (actions : List Action) : Ty
   pub whole : joined parts ≡ actions
   pub each : AreParts c 0 X (whole_passes c t) parts
 
--- on one processor and one lane a tree's program has one phase, whose list is lean
-pub record IsLeanTree (c : Request) (t : Breakdown) : Type 0 where
-  pub phases : length (tree_listing c t).phases ≡ 1
-  pub list : IsLeanList c t (acts (plain_code (tree_listing c t)) 0 0)
+-- on one processor: there is one phase, whose list is lean
+pub record IsLeanCode (c : Request) (t : Breakdown) (code : Code) : Type 0 where
+  pub phases : length code.lists ≡ 1
+  pub list : IsLeanList c t (acts code 0 0)
 
+-- on one processor and one lane the programs of trees are lean
 abbrev pub TreesAreLean : Type 0
-TreesAreLean = (c : Request) (t : Breakdown) → IsValid c → IsTrue (is_plain c) → c.weight ≡ 1 → IsAdmissible c t → IsLeanTree c t
+TreesAreLean =
+    (c : Request) (t : Breakdown) → IsValid c → IsTrue (is_plain c) → c.weight ≡ 1 → IsAdmissible c t → IsLeanCode c t (plain_code (tree_listing c t))

@@ -1,8 +1,6 @@
 -- The words and the bytes of a call determine its status.
-use Rattle.std.proofs.Common.{◌≡◌, ◌<◌, ◌≤◌, ℕ, Bool, true, false, List, [], length, Ok, Err, Result, refl, sym, ap, ap₂, subst, ◌∙◌, arith, ◌⊎◌, inl, inr}
+use Rattle.std.proofs.Common.{◌≡◌, ◌≤◌, ℕ, Bool, true, false, List, Ok, Err, Result, refl, sym, ap, ap₂, subst, ◌∙◌, arith, inl, inr}
 use Rattle.matrix_meaning.specs.declared.Request.{Request}
-use Rattle.request_text.specs.declared.RequestFault.{RequestFault}
-use Rattle.request_text.specs.Answer.{Answers}
 use Rattle.spiral_words.specs.declared.Command.{Command}
 use Rattle.spiral_words.specs.declared.Command.TheVariants as command
 use Rattle.spiral_words.proofs.Usage.{usage_nothing}

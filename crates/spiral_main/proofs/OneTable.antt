@@ -1,5 +1,5 @@
 -- A request has one table of chosen rows.
-use Rattle.std.proofs.Common.{◌≡◌, ◌<◌, ◌≤◌, ℕ, zero, suc, List, [], ◌∷◌, length, refl, sym, ap, ap₂, subst, ◌∙◌, arith, ◌⊎◌, inl, inr}
+use Rattle.std.proofs.Common.{◌≡◌, ◌<◌, ℕ, zero, suc, List, [], ◌∷◌, length, refl, sym, ap, ap₂, subst, ◌∙◌, arith, ◌⊎◌, inl, inr}
 use Rattle.std.specs.Prelude.{Option, All, Any, AllPairs}
 use Rattle.std.specs.List.{slice_index_or}
 use Rattle.matrix_meaning.specs.declared.Request.{Request}

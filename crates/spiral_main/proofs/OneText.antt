@@ -1,5 +1,5 @@
 -- The words and the bytes of a call determine its text, but for the commands that print a program.
-use Rattle.std.proofs.Common.{◌≡◌, ◌<◌, ◌≤◌, ℕ, Bool, true, false, List, [], ◌∷◌, ◌++◌, length, Ok, Err, Result, refl, sym, ap, ap₂, subst, ◌∙◌, arith, ◌⊎◌, inl, inr}
+use Rattle.std.proofs.Common.{◌≡◌, ℕ, true, List, [], ◌∷◌, ◌++◌, Ok, Err, sym, ap, subst, ◌∙◌, arith, inl, inr}
 use Rattle.matrix_meaning.specs.declared.Request.{Request}
 use Rattle.spiral_words.specs.declared.Command.{Command}
 use Rattle.spiral_words.specs.declared.Command.TheVariants as command
@@ -16,14 +16,14 @@ use Rattle.plan_cert.specs.Table.{IsTableText}
 use Rattle.plan_cert.proofs.OneVerdict.{one_verdict}
 use Rattle.spiral_main.specs.declared.status.Status.{Status}
 use Rattle.spiral_main.specs.Checked.{IsChecked, verdict_text}
-use Rattle.spiral_main.specs.Commands.{prints_one_text, reads_certificate}
+use Rattle.spiral_main.specs.Commands.{prints_one_text}
 use Rattle.spiral_main.specs.Line.{data_of}
 use Rattle.spiral_main.specs.Outcome.{Job, ordered, product, IsTextOf, IsTextOfData, Settles, IsOutcome, room_behind}
 use Rattle.spiral_main.specs.Sample.{sample_vector, weighted_sum, sample_text}
 use Rattle.spiral_main.proofs.OneRequest.{asked_once}
 use Rattle.spiral_main.proofs.OneTable.{table_once}
 use Rattle.spiral_main.proofs.OneTree.{chosen_once}
-use Rattle.spiral_main.proofs.OneOutcome.{done, done_same, done_ended, ordered_decided, data_or_text, data_or_check, text_or_check}
+use Rattle.spiral_main.proofs.OneOutcome.{done_same, done_ended, ordered_decided, data_or_text, data_or_check, text_or_check}
 
 planned_once : (r : Request) (t u : Breakdown) → IsPlanned r (Ok t) → IsPlanned r (Ok u) → t ≡ u
 planned_once r t u p q = chosen_once r r.size t u p.1 q.1

@@ -1,6 +1,6 @@
 -- What the texts of plans ask for.
-use Rattle.std.proofs.Common.{◌≡◌, ℕ, ◌%◌, ◌<◌, ◌≤◌, true, Ok, inl, refl, sym, ap, ap₂, ◌∙◌, arith, subst}
-use Rattle.std.specs.Prelude.{◌&&◌, ◌==◌}
+use Rattle.std.proofs.Common.{◌≡◌, ◌%◌, Ok, inl, ap, ap₂, ◌∙◌}
+use Rattle.std.specs.Prelude.{◌&&◌}
 use Rattle.std.proofs.Common.{eq-eqb}
 use Rattle.std.proofs.Math.Nat.{mod_self}
 use Rattle.generate.specs.Planned.{IsPlain, IsPlanned}

@@ -1,5 +1,5 @@
 -- The ends of an input, the turns of a run, and the parts of a note.
-use Rattle.std.proofs.Common.{◌≡◌, ◌<◌, ◌≤◌, ℕ, subst, arith, All, List, [], ◌∷◌, ◌++◌, None, Some, Ok, Err, Result, refl, sym, ap, ◌∙◌, append_assoc, append-nil}
+use Rattle.std.proofs.Common.{◌≡◌, ◌<◌, ℕ, subst, arith, All, List, [], ◌∷◌, ◌++◌, None, Some, sym, ap, ◌∙◌, append_assoc, append-nil}
 use Rattle.std.proofs.lemmas.List.Elements.{All-from_get_or}
 use Rattle.std.specs.List.{concat}
 use Rattle.std.specs.declared.option.Option.{Option}

@@ -1,10 +1,10 @@
 -- The vector of a seed, and what a run on it counts.
-use Rattle.std.proofs.Common.{◌≡◌, ◌<◌, ◌≤◌, ◌+◌, ◌*◌, ◌%◌, ℕ, zero, suc, List, [], ◌∷◌, ◌++◌, length, slice_index, All, Ok, refl, sym, ap, ap₂, subst, ◌∙◌, arith, mod-lt, zero-add}
+use Rattle.std.proofs.Common.{◌≡◌, ◌<◌, ◌+◌, ◌*◌, ◌%◌, ℕ, zero, suc, List, [], ◌∷◌, ◌++◌, slice_index, All, refl, sym, ap, ap₂, subst, ◌∙◌, arith, mod-lt, zero-add}
 use Rattle.std.proofs.lemmas.Nat.{mul-mod}
 use Rattle.std.proofs.lemmas.List.Elements.{All-map}
 use Rattle.std.proofs.lemmas.List.FromFn.{map-range_with_len_more}
 use Rattle.std.specs.List.{range_with_len}
-use Rattle.operators.specs.Sum.{sum_below, list_below}
+use Rattle.operators.specs.Sum.{sum_below}
 use Rattle.operators.proofs.Sums.{sum_below-same, sum_below_more}
 use Rattle.operators.proofs.Lists.{length-list_below}
 use Rattle.matrix_meaning.specs.declared.Request.{Request}
@@ -17,8 +17,7 @@ use Rattle.icode.proofs.Runs.{counts_of_runs}
 use Rattle.request_text.specs.Schedule.{Plan}
 use Rattle.request_text.specs.Turns.{next_state, state_after, turns_of}
 use Rattle.generate.specs.Good.{IsVector}
-use Rattle.generate.specs.Planned.{IsPlain, IsPlanned}
-use Rattle.tree_model.specs.Breakdown.{Breakdown}
+use Rattle.generate.specs.Planned.{IsPlain}
 use Rattle.tree_model.specs.Cost.{cost_of}
 use Rattle.tree_model.specs.Passes.{loads_of, stores_of}
 use Rattle.spiral_main.specs.Outcome.{product, IsSampleText}

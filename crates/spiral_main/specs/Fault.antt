@@ -1,5 +1,5 @@
 -- The faults of the parts, as statuses.
-use Rattle.std.specs.Prelude.{ℕ, ◌^◌, Ok, Err, Result}
+use Rattle.std.specs.Prelude.{◌^◌, Ok, Err, Result}
 use Rattle.io_edge.specs.declared.FeedFault.{FeedFault}
 use Rattle.io_edge.specs.declared.FeedFault.TheVariants as line
 use Rattle.input_rest.specs.declared.RestFault.{RestFault}

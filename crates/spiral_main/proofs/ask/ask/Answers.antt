@@ -1,4 +1,4 @@
-use Rattle.std.proofs.Common.{◌≤◌, Global, map, sym, arith, take, length, string_bytes}
+use Rattle.std.proofs.Common.{◌≤◌, Global, map, arith, take, length, string_bytes}
 use Rattle.std.proofs.lemmas.Result.{err_from_is_err_and}
 use Rattle.std.specs.Io.KnownBytes.{IsAtEnd}
 use Rattle.io_edge.specs.Feed.{to_come}

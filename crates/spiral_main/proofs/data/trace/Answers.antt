@@ -1,4 +1,4 @@
-use Rattle.std.proofs.Common.{◌≡◌, ◌-◌, ◌∙◌, Ok, Err, sym, ap, subst}
+use Rattle.std.proofs.Common.{◌-◌, Ok, Err}
 use Rattle.std.proofs.lemmas.Result.{err_from_is_err_and}
 use Rattle.io_edge.specs.Feed.{to_come, limit}
 use Rattle.spiral_main.proofs.OutcomeLemmas.{performs_trace, listing_cut, traced_stranger, fault_success, fault_has_memory, reports_read, reports_write, reports_after}

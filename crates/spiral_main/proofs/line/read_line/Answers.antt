@@ -1,11 +1,10 @@
-use Rattle.std.proofs.Common.{◌≡◌, ◌+◌, ◌++◌, ◌∷◌, [], false, eq-eqb, length-append, arith, take, length}
+use Rattle.std.proofs.Common.{◌≡◌, ◌++◌, ◌∷◌, [], false, eq-eqb, length-append, arith, take}
 use Rattle.spiral_main.specs.Line.{is_line_end}
-use Rattle.std.proofs.lemmas.List.{length-take-le, take_more_set}
+use Rattle.std.proofs.lemmas.List.{length-take-le}
 use Rattle.std.proofs.lemmas.Bool.{ne_eqb}
-use Rattle.std.proofs.KnownBytes.{Consumes-nil, Consumes-trans, Consumes-kept}
+use Rattle.std.proofs.KnownBytes.{Consumes-trans, Consumes-kept}
 use Rattle.std.specs.Io.KnownBytes.{IsAtEnd}
 use Rattle.io_edge.specs.Feed.{to_come}
-use Rattle.data_stream.proofs.TokensLemmas.{reports_none}
 use Rattle.spiral_main.proofs.LineLemmas.{unended_push, line_ended, line_cut, line_longer}
 use Rattle.spiral_main.proofs.line.read_line.Goals as goal
 

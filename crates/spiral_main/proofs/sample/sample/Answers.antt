@@ -1,7 +1,7 @@
 use Rattle.std.proofs.Common.{◌≡◌, ap, ◌∙◌, length}
 use Rattle.std.proofs.lemmas.List.{with_items_is}
 use Rattle.std.specs.Vec.{with_items}
-use Rattle.spiral_main.specs.Sample.{sample_vector, weighted_sum}
+use Rattle.spiral_main.specs.Sample.{weighted_sum}
 use Rattle.spiral_main.proofs.SampleLemmas.{sample_residues, sampled}
 use Rattle.spiral_main.proofs.sample.sample.Goals as goal
 

@@ -1,7 +1,6 @@
-use Rattle.std.proofs.Common.{◌≡◌, ◌++◌, ◌∷◌, [], List, ℕ, refl, sym, ap, ◌∙◌, subst, append_assoc, append-nil, decimal}
+use Rattle.std.proofs.Common.{◌∷◌, [], decimal}
 use Rattle.std.specs.List.{concat}
 use Rattle.std.proofs.lemmas.Result.{err_from_is_err_and}
-use Rattle.io_edge.specs.Taken.{WritesAll}
 use Rattle.io_edge.proofs.TakenLemmas.{prefix_more, writes_after}
 use Rattle.spiral_main.proofs.RunLemmas.{five_parts}
 use Rattle.spiral_main.proofs.status.note_numbers.Goals as goal

@@ -1,5 +1,5 @@
-use Rattle.std.proofs.Common.{◌≡◌, ◌≤◌, ◌-◌, true, [], List, ℕ}
-use Rattle.std.specs.Io.KnownBytes.{Appends, IsAtEnd}
+use Rattle.std.proofs.Common.{◌≡◌, ◌-◌, List, ℕ}
+use Rattle.std.specs.Io.KnownBytes.{Appends}
 use Rattle.icode.specs.Machine.{runs}
 use Rattle.request_text.specs.Turns.{turns_of}
 use Rattle.io_edge.specs.Feed.{to_come, limit}

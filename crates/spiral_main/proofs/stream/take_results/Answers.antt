@@ -1,4 +1,4 @@
-use Rattle.std.proofs.Common.{◌≡◌, ◌<◌, ◌*◌, ◌/◌, sym, ap, ◌∙◌, arith, length}
+use Rattle.std.proofs.Common.{◌≡◌, ◌<◌, ◌/◌, sym, ap, ◌∙◌, arith, length}
 use Rattle.std.proofs.lemmas.List.{take_all, take_more_set}
 use Rattle.icode.specs.Machine.{padded, words_at}
 use Rattle.spiral_main.proofs.StreamLemmas.{word_more}

@@ -1,5 +1,5 @@
-use Rattle.std.proofs.Common.{◌≡◌, ◌+◌, take}
-use Rattle.icode.specs.Machine.{words_at, padded}
+use Rattle.std.proofs.Common.{◌≡◌, take}
+use Rattle.icode.specs.Machine.{words_at}
 use Rattle.spiral_main.proofs.stream.take_results.Given as goal
 
 -- the words so far are those of the machine's second array
