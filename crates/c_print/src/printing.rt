@@ -1,6 +1,6 @@
 ghost use Rattle.std.specs.Prelude.{◌≡◌, ◌++◌, ◌+◌, ◌*◌, ◌≤◌, ◌<◌, ◌^◌, ℕ, IsTrue, IfOk, OnOk, codes, decimal, flat_map};
 ghost use Rattle.std.specs.List.{list_all};
-ghost use Rattle.icode.specs.Plain.{plain_expr, plain_op, plain_stmt, plain_body, plain_tables, plain_phases};
+ghost use Rattle.icode.specs.Plain.{Zero, Neg, MulConst, Tile, plain_expr, plain_op, plain_stmt, plain_body, plain_tables, plain_phases};
 ghost use Rattle.icode.specs.Program.{plain_program};
 ghost use Rattle.icode.specs.Machine.{whole_lines};
 ghost use Rattle.listing_text.specs.Listing.{array_text, sum_text};
@@ -109,6 +109,51 @@ fn put_table_product(
 }
 
 #[tactic(auto, unfolding(crate::specs::CText::c_op_text))]
+fn put_zero(out: &mut Vec<u8>, register: u64) -> Result<(), AllocError>
+    ensures { OnOk result (out.new.items ≡ out.old.items ++ c_op_text (Zero register)) }
+{
+    put_becomes(out, register)?;
+    out.extend_from_slice(b"0;")
+}
+
+#[tactic(auto, unfolding(crate::specs::CText::c_op_text))]
+fn put_negative(out: &mut Vec<u8>, register: u64, source: u64) -> Result<(), AllocError>
+    ensures { OnOk result (out.new.items ≡ out.old.items ++ c_op_text (Neg register source)) }
+{
+    put_becomes(out, register)?;
+    out.extend_from_slice(b"sub(0, ")?;
+    put_lane(out, source)?;
+    out.extend_from_slice(b");")
+}
+
+// A product by the same factor on all lanes.
+#[tactic(auto, unfolding(crate::specs::CText::c_op_text))]
+fn put_const_product(
+    out: &mut Vec<u8>,
+    register: u64,
+    source: u64,
+    factor: u64,
+) -> Result<(), AllocError>
+    ensures { OnOk result (out.new.items ≡ out.old.items ++ c_op_text (MulConst register source factor)) }
+{
+    put_becomes(out, register)?;
+    out.extend_from_slice(b"mul(")?;
+    put_lane(out, source)?;
+    put(out, b", ", factor)?;
+    out.extend_from_slice(b");")
+}
+
+#[tactic(auto, unfolding(crate::specs::CText::c_op_text))]
+fn put_tile(out: &mut Vec<u8>, register: u64, source: u64) -> Result<(), AllocError>
+    ensures { OnOk result (out.new.items ≡ out.old.items ++ c_op_text (Tile register source)) }
+{
+    put_tile_loops(out)?;
+    put(out, b"r[", register)?;
+    put(out, b" + k][l] = r[", source)?;
+    out.extend_from_slice(b" + l][k];")
+}
+
+#[tactic(auto, unfolding(crate::specs::CText::c_op_text))]
 fn put_op(out: &mut Vec<u8>, op: &Op) -> Result<(), AllocError>
     ensures { OnOk result (out.new.items ≡ out.old.items ++ c_op_text (plain_op op.now)) }
 {
@@ -123,10 +168,7 @@ fn put_op(out: &mut Vec<u8>, op: &Op) -> Result<(), AllocError>
             place,
             register,
         } => put_store(out, *array, place, *register),
-        Op::Zero { register } => {
-            put_becomes(out, *register)?;
-            out.extend_from_slice(b"0;")
-        }
+        Op::Zero { register } => put_zero(out, *register),
         Op::Add {
             register,
             left,
@@ -137,23 +179,12 @@ fn put_op(out: &mut Vec<u8>, op: &Op) -> Result<(), AllocError>
             left,
             right,
         } => put_call(out, *register, b"sub(", *left, *right),
-        Op::Neg { register, source } => {
-            put_becomes(out, *register)?;
-            out.extend_from_slice(b"sub(0, ")?;
-            put_lane(out, *source)?;
-            out.extend_from_slice(b");")
-        }
+        Op::Neg { register, source } => put_negative(out, *register, *source),
         Op::MulConst {
             register,
             source,
             factor,
-        } => {
-            put_becomes(out, *register)?;
-            out.extend_from_slice(b"mul(")?;
-            put_lane(out, *source)?;
-            put(out, b", ", *factor)?;
-            out.extend_from_slice(b");")
-        }
+        } => put_const_product(out, *register, *source, *factor),
         Op::MulTable {
             register,
             source,
@@ -161,12 +192,7 @@ fn put_op(out: &mut Vec<u8>, op: &Op) -> Result<(), AllocError>
             place,
             step,
         } => put_table_product(out, *register, *source, *table, place, *step),
-        Op::Tile { register, source } => {
-            put_tile_loops(out)?;
-            put(out, b"r[", *register)?;
-            put(out, b" + k][l] = r[", *source)?;
-            out.extend_from_slice(b" + l][k];")
-        }
+        Op::Tile { register, source } => put_tile(out, *register, *source),
     }
 }
 

@@ -1,6 +1,6 @@
 ghost use Rattle.std.specs.Prelude.{◌≡◌, ◌++◌, ◌≤◌, ℕ, IsTrue, IfOk, OnOk, codes, decimal, flat_map};
 ghost use Rattle.std.specs.List.{list_all};
-ghost use Rattle.icode.specs.Plain.{plain_expr, plain_part, plain_op, plain_stmt, plain_body, plain_tables, plain_phases};
+ghost use Rattle.icode.specs.Plain.{Load, Store, MulConst, MulTable, plain_expr, plain_part, plain_op, plain_stmt, plain_body, plain_tables, plain_phases};
 ghost use Rattle.listing_text.specs.Listing.{sum_text, part_text, array_text, op_text, stmt_text, body_text, values_text, table_text, tables_text, phase_text, header_text, listing_of};
 ghost use Rattle.icode.specs.Program.{plain_program};
 ghost use Rattle.listing_text.specs.Texts.{is_listing};
@@ -95,6 +95,78 @@ fn put_place(out: &mut Vec<u8>, array: Array, place: &Expr) -> Result<(), AllocE
     out.extend_from_slice(b"]")
 }
 
+// An operation on one register.
+fn put_unary(out: &mut Vec<u8>, word: &[u8], register: u64, source: u64) -> Result<(), AllocError>
+    ensures { OnOk result (out.new.items ≡ out.old.items ++ (word.now ++ decimal register ++ codes " r" ++ decimal source)) }
+{
+    put(out, word, register)?;
+    put(out, b" r", source)
+}
+
+// An operation on two registers.
+fn put_binary(
+    out: &mut Vec<u8>,
+    word: &[u8],
+    register: u64,
+    left: u64,
+    right: u64,
+) -> Result<(), AllocError>
+    ensures { OnOk result (out.new.items ≡ out.old.items ++ (word.now ++ decimal register ++ codes " r" ++ decimal left ++ codes " r" ++ decimal right)) }
+{
+    put(out, word, register)?;
+    put(out, b" r", left)?;
+    put(out, b" r", right)
+}
+
+fn put_load(out: &mut Vec<u8>, register: u64, array: Array, place: &Expr) -> Result<(), AllocError>
+    ensures { OnOk result (out.new.items ≡ out.old.items ++ op_text (Load register array (plain_expr place.now))) }
+{
+    put(out, b"ld r", register)?;
+    out.extend_from_slice(b" ")?;
+    put_place(out, array, place)
+}
+
+fn put_store(out: &mut Vec<u8>, array: Array, place: &Expr, register: u64) -> Result<(), AllocError>
+    ensures { OnOk result (out.new.items ≡ out.old.items ++ op_text (Store array (plain_expr place.now) register)) }
+{
+    out.extend_from_slice(b"st ")?;
+    put_place(out, array, place)?;
+    put(out, b" r", register)
+}
+
+// A product by the same factor on all lanes.
+fn put_const_product(
+    out: &mut Vec<u8>,
+    register: u64,
+    source: u64,
+    factor: u64,
+) -> Result<(), AllocError>
+    ensures { OnOk result (out.new.items ≡ out.old.items ++ op_text (MulConst register source factor)) }
+{
+    put(out, b"mul r", register)?;
+    put(out, b" r", source)?;
+    put(out, b" ", factor)
+}
+
+// A product by entries of a table.
+fn put_table_product(
+    out: &mut Vec<u8>,
+    register: u64,
+    source: u64,
+    table: u64,
+    place: &Expr,
+    step: u64,
+) -> Result<(), AllocError>
+    ensures { OnOk result (out.new.items ≡ out.old.items ++ op_text (MulTable register source table (plain_expr place.now) step)) }
+{
+    put(out, b"mul r", register)?;
+    put(out, b" r", source)?;
+    put(out, b" t", table)?;
+    out.extend_from_slice(b"[")?;
+    put_expr(out, place)?;
+    put(out, b"] step ", step)
+}
+
 fn put_op(out: &mut Vec<u8>, op: &Op) -> Result<(), AllocError>
     ensures { OnOk result (out.new.items ≡ out.old.items ++ op_text (plain_op op.now)) }
 {
@@ -103,70 +175,37 @@ fn put_op(out: &mut Vec<u8>, op: &Op) -> Result<(), AllocError>
             register,
             array,
             place,
-        } => {
-            put(out, b"ld r", *register)?;
-            out.extend_from_slice(b" ")?;
-            put_place(out, *array, place)
-        }
+        } => put_load(out, *register, *array, place),
         Op::Store {
             array,
             place,
             register,
-        } => {
-            out.extend_from_slice(b"st ")?;
-            put_place(out, *array, place)?;
-            put(out, b" r", *register)
-        }
+        } => put_store(out, *array, place, *register),
         Op::Zero { register } => put(out, b"zero r", *register),
         Op::Add {
             register,
             left,
             right,
-        } => {
-            put(out, b"add r", *register)?;
-            put(out, b" r", *left)?;
-            put(out, b" r", *right)
-        }
+        } => put_binary(out, b"add r", *register, *left, *right),
         Op::Sub {
             register,
             left,
             right,
-        } => {
-            put(out, b"sub r", *register)?;
-            put(out, b" r", *left)?;
-            put(out, b" r", *right)
-        }
-        Op::Neg { register, source } => {
-            put(out, b"neg r", *register)?;
-            put(out, b" r", *source)
-        }
+        } => put_binary(out, b"sub r", *register, *left, *right),
+        Op::Neg { register, source } => put_unary(out, b"neg r", *register, *source),
         Op::MulConst {
             register,
             source,
             factor,
-        } => {
-            put(out, b"mul r", *register)?;
-            put(out, b" r", *source)?;
-            put(out, b" ", *factor)
-        }
+        } => put_const_product(out, *register, *source, *factor),
         Op::MulTable {
             register,
             source,
             table,
             place,
             step,
-        } => {
-            put(out, b"mul r", *register)?;
-            put(out, b" r", *source)?;
-            put(out, b" t", *table)?;
-            out.extend_from_slice(b"[")?;
-            put_expr(out, place)?;
-            put(out, b"] step ", *step)
-        }
-        Op::Tile { register, source } => {
-            put(out, b"tile r", *register)?;
-            put(out, b" r", *source)
-        }
+        } => put_table_product(out, *register, *source, *table, place, *step),
+        Op::Tile { register, source } => put_unary(out, b"tile r", *register, *source),
     }
 }
 

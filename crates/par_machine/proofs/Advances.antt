@@ -1,6 +1,6 @@
 -- Several actions of one processor, and the turns that finish its list of the phase.
-use Rattle.std.proofs.Common.{◌≡◌, ◌≢◌, ℕ, zero, suc, ◌+◌, ◌-◌, ◌*◌, ◌<◌, ◌≤◌, List, [], ◌∷◌, ◌++◌, Bool, true, cond, length, replicate, get_or, Some, refl, sym, ap, ap₂, ◌∙◌, subst, arith, length-set, get_or-set_same, get_or-set_other, set-set, add-one, length-append}
-use Rattle.std.specs.Prelude.{slice_get, slice_index, slice_index_or, slice_set}
+use Rattle.std.proofs.Common.{◌≡◌, ◌≢◌, ℕ, zero, suc, ◌+◌, ◌-◌, ◌<◌, ◌≤◌, List, [], ◌∷◌, ◌++◌, true, cond, length, replicate, get_or, Some, refl, sym, ap, ap₂, ◌∙◌, subst, arith, length-set, get_or-set_same, get_or-set_other, set-set, add-one, length-append}
+use Rattle.std.specs.Prelude.{slice_index, slice_index_or, slice_set}
 use Rattle.std.proofs.lemmas.List.{length-replicate}
 use Rattle.std.proofs.lemmas.Option.{slice_get-get_or}
 use Rattle.icode.specs.declared.action.Action.{Action}
@@ -15,7 +15,7 @@ use Rattle.par_machine.specs.Played.{Playing, played, played_one}
 use Rattle.par_machine.specs.Position.{Position, next_position, first_position}
 use Rattle.par_machine.specs.Unfinished.{IsUnfinished, left_of}
 use Rattle.par_machine.specs.Frame.{Frame, Stand, code_of_frame, IsReady, IsRunning}
-use Rattle.par_machine.proofs.Frames.{IsHere, hand_action, has_lengths, acts_places, places_at, length-positions}
+use Rattle.par_machine.proofs.Frames.{IsHere, hand_action, has_lengths}
 use Rattle.par_machine.proofs.Phases.{len_at, opens}
 use Rattle.par_machine.proofs.Steps.{IsHand, IsStepped, stepped_state, stepped_runs}
 

@@ -1,11 +1,11 @@
 -- What an action leaves is below the modulus.
-use Rattle.std.proofs.Common.{◌≡◌, ℕ, zero, suc, ◌+◌, ◌-◌, ◌*◌, ◌%◌, ◌<◌, ◌≤◌, List, [], ◌∷◌, ◌++◌, flat_map, map, replicate, length, All, refl, sym, ap, ◌∙◌, subst, arith, mod-lt, get_or}
+use Rattle.std.proofs.Common.{ℕ, zero, suc, ◌+◌, ◌-◌, ◌*◌, ◌<◌, List, [], ◌∷◌, ◌++◌, flat_map, map, replicate, All, arith, mod-lt}
 use Rattle.std.specs.Prelude.{slice_index, slice_set}
 use Rattle.std.specs.List.{range_with_len}
 use Rattle.ring_mod.specs.Residue.{sum_mod, difference_mod, negation_mod, product_mod}
 use Rattle.icode.specs.declared.action.Action.{Action}
 use Rattle.icode.specs.declared.action.Action.TheVariants.{Load, Store, Zero, Add, Sub, Neg, Mul, Tile}
-use Rattle.icode.specs.Machine.{Local, effect, value_put, register_put, register_of, memory_after, words_at, with_words, lane_by_lane, transposed}
+use Rattle.icode.specs.Machine.{Local, effect, value_put, register_put, register_of, memory_after, words_at, with_words, lane_by_lane}
 use Rattle.par_machine.proofs.Residues.{AreBelow, below-zeros, below-set}
 
 below-cons : (m v : ℕ) (vs : List ℕ) → v < m → AreBelow m vs → AreBelow m (v ∷ vs)

@@ -1,6 +1,5 @@
 -- Code that is appended statement by statement.
-use Rattle.std.proofs.Common.{◌≡◌, ℕ, zero, suc, ◌+◌, ◌-◌, ◌*◌, ◌<◌, ◌≤◌, List, [], ◌∷◌, ◌++◌, true, length, map, take, drop, flat_map, get_or, All, Vec, Global, refl, sym, ap, ap₂, ◌∙◌, subst, arith, ⊎_elim, length-append, append_assoc, add-one, ltb-true}
-use Rattle.std.specs.Prelude.{IsTrue}
+use Rattle.std.proofs.Common.{◌≡◌, ℕ, zero, suc, ◌+◌, ◌-◌, ◌*◌, ◌<◌, ◌≤◌, List, [], ◌∷◌, ◌++◌, true, length, take, flat_map, get_or, All, refl, sym, ap, ◌∙◌, subst, arith, ⊎_elim, length-append, append_assoc, ltb-true}
 use Rattle.std.specs.List.{range_with_len}
 use Rattle.std.proofs.lemmas.Bool.{cases_lt}
 use Rattle.std.proofs.lemmas.List.{take_more}

@@ -1,16 +1,15 @@
 -- What processors have executed so far.
-use Rattle.std.proofs.Common.{◌≡◌, ℕ, zero, suc, ◌+◌, ◌-◌, ◌*◌, ◌<◌, ◌≤◌, List, [], ◌∷◌, ◌++◌, Bool, true, false, cond, length, map, take, flat_map, Some, refl, sym, ap, ap₂, ◌∙◌, subst, arith, ⊎_elim, append_assoc, length-append, length-take-le, add_comm}
-use Rattle.std.specs.Prelude.{slice_get, slice_index, slice_set}
+use Rattle.std.proofs.Common.{◌≡◌, ℕ, zero, suc, ◌+◌, ◌-◌, ◌*◌, ◌<◌, ◌≤◌, List, [], ◌∷◌, ◌++◌, Bool, true, false, cond, length, take, flat_map, refl, sym, ap, ap₂, ◌∙◌, subst, arith, ⊎_elim, append_assoc, length-append, length-take-le}
+use Rattle.std.specs.Prelude.{slice_index}
 use Rattle.std.specs.List.{range_with_len}
-use Rattle.std.proofs.lemmas.Bool.{cases_eq, cases_Bool}
+use Rattle.std.proofs.lemmas.Bool.{cases_Bool}
 use Rattle.icode.specs.declared.action.Action.{Action}
 use Rattle.icode.specs.declared.action.Action.TheVariants.{Load, Store, Zero, Add, Sub, Neg, Mul, Tile}
 use Rattle.icode.specs.declared.action.Counts.{Counts}
-use Rattle.icode.specs.Machine.{Code, IsCode, State, acts, is_open, none_done, first_open, phases_after, moved_on, counted, no_counts, counts_of, executed}
+use Rattle.icode.specs.Machine.{Code, IsCode, State, acts, is_open, none_done, first_open, phases_after, moved_on, counted, counts_of, executed}
 use Rattle.par_machine.specs.Frame.{total}
-use Rattle.icode.proofs.End.{IsOver, none_done-zero}
+use Rattle.icode.proofs.End.{none_done-zero}
 use Rattle.icode.proofs.Runs.{closed_over, first_open-open, first_open-closed}
-use Rattle.icode.proofs.Words.{take-next}
 
 -- Counts of one more action
 

@@ -1,5 +1,5 @@
 -- What a machine's code has at a phase and a processor.
-use Rattle.std.proofs.Common.{◌≡◌, ℕ, zero, suc, ◌+◌, ◌*◌, ◌<◌, ◌≤◌, List, [], ◌∷◌, length, map, take, get_or, Option, Some, None, All, refl, sym, ap, ◌∙◌, subst, arith}
+use Rattle.std.proofs.Common.{◌≡◌, ℕ, zero, suc, ◌+◌, ◌*◌, ◌<◌, ◌≤◌, List, [], ◌∷◌, length, map, take, get_or, Option, Some, None, refl, sym, ap, ◌∙◌, subst, arith}
 use Rattle.std.specs.Prelude.{slice_get, slice_index, slice_index_or, option_map}
 use Rattle.std.specs.List.{range_with_len}
 use Rattle.std.proofs.lemmas.List.{get_or-map, length-map}
@@ -9,8 +9,8 @@ use Rattle.icode.specs.declared.action.Action.{Action}
 use Rattle.icode.specs.declared.program.Array.{Array}
 use Rattle.icode.specs.declared.program.Array.TheVariants.{X, Y, A, B}
 use Rattle.icode.specs.Plain.{PlainProgram, PlainOp, Load, Store, Zero, Add, Sub, Neg, MulConst, MulTable, Tile, plain_op}
-use Rattle.icode.specs.Actions.{Step, step_of, array_start, RegistersFit, FactorsFit, StepFits}
-use Rattle.icode.specs.Machine.{Code, IsCode, acts, next_action, whole_lines}
+use Rattle.icode.specs.Actions.{Step, step_of, array_start, RegistersFit, FactorsFit}
+use Rattle.icode.specs.Machine.{IsCode, acts, next_action, whole_lines}
 use Rattle.icode.proofs.Lists.{All-slice_get}
 use Rattle.par_machine.specs.declared.cursor.Instruction.{Instruction}
 use Rattle.par_machine.specs.declared.cursor.Instruction.TheVariants.{Act, Again}
@@ -19,7 +19,7 @@ use Rattle.par_machine.specs.Operation.{AddressFits}
 use Rattle.par_machine.specs.Position.{Position, next_position, positions, first_position}
 use Rattle.par_machine.specs.Hand.{step_with, step_at, action_of_step, HasPlace, Runs}
 use Rattle.par_machine.specs.Lengths.{HasLengths}
-use Rattle.par_machine.specs.Frame.{Frame, Stand, code_of_frame, places_of, places_in, lens_of, room_of, IsReady, IsRoutine, IsRunning}
+use Rattle.par_machine.specs.Frame.{Frame, Stand, code_of_frame, places_of, places_in, lens_of, IsReady, IsRoutine, IsRunning}
 
 -- Places
 

@@ -1,18 +1,16 @@
 -- A new machine.
-use Rattle.std.proofs.Common.{◌≡◌, ℕ, zero, suc, ◌+◌, ◌-◌, ◌*◌, ◌^◌, ◌<◌, ◌≤◌, List, [], ◌∷◌, ◌++◌, length, replicate, Vec, Global, refl, sym, ap, ap₂, ◌∙◌, subst, arith, zero-add, suc-add}
+use Rattle.std.proofs.Common.{◌≡◌, ℕ, zero, suc, ◌+◌, ◌-◌, ◌*◌, ◌<◌, ◌≤◌, List, [], ◌∷◌, ◌++◌, length, replicate, sym, ap, ap₂, ◌∙◌, subst, arith, zero-add, suc-add}
 use Rattle.std.specs.Prelude.{slice_index_or}
 use Rattle.icode.specs.declared.program.Program.{Program}
-use Rattle.icode.specs.declared.action.Counts.{Counts}
 use Rattle.icode.specs.Plain.{PlainProgram, plain_tables}
 use Rattle.icode.specs.Program.{plain_program, code_of, Fits}
-use Rattle.icode.specs.Machine.{Code, State, first_open, start, no_counts, whole_lines}
-use Rattle.par_machine.specs.declared.shape.Shape.{Shape}
+use Rattle.icode.specs.Machine.{Code, first_open, start, no_counts}
 use Rattle.par_machine.specs.declared.phase.Routine.{Routine}
 use Rattle.par_machine.specs.declared.machine.Machine.TheInside.{Inside}
 use Rattle.par_machine.specs.Header.{header_of}
 use Rattle.par_machine.specs.Lengths.{HasLengths}
-use Rattle.par_machine.specs.Position.{Position, first_position}
-use Rattle.par_machine.specs.Frame.{Frame, Stand, code_of_frame, room_of, lens_of, IsRoutine, IsReady, IsRunning}
+use Rattle.par_machine.specs.Position.{first_position}
+use Rattle.par_machine.specs.Frame.{Frame, code_of_frame, room_of, IsRoutine, IsReady}
 use Rattle.par_machine.specs.Translated.{AreTranslated}
 use Rattle.par_machine.specs.View.{frame_of, stand_of, running_of, IsWhole}
 use Rattle.par_machine.proofs.Frames.{has_lengths}

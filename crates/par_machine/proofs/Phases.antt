@@ -1,10 +1,9 @@
 -- Phases with actions and phases without.
-use Rattle.std.proofs.Common.{◌≡◌, ℕ, zero, suc, ◌+◌, ◌-◌, ◌<◌, ◌≤◌, List, [], length, map, get_or, true, false, refl, sym, ap, ◌∙◌, subst, arith}
+use Rattle.std.proofs.Common.{◌≡◌, ℕ, suc, ◌+◌, ◌-◌, ◌<◌, ◌≤◌, List, length, map, get_or, true, false, sym, ap, ◌∙◌, subst, arith}
 use Rattle.std.specs.Prelude.{slice_index}
 use Rattle.std.proofs.lemmas.Bool.{le-ltb}
 use Rattle.std.proofs.lemmas.List.{get_or-map}
-use Rattle.std.proofs.lemmas.Grind.{get_or_default_zero}
-use Rattle.icode.specs.Machine.{Code, acts, is_open, first_open, none_done}
+use Rattle.icode.specs.Machine.{Code, is_open, first_open, none_done}
 use Rattle.icode.proofs.End.{none_done-zero}
 use Rattle.icode.proofs.Runs.{open_at, not_open, first_open-open, first_open-closed}
 use Rattle.par_machine.specs.declared.phase.Routine.{Routine}

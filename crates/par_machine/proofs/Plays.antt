@@ -1,20 +1,16 @@
 -- Straight code does what its statements do.
-use Rattle.std.proofs.Common.{◌≡◌, ℕ, zero, suc, ◌+◌, ◌-◌, ◌*◌, ◌<◌, ◌≤◌, List, [], ◌∷◌, ◌++◌, Bool, true, false, cond, length, map, take, drop, flat_map, get_or, Option, Some, All, refl, sym, ap, ap₂, ◌∙◌, subst, arith, le_refl, ⊎_elim, length-append, append_assoc, length-set, get_or-set_same, get_or-set_other, add-one, ltb-true, lt-ltb, nat_lt, if◌then◌else◌}
+use Rattle.std.proofs.Common.{◌≡◌, ℕ, zero, suc, ◌+◌, ◌*◌, ◌<◌, ◌≤◌, List, [], ◌∷◌, ◌++◌, true, false, length, map, take, drop, flat_map, get_or, Option, Some, refl, sym, ap, ◌∙◌, subst, arith, le_refl, ⊎_elim, append_assoc, length-set, get_or-set_same, get_or-set_other, lt-ltb, nat_lt, if◌then◌else◌}
 use Rattle.std.specs.Prelude.{slice_get, slice_index, slice_set}
 use Rattle.std.specs.List.{range_with_len}
-use Rattle.std.proofs.lemmas.Bool.{cases_eq, cases_lt, le-ltb}
-use Rattle.std.proofs.lemmas.List.{take_more}
+use Rattle.std.proofs.lemmas.Bool.{cases_lt, le-ltb}
 use Rattle.std.proofs.lemmas.Grind.{take-set_at}
 use Rattle.std.proofs.lemmas.Option.{slice_get_read}
 use Rattle.icode.specs.declared.program.Op.{Op}
-use Rattle.icode.specs.Plain.{PlainProgram, PlainStmt, PlainBody, Loop, plain_op}
-use Rattle.icode.specs.Actions.{Step, Steps, step_of, steps_of_stmt, steps_of_body}
-use Rattle.icode.specs.Lengths.{len_of_stmt, len_of_body}
-use Rattle.icode.proofs.Words.{same_from_slice_get}
-use Rattle.icode.proofs.Lengths.{stmt_length}
+use Rattle.icode.specs.Plain.{PlainProgram, plain_op}
+use Rattle.icode.specs.Actions.{Step, Steps, step_of}
 use Rattle.par_machine.specs.declared.cursor.Instruction.{Instruction}
 use Rattle.par_machine.specs.declared.cursor.Instruction.TheVariants.{Act, Again}
-use Rattle.par_machine.specs.Position.{Position, resting, next_position, positions}
+use Rattle.par_machine.specs.Position.{Position, resting, positions}
 use Rattle.par_machine.specs.Hand.{step_with, step_at}
 use Rattle.par_machine.specs.Plays.{seen, Plays}
 use Rattle.par_machine.proofs.Cursors.{rests_at_act, rests_after}

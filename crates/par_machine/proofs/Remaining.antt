@@ -1,12 +1,11 @@
 -- How many turns finish a run.
-use Rattle.std.proofs.Common.{◌≡◌, ℕ, zero, suc, ◌+◌, ◌-◌, ◌*◌, ◌^◌, ◌<◌, ◌≤◌, List, [], ◌∷◌, length, drop, replicate, flat_map, refl, sym, ap, ◌∙◌, arith, add-one, le_refl}
+use Rattle.std.proofs.Common.{◌≡◌, ℕ, zero, suc, ◌+◌, ◌-◌, ◌*◌, ◌^◌, ◌<◌, ◌≤◌, List, [], ◌∷◌, length, drop, replicate, flat_map, refl, ap, ◌∙◌, arith, add-one, le_refl}
 use Rattle.std.specs.Prelude.{slice_index}
 use Rattle.std.specs.List.{range_with_len}
 use Rattle.std.proofs.lemmas.List.{length-append, length-replicate}
 use Rattle.std.proofs.Math.Nat.{mul-le-mul, mul-le-mul_left}
 use Rattle.icode.specs.Machine.{Code, State, acts, completion, none_done, phases_after, rest_of_phase, whole_phases}
 use Rattle.par_machine.specs.declared.machine.Machine.TheInside.{Inside}
-use Rattle.par_machine.specs.Lengths.{HasLengths}
 use Rattle.par_machine.specs.Frame.{lens_of, total}
 use Rattle.par_machine.specs.View.{frame_of, running_of, IsWhole}
 use Rattle.par_machine.proofs.Frames.{has_lengths}

@@ -1,7 +1,6 @@
 -- Numbers below a modulus.
-use Rattle.std.proofs.Common.{◌≡◌, ℕ, zero, suc, ◌+◌, ◌*◌, ◌%◌, ◌<◌, ◌≤◌, List, [], ◌∷◌, ⊎_elim, get_or, replicate, length, map, sym, ap, subst, arith, get_or-set_same, get_or-set_other, mod-lt}
-use Rattle.std.specs.Prelude.{slice_index, slice_set, All}
-use Rattle.std.proofs.lemmas.Bool.{cases_eq, cases_lt}
+use Rattle.std.proofs.Common.{ℕ, zero, suc, ◌<◌, List, [], ◌∷◌, replicate}
+use Rattle.std.specs.Prelude.{slice_index, slice_set}
 
 -- each word is, and so is what is read past the end
 abbrev pub AreBelow : ℕ → List ℕ → Type 0

@@ -1,5 +1,5 @@
 -- The turns of a schedule are those of processors that are there.
-use Rattle.std.proofs.Common.{◌≡◌, ℕ, zero, suc, ◌+◌, ◌/◌, ◌%◌, ◌^◌, ◌<◌, ◌≤◌, List, [], ◌∷◌, ◌++◌, Bool, true, false, cond, length, get_or, drop, Option, Some, None, refl, sym, ap, ◌∙◌, arith, ⊎_elim, mod-lt, add-one, drop-cons, nat_le}
+use Rattle.std.proofs.Common.{◌≡◌, ℕ, zero, suc, ◌+◌, ◌/◌, ◌^◌, ◌<◌, ◌≤◌, List, [], ◌∷◌, ◌++◌, Bool, true, false, cond, length, Some, None, refl, arith, mod-lt, nat_le}
 use Rattle.std.specs.Prelude.{slice_index}
 use Rattle.std.specs.List.{find}
 use Rattle.std.proofs.lemmas.Bool.{leb-false}

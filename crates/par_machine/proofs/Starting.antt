@@ -1,5 +1,5 @@
 -- What a processor needs to do several of the actions that it has left, and where it stands after them.
-use Rattle.std.proofs.Common.{◌≡◌, ℕ, zero, suc, ◌+◌, ◌-◌, ◌*◌, ◌<◌, ◌≤◌, ◌^◌, List, [], ◌∷◌, length, replicate, get_or, Option, Some, None, All, Vec, Global, if◌then◌else◌, refl, sym, ap, ap₂, ◌∙◌, subst, arith, length-set, mul-le-mul_left}
+use Rattle.std.proofs.Common.{◌≡◌, ℕ, zero, suc, ◌+◌, ◌-◌, ◌*◌, ◌<◌, ◌≤◌, ◌^◌, List, [], length, replicate, get_or, Some, All, Vec, Global, if◌then◌else◌, sym, ap, ap₂, ◌∙◌, subst, arith, length-set, mul-le-mul_left}
 use Rattle.std.specs.Prelude.{slice_get, slice_index, slice_index_or, slice_set}
 use Rattle.std.proofs.lemmas.Option.{get_or_from_slice_get}
 use Rattle.icode.specs.declared.action.Action.{Action}
@@ -14,7 +14,7 @@ use Rattle.par_machine.specs.Header.{header_of}
 use Rattle.par_machine.specs.Hand.{step_at, Runs}
 use Rattle.par_machine.specs.Played.{Playing, played}
 use Rattle.par_machine.specs.Position.{Position, next_position, positions, first_position}
-use Rattle.par_machine.specs.Frame.{Frame, Stand, code_of_frame, lens_of, total}
+use Rattle.par_machine.specs.Frame.{Frame, Stand, code_of_frame, lens_of}
 use Rattle.par_machine.specs.Unfinished.{IsUnfinished}
 use Rattle.par_machine.specs.View.{frame_of, stand_of, running_of, IsWhole}
 use Rattle.par_machine.proofs.Advances.{IsSet, IsAdvanced, unfinished_is}

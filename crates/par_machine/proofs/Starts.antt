@@ -1,12 +1,12 @@
 -- Where a machine stands before its first turn.
-use Rattle.std.proofs.Common.{◌≡◌, ℕ, zero, suc, ◌+◌, ◌-◌, ◌*◌, ◌/◌, ◌<◌, ◌≤◌, List, [], ◌∷◌, ◌++◌, true, length, map, replicate, Some, refl, sym, ap, ap₂, ◌∙◌, subst, arith, length-append, div-add-mod', mod-lt, ◌%◌}
+use Rattle.std.proofs.Common.{◌≡◌, ℕ, zero, suc, ◌+◌, ◌-◌, ◌*◌, ◌<◌, ◌≤◌, List, [], ◌++◌, length, replicate, Some, sym, ap, ap₂, ◌∙◌, subst, arith, length-append, div-add-mod', mod-lt}
 use Rattle.std.specs.Prelude.{slice_get, slice_index, slice_index_or}
 use Rattle.std.proofs.lemmas.List.{length-replicate, get_or-replicate}
 use Rattle.icode.specs.declared.action.Counts.{Counts}
-use Rattle.icode.specs.Machine.{Code, State, acts, is_open, first_open, none_done, start, counts_of, counts_so_far, no_counts, whole_lines}
+use Rattle.icode.specs.Machine.{Code, is_open, first_open, start, counts_of, counts_so_far, no_counts, whole_lines}
 use Rattle.icode.proofs.Completion.{first_opens}
 use Rattle.icode.proofs.End.{none_done-zero}
-use Rattle.par_machine.specs.Position.{Position, first_position}
+use Rattle.par_machine.specs.Position.{first_position}
 use Rattle.par_machine.specs.Frame.{Frame, Stand, code_of_frame, places_in, room_of, IsReady, IsRunning}
 use Rattle.par_machine.proofs.Residues.{AreBelow, below-zeros}
 use Rattle.par_machine.proofs.Below.{below-padded}

@@ -1,24 +1,24 @@
 -- What a step leaves.
-use Rattle.std.proofs.Common.{◌++◌, ◌^◌, take, flat_map, append_assoc, mul-le-mul_left, ◌≡◌, ◌≢◌, ℕ, zero, suc, ◌+◌, ◌-◌, ◌*◌, ◌<◌, ◌≤◌, List, [], ◌∷◌, Bool, true, false, cond, if◌then◌else◌, length, map, replicate, get_or, Option, Some, None, refl, sym, ap, ap₂, ◌∙◌, subst, arith, ⊎_elim, length-set, get_or-set_same, get_or-set_other, add-one}
+use Rattle.std.proofs.Common.{◌++◌, ◌^◌, take, flat_map, append_assoc, mul-le-mul_left, ◌≡◌, ◌≢◌, ℕ, zero, suc, ◌+◌, ◌-◌, ◌*◌, ◌<◌, ◌≤◌, List, [], ◌∷◌, Bool, true, false, cond, if◌then◌else◌, length, replicate, get_or, Some, refl, sym, ap, ap₂, ◌∙◌, subst, arith, ⊎_elim, length-set, get_or-set_same, get_or-set_other}
 use Rattle.std.specs.Prelude.{slice_get, slice_index, slice_index_or, slice_set}
 use Rattle.std.specs.List.{range_with_len}
 use Rattle.std.proofs.lemmas.Bool.{cases_eq}
 use Rattle.std.proofs.lemmas.List.{length-replicate}
-use Rattle.std.proofs.lemmas.Option.{slice_get_within, slice_get_past, slice_get_read, slice_get-get_or, get_or_from_slice_get}
+use Rattle.std.proofs.lemmas.Option.{slice_get_within, slice_get-get_or, get_or_from_slice_get}
 use Rattle.icode.specs.declared.action.Action.{Action}
-use Rattle.icode.specs.declared.action.Action.TheVariants.{Load, Store}
+use Rattle.icode.specs.declared.action.Action.TheVariants.{Store}
 use Rattle.icode.specs.declared.action.Counts.{Counts}
-use Rattle.icode.specs.Machine.{Code, State, Local, acts, next_action, acted, moved_on, turn, turn_with, is_open, first_open, phases_after, none_done, with_words, memory_after, register_of, effect, value_put, register_put, counted, counts_of, counts_so_far, executed, whole_lines}
+use Rattle.icode.specs.Machine.{Code, State, Local, acts, next_action, acted, moved_on, turn, turn_with, is_open, first_open, phases_after, none_done, with_words, memory_after, register_of, effect, value_put, register_put, counted, counts_of, counts_so_far, executed}
 use Rattle.icode.proofs.Completion.{first_opens}
 use Rattle.icode.proofs.End.{none_done-zero}
 use Rattle.icode.proofs.Words.{slice_get-set_other, take-next}
 use Rattle.par_machine.specs.declared.phase.Routine.{Routine}
 use Rattle.par_machine.specs.Position.{Position, next_position, first_position}
-use Rattle.par_machine.specs.Frame.{Frame, Stand, code_of_frame, places_of, places_in, lens_of, room_of, IsReady, IsRunning}
+use Rattle.par_machine.specs.Frame.{Frame, Stand, code_of_frame, places_in, lens_of, IsReady, IsRunning}
 use Rattle.par_machine.proofs.Residues.{AreBelow}
 use Rattle.par_machine.proofs.Below.{effect_memory_below, effect_registers_below}
 use Rattle.par_machine.proofs.Executed.{counts_more, counts_small, AreSmall, executed_moved, executed_length}
-use Rattle.par_machine.proofs.Frames.{length-positions, places_at, places_first, places_past, places_lens, place_after, is_code, count_lists, acts_places, IsHere, hand_place}
+use Rattle.par_machine.proofs.Frames.{length-positions, places_at, places_first, places_lens, place_after, is_code, count_lists, acts_places, IsHere, hand_place}
 
 pub state_same : (m m' : List ℕ) (r r' : List (List ℕ)) (p p' : ℕ) (d d' : List ℕ) → m ≡ m' → r ≡ r' → p ≡ p' → d ≡ d' → ◌≡◌ {A = State} (record { memory = m; registers = r; phase = p; done = d }) (record { memory = m'; registers = r'; phase = p'; done = d' })
 state_same m m' r r' p p' d d' em er ep ed =

@@ -1,27 +1,22 @@
 -- A new machine runs its program.
-use Rattle.std.proofs.Common.{◌≡◌, ℕ, zero, suc, ◌+◌, ◌-◌, ◌*◌, ◌^◌, ◌<◌, ◌≤◌, List, [], ◌∷◌, ◌++◌, length, map, take, replicate, get_or, Option, Some, None, All, Vec, Global, refl, sym, ap, ap₂, ◌∙◌, subst, arith, ⊎_elim, le_trans}
+use Rattle.std.proofs.Common.{◌≡◌, ℕ, zero, suc, ◌+◌, ◌^◌, ◌<◌, ◌≤◌, List, [], ◌∷◌, ◌++◌, length, map, take, replicate, get_or, Option, Some, None, All, Vec, Global, refl, sym, ap, ap₂, ◌∙◌, subst, arith, le_trans}
 use Rattle.std.specs.Prelude.{slice_get, slice_index, slice_index_or}
 use Rattle.std.specs.List.{range_with_len}
-use Rattle.std.proofs.lemmas.Bool.{cases_lt}
 use Rattle.std.proofs.lemmas.List.{take_more, length-map, get_or-map}
 use Rattle.operators.specs.Sum.{sum_below}
 use Rattle.operators.proofs.Sums.{sum_below-append}
 use Rattle.icode.specs.declared.action.Action.{Action}
 use Rattle.icode.specs.declared.program.Stmt.{Stmt}
-use Rattle.icode.specs.declared.program.Program.{Program}
-use Rattle.icode.specs.Plain.{PlainProgram, PlainOp, PlainBody, NoStmts, AndStmts, Load, Store, Zero, Add, Sub, Neg, MulConst, MulTable, Tile, plain_op, plain_body, plain_phases}
+use Rattle.icode.specs.Plain.{PlainProgram, PlainOp, PlainBody, NoStmts, Load, Store, Zero, Add, Sub, Neg, MulConst, MulTable, Tile, plain_op, plain_body, plain_phases}
 use Rattle.icode.specs.Actions.{Step, StepFits, step_of, steps_of_body, steps_of_phase, actions_of, plain_code, PlainFits}
 use Rattle.icode.specs.Lengths.{len_of_body}
-use Rattle.icode.specs.Machine.{Code}
-use Rattle.icode.specs.Program.{plain_program}
 use Rattle.icode.proofs.Lengths.{body_length}
 use Rattle.par_machine.specs.declared.cursor.Instruction.{Instruction}
 use Rattle.par_machine.specs.declared.cursor.Instruction.TheVariants.{Act, Again}
 use Rattle.par_machine.specs.declared.phase.Routine.{Routine}
-use Rattle.par_machine.specs.Instruction.{IsClosed, IsWithin}
-use Rattle.par_machine.specs.Position.{Position, resting, positions, first_position}
+use Rattle.par_machine.specs.Position.{Position, positions, first_position}
 use Rattle.par_machine.specs.Hand.{step_with, step_at, action_of_step, Runs}
-use Rattle.par_machine.specs.Frame.{Frame, code_of_frame, places_of, lens_of, total, IsRoutine}
+use Rattle.par_machine.specs.Frame.{code_of_frame, places_of, lens_of, total, IsRoutine}
 use Rattle.par_machine.specs.Plays.{seen, Plays, IsCompiled}
 use Rattle.par_machine.specs.Translated.{IsTranslated, AreTranslated}
 

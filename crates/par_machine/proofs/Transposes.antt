@@ -1,5 +1,5 @@
 -- Registers that are transposed one word after another.
-use Rattle.std.proofs.Common.{◌≡◌, ◌⊎◌, inl, inr, Option, None, length-append, ℕ, zero, suc, ◌+◌, ◌*◌, ◌<◌, ◌≤◌, List, [], ◌∷◌, ◌++◌, length, take, map, flat_map, get_or, Some, refl, sym, ap, ap₂, ◌∙◌, arith, ⊎_elim, length-take-le, mul-le-mul_left}
+use Rattle.std.proofs.Common.{◌≡◌, ◌⊎◌, inl, inr, Option, None, length-append, ℕ, zero, suc, ◌+◌, ◌*◌, ◌<◌, ◌≤◌, List, [], ◌∷◌, length, take, map, flat_map, get_or, Some, refl, sym, ap, ap₂, ◌∙◌, arith, ⊎_elim, length-take-le, mul-le-mul_left}
 use Rattle.std.specs.Prelude.{slice_get, slice_index, slice_set}
 use Rattle.std.specs.List.{range_with_len}
 use Rattle.std.proofs.lemmas.List.{take_more, length-map}

@@ -1,6 +1,6 @@
 -- What a machine's methods find.
-use Rattle.std.proofs.Common.{⊎_elim, zero, ap₂, length-set, replicate, if◌then◌else◌, ◌^◌, ◌≡◌, ◌≢◌, ℕ, suc, ◌+◌, ◌-◌, ◌<◌, ◌≤◌, List, [], ◌∷◌, length, get_or, All, Option, None, Some, true, false, refl, sym, ap, ◌∙◌, subst, arith, Vec, Global}
-use Rattle.std.specs.Prelude.{slice_get, slice_index, slice_index_or, slice_set, IfNone, IfSome}
+use Rattle.std.proofs.Common.{⊎_elim, zero, ap₂, length-set, replicate, if◌then◌else◌, ◌^◌, ◌≡◌, ℕ, suc, ◌+◌, ◌-◌, ◌<◌, ◌≤◌, List, [], ◌∷◌, length, get_or, All, Option, None, Some, refl, sym, ap, ◌∙◌, subst, arith}
+use Rattle.std.specs.Prelude.{slice_get, slice_index, slice_index_or, slice_set, IfNone}
 use Rattle.std.proofs.lemmas.Bool.{false≢true, cases_lt}
 use Rattle.std.proofs.lemmas.Grind.{get_or_default_zero}
 use Rattle.std.proofs.lemmas.Option.{slice_get_within, slice_get-get_or}
@@ -13,14 +13,11 @@ use Rattle.icode.proofs.Completion.{completion_past, completion_step}
 use Rattle.par_machine.specs.declared.machine.Machine.TheInside.{Inside}
 use Rattle.par_machine.specs.declared.phase.Routine.{Routine}
 use Rattle.par_machine.specs.Lengths.{HasLengths, IsFirstLeft}
-use Rattle.par_machine.specs.Instruction.{IsClosed, IsWithin}
-use Rattle.par_machine.specs.declared.cursor.Instruction.{Instruction}
-use Rattle.par_machine.specs.Header.{header_of}
+use Rattle.par_machine.specs.Instruction.{IsClosed}
 use Rattle.par_machine.specs.Operation.{AddressFits}
-use Rattle.par_machine.specs.Hand.{step_at, action_of_step, Runs}
+use Rattle.par_machine.specs.Hand.{step_at, action_of_step}
 use Rattle.par_machine.specs.Position.{Position, next_position, first_position}
-use Rattle.par_machine.specs.Running.{Running}
-use Rattle.par_machine.specs.Frame.{Frame, Stand, code_of_frame, places_in, lens_of, total, IsReady, IsRunning}
+use Rattle.par_machine.specs.Frame.{Frame, Stand, code_of_frame, lens_of, total, IsReady, IsRunning}
 use Rattle.par_machine.specs.View.{frame_of, stand_of, running_of, IsWhole}
 use Rattle.par_machine.proofs.Frames.{length-positions, places_at, places_past, acts_places, is_code, count_lists, has_lengths, IsHere, some_same, hand_runs, hand_action, has_place, runs_registers, runs_factors, runs_address, place_inside, routine_is}
 use Rattle.par_machine.proofs.Phases.{len_at, over_now}

@@ -1,11 +1,10 @@
 -- What a machine runs, and where it stands.
-use Rattle.std.specs.Prelude.{◌≡◌, ℕ, ◌+◌, ◌*◌, ◌<◌, ◌≤◌, ◌^◌, List, [], ◌∷◌, length, map, replicate, true, Some, All, slice_get, slice_index, slice_index_or}
+use Rattle.std.specs.Prelude.{◌≡◌, ℕ, ◌+◌, ◌*◌, ◌<◌, ◌≤◌, ◌^◌, List, [], ◌∷◌, length, map, true, Some, All, slice_get, slice_index, slice_index_or}
 use Rattle.std.specs.List.{range_with_len}
 use Rattle.icode.specs.declared.action.Counts.{Counts}
 use Rattle.icode.specs.Limits.{IsHeaderWithin}
 use Rattle.icode.specs.Machine.{Code, State, whole_lines, is_open, counts_so_far}
 use Rattle.icode.specs.Plain.{PlainProgram}
-use Rattle.par_machine.specs.declared.cursor.Instruction.{Instruction}
 use Rattle.par_machine.specs.declared.phase.Routine.{Routine}
 use Rattle.par_machine.specs.Instruction.{IsClosed, IsWithin}
 use Rattle.par_machine.specs.Position.{Position, positions, first_position}

@@ -2,6 +2,7 @@ pub mod Header
 pub mod Operation
 pub mod Position
 pub mod Instruction
+pub mod OnRegisters
 pub mod Hand
 pub mod Lengths
 pub mod Frame

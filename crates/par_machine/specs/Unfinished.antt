@@ -1,5 +1,5 @@
 -- The processor that finishes its list of the phase.
-use Rattle.std.specs.Prelude.{◌≡◌, ℕ, ◌-◌, ◌<◌, List, length, replicate, slice_index}
+use Rattle.std.specs.Prelude.{◌≡◌, ℕ, ◌-◌, ◌<◌, length, replicate, slice_index}
 use Rattle.icode.specs.Machine.{Code, State, acts, run, completion, finished}
 
 -- how many actions it has left

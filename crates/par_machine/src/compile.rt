@@ -5,6 +5,7 @@ ghost use Rattle.icode.specs.Plain.{plain_expr, plain_part, plain_op, plain_stmt
 ghost use Rattle.icode.specs.Limits.{is_op_within, is_stmt_within, is_body_within};
 ghost use Rattle.icode.specs.Actions.{steps_of_stmt, steps_of_body};
 ghost use Rattle.icode.specs.Lengths.{len_of_stmt, len_of_body};
+ghost use Rattle.par_machine.specs.OnRegisters.{HasNoPlace};
 ghost use Rattle.par_machine.specs.Plays.{IsCompiled};
 
 use crate::cursor::Instruction;
@@ -73,6 +74,46 @@ fn copy_part(alloc: Global, part: &Part) -> Result<Part, NoMemory>
     }
 }
 
+// An operation that names no place.
+fn copy_placeless(op: &Op) -> Op
+    requires { HasNoPlace (plain_op op.now) }
+    ensures { plain_op result ≡ plain_op op.now }
+{
+    match *op {
+        Op::Zero { register } => Op::Zero { register },
+        Op::Add {
+            register,
+            left,
+            right,
+        } => Op::Add {
+            register,
+            left,
+            right,
+        },
+        Op::Sub {
+            register,
+            left,
+            right,
+        } => Op::Sub {
+            register,
+            left,
+            right,
+        },
+        Op::Neg { register, source } => Op::Neg { register, source },
+        Op::MulConst {
+            register,
+            source,
+            factor,
+        } => Op::MulConst {
+            register,
+            source,
+            factor,
+        },
+        Op::Tile { register, source } => Op::Tile { register, source },
+        Op::Load { .. } | Op::Store { .. } | Op::MulTable { .. } => unreachable!(),
+    }
+}
+
 fn copy_op(alloc: Global, op: &Op) -> Result<Op, NoMemory>
     ensures { IfOk result (λ o. plain_op o ≡ plain_op op.now) }
 {
@@ -81,59 +122,19 @@ fn copy_op(alloc: Global, op: &Op) -> Result<Op, NoMemory>
             register,
             array,
             place,
-        } => {
-            let place = copy_expr(alloc, place)?;
-            Ok(Op::Load {
-                register: *register,
-                array: *array,
-                place,
-            })
-        }
+        } => Ok(Op::Load {
+            register: *register,
+            array: *array,
+            place: copy_expr(alloc, place)?,
+        }),
         Op::Store {
             array,
             place,
             register,
-        } => {
-            let place = copy_expr(alloc, place)?;
-            Ok(Op::Store {
-                array: *array,
-                place,
-                register: *register,
-            })
-        }
-        Op::Zero { register } => Ok(Op::Zero {
+        } => Ok(Op::Store {
+            array: *array,
+            place: copy_expr(alloc, place)?,
             register: *register,
-        }),
-        Op::Add {
-            register,
-            left,
-            right,
-        } => Ok(Op::Add {
-            register: *register,
-            left: *left,
-            right: *right,
-        }),
-        Op::Sub {
-            register,
-            left,
-            right,
-        } => Ok(Op::Sub {
-            register: *register,
-            left: *left,
-            right: *right,
-        }),
-        Op::Neg { register, source } => Ok(Op::Neg {
-            register: *register,
-            source: *source,
-        }),
-        Op::MulConst {
-            register,
-            source,
-            factor,
-        } => Ok(Op::MulConst {
-            register: *register,
-            source: *source,
-            factor: *factor,
         }),
         Op::MulTable {
             register,
@@ -141,20 +142,14 @@ fn copy_op(alloc: Global, op: &Op) -> Result<Op, NoMemory>
             table,
             place,
             step,
-        } => {
-            let place = copy_expr(alloc, place)?;
-            Ok(Op::MulTable {
-                register: *register,
-                source: *source,
-                table: *table,
-                place,
-                step: *step,
-            })
-        }
-        Op::Tile { register, source } => Ok(Op::Tile {
+        } => Ok(Op::MulTable {
             register: *register,
             source: *source,
+            table: *table,
+            place: copy_expr(alloc, place)?,
+            step: *step,
         }),
+        _ => Ok(copy_placeless(op)),
     }
 }
 

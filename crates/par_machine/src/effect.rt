@@ -1,8 +1,8 @@
 // What the operations do to registers and memory.
 
-ghost use Rattle.std.specs.Prelude.{◌≡◌, ℕ, ◌+◌, ◌-◌, ◌*◌, ◌<◌, ◌≤◌, ◌⊎◌, All, length, map, slice_index};
+ghost use Rattle.std.specs.Prelude.{◌≡◌, ℕ, ◌+◌, ◌-◌, ◌*◌, ◌<◌, ◌≤◌, ◌⊎◌, All, length, map, replicate, slice_index};
 ghost use Rattle.icode.specs.Actions.{lane_factors};
-ghost use Rattle.icode.specs.Machine.{lane_by_lane, transposed, with_words, words_at};
+ghost use Rattle.icode.specs.Machine.{lane_by_lane, register_of, transposed, with_words, words_at};
 ghost use Rattle.par_machine.specs.Operation.{operated};
 ghost use Rattle.ring_mod.specs.Residue.{negation_mod};
 ghost use Rattle.par_machine.specs.declared.arithmetic.Operation.TheVariants.{Product};
@@ -10,8 +10,8 @@ ghost use Rattle.par_machine.specs.declared.arithmetic.Operation.TheVariants.{Pr
 use crate::arithmetic::{Operation, combine, operate};
 use crate::hand::{same_factors, table_factors};
 use crate::lanes::{read_lanes, write_lanes};
+use crate::shape::Shape;
 use icode::action::MAX_LANES;
-use quick_mod::QuickModulus;
 
 /// Transposes as many registers as there are lanes.
 pub(crate) fn transpose(registers: &mut [u64], register: u64, source: u64, lanes: u64)
@@ -46,28 +46,41 @@ pub(crate) fn copy_lanes(from: &[u64], at: u64, to: &mut [u64], place: u64, lane
     write_lanes(to, place, &values, lanes);
 }
 
-/// The operation on two registers, whose words begin at these places.
+/// 0 on all lanes of a register.
+pub(crate) fn clear_register(shape: &Shape, registers: &mut [u64], register: u64)
+    requires named { register < shape.now.regs }
+    requires file { length registers.old ≡ shape.now.regs * shape.now.lanes }
+    ensures { registers.new ≡ with_words registers.old (register * shape.now.lanes) (replicate shape.now.lanes 0) }
+{
+    write_lanes(
+        registers,
+        register * shape.lanes,
+        &[0; MAX_LANES],
+        shape.lanes,
+    );
+}
+
+/// The operation on two registers.
 #[inline]
 pub(crate) fn combine_registers(
     operation: Operation,
-    modulus: &QuickModulus,
-    lanes: u64,
+    shape: &Shape,
     registers: &mut [u64],
-    place: u64,
+    register: u64,
     left: u64,
     right: u64,
 )
-    requires lanes { lanes ≤ 16 }
-    requires place { place + lanes ≤ length registers.old }
-    requires left { left + lanes ≤ length registers.old }
-    requires right { right + lanes ≤ length registers.old }
-    requires residues { (k : ℕ) → slice_index registers.old k < modulus.now }
-    ensures { registers.new ≡ with_words registers.old place (lane_by_lane (operated operation modulus.now) (words_at lanes registers.old left) (words_at lanes registers.old right)) }
+    requires named { (register < shape.now.regs) × (left < shape.now.regs) × (right < shape.now.regs) }
+    requires file { length registers.old ≡ shape.now.regs * shape.now.lanes }
+    requires residues { (k : ℕ) → slice_index registers.old k < shape.now.modulus }
+    ensures { registers.new ≡ with_words registers.old (register * shape.now.lanes) (lane_by_lane (operated operation shape.now.modulus) (register_of shape.now.lanes registers.old left) (register_of shape.now.lanes registers.old right)) }
 {
+    let lanes = shape.lanes;
+    let (to, left, right) = (register * lanes, left * lanes, right * lanes);
     if lanes == 1 {
-        registers[place as usize] = operate(
+        registers[to as usize] = operate(
             operation,
-            modulus,
+            &shape.modulus,
             registers[left as usize],
             registers[right as usize],
         );
@@ -75,103 +88,102 @@ pub(crate) fn combine_registers(
     }
     let x = read_lanes(registers, left, lanes);
     let y = read_lanes(registers, right, lanes);
-    let values = combine(operation, modulus, lanes, &x, &y);
-    write_lanes(registers, place, &values, lanes);
+    let values = combine(operation, &shape.modulus, lanes, &x, &y);
+    write_lanes(registers, to, &values, lanes);
 }
 
-/// Multiplies a register, whose words begin at `source`, by the factors of the lanes.
+/// Multiplies a register by the factors of the lanes.
 fn scale_register(
-    modulus: &QuickModulus,
-    lanes: u64,
+    shape: &Shape,
     registers: &mut [u64],
-    place: u64,
+    register: u64,
     source: u64,
     factors: &[u64; MAX_LANES],
 )
-    requires lanes { lanes ≤ 16 }
-    requires place { place + lanes ≤ length registers.old }
-    requires source { source + lanes ≤ length registers.old }
-    requires residues { (k : ℕ) → slice_index registers.old k < modulus.now }
-    requires factors { (k : ℕ) → slice_index factors.now k < modulus.now }
-    ensures { registers.new ≡ with_words registers.old place (lane_by_lane (operated Product modulus.now) (words_at lanes registers.old source) factors.now) }
+    requires named { (register < shape.now.regs) × (source < shape.now.regs) }
+    requires file { length registers.old ≡ shape.now.regs * shape.now.lanes }
+    requires residues { (k : ℕ) → slice_index registers.old k < shape.now.modulus }
+    requires factors { (k : ℕ) → slice_index factors.now k < shape.now.modulus }
+    ensures { registers.new ≡ with_words registers.old (register * shape.now.lanes) (lane_by_lane (operated Product shape.now.modulus) (register_of shape.now.lanes registers.old source) factors.now) }
 {
-    if lanes == 1 {
-        registers[place as usize] = modulus.mul(registers[source as usize], factors[0]);
-        return;
-    }
-    let x = read_lanes(registers, source, lanes);
-    let values = combine(Operation::Product, modulus, lanes, &x, factors);
-    write_lanes(registers, place, &values, lanes);
+    let lanes = shape.lanes;
+    let (to, from) = (register * lanes, source * lanes);
+    let x = read_lanes(registers, from, lanes);
+    let values = combine(Operation::Product, &shape.modulus, lanes, &x, factors);
+    write_lanes(registers, to, &values, lanes);
 }
 
-/// Multiplies a register, whose words begin at `source`, by the same factor on all lanes.
+/// Multiplies a register by the same factor on all lanes.
 #[inline]
 pub(crate) fn scale_by_constant(
-    modulus: &QuickModulus,
-    lanes: u64,
+    shape: &Shape,
     registers: &mut [u64],
-    place: u64,
+    register: u64,
     source: u64,
     factor: u64,
 )
-    requires lanes { (0 < lanes) × (lanes ≤ 16) }
-    requires place { place + lanes ≤ length registers.old }
-    requires source { source + lanes ≤ length registers.old }
-    requires residues { (k : ℕ) → slice_index registers.old k < modulus.now }
-    requires factors { All (λ c. c < modulus.now) (lane_factors lanes (λ _. factor)) }
-    ensures { registers.new ≡ with_words registers.old place (lane_by_lane (operated Product modulus.now) (words_at lanes registers.old source) (lane_factors lanes (λ _. factor))) }
+    requires named { (register < shape.now.regs) × (source < shape.now.regs) }
+    requires file { length registers.old ≡ shape.now.regs * shape.now.lanes }
+    requires residues { (k : ℕ) → slice_index registers.old k < shape.now.modulus }
+    requires factors { All (λ c. c < shape.now.modulus) (lane_factors shape.now.lanes (λ _. factor)) }
+    ensures { registers.new ≡ with_words registers.old (register * shape.now.lanes) (lane_by_lane (operated Product shape.now.modulus) (register_of shape.now.lanes registers.old source) (lane_factors shape.now.lanes (λ _. factor))) }
 {
+    let lanes = shape.lanes;
     if lanes == 1 {
-        registers[place as usize] = modulus.mul(registers[source as usize], factor);
+        let (to, from) = (register * lanes, source * lanes);
+        registers[to as usize] = shape.modulus.mul(registers[from as usize], factor);
         return;
     }
     let factors = same_factors(factor, lanes);
-    scale_register(modulus, lanes, registers, place, source, &factors);
+    scale_register(shape, registers, register, source, &factors);
 }
 
-/// Multiplies a register, whose words begin at `source`, by the entries of each lane, from `at` on.
+/// Multiplies a register by the entries of each lane, from `at` on.
 #[inline]
 pub(crate) fn scale_by_entries(
-    modulus: &QuickModulus,
-    lanes: u64,
+    shape: &Shape,
     registers: &mut [u64],
-    place: u64,
+    register: u64,
     source: u64,
     entries: &[u64],
     at: u64,
     step: u64,
 )
-    requires lanes { (0 < lanes) × (lanes ≤ 16) }
-    requires place { place + lanes ≤ length registers.old }
-    requires source { source + lanes ≤ length registers.old }
-    requires inside { at + step * (lanes - 1) < length entries.now }
-    requires residues { (k : ℕ) → slice_index registers.old k < modulus.now }
-    requires factors { All (λ c. c < modulus.now) (lane_factors lanes (λ lane. slice_index entries.now (at + step * lane))) }
-    ensures { registers.new ≡ with_words registers.old place (lane_by_lane (operated Product modulus.now) (words_at lanes registers.old source) (lane_factors lanes (λ lane. slice_index entries.now (at + step * lane)))) }
+    requires named { (register < shape.now.regs) × (source < shape.now.regs) }
+    requires file { length registers.old ≡ shape.now.regs * shape.now.lanes }
+    requires residues { (k : ℕ) → slice_index registers.old k < shape.now.modulus }
+    requires inside { at + step * (shape.now.lanes - 1) < length entries.now }
+    requires factors { All (λ c. c < shape.now.modulus) (lane_factors shape.now.lanes (λ lane. slice_index entries.now (at + step * lane))) }
+    ensures { registers.new ≡ with_words registers.old (register * shape.now.lanes) (lane_by_lane (operated Product shape.now.modulus) (register_of shape.now.lanes registers.old source) (lane_factors shape.now.lanes (λ lane. slice_index entries.now (at + step * lane)))) }
 {
+    let lanes = shape.lanes;
     if lanes == 1 {
-        registers[place as usize] = modulus.mul(registers[source as usize], entries[at as usize]);
+        let (to, from) = (register * lanes, source * lanes);
+        registers[to as usize] = shape
+            .modulus
+            .mul(registers[from as usize], entries[at as usize]);
         return;
     }
     let factors = table_factors(entries, lanes, at, step);
-    scale_register(modulus, lanes, registers, place, source, &factors);
+    scale_register(shape, registers, register, source, &factors);
 }
 
-/// The negative of a register, whose words begin at `source`.
-pub(crate) fn negate_register(
-    modulus: &QuickModulus,
-    lanes: u64,
-    registers: &mut [u64],
-    place: u64,
-    source: u64,
-)
-    requires lanes { lanes ≤ 16 }
-    requires place { place + lanes ≤ length registers.old }
-    requires source { source + lanes ≤ length registers.old }
-    requires residues { (k : ℕ) → slice_index registers.old k < modulus.now }
-    ensures { registers.new ≡ with_words registers.old place (map (negation_mod modulus.now) (words_at lanes registers.old source)) }
+/// The negative of a register.
+pub(crate) fn negate_register(shape: &Shape, registers: &mut [u64], register: u64, source: u64)
+    requires named { (register < shape.now.regs) × (source < shape.now.regs) }
+    requires file { length registers.old ≡ shape.now.regs * shape.now.lanes }
+    requires residues { (k : ℕ) → slice_index registers.old k < shape.now.modulus }
+    ensures { registers.new ≡ with_words registers.old (register * shape.now.lanes) (map (negation_mod shape.now.modulus) (register_of shape.now.lanes registers.old source)) }
 {
-    let x = read_lanes(registers, source, lanes);
-    let values = combine(Operation::Difference, modulus, lanes, &[0; MAX_LANES], &x);
-    write_lanes(registers, place, &values, lanes);
+    let lanes = shape.lanes;
+    let (to, from) = (register * lanes, source * lanes);
+    let x = read_lanes(registers, from, lanes);
+    let values = combine(
+        Operation::Difference,
+        &shape.modulus,
+        lanes,
+        &[0; MAX_LANES],
+        &x,
+    );
+    write_lanes(registers, to, &values, lanes);
 }

@@ -8,6 +8,7 @@ ghost use Rattle.icode.specs.Plain.{plain_op};
 ghost use Rattle.par_machine.specs.Hand.{step_at, action_of_step, HasPlace};
 ghost use Rattle.par_machine.specs.Instruction.{IsClosed, IsWithin};
 ghost use Rattle.par_machine.specs.Header.{header_of};
+ghost use Rattle.par_machine.specs.OnRegisters.{HasNoPlace, placeless_action};
 
 use crate::cursor::{Cursor, Instruction};
 use crate::shape::Shape;
@@ -54,6 +55,46 @@ pub(crate) fn same_factors(factor: u64, lanes: u64) -> [u64; MAX_LANES]
     factors
 }
 
+/// The action of an operation that names no place.
+fn placeless_action(shape: &Shape, op: &Op) -> Action
+    requires { HasNoPlace (plain_op op.now) }
+    ensures { result ≡ placeless_action shape.now (plain_op op.now) }
+{
+    match *op {
+        Op::Zero { register } => Action::Zero { register },
+        Op::Add {
+            register,
+            left,
+            right,
+        } => Action::Add {
+            register,
+            left,
+            right,
+        },
+        Op::Sub {
+            register,
+            left,
+            right,
+        } => Action::Sub {
+            register,
+            left,
+            right,
+        },
+        Op::Neg { register, source } => Action::Neg { register, source },
+        Op::MulConst {
+            register,
+            source,
+            factor,
+        } => Action::Mul {
+            register,
+            source,
+            factors: same_factors(factor, shape.lanes),
+        },
+        Op::Tile { register, source } => Action::Tile { register, source },
+        Op::Load { .. } | Op::Store { .. } | Op::MulTable { .. } => unreachable!(),
+    }
+}
+
 /// The action of an operation, where these are the values of the open loops on this processor.
 pub(crate) fn action_of(
     shape: &Shape,
@@ -84,60 +125,22 @@ pub(crate) fn action_of(
             address: address(shape.room, *array, place.value(values, proc)),
             register: *register,
         },
-        Op::Zero { register } => Action::Zero {
-            register: *register,
-        },
-        Op::Add {
-            register,
-            left,
-            right,
-        } => Action::Add {
-            register: *register,
-            left: *left,
-            right: *right,
-        },
-        Op::Sub {
-            register,
-            left,
-            right,
-        } => Action::Sub {
-            register: *register,
-            left: *left,
-            right: *right,
-        },
-        Op::Neg { register, source } => Action::Neg {
-            register: *register,
-            source: *source,
-        },
-        Op::MulConst {
-            register,
-            source,
-            factor,
-        } => Action::Mul {
-            register: *register,
-            source: *source,
-            factors: same_factors(*factor, shape.lanes),
-        },
         Op::MulTable {
             register,
             source,
             table,
             place,
             step,
-        } => Action::Mul {
-            register: *register,
-            source: *source,
-            factors: table_factors(
-                &tables[*table as usize],
-                shape.lanes,
-                place.value(values, proc),
-                *step,
-            ),
-        },
-        Op::Tile { register, source } => Action::Tile {
-            register: *register,
-            source: *source,
-        },
+        } => {
+            let entries = &tables[*table as usize];
+            let at = place.value(values, proc);
+            Action::Mul {
+                register: *register,
+                source: *source,
+                factors: table_factors(entries, shape.lanes, at, *step),
+            }
+        }
+        _ => placeless_action(shape, op),
     }
 }
 

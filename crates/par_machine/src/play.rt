@@ -9,20 +9,21 @@ ghost use Rattle.icode.specs.Plain.{plain_op};
 ghost use Rattle.par_machine.specs.Hand.{step_at, action_of_step, Runs};
 ghost use Rattle.par_machine.specs.Header.{header_of};
 ghost use Rattle.par_machine.specs.Instruction.{IsClosed, IsWithin};
+ghost use Rattle.par_machine.specs.OnRegisters.{IsOnRegisters, operations_of};
 ghost use Rattle.par_machine.specs.Operation.{AddressFits};
 ghost use Rattle.par_machine.specs.Played.{played};
 ghost use Rattle.par_machine.specs.Position.{next_position, positions};
 
-use crate::arithmetic::Operation;
+use crate::arithmetic::Operation::{Difference, Sum};
 use crate::cursor::{Instruction, rest};
 use crate::effect::{
-    combine_registers, copy_lanes, negate_register, scale_by_constant, scale_by_entries, transpose,
+    clear_register, combine_registers, copy_lanes, negate_register, scale_by_constant,
+    scale_by_entries, transpose,
 };
 use crate::hand::address;
-use crate::lanes::write_lanes;
 use crate::place::place_value;
 use crate::shape::Shape;
-use icode::action::{Counts, MAX_LANES};
+use icode::action::Counts;
 use icode::program::Op;
 
 /// Does the operation on the memory and one processor's registers, where these are the values of the open loops.
@@ -53,6 +54,7 @@ pub(crate) fn perform(
     ensures counts { counts.new ≡ counted shape.now.lanes (step_of (header_of shape.now tables.now) (plain_op op.now) values.now proc).action counts.old }
 {
     let lanes = shape.lanes;
+    // Two tests tell loads and stores, and one jump the others: with more arms here it is two jumps.
     match op {
         Op::Load {
             register,
@@ -72,66 +74,51 @@ pub(crate) fn perform(
             copy_lanes(registers, *register * lanes, memory, at, lanes);
             counts.stores += lanes;
         }
-        Op::Zero { register } => write_lanes(registers, *register * lanes, &[0; MAX_LANES], lanes),
+        _ => {
+            perform_on_registers(shape, tables, op, values, proc, registers);
+            counts.operations += operations_of(op, lanes);
+        }
+    }
+}
+
+/// Does the operation, which loads and stores nothing, on one processor's registers.
+#[inline]
+fn perform_on_registers(
+    shape: &Shape,
+    tables: &[Vec<u64>],
+    op: &Op,
+    values: &[u64],
+    proc: u64,
+    registers: &mut [u64],
+)
+    requires on_registers { IsOnRegisters (plain_op op.now) }
+    requires within { IsTrue (is_op_within shape.now.modulus (plain_op op.now) (length values.now)) }
+    requires numbers { (step_of (header_of shape.now tables.now) (plain_op op.now) values.now proc).peak < 2 ^ 64 }
+    requires place { (step_of (header_of shape.now tables.now) (plain_op op.now) values.now proc).reach ≤ (step_of (header_of shape.now tables.now) (plain_op op.now) values.now proc).room }
+    requires named { RegistersFit shape.now.regs shape.now.lanes (step_of (header_of shape.now tables.now) (plain_op op.now) values.now proc).action }
+    requires factors { FactorsFit shape.now.modulus (step_of (header_of shape.now tables.now) (plain_op op.now) values.now proc).action }
+    requires file { length registers.old ≡ shape.now.regs * shape.now.lanes }
+    requires residues { (k : ℕ) → slice_index registers.old k < shape.now.modulus }
+    ensures { registers.new ≡ (effect shape.now.modulus shape.now.lanes (step_of (header_of shape.now tables.now) (plain_op op.now) values.now proc).action (record { memory = []; registers = registers.old })).registers }
+{
+    match op {
+        Op::Zero { register } => clear_register(shape, registers, *register),
         Op::Add {
             register,
             left,
             right,
-        } => {
-            let target = *register * lanes;
-            combine_registers(
-                Operation::Sum,
-                &shape.modulus,
-                lanes,
-                registers,
-                target,
-                *left * lanes,
-                *right * lanes,
-            );
-            counts.operations += lanes;
-        }
+        } => combine_registers(Sum, shape, registers, *register, *left, *right),
         Op::Sub {
             register,
             left,
             right,
-        } => {
-            let target = *register * lanes;
-            combine_registers(
-                Operation::Difference,
-                &shape.modulus,
-                lanes,
-                registers,
-                target,
-                *left * lanes,
-                *right * lanes,
-            );
-            counts.operations += lanes;
-        }
-        Op::Neg { register, source } => {
-            negate_register(
-                &shape.modulus,
-                lanes,
-                registers,
-                *register * lanes,
-                *source * lanes,
-            );
-            counts.operations += lanes;
-        }
+        } => combine_registers(Difference, shape, registers, *register, *left, *right),
+        Op::Neg { register, source } => negate_register(shape, registers, *register, *source),
         Op::MulConst {
             register,
             source,
             factor,
-        } => {
-            scale_by_constant(
-                &shape.modulus,
-                lanes,
-                registers,
-                *register * lanes,
-                *source * lanes,
-                *factor,
-            );
-            counts.operations += lanes;
-        }
+        } => scale_by_constant(shape, registers, *register, *source, *factor),
         Op::MulTable {
             register,
             source,
@@ -141,19 +128,21 @@ pub(crate) fn perform(
         } => {
             let entries = &tables[*table as usize];
             let at = place_value(place, values, proc);
-            scale_by_entries(
-                &shape.modulus,
-                lanes,
-                registers,
-                *register * lanes,
-                *source * lanes,
-                entries,
-                at,
-                *step,
-            );
-            counts.operations += lanes;
+            scale_by_entries(shape, registers, *register, *source, entries, at, *step);
         }
-        Op::Tile { register, source } => transpose(registers, *register, *source, lanes),
+        Op::Tile { register, source } => transpose(registers, *register, *source, shape.lanes),
+        Op::Load { .. } | Op::Store { .. } => unreachable!(),
+    }
+}
+
+/// How many operations on words it counts as.
+#[inline]
+fn operations_of(op: &Op, lanes: u64) -> u64
+    ensures { result ≡ operations_of lanes (plain_op op.now) }
+{
+    match op {
+        Op::Load { .. } | Op::Store { .. } | Op::Zero { .. } | Op::Tile { .. } => 0,
+        _ => lanes,
     }
 }
 

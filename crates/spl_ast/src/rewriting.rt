@@ -85,28 +85,6 @@ fn rewrite_parts<R: Rule>(alloc: Global, rule: &R, f: Spl) -> Result<Spl, NoMemo
                 node: Node::Todo(Box::new(alloc, a)?),
             })
         }
-        Node::I(n) => Ok(Spl { node: Node::I(n) }),
-        Node::Dft(n, w) => Ok(Spl {
-            node: Node::Dft(n, w),
-        }),
-        Node::Wht(n) => Ok(Spl { node: Node::Wht(n) }),
-        Node::Twiddle(n, s, w) => Ok(Spl {
-            node: Node::Twiddle(n, s, w),
-        }),
-        Node::Diag(values) => Ok(Spl {
-            node: Node::Diag(values),
-        }),
-        Node::L(n, r) => Ok(Spl {
-            node: Node::L(n, r),
-        }),
-        Node::Perm(places) => Ok(Spl {
-            node: Node::Perm(places),
-        }),
-        Node::GtIn(r, s) => Ok(Spl {
-            node: Node::GtIn(r, s),
-        }),
-        Node::GtOut(r, s) => Ok(Spl {
-            node: Node::GtOut(r, s),
-        }),
+        leaf => Ok(Spl { node: leaf }),
     }
 }

@@ -29,11 +29,7 @@ fn write_formula(out: &mut Vec<u8>, f: &Spl) -> Result<(), NoMemory>
         Node::I(n) => write_one(out, b"I(", *n),
         Node::Dft(n, w) => write_two(out, b"DFT(", *n, *w),
         Node::Wht(n) => write_one(out, b"WHT(", *n),
-        Node::Twiddle(n, s, w) => {
-            put(out, b"T(", *n)?;
-            put(out, b",", *s)?;
-            write_one(out, b",", *w)
-        }
+        Node::Twiddle(n, s, w) => write_three(out, b"T(", *n, *s, *w),
         Node::Diag(values) => write_values(out, b"DIAG(", values),
         Node::L(n, r) => write_two(out, b"L(", *n, *r),
         Node::Perm(places) => write_values(out, b"PERM(", places),
@@ -44,8 +40,7 @@ fn write_formula(out: &mut Vec<u8>, f: &Spl) -> Result<(), NoMemory>
             write_formula(out, a)?;
             out.extend_from_slice(b",")?;
             write_formula(out, b)?;
-            out.extend_from_slice(b")")?;
-            Ok(())
+            close(out)
         }
         Node::TensorLeft(a, k) => {
             out.extend_from_slice(b"LEFT(")?;
@@ -56,16 +51,14 @@ fn write_formula(out: &mut Vec<u8>, f: &Spl) -> Result<(), NoMemory>
             put(out, b"RIGHT(", *k)?;
             out.extend_from_slice(b",")?;
             write_formula(out, a)?;
-            out.extend_from_slice(b")")?;
-            Ok(())
+            close(out)
         }
         Node::DirectSum(a, b) => {
             out.extend_from_slice(b"SUM(")?;
             write_formula(out, a)?;
             out.extend_from_slice(b",")?;
             write_formula(out, b)?;
-            out.extend_from_slice(b")")?;
-            Ok(())
+            close(out)
         }
         Node::Todo(_) => unreachable!(),
     }
@@ -81,12 +74,18 @@ fn put(out: &mut Vec<u8>, word: &[u8], number: u64) -> Result<(), NoMemory>
     Ok(())
 }
 
+fn close(out: &mut Vec<u8>) -> Result<(), NoMemory>
+    ensures { OnOk result (out.new.items ≡ out.old.items ++ codes ")") }
+{
+    out.extend_from_slice(b")")?;
+    Ok(())
+}
+
 fn write_one(out: &mut Vec<u8>, head: &[u8], n: u64) -> Result<(), NoMemory>
     ensures { OnOk result (out.new.items ≡ out.old.items ++ size_text head.now n) }
 {
     put(out, head, n)?;
-    out.extend_from_slice(b")")?;
-    Ok(())
+    close(out)
 }
 
 fn write_two(out: &mut Vec<u8>, head: &[u8], n: u64, r: u64) -> Result<(), NoMemory>
@@ -96,20 +95,25 @@ fn write_two(out: &mut Vec<u8>, head: &[u8], n: u64, r: u64) -> Result<(), NoMem
     write_one(out, b",", r)
 }
 
+fn write_three(out: &mut Vec<u8>, head: &[u8], n: u64, s: u64, w: u64) -> Result<(), NoMemory>
+    ensures { OnOk result (out.new.items ≡ out.old.items ++ (head.now ++ (decimal n ++ (codes "," ++ (decimal s ++ (codes "," ++ (decimal w ++ codes ")"))))))) }
+{
+    put(out, head, n)?;
+    write_two(out, b",", s, w)
+}
+
 fn write_values(out: &mut Vec<u8>, head: &[u8], values: &[u64]) -> Result<(), NoMemory>
     ensures { OnOk result (out.new.items ≡ out.old.items ++ (head.now ++ (values_text values.now ++ codes ")"))) }
 {
     match values {
         [] => {
             out.extend_from_slice(head)?;
-            out.extend_from_slice(b")")?;
-            Ok(())
+            close(out)
         }
         [first, others @ ..] => {
             put(out, head, *first)?;
             write_more(out, others)?;
-            out.extend_from_slice(b")")?;
-            Ok(())
+            close(out)
         }
     }
 }

@@ -50,6 +50,38 @@ fn put_factors(line: &mut Line, factors: &[u64])
     }
 }
 
+/// Appends two numbers, each behind a word.
+fn put_two(line: &mut Line, word: &str, number: u64, then: &str, other: u64)
+    requires room { array_string_len line.old + length word.now + length then.now + 40 ≤ 512 }
+    ensures text { line.new.bytes ≡ line.old.bytes ++ word.now ++ decimal number ++ then.now ++ decimal other }
+    ensures len { array_string_len line.new ≤ array_string_len line.old + length word.now + length then.now + 40 }
+{
+    put(line, word, number);
+    put(line, then, other);
+}
+
+/// Appends an operation on two registers.
+fn put_binary(line: &mut Line, word: &str, register: u64, left: u64, right: u64)
+    requires room { array_string_len line.old + length word.now + 64 ≤ 512 }
+    ensures text { line.new.bytes ≡ line.old.bytes ++ word.now ++ decimal register ++ codes " r" ++ decimal left ++ codes " r" ++ decimal right }
+    ensures len { array_string_len line.new ≤ array_string_len line.old + length word.now + 64 }
+{
+    put(line, word, register);
+    put_two(line, " r", left, " r", right);
+}
+
+/// Appends a product by the factor of each lane.
+fn put_product(line: &mut Line, register: u64, source: u64, factors: &[u64])
+    requires factors { length factors.now ≤ 16 }
+    requires room { array_string_len line.old ≤ 42 }
+    ensures text { line.new.bytes ≡ line.old.bytes ++ codes "mul r" ++ decimal register ++ codes " r" ++ decimal source ++ codes " " ++ join_by decimal (codes ",") factors.now }
+    ensures len { array_string_len line.new ≤ 500 }
+{
+    put_two(line, "mul r", register, " r", source);
+    line.push_str(" ");
+    put_factors(line, factors);
+}
+
 /// Appends the text of an action on so many lanes.
 fn put_action(line: &mut Line, lanes: u64, action: &Action)
     requires lanes { lanes ≤ 16 }
@@ -58,51 +90,26 @@ fn put_action(line: &mut Line, lanes: u64, action: &Action)
     ensures len { array_string_len line.new ≤ 500 }
 {
     match action {
-        Action::Load { register, address } => {
-            put(line, "ld r", *register);
-            put(line, " ", *address);
-        }
-        Action::Store { address, register } => {
-            put(line, "st ", *address);
-            put(line, " r", *register);
-        }
+        Action::Load { register, address } => put_two(line, "ld r", *register, " ", *address),
+        Action::Store { address, register } => put_two(line, "st ", *address, " r", *register),
         Action::Zero { register } => put(line, "zero r", *register),
         Action::Add {
             register,
             left,
             right,
-        } => {
-            put(line, "add r", *register);
-            put(line, " r", *left);
-            put(line, " r", *right);
-        }
+        } => put_binary(line, "add r", *register, *left, *right),
         Action::Sub {
             register,
             left,
             right,
-        } => {
-            put(line, "sub r", *register);
-            put(line, " r", *left);
-            put(line, " r", *right);
-        }
-        Action::Neg { register, source } => {
-            put(line, "neg r", *register);
-            put(line, " r", *source);
-        }
+        } => put_binary(line, "sub r", *register, *left, *right),
+        Action::Neg { register, source } => put_two(line, "neg r", *register, " r", *source),
         Action::Mul {
             register,
             source,
             factors,
-        } => {
-            put(line, "mul r", *register);
-            put(line, " r", *source);
-            line.push_str(" ");
-            put_factors(line, &factors[..lanes as usize]);
-        }
-        Action::Tile { register, source } => {
-            put(line, "tile r", *register);
-            put(line, " r", *source);
-        }
+        } => put_product(line, *register, *source, &factors[..lanes as usize]),
+        Action::Tile { register, source } => put_two(line, "tile r", *register, " r", *source),
     }
 }
 

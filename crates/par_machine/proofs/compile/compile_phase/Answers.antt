@@ -1,4 +1,4 @@
-use Rattle.std.proofs.Common.{◌≡◌, ◌+◌, ◌≤◌, ap, arith, length, subst, take, ℕ, List, []}
+use Rattle.std.proofs.Common.{arith, subst, List, []}
 use Rattle.icode.specs.declared.program.Stmt.{Stmt}
 use Rattle.par_machine.proofs.Compiles.{DoesBody, compiled_more, item_within, take_whole}
 use Rattle.par_machine.proofs.compile.compile_phase.Goals as goal

@@ -1,5 +1,4 @@
-use Rattle.std.proofs.Common.{◌≡◌, ◌+◌, ◌<◌, ◌++◌, ◌∷◌, [], true, List, ℕ, ap, sym, ◌∙◌, arith, subst, length, take}
-use Rattle.std.proofs.lemmas.List.{length-map}
+use Rattle.std.proofs.Common.{◌≡◌, ◌<◌, ◌++◌, ◌∷◌, [], true, List, sym, ◌∙◌, arith, subst, length, take}
 use Rattle.icode.specs.declared.program.Stmt.{Stmt}
 use Rattle.icode.specs.Lengths.{len_of_body}
 use Rattle.icode.specs.Limits.{is_body_within}

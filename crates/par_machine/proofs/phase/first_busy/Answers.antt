@@ -1,4 +1,4 @@
-use Rattle.std.proofs.Common.{arith, ap, sym, ◌∙◌, ◌<◌}
+use Rattle.std.proofs.Common.{arith, ap, sym, ◌∙◌}
 use Rattle.par_machine.specs.declared.phase.Routine.{Routine}
 use Rattle.par_machine.proofs.Phases.{skips, stops}
 use Rattle.par_machine.proofs.phase.first_busy.Goals as goal

@@ -1,5 +1,5 @@
-use Rattle.std.proofs.Common.{arith, ◌≡◌, ◌+◌, ◌-◌, ℕ, cond, length, replicate, sym, ap, ◌∙◌}
-use Rattle.icode.specs.Machine.{is_open, first_open}
+use Rattle.std.proofs.Common.{arith, ◌+◌, ◌-◌, ℕ, cond, length, replicate, sym, ap, ◌∙◌}
+use Rattle.icode.specs.Machine.{first_open}
 use Rattle.par_machine.specs.Position.{first_position}
 use Rattle.par_machine.specs.declared.phase.Routine.{Routine}
 use Rattle.par_machine.proofs.Phases.{opens, len_at, open_now, over_now, found_of, none_of}

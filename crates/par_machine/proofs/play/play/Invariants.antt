@@ -1,4 +1,4 @@
-use Rattle.std.proofs.Common.{◌≡◌, ◌*◌, ◌≤◌, length}
+use Rattle.std.proofs.Common.{◌≡◌, ◌*◌}
 use Rattle.par_machine.specs.Header.{header_of}
 use Rattle.par_machine.specs.Played.{played}
 use Rattle.par_machine.proofs.Playings.{IsPlayable}

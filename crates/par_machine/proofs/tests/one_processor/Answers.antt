@@ -1,4 +1,4 @@
-use Rattle.std.proofs.Common.{◌≡◌, ap, sym}
+use Rattle.std.proofs.Common.{ap, sym}
 use Rattle.icode.specs.Machine.{Code}
 use Rattle.par_machine.proofs.tests.one_processor.Goals as goal
 

@@ -1,4 +1,4 @@
-use Rattle.std.proofs.Common.{◌≡◌, ◌<◌, ◌∷◌, [], All, ap, sym, subst, rules}
+use Rattle.std.proofs.Common.{◌<◌, ◌∷◌, [], All, ap, sym, subst, rules}
 use Rattle.icode.specs.Machine.{Code}
 use Rattle.par_machine.proofs.tests.two_processors.Goals as goal
 

@@ -1,4 +1,4 @@
-use Rattle.std.proofs.Common.{◌≡◌, ◌<◌, ◌∙◌, ap, ap₂, sym, subst, arith, length, get_or, List, ℕ, Vec, Global, Some, All}
+use Rattle.std.proofs.Common.{◌≡◌, ◌<◌, ◌∙◌, ap, ap₂, sym, subst, arith, length, List, ℕ, Vec, Global, Some, All}
 use Rattle.std.specs.Prelude.{slice_index}
 use Rattle.icode.specs.Machine.{acts, next_action}
 use Rattle.icode.specs.declared.action.Action.{Action}

@@ -1,8 +1,8 @@
-use Rattle.std.proofs.Common.{◌≡◌, ◌<◌, ◌≤◌, ◌+◌, ◌∙◌, ap, ap₂, sym, subst, refl, arith, length, length-set, replicate, List, [], ℕ}
-use Rattle.std.specs.Prelude.{slice_index, slice_index_or, slice_set}
+use Rattle.std.proofs.Common.{◌<◌, ◌≤◌, ◌+◌, ◌∙◌, ap, ap₂, sym, subst, refl, arith, length, length-set, replicate, List, ℕ}
+use Rattle.std.specs.Prelude.{slice_index, slice_set}
 use Rattle.std.specs.Vec.{with_item}
 use Rattle.std.proofs.lemmas.List.{with_items_is}
-use Rattle.icode.specs.Machine.{acts, run, State}
+use Rattle.icode.specs.Machine.{acts, run}
 use Rattle.par_machine.specs.Position.{Position}
 use Rattle.par_machine.specs.Frame.{Stand, IsRunning}
 use Rattle.par_machine.specs.Running.{Running}

@@ -1,8 +1,7 @@
-use Rattle.std.proofs.Common.{◌≡◌, ◌<◌, ◌-◌, ◌∙◌, ap, ap₂, sym, subst, arith, length, get_or}
+use Rattle.std.proofs.Common.{◌≡◌, ◌<◌, ◌-◌, ◌∙◌, ap, ap₂, sym, subst, arith, length}
 use Rattle.std.specs.Prelude.{slice_index}
 use Rattle.icode.specs.Machine.{acts}
 use Rattle.par_machine.specs.Running.{Running}
-use Rattle.par_machine.specs.View.{running_of}
 use Rattle.par_machine.proofs.Wholes.{done_is, done_within, len_is, len_past}
 use Rattle.par_machine.proofs.machine.Machine.left.Goals as goal
 

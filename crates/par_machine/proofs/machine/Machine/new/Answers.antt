@@ -1,7 +1,6 @@
-use Rattle.std.proofs.Common.{◌≡◌, ◌-◌, ◌<◌, List, ◌∙◌, ap, sym, subst, arith, length}
-use Rattle.icode.specs.declared.program.Stmt.{Stmt}
+use Rattle.std.proofs.Common.{◌-◌, List, ◌∙◌, ap, sym, subst, arith, length}
 use Rattle.icode.specs.Plain.{plain_tables}
-use Rattle.icode.specs.Machine.{Code, first_open}
+use Rattle.icode.specs.Machine.{first_open}
 use Rattle.par_machine.specs.declared.machine.Machine.TheInside.{Inside}
 use Rattle.par_machine.specs.declared.phase.Routine.{Routine}
 use Rattle.par_machine.specs.Lengths.{HasLengths}

@@ -1,13 +1,11 @@
-use Rattle.std.proofs.Common.{◌≡◌, ℕ, ◌+◌, ◌-◌, ◌*◌, ◌<◌, ◌≤◌, ◌++◌, ◌∙◌, List, ap, ap₂, sym, subst, arith, length, replicate, All}
-use Rattle.std.proofs.lemmas.List.{with_items_is, length-replicate}
-use Rattle.icode.specs.Machine.{first_open, start, no_counts, State}
-use Rattle.icode.specs.declared.action.Counts.{Counts}
-use Rattle.par_machine.specs.declared.phase.Routine.{Routine}
+use Rattle.std.proofs.Common.{◌≡◌, ℕ, ◌-◌, ◌*◌, ◌<◌, ◌++◌, ◌∙◌, List, ap, ap₂, sym, subst, arith, length, replicate, All}
+use Rattle.std.proofs.lemmas.List.{with_items_is}
+use Rattle.icode.specs.Machine.{first_open, start, no_counts}
 use Rattle.par_machine.specs.Lengths.{HasLengths}
 use Rattle.par_machine.specs.Position.{Position, first_position}
-use Rattle.par_machine.specs.Frame.{Stand, code_of_frame, room_of, IsRunning}
+use Rattle.par_machine.specs.Frame.{Stand, code_of_frame, IsRunning}
 use Rattle.par_machine.specs.Running.{Running}
-use Rattle.par_machine.specs.View.{running_of, frame_of}
+use Rattle.par_machine.specs.View.{frame_of}
 use Rattle.par_machine.proofs.Below.{below_from_all}
 use Rattle.par_machine.proofs.Frames.{has_lengths}
 use Rattle.par_machine.proofs.Starts.{IsFirst, first_state, first_runs}

@@ -1,11 +1,10 @@
-use Rattle.std.proofs.Common.{◌≡◌, ◌<◌, [], ◌∙◌, ap, sym, subst, arith, length, List, ℕ}
-use Rattle.std.specs.Prelude.{IfSome, IfNone}
+use Rattle.std.proofs.Common.{◌≡◌, ◌<◌, [], ap, subst, arith, length, List, ℕ}
+use Rattle.std.specs.Prelude.{IfSome}
 use Rattle.std.proofs.lemmas.Option.{IfSome_then}
 use Rattle.icode.specs.Machine.{completion}
 use Rattle.par_machine.specs.Lengths.{IsFirstLeft}
 use Rattle.par_machine.specs.Running.{Running}
 use Rattle.par_machine.specs.Unfinished.{IsUnfinished}
-use Rattle.par_machine.specs.View.{running_of}
 use Rattle.par_machine.proofs.Starting.{unfinished_at}
 use Rattle.par_machine.proofs.Wholes.{nothing_left, some_left, if_none}
 use Rattle.par_machine.proofs.machine.Machine.unfinished.Goals as goal

@@ -1,0 +1,30 @@
+-- Operations on registers.
+use Rattle.std.specs.Prelude.{ℕ, []}
+use Rattle.icode.specs.declared.action.Action.{Action}
+use Rattle.icode.specs.Actions.{step_of}
+use Rattle.icode.specs.Plain.{PlainOp, Load, Store, Zero, MulTable, Tile}
+use Rattle.par_machine.specs.declared.shape.Shape.{Shape}
+use Rattle.par_machine.specs.Header.{header_of}
+
+-- the operation loads and stores nothing
+abbrev pub IsOnRegisters : PlainOp → Type 0
+IsOnRegisters (Load register array place) = ⊥
+IsOnRegisters (Store array place register) = ⊥
+IsOnRegisters _ = Unit {0}
+
+-- how many operations on words it counts as
+abbrev pub operations_of : ℕ → PlainOp → ℕ
+operations_of lanes (Load register array place) = 0
+operations_of lanes (Store array place register) = 0
+operations_of lanes (Zero register) = 0
+operations_of lanes (Tile register source) = 0
+operations_of lanes _ = lanes
+
+-- the operation names no place of an array or of a table
+abbrev pub HasNoPlace : PlainOp → Type 0
+HasNoPlace (MulTable register source table place step) = ⊥
+HasNoPlace op = IsOnRegisters op
+
+-- the action of such an operation, to which tables, loops and processors do not matter
+abbrev pub placeless_action : Shape → PlainOp → Action
+placeless_action shape op = (step_of (header_of shape []) op [] 0).action
