@@ -3,7 +3,6 @@ use Rattle.std.proofs.Common.{◌≡◌, ℕ, ◌*◌, ◌/◌, ◌%◌, ◌<◌
 use Rattle.std.specs.Prelude.{Some}
 use Rattle.index_fn.specs.Mapping.{Mapping, Strided, ThomasIn, ThomasBack, at, IsDefinedAt}
 use Rattle.matrix_meaning.specs.declared.Request.{Request}
-use Rattle.matrix_meaning.specs.Valid.{IsValid}
 use Rattle.operators.proofs.Lists.{factor_positive}
 use Rattle.perm_algebra.specs.Affine.{Sum, value, IsSound, simplified}
 use Rattle.perm_algebra.specs.Fits.{InRange}
@@ -12,9 +11,10 @@ use Rattle.perm_algebra.proofs.Values.{simplifies}
 use Rattle.loop_merge.specs.Merge.{PlainDiagonal, PlainPass, new_pass, scattered, multiplied, at_last}
 use Rattle.loop_merge.specs.Placed.{diagonal_places}
 use Rattle.loop_merge.specs.Reach.{AreDefined, AreFormed}
-use Rattle.loop_merge.proofs.MergeMeaning.{IsRule, is_rule, coprime_of}
 use Rattle.loop_merge.proofs.PlaceLimits.{none_is_some, multiplied-is}
+use Rattle.loop_merge.proofs.PartRules.{IsSize, IsRuleIn, rule_in, coprime_in}
 use Rattle.loop_merge.proofs.TreePasses.{rule_waiting, rule_passes, tree_passes}
+use Rattle.sigma_lower.specs.Work.{transforming}
 use Rattle.sigma_lower.specs.Wrapped.{wrapped, inner_of, unit_of}
 pub use Rattle.sigma_lower.proofs.Closed.{IsClosed, closed-wrapped, thomas_in-closed, thomas_back-closed}
 use Rattle.sigma_lower.proofs.Lowering.{turns_below, unit_small}
@@ -36,7 +36,7 @@ closed-append n (e ∷ fs) f h g = (h.0, closed-append n fs f h.1 g)
 
 -- ---- under tensors
 
-inner-below : (path : Path) (n i : ℕ) → i < size_under path n → at (inner_of path n) i < n
+pub inner-below : (path : Path) (n i : ℕ) → i < size_under path n → at (inner_of path n) i < n
 inner-below [] n i below = below
 inner-below (Blocks c ∷ path) n i below =
     let positive : 0 < size_under path n = factor_positive c (size_under path n) i below in omega (arith, inner-below path n (i % size_under path n) (mod-lt i positive))
@@ -52,80 +52,88 @@ inner-defined (Columns c ∷ path) n high i below =
     let positive : 0 < c = factor_positive (size_under path n) c i below in
     (inner-defined path n high (i / c) ((div-lt_iff_lt-mul positive).1 below), tt, omega (arith, inner-below (Columns c ∷ path) n i below))
 
-closed-inner : (c : Request) (path : Path) (n : ℕ) → c.size ≤ 65536 → size_under path n ≡ c.size → n ≤ c.size → IsClosed c.size (inner_of path n)
-closed-inner c path n high e within =
+pub closed-inner : (size : ℕ) (path : Path) (n : ℕ) → size ≤ 65536 → size_under path n ≡ size → n ≤ size → IsClosed size (inner_of path n)
+closed-inner size path n high e within =
     subst (λ m. IsClosed m (inner_of path n)) e (record { defined = inner-defined path n (omega arith); below = λ i below. omega (arith, inner-below path n i below) })
+
+-- a function of n words under tensors that make so many
+pub closed-under : (c : Request) (size : ℕ) (path : Path) (n : ℕ) (f : Mapping) → size ≤ 65536 → size_under path n ≡ size → IsClosed n f → IsClosed size (wrapped path n f)
+closed-under c size path n f high e h = closed-wrapped (record c { size = size }) path n f high e h
+
+pub strided-closed : (r s : ℕ) → IsClosed (r * s) (Strided r s)
+strided-closed r s = record { defined = λ i below. below; below = turns_below r s }
 
 -- ---- the permutations of a rule
 
-waiting_closed : (c : Request) (rule : Rule) (path : Path) (r s : ℕ) (waiting : List Mapping) → c.size ≤ 65536 → IsRule c rule path r s → AreClosed c.size waiting → AreClosed c.size (rule_waiting rule path r s waiting)
-waiting_closed c Gt path r s waiting high h w = (closed-wrapped c path (r * s) (ThomasIn r s) high h.size (thomas_in-closed r s h.left h.right h.small), w)
-waiting_closed c Ct path r s waiting high h w = (closed-wrapped c path (r * s) (Strided r s) high h.size (record { defined = λ i below. below; below = turns_below r s }), w)
-waiting_closed c Split path r s waiting high h w = w
+waiting_closed : (c : Request) (size : ℕ) (rule : Rule) (path : Path) (r s : ℕ) (waiting : List Mapping) → IsRuleIn c.kind size rule path r s → AreClosed size waiting → AreClosed size (rule_waiting rule path r s waiting)
+waiting_closed c size Gt path r s waiting h w =
+    (closed-under c size path (r * s) (ThomasIn r s) h.whole.high h.fills (thomas_in-closed r s (omega (arith, h.left)) (omega (arith, h.right)) h.small), w)
+waiting_closed c size Ct path r s waiting h w = (closed-under c size path (r * s) (Strided r s) h.whole.high h.fills (strided-closed r s), w)
+waiting_closed c size Split path r s waiting h w = w
 
-back_closed : (c : Request) (path : Path) (r s : ℕ) → c.size ≤ 65536 → IsRule c Gt path r s → IsClosed c.size (wrapped path (r * s) (ThomasBack r s (unit_of r s) (unit_of s r)))
-back_closed c path r s high h =
-    let small = unit_small r s (coprime_of c path r s h) in
-    closed-wrapped c path (r * s) (ThomasBack r s (unit_of r s) (unit_of s r)) high h.size (thomas_back-closed r s (unit_of r s) (unit_of s r) h.left h.right h.small small.0 small.1)
+back_closed : (c : Request) (size : ℕ) (path : Path) (r s : ℕ) → IsRuleIn c.kind size Gt path r s → IsClosed size (wrapped path (r * s) (ThomasBack r s (unit_of r s) (unit_of s r)))
+back_closed c size path r s h =
+    let small = unit_small r s (coprime_in c.kind size path r s h) in
+    closed-under c size path (r * s) (ThomasBack r s (unit_of r s) (unit_of s r)) h.whole.high h.fills
+    (thomas_back-closed r s (unit_of r s) (unit_of s r) (omega (arith, h.left)) (omega (arith, h.right)) h.small small.0 small.1)
 
 -- ---- the passes of a tree
 
-pub record IsClosedPass (c : Request) (p : PlainPass) : Type 0 where
-  pub befores : AreClosed c.size p.befores
-  pub afters : AreClosed c.size p.afters
-  pub multiplies : (d : PlainDiagonal) → p.diagonal ≡ Some d → AreClosed c.size (diagonal_places d)
+pub record IsClosedPass (size : ℕ) (p : PlainPass) : Type 0 where
+  pub befores : AreClosed size p.befores
+  pub afters : AreClosed size p.afters
+  pub multiplies : (d : PlainDiagonal) → p.diagonal ≡ Some d → AreClosed size (diagonal_places d)
 
-abbrev pub AreClosedPasses : Request → List PlainPass → Type 0
-AreClosedPasses c [] = Unit {0}
-AreClosedPasses c (p ∷ ps) = IsClosedPass c p × AreClosedPasses c ps
+abbrev pub AreClosedPasses : ℕ → List PlainPass → Type 0
+AreClosedPasses size [] = Unit {0}
+AreClosedPasses size (p ∷ ps) = IsClosedPass size p × AreClosedPasses size ps
 
-passes-append : (c : Request) (ps qs : List PlainPass) → AreClosedPasses c ps → AreClosedPasses c qs → AreClosedPasses c (ps ++ qs)
-passes-append c [] qs h k = k
-passes-append c (p ∷ ps) qs h k = (h.0, passes-append c ps qs h.1 k)
+pub passes-append : (size : ℕ) (ps qs : List PlainPass) → AreClosedPasses size ps → AreClosedPasses size qs → AreClosedPasses size (ps ++ qs)
+passes-append size [] qs h k = k
+passes-append size (p ∷ ps) qs h k = (h.0, passes-append size ps qs h.1 k)
 
-passes-last : (c : Request) (f : PlainPass → PlainPass) (ps : List PlainPass) → ((p : PlainPass) → IsClosedPass c p → IsClosedPass c (f p)) → AreClosedPasses c ps → AreClosedPasses c (at_last f ps)
-passes-last c f [] step h = tt
-passes-last c f (p ∷ []) step h = (step p h.0, tt)
-passes-last c f (p ∷ q ∷ ps) step h = (h.0, passes-last c f (q ∷ ps) step h.1)
+pub passes-last : (size : ℕ) (f : PlainPass → PlainPass) (ps : List PlainPass) → ((p : PlainPass) → IsClosedPass size p → IsClosedPass size (f p)) → AreClosedPasses size ps → AreClosedPasses size (at_last f ps)
+passes-last size f [] step h = tt
+passes-last size f (p ∷ []) step h = (step p h.0, tt)
+passes-last size f (p ∷ q ∷ ps) step h = (h.0, passes-last size f (q ∷ ps) step h.1)
 
-scattered-closed : (c : Request) (f : Mapping) (p : PlainPass) → IsClosed c.size f → IsClosedPass c p → IsClosedPass c (scattered f p)
-scattered-closed c f p h k = record { befores = k.befores; afters = closed-append c.size p.afters f k.afters h; multiplies = k.multiplies }
+pub scattered-closed : (size : ℕ) (f : Mapping) (p : PlainPass) → IsClosed size f → IsClosedPass size p → IsClosedPass size (scattered f p)
+scattered-closed size f p h k = record { befores = k.befores; afters = closed-append size p.afters f k.afters h; multiplies = k.multiplies }
 
-multiplied-closed : (c : Request) (path : Path) (r s : ℕ) (p : PlainPass) → IsClosed c.size (inner_of path (r * s)) → IsClosedPass c p → IsClosedPass c (multiplied path r s p)
-multiplied-closed c path r s p h k =
+pub multiplied-closed : (size : ℕ) (path : Path) (r s : ℕ) (p : PlainPass) → IsClosed size (inner_of path (r * s)) → IsClosedPass size p → IsClosedPass size (multiplied path r s p)
+multiplied-closed size path r s p h k =
     record {
       befores = k.befores;
       afters = k.afters;
-      multiplies = λ d e. subst (λ (z : PlainDiagonal). AreClosed c.size (diagonal_places z)) (multiplied-is path r s p.afters d e) (closed-append c.size p.afters (inner_of path (r * s)) k.afters h);
+      multiplies = λ d e. subst (λ (z : PlainDiagonal). AreClosed size (diagonal_places z)) (multiplied-is path r s p.afters d e) (closed-append size p.afters (inner_of path (r * s)) k.afters h);
     }
 
-passes_rule : (c : Request) (rule : Rule) (path : Path) (r s : ℕ) (left right : List PlainPass) → c.size ≤ 65536 → IsRule c rule path r s → AreClosedPasses c left → AreClosedPasses c right →
-    AreClosedPasses c (rule_passes rule path r s left right)
-passes_rule c Gt path r s left right high h l k =
-    passes-append c right _ k (passes-last c _ left (λ p q. scattered-closed c (wrapped path (r * s) (ThomasBack r s (unit_of r s) (unit_of s r))) p (back_closed c path r s high h) q) l)
-passes_rule c Ct path r s left right high h l k =
-    passes-append c _ left (passes-last c (multiplied path r s) right (λ p q. multiplied-closed c path r s p (closed-inner c path (r * s) high h.size h.within) q) k) l
-passes_rule c Split path r s left right high h l k = passes-append c right left k l
+passes_rule : (c : Request) (size : ℕ) (rule : Rule) (path : Path) (r s : ℕ) (left right : List PlainPass) → IsRuleIn c.kind size rule path r s → AreClosedPasses size left → AreClosedPasses size right →
+    AreClosedPasses size (rule_passes rule path r s left right)
+passes_rule c size Gt path r s left right h l k =
+    passes-append size right _ k (passes-last size _ left (λ p q. scattered-closed size (wrapped path (r * s) (ThomasBack r s (unit_of r s) (unit_of s r))) p (back_closed c size path r s h) q) l)
+passes_rule c size Ct path r s left right h l k =
+    passes-append size _ left (passes-last size (multiplied path r s) right (λ p q. multiplied-closed size path r s p (closed-inner size path (r * s) h.whole.high h.fills h.within) q) k) l
+passes_rule c size Split path r s left right h l k = passes-append size right left k l
 
-passes_pick : (c : Request) (b : Bool) (ps qs : List PlainPass) → AreClosedPasses c ps → AreClosedPasses c qs → AreClosedPasses c (if b then ps else qs)
-passes_pick c true ps qs h k = h
-passes_pick c false ps qs h k = k
+passes_pick : (size : ℕ) (b : Bool) (ps qs : List PlainPass) → AreClosedPasses size ps → AreClosedPasses size qs → AreClosedPasses size (if b then ps else qs)
+passes_pick size true ps qs h k = h
+passes_pick size false ps qs h k = k
 
-new-closed : (c : Request) (path : Path) (waiting : List Mapping) (t : Breakdown) → AreClosed c.size waiting → IsClosedPass c (new_pass path t waiting)
-new-closed c path waiting t h = record { befores = h; afters = tt; multiplies = λ d e. absurd (none_is_some d e) }
+new-closed : (size : ℕ) (path : Path) (waiting : List Mapping) (t : Breakdown) → AreClosed size waiting → IsClosedPass size (new_pass path (transforming t) waiting)
+new-closed size path waiting t h = record { befores = h; afters = tt; multiplies = λ d e. absurd (none_is_some d e) }
 
-pub closed_passes : (c : Request) (path : Path) (waiting : List Mapping) (t : Breakdown) → IsValid c → IsWellFormed c.kind t → size_under path (size_of t) ≡ c.size → AreClosed c.size waiting →
-    AreClosedPasses c (tree_passes c path waiting t)
-closed_passes c path waiting (leaf d) valid h e w = (new-closed c path waiting (leaf d) w, tt)
-closed_passes c path waiting (node rule a b) valid h e w =
+pub closed_passes : (c : Request) (size : ℕ) (path : Path) (waiting : List Mapping) (t : Breakdown) → IsSize size → IsWellFormed c.kind t → size_under path (size_of t) ≡ size → AreClosed size waiting →
+    AreClosedPasses size (tree_passes c path waiting t)
+closed_passes c size path waiting (leaf d) whole h e w = (new-closed size path waiting (leaf d) w, tt)
+closed_passes c size path waiting (node rule a b) whole h e w =
     let r = size_of a in
     let s = size_of b in
-    let high : c.size ≤ 65536 = valid.in_range.size.1 in
-    let here : IsRule c rule path r s = is_rule c rule path a b valid h e in
-    passes_pick c (is_kernel c (r * s)) _ _ (new-closed c path waiting (node rule a b) w, tt)
-    (passes_rule c rule path r s _ _ high here
-    (closed_passes c (path ++ Columns s ∷ []) [] a valid h.1 (size_under-push path (Columns s) r ∙ e) tt)
-    (closed_passes c (path ++ Blocks r ∷ []) (rule_waiting rule path r s waiting) b valid h.2 (size_under-push path (Blocks r) s ∙ e) (waiting_closed c rule path r s waiting high here w)))
+    let here = rule_in c.kind size rule path a b whole h e in
+    passes_pick size (is_kernel c (r * s)) _ _ (new-closed size path waiting (node rule a b) w, tt)
+    (passes_rule c size rule path r s _ _ here
+    (closed_passes c size (path ++ Columns s ∷ []) [] a whole h.1 (size_under-push path (Columns s) r ∙ e) tt)
+    (closed_passes c size (path ++ Blocks r ∷ []) (rule_waiting rule path r s waiting) b whole h.2 (size_under-push path (Blocks r) s ∙ e) (waiting_closed c size rule path r s waiting here w)))
 
 -- ---- one function after the other, at a sum below n
 

@@ -1,6 +1,6 @@
 -- The sums of listed passes have the values of the places.
-use Rattle.std.proofs.Common.{◌≡◌, ℕ, zero, suc, ◌+◌, ◌-◌, ◌*◌, ◌<◌, ◌≤◌, true, false, arith, refl, sym, ap, ap₂, ◌∙◌, List, [], ◌∷◌, ◌++◌, length, if◌then◌else◌, subst, append-nil}
-use Rattle.std.specs.Prelude.{map, slice_index, slice_index_or, IsTrue}
+use Rattle.std.proofs.Common.{◌≡◌, ℕ, zero, suc, ◌+◌, ◌-◌, ◌*◌, ◌<◌, ◌≤◌, true, false, arith, refl, ap, ap₂, ◌∙◌, List, [], ◌∷◌, ◌++◌, length, if◌then◌else◌, subst, append-nil}
+use Rattle.std.specs.Prelude.{map, slice_index, slice_index_or}
 use Rattle.std.specs.List.{range_with_len}
 use Rattle.index_fn.specs.Mapping.{Mapping}
 use Rattle.matrix_meaning.specs.declared.Request.{Request}
@@ -8,19 +8,18 @@ use Rattle.matrix_meaning.specs.Valid.{IsValid}
 use Rattle.perm_algebra.specs.Affine.{Sum, constant, variable, value, top, IsSound, simplified, AreBelowCounts}
 use Rattle.perm_algebra.proofs.AffineLaws.{value-le-top}
 use Rattle.perm_algebra.proofs.Values.{simplifies}
-use Rattle.loop_merge.specs.Listed.{counts_of, items_of, places_of}
-use Rattle.loop_merge.specs.ListedLaw.{IsPlace, ListsPlaces, AllListPlaces, ListedPlaces}
+use Rattle.loop_merge.specs.Listed.{is_straight, vectors_of, item_of, counts_of, items_of, places_of}
+use Rattle.loop_merge.specs.ListedLaw.{IsPlace, ListsPlaces, AllListPlaces}
 use Rattle.loop_merge.specs.Merge.{PlainPass, through}
 use Rattle.loop_merge.specs.Placed.{place_sum, all_simplified, IsLimitedPass, AllLimited, diagonal_places, loop_values}
 use Rattle.loop_merge.specs.Reach.{AreFormed}
-use Rattle.loop_merge.proofs.PlaceLimits.{places_are_limited}
-use Rattle.loop_merge.proofs.PlaceValues.{IsFormedPass, AreFormedPasses, formed-append, formed_passes, value-at_place, sound-place_sum, through-end}
+use Rattle.loop_merge.proofs.PlaceValues.{IsFormedPass, AreFormedPasses, formed-append, value-at_place, sound-place_sum, through-end}
 use Rattle.loop_merge.proofs.Reaching.{IsItem, constant-item, ShapedPass, shaped_facts}
-use Rattle.loop_merge.proofs.Shaped.{IsShaped, AreShaped, shaped_passes}
-use Rattle.loop_merge.proofs.TreePasses.{tree_passes, merged_of-tree}
+use Rattle.loop_merge.proofs.Shaped.{not_both, IsShapedWork, IsShaped, AreShaped}
+use Rattle.sigma_lower.specs.Work.{PlainWork, transforming, tiling, work_size}
 use Rattle.tensor_paths.specs.Path.{Path, count_of, AreInRange, place}
-use Rattle.tree_model.specs.Breakdown.{size_of}
-use Rattle.tree_model.specs.Cost.{is_plain, is_kernel}
+use Rattle.tree_model.specs.Breakdown.{leaf}
+use Rattle.tree_model.specs.Cost.{is_plain}
 
 -- ---- the values of the variables
 
@@ -67,10 +66,10 @@ sound-all : (cs : ℕ → ℕ) (fs : List Mapping) (e : Sum) → AreFormed fs �
 sound-all cs [] e h sound = sound
 sound-all cs (f ∷ fs) e h sound = sound-all cs fs (simplified cs f e) h.1 (simplifies cs (λ _. 0) f e h.0.formed h.0.no_list sound (λ d. omega arith)).sound
 
-at-constants : (f : Sum → Sum) (a n k : ℕ) → k < n → slice_index_or (map f (map constant (range_with_len a n))) k (constant 0) ≡ f (constant (a + k))
-at-constants f a zero k h = absurd (omega arith)
-at-constants f a (suc n) zero h = ap (λ i. f (constant i)) (omega arith)
-at-constants f a (suc n) (suc k) h = at-constants f (a + 1) n k (omega arith) ∙ ap (λ i. f (constant i)) (omega arith)
+at-constants : (f : Sum → Sum) (g : ℕ → ℕ) (a n k : ℕ) → k < n → slice_index_or (map f (map (λ i. constant (g i)) (range_with_len a n))) k (constant 0) ≡ f (constant (g (a + k)))
+at-constants f g a zero k h = absurd (omega arith)
+at-constants f g a (suc n) zero h = ap (λ i. f (constant (g i))) (omega arith)
+at-constants f g a (suc n) (suc k) h = at-constants f g (a + 1) n k (omega arith) ∙ ap (λ i. f (constant (g i))) (omega arith)
 
 -- a sum of an item that fits
 pub record IsMade (counts : List ℕ) (fs : List Mapping) (path : Path) (n : ℕ) (e : Sum) (size : ℕ) : Type 0 where
@@ -92,71 +91,78 @@ made-place counts fs path n size e sums i us vs k made is range loops item =
       below = omega (arith, value-le-top whole (slice_index us) cs sound range, value_is, made.small);
     }
 
-module _ (c : Request) (fs : List Mapping) (path : Path) (n size d : ℕ) where
+module _ (c : Request) (fs : List Mapping) (path : Path) (w : PlainWork) (size d : ℕ) where
+  abbrev n : ℕ
+  n = work_size w
+
   abbrev pub counts : List ℕ
   counts = map count_of path ++ n ∷ n ∷ []
 
-  -- an item of a kernel
-  pub kernel-place : is_kernel c n ≡ true → (vs : List ℕ) (k : ℕ) → AreInRange path vs → k < n → IsMade counts fs path n (constant k) size → IsPlace (places_of counts fs path n (items_of c n d)) k vs (through fs (place path n vs k)) size
-  kernel-place e vs k range below made =
+  -- the item of a register of straight code
+  pub straight-place : is_straight c w ≡ true → (vs : List ℕ) (k : ℕ) → AreInRange path vs → k < vectors_of w → IsMade counts fs path n (constant (item_of w k 0)) size →
+      IsPlace (places_of counts fs path n (items_of c w d)) k vs (through fs (place path n vs (item_of w k 0))) size
+  straight-place e vs k range below made =
       let made_of : Sum → Sum = λ e. all_simplified (slice_index counts) fs (place_sum path n 0 e) in
-      subst (λ us. IsPlace (places_of counts fs path n (items_of c n d)) k us (through fs (place path n vs k)) size) (append-nil vs)
-      (made-place counts fs path n size (constant k) _ k (vs ++ []) vs k made
-      (ap (λ b. slice_index_or (map made_of (if b then map constant (range_with_len 0 n) else variable 1 d (constant 0) ∷ [])) k (constant 0)) e ∙ at-constants made_of 0 n k below ∙ ap (λ i. made_of (constant i)) (omega arith))
+      let item : ℕ → ℕ = λ i. item_of w i 0 in
+      subst (λ us. IsPlace (places_of counts fs path n (items_of c w d)) k us (through fs (place path n vs (item_of w k 0))) size) (append-nil vs)
+      (made-place counts fs path n size (constant (item_of w k 0)) _ k (vs ++ []) vs (item_of w k 0) made
+      (ap (λ b. slice_index_or (map made_of (if b then map (λ i. constant (item_of w i 0)) (range_with_len 0 (vectors_of w)) else variable 1 d (constant 0) ∷ [])) k (constant 0)) e
+      ∙ at-constants made_of item 0 (vectors_of w) k below ∙ ap (λ i. made_of (constant (item i))) (omega arith))
       (below_counts path n vs [] range (none_below n)) (values-are path 0 _ vs [] range (λ i. ap (slice_index (vs ++ [])) (omega arith))) refl)
 
   -- the item of a longer leaf
-  pub leaf-place : is_kernel c n ≡ false → (vs more : List ℕ) (k : ℕ) → AreInRange path vs → ((i : ℕ) → slice_index more i ≤ slice_index (n ∷ n ∷ []) i - 1) → slice_index (vs ++ more) d ≡ k → IsMade counts fs path n (variable 1 d (constant 0)) size →
-      IsPlace (places_of counts fs path n (items_of c n d)) 0 (vs ++ more) (through fs (place path n vs k)) size
+  pub leaf-place : is_straight c w ≡ false → (vs more : List ℕ) (k : ℕ) → AreInRange path vs → ((i : ℕ) → slice_index more i ≤ slice_index (n ∷ n ∷ []) i - 1) → slice_index (vs ++ more) d ≡ k → IsMade counts fs path n (variable 1 d (constant 0)) size →
+      IsPlace (places_of counts fs path n (items_of c w d)) 0 (vs ++ more) (through fs (place path n vs k)) size
   leaf-place e vs more k range below item made =
       let made_of : Sum → Sum = λ e. all_simplified (slice_index counts) fs (place_sum path n 0 e) in
       made-place counts fs path n size (variable 1 d (constant 0)) _ 0 (vs ++ more) vs k made
-      (ap (λ b. slice_index_or (map made_of (if b then map constant (range_with_len 0 n) else variable 1 d (constant 0) ∷ [])) 0 (constant 0)) e)
+      (ap (λ b. slice_index_or (map made_of (if b then map (λ i. constant (item_of w i 0)) (range_with_len 0 (vectors_of w)) else variable 1 d (constant 0) ∷ [])) 0 (constant 0)) e)
       (below_counts path n vs more range below) (values-are path 0 _ vs more range (λ i. ap (slice_index (vs ++ more)) (omega arith))) (omega (arith, item))
 
 -- ---- a pass
 
-lists_places : (c : Request) (p : PlainPass) → IsValid c → IsTrue (is_plain c) → IsShaped c p → IsFormedPass p → IsLimitedPass c p → ListsPlaces c p
-lists_places c p valid plain shape formed limited =
-    let n = size_of p.tree in
+-- only a leaf is not straight
+long-leaf : (c : Request) (w : PlainWork) → IsShapedWork c w → is_straight c w ≡ false → w ≡ transforming (leaf (work_size w))
+long-leaf c (transforming t) h e = ap transforming (h.1 e)
+long-leaf c (tiling v) h e = absurd (not_both true refl e)
+
+pub lists_places : (c : Request) (p : PlainPass) → IsValid c → (is_plain c ≡ false → 2 ≤ c.size) → IsShaped c c.size p → IsFormedPass p → IsLimitedPass c p → ListsPlaces c p
+lists_places c p valid shared shape formed limited =
+    let n = work_size p.work in
     let runs : List ℕ = counts_of p in
     let cs : ℕ → ℕ = slice_index runs in
     let depth = length p.path in
-    let facts : ShapedPass c p = shaped_facts c p valid plain shape in
+    let facts : ShapedPass c p = shaped_facts c p valid shared shape in
     record {
-      kernel = λ e vs k range below.
-          let item : IsItem runs n (constant k) = constant-item runs n k below in
-          let l = limited cs (constant k) facts.run item.fits in
+      straight = λ e vs k range below.
+          let item : IsItem runs p.work (constant (item_of p.work k 0)) = constant-item runs p.work k below in
+          let l = limited cs (constant (item_of p.work k 0)) facts.run item.fits item.name in
           record {
-            loads = kernel-place c p.befores p.path n c.size (depth + 1) e vs k range below (record { sound = tt; formed = formed.befores; small = l.gathers.fits.small });
-            stores = kernel-place c p.afters p.path n c.size depth e vs k range below (record { sound = tt; formed = formed.afters; small = l.scatters.fits.small });
+            loads = straight-place c p.befores p.path p.work c.size (depth + 1) e vs k range below (record { sound = tt; formed = formed.befores; small = l.gathers.fits.small });
+            stores = straight-place c p.afters p.path p.work c.size depth e vs k range below (record { sound = tt; formed = formed.afters; small = l.scatters.fits.small });
             multiplies = λ d is.
                 let f = formed.multiplies d is in
-                subst (λ w. IsPlace (places_of runs (diagonal_places d) p.path n (items_of c n depth)) k vs w (d.rows * d.cols)) (through-end d.places _ _)
-                (kernel-place c (diagonal_places d) p.path n (d.rows * d.cols) depth e vs k range below (record { sound = tt; formed = formed-append d.places _ f.0 f.1; small = (l.multiplies d is).fits.small }));
+                subst (λ w. IsPlace (places_of runs (diagonal_places d) p.path n (items_of c p.work depth)) k vs w (d.rows * d.cols)) (through-end d.places _ _)
+                (straight-place c (diagonal_places d) p.path p.work (d.rows * d.cols) depth e vs k range below (record { sound = tt; formed = formed-append d.places _ f.0 f.1; small = (l.multiplies d is).fits.small }));
           };
-      long = shape.long;
+      long = long-leaf c p.work shape.work;
       rows = λ e vs k l range row column.
           let by_rows = facts.row e in
           let by_columns = facts.column e in
-          let rows = limited cs (variable 1 depth (constant 0)) facts.run by_rows.fits in
-          let columns = limited cs (variable 1 (depth + 1) (constant 0)) facts.run by_columns.fits in
+          let rows = limited cs (variable 1 depth (constant 0)) facts.run by_rows.fits by_rows.name in
+          let columns = limited cs (variable 1 (depth + 1) (constant 0)) facts.run by_columns.fits by_columns.name in
           record {
-            loads = leaf-place c p.befores p.path n c.size (depth + 1) e vs (k ∷ l ∷ []) l range (two_below n k l row column) (ap (slice_index (vs ++ k ∷ l ∷ [])) (omega arith) ∙ at-second p.path vs k l range) (record { sound = tt; formed = formed.befores; small = columns.gathers.fits.small });
-            stores = leaf-place c p.afters p.path n c.size depth e vs (k ∷ []) k range (one_below n k row) (at-first p.path vs k [] range) (record { sound = tt; formed = formed.afters; small = rows.scatters.fits.small });
+            loads = leaf-place c p.befores p.path p.work c.size (depth + 1) e vs (k ∷ l ∷ []) l range (two_below n k l row column) (ap (slice_index (vs ++ k ∷ l ∷ [])) (omega arith) ∙ at-second p.path vs k l range)
+                (record { sound = tt; formed = formed.befores; small = columns.gathers.fits.small });
+            stores = leaf-place c p.afters p.path p.work c.size depth e vs (k ∷ []) k range (one_below n k row) (at-first p.path vs k [] range) (record { sound = tt; formed = formed.afters; small = rows.scatters.fits.small });
             multiplies = λ d is.
                 let f = formed.multiplies d is in
-                subst (λ w. IsPlace (places_of runs (diagonal_places d) p.path n (items_of c n depth)) 0 (vs ++ k ∷ []) w (d.rows * d.cols)) (through-end d.places _ _)
-                (leaf-place c (diagonal_places d) p.path n (d.rows * d.cols) depth e vs (k ∷ []) k range (one_below n k row) (at-first p.path vs k [] range) (record { sound = tt; formed = formed-append d.places _ f.0 f.1; small = (rows.multiplies d is).fits.small }));
+                subst (λ w. IsPlace (places_of runs (diagonal_places d) p.path n (items_of c p.work depth)) 0 (vs ++ k ∷ []) w (d.rows * d.cols)) (through-end d.places _ _)
+                (leaf-place c (diagonal_places d) p.path p.work (d.rows * d.cols) depth e vs (k ∷ []) k range (one_below n k row) (at-first p.path vs k [] range)
+                (record { sound = tt; formed = formed-append d.places _ f.0 f.1; small = (rows.multiplies d is).fits.small }));
           };
     }
 
-all_list : (c : Request) (ps : List PlainPass) → IsValid c → IsTrue (is_plain c) → AreShaped c ps → AreFormedPasses ps → AllLimited c ps → AllListPlaces c ps
-all_list c [] valid plain s f l = tt
-all_list c (p ∷ ps) valid plain s f l = (lists_places c p valid plain s.0 f.0 l.0, all_list c ps valid plain s.1 f.1 l.1)
-
-pub listed_places : ListedPlaces
-listed_places c t valid plain h =
-    let limits : AllLimited c (tree_passes c [] [] t) = subst (AllLimited c) (merged_of-tree c t) (places_are_limited c t valid h) in
-    subst (AllListPlaces c) (sym (merged_of-tree c t))
-    (all_list c (tree_passes c [] [] t) valid plain (shaped_passes c [] [] t tt h.well_formed h.size) (formed_passes c [] [] t valid h.well_formed h.size tt) limits)
+pub all_list : (c : Request) (ps : List PlainPass) → IsValid c → (is_plain c ≡ false → 2 ≤ c.size) → AreShaped c c.size ps → AreFormedPasses ps → AllLimited c ps → AllListPlaces c ps
+all_list c [] valid shared s f l = tt
+all_list c (p ∷ ps) valid shared s f l = (lists_places c p valid shared s.0 f.0 l.0, all_list c ps valid shared s.1 f.1 l.1)

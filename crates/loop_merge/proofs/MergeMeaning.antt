@@ -1,29 +1,16 @@
 -- The passes of a tree do what its terms do.
-use Rattle.std.proofs.Common.{◌≡◌, ℕ, ◌*◌, ◌<◌, ◌≤◌, Bool, true, false, List, [], ◌∷◌, ◌++◌, refl, sym, ap, ◌∙◌, arith, if◌then◌else◌, subst, mod-lt}
-use Rattle.std.specs.Prelude.{map}
-use Rattle.std.proofs.lemmas.Nat.{mul-lt}
-use Rattle.index_fn.specs.Mapping.{Mapping, Strided, ThomasIn, ThomasOut, ThomasBack, at}
+use Rattle.std.proofs.Common.{◌≡◌, ℕ, List, [], ◌∷◌, ◌++◌, refl, sym, ap, ◌∙◌, subst, ◌⊎◌, inl, inr}
+use Rattle.index_fn.specs.Mapping.{Mapping, at}
 use Rattle.matrix_meaning.specs.declared.Request.{Request}
-use Rattle.operators.specs.Loop.{IsPermutationBelow}
-use Rattle.matrix_meaning.specs.Valid.{IsValid}
-use Rattle.loop_merge.specs.Merge.{PlainPass, new_pass, scattered, multiplied, at_last, pass_on, passes_on, merged_of}
-use Rattle.loop_merge.specs.Laws.{MergeKeeps}
+use Rattle.loop_merge.specs.Merge.{PlainPass, Merging, new_pass, scattered, multiplied, at_last, pass_on, passes_on, merge_term, merged, passes_of_terms, in_order}
 use Rattle.loop_merge.proofs.PassLaws.{waiting_on, AllStay, IsPermutation, IsGoodPass, IsUnmultiplied, new_pass-on, scattered-on, scattered-good, multiplied-on, multiplied-good}
-use Rattle.loop_merge.proofs.TreePasses.{rule_waiting, rule_passes, tree_passes, merged_of-tree}
-use Rattle.sigma_lower.specs.Term.{diag, scat, lowered, lowered_of, term_on, terms_on}
-use Rattle.sigma_lower.specs.Wrapped.{wrapped, unit_of}
-use Rattle.sigma_lower.proofs.Lowering.{AreCoprime, part-le, coprime_sizes, turns_below, thomas_permutes, lowered_transforms}
-use Rattle.sigma_lower.proofs.Permuted.{StaysBelow, wrapped-below, wrapped-permutes}
-use Rattle.steps.specs.Meaning.{transform_of}
-use Rattle.steps.specs.Step.{PlainStep, step, piece, thomas_out, twiddles, rule_steps, steps_of}
-use Rattle.steps.proofs.StepMeanings.{steps_transform}
-use Rattle.tensor_paths.specs.declared.Tensor.TheVariants.{Blocks, Columns}
-use Rattle.tensor_paths.specs.Path.{Path, size_under, copies_of}
-use Rattle.tensor_paths.proofs.Under.{size_under-push, size_under-copies}
-use Rattle.tree_model.specs.declared.tree.Rule.{Rule}
-use Rattle.tree_model.specs.declared.tree.Rule.TheVariants.{Gt, Ct, Split}
-use Rattle.tree_model.specs.Breakdown.{Breakdown, leaf, node, size_of, IsWellFormed, AllowsRule}
-use Rattle.tree_model.specs.Cost.{is_kernel}
+use Rattle.loop_merge.proofs.TermOrder.{Ending, waits, settled, fresh, ending, CanFollow, Leads}
+use Rattle.sigma_lower.specs.Term.{PlainTerm, gath, scat, diag, nest, term_on, terms_on, phases_on}
+use Rattle.sigma_lower.specs.Work.{PlainWork, work_size}
+use Rattle.sigma_lower.proofs.Permuted.{StaysBelow}
+use Rattle.tensor_paths.specs.Path.{Path, size_under}
+use Rattle.std.specs.Prelude.{map}
+pub use Rattle.loop_merge.proofs.Rules.{IsRule, is_rule, coprime_of}
 
 -- ---- lists of passes
 
@@ -73,110 +60,121 @@ multiplied_end-on c path r s [] x h = absurd h
 multiplied_end-on c path r s (p ∷ []) x h = multiplied-on c path r s p x h.0 h.1
 multiplied_end-on c path r s (p ∷ q ∷ ps) x h = multiplied_end-on c path r s (q ∷ ps) (pass_on c p x) h.1
 
-terms_on-append : (c : Request) (ss ts : List PlainStep) (x : List ℕ) → terms_on c (map lowered (ss ++ ts)) x ≡ terms_on c (map lowered ts) (terms_on c (map lowered ss) x)
-terms_on-append c [] ts x = refl
-terms_on-append c (s ∷ ss) ts x = terms_on-append c ss ts (term_on c (lowered s) x)
+-- ---- what merging a term keeps
 
--- ---- passes that do what steps do, after these gathers
+-- a term of the request's size: a permutation, or copies of a matrix
+abbrev pub IsGoodTerm : Request → PlainTerm → Type 0
+IsGoodTerm c (gath f) = StaysBelow c.size (at f)
+IsGoodTerm c (scat f) = IsPermutation c.size f
+IsGoodTerm c (diag path r s) = Unit {0}
+IsGoodTerm c (nest path w) = size_under path (work_size w) ≡ c.size
 
-pub record DoSteps (c : Request) (waiting : List Mapping) (ss : List PlainStep) (ps : List PlainPass) : Type 0 where
-  pub good : IsGoodToEnd c ps
-  pub on : (x : List ℕ) → passes_on c ps x ≡ terms_on c (map lowered ss) (waiting_on c.size waiting x)
+abbrev pub AreGoodTerms : Request → List PlainTerm → Type 0
+AreGoodTerms c [] = Unit {0}
+AreGoodTerms c (t ∷ ts) = IsGoodTerm c t × AreGoodTerms c ts
 
--- a rule of a tree: the whole's size, and its parts'
-pub record IsRule (c : Request) (rule : Rule) (path : Path) (r s : ℕ) : Type 0 where
-  pub size : size_under path (r * s) ≡ c.size
-  pub left : 0 < r
-  pub right : 0 < s
-  pub allowed : AllowsRule c.kind rule r s
-  pub small : r * s ≤ 65536
-  pub within : r * s ≤ c.size
+-- what is merged so far: good passes, which end so
+abbrev pub Stands : Request → Ending → Merging → Type 0
+Stands c waits st = AllStay c.size st.waiting × AllGood c st.passes
+Stands c settled st = (st.waiting ≡ []) × AllGood c st.passes
+Stands c fresh st = (st.waiting ≡ []) × IsGoodToEnd c st.passes
 
-pub coprime_of : (c : Request) (path : Path) (r s : ℕ) → IsRule c Gt path r s → AreCoprime r s
-coprime_of c path r s h = record { left = h.left; right = h.right; gcd = coprime_sizes c.kind r s h.allowed; small = h.small }
+-- what the passes so far do, and the gathers that wait after them
+abbrev pub merging_on : Request → Merging → List ℕ → List ℕ
+merging_on c st x = waiting_on c.size st.waiting (passes_on c st.passes x)
 
-back_permutes : (c : Request) (path : Path) (r s : ℕ) → IsRule c Gt path r s → IsPermutation c.size (wrapped path (r * s) (ThomasBack r s (unit_of r s) (unit_of s r)))
-back_permutes c path r s h =
+pub record Merges (c : Request) (st next : Merging) (e : Ending) (ts : List PlainTerm) : Type 0 where
+  pub stands : Stands c e next
+  pub on : (x : List ℕ) → merging_on c next x ≡ terms_on c ts (merging_on c st x)
+
+no_more : (c : Request) (waiting : List Mapping) → waiting ≡ [] → AllStay c.size waiting
+no_more c waiting e = subst (AllStay c.size) (sym e) tt
+
+-- all that stands may be waited after
+loosely : (c : Request) (e : Ending) (st : Merging) → Stands c e st → Stands c waits st
+loosely c waits st h = h
+loosely c settled st h = (no_more c st.waiting h.0, h.1)
+loosely c fresh st h = (no_more c st.waiting h.0, all_from_end c st.passes h.1)
+
+-- with no gather that waits, the passes alone
+settled_on : (c : Request) (st : Merging) (x : List ℕ) → st.waiting ≡ [] → merging_on c st x ≡ passes_on c st.passes x
+settled_on c st x e = ap (λ fs. waiting_on c.size fs (passes_on c st.passes x)) e
+
+merges-gath : (c : Request) (f : Mapping) (st : Merging) → StaysBelow c.size (at f) → Stands c waits st → Merges c st (merge_term st (gath f)) waits (gath f ∷ [])
+merges-gath c f st good h = record { stands = ((good, h.0), h.1); on = λ x. refl }
+
+merges-nest : (c : Request) (path : Path) (w : PlainWork) (st : Merging) → size_under path (work_size w) ≡ c.size → Stands c waits st → Merges c st (merge_term st (nest path w)) fresh (nest path w ∷ [])
+merges-nest c path w st good h =
+    let pass = new_pass path w st.waiting in
     record {
-      undone_by = at (wrapped path (r * s) (ThomasOut r s));
-      permutes = subst (λ n. IsPermutationBelow n (at (wrapped path (r * s) (ThomasOut r s))) (at (wrapped path (r * s) (ThomasBack r s (unit_of r s) (unit_of s r))))) h.size
-          (wrapped-permutes path (r * s) (ThomasOut r s) (ThomasBack r s (unit_of r s) (unit_of s r)) (thomas_permutes r s (coprime_of c path r s h)));
+      stands = (refl, end-append c st.passes (pass ∷ []) h.1 (record { size = good; afters = tt }, refl));
+      on = λ x. passes_on-append c st.passes (pass ∷ []) x ∙ new_pass-on c path w st.waiting (passes_on c st.passes x) good h.0;
     }
 
-stay-wrapped : (c : Request) (path : Path) (n : ℕ) (f : Mapping) → size_under path n ≡ c.size → StaysBelow n (at f) → StaysBelow c.size (at (wrapped path n f))
-stay-wrapped c path n f e h = subst (λ m. StaysBelow m (at (wrapped path n f))) e (wrapped-below path n f h)
-
-pub stay_rule : (c : Request) (rule : Rule) (path : Path) (r s : ℕ) (waiting : List Mapping) → IsRule c rule path r s → AllStay c.size waiting → AllStay c.size (rule_waiting rule path r s waiting)
-stay_rule c Gt path r s waiting h stay =
-    let positive : 0 < r * s = mul-lt 0 0 r s h.left h.right in
-    (stay-wrapped c path (r * s) (ThomasIn r s) h.size (λ i below. mod-lt _ positive), stay)
-stay_rule c Ct path r s waiting h stay = (stay-wrapped c path (r * s) (Strided r s) h.size (turns_below r s), stay)
-stay_rule c Split path r s waiting h stay = stay
-
-do_rule : (c : Request) (rule : Rule) (path : Path) (r s : ℕ) (waiting : List Mapping) (left right : List PlainStep) (on_left on_right : List PlainPass) → IsRule c rule path r s →
-    DoSteps c [] left on_left → DoSteps c (rule_waiting rule path r s waiting) right on_right → DoSteps c waiting (rule_steps rule path r s left right) (rule_passes rule path r s on_left on_right)
-do_rule c Gt path r s waiting left right on_left on_right h l k =
-    let back = wrapped path (r * s) (ThomasBack r s (unit_of r s) (unit_of s r)) in
-    let perm : IsPermutation c.size back = back_permutes c path r s h in
+merges-scat : (c : Request) (f : Mapping) (st : Merging) → IsPermutation c.size f → Stands c fresh st → Merges c st (merge_term st (scat f)) fresh (scat f ∷ [])
+merges-scat c f st good h =
     record {
-      good = end-append c on_right _ (all_from_end c on_right k.good) (scattered_end c back on_left perm l.good);
-      on = λ x.
-          passes_on-append c on_right (at_last (scattered back) on_left) x
-          ∙ scattered_end-on c back on_left (passes_on c on_right x) perm l.good
-          ∙ ap (term_on c (scat back)) (l.on (passes_on c on_right x) ∙ ap (terms_on c (map lowered left)) (k.on x))
-          ∙ sym (terms_on-append c right (left ++ step path (thomas_out r s) ∷ []) _ ∙ terms_on-append c left (step path (thomas_out r s) ∷ []) _);
-    }
-do_rule c Ct path r s waiting left right on_left on_right h l k =
-    record {
-      good = end-append c (at_last (multiplied path r s) on_right) on_left (multiplied_end c path r s on_right k.good) l.good;
-      on = λ x.
-          passes_on-append c (at_last (multiplied path r s) on_right) on_left x
-          ∙ l.on (passes_on c (at_last (multiplied path r s) on_right) x)
-          ∙ ap (terms_on c (map lowered left)) (multiplied_end-on c path r s on_right x k.good ∙ ap (term_on c (diag path r s)) (k.on x))
-          ∙ sym (terms_on-append c right (step path (twiddles r s) ∷ left) _);
-    }
-do_rule c Split path r s waiting left right on_left on_right h l k =
-    record {
-      good = end-append c on_right on_left (all_from_end c on_right k.good) l.good;
-      on = λ x.
-          passes_on-append c on_right on_left x
-          ∙ l.on (passes_on c on_right x)
-          ∙ ap (terms_on c (map lowered left)) (k.on x)
-          ∙ sym (terms_on-append c right left _);
+      stands = (h.0, scattered_end c f st.passes good h.1);
+      on = λ x. settled_on c (merge_term st (scat f)) x h.0 ∙ scattered_end-on c f st.passes x good h.1 ∙ ap (term_on c (scat f)) (sym (settled_on c st x h.0));
     }
 
-do_piece : (c : Request) (path : Path) (waiting : List Mapping) (t : Breakdown) → size_under path (size_of t) ≡ c.size → AllStay c.size waiting → DoSteps c waiting (step path (piece t) ∷ []) (new_pass path t waiting ∷ [])
-do_piece c path waiting t e stay =
+merges-diag : (c : Request) (path : Path) (r s : ℕ) (st : Merging) → Stands c fresh st → Merges c st (merge_term st (diag path r s)) settled (diag path r s ∷ [])
+merges-diag c path r s st h =
     record {
-      good = (record { size = e; afters = tt }, refl);
-      on = λ x. new_pass-on c path t waiting x e stay;
+      stands = (h.0, multiplied_end c path r s st.passes h.1);
+      on = λ x. settled_on c (merge_term st (diag path r s)) x h.0 ∙ multiplied_end-on c path r s st.passes x h.1 ∙ ap (term_on c (diag path r s)) (sym (settled_on c st x h.0));
     }
 
-do_pick : (c : Request) (waiting : List Mapping) (b : Bool) (ss ts : List PlainStep) (ps qs : List PlainPass) → DoSteps c waiting ss ps → DoSteps c waiting ts qs → DoSteps c waiting (if b then ss else ts) (if b then ps else qs)
-do_pick c waiting true ss ts ps qs h k = h
-do_pick c waiting false ss ts ps qs h k = k
+merges-term : (c : Request) (e : Ending) (t : PlainTerm) (st : Merging) → CanFollow e t → IsGoodTerm c t → Stands c e st → Merges c st (merge_term st t) (ending t) (t ∷ [])
+merges-term c e (gath f) st follows good h = merges-gath c f st good (loosely c e st h)
+merges-term c e (scat f) st follows good h = merges-scat c f st good (subst (λ z. Stands c z st) follows h)
+merges-term c e (diag path r s) st follows good h = merges-diag c path r s st (subst (λ z. Stands c z st) follows h)
+merges-term c e (nest path w) st follows good h = merges-nest c path w st good (loosely c e st h)
 
-pub is_rule : (c : Request) (rule : Rule) (path : Path) (a b : Breakdown) → IsValid c → IsWellFormed c.kind (node rule a b) → size_under path (size_of a * size_of b) ≡ c.size → IsRule c rule path (size_of a) (size_of b)
-is_rule c rule path a b valid h e =
-    let low : 1 ≤ c.size = valid.in_range.size.0 in
-    let high : c.size ≤ 65536 = valid.in_range.size.1 in
-    let within : size_of a * size_of b ≤ c.size = part-le (copies_of path) (size_of a * size_of b) c.size (sym (size_under-copies path (size_of a * size_of b)) ∙ e) low in
-    record { size = e; left = omega (arith, h.0.left); right = omega (arith, h.0.right); allowed = h.0.allowed; small = omega arith; within = within }
+merges-terms : (c : Request) (e f : Ending) (ts : List PlainTerm) (st : Merging) → Leads e ts f → AreGoodTerms c ts → Stands c e st → Merges c st (merged st ts) f ts
+merges-terms c e f [] st leads good h = record { stands = subst (λ z. Stands c z st) leads h; on = λ x. refl }
+merges-terms c e f (t ∷ ts) st leads good h =
+    let first : Merges c st (merge_term st t) (ending t) (t ∷ []) = merges-term c e t st leads.0 good.0 h in
+    let rest : Merges c (merge_term st t) (merged (merge_term st t) ts) f ts = merges-terms c (ending t) f ts (merge_term st t) leads.1 good.1 first.stands in
+    record { stands = rest.stands; on = λ x. rest.on x ∙ ap (terms_on c ts) (first.on x) }
 
-pub do_steps : (c : Request) (path : Path) (waiting : List Mapping) (t : Breakdown) → IsValid c → IsWellFormed c.kind t → size_under path (size_of t) ≡ c.size → AllStay c.size waiting →
-    DoSteps c waiting (steps_of c path t) (tree_passes c path waiting t)
-do_steps c path waiting (leaf d) valid h e stay = do_piece c path waiting (leaf d) e stay
-do_steps c path waiting (node rule a b) valid h e stay =
-    let r = size_of a in
-    let s = size_of b in
-    let here : IsRule c rule path r s = is_rule c rule path a b valid h e in
-    do_pick c waiting (is_kernel c (r * s)) _ _ _ _ (do_piece c path waiting (node rule a b) e stay)
-    (do_rule c rule path r s waiting _ _ _ _ here
-    (do_steps c (path ++ Columns s ∷ []) [] a valid h.1 (size_under-push path (Columns s) r ∙ e) tt)
-    (do_steps c (path ++ Blocks r ∷ []) (rule_waiting rule path r s waiting) b valid h.2 (size_under-push path (Blocks r) s ∙ e) (stay_rule c rule path r s waiting here stay)))
+-- ---- phases
 
-pub merge_keeps : MergeKeeps
-merge_keeps c t x valid h =
-    let by_terms : passes_on c (merged_of c t) x ≡ terms_on c (lowered_of c t) x =
-    ap (λ ps. passes_on c ps x) (merged_of-tree c t) ∙ (do_steps c [] [] t valid h.well_formed h.size tt).on x in
-    (by_terms, by_terms ∙ lowered_transforms c t x valid h ∙ steps_transform c [] t 1 x valid h.well_formed (omega (arith, h.size)) ∙ ap (λ n. transform_of c n x) h.size)
+-- the terms of a phase: from no pass to passes after which no gather waits
+abbrev pub IsPhase : List PlainTerm → Type 0
+IsPhase ts = Leads settled ts settled ⊎ Leads settled ts fresh
+
+abbrev pub ArePhases : Request → List (List PlainTerm) → Type 0
+ArePhases c [] = Unit {0}
+ArePhases c (ts ∷ more) = IsPhase ts × AreGoodTerms c ts × ArePhases c more
+
+-- the passes of a phase are good, and do what its terms do
+pub record DoPhase (c : Request) (ts : List PlainTerm) : Type 0 where
+  pub good : AllGood c (passes_of_terms ts)
+  pub on : (x : List ℕ) → passes_on c (passes_of_terms ts) x ≡ terms_on c ts x
+
+abbrev nothing : Merging
+nothing = record { waiting = []; passes = [] }
+
+ended : (c : Request) (ts : List PlainTerm) (e : Ending) → Merges c nothing (merged nothing ts) e ts → (merged nothing ts).waiting ≡ [] → AllGood c (merged nothing ts).passes → DoPhase c ts
+ended c ts e h none good = record { good = good; on = λ x. sym (settled_on c (merged nothing ts) x none) ∙ h.on x }
+
+pub do_phase : (c : Request) (ts : List PlainTerm) → IsPhase ts → AreGoodTerms c ts → DoPhase c ts
+do_phase c ts (inl leads) good = let h : Merges c nothing (merged nothing ts) settled ts = merges-terms c settled settled ts nothing leads good (refl, tt) in ended c ts settled h h.stands.0 h.stands.1
+do_phase c ts (inr leads) good =
+    let h : Merges c nothing (merged nothing ts) fresh ts = merges-terms c settled fresh ts nothing leads good (refl, tt) in ended c ts fresh h h.stands.0 (all_from_end c (merged nothing ts).passes h.stands.1)
+
+pub good-append : (c : Request) (ps qs : List PlainPass) → AllGood c ps → AllGood c qs → AllGood c (ps ++ qs)
+good-append c [] qs h k = k
+good-append c (p ∷ ps) qs h k = (h.0, good-append c ps qs h.1 k)
+
+pub good_phases : (c : Request) (phases : List (List PlainTerm)) → ArePhases c phases → AllGood c (in_order (map passes_of_terms phases))
+good_phases c [] h = tt
+good_phases c (ts ∷ more) h = good-append c (passes_of_terms ts) _ (do_phase c ts h.0 h.1).good (good_phases c more h.2)
+
+pub do_phases : (c : Request) (phases : List (List PlainTerm)) (x : List ℕ) → ArePhases c phases → passes_on c (in_order (map passes_of_terms phases)) x ≡ phases_on c phases x
+do_phases c [] x h = refl
+do_phases c (ts ∷ more) x h =
+    passes_on-append c (passes_of_terms ts) (in_order (map passes_of_terms more)) x
+    ∙ ap (passes_on c (in_order (map passes_of_terms more))) ((do_phase c ts h.0 h.1).on x)
+    ∙ do_phases c more (terms_on c ts x) h.2

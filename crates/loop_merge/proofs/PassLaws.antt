@@ -11,16 +11,15 @@ use Rattle.operators.specs.Sum.{list_below}
 use Rattle.operators.proofs.Lists.{at-list_below, list_below-same}
 use Rattle.operators.proofs.Scatters.{gather_as_scatter}
 use Rattle.operators.proofs.Sums.{sum_below-same}
-use Rattle.loop_merge.specs.Merge.{PlainDiagonal, PlainPass, through, scattered, multiplied, gather_place, scatter_place, multiplied_by, pass_on}
+use Rattle.loop_merge.specs.Merge.{PlainDiagonal, PlainPass, through, new_pass, scattered, multiplied, gather_place, scatter_place, multiplied_by, pass_on}
 use Rattle.loop_merge.specs.Stores.{IsHit, Covers}
 use Rattle.sigma_lower.specs.Term.{diagonal_at, term_on, scat, diag, nest}
+use Rattle.sigma_lower.specs.Work.{PlainWork, work_size, work_on}
 use Rattle.sigma_lower.proofs.Permuted.{StaysBelow}
-use Rattle.steps.specs.Meaning.{transform_of}
 use Rattle.tensor_paths.specs.Loop.{loop_at, loop_on}
 use Rattle.tensor_paths.specs.Path.{Path, size_under, place, AreInRange}
 use Rattle.tensor_paths.proofs.PathPlaces.{place-below}
 use Rattle.tensor_paths.proofs.PathLoops.{nest_sum-same, loop_at-place, loop_on-place, place-one_to_one, reach, Reached}
-use Rattle.tree_model.specs.Breakdown.{Breakdown, size_of}
 
 -- ---- places before the loop
 
@@ -126,22 +125,22 @@ through-append (g ∷ fs) f i = through-append fs f (at g i)
 
 -- the pass is of the request's size, and permutations alone made its places
 pub record IsGoodPass (c : Request) (p : PlainPass) : Type 0 where
-  pub size : size_under p.path (size_of p.tree) ≡ c.size
+  pub size : size_under p.path (work_size p.work) ≡ c.size
   pub afters : AllPermute c.size p.afters
 
-pub covers-scatter_place : (c : Request) (p : PlainPass) → IsGoodPass c p → Covers c.size p.path (size_of p.tree) (scatter_place p)
-covers-scatter_place c p h = covers-through c.size p.path (size_of p.tree) (place p.path (size_of p.tree)) p.afters h.afters (covers-place c.size p.path (size_of p.tree) h.size)
+pub covers-scatter_place : (c : Request) (p : PlainPass) → IsGoodPass c p → Covers c.size p.path (work_size p.work) (scatter_place p)
+covers-scatter_place c p h = covers-through c.size p.path (work_size p.work) (place p.path (work_size p.work)) p.afters h.afters (covers-place c.size p.path (work_size p.work) h.size)
 
-pub new_pass-on : (c : Request) (path : Path) (t : Breakdown) (waiting : List Mapping) (x : List ℕ) → size_under path (size_of t) ≡ c.size → AllStay c.size waiting →
-    pass_on c (record { path = path; tree = t; befores = waiting; diagonal = None; afters = [] }) x ≡ term_on c (nest path t) (waiting_on c.size waiting x)
-new_pass-on c path t waiting x e stay =
-    sym (waiting-into c.size path (size_of t) (place path (size_of t)) (λ vs. transform_of c (size_of t)) (place path (size_of t)) waiting x (covers-place c.size path (size_of t) e).range stay)
+pub new_pass-on : (c : Request) (path : Path) (w : PlainWork) (waiting : List Mapping) (x : List ℕ) → size_under path (work_size w) ≡ c.size → AllStay c.size waiting →
+    pass_on c (new_pass path w waiting) x ≡ term_on c (nest path w) (waiting_on c.size waiting x)
+new_pass-on c path w waiting x e stay =
+    sym (waiting-into c.size path (work_size w) (place path (work_size w)) (λ vs. work_on c w) (place path (work_size w)) waiting x (covers-place c.size path (work_size w) e).range stay)
 
 pub scattered-on : (c : Request) (f : Mapping) (p : PlainPass) (x : List ℕ) → IsGoodPass c p → IsPermutation c.size f → pass_on c (scattered f p) x ≡ term_on c (scat f) (pass_on c p x)
 scattered-on c f p x good perm =
-    let body : List ℕ → Operator = λ vs y. multiplied_by c p p.diagonal vs (transform_of c (size_of p.tree) y) in
-    to-same c.size p.path (size_of p.tree) (gather_place p) body (scatter_place (scattered f p)) (λ vs k. at f (scatter_place p vs k)) x (λ vs k. through-append p.afters f (place p.path (size_of p.tree) vs k))
-    ∙ sym (scatter-into c.size p.path (size_of p.tree) (gather_place p) body (scatter_place p) perm.undone_by (at f) x perm.permutes (covers-scatter_place c p good).range)
+    let body : List ℕ → Operator = λ vs y. multiplied_by c p p.diagonal vs (work_on c p.work y) in
+    to-same c.size p.path (work_size p.work) (gather_place p) body (scatter_place (scattered f p)) (λ vs k. at f (scatter_place p vs k)) x (λ vs k. through-append p.afters f (place p.path (work_size p.work) vs k))
+    ∙ sym (scatter-into c.size p.path (work_size p.work) (gather_place p) body (scatter_place p) perm.undone_by (at f) x perm.permutes (covers-scatter_place c p good).range)
     ∙ gather_as_scatter c.size perm.undone_by (at f) (pass_on c p x) perm.permutes
 
 pub scattered-good : (c : Request) (f : Mapping) (p : PlainPass) → IsGoodPass c p → IsPermutation c.size f → IsGoodPass c (scattered f p)
@@ -155,9 +154,9 @@ pub multiplied-on : (c : Request) (path : Path) (r s : ℕ) (p : PlainPass) (x :
     pass_on c (multiplied path r s p) x ≡ term_on c (diag path r s) (pass_on c p x)
 multiplied-on c path r s p x good plain =
     let n = c.size in
-    let d = size_of p.tree in
+    let d = work_size p.work in
     let to = scatter_place p in
-    let a = transform_of c d in
+    let a = work_on c p.work in
     let factor = diagonal_at c path r s in
     let covers = covers-scatter_place c p good in
     let body : List ℕ → Operator = λ vs y. scale c.modulus d (λ k. factor (to vs k)) (a y) in

@@ -5,20 +5,23 @@ use Rattle.std.proofs.Math.Nat.{mul-le-mul_right, pow-succ'}
 use Rattle.std.proofs.Math.Pow.{pow_mono}
 use Rattle.std.proofs.lemmas.Bool.{cases_lt}
 use Rattle.index_fn.specs.Mapping.{Mapping, Strided, ThomasIn, ThomasBack}
+use Rattle.matrix_meaning.specs.declared.Kind.{Kind}
 use Rattle.matrix_meaning.specs.declared.Request.{Request}
 use Rattle.matrix_meaning.specs.Valid.{IsValid}
 use Rattle.perm_algebra.specs.Affine.{Fits, IsProper, Sum, constant, variable, levels, parts, scaled, joined, Divided, reduced, simplified}
 use Rattle.perm_algebra.proofs.Shape.{divided-joined, turned-joined}
 use Rattle.perm_algebra.proofs.Sizes.{is_reduced, levels-scaled, levels-joined, parts-scaled, parts-joined, proper-joined, proper-scaled, plain-joined, plain-scaled}
 use Rattle.loop_merge.specs.Merge.{PlainDiagonal, PlainPass, new_pass, scattered, multiplied, at_last}
-use Rattle.loop_merge.specs.Placed.{AllRoom, place_sum, AreCounts, all_simplified, gather_sum, scatter_sum, IsWithinLimits, diagonal_places, diagonal_sum, IsLimitedPass, AllLimited, PlacesAreLimited}
+use Rattle.loop_merge.specs.Placed.{place_sum, AreCounts, all_simplified, gather_sum, scatter_sum, IsWithinLimits, diagonal_places, diagonal_sum, IsLimitedPass, AllLimited}
 use Rattle.loop_merge.proofs.InnerPlaces.{inner-place, room-inner}
-use Rattle.loop_merge.proofs.PlaceRoom.{room-wrapped}
+use Rattle.loop_merge.proofs.InCopies.{simplified-wrapped, room-wrapped}
 use Rattle.loop_merge.proofs.RuleRoom.{thomas_in-room, turns-room, thomas_back-room}
 use Rattle.perm_algebra.specs.Room.{HasRoomFor}
-use Rattle.loop_merge.proofs.PlaceSums.{tensor_sum, place_sum-push, counts-push, variable-fits, parts-fit, tensor_sum-fits, simplified-wrapped, all_simplified-append}
-use Rattle.loop_merge.proofs.MergeMeaning.{IsRule, is_rule, coprime_of}
-use Rattle.loop_merge.proofs.TreePasses.{rule_waiting, rule_passes, tree_passes, merged_of-tree}
+use Rattle.loop_merge.proofs.PlaceSums.{tensor_sum, place_sum-push, counts-push, variable-fits, parts-fit, tensor_sum-fits, place_sum-fits, all_simplified-append}
+use Rattle.loop_merge.proofs.PartRules.{IsSize, IsRuleIn, rule_in, coprime_in}
+use Rattle.loop_merge.proofs.Staying.{StaysIn, stays-push, stays-room, all_room-append}
+use Rattle.loop_merge.proofs.TreePasses.{rule_waiting, rule_passes, tree_passes}
+use Rattle.sigma_lower.specs.Work.{transforming, work_size}
 use Rattle.sigma_lower.specs.Wrapped.{wrapped, inner_of, unit_of}
 use Rattle.sigma_lower.proofs.Lowering.{AreCoprime, unit_positive, unit_small}
 use Rattle.tensor_paths.specs.declared.Tensor.{Tensor}
@@ -27,6 +30,7 @@ use Rattle.tensor_paths.specs.Path.{Path, count_of, grown, size_under}
 use Rattle.tensor_paths.proofs.Under.{size_under-push}
 use Rattle.tree_model.specs.declared.tree.Rule.{Rule}
 use Rattle.tree_model.specs.declared.tree.Rule.TheVariants.{Gt, Ct, Split}
+use Rattle.tree_model.specs.Admissible.{IsAdmissible}
 use Rattle.tree_model.specs.Breakdown.{Breakdown, leaf, node, size_of, IsWellFormed}
 use Rattle.tree_model.specs.Cost.{is_kernel}
 
@@ -37,16 +41,16 @@ pub record Carries (cs : ℕ → ℕ) (size : ℕ) (e g : Sum) (k : ℕ) : Type 
   pub parts : parts g ≤ parts e + 2 * k
 
 -- one tensor with a permutation at most
-record IsOneMore (cs : ℕ → ℕ) (size : ℕ) (e g : Sum) : Type 0 where
-  fits : Fits size g cs
-  levels : levels g ≤ levels e + 1
-  parts : parts g ≤ parts e + 2
+pub record IsOneMore (cs : ℕ → ℕ) (size : ℕ) (e g : Sum) : Type 0 where
+  pub fits : Fits size g cs
+  pub levels : levels g ≤ levels e + 1
+  pub parts : parts g ≤ parts e + 2
 
 carries-after : (cs : ℕ → ℕ) (size inner : ℕ) (e f g h : Sum) (k : ℕ) → IsOneMore cs inner e f → Carries cs size f g k → h ≡ g → Carries cs size e h (suc k)
 carries-after cs size inner e f g h k one c is =
     record { fits = rw is c.fits; levels = rw is (omega (arith, one.levels, c.levels)); parts = rw is (omega (arith, one.parts, c.parts)) }
 
-carries-before : (cs : ℕ → ℕ) (inner size : ℕ) (e f g : Sum) (k : ℕ) → Carries cs inner e f k → IsOneMore cs size f g → Carries cs size e g (suc k)
+pub carries-before : (cs : ℕ → ℕ) (inner size : ℕ) (e f g : Sum) (k : ℕ) → Carries cs inner e f k → IsOneMore cs size f g → Carries cs size e g (suc k)
 carries-before cs inner size e f g k c one = record { fits = one.fits; levels = omega (arith, one.levels, c.levels); parts = omega (arith, one.parts, c.parts) }
 
 -- ---- weights
@@ -62,7 +66,7 @@ weight_more k c n m size two e h =
     let whole : 2 ^ k * (c * n) ≤ size = subst (λ x. 2 ^ k * x ≤ size) e h in
     subst (λ p. p * n ≤ size) (sym (pow-succ' 2 k)) (weight_step (2 ^ k) c n size two whole)
 
-grown-is : (t : Tensor) (n : ℕ) → grown t n ≡ count_of t * n
+pub grown-is : (t : Tensor) (n : ℕ) → grown t n ≡ count_of t * n
 grown-is (Blocks c) n = refl
 grown-is (Columns c) n = mul_comm n c
 
@@ -72,12 +76,12 @@ weight_up p c d n two h =
     let more : 2 * n ≤ c * n = mul-le-mul_right n two in
     let f : 2 * p * d ≡ 2 * (p * d) = omega arith in omega arith
 
-weight_under : (k c d n : ℕ) → 2 ≤ c → 2 ^ k * d ≤ n → 2 ^ suc k * d ≤ c * n
+pub weight_under : (k c d n : ℕ) → 2 ≤ c → 2 ^ k * d ≤ n → 2 ^ suc k * d ≤ c * n
 weight_under k c d n two h = subst (λ p. p * d ≤ c * n) (sym (pow-succ' 2 k)) (weight_up (2 ^ k) c d n two h)
 
 -- ---- a tensor at a place, and the permutation of a rule
 
-tensor-one : (t : Tensor) (n d : ℕ) (e : Sum) (cs : ℕ → ℕ) → cs d ≡ count_of t → 2 ≤ count_of t → 0 < n → Fits n e cs → IsOneMore cs (grown t n) e (tensor_sum t n d e)
+pub tensor-one : (t : Tensor) (n d : ℕ) (e : Sum) (cs : ℕ → ℕ) → cs d ≡ count_of t → 2 ≤ count_of t → 0 < n → Fits n e cs → IsOneMore cs (grown t n) e (tensor_sum t n d e)
 tensor-one (Blocks c) n d e cs count two positive f =
     record {
       fits = tensor_sum-fits (Blocks c) n d e cs count two positive f;
@@ -147,163 +151,186 @@ thomas_back-one r s d e cs both count two_r two_s f =
     ap (λ (z : Divided). reduced cs (r * s) (joined (scaled (unit_of r s) z.quot) (scaled (unit_of s r) z.rem))) (divided-joined s e v cs (omega arith) fit.proper fit.small) in
     subst (IsOneMore cs (r * s) e) (sym is) (mixed cs (r * s) (unit_of s r) (unit_of r s) d r e (two_by_two r s two_r two_s) units.1 units.0 f (omega arith)).1
 
--- ---- gathers: from the pass outwards to the whole
+-- ---- gathers: from the pass outwards to a whole of so many words
 
-pub record Gathering (c : Request) (path : Path) (waiting : List Mapping) (n : ℕ) : Type 0 where
+pub record Gathering (size : ℕ) (path : Path) (waiting : List Mapping) (n : ℕ) : Type 0 where
   pub exponent : ℕ
-  pub weight : 2 ^ exponent * n ≤ c.size
-  pub carries : (cs : ℕ → ℕ) (e : Sum) → AreCounts path n 0 cs → Fits n e cs → Carries cs c.size e (all_simplified cs waiting (place_sum path n 0 e)) exponent
-  pub room : (cs : ℕ → ℕ) (e : Sum) → AreCounts path n 0 cs → Fits n e cs → AllRoom cs waiting (place_sum path n 0 e)
+  pub weight : 2 ^ exponent * n ≤ size
+  pub carries : (cs : ℕ → ℕ) (d : ℕ) (e : Sum) → AreCounts path n d cs → Fits n e cs → Carries cs size e (all_simplified cs waiting (place_sum path n d e)) exponent
+  pub stays : (cs : ℕ → ℕ) (d : ℕ) (e : Sum) → AreCounts path n d cs → Fits n e cs → StaysIn cs size waiting (place_sum path n d e)
 
-gathering-push : (c : Request) (path : Path) (waiting : List Mapping) (t : Tensor) (n : ℕ) → 2 ≤ count_of t → Gathering c path waiting (grown t n) → Gathering c (path ++ t ∷ []) waiting n
-gathering-push c path waiting t n two g =
+pub gathering-push : (size : ℕ) (path : Path) (waiting : List Mapping) (t : Tensor) (n : ℕ) → 2 ≤ count_of t → Gathering size path waiting (grown t n) → Gathering size (path ++ t ∷ []) waiting n
+gathering-push size path waiting t n two g =
     record {
       exponent = suc g.exponent;
-      weight = weight_more g.exponent (count_of t) n (grown t n) c.size two (grown-is t n) g.weight;
-      carries = λ cs e counts fits.
-          let p = counts-push path t n 0 cs counts in
-          let one = tensor-one t n (0 + length path) e cs p.count p.two p.positive fits in
-          carries-after cs c.size (grown t n) e (tensor_sum t n (0 + length path) e) (all_simplified cs waiting (place_sum path (grown t n) 0 (tensor_sum t n (0 + length path) e))) _ g.exponent one
-          (g.carries cs (tensor_sum t n (0 + length path) e) p.before one.fits)
-          (ap (all_simplified cs waiting) (place_sum-push path t n 0 e));
-      room = λ cs e counts fits.
-          let p = counts-push path t n 0 cs counts in
-          let one = tensor-one t n (0 + length path) e cs p.count p.two p.positive fits in
-          subst (AllRoom cs waiting) (sym (place_sum-push path t n 0 e)) (g.room cs (tensor_sum t n (0 + length path) e) p.before one.fits);
+      weight = weight_more g.exponent (count_of t) n (grown t n) size two (grown-is t n) g.weight;
+      carries = λ cs d e counts fits.
+          let p = counts-push path t n d cs counts in
+          let one = tensor-one t n (d + length path) e cs p.count p.two p.positive fits in
+          carries-after cs size (grown t n) e (tensor_sum t n (d + length path) e) (all_simplified cs waiting (place_sum path (grown t n) d (tensor_sum t n (d + length path) e))) _ g.exponent one
+          (g.carries cs d (tensor_sum t n (d + length path) e) p.before one.fits)
+          (ap (all_simplified cs waiting) (place_sum-push path t n d e));
+      stays = λ cs d e counts fits.
+          let p = counts-push path t n d cs counts in
+          let one = tensor-one t n (d + length path) e cs p.count p.two p.positive fits in
+          subst (StaysIn cs size waiting) (sym (place_sum-push path t n d e)) (g.stays cs d (tensor_sum t n (d + length path) e) p.before one.fits);
     }
 
 -- with a permutation before a rule's right part
-gathering-mapped : (c : Request) (path : Path) (waiting : List Mapping) (f : Mapping) (r s : ℕ) → 2 ≤ r →
+gathering-mapped : (size : ℕ) (path : Path) (waiting : List Mapping) (f : Mapping) (r s : ℕ) → 2 ≤ r →
     ((d : ℕ) (e : Sum) (cs : ℕ → ℕ) → cs d ≡ r → Fits s e cs → IsOneMore cs (r * s) e (simplified cs f (tensor_sum (Blocks r) s d e))) →
-    ((d : ℕ) (e : Sum) (cs : ℕ → ℕ) → cs d ≡ r → Fits s e cs → HasRoomFor cs f (tensor_sum (Blocks r) s d e)) → size_under path (r * s) ≤ 65536 →
-    Gathering c path waiting (r * s) → Gathering c (path ++ Blocks r ∷ []) (wrapped path (r * s) f ∷ waiting) s
-gathering-mapped c path waiting f r s two step room high g =
+    ((d : ℕ) (e : Sum) (cs : ℕ → ℕ) → cs d ≡ r → Fits s e cs → HasRoomFor cs f (tensor_sum (Blocks r) s d e)) → size_under path (r * s) ≡ size → size ≤ 65536 →
+    Gathering size path waiting (r * s) → Gathering size (path ++ Blocks r ∷ []) (wrapped path (r * s) f ∷ waiting) s
+gathering-mapped size path waiting f r s two step room whole high g =
     record {
       exponent = suc g.exponent;
-      weight = weight_more g.exponent r s (r * s) c.size two refl g.weight;
-      carries = λ cs e counts fits.
-          let p = counts-push path (Blocks r) s 0 cs counts in
-          let at_tensor = tensor_sum (Blocks r) s (0 + length path) e in
-          let inside = tensor-one (Blocks r) s (0 + length path) e cs p.count p.two p.positive fits in
-          let one = step (0 + length path) e cs p.count fits in
-          carries-after cs c.size (r * s) e (simplified cs f at_tensor) (all_simplified cs waiting (place_sum path (r * s) 0 (simplified cs f at_tensor))) _ g.exponent one
-          (g.carries cs (simplified cs f at_tensor) p.before one.fits)
-          (ap (λ y. all_simplified cs waiting (simplified cs (wrapped path (r * s) f) y)) (place_sum-push path (Blocks r) s 0 e)
-          ∙ ap (all_simplified cs waiting) (simplified-wrapped path (r * s) 0 f at_tensor cs p.before inside.fits));
-      room = λ cs e counts fits.
-          let p = counts-push path (Blocks r) s 0 cs counts in
-          let at_tensor = tensor_sum (Blocks r) s (0 + length path) e in
-          let inside = tensor-one (Blocks r) s (0 + length path) e cs p.count p.two p.positive fits in
-          let one = step (0 + length path) e cs p.count fits in
-          subst (AllRoom cs (wrapped path (r * s) f ∷ waiting)) (sym (place_sum-push path (Blocks r) s 0 e)) (
-            room-wrapped path (r * s) 0 f at_tensor cs p.before inside.fits one.fits high (room (0 + length path) e cs p.count fits),
-            subst (AllRoom cs waiting) (sym (simplified-wrapped path (r * s) 0 f at_tensor cs p.before inside.fits)) (g.room cs (simplified cs f at_tensor) p.before one.fits),
+      weight = weight_more g.exponent r s (r * s) size two refl g.weight;
+      carries = λ cs d e counts fits.
+          let p = counts-push path (Blocks r) s d cs counts in
+          let at_tensor = tensor_sum (Blocks r) s (d + length path) e in
+          let inside = tensor-one (Blocks r) s (d + length path) e cs p.count p.two p.positive fits in
+          let one = step (d + length path) e cs p.count fits in
+          carries-after cs size (r * s) e (simplified cs f at_tensor) (all_simplified cs waiting (place_sum path (r * s) d (simplified cs f at_tensor))) _ g.exponent one
+          (g.carries cs d (simplified cs f at_tensor) p.before one.fits)
+          (ap (λ y. all_simplified cs waiting (simplified cs (wrapped path (r * s) f) y)) (place_sum-push path (Blocks r) s d e)
+          ∙ ap (all_simplified cs waiting) (simplified-wrapped path (r * s) d f at_tensor cs p.before inside.fits));
+      stays = λ cs d e counts fits.
+          let p = counts-push path (Blocks r) s d cs counts in
+          let at_tensor = tensor_sum (Blocks r) s (d + length path) e in
+          let inside = tensor-one (Blocks r) s (d + length path) e cs p.count p.two p.positive fits in
+          let one = step (d + length path) e cs p.count fits in
+          subst (StaysIn cs size (wrapped path (r * s) f ∷ waiting)) (sym (place_sum-push path (Blocks r) s d e)) (
+            subst (λ m. Fits m (place_sum path (r * s) d at_tensor) cs) whole (place_sum-fits path (r * s) d at_tensor cs p.before inside.fits),
+            room-wrapped path (r * s) d f at_tensor cs p.before inside.fits one.fits (omega (arith, whole, high)) (room (d + length path) e cs p.count fits),
+            subst (StaysIn cs size waiting) (sym (simplified-wrapped path (r * s) d f at_tensor cs p.before inside.fits)) (g.stays cs d (simplified cs f at_tensor) p.before one.fits),
           );
     }
 
-gathering_rule : (c : Request) (rule : Rule) (path : Path) (r s : ℕ) (waiting : List Mapping) → IsRule c rule path r s → c.size ≤ 65536 → 2 ≤ r → 2 ≤ s → Gathering c path waiting (r * s) →
-    Gathering c (path ++ Blocks r ∷ []) (rule_waiting rule path r s waiting) s
-gathering_rule c Gt path r s waiting h high two_r two_s g =
-    gathering-mapped c path waiting (ThomasIn r s) r s two_r (λ d e cs count fits. thomas_in-one r s d e cs count two_r two_s fits) (λ d e cs count fits. thomas_in-room r s d e cs count two_r two_s h.small fits)
-    (omega (arith, h.size)) g
-gathering_rule c Ct path r s waiting h high two_r two_s g =
-    gathering-mapped c path waiting (Strided r s) r s two_r (λ d e cs count fits. turns-one r s d e cs count two_r two_s fits) (λ d e cs count fits. turns-room r s d e cs count two_r two_s h.small fits)
-    (omega (arith, h.size)) g
-gathering_rule c Split path r s waiting h high two_r two_s g = gathering-push c path waiting (Blocks r) s two_r g
+gathering_rule : (kind : Kind) (size : ℕ) (rule : Rule) (path : Path) (r s : ℕ) (waiting : List Mapping) → IsRuleIn kind size rule path r s → Gathering size path waiting (r * s) →
+    Gathering size (path ++ Blocks r ∷ []) (rule_waiting rule path r s waiting) s
+gathering_rule kind size Gt path r s waiting h g =
+    gathering-mapped size path waiting (ThomasIn r s) r s h.left (λ d e cs count fits. thomas_in-one r s d e cs count h.left h.right fits)
+    (λ d e cs count fits. thomas_in-room r s d e cs count h.left h.right h.small fits) h.fills h.whole.high g
+gathering_rule kind size Ct path r s waiting h g =
+    gathering-mapped size path waiting (Strided r s) r s h.left (λ d e cs count fits. turns-one r s d e cs count h.left h.right fits)
+    (λ d e cs count fits. turns-room r s d e cs count h.left h.right h.small fits) h.fills h.whole.high g
+gathering_rule kind size Split path r s waiting h g = gathering-push size path waiting (Blocks r) s h.left g
 
 -- ---- scatters: from the pass inwards out to a node
 
-pub record IsPlacedAt (cs : ℕ → ℕ) (path : Path) (n : ℕ) (e place : Sum) (k : ℕ) : Type 0 where
+-- where a pass stores the item that e names, the loops' variables being those from d on
+abbrev pub scatter_from : (ℕ → ℕ) → PlainPass → ℕ → Sum → Sum
+scatter_from cs p d e = all_simplified cs p.afters (place_sum p.path (work_size p.work) d e)
+
+pub record IsPlacedAt (cs : ℕ → ℕ) (path : Path) (n d : ℕ) (e place : Sum) (k : ℕ) : Type 0 where
   pub inner : Sum
-  pub is : place ≡ place_sum path n 0 inner
-  pub counts : AreCounts path n 0 cs
+  pub is : place ≡ place_sum path n d inner
+  pub counts : AreCounts path n d cs
   pub carries : Carries cs n e inner k
 
-pub record Scattering (path : Path) (n : ℕ) (p : PlainPass) : Type 0 where
+pub record Scattering (size : ℕ) (path : Path) (n : ℕ) (p : PlainPass) : Type 0 where
   pub exponent : ℕ
-  pub weight : 2 ^ exponent * size_of p.tree ≤ n
-  pub placed : (cs : ℕ → ℕ) (e : Sum) → AreCounts p.path (size_of p.tree) 0 cs → Fits (size_of p.tree) e cs → IsPlacedAt cs path n e (scatter_sum cs p e) exponent
-  pub room : (cs : ℕ → ℕ) (e : Sum) → AreCounts p.path (size_of p.tree) 0 cs → Fits (size_of p.tree) e cs → AllRoom cs p.afters (place_sum p.path (size_of p.tree) 0 e)
+  pub weight : 2 ^ exponent * work_size p.work ≤ n
+  pub placed : (cs : ℕ → ℕ) (d : ℕ) (e : Sum) → AreCounts p.path (work_size p.work) d cs → Fits (work_size p.work) e cs → IsPlacedAt cs path n d e (scatter_from cs p d e) exponent
+  pub stays : (cs : ℕ → ℕ) (d : ℕ) (e : Sum) → AreCounts p.path (work_size p.work) d cs → Fits (work_size p.work) e cs → StaysIn cs size p.afters (place_sum p.path (work_size p.work) d e)
 
-all_room-append : (cs : ℕ → ℕ) (fs : List Mapping) (f : Mapping) (e : Sum) → AllRoom cs fs e → HasRoomFor cs f (all_simplified cs fs e) → AllRoom cs (fs ++ f ∷ []) e
-all_room-append cs [] f e h k = (k, tt)
-all_room-append cs (g ∷ fs) f e h k = (h.0, all_room-append cs fs f (simplified cs g e) h.1 k)
-
-scattering-new : (path : Path) (waiting : List Mapping) (t : Breakdown) → Scattering path (size_of t) (new_pass path t waiting)
-scattering-new path waiting t =
+scattering-new : (size : ℕ) (path : Path) (waiting : List Mapping) (t : Breakdown) → size_under path (size_of t) ≡ size → Scattering size path (size_of t) (new_pass path (transforming t) waiting)
+scattering-new size path waiting t whole =
     record {
       exponent = 0;
       weight = omega arith;
-      placed = λ cs e counts fits. record { inner = e; is = refl; counts = counts; carries = record { fits = fits; levels = omega arith; parts = omega arith } };
-      room = λ cs e counts fits. tt;
+      placed = λ cs d e counts fits. record { inner = e; is = refl; counts = counts; carries = record { fits = fits; levels = omega arith; parts = omega arith } };
+      stays = λ cs d e counts fits. subst (λ m. Fits m (place_sum path (size_of t) d e) cs) whole (place_sum-fits path (size_of t) d e cs counts fits);
     }
 
-scattering-lift : (path : Path) (t : Tensor) (n : ℕ) (p : PlainPass) → 2 ≤ count_of t → Scattering (path ++ t ∷ []) n p → Scattering path (grown t n) p
-scattering-lift path t n p two h =
+scattering-lift : (size : ℕ) (path : Path) (t : Tensor) (n : ℕ) (p : PlainPass) → 2 ≤ count_of t → Scattering size (path ++ t ∷ []) n p → Scattering size path (grown t n) p
+scattering-lift size path t n p two h =
     record {
       exponent = suc h.exponent;
-      weight = subst (λ m. 2 ^ suc h.exponent * size_of p.tree ≤ m) (sym (grown-is t n)) (weight_under h.exponent (count_of t) (size_of p.tree) n two h.weight);
-      placed = λ cs e counts fits.
-          let at_inner = h.placed cs e counts fits in
-          let q = counts-push path t n 0 cs at_inner.counts in
+      weight = subst (λ m. 2 ^ suc h.exponent * work_size p.work ≤ m) (sym (grown-is t n)) (weight_under h.exponent (count_of t) (work_size p.work) n two h.weight);
+      placed = λ cs d e counts fits.
+          let at_inner = h.placed cs d e counts fits in
+          let q = counts-push path t n d cs at_inner.counts in
           record {
-            inner = tensor_sum t n (0 + length path) at_inner.inner;
-            is = at_inner.is ∙ place_sum-push path t n 0 at_inner.inner;
+            inner = tensor_sum t n (d + length path) at_inner.inner;
+            is = at_inner.is ∙ place_sum-push path t n d at_inner.inner;
             counts = q.before;
-            carries = carries-before cs n (grown t n) e at_inner.inner _ h.exponent at_inner.carries (tensor-one t n (0 + length path) at_inner.inner cs q.count q.two q.positive at_inner.carries.fits);
+            carries = carries-before cs n (grown t n) e at_inner.inner _ h.exponent at_inner.carries (tensor-one t n (d + length path) at_inner.inner cs q.count q.two q.positive at_inner.carries.fits);
           };
-      room = h.room;
+      stays = h.stays;
     }
 
-scattering-back : (path : Path) (r s : ℕ) (p : PlainPass) → size_under path (r * s) ≤ 65536 → AreCoprime r s → 2 ≤ r → 2 ≤ s → Scattering (path ++ Columns s ∷ []) r p →
-    Scattering path (r * s) (scattered (wrapped path (r * s) (ThomasBack r s (unit_of r s) (unit_of s r))) p)
-scattering-back path r s p high both two_r two_s h =
+-- the inverse of a rule by coprime factors, at the place under its tensor
+record IsTakenBack (cs : ℕ → ℕ) (size : ℕ) (path : Path) (r s d : ℕ) (e place : Sum) (k : ℕ) : Type 0 where
+  at_whole : IsPlacedAt cs path (r * s) d e (simplified cs (wrapped path (r * s) (ThomasBack r s (unit_of r s) (unit_of s r))) place) k
+  room : HasRoomFor cs (wrapped path (r * s) (ThomasBack r s (unit_of r s) (unit_of s r))) place
+  fits : Fits size (simplified cs (wrapped path (r * s) (ThomasBack r s (unit_of r s) (unit_of s r))) place) cs
+
+taken_back : (kind : Kind) (size : ℕ) (path : Path) (r s d : ℕ) (cs : ℕ → ℕ) (e place : Sum) (k : ℕ) → IsRuleIn kind size Gt path r s → IsPlacedAt cs (path ++ Columns s ∷ []) r d e place k → IsTakenBack cs size path r s d e place (suc k)
+taken_back kind size path r s d cs e place k h there =
     let f = ThomasBack r s (unit_of r s) (unit_of s r) in
+    let both : AreCoprime r s = coprime_in kind size path r s h in
+    let q = counts-push path (Columns s) r d cs there.counts in
+    let at_tensor = tensor_sum (Columns s) r (d + length path) there.inner in
+    let inside = tensor-one (Columns s) r (d + length path) there.inner cs q.count q.two q.positive there.carries.fits in
+    let made = thomas_back-one r s (d + length path) there.inner cs both q.count h.left h.right there.carries.fits in
+    let units = unit_positive r s both h.left h.right in
+    let bounds = unit_small r s both in
+    let before : place ≡ place_sum path (r * s) d at_tensor = there.is ∙ place_sum-push path (Columns s) r d there.inner in
+    let after : simplified cs (wrapped path (r * s) f) place ≡ place_sum path (r * s) d (simplified cs f at_tensor) =
+    ap (simplified cs (wrapped path (r * s) f)) before ∙ simplified-wrapped path (r * s) d f at_tensor cs q.before inside.fits in
+    record {
+      at_whole = record {
+        inner = simplified cs f at_tensor;
+        is = after;
+        counts = q.before;
+        carries = carries-before cs r (r * s) e there.inner _ k there.carries made;
+      };
+      room = subst (HasRoomFor cs (wrapped path (r * s) f)) (sym before)
+          (room-wrapped path (r * s) d f at_tensor cs q.before inside.fits made.fits (omega (arith, h.fills, h.whole.high))
+          (thomas_back-room r s (unit_of r s) (unit_of s r) (d + length path) there.inner cs q.count h.left h.right both.small units.0 bounds.0 units.1 bounds.1 there.carries.fits));
+      fits = subst (λ g. Fits size g cs) (sym after) (subst (λ m. Fits m (place_sum path (r * s) d (simplified cs f at_tensor)) cs) h.fills (place_sum-fits path (r * s) d (simplified cs f at_tensor) cs q.before made.fits));
+    }
+
+scattering-back : (kind : Kind) (size : ℕ) (path : Path) (r s : ℕ) (p : PlainPass) → IsRuleIn kind size Gt path r s → Scattering size (path ++ Columns s ∷ []) r p →
+    Scattering size path (r * s) (scattered (wrapped path (r * s) (ThomasBack r s (unit_of r s) (unit_of s r))) p)
+scattering-back kind size path r s p rule h =
+    let f = wrapped path (r * s) (ThomasBack r s (unit_of r s) (unit_of s r)) in
     record {
       exponent = suc h.exponent;
-      weight = subst (λ m. 2 ^ suc h.exponent * size_of p.tree ≤ m) (mul_comm s r) (weight_under h.exponent s (size_of p.tree) r two_s h.weight);
-      placed = λ cs e counts fits.
-          let at_inner = h.placed cs e counts fits in
-          let q = counts-push path (Columns s) r 0 cs at_inner.counts in
-          let at_tensor = tensor_sum (Columns s) r (0 + length path) at_inner.inner in
-          let inside = tensor-one (Columns s) r (0 + length path) at_inner.inner cs q.count q.two q.positive at_inner.carries.fits in
+      weight = subst (λ m. 2 ^ suc h.exponent * work_size p.work ≤ m) (mul_comm s r) (weight_under h.exponent s (work_size p.work) r rule.right h.weight);
+      placed = λ cs d e counts fits.
+          let back = taken_back kind size path r s d cs e (scatter_from cs p d e) h.exponent rule (h.placed cs d e counts fits) in
           record {
-            inner = simplified cs f at_tensor;
-            is =
-                all_simplified-append cs p.afters (wrapped path (r * s) f) (place_sum p.path (size_of p.tree) 0 e)
-                ∙ ap (simplified cs (wrapped path (r * s) f)) (at_inner.is ∙ place_sum-push path (Columns s) r 0 at_inner.inner)
-                ∙ simplified-wrapped path (r * s) 0 f at_tensor cs q.before inside.fits;
-            counts = q.before;
-            carries = carries-before cs r (r * s) e at_inner.inner _ h.exponent at_inner.carries
-                (thomas_back-one r s (0 + length path) at_inner.inner cs both q.count two_r two_s at_inner.carries.fits);
+            inner = back.at_whole.inner;
+            is = all_simplified-append cs p.afters f (place_sum p.path (work_size p.work) d e) ∙ back.at_whole.is;
+            counts = back.at_whole.counts;
+            carries = back.at_whole.carries;
           };
-      room = λ cs e counts fits.
-          let at_inner = h.placed cs e counts fits in
-          let q = counts-push path (Columns s) r 0 cs at_inner.counts in
-          let at_tensor = tensor_sum (Columns s) r (0 + length path) at_inner.inner in
-          let inside = tensor-one (Columns s) r (0 + length path) at_inner.inner cs q.count q.two q.positive at_inner.carries.fits in
-          let made = thomas_back-one r s (0 + length path) at_inner.inner cs both q.count two_r two_s at_inner.carries.fits in
-          let units = unit_positive r s both two_r two_s in
-          let bounds = unit_small r s both in
-          all_room-append cs p.afters (wrapped path (r * s) f) (place_sum p.path (size_of p.tree) 0 e) (h.room cs e counts fits)
-          (subst (HasRoomFor cs (wrapped path (r * s) f)) (sym (at_inner.is ∙ place_sum-push path (Columns s) r 0 at_inner.inner))
-          (room-wrapped path (r * s) 0 f at_tensor cs q.before inside.fits made.fits high
-          (thomas_back-room r s (unit_of r s) (unit_of s r) (0 + length path) at_inner.inner cs q.count two_r two_s both.small units.0 bounds.0 units.1 bounds.1 at_inner.carries.fits)));
+      stays = λ cs d e counts fits.
+          let back = taken_back kind size path r s d cs e (scatter_from cs p d e) h.exponent rule (h.placed cs d e counts fits) in
+          stays-push cs size p.afters f (place_sum p.path (work_size p.work) d e) (h.stays cs d e counts fits) back.room back.fits;
     }
 
 -- ---- all passes of a tree
 
--- the places in a ct's diagonal, of size n
-pub record Multiplying (p : PlainPass) (d : PlainDiagonal) : Type 0 where
-  pub exponent : ℕ
-  pub weight : 2 ^ exponent * size_of p.tree ≤ d.rows * d.cols
-  pub carries : (cs : ℕ → ℕ) (e : Sum) → AreCounts p.path (size_of p.tree) 0 cs → Fits (size_of p.tree) e cs → Carries cs (d.rows * d.cols) e (diagonal_sum cs p d e) exponent
-  pub room : (cs : ℕ → ℕ) (e : Sum) → AreCounts p.path (size_of p.tree) 0 cs → Fits (size_of p.tree) e cs → AllRoom cs (diagonal_places d) (place_sum p.path (size_of p.tree) 0 e)
+-- where a pass multiplies the item that e names, the loops' variables being those from v on
+abbrev pub diagonal_from : (ℕ → ℕ) → PlainPass → PlainDiagonal → ℕ → Sum → Sum
+diagonal_from cs p d v e = all_simplified cs (diagonal_places d) (place_sum p.path (work_size p.work) v e)
 
-pub record IsPlacedPass (c : Request) (path : Path) (n : ℕ) (p : PlainPass) : Type 0 where
-  pub gathers : Gathering c p.path p.befores (size_of p.tree)
-  pub scatters : Scattering path n p
-  pub multiplies : (d : PlainDiagonal) → p.diagonal ≡ Some d → Multiplying p d × (d.rows * d.cols ≤ c.size)
+-- the places in a ct's diagonal
+pub record Multiplying (size : ℕ) (p : PlainPass) (d : PlainDiagonal) : Type 0 where
+  pub exponent : ℕ
+  pub weight : 2 ^ exponent * work_size p.work ≤ d.rows * d.cols
+  pub carries : (cs : ℕ → ℕ) (v : ℕ) (e : Sum) → AreCounts p.path (work_size p.work) v cs → Fits (work_size p.work) e cs → Carries cs (d.rows * d.cols) e (diagonal_from cs p d v e) exponent
+  pub stays : (cs : ℕ → ℕ) (v : ℕ) (e : Sum) → AreCounts p.path (work_size p.work) v cs → Fits (work_size p.work) e cs → StaysIn cs size d.places (place_sum p.path (work_size p.work) v e)
+  pub room : (cs : ℕ → ℕ) (v : ℕ) (e : Sum) → AreCounts p.path (work_size p.work) v cs → Fits (work_size p.work) e cs →
+      HasRoomFor cs (inner_of d.path (d.rows * d.cols)) (all_simplified cs d.places (place_sum p.path (work_size p.work) v e))
+
+pub record IsPlacedPass (size : ℕ) (path : Path) (n : ℕ) (p : PlainPass) : Type 0 where
+  pub gathers : Gathering size p.path p.befores (work_size p.work)
+  pub scatters : Scattering size path n p
+  pub multiplies : (d : PlainDiagonal) → p.diagonal ≡ Some d → Multiplying size p d × (d.rows * d.cols ≤ size)
 
 pub none_is_some : (d : PlainDiagonal) → ◌≡◌ {A = Option PlainDiagonal} None (Some d) → ⊥
 none_is_some d e = absurd (cc)
@@ -312,105 +339,118 @@ pub multiplied-is : (path : Path) (r s : ℕ) (places : List Mapping) (d : Plain
     ◌≡◌ {A = PlainDiagonal} (record { path = path; rows = r; cols = s; places = places }) d
 multiplied-is path r s places d e = cc
 
-scattering-multiplies : (path : Path) (r s : ℕ) (p : PlainPass) → r * s ≤ 65536 → size_under path (r * s) ≤ 65536 → Scattering path (r * s) p → Multiplying (multiplied path r s p) (record { path = path; rows = r; cols = s; places = p.afters })
-scattering-multiplies path r s p low high h =
+scattering-multiplies : (size : ℕ) (path : Path) (r s : ℕ) (p : PlainPass) → r * s ≤ 65536 → size_under path (r * s) ≤ 65536 → Scattering size path (r * s) p →
+    Multiplying size (multiplied path r s p) (record { path = path; rows = r; cols = s; places = p.afters })
+scattering-multiplies size path r s p low high h =
     record {
       exponent = h.exponent;
       weight = h.weight;
-      carries = λ cs e counts fits.
-          let there = h.placed cs e counts fits in
-          let is : diagonal_sum cs (multiplied path r s p) (record { path = path; rows = r; cols = s; places = p.afters }) e ≡ there.inner =
-          all_simplified-append cs p.afters (inner_of path (r * s)) (place_sum p.path (size_of p.tree) 0 e)
+      carries = λ cs d e counts fits.
+          let there = h.placed cs d e counts fits in
+          let is : diagonal_from cs (multiplied path r s p) (record { path = path; rows = r; cols = s; places = p.afters }) d e ≡ there.inner =
+          all_simplified-append cs p.afters (inner_of path (r * s)) (place_sum p.path (work_size p.work) d e)
           ∙ ap (simplified cs (inner_of path (r * s))) there.is
-          ∙ inner-place path (r * s) 0 there.inner cs there.counts there.carries.fits in
+          ∙ inner-place path (r * s) d there.inner cs there.counts there.carries.fits in
           subst (λ g. Carries cs (r * s) e g h.exponent) (sym is) there.carries;
-      room = λ cs e counts fits.
-          let there = h.placed cs e counts fits in
-          all_room-append cs p.afters (inner_of path (r * s)) (place_sum p.path (size_of p.tree) 0 e) (h.room cs e counts fits)
-          (subst (HasRoomFor cs (inner_of path (r * s))) (sym there.is) (room-inner path (r * s) 0 there.inner cs there.counts there.carries.fits low high));
+      stays = h.stays;
+      room = λ cs d e counts fits.
+          let there = h.placed cs d e counts fits in
+          subst (HasRoomFor cs (inner_of path (r * s))) (sym there.is) (room-inner path (r * s) d there.inner cs there.counts there.carries.fits low high);
     }
 
-abbrev pub ArePlaced : Request → Path → ℕ → List PlainPass → Type 0
-ArePlaced c path n [] = Unit {0}
-ArePlaced c path n (p ∷ ps) = IsPlacedPass c path n p × ArePlaced c path n ps
+abbrev pub ArePlaced : ℕ → Path → ℕ → List PlainPass → Type 0
+ArePlaced size path n [] = Unit {0}
+ArePlaced size path n (p ∷ ps) = IsPlacedPass size path n p × ArePlaced size path n ps
 
-placed-append : (c : Request) (path : Path) (n : ℕ) (ps qs : List PlainPass) → ArePlaced c path n ps → ArePlaced c path n qs → ArePlaced c path n (ps ++ qs)
-placed-append c path n [] qs h k = k
-placed-append c path n (p ∷ ps) qs h k = (h.0, placed-append c path n ps qs h.1 k)
+placed-append : (size : ℕ) (path : Path) (n : ℕ) (ps qs : List PlainPass) → ArePlaced size path n ps → ArePlaced size path n qs → ArePlaced size path n (ps ++ qs)
+placed-append size path n [] qs h k = k
+placed-append size path n (p ∷ ps) qs h k = (h.0, placed-append size path n ps qs h.1 k)
 
-lift-one : (c : Request) (path : Path) (t : Tensor) (n : ℕ) (p : PlainPass) → 2 ≤ count_of t → IsPlacedPass c (path ++ t ∷ []) n p → IsPlacedPass c path (grown t n) p
-lift-one c path t n p two h = record { gathers = h.gathers; scatters = scattering-lift path t n p two h.scatters; multiplies = h.multiplies }
+lift-one : (size : ℕ) (path : Path) (t : Tensor) (n : ℕ) (p : PlainPass) → 2 ≤ count_of t → IsPlacedPass size (path ++ t ∷ []) n p → IsPlacedPass size path (grown t n) p
+lift-one size path t n p two h = record { gathers = h.gathers; scatters = scattering-lift size path t n p two h.scatters; multiplies = h.multiplies }
 
-placed-lift : (c : Request) (path : Path) (t : Tensor) (n : ℕ) (ps : List PlainPass) → 2 ≤ count_of t → ArePlaced c (path ++ t ∷ []) n ps → ArePlaced c path (grown t n) ps
-placed-lift c path t n [] two h = tt
-placed-lift c path t n (p ∷ ps) two h = (lift-one c path t n p two h.0, placed-lift c path t n ps two h.1)
+pub placed-lift : (size : ℕ) (path : Path) (t : Tensor) (n : ℕ) (ps : List PlainPass) → 2 ≤ count_of t → ArePlaced size (path ++ t ∷ []) n ps → ArePlaced size path (grown t n) ps
+placed-lift size path t n [] two h = tt
+placed-lift size path t n (p ∷ ps) two h = (lift-one size path t n p two h.0, placed-lift size path t n ps two h.1)
 
-placed-back : (c : Request) (path : Path) (r s : ℕ) (ps : List PlainPass) → size_under path (r * s) ≤ 65536 → AreCoprime r s → 2 ≤ r → 2 ≤ s → ArePlaced c (path ++ Columns s ∷ []) r ps →
-    ArePlaced c path (r * s) (at_last (scattered (wrapped path (r * s) (ThomasBack r s (unit_of r s) (unit_of s r)))) ps)
-placed-back c path r s [] high both two_r two_s h = tt
-placed-back c path r s (p ∷ []) high both two_r two_s h = (record { gathers = h.0.gathers; scatters = scattering-back path r s p high both two_r two_s h.0.scatters; multiplies = λ d e. let m = h.0.multiplies d e in (record { exponent = m.0.exponent; weight = m.0.weight; carries = m.0.carries; room = m.0.room }, m.1) }, tt)
-placed-back c path r s (p ∷ q ∷ ps) high both two_r two_s h = (lift-one c path (Columns s) r p two_s h.0, placed-back c path r s (q ∷ ps) high both two_r two_s h.1)
+back-one : (kind : Kind) (size : ℕ) (path : Path) (r s : ℕ) (p : PlainPass) → IsRuleIn kind size Gt path r s → IsPlacedPass size (path ++ Columns s ∷ []) r p →
+    IsPlacedPass size path (r * s) (scattered (wrapped path (r * s) (ThomasBack r s (unit_of r s) (unit_of s r))) p)
+back-one kind size path r s p rule h =
+    record {
+      gathers = h.gathers;
+      scatters = scattering-back kind size path r s p rule h.scatters;
+      multiplies = λ d e. let m = h.multiplies d e in (record { exponent = m.0.exponent; weight = m.0.weight; carries = m.0.carries; stays = m.0.stays; room = m.0.room }, m.1);
+    }
 
-placed-multiplied : (c : Request) (path : Path) (r s : ℕ) (ps : List PlainPass) → r * s ≤ 65536 → size_under path (r * s) ≤ 65536 → r * s ≤ c.size → ArePlaced c path (r * s) ps → ArePlaced c path (r * s) (at_last (multiplied path r s) ps)
-placed-multiplied c path r s [] low under within h = tt
-placed-multiplied c path r s (p ∷ []) low under within h = (
+placed-back : (kind : Kind) (size : ℕ) (path : Path) (r s : ℕ) (ps : List PlainPass) → IsRuleIn kind size Gt path r s → ArePlaced size (path ++ Columns s ∷ []) r ps →
+    ArePlaced size path (r * s) (at_last (scattered (wrapped path (r * s) (ThomasBack r s (unit_of r s) (unit_of s r)))) ps)
+placed-back kind size path r s [] rule h = tt
+placed-back kind size path r s (p ∷ []) rule h = (back-one kind size path r s p rule h.0, tt)
+placed-back kind size path r s (p ∷ q ∷ ps) rule h = (lift-one size path (Columns s) r p rule.right h.0, placed-back kind size path r s (q ∷ ps) rule h.1)
+
+pub placed-multiplied : (size : ℕ) (path : Path) (r s : ℕ) (ps : List PlainPass) → r * s ≤ 65536 → size_under path (r * s) ≤ 65536 → r * s ≤ size → ArePlaced size path (r * s) ps → ArePlaced size path (r * s) (at_last (multiplied path r s) ps)
+placed-multiplied size path r s [] low under within h = tt
+placed-multiplied size path r s (p ∷ []) low under within h = (
   record {
     gathers = h.0.gathers;
-    scatters = record { exponent = h.0.scatters.exponent; weight = h.0.scatters.weight; placed = h.0.scatters.placed; room = h.0.scatters.room };
+    scatters = record { exponent = h.0.scatters.exponent; weight = h.0.scatters.weight; placed = h.0.scatters.placed; stays = h.0.scatters.stays };
     multiplies = λ d e.
-        subst (λ (z : PlainDiagonal). Multiplying (multiplied path r s p) z × (z.rows * z.cols ≤ c.size)) (multiplied-is path r s p.afters d e) (scattering-multiplies path r s p low under h.0.scatters, within);
+        subst (λ (z : PlainDiagonal). Multiplying size (multiplied path r s p) z × (z.rows * z.cols ≤ size)) (multiplied-is path r s p.afters d e) (scattering-multiplies size path r s p low under h.0.scatters, within);
   },
   tt,
 )
-placed-multiplied c path r s (p ∷ q ∷ ps) low under within h = (h.0, placed-multiplied c path r s (q ∷ ps) low under within h.1)
+placed-multiplied size path r s (p ∷ q ∷ ps) low under within h = (h.0, placed-multiplied size path r s (q ∷ ps) low under within h.1)
 
-rule_within : (c : Request) (rule : Rule) (path : Path) (r s : ℕ) → IsRule c rule path r s → r * s ≤ c.size
-rule_within c rule path r s h = h.within
+placed_rule : (kind : Kind) (size : ℕ) (rule : Rule) (path : Path) (r s : ℕ) (left right : List PlainPass) → IsRuleIn kind size rule path r s →
+    ArePlaced size (path ++ Columns s ∷ []) r left → ArePlaced size (path ++ Blocks r ∷ []) s right → ArePlaced size path (r * s) (rule_passes rule path r s left right)
+placed_rule kind size Gt path r s left right h l k =
+    placed-append size path (r * s) right _ (placed-lift size path (Blocks r) s right h.left k) (placed-back kind size path r s left h l)
+placed_rule kind size Ct path r s left right h l k =
+    placed-append size path (r * s) _ left (placed-multiplied size path r s right h.small (omega (arith, h.fills, h.whole.high)) h.within (placed-lift size path (Blocks r) s right h.left k)) (placed-lift size path (Columns s) r left h.right l)
+placed_rule kind size Split path r s left right h l k =
+    placed-append size path (r * s) right left (placed-lift size path (Blocks r) s right h.left k) (placed-lift size path (Columns s) r left h.right l)
 
-placed_rule : (c : Request) (rule : Rule) (path : Path) (r s : ℕ) (left right : List PlainPass) → size_under path (r * s) ≤ 65536 → IsRule c rule path r s → 2 ≤ r → 2 ≤ s →
-    ArePlaced c (path ++ Columns s ∷ []) r left → ArePlaced c (path ++ Blocks r ∷ []) s right → ArePlaced c path (r * s) (rule_passes rule path r s left right)
-placed_rule c Gt path r s left right high h two_r two_s l k =
-    placed-append c path (r * s) right _ (placed-lift c path (Blocks r) s right two_r k) (placed-back c path r s left high (coprime_of c path r s h) two_r two_s l)
-placed_rule c Ct path r s left right high h two_r two_s l k =
-    placed-append c path (r * s) _ left (placed-multiplied c path r s right h.small high (rule_within c Ct path r s h) (placed-lift c path (Blocks r) s right two_r k)) (placed-lift c path (Columns s) r left two_s l)
-placed_rule c Split path r s left right high h two_r two_s l k =
-    placed-append c path (r * s) right left (placed-lift c path (Blocks r) s right two_r k) (placed-lift c path (Columns s) r left two_s l)
+placed_pick : (size : ℕ) (path : Path) (n : ℕ) (b : Bool) (ps qs : List PlainPass) → ArePlaced size path n ps → ArePlaced size path n qs → ArePlaced size path n (if b then ps else qs)
+placed_pick size path n true ps qs h k = h
+placed_pick size path n false ps qs h k = k
 
-placed_pick : (c : Request) (path : Path) (n : ℕ) (b : Bool) (ps qs : List PlainPass) → ArePlaced c path n ps → ArePlaced c path n qs → ArePlaced c path n (if b then ps else qs)
-placed_pick c path n true ps qs h k = h
-placed_pick c path n false ps qs h k = k
+new-placed : (size : ℕ) (path : Path) (waiting : List Mapping) (t : Breakdown) → size_under path (size_of t) ≡ size → Gathering size path waiting (size_of t) → IsPlacedPass size path (size_of t) (new_pass path (transforming t) waiting)
+new-placed size path waiting t e g = record { gathers = g; scatters = scattering-new size path waiting t e; multiplies = λ d e. absurd (none_is_some d e) }
 
-pub placed_passes : (c : Request) (path : Path) (waiting : List Mapping) (t : Breakdown) → IsValid c → IsWellFormed c.kind t → size_under path (size_of t) ≡ c.size →
-    Gathering c path waiting (size_of t) → Gathering c path [] (size_of t) → ArePlaced c path (size_of t) (tree_passes c path waiting t)
-placed_passes c path waiting (leaf d) valid h e g natural = (record { gathers = g; scatters = scattering-new path waiting (leaf d); multiplies = λ d e. absurd (none_is_some d e) }, tt)
-placed_passes c path waiting (node rule a b) valid h e g natural =
+pub placed_passes : (c : Request) (size : ℕ) (path : Path) (waiting : List Mapping) (t : Breakdown) → IsSize size → IsWellFormed c.kind t → size_under path (size_of t) ≡ size →
+    Gathering size path waiting (size_of t) → Gathering size path [] (size_of t) → ArePlaced size path (size_of t) (tree_passes c path waiting t)
+placed_passes c size path waiting (leaf d) whole h e g natural = (new-placed size path waiting (leaf d) e g, tt)
+placed_passes c size path waiting (node rule a b) whole h e g natural =
     let r = size_of a in
     let s = size_of b in
-    let two_r : 2 ≤ r = h.0.left in
-    let two_s : 2 ≤ s = h.0.right in
-    placed_pick c path (r * s) (is_kernel c (r * s)) _ _ (record { gathers = g; scatters = scattering-new path waiting (node rule a b); multiplies = λ d e. absurd (none_is_some d e) }, tt)
-    (placed_rule c rule path r s _ _ (omega (arith, e, valid.in_range.size.1)) (is_rule c rule path a b valid h e) two_r two_s
-    (placed_passes c (path ++ Columns s ∷ []) [] a valid h.1 (size_under-push path (Columns s) r ∙ e) (gathering-push c path [] (Columns s) r two_s natural) (gathering-push c path [] (Columns s) r two_s natural))
-    (placed_passes c (path ++ Blocks r ∷ []) (rule_waiting rule path r s waiting) b valid h.2 (size_under-push path (Blocks r) s ∙ e)
-    (gathering_rule c rule path r s waiting (is_rule c rule path a b valid h e) valid.in_range.size.1 two_r two_s g) (gathering-push c path [] (Blocks r) s two_r natural)))
+    let here = rule_in c.kind size rule path a b whole h e in
+    placed_pick size path (r * s) (is_kernel c (r * s)) _ _ (new-placed size path waiting (node rule a b) e g, tt)
+    (placed_rule c.kind size rule path r s _ _ here
+    (placed_passes c size (path ++ Columns s ∷ []) [] a whole h.1 (size_under-push path (Columns s) r ∙ e) (gathering-push size path [] (Columns s) r here.right natural) (gathering-push size path [] (Columns s) r here.right natural))
+    (placed_passes c size (path ++ Blocks r ∷ []) (rule_waiting rule path r s waiting) b whole h.2 (size_under-push path (Blocks r) s ∙ e)
+    (gathering_rule c.kind size rule path r s waiting here g) (gathering-push size path [] (Blocks r) s here.left natural)))
 
 -- ---- the whole tree
 
-at_whole : (c : Request) → Gathering c [] [] c.size
-at_whole c =
+pub at_whole : (size : ℕ) → Gathering size [] [] size
+at_whole size =
     record {
       exponent = 0;
       weight = omega arith;
-      carries = λ cs e counts fits. record { fits = fits; levels = omega arith; parts = omega arith };
-      room = λ cs e counts fits. tt;
+      carries = λ cs d e counts fits. record { fits = fits; levels = omega arith; parts = omega arith };
+      stays = λ cs d e counts fits. fits;
     }
 
-counts-positive : (path : Path) (n d : ℕ) (cs : ℕ → ℕ) → AreCounts path n d cs → 0 < n
+-- the passes of a tree that stands for the whole
+pub whole_placed : (c : Request) (t : Breakdown) → IsSize (size_of t) → IsWellFormed c.kind t → ArePlaced (size_of t) [] (size_of t) (tree_passes c [] [] t)
+whole_placed c t whole h = placed_passes c (size_of t) [] [] t whole h refl (at_whole (size_of t)) (at_whole (size_of t))
+
+pub counts-positive : (path : Path) (n d : ℕ) (cs : ℕ → ℕ) → AreCounts path n d cs → 0 < n
 counts-positive [] n d cs h = h
 counts-positive (Blocks c ∷ path) n d cs h = counts-positive path n (d + 1) cs h.2
 counts-positive (Columns c ∷ path) n d cs h = counts-positive path n (d + 1) cs h.2
 
-exponent_small : (k d n : ℕ) → 0 < d → 2 ^ k * d ≤ n → n ≤ 65536 → k ≤ 16
+pub exponent_small : (k d n : ℕ) → 0 < d → 2 ^ k * d ≤ n → n ≤ 65536 → k ≤ 16
 exponent_small k d n positive weight high =
     elim (cases_lt 16 k) [
       | inl large ↦
@@ -420,30 +460,36 @@ exponent_small k d n positive weight high =
       | inr small ↦ small
     ]
 
-limited-by : (cs : ℕ → ℕ) (size : ℕ) (e g h : Sum) (k : ℕ) → k ≤ 16 → g ≡ h → Carries cs size e h k → IsWithinLimits cs size e g
+pub limited-by : (cs : ℕ → ℕ) (size : ℕ) (e g h : Sum) (k : ℕ) → k ≤ 16 → g ≡ h → Carries cs size e h k → IsWithinLimits cs size e g
 limited-by cs size e g h k small is c = record { fits = rw is c.fits; levels = rw is (omega (arith, c.levels)); parts = rw is (omega (arith, c.parts)) }
 
-limited_pass : (c : Request) (p : PlainPass) → c.size ≤ 65536 → IsPlacedPass c [] c.size p → IsLimitedPass c p
-limited_pass c p high h cs e counts fits =
-    let positive : 0 < size_of p.tree = counts-positive p.path (size_of p.tree) 0 cs counts in
-    let there = h.scatters.placed cs e counts fits in
+limited_pass : (c : Request) (p : PlainPass) → c.size ≤ 65536 → IsPlacedPass c.size [] c.size p → IsLimitedPass c p
+limited_pass c p high h cs e counts fits name =
+    let n = work_size p.work in
+    let positive : 0 < n = counts-positive p.path n 0 cs counts in
+    let there = h.scatters.placed cs 0 e counts fits in
     record {
-      gathers = limited-by cs c.size e (gather_sum cs p e) (gather_sum cs p e) h.gathers.exponent (exponent_small h.gathers.exponent (size_of p.tree) c.size positive h.gathers.weight high) refl (h.gathers.carries cs e counts fits);
-      scatters = limited-by cs c.size e (scatter_sum cs p e) there.inner h.scatters.exponent (exponent_small h.scatters.exponent (size_of p.tree) c.size positive h.scatters.weight high) there.is there.carries;
-      gather_room = h.gathers.room cs e counts fits;
-      scatter_room = h.scatters.room cs e counts fits;
+      gathers = limited-by cs c.size e (gather_sum cs p e) (gather_sum cs p e) h.gathers.exponent (exponent_small h.gathers.exponent n c.size positive h.gathers.weight high) refl (h.gathers.carries cs 0 e counts fits);
+      scatters = limited-by cs c.size e (scatter_sum cs p e) there.inner h.scatters.exponent (exponent_small h.scatters.exponent n c.size positive h.scatters.weight high) there.is there.carries;
+      gather_room = stays-room cs c.size p.befores (place_sum p.path n 0 e) (h.gathers.stays cs 0 e counts fits);
+      scatter_room = stays-room cs c.size p.afters (place_sum p.path n 0 e) (h.scatters.stays cs 0 e counts fits);
       multiplies = λ d is.
           let m = h.multiplies d is in
-          limited-by cs (d.rows * d.cols) e (diagonal_sum cs p d e) (diagonal_sum cs p d e) m.0.exponent (exponent_small m.0.exponent (size_of p.tree) (d.rows * d.cols) positive m.0.weight (omega (arith, m.1))) refl (m.0.carries cs e counts fits);
-      multiply_room = λ d is. (h.multiplies d is).0.room cs e counts fits;
+          limited-by cs (d.rows * d.cols) e (diagonal_sum cs p d e) (diagonal_sum cs p d e) m.0.exponent (exponent_small m.0.exponent n (d.rows * d.cols) positive m.0.weight (omega (arith, m.1))) refl (m.0.carries cs 0 e counts fits);
+      multiply_room = λ d is.
+          let m = (h.multiplies d is).0 in
+          all_room-append cs d.places (inner_of d.path (d.rows * d.cols)) (place_sum p.path n 0 e) (stays-room cs c.size d.places (place_sum p.path n 0 e) (m.stays cs 0 e counts fits)) (m.room cs 0 e counts fits);
     }
 
-all_limited : (c : Request) (ps : List PlainPass) → c.size ≤ 65536 → ArePlaced c [] c.size ps → AllLimited c ps
+pub all_limited : (c : Request) (ps : List PlainPass) → c.size ≤ 65536 → ArePlaced c.size [] c.size ps → AllLimited c ps
 all_limited c [] high h = tt
 all_limited c (p ∷ ps) high h = (limited_pass c p high h.0, all_limited c ps high h.1)
 
-pub places_are_limited : PlacesAreLimited
-places_are_limited c t valid h =
-    let start : Gathering c [] [] (size_of t) = subst (Gathering c [] []) (sym h.size) (at_whole c) in
-    let placed : ArePlaced c [] (size_of t) (tree_passes c [] [] t) = placed_passes c [] [] t valid h.well_formed h.size start start in
-    rw (merged_of-tree c t) (all_limited c (tree_passes c [] [] t) valid.in_range.size.1 (subst (λ n. ArePlaced c [] n (tree_passes c [] [] t)) h.size placed))
+pub size_in : (c : Request) → IsValid c → IsSize c.size
+size_in c valid = record { low = valid.in_range.size.0; high = valid.in_range.size.1 }
+
+-- the passes of a tree on one processor and one lane
+pub tree_limited : (c : Request) (t : Breakdown) → IsValid c → IsAdmissible c t → AllLimited c (tree_passes c [] [] t)
+tree_limited c t valid h =
+    all_limited c (tree_passes c [] [] t) valid.in_range.size.1
+    (subst (λ n. ArePlaced n [] n (tree_passes c [] [] t)) h.size (whole_placed c t (subst IsSize (sym h.size) (size_in c valid)) h.well_formed))

@@ -1,21 +1,22 @@
 -- The sums of a pass have the values of its places.
-use Rattle.std.proofs.Common.{◌≡◌, ℕ, zero, suc, ◌+◌, ◌*◌, ◌<◌, Bool, true, false, arith, refl, ap, ap₂, ◌∙◌, List, [], ◌∷◌, ◌++◌, if◌then◌else◌, zero-mul, mul-zero, inl, inr, subst, eq-zero-or-pos}
+use Rattle.std.proofs.Common.{◌≡◌, ℕ, zero, suc, ◌+◌, ◌*◌, ◌<◌, Bool, true, false, ◌≤◌, arith, refl, ap, ap₂, ◌∙◌, List, [], ◌∷◌, ◌++◌, if◌then◌else◌, zero-mul, mul-zero, inl, inr, subst, eq-zero-or-pos}
 use Rattle.std.specs.Prelude.{Some}
 use Rattle.index_fn.specs.Mapping.{Mapping, Strided, ThomasIn, ThomasBack, at}
+use Rattle.matrix_meaning.specs.declared.Kind.{Kind}
 use Rattle.matrix_meaning.specs.declared.Request.{Request}
-use Rattle.matrix_meaning.specs.Valid.{IsValid}
 use Rattle.perm_algebra.specs.Affine.{Sum, constant, variable, value, IsSound, scaled, simplified, AreBelowCounts}
 use Rattle.perm_algebra.proofs.AffineLaws.{value-scaled, value-joined}
 use Rattle.perm_algebra.proofs.Values.{simplifies, sound-scaled, sound-joined}
 use Rattle.loop_merge.specs.Merge.{PlainDiagonal, PlainPass, through, new_pass, scattered, multiplied, at_last}
-use Rattle.loop_merge.specs.Placed.{place_sum, all_simplified, loop_values, ArePlacesValues, AreValuesOf, PlacesAreValues}
-use Rattle.loop_merge.proofs.MergeMeaning.{IsRule, is_rule, coprime_of}
+use Rattle.loop_merge.specs.Placed.{place_sum, all_simplified, loop_values, ArePlacesValues, AreValuesOf}
 use Rattle.loop_merge.specs.Reach.{IsFormed, AreFormed}
 use Rattle.loop_merge.proofs.PlaceLimits.{none_is_some, multiplied-is}
-use Rattle.loop_merge.proofs.TreePasses.{rule_waiting, rule_passes, tree_passes, merged_of-tree}
+use Rattle.loop_merge.proofs.PartRules.{IsSize, IsRuleIn, rule_in, coprime_in}
+use Rattle.loop_merge.proofs.TreePasses.{rule_waiting, rule_passes, tree_passes}
 use Rattle.ring_mod.proofs.Inverses.{AreInverses, inverse_of_s, inverse_of_r, inverses_of}
+use Rattle.sigma_lower.specs.Work.{transforming, work_size}
 use Rattle.sigma_lower.specs.Wrapped.{wrapped, inner_of, unit_of}
-use Rattle.sigma_lower.proofs.Lowering.{units_of}
+use Rattle.sigma_lower.proofs.Lowering.{AreCoprime, units_of}
 use Rattle.tensor_paths.specs.declared.Tensor.TheVariants.{Blocks, Columns}
 use Rattle.tensor_paths.specs.Path.{Path, size_under, place}
 use Rattle.tensor_paths.proofs.Under.{size_under-push}
@@ -70,24 +71,24 @@ pub record IsFormedPass (p : PlainPass) : Type 0 where
 values-of : (p : PlainPass) → IsFormedPass p → (cs vs : ℕ → ℕ) (e : Sum) → AreBelowCounts vs cs → IsSound e → ArePlacesValues p cs vs e
 values-of p h cs vs e range sound =
     record {
-      gathers = value-at_place cs vs p.path (size_of p.tree) p.befores e h.befores range sound;
-      scatters = value-at_place cs vs p.path (size_of p.tree) p.afters e h.afters range sound;
+      gathers = value-at_place cs vs p.path (work_size p.work) p.befores e h.befores range sound;
+      scatters = value-at_place cs vs p.path (work_size p.work) p.afters e h.afters range sound;
       multiplies = λ d is.
           let m = h.multiplies d is in
-          value-at_place cs vs p.path (size_of p.tree) (d.places ++ inner_of d.path (d.rows * d.cols) ∷ []) e (formed-append d.places _ m.0 m.1) range sound
+          value-at_place cs vs p.path (work_size p.work) (d.places ++ inner_of d.path (d.rows * d.cols) ∷ []) e (formed-append d.places _ m.0 m.1) range sound
           ∙ through-end d.places (inner_of d.path (d.rows * d.cols)) _;
     }
 
 -- ---- the functions under tensors are formed
 
-left_positive : (a b : ℕ) → 0 < a * b → 0 < a
+pub left_positive : (a b : ℕ) → 0 < a * b → 0 < a
 left_positive zero b h = absurd (let none : 0 * b ≡ 0 = zero-mul b in omega arith)
 left_positive (suc a) b h = omega arith
 
-right_positive : (a b : ℕ) → 0 < a * b → 0 < b
+pub right_positive : (a b : ℕ) → 0 < a * b → 0 < b
 right_positive a b h = elim (eq-zero-or-pos b) [ inl none ↦ absurd (let gone : a * b ≡ 0 = ap (λ x. a * x) none ∙ mul-zero a in omega arith) | inr positive ↦ positive ]
 
-wrapped-formed : (path : Path) (n : ℕ) (f : Mapping) → 0 < size_under path n → IsFormed f → IsFormed (wrapped path n f)
+pub wrapped-formed : (path : Path) (n : ℕ) (f : Mapping) → 0 < size_under path n → IsFormed f → IsFormed (wrapped path n f)
 wrapped-formed [] n f positive h = h
 wrapped-formed (Blocks c ∷ path) n f positive h =
     let size : 0 < size_under path n = right_positive c (size_under path n) positive in
@@ -96,7 +97,7 @@ wrapped-formed (Columns c ∷ path) n f positive h =
     let count : 0 < c = right_positive (size_under path n) c positive in
     let inner = wrapped-formed path n f (left_positive (size_under path n) c positive) h in record { formed = (omega (arith, count), inner.formed, tt); no_list = (inner.no_list, tt) }
 
-inner-formed : (path : Path) (n : ℕ) → 0 < size_under path n → IsFormed (inner_of path n)
+pub inner-formed : (path : Path) (n : ℕ) → 0 < size_under path n → IsFormed (inner_of path n)
 inner-formed [] n positive = record { formed = tt; no_list = tt }
 inner-formed (Blocks c ∷ path) n positive =
     let size : 0 < size_under path n = right_positive c (size_under path n) positive in
@@ -105,25 +106,29 @@ inner-formed (Columns c ∷ path) n positive =
     let count : 0 < c = right_positive (size_under path n) c positive in
     let inner = inner-formed path n (left_positive (size_under path n) c positive) in record { formed = (omega (arith, count), inner.formed, tt); no_list = (inner.no_list, tt) }
 
-whole_positive : (c : Request) (rule : Rule) (path : Path) (r s : ℕ) → IsValid c → IsRule c rule path r s → 0 < size_under path (r * s)
-whole_positive c rule path r s valid h = omega (arith, h.size, valid.in_range.size.0)
+whole_positive : (kind : Kind) (size : ℕ) (rule : Rule) (path : Path) (r s : ℕ) → IsRuleIn kind size rule path r s → 0 < size_under path (r * s)
+whole_positive kind size rule path r s h = omega (arith, h.fills, h.whole.low)
 
-waiting_formed : (c : Request) (rule : Rule) (path : Path) (r s : ℕ) (waiting : List Mapping) → IsValid c → IsRule c rule path r s → AreFormed waiting → AreFormed (rule_waiting rule path r s waiting)
-waiting_formed c Gt path r s waiting valid h w =
-    (wrapped-formed path (r * s) (ThomasIn r s) (whole_positive c Gt path r s valid h) (record { formed = (omega (arith, h.left), omega (arith, h.right), omega (arith, h.small)); no_list = tt }), w)
-waiting_formed c Ct path r s waiting valid h w =
-    (wrapped-formed path (r * s) (Strided r s) (whole_positive c Ct path r s valid h) (record { formed = (omega (arith, h.left), omega (arith, h.right), omega (arith, h.small)); no_list = tt }), w)
-waiting_formed c Split path r s waiting valid h w = w
+pub strided-formed : (r s : ℕ) → 0 < r → 0 < s → r * s ≤ 65536 → IsFormed (Strided r s)
+strided-formed r s h g small = record { formed = (h, g, omega arith); no_list = tt }
 
-back_formed : (c : Request) (path : Path) (r s : ℕ) → IsValid c → IsRule c Gt path r s → IsFormed (wrapped path (r * s) (ThomasBack r s (unit_of r s) (unit_of s r)))
-back_formed c path r s valid h = wrapped-formed path (r * s) (ThomasBack r s (unit_of r s) (unit_of s r)) (whole_positive c Gt path r s valid h) (from_inverses (inverses_of r s h.left (coprime_of c path r s h).gcd))
+waiting_formed : (kind : Kind) (size : ℕ) (rule : Rule) (path : Path) (r s : ℕ) (waiting : List Mapping) → IsRuleIn kind size rule path r s → AreFormed waiting → AreFormed (rule_waiting rule path r s waiting)
+waiting_formed kind size Gt path r s waiting h w =
+    (wrapped-formed path (r * s) (ThomasIn r s) (whole_positive kind size Gt path r s h) (record { formed = (omega (arith, h.left), omega (arith, h.right), omega (arith, h.small)); no_list = tt }), w)
+waiting_formed kind size Ct path r s waiting h w =
+    (wrapped-formed path (r * s) (Strided r s) (whole_positive kind size Ct path r s h) (strided-formed r s (omega (arith, h.left)) (omega (arith, h.right)) h.small), w)
+waiting_formed kind size Split path r s waiting h w = w
+
+back_formed : (kind : Kind) (size : ℕ) (path : Path) (r s : ℕ) → IsRuleIn kind size Gt path r s → IsFormed (wrapped path (r * s) (ThomasBack r s (unit_of r s) (unit_of s r)))
+back_formed kind size path r s h =
+    let both : AreCoprime r s = coprime_in kind size path r s h in
+    wrapped-formed path (r * s) (ThomasBack r s (unit_of r s) (unit_of s r)) (whole_positive kind size Gt path r s h) (from_inverses (inverses_of r s both.left both.gcd))
   where
     from_inverses : (u : ℕ) × (v : ℕ) × AreInverses r s u v → IsFormed (ThomasBack r s (unit_of r s) (unit_of s r))
     from_inverses (u, v, both) =
-        record {
-          formed = (omega (arith, h.left), omega (arith, h.right), omega (arith, h.small), units_of r s u h.left h.right (inverse_of_s r s u v both), units_of s r v h.right h.left (inverse_of_r r s u v both));
-          no_list = tt;
-        }
+        let left : 0 < r = omega (arith, h.left) in
+        let right : 0 < s = omega (arith, h.right) in
+        record { formed = (left, right, omega (arith, h.small), units_of r s u left right (inverse_of_s r s u v both), units_of s r v right left (inverse_of_r r s u v both)); no_list = tt }
 
 -- ---- all passes of a tree
 
@@ -131,19 +136,19 @@ abbrev pub AreFormedPasses : List PlainPass → Type 0
 AreFormedPasses [] = Unit {0}
 AreFormedPasses (p ∷ ps) = IsFormedPass p × AreFormedPasses ps
 
-passes-append : (ps qs : List PlainPass) → AreFormedPasses ps → AreFormedPasses qs → AreFormedPasses (ps ++ qs)
+pub passes-append : (ps qs : List PlainPass) → AreFormedPasses ps → AreFormedPasses qs → AreFormedPasses (ps ++ qs)
 passes-append [] qs h k = k
 passes-append (p ∷ ps) qs h k = (h.0, passes-append ps qs h.1 k)
 
-passes-last : (f : PlainPass → PlainPass) (ps : List PlainPass) → ((p : PlainPass) → IsFormedPass p → IsFormedPass (f p)) → AreFormedPasses ps → AreFormedPasses (at_last f ps)
+pub passes-last : (f : PlainPass → PlainPass) (ps : List PlainPass) → ((p : PlainPass) → IsFormedPass p → IsFormedPass (f p)) → AreFormedPasses ps → AreFormedPasses (at_last f ps)
 passes-last f [] step h = tt
 passes-last f (p ∷ []) step h = (step p h.0, tt)
 passes-last f (p ∷ q ∷ ps) step h = (h.0, passes-last f (q ∷ ps) step h.1)
 
-scattered-formed : (f : Mapping) (p : PlainPass) → IsFormed f → IsFormedPass p → IsFormedPass (scattered f p)
+pub scattered-formed : (f : Mapping) (p : PlainPass) → IsFormed f → IsFormedPass p → IsFormedPass (scattered f p)
 scattered-formed f p h k = record { befores = k.befores; afters = formed-append p.afters f k.afters h; multiplies = k.multiplies }
 
-multiplied-formed : (path : Path) (r s : ℕ) (p : PlainPass) → 0 < size_under path (r * s) → IsFormedPass p → IsFormedPass (multiplied path r s p)
+pub multiplied-formed : (path : Path) (r s : ℕ) (p : PlainPass) → 0 < size_under path (r * s) → IsFormedPass p → IsFormedPass (multiplied path r s p)
 multiplied-formed path r s p positive k =
     record {
       befores = k.befores;
@@ -151,36 +156,33 @@ multiplied-formed path r s p positive k =
       multiplies = λ d e. subst (λ (z : PlainDiagonal). AreFormed z.places × IsFormed (inner_of z.path (z.rows * z.cols))) (multiplied-is path r s p.afters d e) (k.afters, inner-formed path (r * s) positive);
     }
 
-passes_rule : (c : Request) (rule : Rule) (path : Path) (r s : ℕ) (left right : List PlainPass) → IsValid c → IsRule c rule path r s → AreFormedPasses left → AreFormedPasses right →
+passes_rule : (kind : Kind) (size : ℕ) (rule : Rule) (path : Path) (r s : ℕ) (left right : List PlainPass) → IsRuleIn kind size rule path r s → AreFormedPasses left → AreFormedPasses right →
     AreFormedPasses (rule_passes rule path r s left right)
-passes_rule c Gt path r s left right valid h l k =
-    passes-append right _ k (passes-last _ left (λ p q. scattered-formed (wrapped path (r * s) (ThomasBack r s (unit_of r s) (unit_of s r))) p (back_formed c path r s valid h) q) l)
-passes_rule c Ct path r s left right valid h l k =
-    passes-append _ left (passes-last (multiplied path r s) right (λ p q. multiplied-formed path r s p (whole_positive c Ct path r s valid h) q) k) l
-passes_rule c Split path r s left right valid h l k = passes-append right left k l
+passes_rule kind size Gt path r s left right h l k =
+    passes-append right _ k (passes-last _ left (λ p q. scattered-formed (wrapped path (r * s) (ThomasBack r s (unit_of r s) (unit_of s r))) p (back_formed kind size path r s h) q) l)
+passes_rule kind size Ct path r s left right h l k =
+    passes-append _ left (passes-last (multiplied path r s) right (λ p q. multiplied-formed path r s p (whole_positive kind size Ct path r s h) q) k) l
+passes_rule kind size Split path r s left right h l k = passes-append right left k l
 
 passes_pick : (b : Bool) (ps qs : List PlainPass) → AreFormedPasses ps → AreFormedPasses qs → AreFormedPasses (if b then ps else qs)
 passes_pick true ps qs h k = h
 passes_pick false ps qs h k = k
 
-new-formed : (path : Path) (waiting : List Mapping) (t : Breakdown) → AreFormed waiting → IsFormedPass (new_pass path t waiting)
+new-formed : (path : Path) (waiting : List Mapping) (t : Breakdown) → AreFormed waiting → IsFormedPass (new_pass path (transforming t) waiting)
 new-formed path waiting t h = record { befores = h; afters = tt; multiplies = λ d e. absurd (none_is_some d e) }
 
-pub formed_passes : (c : Request) (path : Path) (waiting : List Mapping) (t : Breakdown) → IsValid c → IsWellFormedTree c.kind t → size_under path (size_of t) ≡ c.size → AreFormed waiting →
+pub formed_passes : (c : Request) (size : ℕ) (path : Path) (waiting : List Mapping) (t : Breakdown) → IsSize size → IsWellFormedTree c.kind t → size_under path (size_of t) ≡ size → AreFormed waiting →
     AreFormedPasses (tree_passes c path waiting t)
-formed_passes c path waiting (leaf d) valid h e w = (new-formed path waiting (leaf d) w, tt)
-formed_passes c path waiting (node rule a b) valid h e w =
+formed_passes c size path waiting (leaf d) whole h e w = (new-formed path waiting (leaf d) w, tt)
+formed_passes c size path waiting (node rule a b) whole h e w =
     let r = size_of a in
     let s = size_of b in
-    let here : IsRule c rule path r s = is_rule c rule path a b valid h e in
+    let here = rule_in c.kind size rule path a b whole h e in
     passes_pick (is_kernel c (r * s)) _ _ (new-formed path waiting (node rule a b) w, tt)
-    (passes_rule c rule path r s _ _ valid here
-    (formed_passes c (path ++ Columns s ∷ []) [] a valid h.1 (size_under-push path (Columns s) r ∙ e) tt)
-    (formed_passes c (path ++ Blocks r ∷ []) (rule_waiting rule path r s waiting) b valid h.2 (size_under-push path (Blocks r) s ∙ e) (waiting_formed c rule path r s waiting valid here w)))
+    (passes_rule c.kind size rule path r s _ _ here
+    (formed_passes c size (path ++ Columns s ∷ []) [] a whole h.1 (size_under-push path (Columns s) r ∙ e) tt)
+    (formed_passes c size (path ++ Blocks r ∷ []) (rule_waiting rule path r s waiting) b whole h.2 (size_under-push path (Blocks r) s ∙ e) (waiting_formed c.kind size rule path r s waiting here w)))
 
-values-all : (ps : List PlainPass) → AreFormedPasses ps → AreValuesOf ps
+pub values-all : (ps : List PlainPass) → AreFormedPasses ps → AreValuesOf ps
 values-all [] h = tt
 values-all (p ∷ ps) h = (values-of p h.0, values-all ps h.1)
-
-pub places_are_values : PlacesAreValues
-places_are_values c t valid h = rw (merged_of-tree c t) (values-all (tree_passes c [] [] t) (formed_passes c [] [] t valid h.well_formed h.size tt))

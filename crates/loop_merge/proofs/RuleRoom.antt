@@ -65,18 +65,20 @@ thomas_in-room r s d e cs count two_r two_s small f =
       subst (λ (z : Divided). CanMix cs (r * s) s r z.quot z.rem) (sym apart) (can_mix (r * s) s r v e cs (omega arith) (omega arith) fit.proper f.proper (omega arith)),
     )
 
-pub turns-room : (r s d : ℕ) (e : Sum) (cs : ℕ → ℕ) → cs d ≡ r → 2 ≤ r → 2 ≤ s → r * s ≤ 65536 → Fits s e cs → HasRoomFor cs (Strided r s) (tensor_sum (Blocks r) s d e)
-turns-room r s d e cs count two_r two_s small f =
-    let v = variable 1 d (constant 0) in
-    let fit = variable-fits r d cs count two_r in
-    let apart = divided-joined s v e cs (omega arith) f.proper f.small in
+pub strided-room : (r s : ℕ) (u e : Sum) (cs : ℕ → ℕ) → r * s ≤ 65536 → Fits r u cs → Fits s e cs → HasRoomFor cs (Strided r s) (joined (scaled s u) e)
+strided-room r s u e cs small fit f =
+    let some : 0 < s = omega (arith, f.small) in
+    let apart = divided-joined s u e cs some f.proper f.small in
     let other : r * top e cs ≤ r * s = below-product r s (top e cs) f.small in
-    let size : s ≤ r * s = right-le r s (omega arith) in
-    let rows : r ≤ r * s = le-mul_of_pos_right {m = s} r (omega arith) in (
-      can_divide s v e cs (omega arith) (omega arith) f.proper f.small,
+    let size : s ≤ r * s = right-le r s (omega (arith, fit.small)) in
+    let rows : r ≤ r * s = le-mul_of_pos_right {m = s} r some in (
+      can_divide s u e cs some (omega arith) f.proper f.small,
       subst (λ (z : Divided). CanScale r z.rem) (sym apart) (can_scale r e cs f.proper (omega arith)),
-      subst (λ (z : Divided). CanJoin (scaled r z.rem) z.quot) (sym apart) (can_join (scaled r e) v cs (omega (arith, top-scaled r e cs, fit.small))),
+      subst (λ (z : Divided). CanJoin (scaled r z.rem) z.quot) (sym apart) (can_join (scaled r e) u cs (omega (arith, top-scaled r e cs, fit.small))),
     )
+
+pub turns-room : (r s d : ℕ) (e : Sum) (cs : ℕ → ℕ) → cs d ≡ r → 2 ≤ r → 2 ≤ s → r * s ≤ 65536 → Fits s e cs → HasRoomFor cs (Strided r s) (tensor_sum (Blocks r) s d e)
+turns-room r s d e cs count two_r two_s small f = strided-room r s (variable 1 d (constant 0)) e cs small (variable-fits r d cs count two_r) f
 
 pub thomas_back-room : (r s u w d : ℕ) (e : Sum) (cs : ℕ → ℕ) → cs d ≡ s → 2 ≤ r → 2 ≤ s → r * s ≤ 65536 → 0 < u → u < r * s → 0 < w → w < r * s → Fits r e cs →
     HasRoomFor cs (ThomasBack r s u w) (tensor_sum (Columns s) r d e)

@@ -3,9 +3,10 @@ use Rattle.std.proofs.Common.{◌≡◌, ℕ, ◌*◌, Bool, true, false, List, 
 use Rattle.std.specs.Prelude.{map}
 use Rattle.index_fn.specs.Mapping.{Mapping, Strided, ThomasIn, ThomasBack}
 use Rattle.matrix_meaning.specs.declared.Request.{Request}
-use Rattle.loop_merge.specs.Merge.{PlainPass, Merging, new_pass, scattered, multiplied, at_last, merge_term, merged, merged_of}
-use Rattle.loop_merge.specs.Laws.{counted, MergeCounts}
+use Rattle.loop_merge.specs.Merge.{PlainPass, Merging, new_pass, scattered, multiplied, at_last, merge_term, merged, passes_of_terms}
+use Rattle.loop_merge.specs.Laws.{has_diagonal, counted_as, counted}
 use Rattle.sigma_lower.specs.Term.{PlainTerm, lowered}
+use Rattle.sigma_lower.specs.Work.{PlainWork, transforming, tiling}
 use Rattle.sigma_lower.specs.Wrapped.{wrapped, unit_of}
 use Rattle.steps.specs.Step.{PlainStep, step, piece, turns, twiddles, thomas_in, thomas_out, rule_steps, steps_of}
 use Rattle.tensor_paths.specs.declared.Tensor.TheVariants.{Blocks, Columns}
@@ -15,7 +16,7 @@ use Rattle.tree_model.specs.declared.tree.Rule.{Rule}
 use Rattle.tree_model.specs.declared.tree.Rule.TheVariants.{Gt, Ct, Split}
 use Rattle.tree_model.specs.Breakdown.{Breakdown, leaf, node, size_of}
 use Rattle.tree_model.specs.Cost.{is_kernel}
-use Rattle.tree_model.specs.Passes.{Pass, nodes, twiddle_last, twiddle_by, passes_of}
+use Rattle.tree_model.specs.Passes.{Pass, nodes, with_twiddles, twiddle_last, twiddle_by, passes_of}
 
 -- the gathers that wait when a rule's right part begins
 abbrev pub rule_waiting : Rule → Path → ℕ → ℕ → List Mapping → List Mapping
@@ -30,9 +31,9 @@ rule_passes Split path r s left right = right ++ left
 
 -- the passes of a tree under the tensors of the path, where these gathers wait
 abbrev pub tree_passes : Request → Path → List Mapping → Breakdown → List PlainPass
-tree_passes c path waiting (leaf d) = new_pass path (leaf d) waiting ∷ []
+tree_passes c path waiting (leaf d) = new_pass path (transforming (leaf d)) waiting ∷ []
 tree_passes c path waiting (node rule a b) =
-    if is_kernel c (size_of a * size_of b) then new_pass path (node rule a b) waiting ∷ []
+    if is_kernel c (size_of a * size_of b) then new_pass path (transforming (node rule a b)) waiting ∷ []
     else rule_passes rule path (size_of a) (size_of b) (tree_passes c (path ++ Columns (size_of b) ∷ []) [] a)
     (tree_passes c (path ++ Blocks (size_of a) ∷ []) (rule_waiting rule path (size_of a) (size_of b) waiting) b)
 
@@ -126,13 +127,13 @@ merged_tree c path (leaf d) = λ st. refl
 merged_tree c path (node rule a b) =
     let r = size_of a in
     let s = size_of b in
-    makes_pick (is_kernel c (r * s)) (step path (piece (node rule a b)) ∷ []) _ (λ waiting. new_pass path (node rule a b) waiting ∷ []) _ (λ st. refl)
+    makes_pick (is_kernel c (r * s)) (step path (piece (node rule a b)) ∷ []) _ (λ waiting. new_pass path (transforming (node rule a b)) waiting ∷ []) _ (λ st. refl)
     (makes_rule rule path r s _ _ (λ waiting. tree_passes c (path ++ Columns s ∷ []) waiting a) (λ waiting. tree_passes c (path ++ Blocks r ∷ []) waiting b)
     (λ waiting. full_passes c (path ++ Columns s ∷ []) waiting a) (λ waiting. full_passes c (path ++ Blocks r ∷ []) waiting b)
     (merged_tree c (path ++ Columns s ∷ []) a) (merged_tree c (path ++ Blocks r ∷ []) b))
 
-pub merged_of-tree : (c : Request) (t : Breakdown) → merged_of c t ≡ tree_passes c [] [] t
-merged_of-tree c t = ap (λ (z : Merging). z.passes) (merged_tree c [] t (done []))
+pub passes_of_terms-tree : (c : Request) (t : Breakdown) → passes_of_terms (map lowered (steps_of c [] t)) ≡ tree_passes c [] [] t
+passes_of_terms-tree c t = ap (λ (z : Merging). z.passes) (merged_tree c [] t (done []))
 
 -- ---- they are the passes of the cost model
 
@@ -145,9 +146,13 @@ counted-scattered f [] = refl
 counted-scattered f (p ∷ []) = refl
 counted-scattered f (p ∷ q ∷ ps) = ap (λ rest. counted p ∷ rest) (counted-scattered f (q ∷ ps))
 
-counted-multiplied : (path : Path) (r s : ℕ) (ps : List PlainPass) → map counted (at_last (multiplied path r s) ps) ≡ twiddle_last (map counted ps)
+with-diagonal : (n : ℕ) (w : PlainWork) (b : Bool) → counted_as n w true ≡ with_twiddles (counted_as n w b)
+with-diagonal n (transforming t) b = refl
+with-diagonal n (tiling v) b = refl
+
+pub counted-multiplied : (path : Path) (r s : ℕ) (ps : List PlainPass) → map counted (at_last (multiplied path r s) ps) ≡ twiddle_last (map counted ps)
 counted-multiplied path r s [] = refl
-counted-multiplied path r s (p ∷ []) = refl
+counted-multiplied path r s (p ∷ []) = ap (λ q. q ∷ []) (with-diagonal (copies_of p.path) p.work (has_diagonal p.diagonal))
 counted-multiplied path r s (p ∷ q ∷ ps) = ap (λ rest. counted p ∷ rest) (counted-multiplied path r s (q ∷ ps))
 
 counted_rule : (rule : Rule) (path : Path) (r s : ℕ) (left right : List PlainPass) → map counted (rule_passes rule path r s left right) ≡ twiddle_by rule (map counted right) ++ map counted left
@@ -164,11 +169,8 @@ counted_passes c path waiting (leaf d) = refl
 counted_passes c path waiting (node rule a b) =
     let r = size_of a in
     let s = size_of b in
-    counted_pick (is_kernel c (r * s)) (new_pass path (node rule a b) waiting ∷ []) _ (nodes (copies_of path) (node rule a b) false ∷ []) _ refl
+    counted_pick (is_kernel c (r * s)) (new_pass path (transforming (node rule a b)) waiting ∷ []) _ (nodes (copies_of path) (node rule a b) false ∷ []) _ refl
     (counted_rule rule path r s (tree_passes c (path ++ Columns s ∷ []) [] a) (tree_passes c (path ++ Blocks r ∷ []) (rule_waiting rule path r s waiting) b)
     ∙ ap₂ (λ x y. twiddle_by rule x ++ y)
     (counted_passes c (path ++ Blocks r ∷ []) (rule_waiting rule path r s waiting) b ∙ ap (λ n. passes_of c n b) (copies_of-push path (Blocks r)))
     (counted_passes c (path ++ Columns s ∷ []) [] a ∙ ap (λ n. passes_of c n a) (copies_of-push path (Columns s))))
-
-pub merge_counts : MergeCounts
-merge_counts c t = ap (map counted) (merged_of-tree c t) ∙ counted_passes c [] [] t

@@ -5,12 +5,13 @@ use Rattle.matrix_meaning.specs.declared.Request.{Request}
 use Rattle.matrix_meaning.specs.Valid.{IsValid}
 use Rattle.perm_algebra.specs.Affine.{Fits, Sum, constant, variable, value, IsSound, AreBelowCounts, levels, parts, scaled, joined, simplified}
 use Rattle.perm_algebra.specs.Room.{HasRoomFor}
+use Rattle.sigma_lower.specs.Work.{PlainWork, transforming, tiling, work_size}
 use Rattle.sigma_lower.specs.Wrapped.{inner_of}
 use Rattle.loop_merge.specs.Merge.{PlainDiagonal, PlainPass, through, gather_place, scatter_place, merged_of}
 use Rattle.tensor_paths.specs.declared.Tensor.TheVariants.{Blocks, Columns}
 use Rattle.tensor_paths.specs.Path.{Path, size_under, place}
 use Rattle.tree_model.specs.Admissible.{IsAdmissible}
-use Rattle.tree_model.specs.Breakdown.{Breakdown, size_of}
+use Rattle.tree_model.specs.Breakdown.{Breakdown}
 
 -- the place of e in the copy that the variables from d on name
 abbrev pub place_sum : Path → ℕ → ℕ → Sum → Sum
@@ -36,17 +37,17 @@ AllRoom cs (f ∷ fs) e = HasRoomFor cs f e × AllRoom cs fs (simplified cs f e)
 
 -- the places of the item that e names in its copy: where it is loaded from, and where it is stored
 abbrev pub gather_sum : (ℕ → ℕ) → PlainPass → Sum → Sum
-gather_sum cs p e = all_simplified cs p.befores (place_sum p.path (size_of p.tree) 0 e)
+gather_sum cs p e = all_simplified cs p.befores (place_sum p.path (work_size p.work) 0 e)
 
 abbrev pub scatter_sum : (ℕ → ℕ) → PlainPass → Sum → Sum
-scatter_sum cs p e = all_simplified cs p.afters (place_sum p.path (size_of p.tree) 0 e)
+scatter_sum cs p e = all_simplified cs p.afters (place_sum p.path (work_size p.work) 0 e)
 
 -- the place of that item in its ct's diagonal
 abbrev pub diagonal_places : PlainDiagonal → List Mapping
 diagonal_places d = d.places ++ inner_of d.path (d.rows * d.cols) ∷ []
 
 abbrev pub diagonal_sum : (ℕ → ℕ) → PlainPass → PlainDiagonal → Sum → Sum
-diagonal_sum cs p d e = all_simplified cs (diagonal_places d) (place_sum p.path (size_of p.tree) 0 e)
+diagonal_sum cs p d e = all_simplified cs (diagonal_places d) (place_sum p.path (work_size p.work) 0 e)
 
 -- what a place may be, for a list of so many items: below its size, with no quotient, and not too deep or long
 pub record IsWithinLimits (cs : ℕ → ℕ) (size : ℕ) (e g : Sum) : Type 0 where
@@ -58,13 +59,18 @@ pub record IsWithinLimits (cs : ℕ → ℕ) (size : ℕ) (e g : Sum) : Type 0 w
 pub record ArePlacesLimited (c : Request) (p : PlainPass) (cs : ℕ → ℕ) (e : Sum) : Type 0 where
   pub gathers : IsWithinLimits cs c.size e (gather_sum cs p e)
   pub scatters : IsWithinLimits cs c.size e (scatter_sum cs p e)
-  pub gather_room : AllRoom cs p.befores (place_sum p.path (size_of p.tree) 0 e)
-  pub scatter_room : AllRoom cs p.afters (place_sum p.path (size_of p.tree) 0 e)
+  pub gather_room : AllRoom cs p.befores (place_sum p.path (work_size p.work) 0 e)
+  pub scatter_room : AllRoom cs p.afters (place_sum p.path (work_size p.work) 0 e)
   pub multiplies : (d : PlainDiagonal) → p.diagonal ≡ Some d → IsWithinLimits cs (d.rows * d.cols) e (diagonal_sum cs p d e)
-  pub multiply_room : (d : PlainDiagonal) → p.diagonal ≡ Some d → AllRoom cs (diagonal_places d) (place_sum p.path (size_of p.tree) 0 e)
+  pub multiply_room : (d : PlainDiagonal) → p.diagonal ≡ Some d → AllRoom cs (diagonal_places d) (place_sum p.path (work_size p.work) 0 e)
+
+-- a sum that may name an item: any for a transform, and a number for a tile, whose items are written out one by one
+abbrev pub IsName : PlainWork → Sum → Type 0
+IsName (transforming t) e = Unit {0}
+IsName (tiling v) e = (k : ℕ) × (e ≡ constant k)
 
 abbrev pub IsLimitedPass : Request → PlainPass → Type 0
-IsLimitedPass c p = (cs : ℕ → ℕ) (e : Sum) → AreCounts p.path (size_of p.tree) 0 cs → Fits (size_of p.tree) e cs → ArePlacesLimited c p cs e
+IsLimitedPass c p = (cs : ℕ → ℕ) (e : Sum) → AreCounts p.path (work_size p.work) 0 cs → Fits (work_size p.work) e cs → IsName p.work e → ArePlacesLimited c p cs e
 
 abbrev pub AllLimited : Request → List PlainPass → Type 0
 AllLimited c [] = Unit {0}
@@ -83,7 +89,7 @@ pub record ArePlacesValues (p : PlainPass) (cs vs : ℕ → ℕ) (e : Sum) : Typ
   pub gathers : value (gather_sum cs p e) vs ≡ gather_place p (loop_values p.path 0 vs) (value e vs)
   pub scatters : value (scatter_sum cs p e) vs ≡ scatter_place p (loop_values p.path 0 vs) (value e vs)
   pub multiplies : (d : PlainDiagonal) → p.diagonal ≡ Some d →
-      value (diagonal_sum cs p d e) vs ≡ at (inner_of d.path (d.rows * d.cols)) (through d.places (place p.path (size_of p.tree) (loop_values p.path 0 vs) (value e vs)))
+      value (diagonal_sum cs p d e) vs ≡ at (inner_of d.path (d.rows * d.cols)) (through d.places (place p.path (work_size p.work) (loop_values p.path 0 vs) (value e vs)))
 
 abbrev pub AreValuesOf : List PlainPass → Type 0
 AreValuesOf [] = Unit {0}

@@ -6,12 +6,13 @@ use Rattle.perm_algebra.specs.Affine.{Sum, constant, variable, value, scaled, si
 use Rattle.perm_algebra.specs.Fits.{InRange, IsAffine, Stays}
 use Rattle.perm_algebra.specs.Room.{CanScale, CanJoin}
 use Rattle.sigma_lower.specs.Room.{HasRoom}
+use Rattle.sigma_lower.specs.Work.{PlainWork, transforming, tiling, work_size}
 use Rattle.loop_merge.specs.Merge.{PlainDiagonal, PlainPass}
 use Rattle.loop_merge.specs.Placed.{AllRoom, place_sum, diagonal_places}
 use Rattle.loop_merge.specs.Listed.{counts_of, items_of}
 use Rattle.tensor_paths.specs.declared.Tensor.TheVariants.{Blocks, Columns}
 use Rattle.tensor_paths.specs.Path.{Path, size_under}
-use Rattle.tree_model.specs.Breakdown.{size_of, HasWordSizes}
+use Rattle.tree_model.specs.Breakdown.{HasWordSizes}
 
 -- a function that can be simplified
 pub record IsFormed (f : Mapping) : Type 0 where
@@ -52,11 +53,20 @@ abbrev pub ReachesAll : List ℕ → List Mapping → Path → ℕ → List Sum 
 ReachesAll counts fs path n [] = Unit {0}
 ReachesAll counts fs path n (e ∷ es) = CanReach counts fs path n e × ReachesAll counts fs path n es
 
+-- the numbers of a pass's work are words
+abbrev pub HasWords : PlainWork → Type 0
+HasWords (transforming t) = HasWordSizes t
+HasWords (tiling v) = v * v < 2 ^ 64
+
 -- a pass whose places can all be made
 pub record IsReachable (c : Request) (p : PlainPass) : Type 0 where
-  pub sized : HasWordSizes p.tree
+  pub sized : HasWords p.work
   pub short : length p.path + 1 < 2 ^ 64
-  pub gathers : ReachesAll (counts_of p) p.befores p.path (size_of p.tree) (items_of c (size_of p.tree) (length p.path + 1))
-  pub scatters : ReachesAll (counts_of p) p.afters p.path (size_of p.tree) (items_of c (size_of p.tree) (length p.path))
+  pub gathers : ReachesAll (counts_of p) p.befores p.path (work_size p.work) (items_of c p.work (length p.path + 1))
+  pub scatters : ReachesAll (counts_of p) p.afters p.path (work_size p.work) (items_of c p.work (length p.path))
   pub multiplies : (d : PlainDiagonal) → p.diagonal ≡ Some d →
-      HasRoom d.path (d.rows * d.cols) × (d.rows * d.cols < 2 ^ 64) × ReachesAll (counts_of p) (diagonal_places d) p.path (size_of p.tree) (items_of c (size_of p.tree) (length p.path))
+      HasRoom d.path (d.rows * d.cols) × (d.rows * d.cols < 2 ^ 64) × ReachesAll (counts_of p) (diagonal_places d) p.path (work_size p.work) (items_of c p.work (length p.path))
+
+abbrev pub AreReachable : Request → List PlainPass → Type 0
+AreReachable c [] = Unit {0}
+AreReachable c (p ∷ ps) = IsReachable c p × AreReachable c ps

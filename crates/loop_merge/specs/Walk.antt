@@ -4,6 +4,7 @@ use Rattle.matrix_meaning.specs.declared.Request.{Request}
 use Rattle.loop_merge.specs.Merge.{Merging, PlainPass, merge_term}
 use Rattle.sigma_lower.specs.Lowered.{sigma_of}
 use Rattle.sigma_lower.specs.Term.{PlainTerm, gath, scat, diag, nest}
+use Rattle.sigma_lower.specs.Work.{transforming, tiling}
 use Rattle.sigma_spl.specs.Plain.{PlainPlaces, PlainSigma, Whole, Copy, Sum, Gath, Scat, DiagAt, Kernel, Dense, Tile, Compose}
 use Rattle.tensor_paths.specs.Path.{Path}
 use Rattle.tree_model.specs.Admissible.{IsAdmissible}
@@ -26,15 +27,15 @@ abbrev pub with_scatter : Walked → PlainPlaces → Walked
 with_scatter w (Whole f) = with_term w (scat f)
 with_scatter w (Copy path n) = w
 
--- a kernel or a leaf is a pass over the copies that were gathered
+-- a kernel, a leaf or a tile is a pass over the copies that were gathered
 abbrev pub walked : Walked → PlainSigma → Walked
 walked w (Sum count body) = walked w body
 walked w (Gath places) = with_gather w places
 walked w (Scat places) = with_scatter w places
 walked w (DiagAt path r s) = with_term w (diag path r s)
-walked w (Kernel t) = with_term w (nest w.path t)
-walked w (Dense t) = with_term w (nest w.path t)
-walked w (Tile lanes) = w
+walked w (Kernel t) = with_term w (nest w.path (transforming t))
+walked w (Dense t) = with_term w (nest w.path (transforming t))
+walked w (Tile lanes) = with_term w (nest w.path (tiling lanes))
 walked w (Compose a b) = walked (walked w b) a
 
 abbrev pub start : Walked
@@ -43,6 +44,6 @@ start = record { path = []; merging = record { waiting = []; passes = [] } }
 abbrev pub passes_in : PlainSigma → List PlainPass
 passes_in s = (walked start s).merging.passes
 
--- a formula that some admissible tree is lowered to
-abbrev pub IsOfTree : Request → PlainSigma → Type 0
-IsOfTree c s = (t : Breakdown) × IsAdmissible c t × (s ≡ sigma_of c t)
+-- formulas that some admissible tree is lowered to, one for each phase
+abbrev pub AreOfTree : Request → List PlainSigma → Type 0
+AreOfTree c ss = (t : Breakdown) × IsAdmissible c t × (ss ≡ sigma_of c t)

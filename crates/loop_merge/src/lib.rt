@@ -1,34 +1,29 @@
 //! Permutations and diagonals merged into the loops beside them (Franchetti et al., 2005).
 #![tactic(auto)]
 
-ghost use Rattle.std.specs.Prelude.{◌≡◌, ℕ, List, IfOk, map};
+ghost use Rattle.std.specs.Prelude.{◌≡◌, IfOk, map};
 ghost use Rattle.index_fn.specs.Index.{mapping_of};
-ghost use Rattle.loop_merge.specs.Laws.{counted, MergeKeeps, MergeCounts};
-ghost use Rattle.loop_merge.specs.Merge.{scattered, multiplied, at_last, merged_of, passes_on};
-ghost use Rattle.loop_merge.specs.Placed.{AllLimited, AreValuesOf, PlacesAreLimited, PlacesAreValues};
+ghost use Rattle.loop_merge.specs.Laws.{MergeKeeps, MergeCounts};
+ghost use Rattle.loop_merge.specs.Merge.{scattered, multiplied, at_last};
+ghost use Rattle.loop_merge.specs.Placed.{PlacesAreLimited, PlacesAreValues};
 ghost use Rattle.loop_merge.specs.Stores.{PassesStore};
-ghost use Rattle.loop_merge.specs.Views.{plain_pass, plain_walked};
+ghost use Rattle.loop_merge.specs.Views.{plain_pass, plain_walked, plain_work};
 ghost use Rattle.loop_merge.specs.Walk.{walked, with_gather, with_scatter, with_term, passes_in};
 ghost use Rattle.sigma_lower.specs.Term.{diag, nest};
 ghost use Rattle.sigma_spl.specs.Views.{plain_places, plain_sigma};
-ghost use Rattle.steps.specs.Meaning.{transform_of};
-ghost use Rattle.tree_model.specs.Admissible.{IsAdmissible};
-ghost use Rattle.tree_model.specs.Breakdown.{breakdown_of};
-ghost use Rattle.tree_model.specs.Passes.{passes_of};
 
 mod listed;
 mod merged;
+mod work;
 
 use index_fn::Index;
-pub use listed::{ListedPass, Multiplier, listed_places};
+pub use listed::{Frame, ListedPass, Multiplier, frame_for, is_straight, listed_places};
 use memory::NoMemory;
-pub use merged::{Merged, merge, merged_tree};
-use sigma_lower::lower;
+pub use merged::{Merged, merge};
 use sigma_spl::{Places, Sigma};
 use std::alloc::Global;
-use steps::steps_of_tree;
 use tensor_paths::Tensor;
-use tree_model::{Ctx, Tree};
+pub use work::Work;
 
 /// The diagonal of a ct, taken at what these functions make of a place of its pass.
 #[derive(Drop)]
@@ -39,11 +34,11 @@ pub struct Diagonal {
     pub places: Vec<Index>,
 }
 
-/// A loop over the copies of a kernel or a leaf, with the functions that make the places of its loads and stores.
+/// A loop over the copies of a kernel, a leaf or a tile, with the functions that make the places of its loads and stores.
 #[derive(Drop)]
 pub struct Pass {
     pub path: Vec<Tensor>,
-    pub tree: Tree,
+    pub work: Work,
     pub befores: Vec<Index>,
     pub diagonal: Option<Diagonal>,
     pub afters: Vec<Index>,
@@ -56,22 +51,6 @@ pub struct State {
     pub path: Vec<Tensor>,
     pub waiting: Vec<Index>,
     pub passes: Vec<Pass>,
-}
-
-/// The merged passes of a tree.
-pub fn passes_of_tree(alloc: Global, c: &Ctx, tree: &Tree) -> Result<Vec<Pass>, NoMemory>
-    requires { IsAdmissible c.now (breakdown_of tree.now) }
-    ensures form { IfOk result (λ passes. map plain_pass passes.items ≡ merged_of c.now (breakdown_of tree.now)) }
-    ensures meaning { IfOk result (λ passes. (x : List ℕ) → passes_on c.now (map plain_pass passes.items) x ≡ transform_of c.now c.now.size x) }
-    ensures counts { IfOk result (λ passes. map counted (map plain_pass passes.items) ≡ passes_of c.now 1 (breakdown_of tree.now)) }
-    ensures limits { IfOk result (λ passes. AllLimited c.now (map plain_pass passes.items)) }
-    ensures places { IfOk result (λ passes. AreValuesOf (map plain_pass passes.items)) }
-{
-    let _request = c.request();
-    let steps = steps_of_tree(alloc, c, tree)?;
-    let formula = lower(alloc, c, &steps)?;
-    let passes = passes_of_formula(alloc, &formula)?;
-    Ok(passes)
 }
 
 /// The passes of a formula: each gather goes into the pass after it, and each scatter or diagonal into the pass before it.
@@ -109,10 +88,14 @@ fn walk(alloc: Global, state: State, formula: &Sigma) -> Result<State, NoMemory>
             Ok(next)
         }
         Sigma::Kernel(tree) | Sigma::Dense(tree) => {
-            let next = begin_pass(alloc, state, tree)?;
+            let work = Work::Transform(tree.copied(alloc)?);
+            let next = begin_pass(alloc, state, work)?;
             Ok(next)
         }
-        Sigma::Tile { .. } => Ok(state),
+        Sigma::Tile { lanes } => {
+            let next = begin_pass(alloc, state, Work::Tile(*lanes))?;
+            Ok(next)
+        }
         Sigma::Compose(a, b) => {
             let next = walk(alloc, state, b)?;
             let last = walk(alloc, next, a)?;
@@ -196,8 +179,8 @@ fn multiply_whole(
     })
 }
 
-fn begin_pass(alloc: Global, state: State, tree: &Tree) -> Result<State, NoMemory>
-    ensures { IfOk result (λ next. plain_walked next ≡ with_term (plain_walked state) (nest (plain_walked state).path (breakdown_of tree.now))) }
+fn begin_pass(alloc: Global, state: State, work: Work) -> Result<State, NoMemory>
+    ensures { IfOk result (λ next. plain_walked next ≡ with_term (plain_walked state) (nest (plain_walked state).path (plain_work work))) }
 {
     let State {
         path,
@@ -205,10 +188,9 @@ fn begin_pass(alloc: Global, state: State, tree: &Tree) -> Result<State, NoMemor
         passes,
     } = state;
     let copies = path.as_slice().to_vec(alloc)?;
-    let tree = tree.copied(alloc)?;
     let pass = Pass {
         path: copies,
-        tree,
+        work,
         befores: waiting,
         diagonal: None,
         afters: Vec::new(alloc),
@@ -317,3 +299,6 @@ pub fn places_are_values()
 pub fn passes_store()
     ensures { PassesStore }
 {}
+
+#[cfg(test)]
+mod tests;

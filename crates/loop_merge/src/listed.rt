@@ -1,13 +1,13 @@
 // The passes of a tree, with the place of each item as a sum of the loops' variables.
 ghost use Rattle.std.specs.List.{range_with_len};
-ghost use Rattle.std.specs.Prelude.{◌≡◌, ◌*◌, ◌^◌, ◌<◌, ◌++◌, ◌∷◌, [], IfOk, All, length, map, slice_index};
+ghost use Rattle.std.specs.Prelude.{◌≡◌, ◌*◌, ◌^◌, ◌<◌, ◌≤◌, ◌++◌, ◌∷◌, [], IfOk, All, drop, length, map, slice_index};
 ghost use Rattle.index_fn.specs.Index.{mapping_of};
-ghost use Rattle.loop_merge.specs.Listed.{items_of, places_of, PlainMultiplier, listed_of};
+ghost use Rattle.loop_merge.specs.Listed.{frame_of, is_straight, item_of, items_of, listed_of, one_if_several, places_of, vectors_of, PlainMultiplier};
 ghost use Rattle.loop_merge.specs.ListedLaw.{ListedPlaces};
 ghost use Rattle.loop_merge.specs.ListedViews.{plain_multiplier, plain_listed};
 ghost use Rattle.loop_merge.specs.Placed.{AllRoom, place_sum, all_simplified, diagonal_places};
-ghost use Rattle.loop_merge.specs.Reach.{AreDefined, AreFormed, CanName, CanReach, IsReachable};
-ghost use Rattle.loop_merge.specs.Views.{plain_diagonal, plain_pass};
+ghost use Rattle.loop_merge.specs.Reach.{AreDefined, AreFormed, CanName, CanReach, HasWords, IsReachable};
+ghost use Rattle.loop_merge.specs.Views.{plain_diagonal, plain_pass, plain_work};
 ghost use Rattle.perm_algebra.specs.Affine.{constant, value};
 ghost use Rattle.perm_algebra.specs.Fits.{IsAffine, Stays};
 ghost use Rattle.perm_algebra.specs.Views.{plain_sum};
@@ -15,14 +15,14 @@ ghost use Rattle.sigma_lower.specs.Room.{HasRoom};
 ghost use Rattle.sigma_lower.specs.Wrapped.{inner_of};
 ghost use Rattle.tensor_paths.specs.Path.{count_of};
 
-use crate::{Diagonal, Pass, copies};
+use crate::{Diagonal, Pass, Work, copies};
 use index_fn::Index;
 use memory::NoMemory;
 use perm_algebra::{Affine, copy, join, scale_sum, simplify};
 use sigma_lower::size_of_whole;
 use std::alloc::Global;
 use tensor_paths::Tensor;
-use tree_model::{Ctx, Tree, is_kernel};
+use tree_model::{Ctx, is_kernel};
 
 /// The diagonal of a ct after a pass: its size is `rows * cols`, and each stored item has its place in it.
 #[derive(Drop)]
@@ -32,17 +32,60 @@ pub struct Multiplier {
     pub places: Vec<Affine>,
 }
 
-/// A pass as code needs it. The variables of its places are numbered from the outermost loop in. A kernel has a place for
-/// each item of a copy. A longer leaf has one place for all: the variable after those of the loops counts its rows, which
-/// it stores by, and the next one its columns, which it loads by.
+/// What the variables of a pass's places stand for.
+#[derive(Clone, Copy, Debug)]
+pub struct Frame {
+    /// Whether several processors share the pass: then variable 0 is the processor's.
+    pub shared: bool,
+    /// The variable of the outermost loop.
+    pub first_loop: u64,
+}
+
+/// A pass as code needs it. The first variables of its places are those of the frame, and those of the loops come after
+/// them, from the outermost loop in. Straight code has a place for each register. A longer leaf has one place for all: the
+/// variable after those of the loops counts its rows, which it stores by, and the next one its columns, which it loads by.
 #[derive(Drop)]
 pub struct ListedPass {
     /// How often each loop runs, the outermost first.
     pub loops: Vec<u64>,
-    pub tree: Tree,
+    pub work: Work,
     pub gathers: Vec<Affine>,
     pub multiplier: Option<Multiplier>,
     pub scatters: Vec<Affine>,
+}
+
+/// The frame of a pass that does this work.
+pub fn frame_for(c: &Ctx, work: &Work) -> Frame
+    ensures { result ≡ frame_of c.now (plain_work work.now) }
+{
+    let request = c.request();
+    let processor = one_if_several(request.procs);
+    let lane = match work {
+        Work::Transform(_) => one_if_several(request.lanes),
+        Work::Tile(_) => 0,
+    };
+    Frame {
+        shared: request.procs != 1,
+        first_loop: processor + lane,
+    }
+}
+
+fn one_if_several(count: u64) -> u64
+    ensures value { result ≡ one_if_several count }
+    ensures limit { result ≤ 1 }
+{
+    if count == 1 { 0 } else { 1 }
+}
+
+/// Whether the code of a copy names its items one by one.
+pub fn is_straight(c: &Ctx, work: &Work) -> bool
+    requires { HasWords (plain_work work.now) }
+    ensures { result ≡ is_straight c.now (plain_work work.now) }
+{
+    match work {
+        Work::Transform(tree) => is_kernel(c, tree.size()),
+        Work::Tile(_) => true,
+    }
 }
 
 /// The passes, with the places of their items.
@@ -62,26 +105,44 @@ fn list_one(alloc: Global, c: &Ctx, pass: &Pass) -> Result<ListedPass, NoMemory>
     requires { IsReachable c.now (plain_pass pass.now) }
     ensures { IfOk result (λ listed. plain_listed listed ≡ listed_of c.now (plain_pass pass.now)) }
 {
-    let size = pass.tree.size();
-    let loops = counts(alloc, &pass.path)?;
-    let limits = with_two(alloc, &loops, size)?;
+    let size = pass.work.size();
+    let counts = counts(alloc, &pass.path)?;
+    let limits = with_two(alloc, &counts, size)?;
     let depth = pass.path.len() as u64;
-    let columns = items(alloc, c, size, depth + 1)?;
+    let columns = items(alloc, c, &pass.work, depth + 1)?;
     let gathers = places(alloc, &limits, &pass.befores, &pass.path, size, &columns)?;
-    let rows = items(alloc, c, size, depth)?;
+    let rows = items(alloc, c, &pass.work, depth)?;
     let scatters = places(alloc, &limits, &pass.afters, &pass.path, size, &rows)?;
     let multiplier = match &pass.diagonal {
         None => None,
         Some(diagonal) => Some(multiplier_at(alloc, &limits, diagonal, &pass.path, size, &rows)?),
     };
-    let tree = pass.tree.copied(alloc)?;
+    let loops = after(alloc, &counts, frame_for(c, &pass.work).first_loop)?;
+    let work = pass.work.copied(alloc)?;
     Ok(ListedPass {
         loops,
-        tree,
+        work,
         gathers,
         multiplier,
         scatters,
     })
+}
+
+// The numbers after the first ones.
+fn after(alloc: Global, numbers: &[u64], first: u64) -> Result<Vec<u64>, NoMemory>
+    ensures { IfOk result (λ rest. rest.items ≡ drop first numbers.now) }
+{
+    if first == 0 {
+        let all = numbers.to_vec(alloc)?;
+        return Ok(all);
+    }
+    match numbers.split_first() {
+        None => Ok(Vec::new(alloc)),
+        Some((_, rest)) => {
+            let rest = after(alloc, rest, first - 1)?;
+            Ok(rest)
+        }
+    }
 }
 
 // How often the loop of each tensor runs.
@@ -105,12 +166,13 @@ fn with_two(alloc: Global, list: &[u64], number: u64) -> Result<Vec<u64>, NoMemo
     Ok(longer)
 }
 
-// The items of a copy: of a kernel each by itself, of a longer leaf all by the variable.
-fn items(alloc: Global, c: &Ctx, size: u64, variable: u64) -> Result<Vec<Affine>, NoMemory>
-    ensures { IfOk result (λ items. map plain_sum items.items ≡ items_of c.now size variable) }
+// The items of a copy on the first lane: of straight code each by itself, of a longer leaf all by the variable.
+fn items(alloc: Global, c: &Ctx, work: &Work, variable: u64) -> Result<Vec<Affine>, NoMemory>
+    requires { HasWords (plain_work work.now) }
+    ensures { IfOk result (λ items. map plain_sum items.items ≡ items_of c.now (plain_work work.now) variable) }
 {
-    if is_kernel(c, size) {
-        return numbers(alloc, size);
+    if is_straight(c, work) {
+        return numbers(alloc, work);
     }
     let end = Box::new(alloc, Affine::Constant(0))?;
     let mut items = Vec::new(alloc);
@@ -118,12 +180,13 @@ fn items(alloc: Global, c: &Ctx, size: u64, variable: u64) -> Result<Vec<Affine>
     Ok(items)
 }
 
-fn numbers(alloc: Global, size: u64) -> Result<Vec<Affine>, NoMemory>
-    ensures { IfOk result (λ numbers. map plain_sum numbers.items ≡ map constant (range_with_len 0 size)) }
+fn numbers(alloc: Global, work: &Work) -> Result<Vec<Affine>, NoMemory>
+    requires { HasWords (plain_work work.now) }
+    ensures { IfOk result (λ numbers. map plain_sum numbers.items ≡ map (λ k. constant (item_of (plain_work work.now) k 0)) (range_with_len 0 (vectors_of (plain_work work.now)))) }
 {
     let mut numbers = Vec::new(alloc);
-    for k in 0..size {
-        numbers.push(Affine::Constant(k))?;
+    for k in 0..work.vectors() {
+        numbers.push(Affine::Constant(work.first_item(k)))?;
     }
     Ok(numbers)
 }
@@ -277,101 +340,3 @@ fn inner(alloc: Global, path: &[Tensor], n: u64) -> Result<Index, NoMemory>
 pub fn listed_places()
     ensures { ListedPlaces }
 {}
-
-#[cfg(test)]
-mod tests {
-    use super::*;
-    use crate::{Merged, merged_tree};
-    use matrix_meaning::{Kind, Request};
-    use std::test::Fail;
-    use tree_model::admissible;
-
-    fn four() -> Request
-        ensures { result ≡ record { kind = Kind.Dft; size = 4; modulus = 17; root = 4; procs = 1; line = 1; lanes = 1; unroll = 2; budget = 100000000; weight = 1 } }
-    {
-        Request {
-            kind: Kind::Dft,
-            size: 4,
-            modulus: 17,
-            root: 4,
-            procs: 1,
-            line: 1,
-            lanes: 1,
-            unroll: 2,
-            budget: 100_000_000,
-            weight: 1,
-        }
-    }
-
-    fn six() -> Request
-        ensures { result ≡ record { kind = Kind.Dft; size = 6; modulus = 7; root = 3; procs = 1; line = 1; lanes = 1; unroll = 2; budget = 100000000; weight = 1 } }
-    {
-        Request {
-            size: 6,
-            modulus: 7,
-            root: 3,
-            ..four()
-        }
-    }
-
-    fn listing(alloc: Global, merged: &Merged) -> Result<String, Fail> {
-        let mut text = String::new(alloc);
-        for phase in &merged.phases {
-            for pass in phase {
-                list_pass(alloc, &mut text, pass)?;
-            }
-        }
-        Ok(text)
-    }
-
-    fn list_pass(alloc: Global, text: &mut String, pass: &ListedPass) -> Result<(), Fail> {
-        for sum in &pass.gathers {
-            text.push_str(format!(in alloc; "ld {sum}; ")?.as_str())?;
-        }
-        if let Some(multiplier) = &pass.multiplier {
-            for sum in &multiplier.places {
-                text.push_str(format!(in alloc; "mul {sum}; ")?.as_str())?;
-            }
-        }
-        for sum in &pass.scatters {
-            text.push_str(format!(in alloc; "st {sum}; ")?.as_str())?;
-        }
-        Ok(())
-    }
-
-    // By hand, from the places of a step by strides: `k * 2 + i` before it and `i * 2 + k` after its right part.
-    #[test]
-    fn step_by_strides(rt: HostRuntime) -> Result<(), Fail> {
-        let alloc = rt.alloc();
-        let c = Ctx::new(&four());
-        let left = Box::new(alloc, Tree::Leaf(2))?;
-        let right = Box::new(alloc, Tree::Leaf(2))?;
-        let tree = Tree::Ct(left, right);
-        assert!(rt; admissible(&c, &tree));
-        assert!(rt; c.is_plain());
-        let merged = merged_tree(alloc, &c, &tree)?;
-        assert_eq!(rt;
-            listing(alloc, &merged)?.as_str(),
-            "ld 0+v0*1; ld 2+v0*1; mul 0+v0*2; mul 1+v0*2; st 0+v0*2; st 1+v0*2; ld 0+v0*1; ld 2+v0*1; st 0+v0*1; st 2+v0*1; "
-        );
-        Ok(())
-    }
-
-    // By hand, from the places of a step by coprime factors: `(3 * i + 2 * l) mod 6` before it and `(3 * k + 4 * j) mod 6` after it.
-    #[test]
-    fn step_by_coprime_factors(rt: HostRuntime) -> Result<(), Fail> {
-        let alloc = rt.alloc();
-        let c = Ctx::new(&six());
-        let left = Box::new(alloc, Tree::Leaf(2))?;
-        let right = Box::new(alloc, Tree::Leaf(3))?;
-        let tree = Tree::Gt(left, right);
-        assert!(rt; admissible(&c, &tree));
-        assert!(rt; c.is_plain());
-        let merged = merged_tree(alloc, &c, &tree)?;
-        assert_eq!(rt;
-            listing(alloc, &merged)?.as_str(),
-            "ld 0+(0+v0*3+v2*2)%6*1; st 0+v0*3+v1*1; ld 0+v0*1; ld 3+v0*1; st 0+(0+v0*4)%6*1; st 0+(3+v0*4)%6*1; "
-        );
-        Ok(())
-    }
-}

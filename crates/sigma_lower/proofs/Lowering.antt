@@ -1,8 +1,8 @@
 -- Each term does what its step does.
-use Rattle.std.proofs.Common.{◌≡◌, ◌≢◌, ℕ, zero, suc, ◌*◌, ◌%◌, ◌<◌, ◌≤◌, Bool, true, false, arith, refl, sym, ap, ◌∙◌, List, [], ◌∷◌, ◌++◌, inl, inr, mod-lt, if◌then◌else◌, subst, mul_comm}
-use Rattle.std.specs.Prelude.{slice_index, map}
+use Rattle.std.proofs.Common.{◌≡◌, ◌≢◌, ℕ, zero, suc, ◌*◌, ◌%◌, ◌<◌, ◌≤◌, ◌+◌, ◌/◌, Bool, true, false, arith, refl, sym, ap, ap₂, ◌∙◌, List, [], ◌∷◌, ◌++◌, inl, inr, mod-lt, if◌then◌else◌, subst, mul_comm, div-lt_iff_lt-mul}
+use Rattle.std.specs.Prelude.{map}
 use Rattle.std.specs.Int.{IsGcd}
-use Rattle.std.proofs.Math.Nat.{zero-mod, mod-eq_of_lt}
+use Rattle.std.proofs.Math.Nat.{zero-mod, mod-eq_of_lt, div-add-mod'}
 use Rattle.std.proofs.lemmas.Bool.{cases_eq}
 use Rattle.std.proofs.lemmas.Bool.Decides.{nat_tests}
 use Rattle.std.proofs.lemmas.List.FromFn.{fill_by_all}
@@ -12,16 +12,16 @@ use Rattle.index_fn.proofs.Thomas.{thomas_out_undoes, unit_found}
 use Rattle.matrix_meaning.specs.declared.Kind.{Kind}
 use Rattle.matrix_meaning.specs.declared.Kind.TheVariants.{Dft, Wht}
 use Rattle.matrix_meaning.specs.declared.Request.{Request}
-use Rattle.matrix_meaning.specs.Kind.{transform, entry_of}
 use Rattle.operators.specs.Loop.{scatter, IsPermutationBelow}
-use Rattle.operators.specs.Operator.{gather, scale}
-use Rattle.operators.proofs.Lists.{at-list_below, list_below-same, length-list_below, place_below}
+use Rattle.operators.specs.Identities.{HasSize}
+use Rattle.operators.specs.Operator.{gather, scale, stride}
+use Rattle.operators.proofs.Lists.{at-list_below, place_below, row-of, column-of, factor_positive}
 use Rattle.operators.proofs.Places.{stride_below}
 use Rattle.operators.proofs.Scatters.{gather_as_scatter}
-use Rattle.operators.proofs.Sums.{sum_below-same}
 use Rattle.ring_mod.proofs.Inverses.{AreInverses, inverse_of_s, inverse_of_r, inverses_of}
 use Rattle.matrix_meaning.specs.Valid.{IsValid}
-use Rattle.steps.specs.Meaning.{transform_of, core_size, core_on, step_on, all_on}
+use Rattle.smp_rewrite.proofs.Cores.{core-reads, core-gives}
+use Rattle.steps.specs.Meaning.{core_size, core_on, step_on, all_on}
 use Rattle.steps.specs.Step.{PlainCore, piece, turns, twiddles, thomas_in, thomas_out, PlainStep, rule_steps, steps_of}
 use Rattle.steps.proofs.WordSizes.{word_sizes}
 use Rattle.sigma_spl.proofs.Moves.{within_whole}
@@ -32,10 +32,11 @@ use Rattle.tensor_paths.proofs.Under.{size_under-push, size_under-copies, under-
 use Rattle.tensor_paths.proofs.PathLoops.{loop_is_under}
 use Rattle.tree_model.specs.declared.tree.Rule.{Rule}
 use Rattle.tree_model.specs.declared.tree.Rule.TheVariants.{Gt, Ct, Split}
-use Rattle.tree_model.specs.Admissible.{IsAdmissible}
 use Rattle.tree_model.specs.Breakdown.{Breakdown, leaf, node, size_of, AllowsRule, IsWellFormed, HasWordSizes}
 use Rattle.tree_model.specs.Cost.{is_kernel}
-use Rattle.sigma_lower.specs.Term.{lowered_core, lowered, term_on, terms_on, diagonal_at, LoweredTransforms}
+use Rattle.vec_rewrite.specs.Vectors.{PlainFactor, lanes, diagonals, move_before, move_after, tiles, factor_step}
+use Rattle.sigma_lower.specs.Term.{nest, lowered_core, after_core, factor_term, term_on, terms_on, diagonal_at}
+use Rattle.sigma_lower.specs.Work.{PlainWork, transforming, tiling, work_size, work_on}
 use Rattle.sigma_lower.specs.Wrapped.{wrapped, unit_below, unit_of}
 use Rattle.sigma_lower.proofs.Permuted.{StaysBelow, gather-under, scale-under, wrapped-permutes}
 -- ---- the steps of a tree are good: of the request's size, and with the factors that their permutations need
@@ -141,25 +142,47 @@ unit_small r s h = from_inverses (inverses_of r s h.left h.gcd)
 
 -- ---- each term
 
-pub reads-transform : (kind : Kind) (m n w : ℕ) → Reads n (transform kind m n w)
-reads-transform kind m n w x =
-    list_below-same n _ _ (λ k row. ap (λ y. y % m) (sum_below-same n _ _ (λ l below. ap (λ y. entry_of kind m w k l * y) (at-list_below n (slice_index x) l below))))
+-- a transform and a tile read as many items as they give
+pub work-reads : (c : Request) (w : PlainWork) → Reads (work_size w) (work_on c w)
+work-reads c (transforming t) = core-reads c (piece t)
+work-reads c (tiling v) = core-reads c (turns v v)
 
-nest_on : (c : Request) (path : Path) (t : Breakdown) (x : List ℕ) → size_under path (size_of t) ≡ c.size →
-    loop_on c.size path (size_of t) (place path (size_of t)) (λ vs. transform_of c (size_of t)) (place path (size_of t)) x ≡ under path (size_of t) (transform_of c (size_of t)) x
-nest_on c path t x e =
-    let d = size_of t in
-    let a = transform_of c d in
+work-gives : (c : Request) (w : PlainWork) → HasSize (work_size w) (work_on c w)
+work-gives c (transforming t) = core-gives c (piece t)
+work-gives c (tiling v) = core-gives c (turns v v)
+
+-- the loops over the copies
+pub nest_on : (c : Request) (path : Path) (w : PlainWork) (x : List ℕ) → size_under path (work_size w) ≡ c.size → term_on c (nest path w) x ≡ under path (work_size w) (work_on c w) x
+nest_on c path w x e =
+    let d = work_size w in
+    let a = work_on c w in
     ap (λ n. loop_on n path d (place path d) (λ vs. a) (place path d) x) (sym e)
-    ∙ sym (fill_by_all _ (under path d a x) (size_under path d) 0 (under-size path d a (λ y. length-list_below _ _) x)
-    (λ k below. sym (loop_is_under path d a x (reads-transform c.kind c.modulus d _) k below) ∙ at-list_below (size_under path d) _ k below))
+    ∙ sym (fill_by_all _ (under path d a x) (size_under path d) 0 (under-size path d a (work-gives c w) x)
+    (λ k below. sym (loop_is_under path d a x (work-reads c w) k below) ∙ at-list_below (size_under path d) _ k below))
 
 pub turns_below : (r s : ℕ) → StaysBelow (r * s) (at (Strided r s))
 turns_below r s i below = (stride_below r s i below).1
 
+-- a stride permutation is undone by that of the other numbers
+turn-undone : (r s i : ℕ) → i < r * s → stride r s (stride s r i) ≡ i
+turn-undone r s i below =
+    let positive : 0 < r = factor_positive s r i (omega (arith, mul_comm r s)) in
+    let row : i / r < s = (div-lt_iff_lt-mul positive).1 (omega (arith, mul_comm r s)) in
+    ap₂ (λ a b. a * r + b) (column-of (i % r) (i / r) s row) (row-of (i % r) (i / r) s row) ∙ div-add-mod' i r
+
+pub turns-permute : (r s : ℕ) → IsPermutationBelow (r * s) (at (Strided r s)) (at (Strided s r))
+turns-permute r s =
+    let turned : s * r ≡ r * s = mul_comm s r in
+    record {
+      there_below = turns_below r s;
+      back_below = λ i below. omega (arith, turned, turns_below s r i (omega (arith, turned)));
+      back-there = λ i below. turn-undone s r i (omega (arith, turned));
+      there-back = turn-undone r s;
+    }
+
 pub lowered_core_on : (c : Request) (path : Path) (k : PlainCore) (x : List ℕ) → size_under path (core_size k) ≡ c.size → IsGoodCore k →
     term_on c (lowered_core path k) x ≡ under path (core_size k) (core_on c k) x
-lowered_core_on c path (piece t) x e h = nest_on c path t x e
+lowered_core_on c path (piece t) x e h = nest_on c path (transforming t) x e
 lowered_core_on c path (turns r s) x e h =
     ap (λ n. gather n (at (wrapped path (r * s) (Strided r s))) x) (sym e)
     ∙ sym (gather-under path (r * s) (Strided r s) x (turns_below r s))
@@ -175,13 +198,26 @@ lowered_core_on c path (thomas_out r s) x e h =
     ∙ sym (gather_as_scatter (size_under path (r * s)) _ _ x (wrapped-permutes path (r * s) (ThomasOut r s) (ThomasBack r s (unit_of r s) (unit_of s r)) both))
     ∙ sym (gather-under path (r * s) (ThomasOut r s) x both.there_below)
 
-pub lowered_on : (c : Request) (ss : List PlainStep) (x : List ℕ) → AreGood c ss → terms_on c (map lowered ss) x ≡ all_on c ss x
-lowered_on c [] x h = refl
-lowered_on c (s ∷ ss) x h =
-    ap (terms_on c (map lowered ss)) (lowered_core_on c s.path s.core x h.0.size h.0.core) ∙ lowered_on c ss (step_on c s x) h.1
+after_core_on : (c : Request) (path : Path) (k : PlainCore) (x : List ℕ) → size_under path (core_size k) ≡ c.size → IsGoodCore k →
+    term_on c (after_core path k) x ≡ under path (core_size k) (core_on c k) x
+after_core_on c path (piece t) x e h = lowered_core_on c path (piece t) x e h
+after_core_on c path (turns r s) x e h =
+    ap (λ n. scatter n n (at (wrapped path (r * s) (Strided s r))) x) (sym e)
+    ∙ sym (gather_as_scatter (size_under path (r * s)) _ _ x (wrapped-permutes path (r * s) (Strided r s) (Strided s r) (turns-permute r s)))
+    ∙ sym (gather-under path (r * s) (Strided r s) x (turns_below r s))
+after_core_on c path (twiddles r s) x e h = lowered_core_on c path (twiddles r s) x e h
+after_core_on c path (thomas_in r s) x e h = lowered_core_on c path (thomas_in r s) x e h
+after_core_on c path (thomas_out r s) x e h = lowered_core_on c path (thomas_out r s) x e h
 
-pub lowered_transforms : LoweredTransforms
-lowered_transforms c t x valid h = lowered_on c (steps_of c [] t) x (good_steps c [] t valid h.well_formed h.size)
+-- the term of a factor does what its step does
+pub factor_on : (c : Request) (p v : ℕ) (f : PlainFactor) (x : List ℕ) → IsGood c (factor_step p v f) → term_on c (factor_term p v f) x ≡ step_on c (factor_step p v f) x
+factor_on c p v (lanes s) x h = lowered_core_on c (factor_step p v (lanes s)).path s.core x h.size h.core
+factor_on c p v (diagonals s) x h = lowered_core_on c s.path s.core x h.size h.core
+factor_on c p v (move_before s) x h = lowered_core_on c (factor_step p v (move_before s)).path s.core x h.size h.core
+factor_on c p v (move_after s) x h = after_core_on c (factor_step p v (move_after s)).path s.core x h.size h.core
+factor_on c p v (tiles path) x h = nest_on c (factor_step p v (tiles path)).path (tiling v) x h.size
 
-pub good_of_tree : (c : Request) (t : Breakdown) (ss : List PlainStep) → IsValid c → IsAdmissible c t → ss ≡ steps_of c [] t → AreGood c ss
-good_of_tree c t ss valid h e = rw e (good_steps c [] t valid h.well_formed h.size)
+pub factors_on : (c : Request) (p v : ℕ) (fs : List PlainFactor) (x : List ℕ) → AreGood c (map (factor_step p v) fs) → terms_on c (map (factor_term p v) fs) x ≡ all_on c (map (factor_step p v) fs) x
+factors_on c p v [] x h = refl
+factors_on c p v (f ∷ fs) x h =
+    ap (terms_on c (map (factor_term p v) fs)) (factor_on c p v f x h.0) ∙ factors_on c p v fs (step_on c (factor_step p v f) x) h.1

@@ -1,68 +1,159 @@
-//! Steps as a formula with loops: permutations become gathers and scatters, and matrices under tensors become loops.
+//! Formulas for processors and lanes as formulas with loops: permutations become gathers and scatters, and matrices under tensors become loops.
 #![tactic(auto)]
 
 ghost use Rattle.std.specs.Prelude.{◌≡◌, ℕ, ◌*◌, ◌^◌, ◌<◌, ◌≤◌, [], IfOk, List, map, All};
 ghost use Rattle.index_fn.specs.Index.{mapping_of};
-ghost use Rattle.sigma_lower.specs.Good.{AreGood};
-ghost use Rattle.sigma_lower.specs.Lowered.{copy_of, formula_of, loops_round, node_of, product_after, sigma_of_steps, IsWhole, SigmaTransforms};
+ghost use Rattle.sigma_lower.specs.Lowered.{all_mean, formula_of, gathered, loops_round, node_of, product_after, product_of, sigmas_of, IsVecOf, IsWhole, SigmaTransforms};
 ghost use Rattle.sigma_lower.specs.Room.{HasRoom, IsRoomy};
-ghost use Rattle.sigma_lower.specs.Term.{lowered, nest, LoweredTransforms};
+ghost use Rattle.sigma_lower.specs.Root.{SharedTerms};
+ghost use Rattle.sigma_lower.specs.Term.{factor_term, lowered, lowered_after, LoweredTransforms, PlainTerms};
+ghost use Rattle.sigma_lower.specs.Work.{transforming};
 ghost use Rattle.sigma_lower.specs.Wrapped.{wrapped, unit_below, unit_of};
-ghost use Rattle.sigma_spl.specs.Meaning.{mean};
 ghost use Rattle.sigma_spl.specs.Plain as plain;
 ghost use Rattle.sigma_spl.specs.Views.{plain_places, plain_sigma};
 ghost use Rattle.spl_ast.specs.Meaning.{IsVector};
-ghost use Rattle.steps.specs.Meaning.{all_on};
 ghost use Rattle.steps.specs.Views.{plain_step};
 ghost use Rattle.tensor_paths.specs.Path.{size_under};
 ghost use Rattle.tree_model.specs.Breakdown.{breakdown_of, HasWordSizes};
+ghost use Rattle.vec_rewrite.specs.Vectors.{factor_step, vec_on};
+ghost use Rattle.vec_rewrite.specs.Views.{plain_vec, plain_vec_factor};
 
 use index_fn::Index;
 use memory::NoMemory;
 pub use sigma_spl::size_of_whole;
 use sigma_spl::{Places, Sigma};
+use smp_rewrite::{step_within, within};
 use std::alloc::Global;
 use steps::{Core, Step};
 use tensor_paths::Tensor;
 use tree_model::{Ctx, Tree, is_kernel};
+use vec_rewrite::{VecFactor, VecSpl};
 
-/// The product of steps as a formula with loops. The first step is applied first.
-pub fn lower(alloc: Global, c: &Ctx, steps: &[Step]) -> Result<Sigma, NoMemory>
-    requires { AreGood c.now (map plain_step steps.now) }
-    ensures form { IfOk result (λ s. plain_sigma s ≡ sigma_of_steps c.now (map plain_step steps.now)) }
-    ensures whole { IfOk result (λ s. IsWhole c.now (plain_sigma s)) }
-    ensures meaning { IfOk result (λ s. (x : List ℕ) → IsVector c.now.modulus c.now.size x → mean c.now [] (plain_sigma s) x ≡ all_on c.now (map plain_step steps.now) x) }
+/// A formula with loops for each phase of a formula for processors and lanes. Its first factor is applied first.
+pub fn lower(alloc: Global, c: &Ctx, vectors: &VecSpl) -> Result<Vec<Sigma>, NoMemory>
+    requires { IsVecOf c.now (plain_vec vectors.now) }
+    ensures form { IfOk result (λ ss. map plain_sigma ss.items ≡ sigmas_of c.now (plain_vec vectors.now)) }
+    ensures whole { IfOk result (λ ss. All (IsWhole c.now) (map plain_sigma ss.items)) }
+    ensures meaning { IfOk result (λ ss. (x : List ℕ) → IsVector c.now.modulus c.now.size x → all_mean c.now (map plain_sigma ss.items) x ≡ vec_on c.now (plain_vec vectors.now) x) }
 {
     let _request = c.request();
-    let formula = product(alloc, c, steps)?;
-    Ok(formula)
+    let formulas = phases(alloc, c, vectors)?;
+    Ok(formulas)
 }
 
-fn product(alloc: Global, c: &Ctx, steps: &[Step]) -> Result<Sigma, NoMemory>
-    requires { All (λ s. IsRoomy (plain_step s)) steps.now }
-    ensures { IfOk result (λ s. plain_sigma s ≡ sigma_of_steps c.now (map plain_step steps.now)) }
+// One processor has one phase, several have one for each part of the root.
+fn phases(alloc: Global, c: &Ctx, vectors: &VecSpl) -> Result<Vec<Sigma>, NoMemory>
+    requires first { All (λ f. IsRoomy (factor_step vectors.now.procs vectors.now.lanes (plain_vec_factor f))) vectors.now.first.items }
+    requires second { All (λ f. IsRoomy (factor_step vectors.now.procs vectors.now.lanes (plain_vec_factor f))) vectors.now.second.items }
+    requires alone { vectors.now.procs ≡ 1 → vectors.now.second.items ≡ [] }
+    ensures { IfOk result (λ ss. map plain_sigma ss.items ≡ sigmas_of c.now (plain_vec vectors.now)) }
 {
-    match steps.split_first() {
+    let mut formulas = Vec::new(alloc);
+    let right = product(alloc, c, vectors, &vectors.first)?;
+    formulas.push(right)?;
+    if vectors.procs == 1 {
+        return Ok(formulas);
+    }
+    let left = product(alloc, c, vectors, &vectors.second)?;
+    formulas.push(left)?;
+    Ok(formulas)
+}
+
+// The product of a phase's factors.
+fn product(
+    alloc: Global,
+    c: &Ctx,
+    vectors: &VecSpl,
+    factors: &[VecFactor],
+) -> Result<Sigma, NoMemory>
+    requires { All (λ f. IsRoomy (factor_step vectors.now.procs vectors.now.lanes (plain_vec_factor f))) factors.now }
+    ensures { IfOk result (λ s. plain_sigma s ≡ product_of c.now (map (factor_term vectors.now.procs vectors.now.lanes) (map plain_vec_factor factors.now))) }
+{
+    match factors.split_first() {
         None => Ok(Sigma::Gath(Places::Whole(Index::Identity))),
-        Some((step, rest)) => {
-            let first = lower_step(alloc, c, step)?;
-            let all = steps_after(alloc, c, first, rest)?;
+        Some((factor, rest)) => {
+            let first = lower_factor(alloc, c, vectors, factor)?;
+            let all = factors_after(alloc, c, vectors, first, rest)?;
             Ok(all)
         }
     }
 }
 
-// The steps after a formula.
-fn steps_after(alloc: Global, c: &Ctx, formula: Sigma, steps: &[Step]) -> Result<Sigma, NoMemory>
-    requires { All (λ s. IsRoomy (plain_step s)) steps.now }
-    ensures { IfOk result (λ s. plain_sigma s ≡ product_after c.now (plain_sigma formula) (map lowered (map plain_step steps.now))) }
+// The factors after a formula.
+fn factors_after(
+    alloc: Global,
+    c: &Ctx,
+    vectors: &VecSpl,
+    formula: Sigma,
+    factors: &[VecFactor],
+) -> Result<Sigma, NoMemory>
+    requires { All (λ f. IsRoomy (factor_step vectors.now.procs vectors.now.lanes (plain_vec_factor f))) factors.now }
+    ensures { IfOk result (λ s. plain_sigma s ≡ product_after c.now (plain_sigma formula) (map (factor_term vectors.now.procs vectors.now.lanes) (map plain_vec_factor factors.now))) }
 {
-    match steps.split_first() {
+    match factors.split_first() {
         None => Ok(formula),
-        Some((step, rest)) => {
+        Some((factor, rest)) => {
             let first = Box::new(alloc, formula)?;
-            let second = Box::new(alloc, lower_step(alloc, c, step)?)?;
-            let all = steps_after(alloc, c, Sigma::Compose(second, first), rest)?;
+            let second = Box::new(alloc, lower_factor(alloc, c, vectors, factor)?)?;
+            let all = factors_after(alloc, c, vectors, Sigma::Compose(second, first), rest)?;
+            Ok(all)
+        }
+    }
+}
+
+// The formula of a factor.
+fn lower_factor(
+    alloc: Global,
+    c: &Ctx,
+    vectors: &VecSpl,
+    factor: &VecFactor,
+) -> Result<Sigma, NoMemory>
+    requires { IsRoomy (factor_step vectors.now.procs vectors.now.lanes (plain_vec_factor factor.now)) }
+    ensures { IfOk result (λ s. plain_sigma s ≡ formula_of c.now (factor_term vectors.now.procs vectors.now.lanes (plain_vec_factor factor.now))) }
+{
+    let (procs, lanes) = (vectors.procs, vectors.lanes);
+    match factor {
+        VecFactor::Lanes(s) => {
+            let path = within(alloc, Tensor::Columns(lanes), &s.path)?;
+            let whole = step_within(alloc, Tensor::Blocks(procs), &path, &s.core)?;
+            let all = lower_step(alloc, c, &whole)?;
+            Ok(all)
+        }
+        VecFactor::Diagonals(s) => {
+            let all = lower_step(alloc, c, s)?;
+            Ok(all)
+        }
+        VecFactor::MoveBefore(s) => {
+            let whole = step_within(alloc, Tensor::Columns(lanes), &s.path, &s.core)?;
+            let all = lower_step(alloc, c, &whole)?;
+            Ok(all)
+        }
+        VecFactor::MoveAfter(s) => {
+            let whole = step_within(alloc, Tensor::Columns(lanes), &s.path, &s.core)?;
+            let all = lower_after(alloc, c, &whole)?;
+            Ok(all)
+        }
+        VecFactor::Tiles(path) => {
+            let path = within(alloc, Tensor::Blocks(procs), path)?;
+            let all = nest(alloc, &path, lanes * lanes, Sigma::Tile { lanes })?;
+            Ok(all)
+        }
+    }
+}
+
+// The formula of a step, where a stride permutation goes into what comes before it.
+fn lower_after(alloc: Global, c: &Ctx, step: &Step) -> Result<Sigma, NoMemory>
+    requires { IsRoomy (plain_step step.now) }
+    ensures { IfOk result (λ s. plain_sigma s ≡ formula_of c.now (lowered_after (plain_step step.now))) }
+{
+    match &step.core {
+        Core::Turns { rows, cols } => {
+            let back = Index::StridePermutation(*cols, *rows);
+            let places = under(alloc, &step.path, rows * cols, back)?;
+            Ok(Sigma::Scat(Places::Whole(places)))
+        }
+        _ => {
+            let all = lower_step(alloc, c, step)?;
             Ok(all)
         }
     }
@@ -75,7 +166,8 @@ fn lower_step(alloc: Global, c: &Ctx, step: &Step) -> Result<Sigma, NoMemory>
 {
     match &step.core {
         Core::Piece(tree) => {
-            let all = nest(alloc, c, &step.path, tree)?;
+            let node = node(alloc, c, tree)?;
+            let all = nest(alloc, &step.path, tree.size(), node)?;
             Ok(all)
         }
         Core::Turns { rows, cols } => {
@@ -106,24 +198,21 @@ fn lower_step(alloc: Global, c: &Ctx, step: &Step) -> Result<Sigma, NoMemory>
     }
 }
 
-// The loops over the copies of a kernel or a leaf.
-fn nest(alloc: Global, c: &Ctx, path: &[Tensor], tree: &Tree) -> Result<Sigma, NoMemory>
-    requires { HasWordSizes (breakdown_of tree.now) }
-    ensures { IfOk result (λ s. plain_sigma s ≡ loops_round path.now (copy_of c.now path.now (breakdown_of tree.now))) }
+// The loops over the copies of a kernel, a leaf or a tile of this size.
+fn nest(alloc: Global, path: &[Tensor], size: u64, node: Sigma) -> Result<Sigma, NoMemory>
+    ensures { IfOk result (λ s. plain_sigma s ≡ loops_round path.now (gathered path.now size (plain_sigma node))) }
 {
-    let copy = one_copy(alloc, c, path, tree)?;
+    let copy = one_copy(alloc, path, size, node)?;
     let all = loops(alloc, path, copy)?;
     Ok(all)
 }
 
 // One copy, which gathers its items, computes, and scatters.
-fn one_copy(alloc: Global, c: &Ctx, path: &[Tensor], tree: &Tree) -> Result<Sigma, NoMemory>
-    requires { HasWordSizes (breakdown_of tree.now) }
-    ensures { IfOk result (λ s. plain_sigma s ≡ copy_of c.now path.now (breakdown_of tree.now)) }
+fn one_copy(alloc: Global, path: &[Tensor], size: u64, node: Sigma) -> Result<Sigma, NoMemory>
+    ensures { IfOk result (λ s. plain_sigma s ≡ gathered path.now size (plain_sigma node)) }
 {
-    let size = tree.size();
     let gather = Box::new(alloc, Sigma::Gath(copy_places(alloc, path, size)?))?;
-    let node = Box::new(alloc, node(alloc, c, tree)?)?;
+    let node = Box::new(alloc, node)?;
     let scatter = Box::new(alloc, Sigma::Scat(copy_places(alloc, path, size)?))?;
     let computed = Box::new(alloc, Sigma::Compose(node, gather))?;
     Ok(Sigma::Compose(scatter, computed))
@@ -139,7 +228,7 @@ fn copy_places(alloc: Global, path: &[Tensor], size: u64) -> Result<Places, NoMe
 // A node that becomes straight-line code, or a longer leaf.
 fn node(alloc: Global, c: &Ctx, tree: &Tree) -> Result<Sigma, NoMemory>
     requires { HasWordSizes (breakdown_of tree.now) }
-    ensures { IfOk result (λ s. plain_sigma s ≡ node_of c.now (breakdown_of tree.now)) }
+    ensures { IfOk result (λ s. plain_sigma s ≡ node_of c.now (transforming (breakdown_of tree.now))) }
 {
     let copied = tree.copied(alloc)?;
     if is_kernel(c, tree.size()) {
@@ -197,14 +286,24 @@ fn unit(r: u64, s: u64) -> u64
     found
 }
 
-/// The terms of a tree keep the meaning of its steps: a law of the definitions.
+/// The terms of a tree do its transform: a law of the definitions.
 pub fn lowered_transforms()
     ensures { LoweredTransforms }
 {}
 
-/// The formula of a tree does its transform: a law of the definitions.
+/// The formulas of a tree do its transform: a law of the definitions.
 pub fn sigma_transforms()
     ensures { SigmaTransforms }
+{}
+
+/// On one processor and one lane the terms of a tree are those of its steps: a law of the definitions.
+pub fn plain_terms()
+    ensures { PlainTerms }
+{}
+
+/// On several processors or lanes the terms of a tree are these: a law of the definitions.
+pub fn shared_terms()
+    ensures { SharedTerms }
 {}
 
 #[cfg(test)]

@@ -1,7 +1,9 @@
 //! Worked products, by the formulas of trees.
 
-ghost use Rattle.std.specs.Prelude.{◌≡◌, ◌≤◌, ◌↔◌, IsTrue, IfOk};
+ghost use Rattle.std.specs.Prelude.{◌≡◌, ◌≤◌, ◌%◌, ◌↔◌, IsTrue, IfOk, All, map};
 ghost use Rattle.matrix_meaning.specs.Valid.{IsValid};
+ghost use Rattle.sigma_lower.specs.Lowered.{all_mean, IsWhole};
+ghost use Rattle.sigma_spl.specs.Views.{plain_sigma};
 ghost use Rattle.spl_ast.specs.Meaning.{IsVector};
 ghost use Rattle.steps.specs.Meaning.{transform_of};
 ghost use Rattle.tree_model.specs.Admissible.{IsAdmissible};
@@ -10,8 +12,8 @@ ghost use Rattle.tree_model.specs.Breakdown.{breakdown_of};
 use super::*;
 use matrix_meaning::{Kind, Request};
 use std::test::Fail;
-use steps::steps_of_tree;
 use tree_model::admissible;
+use vec_rewrite::vec_of_tree;
 
 fn four(unroll: u64) -> Request
     requires low { 2 ≤ unroll }
@@ -70,17 +72,54 @@ fn signs(unroll: u64) -> Request
     }
 }
 
-// The transform of `x`, by the plain product of the tree's formula.
+fn sixteen(procs: u64, line: u64, lanes: u64) -> Request
+    requires procs { (1 ≤ procs) × (procs ≤ 16) }
+    requires line { (1 ≤ line) × (line ≤ 64) }
+    requires lanes { (1 ≤ lanes) × (lanes ≤ 16) }
+    requires fits { line % lanes ≡ 0 }
+    ensures { IsValid result }
+{
+    Request {
+        kind: Kind::Dft,
+        size: 16,
+        modulus: 17,
+        root: 3,
+        procs,
+        line,
+        lanes,
+        unroll: 8,
+        budget: 100_000_000,
+        weight: 1,
+    }
+}
+
+// The transform of `x`, by the plain product of the tree's formulas.
 fn times(alloc: Global, c: &Ctx, tree: &Tree, x: &[u64]) -> Result<Vec<u64>, NoMemory>
     requires admissible { IsAdmissible c.now (breakdown_of tree.now) }
     requires vector { IsVector c.now.modulus c.now.size x.now }
     ensures { IfOk result (λ y. y.items ≡ transform_of c.now c.now.size x.now) }
 {
     let _request = c.request();
-    let steps = steps_of_tree(alloc, c, tree)?;
-    let formula = lower(alloc, c, &steps)?;
-    let y = Sigma::apply_plain(alloc, c, &formula, x)?;
+    let vectors = vec_of_tree(alloc, c, tree)?;
+    let formulas = lower(alloc, c, &vectors)?;
+    let y = apply_all(alloc, c, &formulas, x)?;
     Ok(y)
+}
+
+// All formulas, one after the other.
+fn apply_all(alloc: Global, c: &Ctx, formulas: &[Sigma], x: &[u64]) -> Result<Vec<u64>, NoMemory>
+    requires whole { All (IsWhole c.now) (map plain_sigma formulas.now) }
+    requires vector { IsVector c.now.modulus c.now.size x.now }
+    ensures { IfOk result (λ y. y.items ≡ all_mean c.now (map plain_sigma formulas.now) x.now) }
+{
+    match formulas.split_first() {
+        None => Ok(x.to_vec(alloc)?),
+        Some((formula, rest)) => {
+            let y = Sigma::apply_plain(alloc, c, formula, x)?;
+            let all = apply_all(alloc, c, rest, &y)?;
+            Ok(all)
+        }
+    }
 }
 
 fn is_vector(modulus: u64, size: u64, x: &[u64]) -> bool
@@ -138,5 +177,22 @@ fn step_of_signs(rt: HostRuntime) -> Result<(), Fail> {
     let (x, product) = ([1, 2, 3, 4], [0, 3, 1, 0]);
     assert!(rt; gives(alloc, &Ctx::new(&signs(2)), &tree, &x, &product)?);
     assert!(rt; gives(alloc, &Ctx::new(&signs(8)), &tree, &x, &product)?);
+    Ok(())
+}
+
+// A step by four rows of four words, on processors and lanes: of a list with one 1 at place 1, the powers of the root.
+#[test]
+fn step_by_processors_and_lanes(rt: HostRuntime) -> Result<(), Fail> {
+    let alloc = rt.alloc();
+    let left = Box::new(alloc, Tree::Leaf(4))?;
+    let right = Box::new(alloc, Tree::Leaf(4))?;
+    let tree = Tree::Ct(left, right);
+    let x = [0, 1, 0, 0, 0, 0, 0, 0, 0, 0, 0, 0, 0, 0, 0, 0];
+    let product = [1, 3, 9, 10, 13, 5, 15, 11, 16, 14, 8, 7, 4, 12, 2, 6];
+    assert!(rt; gives(alloc, &Ctx::new(&sixteen(1, 1, 1)), &tree, &x, &product)?);
+    assert!(rt; gives(alloc, &Ctx::new(&sixteen(2, 2, 1)), &tree, &x, &product)?);
+    assert!(rt; gives(alloc, &Ctx::new(&sixteen(1, 2, 2)), &tree, &x, &product)?);
+    assert!(rt; gives(alloc, &Ctx::new(&sixteen(2, 2, 2)), &tree, &x, &product)?);
+    assert!(rt; !gives(alloc, &Ctx::new(&sixteen(4, 2, 1)), &tree, &x, &product)?);
     Ok(())
 }

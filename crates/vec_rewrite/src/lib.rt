@@ -55,17 +55,17 @@ pub struct VecSpl {
 
 /// The processors, how many words the block of each has, and the lanes.
 #[derive(Clone, Copy)]
-struct Deal {
-    procs: u64,
-    block: u64,
-    lanes: u64,
+pub struct Deal {
+    pub procs: u64,
+    pub block: u64,
+    pub lanes: u64,
 }
 
 /// How the rows of a block lie in groups: each has as many rows as there are lanes, side by side, and so many tiles reach across it.
 #[derive(Clone, Copy)]
-struct Grid {
-    groups: u64,
-    tiles: u64,
+pub struct Grid {
+    pub groups: u64,
+    pub tiles: u64,
 }
 
 /// The formula of a tree for the request's processors and lanes.
@@ -341,60 +341,6 @@ fn group_turn(alloc: Global, d: Deal, grid: Grid, rows: u64, cols: u64) -> Resul
         &groups,
         &Core::Turns { rows, cols },
     )
-}
-
-/// The steps of a formula for processors and lanes, on all words.
-pub fn steps_of_vec(alloc: Global, g: &VecSpl) -> Result<Vec<Step>, NoMemory>
-    ensures { IfOk result (λ steps. map plain_step steps.items ≡ vec_steps (plain_vec g.now)) }
-{
-    let mut steps = Vec::new(alloc);
-    add_steps(alloc, g.procs, g.lanes, &mut steps, &g.first)?;
-    add_steps(alloc, g.procs, g.lanes, &mut steps, &g.second)?;
-    Ok(steps)
-}
-
-fn add_steps(
-    alloc: Global,
-    procs: u64,
-    lanes: u64,
-    steps: &mut Vec<Step>,
-    factors: &[VecFactor],
-) -> Result<(), NoMemory>
-    ensures { OnOk result (map plain_step steps.new.items ≡ map plain_step steps.old.items ++ map (factor_step procs lanes) (map plain_vec_factor factors.now)) }
-{
-    for factor in factors {
-        let step = step_of_factor(alloc, procs, lanes, factor)?;
-        steps.push(step)?;
-    }
-    Ok(())
-}
-
-// The step that a factor is on all words.
-fn step_of_factor(
-    alloc: Global,
-    procs: u64,
-    lanes: u64,
-    factor: &VecFactor,
-) -> Result<Step, NoMemory>
-    ensures { IfOk result (λ s. plain_step s ≡ factor_step procs lanes (plain_vec_factor factor.now)) }
-{
-    match factor {
-        VecFactor::Lanes(s) => {
-            let path = within(alloc, Tensor::Columns(lanes), &s.path)?;
-            step_within(alloc, Tensor::Blocks(procs), &path, &s.core)
-        }
-        VecFactor::Diagonals(s) => step_of(alloc, &s.path, &s.core),
-        VecFactor::MoveBefore(s) | VecFactor::MoveAfter(s) => {
-            step_within(alloc, Tensor::Columns(lanes), &s.path, &s.core)
-        }
-        VecFactor::Tiles(path) => {
-            let tile = Core::Turns {
-                rows: lanes,
-                cols: lanes,
-            };
-            step_within(alloc, Tensor::Blocks(procs), path, &tile)
-        }
-    }
 }
 
 /// For one processor and one lane the steps of a tree stay as they are: a law of the definitions.

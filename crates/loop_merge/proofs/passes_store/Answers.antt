@@ -1,4 +1,4 @@
-use Rattle.loop_merge.proofs.PassesStore as laws
+use Rattle.loop_merge.proofs.Wholes as laws
 use Rattle.loop_merge.proofs.passes_store.Goals as goal
 
 pub returns : goal.returns

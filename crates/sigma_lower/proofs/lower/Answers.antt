@@ -1,22 +1,32 @@
-use Rattle.std.proofs.Common.{ap, ◌∙◌, [], subst, sym}
-use Rattle.std.specs.Prelude.{map}
-use Rattle.sigma_lower.specs.Lowered.{IsWhole}
-use Rattle.sigma_lower.proofs.Roomy.{roomy_all}
-use Rattle.sigma_lower.proofs.Wholes.{whole_steps}
-use Rattle.sigma_lower.proofs.Meanings.{mean-steps}
-use Rattle.sigma_spl.specs.Meaning.{mean}
+use Rattle.std.proofs.Common.{ap, ◌∙◌, subst, sym}
+use Rattle.std.specs.Prelude.{All, List}
+use Rattle.sigma_lower.specs.Lowered.{all_mean, IsWhole}
+use Rattle.sigma_lower.proofs.Roomy.{all_roomy}
+use Rattle.sigma_lower.proofs.Goods.{phases_good}
+use Rattle.sigma_lower.proofs.Both.{sigmas_whole, sigmas_mean}
 use Rattle.sigma_spl.specs.Plain.{PlainSigma}
-use Rattle.steps.specs.Views.{plain_step}
+use Rattle.vec_rewrite.specs.Views.{plain_vec}
 use Rattle.sigma_lower.proofs.lower.Goals as goal
 
-pub product-requires : goal.product-requires
-product-requires c = roomy_all c.args.c.now c.args.steps.now c.request-request.ensures.valid c.requires
+pub phases-requires-clause-first : goal.phases-requires-clause-first
+phases-requires-clause-first c =
+    let request = c.args.c.now in
+    let vectors = c.args.vectors.now in
+    let valid = c.request-request.ensures.valid in
+    all_roomy request vectors.procs vectors.lanes vectors.first.items valid (phases_good request (plain_vec vectors) valid c.requires).0
+
+pub phases-requires-clause-second : goal.phases-requires-clause-second
+phases-requires-clause-second c =
+    let request = c.args.c.now in
+    let vectors = c.args.vectors.now in
+    let valid = c.request-request.ensures.valid in
+    all_roomy request vectors.procs vectors.lanes vectors.second.items valid (phases_good request (plain_vec vectors) valid c.requires).1
 
 pub returns-clause-whole : goal.returns-clause-whole
 returns-clause-whole c =
-    let P : PlainSigma → Type 0 = λ s. IsWhole c.args.c.now s in
-    subst P (sym c.in_ok-formula.ensures) (whole_steps c.args.c.now (map plain_step c.args.steps.now) c.request-request.ensures.valid c.requires)
+    subst (All (IsWhole c.args.c.now)) (sym c.in_ok-formulas.ensures) (sigmas_whole c.args.c.now (plain_vec c.args.vectors.now) c.request-request.ensures.valid c.requires)
 
 pub returns-clause-meaning : goal.returns-clause-meaning
 returns-clause-meaning c =
-    λ x v. ap (λ s. mean c.args.c.now [] s x) c.in_ok-formula.ensures ∙ mean-steps c.args.c.now (map plain_step c.args.steps.now) x c.request-request.ensures.valid c.requires v
+    let request = c.args.c.now in
+    λ x v. ap (λ (ss : List PlainSigma). all_mean request ss x) c.in_ok-formulas.ensures ∙ sigmas_mean request (plain_vec c.args.vectors.now) x c.request-request.ensures.valid c.requires v

@@ -1,4 +1,4 @@
-use Rattle.sigma_lower.proofs.Meanings as laws
+use Rattle.sigma_lower.proofs.Both as laws
 use Rattle.sigma_lower.proofs.sigma_transforms.Goals as goal
 
 pub returns : goal.returns

@@ -1,4 +1,4 @@
-use Rattle.loop_merge.proofs.ListedPlaces as laws
+use Rattle.loop_merge.proofs.TreePlaces as laws
 use Rattle.loop_merge.proofs.listed.listed_places.Goals as goal
 
 pub returns : goal.returns

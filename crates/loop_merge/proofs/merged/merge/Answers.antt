@@ -1,26 +1,20 @@
-use Rattle.std.proofs.Common.{◌≡◌, ap, ◌∙◌, [], ◌∷◌, ◌++◌}
+use Rattle.std.proofs.Common.{ap, ◌∙◌}
 use Rattle.std.specs.Prelude.{map}
-use Rattle.loop_merge.specs.Listed.{listed_of}
+use Rattle.matrix_meaning.specs.declared.Request.{Request}
 use Rattle.loop_merge.specs.ListedViews.{plain_listed}
-use Rattle.loop_merge.specs.Merge.{merged_of}
-use Rattle.loop_merge.specs.Views.{plain_pass}
-use Rattle.loop_merge.specs.Walk.{passes_in}
-use Rattle.loop_merge.proofs.Reaching.{reachable_passes}
-use Rattle.loop_merge.proofs.Walks.{passes_in-tree}
+use Rattle.loop_merge.proofs.Listing.{phases_reachable, phases_listed}
+use Rattle.loop_merge.proofs.TreePlaces.{tree_reachable}
+use Rattle.sigma_spl.specs.Views.{plain_sigma}
 use Rattle.loop_merge.proofs.merged.merge.Goals as goal
 
-pub list_all-requires : goal.list_all-requires
-list_all-requires c =
-    let given = c.requires.lowered in
-    reachable_passes c.args.c.now given.0 c.deref.result.now c.request-request.ensures.valid c.requires.plain given.1
-    (ap (map plain_pass) c.deref.ensures.value ∙ c.in_ok-passes.ensures ∙ ap passes_in given.2 ∙ passes_in-tree c.args.c.now given.0)
+pub list_phases-requires : goal.list_phases-requires
+list_phases-requires c =
+    let given = c.requires in
+    phases_reachable c.args.c.now given.0 c.args.formulas.now given.2 (tree_reachable c.args.c.now given.0 c.request-request.ensures.valid given.1)
 
 pub returns : goal.returns
 returns c =
     let request = c.args.c.now in
-    λ t e.
-    let form : map plain_pass c.in_ok-passes.passes.items ≡ merged_of request t = c.in_ok-passes.ensures ∙ ap passes_in e ∙ passes_in-tree request t in
-    let listed : map plain_listed c.in_ok-listed.listed.items ≡ map (listed_of request) (merged_of request t) =
-    c.in_ok-listed.ensures ∙ ap (map (listed_of request)) (ap (map plain_pass) c.deref.ensures.value ∙ form) in
-    let phases : c.push.new.self.items ≡ c.in_ok-listed.listed ∷ [] = c.in_ok-push.ensures.items ∙ ap (λ ps. ps ++ c.in_ok-listed.listed ∷ []) c.new-phases.ensures.items in
-    ap (λ ps. record { procs = 1; lanes = 1; phases = ps }) (ap (map (λ ps. map plain_listed ps.items)) phases ∙ ap (λ ps. ps ∷ []) listed)
+    λ t is.
+    ap (λ (r : Request). record { procs = r.procs; lanes = r.lanes; phases = map (λ ps. map plain_listed ps.items) c.in_ok-phases.phases.items }) c.request-request.ensures.value
+    ∙ ap (λ phases. record { procs = request.procs; lanes = request.lanes; phases = phases }) (c.in_ok-phases.ensures ∙ phases_listed request t (map plain_sigma c.args.formulas.now) is)

@@ -1,0 +1,252 @@
+-- The places of the left part of a shared root: those of the part alone, in the copies that processors, lanes and loops name.
+use Rattle.std.proofs.Common.{◌≡◌, ℕ, ◌+◌, ◌*◌, ◌/◌, ◌^◌, ◌<◌, ◌≤◌, arith, refl, sym, ap, ap₂, ◌∙◌, List, [], ◌∷◌, ◌++◌, length, if◌then◌else◌, subst, mul_comm}
+use Rattle.std.specs.Prelude.{◌==◌, map, Option, None, Some}
+use Rattle.std.specs.Option.{option_map}
+use Rattle.std.proofs.Math.Nat.{mul-le-mul_left}
+use Rattle.std.proofs.lemmas.Nat.{pow-add}
+use Rattle.index_fn.specs.Mapping.{Mapping}
+use Rattle.matrix_meaning.specs.declared.Request.{Request}
+use Rattle.perm_algebra.specs.Affine.{Fits, Sum, constant, variable, levels, parts, scaled, joined, Divided, simplified}
+use Rattle.perm_algebra.specs.Room.{CanScale, CanJoin, HasRoomFor}
+use Rattle.perm_algebra.proofs.AffineLaws.{top-scaled}
+use Rattle.perm_algebra.proofs.Shape.{divided-joined}
+use Rattle.perm_algebra.proofs.Sizes.{joined-end, scaled-one, levels-scaled, levels-joined, parts-scaled, parts-joined}
+use Rattle.loop_merge.specs.Merge.{PlainDiagonal, PlainPass}
+use Rattle.loop_merge.specs.Placed.{AllRoom, place_sum, AreCounts, all_simplified, diagonal_places, IsWithinLimits, IsLimitedPass}
+use Rattle.loop_merge.proofs.InCopies.{placed, AreCopies, placed-fits}
+use Rattle.loop_merge.proofs.LineMoves.{LeadsTo, AreThree, leads-none, leads-step, leads-join, leads-same, dealt-leads}
+use Rattle.loop_merge.proofs.Moved.{placed-columns}
+use Rattle.loop_merge.proofs.PlaceLimits.{Carries, Multiplying, IsPlacedPass, none_is_some, counts-positive, exponent_small, limited-by}
+use Rattle.loop_merge.proofs.PlaceRoom.{can_scale, can_join, can_divide}
+use Rattle.loop_merge.proofs.PlaceSums.{parts-fit, size-positive, all_simplified-append}
+use Rattle.loop_merge.proofs.RightPlaces.{wide-all, weight-wide}
+use Rattle.loop_merge.proofs.RootPasses.{on_all, if_dealt, left_diagonal, left_pass}
+use Rattle.loop_merge.proofs.RootShares.{AreShares, columns_some, tiles_are, tiles_fill, dealt_small, columns_high, rows_high}
+use Rattle.loop_merge.proofs.Shaped.{IsWide}
+use Rattle.loop_merge.proofs.Staying.{StaysIn, stays-begin, stays-end, stays-room, all_room-append}
+use Rattle.loop_merge.proofs.WithinPlaces.{size-all, simplified-within, room-within, natural-placed, natural-copies, parts_in, AreFlat, parts-placed, levels-placed, parts-from, flat-from}
+use Rattle.sigma_lower.specs.Root.{left_path}
+use Rattle.sigma_lower.specs.Work.{work_size}
+use Rattle.sigma_lower.specs.Wrapped.{inner_of}
+use Rattle.tensor_paths.specs.declared.Tensor.TheVariants.{Blocks, Columns}
+use Rattle.tensor_paths.specs.Path.{Path, grown, size_under}
+
+-- ---- a longer path
+
+pub size_under-append : (path more : Path) (n : ℕ) → size_under (path ++ more) n ≡ size_under path (size_under more n)
+size_under-append [] more n = refl
+size_under-append (t ∷ path) more n = ap (grown t) (size_under-append path more n)
+
+flat-joined : (k : ℕ) (q j : Sum) → levels q ≡ 0 → levels j ≡ 0 → levels (joined (scaled k q) j) ≡ 0
+flat-joined k q j one other = omega (arith, levels-joined (scaled k q) j 0 (omega (arith, levels-scaled k q, one)) (omega (arith, other)))
+
+pub place_sum-append : (path more : Path) (n d : ℕ) (e : Sum) → place_sum (path ++ more) n d e ≡ place_sum path (size_under more n) d (place_sum more n (d + length path) e)
+place_sum-append [] more n d e = ap (λ i. place_sum more n i e) (omega arith)
+place_sum-append (Blocks c ∷ path) more n d e =
+    ap₂ (λ size g. joined (scaled size (variable 1 d (constant 0))) g) (size_under-append path more n)
+    (place_sum-append path more n (d + 1) e ∙ ap (λ i. place_sum path (size_under more n) (d + 1) (place_sum more n i e)) (omega arith))
+place_sum-append (Columns c ∷ path) more n d e =
+    ap (λ g. joined (scaled c g) (variable 1 d (constant 0))) (place_sum-append path more n (d + 1) e ∙ ap (λ i. place_sum path (size_under more n) (d + 1) (place_sum more n i e)) (omega arith))
+
+pub counts-append : (path more : Path) (n d : ℕ) (cs : ℕ → ℕ) → AreCounts (path ++ more) n d cs → AreCounts path (size_under more n) d cs × AreCounts more n (d + length path) cs
+counts-append [] more n d cs h = (size-positive more n d cs h, subst (λ i. AreCounts more n i cs) (omega arith) h)
+counts-append (Blocks c ∷ path) more n d cs h =
+    let inner = counts-append path more n (d + 1) cs h.2 in ((h.0, h.1, inner.0), subst (λ i. AreCounts more n i cs) (omega arith) inner.1)
+counts-append (Columns c ∷ path) more n d cs h =
+    let inner = counts-append path more n (d + 1) cs h.2 in ((h.0, h.1, inner.0), subst (λ i. AreCounts more n i cs) (omega arith) inner.1)
+
+-- ---- diagonals
+
+some-is : (a b : PlainDiagonal) → ◌≡◌ {A = Option PlainDiagonal} (Some a) (Some b) → a ≡ b
+some-is a b e = cc
+
+-- what is mapped to a diagonal is one
+pub mapped-some : (f : PlainDiagonal → PlainDiagonal) (o : Option PlainDiagonal) (x : PlainDiagonal) → option_map f o ≡ Some x → (d : PlainDiagonal) × (o ≡ Some d) × (f d ≡ x)
+mapped-some f None x e = absurd (none_is_some x e)
+mapped-some f (Some d) x e = (d, refl, some-is (f d) x e)
+
+-- ---- a pass of the part alone, in all copies
+
+module _ (size p v m s : ℕ) (h : AreShares size p v m s) where
+  abbrev three : Path
+  three = Blocks p ∷ Columns v ∷ Columns (s / p / v) ∷ []
+
+  abbrev whole : Path
+  whole = Columns v ∷ Columns (s / v) ∷ []
+
+  left_whole : size_under three m ≡ size
+  left_whole = let columns : m * s ≡ m * (p * (v * (s / p / v))) = ap (λ k. m * k) h.columns in omega (arith, h.product, columns)
+
+  pub left_fills : size_under (left_path p v s) m ≡ size
+  left_fills = size-all three m ∙ left_whole
+
+  pub left_wide : IsWide (left_path p v s)
+  left_wide = wide-all three (h.procs, (h.lanes, (columns_some size p v m s h, tt)))
+
+  whole_fills : size_under whole m ≡ size
+  whole_fills = let columns : m * (v * (s / v)) ≡ m * s = ap (λ k. m * k) (tiles_fill size p v m s h) in omega (arith, h.product, columns)
+
+  -- the sums of the lane, and of the processor and the loop together
+  pub record Spread (cs : ℕ → ℕ) (d : ℕ) : Type 0 where
+    pub lane : Sum
+    pub column : Sum
+    pub copies : AreCopies whole (lane ∷ column ∷ []) cs
+    pub flat : AreFlat (lane ∷ column ∷ [])
+    pub few : parts_in (lane ∷ column ∷ []) ≤ length (left_path p v s)
+    pub dealt : (k : ℕ) (e : Sum) → k ≡ p * m → Fits m e cs → LeadsTo cs size (if_dealt k p v m s) (place_sum (left_path p v s) m d e) (placed whole m (lane ∷ column ∷ []) e)
+
+  pub spread : (cs : ℕ → ℕ) (d : ℕ) → AreCounts (left_path p v s) m d cs → Spread cs d
+  spread cs d counts =
+      let k : ℕ = s / p / v in
+      let q : Sum = if p == 1 then constant 0 else variable 1 d (constant 0) in
+      let d1 : ℕ = if p == 1 then d else d + 1 in
+      let l : Sum = if v == 1 then constant 0 else variable 1 d1 (constant 0) in
+      let d2 : ℕ = if v == 1 then d1 else d1 + 1 in
+      let j : Sum = if k == 1 then constant 0 else variable 1 d2 (constant 0) in
+      let named = natural-copies three m d cs counts in
+      let flat = flat-from three d in
+      let both : AreThree cs p v k q l j = record { processor = named.0; lane = named.1.0; other = named.1.1.0 } in
+      let column : Sum = joined (scaled k q) j in
+      let fits : Fits (s / v) column cs = subst (λ i. Fits i column cs) (sym (tiles_are size p v m s h ∙ mul_comm k p)) (parts-fit p k q j cs (columns_some size p v m s h) named.0 named.1.1.0) in
+      record {
+        lane = l;
+        column = column;
+        copies = (named.1.0, (fits, tt));
+        flat = (flat.1.0, (flat-joined k q j flat.0 flat.1.1.0, tt));
+        few = omega (arith, parts-from three d, parts-joined (scaled k q) j, parts-scaled k q);
+        dealt = λ i e is inside.
+            leads-same cs size (if_dealt i p v m s) (place_sum (left_path p v s) m d e) _ _ (natural-placed three m d e)
+            (subst (LeadsTo cs size (if_dealt i p v m s) (placed three m (q ∷ l ∷ j ∷ []) e))
+            (ap (λ g. joined (scaled v g) l) (placed-columns k p [] m j q [] e ∙ ap (λ c. placed (Columns c ∷ []) m (column ∷ []) e) (sym (tiles_are size p v m s h))))
+            (dealt-leads p v k m size i q l j e cs both inside is left_whole h.whole.high (dealt_small size p v m s h)));
+      }
+
+  -- what a permutation of the m words does to the places of all copies
+  pub mapped-leads : (cs : ℕ → ℕ) (us : List Sum) (fs : List Mapping) (e : Sum) → AreCopies whole us cs → StaysIn cs m fs e → LeadsTo cs size (map (on_all v m s) fs) (placed whole m us e) (placed whole m us (all_simplified cs fs e))
+  mapped-leads cs us [] e copies stays = leads-none cs size (placed whole m us e) (placed whole m us e) (subst (λ n. Fits n (placed whole m us e) cs) whole_fills (placed-fits whole m us e cs copies stays)) refl
+  mapped-leads cs us (f ∷ fs) e copies stays =
+      let here = placed whole m us e in
+      let made : Fits m (simplified cs f e) cs = stays-begin cs m fs (simplified cs f e) stays.2 in
+      leads-step cs size (on_all v m s f) (map (on_all v m s) fs) here here (placed whole m us (simplified cs f e)) _ refl
+      (subst (λ n. Fits n here cs) whole_fills (placed-fits whole m us e cs copies stays.0))
+      (room-within whole m us f e cs copies stays.0 made (omega (arith, whole_fills, h.whole.high)) stays.1)
+      (simplified-within whole m us f e cs copies stays.0)
+      (mapped-leads cs us fs (simplified cs f e) copies stays.2)
+
+  -- functions of the part alone, at the natural place under its path and the root's
+  pub part-leads : (cs : ℕ → ℕ) (path : Path) (fs : List Mapping) (n k : ℕ) (e : Sum) (sp : Spread cs 0) → size_under path n ≡ m → k ≡ p * m → StaysIn cs m fs (place_sum path n (0 + length (left_path p v s)) e) →
+      LeadsTo cs size (if_dealt k p v m s ++ map (on_all v m s) fs) (place_sum (left_path p v s ++ path) n 0 e)
+      (placed whole m (sp.lane ∷ sp.column ∷ []) (all_simplified cs fs (place_sum path n (0 + length (left_path p v s)) e)))
+  part-leads cs path fs n k e sp fills is stays =
+      let inner = place_sum path n (0 + length (left_path p v s)) e in
+      let same : place_sum (left_path p v s ++ path) n 0 e ≡ place_sum (left_path p v s) m 0 inner =
+      place_sum-append (left_path p v s) path n 0 e ∙ ap (λ i. place_sum (left_path p v s) i 0 inner) fills in
+      leads-same cs size (if_dealt k p v m s ++ map (on_all v m s) fs) _ _ _ same
+      (leads-join cs size (if_dealt k p v m s) (map (on_all v m s) fs) _ _ _ (sp.dealt k inner is (stays-begin cs m fs inner stays)) (mapped-leads cs (sp.lane ∷ sp.column ∷ []) fs inner sp.copies stays))
+
+  -- ---- within the limits
+
+  -- tensors of the root and k more within the part double the words k and as often as there are tensors
+  weights : (k n : ℕ) → 2 ^ k * n ≤ m → 2 ^ (length (left_path p v s) + k) * n ≤ size
+  weights k n inner =
+      let a : ℕ = 2 ^ length (left_path p v s) in
+      let outer : a * m ≤ size = omega (arith, weight-wide (left_path p v s) m left_wide, left_fills) in
+      let more : a * (2 ^ k * n) ≤ a * m = mul-le-mul_left a inner in
+      subst (λ w. w * n ≤ size) (sym (pow-add 2 (length (left_path p v s)) k)) (omega (arith, outer, more))
+
+  -- sums of the part within the limits are so in all copies
+  limited-whole : (cs : ℕ → ℕ) (sp : Spread cs 0) (e g y : Sum) (k n : ℕ) → 0 < n → 2 ^ k * n ≤ m → g ≡ placed whole m (sp.lane ∷ sp.column ∷ []) y → Fits size g cs → levels y ≤ levels e + k → parts y ≤ parts e + 2 * k → IsWithinLimits cs size e g
+  limited-whole cs sp e g y k n positive weight is fits deep long =
+      let us : List Sum = sp.lane ∷ sp.column ∷ [] in
+      let small : length (left_path p v s) + k ≤ 16 = exponent_small (length (left_path p v s) + k) n size positive (weights k n weight) h.whole.high in
+      record {
+        fits = fits;
+        levels = omega (arith, ap levels is, levels-placed whole m us y sp.flat, deep, small);
+        parts = omega (arith, ap parts is, parts-placed whole m us y, sp.few, long, small);
+      }
+
+  -- the item of its copy, at the place in all copies
+  inner-whole : (cs : ℕ → ℕ) (sp : Spread cs 0) (path : Path) (n : ℕ) (y : Sum) → Fits m y cs → n ≤ 65536 → HasRoomFor cs (inner_of path n) y → Fits n (simplified cs (inner_of path n) y) cs →
+      (simplified cs (inner_of (Columns s ∷ path) n) (placed whole m (sp.lane ∷ sp.column ∷ []) y) ≡ simplified cs (inner_of path n) y) × HasRoomFor cs (inner_of (Columns s ∷ path) n) (placed whole m (sp.lane ∷ sp.column ∷ []) y)
+  inner-whole cs sp path n y fits low room made =
+      let u : Sum = joined (scaled v sp.column) sp.lane in
+      let z : Sum = simplified cs (inner_of path n) y in
+      let fit : Fits s u cs = subst (λ i. Fits i u cs) (mul_comm (s / v) v ∙ tiles_fill size p v m s h) (parts-fit (s / v) v sp.column sp.lane cs h.lanes sp.copies.1.0 sp.copies.0) in
+      let some : 0 < s = omega (arith, h.right) in
+      let high : s ≤ 65536 = omega (arith, columns_high size p v m s h) in
+      let same : placed whole m (sp.lane ∷ sp.column ∷ []) y ≡ joined (scaled s y) u =
+      placed-columns v (s / v) [] m sp.lane sp.column [] y ∙ ap (λ c. joined (scaled c y) u) (tiles_fill size p v m s h) in
+      let apart = divided-joined s y u cs some fit.proper fit.small in
+      let is : simplified cs (inner_of (Columns s ∷ path) n) (joined (scaled s y) u) ≡ z =
+      ap (λ (d : Divided). joined (scaled 1 (simplified cs (inner_of path n) d.quot)) (constant 0)) apart ∙ joined-end (scaled 1 z) ∙ scaled-one z in (
+        ap (simplified cs (inner_of (Columns s ∷ path) n)) same ∙ is,
+        subst (HasRoomFor cs (inner_of (Columns s ∷ path) n)) (sym same) (
+          can_divide s y u cs some (omega arith) fit.proper fit.small,
+          subst (λ (d : Divided). HasRoomFor cs (inner_of path n) d.quot) (sym apart) room,
+          tt,
+          subst (λ (d : Divided). CanScale 1 (simplified cs (inner_of path n) d.quot)) (sym apart) (can_scale 1 z cs made.proper (omega (arith, made.small))),
+          subst (λ (d : Divided). CanJoin (scaled 1 (simplified cs (inner_of path n) d.quot)) (constant 0)) (sym apart) (can_join (scaled 1 z) (constant 0) cs (omega (arith, top-scaled 1 z cs, made.small))),
+        ),
+      )
+
+  -- the places of a diagonal within the part are those in all copies
+  left_multiplied : (cs : ℕ → ℕ) (sp : Spread cs 0) (q : PlainPass) (e : Sum) (o : PlainDiagonal) → size_under q.path (work_size q.work) ≡ m → AreCounts q.path (work_size q.work) (0 + length (left_path p v s)) cs → Fits (work_size q.work) e cs →
+      Multiplying m q o → o.rows * o.cols ≤ m →
+      IsWithinLimits cs (o.rows * o.cols) e (all_simplified cs (diagonal_places (left_diagonal p v m s o)) (place_sum (left_path p v s ++ q.path) (work_size q.work) 0 e))
+      × AllRoom cs (diagonal_places (left_diagonal p v m s o)) (place_sum (left_path p v s ++ q.path) (work_size q.work) 0 e)
+  left_multiplied cs sp q e o fills counts fits part within =
+      let n : ℕ = work_size q.work in
+      let d : ℕ = 0 + length (left_path p v s) in
+      let rc : ℕ = o.rows * o.cols in
+      let from : Sum = place_sum (left_path p v s ++ q.path) n 0 e in
+      let inner : Sum = place_sum q.path n d e in
+      let y : Sum = all_simplified cs o.places inner in
+      let z : Sum = simplified cs (inner_of o.path rc) y in
+      let places : List Mapping = if_dealt (m * p) p v m s ++ map (on_all v m s) o.places in
+      let item : Mapping = inner_of (Columns s ∷ o.path) rc in
+      let stays = part.stays cs d e counts fits in
+      let lead = part-leads cs q.path o.places n (m * p) e sp fills (mul_comm m p) stays in
+      let carried : Carries cs rc e z part.exponent = subst (λ g. Carries cs rc e g part.exponent) (all_simplified-append cs o.places (inner_of o.path rc) inner) (part.carries cs d e counts fits) in
+      let high : rc ≤ 65536 = omega (arith, within, rows_high size p v m s h) in
+      let at_item = inner-whole cs sp o.path rc y (stays-end cs m o.places inner stays) high (part.room cs d e counts fits) carried.fits in
+      let is : all_simplified cs (places ++ item ∷ []) from ≡ z = all_simplified-append cs places item from ∙ ap (simplified cs item) lead.is ∙ at_item.0 in
+      let small : part.exponent ≤ 16 = exponent_small part.exponent n rc (counts-positive q.path n d cs counts) part.weight high in (
+        limited-by cs rc e (all_simplified cs (places ++ item ∷ []) from) z part.exponent small is carried,
+        all_room-append cs places item from (stays-room cs size places from lead.stays) (subst (HasRoomFor cs item) (sym lead.is) at_item.1),
+      )
+
+  -- a pass of the part alone within the limits is so in all copies
+  pub left_limited : (c : Request) (q : PlainPass) → c.size ≡ size → size_under q.path (work_size q.work) ≡ m → IsPlacedPass m [] m q → IsLimitedPass c (left_pass p v m s q)
+  left_limited c q sized fills placed_part cs e counts fits name =
+      let n : ℕ = work_size q.work in
+      let d : ℕ = 0 + length (left_path p v s) in
+      let split = counts-append (left_path p v s) q.path n 0 cs counts in
+      let sp : Spread cs 0 = spread cs 0 (subst (λ i. AreCounts (left_path p v s) i 0 cs) fills split.0) in
+      let positive : 0 < n = counts-positive q.path n d cs split.1 in
+      let from : Sum = place_sum (left_path p v s ++ q.path) n 0 e in
+      let inner : Sum = place_sum q.path n d e in
+      let gather_stays = placed_part.gathers.stays cs d e split.1 fits in
+      let scatter_stays = placed_part.scatters.stays cs d e split.1 fits in
+      let gathered = part-leads cs q.path q.befores n (p * m) e sp fills refl gather_stays in
+      let stored = part-leads cs q.path q.afters n (m * p) e sp fills (mul_comm m p) scatter_stays in
+      let carried = placed_part.gathers.carries cs d e split.1 fits in
+      let there = placed_part.scatters.placed cs d e split.1 fits in
+      let befores : List Mapping = if_dealt (p * m) p v m s ++ map (on_all v m s) q.befores in
+      let afters : List Mapping = if_dealt (m * p) p v m s ++ map (on_all v m s) q.afters in
+      record {
+        gathers = subst (λ i. IsWithinLimits cs i e (all_simplified cs befores from)) (sym sized)
+            (limited-whole cs sp e (all_simplified cs befores from) _ placed_part.gathers.exponent n positive placed_part.gathers.weight gathered.is (stays-end cs size befores from gathered.stays) carried.levels carried.parts);
+        scatters = subst (λ i. IsWithinLimits cs i e (all_simplified cs afters from)) (sym sized)
+            (limited-whole cs sp e (all_simplified cs afters from) _ placed_part.scatters.exponent n positive placed_part.scatters.weight stored.is (stays-end cs size afters from stored.stays)
+            (omega (arith, ap levels there.is, there.carries.levels)) (omega (arith, ap parts there.is, there.carries.parts)));
+        gather_room = stays-room cs size befores from gathered.stays;
+        scatter_room = stays-room cs size afters from stored.stays;
+        multiplies = λ o is.
+            let found = mapped-some (left_diagonal p v m s) q.diagonal o is in
+            let part = placed_part.multiplies found.0 found.1 in
+            subst (λ x. IsWithinLimits cs (x.rows * x.cols) e (all_simplified cs (diagonal_places x) from)) found.2 (left_multiplied cs sp q e found.0 fills split.1 fits part.0 part.1).0;
+        multiply_room = λ o is.
+            let found = mapped-some (left_diagonal p v m s) q.diagonal o is in
+            let part = placed_part.multiplies found.0 found.1 in
+            subst (λ x. AllRoom cs (diagonal_places x) from) found.2 (left_multiplied cs sp q e found.0 fills split.1 fits part.0 part.1).1;
+      }

@@ -1,0 +1,8 @@
+pub mod Vectors
+pub mod Naturals
+pub mod Merging
+pub mod Lanes
+pub mod Framed
+pub mod Shares
+pub mod Owners
+pub mod Phases
