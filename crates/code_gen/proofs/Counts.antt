@@ -1,5 +1,5 @@
 -- What the passes of a tree count, and how many actions they have.
-use Rattle.std.proofs.Common.{◌≡◌, ℕ, suc, ◌+◌, ◌*◌, ◌^◌, ◌≤◌, List, [], ◌∷◌, ◌++◌, length, map, refl, arith, length-append}
+use Rattle.std.proofs.Common.{◌≡◌, ℕ, suc, ◌+◌, ◌*◌, ◌^◌, ◌<◌, ◌≤◌, List, [], ◌∷◌, ◌++◌, length, map, ap, ◌∙◌, arith, length-append}
 use Rattle.icode.specs.Actions.{array_start}
 use Rattle.icode.specs.declared.action.Action.{Action}
 use Rattle.icode.specs.declared.action.Action.TheVariants.{Load, Store, Zero, Add, Sub, Neg, Mul, Tile}
@@ -9,9 +9,10 @@ use Rattle.loop_merge.specs.Laws.{counted}
 use Rattle.loop_merge.specs.Merge.{PlainPass}
 use Rattle.matrix_meaning.specs.declared.Request.{Request}
 use Rattle.pass_code.specs.Acts.{pass_acts}
-use Rattle.pass_code.specs.Laws.{AllRun}
+use Rattle.pass_code.specs.Laws.{Runs}
 use Rattle.code_gen.specs.Acts.{passes_acts}
 use Rattle.code_gen.specs.Whole.{target_of}
+use Rattle.code_gen.proofs.Known.{AllKnown}
 use Rattle.tree_model.specs.Passes.{passes_cost, loads_in}
 
 -- the counts of two lists are added up
@@ -35,23 +36,53 @@ adds lanes [] ys = record { operations = omega arith; loads = omega arith; store
 adds lanes (x ∷ xs) ys = adds-one lanes x xs ys (adds lanes xs ys)
 
 module _ (c : Request) (words : ℕ) where
-  -- the passes' counts are those of the cost model, and their actions are not too many
-  pub record Counted (ps : List PlainPass) (t : ℕ) (source : Array) : Type 0 where
-    pub operations : (counts_of 1 (passes_acts c words ps t source)).operations ≡ passes_cost c c.size (map counted ps)
-    pub loads : (counts_of 1 (passes_acts c words ps t source)).loads ≡ loads_in c (map counted ps)
-    pub stores : (counts_of 1 (passes_acts c words ps t source)).stores ≡ c.size * length (map counted ps)
-    pub short : length (passes_acts c words ps t source) ≤ length (map counted ps) * 2 ^ 40
+  -- a processor's counts are an equal share of those of the cost model, and its actions are not too many
+  pub record Counted (passes : List PlainPass) (actions : List Action) : Type 0 where
+    pub operations : c.procs * (counts_of c.lanes actions).operations ≡ passes_cost c c.size (map counted passes)
+    pub loads : c.procs * (counts_of c.lanes actions).loads ≡ loads_in c (map counted passes)
+    pub stores : c.procs * (counts_of c.lanes actions).stores ≡ c.size * length passes
+    pub short : length actions ≤ length passes * 2 ^ 40
 
-  pub passes-counted : (ps : List PlainPass) (t : ℕ) (source : Array) → AllRun c ps → Counted ps t source
-  passes-counted [] t source all = record { operations = refl; loads = refl; stores = omega arith; short = omega arith }
-  passes-counted (p ∷ ps) t source all =
-      let from = array_start words source in
-      let to = array_start words (target_of t (length ps)) in
-      let rest = passes-counted ps (suc t) (target_of t (length ps)) all.1 in
-      let sum = adds 1 (pass_acts c p from to) (passes_acts c words ps (suc t) (target_of t (length ps))) in
+  pub counted-none : Counted [] []
+  counted-none = record { operations = omega arith; loads = omega arith; stores = omega arith; short = omega arith }
+
+  costs-append : (ps qs : List PlainPass) → passes_cost c c.size (map counted (ps ++ qs)) ≡ passes_cost c c.size (map counted ps) + passes_cost c c.size (map counted qs)
+  costs-append [] qs = omega arith
+  costs-append (p ∷ ps) qs = let rest = costs-append ps qs in omega (arith, rest)
+
+  loads-append : (ps qs : List PlainPass) → loads_in c (map counted (ps ++ qs)) ≡ loads_in c (map counted ps) + loads_in c (map counted qs)
+  loads-append [] qs = omega arith
+  loads-append (p ∷ ps) qs = let rest = loads-append ps qs in omega (arith, rest)
+
+  spread : (p x y : ℕ) → p * (x + y) ≡ p * x + p * y
+  spread p x y = omega arith
+
+  pub counted-append : (ps qs : List PlainPass) (xs ys : List Action) → Counted ps xs → Counted qs ys → Counted (ps ++ qs) (xs ++ ys)
+  counted-append ps qs xs ys h k =
+      let sum = adds c.lanes xs ys in
+      let costs = costs-append ps qs in
+      let loads = loads-append ps qs in
+      let long = length-append ps qs in
+      let all = length-append xs ys in
       record {
-        operations = let a = sum.operations in let b = rest.operations in let d = all.0.operations from to in omega arith;
-        loads = let a = sum.loads in let b = rest.loads in let d = all.0.loads from to in omega arith;
-        stores = let a = sum.stores in let b = rest.stores in let d = all.0.stores from to in omega arith;
-        short = let a = length-append (pass_acts c p from to) (passes_acts c words ps (suc t) (target_of t (length ps))) in let b = rest.short in let d = all.0.short from to in omega arith;
+        operations = ap (λ n. c.procs * n) sum.operations ∙ spread c.procs (counts_of c.lanes xs).operations (counts_of c.lanes ys).operations ∙ (let b = h.operations in let d = k.operations in omega (arith, b, d, costs));
+        loads = ap (λ n. c.procs * n) sum.loads ∙ spread c.procs (counts_of c.lanes xs).loads (counts_of c.lanes ys).loads ∙ (let b = h.loads in let d = k.loads in omega (arith, b, d, loads));
+        stores = ap (λ n. c.procs * n) sum.stores ∙ spread c.procs (counts_of c.lanes xs).stores (counts_of c.lanes ys).stores ∙ (let b = h.stores in let d = k.stores in let e = spread c.size (length ps) (length qs) in let f : c.size * length (ps ++ qs) ≡ c.size * (length ps + length qs) = ap (λ n. c.size * n) long in omega (arith, b, d, e, f));
+        short = let a = h.short in let b = k.short in omega (arith, a, b, all, long);
       }
+
+  one-counted : (p : PlainPass) (source target q : ℕ) → q < c.procs → Runs c p → Counted (p ∷ []) (pass_acts c p source target q)
+  one-counted p source target q low runs =
+      record {
+        operations = let a = runs.operations source target q low in omega (arith, a);
+        loads = let a = runs.loads source target q low in omega (arith, a);
+        stores = let a = runs.stores source target q low in omega (arith, a);
+        short = let a = runs.short source target q in omega (arith, a);
+      }
+
+  pub parts-counted : (after : ℕ) (ps : List PlainPass) (t : ℕ) (source : Array) (q : ℕ) → q < c.procs → AllKnown c ps → Counted ps (passes_acts c words after ps t source q)
+  parts-counted after [] t source q low known = counted-none
+  parts-counted after (p ∷ ps) t source q low known =
+      let target = target_of t (after + length ps) in
+      counted-append (p ∷ []) ps (pass_acts c p (array_start words source) (array_start words target) q) (passes_acts c words after ps (suc t) target q)
+      (one-counted p (array_start words source) (array_start words target) q low known.0.runs) (parts-counted after ps (suc t) target q low known.1)

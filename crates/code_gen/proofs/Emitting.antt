@@ -1,8 +1,6 @@
 -- Passes that are written one after another.
-use Rattle.std.proofs.Common.{◌≡◌, ℕ, suc, ◌+◌, ◌^◌, ◌<◌, List, [], ◌∷◌, ◌++◌, length, map, refl, sym, ap, ap₂, ◌∙◌, arith, subst}
-use Rattle.std.proofs.Math.Nat.{max-zero}
+use Rattle.std.proofs.Common.{◌≡◌, ℕ, suc, ◌+◌, ◌^◌, ◌<◌, ◌≤◌, List, [], ◌∷◌, ◌++◌, length, length-append, map, refl, sym, ap, ap₂, ◌∙◌, arith, subst}
 use Rattle.std.proofs.lemmas.List.{length-map}
-use Rattle.std.specs.Prelude.{max}
 use Rattle.pass_statements.specs.Bodies.{followed_by}
 use Rattle.pass_statements.specs.Conditions.{AllEmittable}
 use Rattle.pass_statements.specs.Emission.{pass_body, tables_after}
@@ -12,14 +10,11 @@ use Rattle.icode.specs.declared.program.Array.{Array}
 use Rattle.icode.specs.declared.program.Array.TheVariants.{X}
 use Rattle.icode.specs.declared.program.Stmt.{Stmt}
 use Rattle.loop_merge.specs.Listed.{PlainListed, listed_of}
-use Rattle.loop_merge.specs.Merge.{PlainPass, merged_of}
-use Rattle.loop_merge.specs.Whole.{PlainMerged, whole_of}
-use Rattle.matrix_meaning.specs.Valid.{IsValid}
+use Rattle.loop_merge.specs.Merge.{PlainPass, in_order, merged_of, merged_phases}
+use Rattle.loop_merge.specs.Whole.{PlainMerged}
 use Rattle.matrix_meaning.specs.declared.Request.{Request}
-use Rattle.code_gen.proofs.Few.{few_merged}
 use Rattle.code_gen.specs.Emitting.{AreOfTree, CanEmitAll, CanEmitPhases}
-use Rattle.code_gen.specs.Whole.{count_in, target_of, most_listed, most_of_phases, tables_of_phases, phases_body, passes_body, phase_body, program_of, tables_through, most_registers, listed_of_tree, tree_listing}
-use Rattle.tree_model.specs.Breakdown.{Breakdown}
+use Rattle.code_gen.specs.Whole.{count_in, target_of, most_of_phases, tables_of_phases, phases_body, phase_body, program_of}
 
 -- the statements of the first pass, and then those of the others
 pub first_and_more : (c : Request) (after_them : ℕ) (l : PlainListed) (ls all : List PlainListed) (number : ℕ) (tables after : List (List ℕ)) (source target : Array) (first more whole : List Stmt) →
@@ -38,26 +33,13 @@ pub can-emit : (c : Request) (ps : List PlainPass) → AllEmittable c ps → Can
 can-emit c [] all = tt
 can-emit c (p ∷ ps) all = (all.0.can, can-emit c ps all.1)
 
--- in the registers that their actions use
-pub registers-are : (c : Request) (ps : List PlainPass) → AllEmittable c ps → most_listed c (map (listed_of c) ps) ≡ most_registers c ps
-registers-are c [] all = refl
-registers-are c (p ∷ ps) all = ap₂ max all.0.registers (registers-are c ps all.1)
+emittable-split : (c : Request) (ps qs : List PlainPass) → AllEmittable c (ps ++ qs) → AllEmittable c ps × AllEmittable c qs
+emittable-split c [] qs all = (tt, all)
+emittable-split c (p ∷ ps) qs all = let rest = emittable-split c ps qs all.1 in ((all.0, rest.0), rest.1)
 
--- a phase after which none come
-pub last-phase : (c : Request) (ls : List PlainListed) (t : ℕ) (tables : List (List ℕ)) (source : Array) → phase_body c 0 ls t tables source ≡ passes_body c ls t tables source
-last-phase c [] t tables source = refl
-last-phase c (l ∷ ls) t tables source =
-    let none : 0 + length ls ≡ length ls = omega arith in
-    ap (λ (n : ℕ). followed_by (pass_body c l tables source (target_of t n)) (phase_body c 0 ls (suc t) (tables_after c l tables) (target_of t n))) none
-    ∙ ap (followed_by (pass_body c l tables source (target_of t (length ls)))) (last-phase c ls (suc t) (tables_after c l tables) (target_of t (length ls)))
-
--- the program of the merged passes of a tree is the tree's
-pub program_is : (c : Request) (t : Breakdown) → AllEmittable c (merged_of c t) → program_of c (whole_of c t) ≡ tree_listing c t
-program_is c t all =
-    let count : max (most_listed c (listed_of_tree c t)) 0 ≡ most_registers c (merged_of c t) =
-    max-zero (most_listed c (listed_of_tree c t)) ∙ registers-are c (merged_of c t) all in
-    ap₂ (λ (n : ℕ) (body : PlainBody). let p : PlainProgram = record { size = c.size; modulus = c.modulus; procs = 1; line = c.line; lanes = 1; regs = n; tables = tables_through c (listed_of_tree c t) []; phases = body ∷ [] } in p)
-    count (last-phase c (listed_of_tree c t) 0 [] X)
+phases-emittable : (c : Request) (pss : List (List PlainPass)) → AllEmittable c (in_order pss) → CanEmitPhases c (map (map (listed_of c)) pss)
+phases-emittable c [] all = tt
+phases-emittable c (ps ∷ more) all = let parts = emittable-split c ps (in_order more) all in (can-emit c ps parts.0, phases-emittable c more parts.1)
 
 -- the program that is made of the statements, the tables and the registers
 pub written_is : (c r : Request) (m : PlainMerged) (ls : List (List PlainListed)) (regs : ℕ) (tables : List (List ℕ)) (phases : List PlainBody) → r ≡ c → ls ≡ m.phases →
@@ -72,11 +54,16 @@ written_is c r m ls regs tables phases is same used had written =
 
 -- the phases of a tree's merged passes can be written, and have few passes
 pub can-emit-tree : (c : Request) (m : PlainMerged) (of : AreOfTree c m) → AllEmittable c (merged_of c of.tree) → CanEmitPhases c m.phases
-can-emit-tree c m of all = subst (λ (z : PlainMerged). CanEmitPhases c z.phases) (sym of.form) (can-emit c (merged_of c of.tree) all, tt)
+can-emit-tree c m of all = subst (λ (z : PlainMerged). CanEmitPhases c z.phases) (sym of.form) (phases-emittable c (merged_phases c of.tree) all)
 
-pub few-phases : (c : Request) (m : PlainMerged) (of : AreOfTree c m) → IsValid c → 0 + count_in m.phases < 2 ^ 64
-few-phases c m of valid =
-    let few = few_merged c of.tree valid of.admissible in
-    let count : count_in m.phases ≡ 0 + length (listed_of_tree c of.tree) = ap (λ (z : PlainMerged). count_in z.phases) of.form in
-    let long = length-map (merged_of c of.tree) (listed_of c) in
-    omega arith
+passes-count : (c : Request) (pss : List (List PlainPass)) → count_in (map (map (listed_of c)) pss) ≡ length (in_order pss)
+passes-count c [] = refl
+passes-count c (ps ∷ more) =
+    let rest = passes-count c more in
+    let long = length-map ps (listed_of c) in
+    let all = length-append ps (in_order more) in omega (arith, rest, long, all)
+
+pub few-phases : (c : Request) (m : PlainMerged) (of : AreOfTree c m) → length (merged_of c of.tree) ≤ 18 → 0 + count_in m.phases < 2 ^ 64
+few-phases c m of few =
+    let count : count_in m.phases ≡ length (merged_of c of.tree) = ap (λ (z : PlainMerged). count_in z.phases) of.form ∙ passes-count c (merged_phases c of.tree) in
+    omega (arith, count, few)

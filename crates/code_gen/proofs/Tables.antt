@@ -1,24 +1,25 @@
 -- The tables of passes are within the limits: each has an entry, and its entries are residues.
-use Rattle.std.proofs.Common.{◌≡◌, ℕ, ◌*◌, ◌/◌, ◌%◌, ◌^◌, ◌<◌, List, [], ◌∷◌, length, map, Bool, true, false, ◌&&◌, nat_lt, Option, Some, None, refl, ap₂, arith, mod-lt, subst}
+use Rattle.std.proofs.Common.{◌≡◌, ℕ, zero, suc, ◌*◌, ◌/◌, ◌%◌, ◌^◌, ◌<◌, List, [], ◌∷◌, length, map, Bool, true, false, ◌&&◌, nat_lt, Option, Some, None, refl, ap₂, arith, mod-lt, subst}
 use Rattle.std.specs.Prelude.{if◌then◌else◌, IsTrue}
 use Rattle.std.specs.List.{list_all, range_with_len}
 use Rattle.std.specs.Option.{option_map}
 use Rattle.std.proofs.lemmas.Bool.Decides.{nat_tests}
 use Rattle.pass_statements.specs.Emission.{with_table, is_table, tables_after, tables_of_leaf, tables_of_multiplier, powers_of, diagonal_of}
 use Rattle.icode.specs.Limits.{are_tables_within}
-use Rattle.loop_merge.specs.Listed.{PlainMultiplier, listed_of, multiplier_of}
-use Rattle.loop_merge.specs.ListedLaw.{ListsPlaces, AllListPlaces}
+use Rattle.loop_merge.specs.Listed.{is_straight, vectors_of, PlainMultiplier, listed_of, multiplier_of}
+use Rattle.loop_merge.specs.ListedLaw.{ListsPlaces}
 use Rattle.loop_merge.specs.Merge.{PlainPass, PlainDiagonal}
-use Rattle.loop_merge.specs.Stores.{IsHit, StoresAll, AllStore}
+use Rattle.loop_merge.specs.Stores.{IsHit, StoresAll}
 use Rattle.loop_merge.specs.Merge.{scatter_place}
 use Rattle.matrix_meaning.specs.Laws.{twiddle}
 use Rattle.matrix_meaning.specs.declared.Request.{Request}
 use Rattle.operators.specs.Sum.{list_below}
 use Rattle.operators.proofs.Lists.{length-list_below}
 use Rattle.ring_mod.specs.Residue.{power_mod}
-use Rattle.code_gen.specs.Whole.{tables_through}
-use Rattle.tree_model.specs.Breakdown.{Breakdown, size_of}
-use Rattle.tree_model.specs.Cost.{is_kernel, node_root}
+use Rattle.sigma_lower.specs.Work.{PlainWork, transforming, tiling, work_size}
+use Rattle.code_gen.specs.Whole.{tables_through, tables_of_phases}
+use Rattle.code_gen.proofs.Known.{AllKnown, PhasesKnown}
+use Rattle.tree_model.specs.Cost.{node_root}
 
 below-is : (n k : ℕ) → n < k → nat_lt n k ≡ true
 below-is n k low = grind (arith, nat_tests)
@@ -71,12 +72,12 @@ module _ (m : ℕ) (some : 0 < m) where
       (with_table-within tables entries (rest-within table tables h) one))
 
 module _ (c : Request) (residues : 0 < c.modulus) (sized : 0 < c.size) where
-  leaf-within : (t : Breakdown) (tables : List (List ℕ)) → 0 < size_of t → IsTrue (are_tables_within c.modulus tables) → IsTrue (are_tables_within c.modulus (tables_of_leaf c t tables))
-  leaf-within t tables some h =
-      pick-within c.modulus residues (is_kernel c (size_of t)) tables (with_table tables (powers_of c (size_of t))) (λ kernel. h)
+  leaf-within : (w : PlainWork) (tables : List (List ℕ)) → 0 < work_size w → IsTrue (are_tables_within c.modulus tables) → IsTrue (are_tables_within c.modulus (tables_of_leaf c w tables))
+  leaf-within w tables some h =
+      pick-within c.modulus residues (is_straight c w) tables (with_table tables (powers_of c (work_size w))) (λ straight. h)
       (λ long.
-      with_table-within c.modulus residues tables (powers_of c (size_of t)) h
-      (list-within c.modulus residues (size_of t) (power_mod c.modulus (node_root c (size_of t))) some (λ k. power_mod-below c.modulus (node_root c (size_of t)) k residues)))
+      with_table-within c.modulus residues tables (powers_of c (work_size w)) h
+      (list-within c.modulus residues (work_size w) (power_mod c.modulus (node_root c (work_size w))) some (λ k. power_mod-below c.modulus (node_root c (work_size w)) k residues)))
 
   multiplier-within : (m : Option PlainMultiplier) (tables : List (List ℕ)) → ((d : PlainMultiplier) → m ≡ Some d → 0 < d.rows * d.cols) → IsTrue (are_tables_within c.modulus tables) →
       IsTrue (are_tables_within c.modulus (tables_of_multiplier c m tables))
@@ -87,22 +88,29 @@ module _ (c : Request) (residues : 0 < c.modulus) (sized : 0 < c.size) where
       (λ k. power_mod-below c.modulus (node_root c (d.rows * d.cols)) ((k / d.cols) * (k % d.cols)) residues))
 
   -- a copy and an item of it that there are
-  hit : (p : PlainPass) → StoresAll c p → IsHit p.path (size_of p.tree) (scatter_place p) 0
+  hit : (p : PlainPass) → StoresAll c p → IsHit p.path (work_size p.work) (scatter_place p) 0
   hit p stores = stores.covers.onto 0 sized
 
+  -- a place of the diagonal is below its size
   diagonal-some : (p : PlainPass) (d : PlainDiagonal) → StoresAll c p → ListsPlaces c p → p.diagonal ≡ Some d → 0 < d.rows * d.cols
   diagonal-some p d stores lists is =
-      by_kind (is_kernel c (size_of p.tree)) refl
+      by_kind (is_straight c p.work) refl
     where
-      by_kind : (b : Bool) → is_kernel c (size_of p.tree) ≡ b → 0 < d.rows * d.cols
-      by_kind true kernel =
+      vectors-some : (w : PlainWork) → 0 < work_size w → 0 < vectors_of w
+      vectors-some (transforming t) some = some
+      vectors-some (tiling zero) some = absurd (omega (arith, some))
+      vectors-some (tiling (suc v)) some = omega arith
+
+      by_kind : (b : Bool) → is_straight c p.work ≡ b → 0 < d.rows * d.cols
+      by_kind true straight =
           let there = hit p stores in
-          let low = ((lists.kernel kernel there.values there.inner there.in_range there.below).multiplies d is).below in
-          omega arith
+          let some : 0 < work_size p.work = let below = there.below in omega (arith, below) in
+          let low = ((lists.straight straight there.values 0 there.in_range (vectors-some p.work some)).multiplies d is).below in
+          omega (arith, low)
       by_kind false long =
           let there = hit p stores in
           let low = ((lists.rows long there.values there.inner there.inner there.in_range there.below there.below).multiplies d is).below in
-          omega arith
+          omega (arith, low)
 
   multiplier-some : (p : PlainPass) (o : Option PlainDiagonal) → p.diagonal ≡ o → StoresAll c p → ListsPlaces c p → (m : PlainMultiplier) → option_map (multiplier_of c p) o ≡ Some m → 0 < m.rows * m.cols
   multiplier-some p None is stores lists m e = let clash : None ≡ Some m = e in grind arith
@@ -114,10 +122,15 @@ module _ (c : Request) (residues : 0 < c.modulus) (sized : 0 < c.size) where
   after-within p tables stores lists h =
       let there = hit p stores in
       let low = there.below in
-      multiplier-within (option_map (multiplier_of c p) p.diagonal) (tables_of_leaf c p.tree tables) (multiplier-some p p.diagonal refl stores lists) (leaf-within p.tree tables (omega arith) h)
+      multiplier-within (option_map (multiplier_of c p) p.diagonal) (tables_of_leaf c p.work tables) (multiplier-some p p.diagonal refl stores lists) (leaf-within p.work tables (omega (arith, low)) h)
 
-  pub tables-within : (ps : List PlainPass) (tables : List (List ℕ)) → AllStore c ps → AllListPlaces c ps → IsTrue (are_tables_within c.modulus tables) →
+  pub tables-within : (ps : List PlainPass) (tables : List (List ℕ)) → AllKnown c ps → IsTrue (are_tables_within c.modulus tables) →
       IsTrue (are_tables_within c.modulus (tables_through c (map (listed_of c) ps) tables))
-  tables-within [] tables stores lists h = h
-  tables-within (p ∷ ps) tables stores lists h =
-      tables-within ps (tables_after c (listed_of c p) tables) stores.1 lists.1 (after-within p tables stores.0 lists.0 h)
+  tables-within [] tables known h = h
+  tables-within (p ∷ ps) tables known h = tables-within ps (tables_after c (listed_of c p) tables) known.1 (after-within p tables known.0.stores known.0.lists h)
+
+  pub phases-tables-within : (pss : List (List PlainPass)) (tables : List (List ℕ)) → PhasesKnown c pss → IsTrue (are_tables_within c.modulus tables) →
+      IsTrue (are_tables_within c.modulus (tables_of_phases c (map (map (listed_of c)) pss) tables))
+  phases-tables-within [] tables known h = h
+  phases-tables-within (ps ∷ more) tables known h =
+      phases-tables-within more (tables_through c (map (listed_of c) ps) tables) known.1 (tables-within ps tables known.0 h)

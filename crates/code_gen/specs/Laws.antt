@@ -1,7 +1,7 @@
 -- What the program of a tree does.
-use Rattle.std.specs.Prelude.{◌≡◌, ℕ, ◌<◌, IsTrue, List, [], length, All}
+use Rattle.std.specs.Prelude.{◌≡◌, ℕ, ◌*◌, ◌<◌, List, [], length, All}
 use Rattle.icode.specs.Actions.{PlainFits, plain_code}
-use Rattle.icode.specs.Machine.{results, whole_counts}
+use Rattle.icode.specs.Machine.{IsApart, results, whole_counts}
 use Rattle.icode.specs.Limits.{IsWithinLimits}
 use Rattle.icode.specs.declared.action.Counts.{Counts}
 use Rattle.matrix_meaning.specs.Kind.{transform}
@@ -10,20 +10,23 @@ use Rattle.matrix_meaning.specs.declared.Request.{Request}
 use Rattle.code_gen.specs.Whole.{tree_listing}
 use Rattle.tree_model.specs.Admissible.{IsAdmissible}
 use Rattle.tree_model.specs.Breakdown.{Breakdown}
-use Rattle.tree_model.specs.Cost.{cost_of, is_plain}
+use Rattle.tree_model.specs.Cost.{cost_of}
 use Rattle.tree_model.specs.Passes.{loads_of, stores_of}
 
--- the tree's operations, and the loads and stores of its passes
-abbrev pub counts_of_tree : Request → Breakdown → Counts
-counts_of_tree c t = record { operations = cost_of c t; loads = loads_of c t; stores = stores_of c t }
+-- an equal share of the tree's operations, and of the loads and stores of its passes
+pub record IsShare (c : Request) (t : Breakdown) (counts : Counts) : Type 0 where
+  pub operations : c.procs * counts.operations ≡ cost_of c t
+  pub loads : c.procs * counts.loads ≡ loads_of c t
+  pub stores : c.procs * counts.stores ≡ stores_of c t
 
--- The program stands within the limits and fits. Run with no turns but those that complete it, it leaves the transform of each vector of residues, at the tree's counts
+-- The program stands within the limits and fits. Run with no turns but those that complete it, it leaves the transform of each vector of residues. In no phase does a processor touch a line that another writes, and each has an equal share of the tree's counts
 pub record Computes (c : Request) (t : Breakdown) : Type 0 where
   pub limits : IsWithinLimits (tree_listing c t)
   pub fits : PlainFits (tree_listing c t)
   pub results : (x : List ℕ) → length x ≡ c.size → All (λ v. v < c.modulus) x →
       results (plain_code (tree_listing c t)) x [] ≡ transform c.kind c.modulus c.size c.root x
-  pub counts : whole_counts (plain_code (tree_listing c t)) 0 ≡ counts_of_tree c t
+  pub apart : (phase : ℕ) → IsApart (plain_code (tree_listing c t)) phase
+  pub shares : (q : ℕ) → q < c.procs → IsShare c t (whole_counts (plain_code (tree_listing c t)) q)
 
 abbrev pub TreesCompute : Type 0
-TreesCompute = (c : Request) (t : Breakdown) → IsValid c → IsTrue (is_plain c) → c.weight ≡ 1 → IsAdmissible c t → Computes c t
+TreesCompute = (c : Request) (t : Breakdown) → IsValid c → c.weight ≡ 1 → IsAdmissible c t → Computes c t

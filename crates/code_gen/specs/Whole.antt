@@ -1,14 +1,14 @@
 -- The program of merged passes, which follow one another phase by phase.
-use Rattle.std.specs.Prelude.{ℕ, zero, suc, ◌+◌, ◌%◌, ◌==◌, if◌then◌else◌, List, [], ◌∷◌, length, map, max}
+use Rattle.std.specs.Prelude.{ℕ, zero, suc, ◌+◌, ◌%◌, ◌==◌, if◌then◌else◌, List, [], ◌∷◌, length, max}
 use Rattle.pass_statements.specs.Bodies.{followed_by}
 use Rattle.pass_statements.specs.Conditions.{listed_registers}
 use Rattle.pass_statements.specs.Emission.{pass_body, tables_after}
 use Rattle.icode.specs.Plain.{PlainBody, PlainProgram, NoStmts}
 use Rattle.icode.specs.declared.program.Array.{Array}
 use Rattle.icode.specs.declared.program.Array.TheVariants.{X, Y, A, B}
-use Rattle.loop_merge.specs.Listed.{PlainListed, listed_of}
-use Rattle.loop_merge.specs.Merge.{PlainPass, merged_of}
-use Rattle.loop_merge.specs.Whole.{PlainMerged}
+use Rattle.loop_merge.specs.Listed.{PlainListed}
+use Rattle.loop_merge.specs.Merge.{PlainPass}
+use Rattle.loop_merge.specs.Whole.{PlainMerged, whole_of}
 use Rattle.matrix_meaning.specs.declared.Request.{Request}
 use Rattle.pass_code.specs.Acts.{registers_of}
 use Rattle.tree_model.specs.Breakdown.{Breakdown}
@@ -23,12 +23,6 @@ abbrev pub phase_body : Request → ℕ → List PlainListed → ℕ → List (L
 phase_body c after [] t tables source = NoStmts
 phase_body c after (l ∷ ls) t tables source =
     followed_by (pass_body c l tables source (target_of t (after + length ls))) (phase_body c after ls (suc t) (tables_after c l tables) (target_of t (after + length ls)))
-
--- the same, where none come after them
-abbrev pub passes_body : Request → List PlainListed → ℕ → List (List ℕ) → Array → PlainBody
-passes_body c [] t tables source = NoStmts
-passes_body c (l ∷ ls) t tables source =
-    followed_by (pass_body c l tables source (target_of t (length ls))) (passes_body c ls (suc t) (tables_after c l tables) (target_of t (length ls)))
 
 -- the tables after those that the passes use
 abbrev pub tables_through : Request → List PlainListed → List (List ℕ) → List (List ℕ)
@@ -83,19 +77,6 @@ abbrev pub most_registers : Request → List PlainPass → ℕ
 most_registers c [] = 0
 most_registers c (p ∷ ps) = max (registers_of c p) (most_registers c ps)
 
-abbrev pub listed_of_tree : Request → Breakdown → List PlainListed
-listed_of_tree c t = map (listed_of c) (merged_of c t)
-
--- the program of a tree on one processor and one lane
+-- the program of a tree
 abbrev pub tree_listing : Request → Breakdown → PlainProgram
-tree_listing c t =
-    record {
-      size = c.size;
-      modulus = c.modulus;
-      procs = 1;
-      line = c.line;
-      lanes = 1;
-      regs = most_registers c (merged_of c t);
-      tables = tables_through c (listed_of_tree c t) [];
-      phases = passes_body c (listed_of_tree c t) 0 [] X ∷ [];
-    }
+tree_listing c t = program_of c (whole_of c t)

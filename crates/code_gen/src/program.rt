@@ -1,5 +1,5 @@
 // The program of merged passes.
-ghost use Rattle.std.specs.Prelude.{◌≡◌, ◌+◌, ◌*◌, ◌^◌, ◌<◌, IsTrue, IfOk, OnOk, length, map};
+ghost use Rattle.std.specs.Prelude.{◌≡◌, ◌+◌, ◌*◌, ◌^◌, ◌<◌, IfOk, OnOk, length, map};
 ghost use Rattle.code_gen.specs.Emitting.{AreOfTree, CanEmitAll, CanEmitPhases};
 ghost use Rattle.code_gen.specs.Whole as whole;
 ghost use Rattle.code_gen.specs.Views.{plain_listings};
@@ -7,7 +7,6 @@ ghost use Rattle.icode.specs.Plain.{plain_body, plain_phases, plain_tables};
 ghost use Rattle.icode.specs.Program.{plain_program};
 ghost use Rattle.loop_merge.specs.ListedViews.{plain_listed};
 ghost use Rattle.loop_merge.specs.WholeViews.{plain_merged};
-ghost use Rattle.tree_model.specs.Cost.{is_plain};
 
 use icode::program::{Array, Program, Stmt};
 use loop_merge::{ListedPass, Merged};
@@ -134,7 +133,6 @@ fn emit_phases(
 /// The program of merged passes: phase by phase, from X by way of A and B to Y.
 pub fn emit(alloc: Global, c: &Ctx, merged: &Merged) -> Result<Program, NoMemory>
     requires merged { AreOfTree c.now (plain_merged merged.now) }
-    requires plain { IsTrue (is_plain c.now) }
     requires weight { c.now.weight ≡ 1 }
     ensures { IfOk result (λ p. plain_program p ≡ whole.program_of c.now (plain_merged merged.now)) }
 {

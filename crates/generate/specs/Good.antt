@@ -34,8 +34,8 @@ pub record IsGood (r : Request) (least : ℕ) (p : Program) : Type 0 where
   pub apart : (phase : ℕ) → IsApart (code_of p) phase
   pub operations : (q : ℕ) → q < r.procs → r.procs * (whole_counts (code_of p) q).operations ≡ least
 
--- All processors together load and store exactly what the passes of the tree do. On one processor the actions are one part for each pass, in order, with the pass's operations, loads and stores, between its two arrays
+-- The actions of each processor are one part for each pass of the tree, in order, with an equal share of the pass's operations, loads and stores, between its two arrays. All processors together load and store exactly what the passes do
 pub record IsLean (r : Request) (t : Breakdown) (p : Program) : Type 0 where
-  pub parts : r.procs ≡ 1 → IsLeanCode r t (code_of p)
+  pub parts : IsLeanCode r t (code_of p)
   pub loads : sum_below r.procs (λ q. (whole_counts (code_of p) q).loads) ≡ loads_of r t
   pub stores : sum_below r.procs (λ q. (whole_counts (code_of p) q).stores) ≡ stores_of r t

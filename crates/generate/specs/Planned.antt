@@ -10,13 +10,6 @@ use Rattle.tree_model.specs.Cost.{cost_of}
 use Rattle.generate.specs.declared.GenerateFault.{GenerateFault}
 use Rattle.generate.specs.declared.GenerateFault.TheVariants.{Root, NoDivide, OverBudget, NoMemory}
 
--- what may be asked for: one processor, word by word, with each operation at the same price
-pub record IsPlain (r : Request) : Type 0 where
-  pub procs : r.procs ≡ 1
-  pub line : r.line ≡ 1
-  pub lanes : r.lanes ≡ 1
-  pub weight : r.weight ≡ 1
-
 -- the root to the power of the size
 abbrev pub root_power : Request → ℕ
 root_power r = power_mod r.modulus r.root r.size

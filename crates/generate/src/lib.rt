@@ -2,15 +2,15 @@
 //! turns, shares no line, and executes exactly the operations of the cheapest tree.
 #![tactic(auto)]
 
-ghost use Rattle.std.specs.Prelude.{◌≡◌, ◌≢◌, false, Ok, Err, IfOk, IfErr, OnOk, OnErr, IsTrue};
+ghost use Rattle.std.specs.Prelude.{◌≡◌, ◌≢◌, false, Ok, Err, IfOk, IfErr, OnOk, OnErr};
 ghost use Rattle.matrix_meaning.specs.Valid.{IsInRange, IsValid};
 ghost use Rattle.code_gen.specs.Whole.{tree_listing};
 ghost use Rattle.icode.specs.Program.{plain_program};
 ghost use Rattle.tree_model.specs.Admissible.{IsAdmissible};
 ghost use Rattle.tree_model.specs.Breakdown.{breakdown_of};
-ghost use Rattle.tree_model.specs.Cost.{cost_of, is_plain};
+ghost use Rattle.tree_model.specs.Cost.{cost_of};
 ghost use Rattle.generate.specs.Good.{IsGood, IsLean};
-ghost use Rattle.generate.specs.Planned.{IsPlain, IsPlanned, IsAdmitted, IsBarred, IsRooted, has_root, root_power};
+ghost use Rattle.generate.specs.Planned.{IsPlanned, IsAdmitted, IsBarred, IsRooted, has_root, root_power};
 ghost use Rattle.generate.specs.declared.GenerateFault.TheVariants as fault;
 
 use code_gen::emit;
@@ -25,7 +25,7 @@ use smp_rewrite::to_smp;
 use std::alloc::Global;
 use thiserror::Error;
 use tree_model::{Ctx, Tree, divides};
-use vec_rewrite::{steps_of_vec, to_vec};
+use vec_rewrite::to_vec;
 
 /// The cheapest tree with its cost, and its program.
 #[derive(Drop)]
@@ -122,7 +122,7 @@ pub fn plan(alloc: Global, request: &Request) -> Result<Plan, GenerateFault>
 /// A good program for the request, or the first cause to refuse it.
 pub fn generate(alloc: Global, request: &Request) -> Result<Product, GenerateFault>
     requires in_range { IsInRange request.now }
-    requires plain { IsPlain request.now }
+    requires weight { request.now.weight ≡ 1 }
     ensures planned { IfOk result (λ product. IsPlanned request.now (Ok (breakdown_of product.plan.tree))) }
     ensures cost { IfOk result (λ product. product.plan.cost ≡ cost_of request.now (breakdown_of product.plan.tree)) }
     ensures good { IfOk result (λ product. IsGood request.now (cost_of request.now (breakdown_of product.plan.tree)) product.program) }
@@ -135,19 +135,17 @@ pub fn generate(alloc: Global, request: &Request) -> Result<Product, GenerateFau
     Ok(Product { plan, program })
 }
 
-// The program of a tree: its steps, dealt to processors and lanes, become loops, the loops are merged, and what is merged
-// is written as code.
+// The program of a tree: its products of tensors, cut for processors and lanes, become loops, the loops are merged, and
+// what is merged is written as code.
 fn tree_program(alloc: Global, c: &Ctx, tree: &Tree) -> Result<Program, NoMemory>
     requires admissible { IsAdmissible c.now (breakdown_of tree.now) }
-    requires plain { IsTrue (is_plain c.now) }
     requires weight { c.now.weight ≡ 1 }
     ensures { IfOk result (λ p. plain_program p ≡ tree_listing c.now (breakdown_of tree.now)) }
 {
     let _request = c.request();
     let blocks = to_smp(alloc, c, tree)?;
     let vectors = to_vec(alloc, c, blocks)?;
-    let steps = steps_of_vec(alloc, &vectors)?;
-    let loops = lower(alloc, c, &steps)?;
+    let loops = lower(alloc, c, &vectors)?;
     let merged = merge(alloc, c, &loops)?;
     let program = emit(alloc, c, &merged)?;
     Ok(program)

@@ -2,7 +2,6 @@
 
 ghost use Rattle.std.specs.Prelude.{◌≡◌, ◌-◌, ◌^◌, ◌<◌, ◌≤◌};
 ghost use Rattle.matrix_meaning.specs.Valid.{IsBetween, IsInRange};
-ghost use Rattle.generate.specs.Planned.{IsPlain};
 
 use crate::generate;
 use matrix_meaning::{Kind, Request};
@@ -15,7 +14,7 @@ fn fourier(size: u64, modulus: u64, root: u64, budget: u64) -> Request
     requires root { root < modulus }
     requires budget { IsBetween 1 1000000000000 budget }
     ensures in_range { IsInRange result }
-    ensures plain { IsPlain result }
+    ensures weight { result.weight ≡ 1 }
 {
     Request {
         kind: Kind::Dft,

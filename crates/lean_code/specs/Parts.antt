@@ -1,5 +1,6 @@
 -- A list of actions as parts, one for each pass.
-use Rattle.std.specs.Prelude.{◌≡◌, ℕ, suc, ◌+◌, ◌<◌, ◌≤◌, IsTrue, List, [], ◌∷◌, ◌++◌, length, All}
+use Rattle.std.specs.Prelude.{◌≡◌, ℕ, suc, ◌+◌, ◌*◌, ◌==◌, ◌<◌, ◌≤◌, if◌then◌else◌, List, [], ◌∷◌, ◌++◌, flat_map, length, All}
+use Rattle.std.specs.List.{range_with_len}
 use Rattle.icode.specs.Actions.{array_start, plain_code}
 use Rattle.icode.specs.Machine.{Code, acts, counts_of, whole_lines}
 use Rattle.icode.specs.declared.action.Action.{Action}
@@ -11,26 +12,25 @@ use Rattle.matrix_meaning.specs.Valid.{IsValid}
 use Rattle.matrix_meaning.specs.declared.Request.{Request}
 use Rattle.tree_model.specs.Admissible.{IsAdmissible}
 use Rattle.tree_model.specs.Breakdown.{Breakdown}
-use Rattle.tree_model.specs.Cost.{is_plain}
 use Rattle.tree_model.specs.Passes.{Pass, pass_cost, pass_loads, whole_passes}
 
--- the action loads from one array of n words and stores to another
-abbrev pub Stays : ℕ → ℕ → ℕ → Action → Type 0
-Stays n source target (Load r a) = (source ≤ a) × (a < source + n)
-Stays n source target (Store a r) = (target ≤ a) × (a < target + n)
-Stays n source target (Zero r) = Unit {0}
-Stays n source target (Add r x y) = Unit {0}
-Stays n source target (Sub r x y) = Unit {0}
-Stays n source target (Neg r x) = Unit {0}
-Stays n source target (Mul r x factors) = Unit {0}
-Stays n source target (Tile r x) = Unit {0}
+-- on so many lanes the action loads from one array of n words and stores to another
+abbrev pub Stays : ℕ → ℕ → ℕ → ℕ → Action → Type 0
+Stays n lanes source target (Load r a) = (source ≤ a) × (a + lanes ≤ source + n)
+Stays n lanes source target (Store a r) = (target ≤ a) × (a + lanes ≤ target + n)
+Stays n lanes source target (Zero r) = Unit {0}
+Stays n lanes source target (Add r x y) = Unit {0}
+Stays n lanes source target (Sub r x y) = Unit {0}
+Stays n lanes source target (Neg r x) = Unit {0}
+Stays n lanes source target (Mul r x factors) = Unit {0}
+Stays n lanes source target (Tile r x) = Unit {0}
 
--- the part of a pass, between arrays that begin at these words
+-- a processor's part of a pass, between arrays that begin at these words: an equal share of its counts
 pub record IsPart (c : Request) (pass : Pass) (source target : ℕ) (actions : List Action) : Type 0 where
-  pub stays : All (Stays c.size source target) actions
-  pub operations : (counts_of 1 actions).operations ≡ pass_cost c c.size pass
-  pub loads : (counts_of 1 actions).loads ≡ pass_loads c c.size pass
-  pub stores : (counts_of 1 actions).stores ≡ c.size
+  pub stays : All (Stays c.size c.lanes source target) actions
+  pub operations : c.procs * (counts_of c.lanes actions).operations ≡ pass_cost c c.size pass
+  pub loads : c.procs * (counts_of c.lanes actions).loads ≡ pass_loads c c.size pass
+  pub stores : c.procs * (counts_of c.lanes actions).stores ≡ c.size
 
 -- a part for each pass, of which the first has number t and reads the source: the others read what the one before wrote
 abbrev pub AreParts : Request → ℕ → Array → List Pass → List (List Action) → Type 0
@@ -52,12 +52,11 @@ pub record IsLeanList (c : Request) (t : Breakdown) (actions : List Action) : Ty
   pub whole : joined parts ≡ actions
   pub each : AreParts c 0 X (whole_passes c t) parts
 
--- on one processor: there is one phase, whose list is lean
+-- there is one phase, or there are two where there are several processors, and over all phases the list of each processor is lean
 pub record IsLeanCode (c : Request) (t : Breakdown) (code : Code) : Type 0 where
-  pub phases : length code.lists ≡ 1
-  pub list : IsLeanList c t (acts code 0 0)
+  pub phases : length code.lists ≡ (if c.procs == 1 then 1 else 2)
+  pub lists : (q : ℕ) → q < c.procs → IsLeanList c t (flat_map (λ phase. acts code phase q) (range_with_len 0 (length code.lists)))
 
--- on one processor and one lane the programs of trees are lean
+-- the programs of trees are lean
 abbrev pub TreesAreLean : Type 0
-TreesAreLean =
-    (c : Request) (t : Breakdown) → IsValid c → IsTrue (is_plain c) → c.weight ≡ 1 → IsAdmissible c t → IsLeanCode c t (plain_code (tree_listing c t))
+TreesAreLean = (c : Request) (t : Breakdown) → IsValid c → c.weight ≡ 1 → IsAdmissible c t → IsLeanCode c t (plain_code (tree_listing c t))

@@ -1,33 +1,33 @@
 -- The registers and factors of passes, and how long their lists are.
 use Rattle.std.proofs.Common.{◌≡◌, ℕ, zero, suc, ◌+◌, ◌*◌, ◌<◌, ◌≤◌, arith, List, [], ◌∷◌, ◌++◌, length, map, length-append}
-use Rattle.std.specs.Prelude.{slice_index, Option, Some, None, All}
+use Rattle.std.specs.Prelude.{Option, Some, None, All}
 use Rattle.std.proofs.lemmas.List.Elements.{All-nil, All-cons, All-append}
+use Rattle.icode.specs.Actions.{lane_factors}
 use Rattle.icode.specs.declared.action.Action.{Action}
 use Rattle.icode.specs.declared.action.Action.TheVariants.{Load, Store, Zero, Add, Sub, Neg, Mul, Tile}
 use Rattle.code_laws.specs.Lanes.{AreArithmetic}
 use Rattle.code_laws.specs.Nests.{bodies, nest, loads}
-use Rattle.kernel_gen.specs.Making.{Made}
 use Rattle.matrix_meaning.specs.declared.Request.{Request}
-use Rattle.loop_merge.specs.Merge.{PlainDiagonal, PlainPass, scatter_place}
+use Rattle.loop_merge.specs.Merge.{PlainDiagonal, PlainPass}
 use Rattle.tensor_paths.specs.Path.{Path, count_of, copies_of}
-use Rattle.pass_code.specs.Acts.{factor, multiplier_at, finish_acts, finish_registers}
+use Rattle.pass_code.specs.Acts.{store_place, multipliers_at, finish_acts, finish_registers}
 use Rattle.pass_code.specs.Laws.{IsFit}
-use Rattle.pass_code.proofs.KernelActions.{AreOperations, one_factor, power_below}
-use Rattle.pass_code.proofs.KernelCopies.{body_acts, finish-few}
+use Rattle.pass_code.proofs.KernelActions.{AreOperations, lane_residues, power_below}
+use Rattle.pass_code.proofs.StraightCopies.{ends_of, copy_body, finish-few}
 use Rattle.pass_code.proofs.LeafCopies.{entry_acts, sum_acts}
 
-module _ (regs m : ℕ) where
+module _ (regs lanes m : ℕ) where
   abbrev Fit : List Action → Type 0
-  Fit actions = All (IsFit regs m) actions
+  Fit actions = All (IsFit regs lanes m) actions
 
-  fit-none : Fit []
-  fit-none = All-nil (IsFit regs m)
+  pub fit-none : Fit []
+  fit-none = All-nil (IsFit regs lanes m)
 
-  fit-cons : (action : Action) (actions : List Action) → IsFit regs m action → Fit actions → Fit (action ∷ actions)
-  fit-cons action actions h k = All-cons (IsFit regs m) action actions h k
+  pub fit-cons : (action : Action) (actions : List Action) → IsFit regs lanes m action → Fit actions → Fit (action ∷ actions)
+  fit-cons action actions h k = All-cons (IsFit regs lanes m) action actions h k
 
   fit-append : (xs ys : List Action) → Fit xs → Fit ys → Fit (xs ++ ys)
-  fit-append xs ys h k = All-append (IsFit regs m) xs ys h k
+  fit-append xs ys h k = All-append (IsFit regs lanes m) xs ys h k
 
   pub fit-bodies : (n : ℕ) (body : ℕ → List Action) → ((v : ℕ) → v < n → Fit (body v)) → Fit (bodies n body)
   fit-bodies zero body each = fit-none
@@ -38,7 +38,7 @@ module _ (regs m : ℕ) where
   fit-nest (count ∷ counts) body each outer = fit-bodies count (λ v. nest counts body (outer ++ v ∷ [])) (λ v below. fit-nest counts body each (outer ++ v ∷ []))
 
   -- operations below a bound of registers
-  fit-operations : (bound : ℕ) (actions : List Action) → bound ≤ regs → AreArithmetic 1 bound actions → AreOperations m actions → Fit actions
+  pub fit-operations : (bound : ℕ) (actions : List Action) → bound ≤ regs → AreArithmetic lanes bound actions → AreOperations m actions → Fit actions
   fit-operations bound [] low are h = fit-none
   fit-operations bound (Load r address ∷ actions) low are h = absurd h.0
   fit-operations bound (Store address r ∷ actions) low are h = absurd h.0
@@ -57,39 +57,44 @@ module _ (regs m : ℕ) where
   fit-loads n from low = fit-bodies n (λ k. Load k (from k) ∷ []) (λ k below. fit-cons (Load k (from k)) [] (record { registers = omega arith; factors = tt }) fit-none)
 
   -- a load, a product and a sum
-  fit-entry : (from entry : ℕ → ℕ) (l : ℕ) → 3 ≤ regs → entry l < m → Fit (entry_acts from entry l)
-  fit-entry from entry l low small =
-      fit-cons (Load 1 (from l)) (Mul 2 1 (factor (entry l)) ∷ Add 0 0 2 ∷ []) (record { registers = omega arith; factors = tt })
-      (fit-cons (Mul 2 1 (factor (entry l))) (Add 0 0 2 ∷ []) (record { registers = (omega arith, omega arith); factors = one_factor m (entry l) small })
+  fit-entry : (from entry : ℕ → ℕ) (l : ℕ) → 0 < m → 3 ≤ regs → entry l < m → Fit (entry_acts lanes from entry l)
+  fit-entry from entry l some low small =
+      let factors = lane_factors lanes (λ _. entry l) in
+      fit-cons (Load 1 (from l)) (Mul 2 1 factors ∷ Add 0 0 2 ∷ []) (record { registers = omega arith; factors = tt })
+      (fit-cons (Mul 2 1 factors) (Add 0 0 2 ∷ []) (record { registers = (omega arith, omega arith); factors = lane_residues m lanes (λ _. entry l) some (λ _. small) })
       (fit-cons (Add 0 0 2) [] (record { registers = (omega arith, omega arith, omega arith); factors = tt }) fit-none))
 
-module _ (c : Request) (p : PlainPass) (o : Option PlainDiagonal) (target regs : ℕ) (vs : List ℕ) (some : 0 < c.modulus) where
-  fit-finish : (o : Option PlainDiagonal) (k from free used more : ℕ) → from < used → free < used + more → finish_registers o used more ≤ regs → All (IsFit regs c.modulus) (finish_acts c p o target vs k from free)
+module _ (c : Request) (p : PlainPass) (target q regs : ℕ) (vs : List ℕ) (some : 0 < c.modulus) where
+  -- each action is fit
+  abbrev AreFit : List Action → Type 0
+  AreFit actions = All (IsFit regs c.lanes c.modulus) actions
+
+  fit-finish : (o : Option PlainDiagonal) (k from free used more : ℕ) → from < used → free < used + more → finish_registers o used more ≤ regs → AreFit (finish_acts c p o target q vs k from free)
   fit-finish None k from free used more low high few =
-      fit-cons regs c.modulus (Store (target + scatter_place p vs k) from) [] (record { registers = omega arith; factors = tt }) (fit-none regs c.modulus)
+      fit-cons regs c.lanes c.modulus (Store (target + store_place c p q vs k) from) [] (record { registers = omega arith; factors = tt }) (fit-none regs c.lanes c.modulus)
   fit-finish (Some d) k from free used more low high few =
-      let x = multiplier_at c p d vs k in
-      fit-cons regs c.modulus (Mul free from (factor x)) (Store (target + scatter_place p vs k) free ∷ []) (record { registers = (omega arith, omega arith); factors = one_factor c.modulus x (power_below c.modulus _ _ some) })
-      (fit-cons regs c.modulus (Store (target + scatter_place p vs k) free) [] (record { registers = omega arith; factors = tt }) (fit-none regs c.modulus))
+      let factors = multipliers_at c p d q vs k in
+      fit-cons regs c.lanes c.modulus (Mul free from factors) (Store (target + store_place c p q vs k) free ∷ [])
+      (record { registers = (omega arith, omega arith); factors = lane_residues c.modulus c.lanes _ some (λ lane. power_below c.modulus _ _ some) })
+      (fit-cons regs c.lanes c.modulus (Store (target + store_place c p q vs k) free) [] (record { registers = omega arith; factors = tt }) (fit-none regs c.lanes c.modulus))
 
-  pub fit-body : (made : Made) (n : ℕ) (from : ℕ → ℕ) → n ≤ made.next → finish_registers o made.next n ≤ regs → AreArithmetic 1 made.next made.acts → AreOperations c.modulus made.acts → ((k : ℕ) → k < n → slice_index made.outs k < made.next) →
-      All (IsFit regs c.modulus) (body_acts c p o made n from target vs)
-  fit-body made n from grows few are code outs =
+  pub fit-body : (o : Option PlainDiagonal) (middle : List Action) (out : ℕ → ℕ) (used n : ℕ) (from : ℕ → ℕ) → n ≤ used → finish_registers o used n ≤ regs → AreFit middle → ((k : ℕ) → k < n → out k < used) →
+      AreFit (copy_body c p o middle out used n from target q vs)
+  fit-body o middle out used n from grows few code outs =
       let m = c.modulus in
-      let room : made.next ≤ regs = finish-few o made.next n regs few in
-      let ends : ℕ → List Action = λ k. finish_acts c p o target vs k (slice_index made.outs k) (made.next + k) in
-      fit-append regs m (loads n from) (made.acts ++ bodies n ends) (fit-loads regs m n from (omega arith))
-      (fit-append regs m made.acts (bodies n ends) (fit-operations regs m made.next made.acts room are code)
-      (fit-bodies regs m n ends (λ k below. fit-finish o k (slice_index made.outs k) (made.next + k) made.next n (outs k below) (omega arith) few)))
+      let room : used ≤ regs = finish-few o used n regs few in
+      let ends : ℕ → List Action = ends_of c p o out used target q vs in
+      fit-append regs c.lanes m (loads n from) (middle ++ bodies n ends) (fit-loads regs c.lanes m n from (omega arith))
+      (fit-append regs c.lanes m middle (bodies n ends) code (fit-bodies regs c.lanes m n ends (λ k below. fit-finish o k (out k) (used + k) used n (outs k below) (omega arith) few)))
 
-  pub fit-rows : (n : ℕ) (from : ℕ → ℕ) (entry : ℕ → ℕ → ℕ) → finish_registers o 3 1 ≤ regs → ((k l : ℕ) → entry k l < c.modulus) → All (IsFit regs c.modulus) (bodies n (λ k. sum_acts c p o n from (entry k) target vs k))
-  fit-rows n from entry few small =
+  pub fit-rows : (o : Option PlainDiagonal) (n : ℕ) (from : ℕ → ℕ) (entry : ℕ → ℕ → ℕ) → finish_registers o 3 1 ≤ regs → ((k l : ℕ) → entry k l < c.modulus) → AreFit (bodies n (λ k. sum_acts c p o n from (entry k) target q vs k))
+  fit-rows o n from entry few small =
       let m = c.modulus in
       let room : 3 ≤ regs = finish-few o 3 1 regs few in
-      fit-bodies regs m n (λ k. sum_acts c p o n from (entry k) target vs k) (λ k below.
-      fit-cons regs m (Zero 0) (bodies n (entry_acts from (entry k)) ++ finish_acts c p o target vs k 0 3) (record { registers = omega arith; factors = tt })
-      (fit-append regs m (bodies n (entry_acts from (entry k))) (finish_acts c p o target vs k 0 3)
-      (fit-bodies regs m n (entry_acts from (entry k)) (λ l under. fit-entry regs m from (entry k) l room (small k l)))
+      fit-bodies regs c.lanes m n (λ k. sum_acts c p o n from (entry k) target q vs k) (λ k below.
+      fit-cons regs c.lanes m (Zero 0) (bodies n (entry_acts c.lanes from (entry k)) ++ finish_acts c p o target q vs k 0 3) (record { registers = omega arith; factors = tt })
+      (fit-append regs c.lanes m (bodies n (entry_acts c.lanes from (entry k))) (finish_acts c p o target q vs k 0 3)
+      (fit-bodies regs c.lanes m n (entry_acts c.lanes from (entry k)) (λ l under. fit-entry regs c.lanes m from (entry k) l some room (small k l)))
       (fit-finish o k 0 3 3 1 (omega arith) (omega arith) few)))
 
 -- ---- lengths
@@ -108,23 +113,24 @@ length-nest (t ∷ path) bound body each outer =
     let all = length-bodies (count_of t) (copies_of path * bound) (λ v. nest (map count_of path) body (outer ++ v ∷ [])) (λ v. length-nest path bound body each (outer ++ v ∷ [])) in
     omega arith
 
-length-finish : (c : Request) (p : PlainPass) (o : Option PlainDiagonal) (target : ℕ) (vs : List ℕ) (k from free : ℕ) → length (finish_acts c p o target vs k from free) ≤ 2
-length-finish c p None target vs k from free = omega arith
-length-finish c p (Some d) target vs k from free = omega arith
+module _ (c : Request) (p : PlainPass) (target q : ℕ) (vs : List ℕ) where
+  length-finish : (o : Option PlainDiagonal) (k from free : ℕ) → length (finish_acts c p o target q vs k from free) ≤ 2
+  length-finish None k from free = omega arith
+  length-finish (Some d) k from free = omega arith
 
-pub length-body : (c : Request) (p : PlainPass) (o : Option PlainDiagonal) (made : Made) (n price : ℕ) (from : ℕ → ℕ) (target : ℕ) (vs : List ℕ) → length made.acts ≡ price → length (body_acts c p o made n from target vs) ≤ price + 3 * n
-length-body c p o made n price from target vs code =
-    let ends : ℕ → List Action = λ k. finish_acts c p o target vs k (slice_index made.outs k) (made.next + k) in
-    let outer = length-append (loads n from) (made.acts ++ bodies n ends) in
-    let inner = length-append made.acts (bodies n ends) in
-    let first = length-bodies n 1 (λ k. Load k (from k) ∷ []) (λ k. omega arith) in
-    let last = length-bodies n 2 ends (λ k. length-finish c p o target vs k (slice_index made.outs k) (made.next + k)) in
-    omega arith
+  pub length-body : (o : Option PlainDiagonal) (middle : List Action) (out : ℕ → ℕ) (used n price : ℕ) (from : ℕ → ℕ) → length middle ≡ price → length (copy_body c p o middle out used n from target q vs) ≤ price + 3 * n
+  length-body o middle out used n price from code =
+      let ends : ℕ → List Action = ends_of c p o out used target q vs in
+      let outer = length-append (loads n from) (middle ++ bodies n ends) in
+      let inner = length-append middle (bodies n ends) in
+      let first = length-bodies n 1 (λ k. Load k (from k) ∷ []) (λ k. omega arith) in
+      let last = length-bodies n 2 ends (λ k. length-finish o k (out k) (used + k)) in
+      omega arith
 
-pub length-rows : (c : Request) (p : PlainPass) (o : Option PlainDiagonal) (n : ℕ) (from : ℕ → ℕ) (entry : ℕ → ℕ → ℕ) (target : ℕ) (vs : List ℕ) → length (bodies n (λ k. sum_acts c p o n from (entry k) target vs k)) ≤ n * (3 * n + 3)
-length-rows c p o n from entry target vs =
-    length-bodies n (3 * n + 3) (λ k. sum_acts c p o n from (entry k) target vs k) (λ k.
-    let joined = length-append (bodies n (entry_acts from (entry k))) (finish_acts c p o target vs k 0 3) in
-    let first = length-bodies n 3 (entry_acts from (entry k)) (λ l. omega arith) in
-    let last = length-finish c p o target vs k 0 3 in
-    omega arith)
+  pub length-rows : (o : Option PlainDiagonal) (n : ℕ) (from : ℕ → ℕ) (entry : ℕ → ℕ → ℕ) → length (bodies n (λ k. sum_acts c p o n from (entry k) target q vs k)) ≤ n * (3 * n + 3)
+  length-rows o n from entry =
+      length-bodies n (3 * n + 3) (λ k. sum_acts c p o n from (entry k) target q vs k) (λ k.
+      let joined = length-append (bodies n (entry_acts c.lanes from (entry k))) (finish_acts c p o target q vs k 0 3) in
+      let first = length-bodies n 3 (entry_acts c.lanes from (entry k)) (λ l. omega arith) in
+      let last = length-finish o k 0 3 in
+      omega arith)

@@ -1,7 +1,8 @@
 -- Each action of a kernel is an operation, and its factors are residues.
-use Rattle.std.proofs.Common.{◌≡◌, ℕ, zero, suc, ◌+◌, ◌-◌, ◌*◌, ◌%◌, ◌<◌, ◌≤◌, Bool, true, false, arith, refl, ap, ◌∙◌, List, [], ◌∷◌, ◌++◌, length, subst, mod-lt, if◌then◌else◌, replicate}
+use Rattle.std.proofs.Common.{◌≡◌, ℕ, zero, suc, ◌+◌, ◌-◌, ◌*◌, ◌%◌, ◌<◌, ◌≤◌, Bool, true, false, arith, refl, ap, ◌∙◌, List, [], ◌∷◌, ◌++◌, length, map, subst, mod-lt, if◌then◌else◌, replicate}
 use Rattle.std.specs.Prelude.{◌==◌, bit_and, count_ones, All}
-use Rattle.std.proofs.lemmas.List.Elements.{All-cons, All-replicate}
+use Rattle.std.specs.List.{range_with_len}
+use Rattle.std.proofs.lemmas.List.Elements.{All-nil, All-cons, All-append, All-replicate}
 use Rattle.icode.specs.declared.action.Action.{Action}
 use Rattle.icode.specs.declared.action.Action.TheVariants.{Load, Store, Zero, Add, Sub, Neg, Mul, Tile}
 use Rattle.icode.specs.Actions.{lane_factors}
@@ -12,6 +13,7 @@ use Rattle.matrix_meaning.specs.declared.Kind.{Kind}
 use Rattle.matrix_meaning.specs.declared.Kind.TheVariants.{Dft, Wht}
 use Rattle.matrix_meaning.specs.Kind.{entry_of}
 use Rattle.operators.specs.Identities.{turn}
+use Rattle.operators.specs.Sum.{list_below}
 use Rattle.operators.specs.Operator.{gather, block, good_thomas_in, good_thomas_out}
 use Rattle.ring_mod.specs.Residue.{power_mod}
 use Rattle.ring_mod.proofs.Powers.{power_mod-mod}
@@ -49,13 +51,18 @@ entry_below : (kind : Kind) (m w k l : ℕ) → 2 ≤ m → entry_of kind m w k 
 entry_below Dft m w k l large = power_below m w (k * l) (omega arith)
 entry_below Wht m w k l large = sign_pick (count_ones (bit_and k l) % 2 == 0) m large
 
--- the factors of one lane
-pub one_factor : (m c : ℕ) → c < m → All (λ v. v < m) (lane_factors 1 (λ _. c))
-one_factor m c small = All-cons (λ v. v < m) c (replicate 15 0) small (All-replicate (λ v. v < m) 15 0 (omega arith))
+-- the factors of all lanes
+all_below : (m n : ℕ) (x : ℕ → ℕ) (from : ℕ) → ((lane : ℕ) → x lane < m) → All (λ v. v < m) (map x (range_with_len from n))
+all_below m zero x from small = All-nil (λ v. v < m)
+all_below m (suc n) x from small = All-cons (λ v. v < m) (x from) (map x (range_with_len (from + 1) n)) (small from) (all_below m n x (from + 1) small)
+
+pub lane_residues : (m lanes : ℕ) (x : ℕ → ℕ) → 0 < m → ((lane : ℕ) → x lane < m) → All (λ v. v < m) (lane_factors lanes x)
+lane_residues m lanes x some small =
+    All-append (λ v. v < m) (list_below lanes x) (replicate (16 - lanes) 0) (all_below m lanes x 0 small) (All-replicate (λ v. v < m) (16 - lanes) 0 some)
 
 -- ---- makers
 
-module _ (m : ℕ) (large : 2 ≤ m) where
+module _ (m lanes : ℕ) (large : 2 ≤ m) where
   -- from all inputs, the code is of operations alone
   abbrev Operates : Maker → Type 0
   Operates make = (ins : List ℕ) (next : ℕ) → AreOperations m (make ins next).acts
@@ -80,64 +87,64 @@ module _ (m : ℕ) (large : 2 ≤ m) where
   term_pick true x y h k = h
   term_pick false x y h k = k
 
-  term-operates : (c acc i next : ℕ) → c < m → AreOperations m (term_make m 1 c acc i next).acts
+  term-operates : (c acc i next : ℕ) → c < m → AreOperations m (term_make m lanes c acc i next).acts
   term-operates c acc i next small =
       let plain : Term = record { acts = Add next acc i ∷ []; acc = next; next = next + 1 } in
       let minus : Term = record { acts = Sub next acc i ∷ []; acc = next; next = next + 1 } in
-      let other : Term = record { acts = times 1 next i c ∷ Add (next + 1) acc next ∷ []; acc = next + 1; next = next + 2 } in
-      term_pick (c == 1) plain (if c == m - 1 then minus else other) (tt, tt) (term_pick (c == m - 1) minus other (tt, tt) (one_factor m c small, (tt, tt)))
+      let other : Term = record { acts = times lanes next i c ∷ Add (next + 1) acc next ∷ []; acc = next + 1; next = next + 2 } in
+      term_pick (c == 1) plain (if c == m - 1 then minus else other) (tt, tt) (term_pick (c == m - 1) minus other (tt, tt) (lane_residues m lanes (λ _. c) (omega arith) (λ _. small), (tt, tt)))
 
-  sum-operates : (e : ℕ → ℕ) → ((l : ℕ) → e l < m) → (l acc : ℕ) → Operates (sum_make m 1 e l acc)
+  sum-operates : (e : ℕ → ℕ) → ((l : ℕ) → e l < m) → (l acc : ℕ) → Operates (sum_make m lanes e l acc)
   sum-operates e small l acc [] next = tt
   sum-operates e small l acc (i ∷ ins) next =
-      let t : Term = term_make m 1 (e l) acc i next in
+      let t : Term = term_make m lanes (e l) acc i next in
       operations-joined t.acts _ (term-operates (e l) acc i next (small l)) (sum-operates e small (l + 1) t.acc ins t.next)
 
-  row-operates : (e : ℕ → ℕ) → ((l : ℕ) → e l < m) → Operates (row_make m 1 e)
+  row-operates : (e : ℕ → ℕ) → ((l : ℕ) → e l < m) → Operates (row_make m lanes e)
   row-operates e small [] next = tt
   row-operates e small (i ∷ ins) next = sum-operates e small 1 i ins next
 
-  matrix-operates : (e : ℕ → ℕ → ℕ) → ((k l : ℕ) → e k l < m) → (n : ℕ) → Operates (matrix_make m 1 e n)
+  matrix-operates : (e : ℕ → ℕ → ℕ) → ((k l : ℕ) → e k l < m) → (n : ℕ) → Operates (matrix_make m lanes e n)
   matrix-operates e small zero = λ ins next. tt
-  matrix-operates e small (suc n) = beside-operates (matrix_make m 1 e n) (row_make m 1 (e n)) (matrix-operates e small n) (row-operates (e n) (small n))
+  matrix-operates e small (suc n) = beside-operates (matrix_make m lanes e n) (row_make m lanes (e n)) (matrix-operates e small n) (row-operates (e n) (small n))
 
   made_pick : (b : Bool) (x y : Made) → AreOperations m x.acts → AreOperations m y.acts → AreOperations m (if b then x else y).acts
   made_pick true x y h k = h
   made_pick false x y h k = k
 
-  factor-operates : (c : ℕ) → c < m → Operates (factor_make m 1 c)
+  factor-operates : (c : ℕ) → c < m → Operates (factor_make m lanes c)
   factor-operates c small [] next = tt
   factor-operates c small (i ∷ ins) next =
       let plain : Made = record { acts = []; outs = i ∷ []; next = next } in
       let minus : Made = record { acts = Neg next i ∷ []; outs = next ∷ []; next = next + 1 } in
-      let other : Made = record { acts = times 1 next i c ∷ []; outs = next ∷ []; next = next + 1 } in
-      made_pick (c == 1) plain (if c == m - 1 then minus else other) tt (made_pick (c == m - 1) minus other (tt, tt) (one_factor m c small, tt))
+      let other : Made = record { acts = times lanes next i c ∷ []; outs = next ∷ []; next = next + 1 } in
+      made_pick (c == 1) plain (if c == m - 1 then minus else other) tt (made_pick (c == m - 1) minus other (tt, tt) (lane_residues m lanes (λ _. c) (omega arith) (λ _. small), tt))
 
-  diagonal-operates : (n : ℕ) (c : ℕ → ℕ) → ((k : ℕ) → c k < m) → Operates (diagonal_make m 1 n c)
-  diagonal-operates n c small = rows-operate n 1 (λ k. factor_make m 1 (c k)) (λ k. factor-operates (c k) (small k))
+  diagonal-operates : (n : ℕ) (c : ℕ → ℕ) → ((k : ℕ) → c k < m) → Operates (diagonal_make m lanes n c)
+  diagonal-operates n c small = rows-operate n 1 (λ k. factor_make m lanes (c k)) (λ k. factor-operates (c k) (small k))
 
   columns-operate : (r s : ℕ) (a : Maker) → Operates a → Operates (columns_make r s a)
   columns-operate r s a h =
       then-operates (pick_make (turn s r)) (then_make (rows_make s r (λ _. a)) (pick_make (turn r s))) (λ ins next. tt)
       (then-operates (rows_make s r (λ _. a)) (pick_make (turn r s)) (rows-operate s r (λ _. a) (λ i. h)) (λ ins next. tt))
 
-  node-operates : (rule : Rule) (r s w : ℕ) (a b : Maker) → Operates a → Operates b → Operates (node_make m 1 rule r s w a b)
+  node-operates : (rule : Rule) (r s w : ℕ) (a b : Maker) → Operates a → Operates b → Operates (node_make m lanes rule r s w a b)
   node-operates Gt r s w a b h k =
       let out : Maker = pick_make (gather (r * s) (good_thomas_out r s)) in
       then-operates (pick_make (gather (r * s) (good_thomas_in r s))) (then_make (rows_make r s (λ _. b)) (then_make (columns_make r s a) out)) (λ ins next. tt)
       (then-operates (rows_make r s (λ _. b)) (then_make (columns_make r s a) out) (rows-operate r s (λ _. b) (λ i. k))
       (then-operates (columns_make r s a) out (columns-operate r s a h) (λ ins next. tt)))
   node-operates Ct r s w a b h k =
-      then-operates (pick_make (turn r s)) (then_make (rows_make r s (twiddled_make m 1 s w b)) (columns_make r s a)) (λ ins next. tt)
-      (then-operates (rows_make r s (twiddled_make m 1 s w b)) (columns_make r s a)
-      (rows-operate r s (twiddled_make m 1 s w b) (λ i. then-operates b (diagonal_make m 1 s (λ j. power_mod m w (i * j))) k (diagonal-operates s (λ j. power_mod m w (i * j)) (λ j. power_below m w (i * j) (omega arith)))))
+      then-operates (pick_make (turn r s)) (then_make (rows_make r s (twiddled_make m lanes s w b)) (columns_make r s a)) (λ ins next. tt)
+      (then-operates (rows_make r s (twiddled_make m lanes s w b)) (columns_make r s a)
+      (rows-operate r s (twiddled_make m lanes s w b) (λ i. then-operates b (diagonal_make m lanes s (λ j. power_mod m w (i * j))) k (diagonal-operates s (λ j. power_mod m w (i * j)) (λ j. power_below m w (i * j) (omega arith)))))
       (columns-operate r s a h))
   node-operates Split r s w a b h k = then-operates (rows_make r s (λ _. b)) (columns_make r s a) (rows-operate r s (λ _. b) (λ i. k)) (columns-operate r s a h)
 
-  pub tree-operates : (kind : Kind) (t : Breakdown) (w : ℕ) (ins : List ℕ) (next : ℕ) → AreOperations m (tree_make m 1 kind t w ins next).acts
+  pub tree-operates : (kind : Kind) (t : Breakdown) (w : ℕ) (ins : List ℕ) (next : ℕ) → AreOperations m (tree_make m lanes kind t w ins next).acts
   tree-operates kind (leaf d) w = matrix-operates (entry_of kind m w) (λ k l. entry_below kind m w k l large) d
   tree-operates kind (node rule a b) w =
-      node-operates rule (size_of a) (size_of b) w (tree_make m 1 kind a (power_mod m w (size_of b))) (tree_make m 1 kind b (power_mod m w (size_of a)))
+      node-operates rule (size_of a) (size_of b) w (tree_make m lanes kind a (power_mod m w (size_of b))) (tree_make m lanes kind b (power_mod m w (size_of a)))
       (tree-operates kind a (power_mod m w (size_of b))) (tree-operates kind b (power_mod m w (size_of a)))
 
 -- ---- what operations count
@@ -156,13 +163,14 @@ length-operations m (Mul r x factors ∷ actions) h = let rest = length-operatio
 abbrev operations_counted : ℕ → Counts
 operations_counted n = record { operations = n; loads = 0; stores = 0 }
 
-pub counts-operations : (m : ℕ) (actions : List Action) → AreOperations m actions → counts_of 1 actions ≡ record { operations = operations actions; loads = 0; stores = 0 }
-counts-operations m [] h = refl
-counts-operations m (Load r address ∷ actions) h = absurd h.0
-counts-operations m (Store address r ∷ actions) h = absurd h.0
-counts-operations m (Zero r ∷ actions) h = absurd h.0
-counts-operations m (Tile r x ∷ actions) h = absurd h.0
-counts-operations m (Add r x y ∷ actions) h = ap (counted 1 (Add r x y)) (counts-operations m actions h.1) ∙ ap operations_counted (omega arith)
-counts-operations m (Sub r x y ∷ actions) h = ap (counted 1 (Sub r x y)) (counts-operations m actions h.1) ∙ ap operations_counted (omega arith)
-counts-operations m (Neg r x ∷ actions) h = ap (counted 1 (Neg r x)) (counts-operations m actions h.1) ∙ ap operations_counted (omega arith)
-counts-operations m (Mul r x factors ∷ actions) h = ap (counted 1 (Mul r x factors)) (counts-operations m actions h.1) ∙ ap operations_counted (omega arith)
+-- an operation on each lane
+pub counts-operations : (m lanes : ℕ) (actions : List Action) → AreOperations m actions → counts_of lanes actions ≡ record { operations = lanes * operations actions; loads = 0; stores = 0 }
+counts-operations m lanes [] h = ap operations_counted (omega arith)
+counts-operations m lanes (Load r address ∷ actions) h = absurd h.0
+counts-operations m lanes (Store address r ∷ actions) h = absurd h.0
+counts-operations m lanes (Zero r ∷ actions) h = absurd h.0
+counts-operations m lanes (Tile r x ∷ actions) h = absurd h.0
+counts-operations m lanes (Add r x y ∷ actions) h = ap (counted lanes (Add r x y)) (counts-operations m lanes actions h.1) ∙ ap operations_counted (omega arith)
+counts-operations m lanes (Sub r x y ∷ actions) h = ap (counted lanes (Sub r x y)) (counts-operations m lanes actions h.1) ∙ ap operations_counted (omega arith)
+counts-operations m lanes (Neg r x ∷ actions) h = ap (counted lanes (Neg r x)) (counts-operations m lanes actions h.1) ∙ ap operations_counted (omega arith)
+counts-operations m lanes (Mul r x factors ∷ actions) h = ap (counted lanes (Mul r x factors)) (counts-operations m lanes actions h.1) ∙ ap operations_counted (omega arith)

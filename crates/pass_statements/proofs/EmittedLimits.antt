@@ -11,17 +11,18 @@ use Rattle.icode.specs.Limits.{is_small, is_small_positive, is_expr_within, is_o
 use Rattle.icode.specs.Plain.{PlainBody, PlainExpr, PlainOp, NoStmts, AndStmts, Loop, Do, Load, Store, Add, MulTable}
 use Rattle.code_laws.specs.Lanes.{IsArithmetic, AreArithmetic}
 use Rattle.pass_statements.specs.Bodies.{followed_by, nested}
-use Rattle.pass_statements.specs.Emission.{do_only, in_a_row, sum_at, finish_body, straight_body, op_of}
+use Rattle.pass_statements.specs.Emission.{do_only, in_a_row, loads_body, sum_at, finish_body, straight_body, op_of}
 use Rattle.pass_statements.specs.Places.{product_place}
 use Rattle.pass_statements.proofs.PlainSteps.{is-not}
-use Rattle.loop_merge.specs.Listed.{PlainMultiplier}
+use Rattle.loop_merge.specs.Listed.{PlainListed, PlainMultiplier}
+use Rattle.loop_merge.specs.declared.listed.Frame.{Frame}
 use Rattle.perm_algebra.specs.Affine.{Sum}
 use Rattle.place_code.specs.Expressions.{expr_of}
 
 pub both : (a b : Bool) → a ≡ true → b ≡ true → (a && b) ≡ true
 both a b h k = ap₂ (λ x y. x && y) h k
 
-small-is : (n : ℕ) → n < 2 ^ 32 → is_small n ≡ true
+pub small-is : (n : ℕ) → n < 2 ^ 32 → is_small n ≡ true
 small-is n h = grind (arith, nat_tests)
 
 test-below : (a b : ℕ) → a < b → nat_lt a b ≡ true
@@ -33,9 +34,9 @@ test-most a b h = grind (arith, nat_tests)
 positive-is : (n : ℕ) → 0 < n → n < 2 ^ 32 → is_small_positive n ≡ true
 positive-is n some h = both (nat_lt 0 n) (is_small n) (test-below 0 n some) (small-is n h)
 
--- the places of a pass's items stand within the limits
-abbrev pub ArePlaces : ℕ → ℕ → List Sum → Type 0
-ArePlaces n open_loops sums = (i : ℕ) → i < n → is_expr_within (expr_of open_loops (sum_at sums i)) open_loops ≡ true
+-- the places of the first n registers stand within the limits
+abbrev pub ArePlaces : Frame → ℕ → ℕ → List Sum → Type 0
+ArePlaces f n open_loops sums = (i : ℕ) → i < n → is_expr_within (expr_of f open_loops (sum_at sums i)) open_loops ≡ true
 
 module _ (m : ℕ) where
   pub within-followed : (xs ys : PlainBody) (open_loops : ℕ) → is_body_within m xs open_loops ≡ true → is_body_within m ys open_loops ≡ true → is_body_within m (followed_by xs ys) open_loops ≡ true
@@ -63,37 +64,40 @@ module _ (m : ℕ) where
 
   -- ---- operations
 
-  pub loads-within : (n open_loops : ℕ) (array : Array) (sums : List Sum) → n < 2 ^ 32 → ArePlaces n open_loops sums → is_body_within m (in_a_row n (λ k. do_only (Load k array (expr_of open_loops (sum_at sums k))))) open_loops ≡ true
-  loads-within n open_loops array sums small h =
-      within-in_a_row n (λ k. do_only (Load k array (expr_of open_loops (sum_at sums k)))) open_loops (λ k below. within-do (Load k array (expr_of open_loops (sum_at sums k))) NoStmts open_loops (both _ _ (small-is k (omega arith)) (h k below)) refl)
+  module _ (f : Frame) where
+    pub loads-within : (l : PlainListed) (n : ℕ) (source : Array) → n < 2 ^ 32 → ArePlaces f n (length l.loops) l.gathers → is_body_within m (loads_body f l n source) (length l.loops) ≡ true
+    loads-within l n source small h =
+        let open_loops = length l.loops in
+        within-in_a_row n (λ k. do_only (Load k source (expr_of f open_loops (sum_at l.gathers k)))) open_loops
+        (λ k below. within-do (Load k source (expr_of f open_loops (sum_at l.gathers k))) NoStmts open_loops (both _ _ (small-is k (omega arith)) (h k below)) refl)
 
-  pub finish-within : (o : Option PlainMultiplier) (n open_loops table i from free : ℕ) (scatters : List Sum) (target : Array) → i < n → ArePlaces n open_loops scatters → ((d : PlainMultiplier) → o ≡ Some d → ArePlaces n open_loops d.places) → table < 2 ^ 32 → from < 2 ^ 32 → free < 2 ^ 32 →
-      is_body_within m (finish_body o scatters open_loops table target i from free) open_loops ≡ true
-  finish-within None n open_loops table i from free scatters target below h k t f g = within-do (Store target (expr_of open_loops (sum_at scatters i)) from) NoStmts open_loops (both _ _ (small-is from f) (h i below)) refl
-  finish-within (Some d) n open_loops table i from free scatters target below h k t f g =
-      within-do (MulTable free from table (expr_of open_loops (sum_at d.places i)) 0) (do_only (Store target (expr_of open_loops (sum_at scatters i)) free)) open_loops
-      (both _ _ (small-is free g) (both _ _ (small-is from f) (both _ _ (small-is table t) (k d refl i below))))
-      (within-do (Store target (expr_of open_loops (sum_at scatters i)) free) NoStmts open_loops (both _ _ (small-is free g) (h i below)) refl)
+    pub finish-within : (step : ℕ) (o : Option PlainMultiplier) (n open_loops table i from free : ℕ) (scatters : List Sum) (target : Array) → step < 2 → i < n → ArePlaces f n open_loops scatters → ((d : PlainMultiplier) → o ≡ Some d → ArePlaces f n open_loops d.places) →
+        table < 2 ^ 32 → from < 2 ^ 32 → free < 2 ^ 32 → is_body_within m (finish_body f step o scatters open_loops table target i from free) open_loops ≡ true
+    finish-within step None n open_loops table i from free scatters target near below h k t u g = within-do (Store target (expr_of f open_loops (sum_at scatters i)) from) NoStmts open_loops (both _ _ (small-is from u) (h i below)) refl
+    finish-within step (Some d) n open_loops table i from free scatters target near below h k t u g =
+        within-do (MulTable free from table (expr_of f open_loops (sum_at d.places i)) step) (do_only (Store target (expr_of f open_loops (sum_at scatters i)) free)) open_loops
+        (both _ _ (small-is free g) (both _ _ (small-is from u) (both _ _ (small-is table t) (both _ _ (test-below step 2 near) (k d refl i below)))))
+        (within-do (Store target (expr_of f open_loops (sum_at scatters i)) free) NoStmts open_loops (both _ _ (small-is free g) (h i below)) refl)
 
   pub term-within : (open_loops table : ℕ) (array : Array) (input entry : PlainExpr) → table < 2 ^ 32 → is_expr_within input open_loops ≡ true → is_expr_within entry open_loops ≡ true →
       is_body_within m (AndStmts (Do (Load 1 array input)) (AndStmts (Do (MulTable 2 1 table entry 0)) (AndStmts (Do (Add 0 0 2)) NoStmts))) open_loops ≡ true
   term-within open_loops table array input entry t h k = both _ _ h (both _ _ (both _ _ (small-is table t) k) refl)
 
-  op-within : (next open_loops : ℕ) (a : Action) → next < 2 ^ 32 → IsArithmetic 1 next a → FactorsFit m a → is_op_within m (op_of a) open_loops ≡ true
-  op-within next open_loops (actions.Load r address) small are fit = absurd are
-  op-within next open_loops (actions.Store address r) small are fit = absurd are
-  op-within next open_loops (actions.Zero r) small are fit = small-is r (omega (arith, are))
-  op-within next open_loops (actions.Add r x y) small are fit = both _ _ (small-is r (omega (arith, are.0))) (both _ _ (small-is x (omega (arith, are.1))) (small-is y (omega (arith, are.2))))
-  op-within next open_loops (actions.Sub r x y) small are fit = both _ _ (small-is r (omega (arith, are.0))) (both _ _ (small-is x (omega (arith, are.1))) (small-is y (omega (arith, are.2))))
-  op-within next open_loops (actions.Neg r x) small are fit = both _ _ (small-is r (omega (arith, are.0))) (small-is x (omega (arith, are.1)))
-  op-within next open_loops (actions.Mul r x factors) small are fit =
-      both _ _ (small-is r (omega (arith, are.0))) (both _ _ (small-is x (omega (arith, are.1))) (test-below (slice_index factors 0) m (fit 0 0 (omega (arith, are.2)))))
-  op-within next open_loops (actions.Tile r x) small are fit = absurd are
+  op-within : (lanes next open_loops : ℕ) (a : Action) → 1 ≤ lanes → next < 2 ^ 32 → IsArithmetic lanes next a → FactorsFit m a → is_op_within m (op_of a) open_loops ≡ true
+  op-within lanes next open_loops (actions.Load r address) some small are fit = absurd are
+  op-within lanes next open_loops (actions.Store address r) some small are fit = absurd are
+  op-within lanes next open_loops (actions.Zero r) some small are fit = small-is r (omega (arith, are))
+  op-within lanes next open_loops (actions.Add r x y) some small are fit = both _ _ (small-is r (omega (arith, are.0))) (both _ _ (small-is x (omega (arith, are.1))) (small-is y (omega (arith, are.2))))
+  op-within lanes next open_loops (actions.Sub r x y) some small are fit = both _ _ (small-is r (omega (arith, are.0))) (both _ _ (small-is x (omega (arith, are.1))) (small-is y (omega (arith, are.2))))
+  op-within lanes next open_loops (actions.Neg r x) some small are fit = both _ _ (small-is r (omega (arith, are.0))) (small-is x (omega (arith, are.1)))
+  op-within lanes next open_loops (actions.Mul r x factors) some small are fit =
+      both _ _ (small-is r (omega (arith, are.0))) (both _ _ (small-is x (omega (arith, are.1))) (test-below (slice_index factors 0) m (fit 0 0 (omega (arith, are.2, some)))))
+  op-within lanes next open_loops (actions.Tile r x) some small are fit = absurd are
 
-  pub straight-within : (next open_loops : ℕ) (more : List Action) → next < 2 ^ 32 → AreArithmetic 1 next more → All (FactorsFit m) more → is_body_within m (straight_body more) open_loops ≡ true
-  straight-within next open_loops [] small are fit = refl
-  straight-within next open_loops (a ∷ more) small are fit =
-      both _ _ (op-within next open_loops a small are.0 (fit 0 a (omega arith))) (straight-within next open_loops more small are.1 (λ k d below. fit (suc k) d (omega arith)))
+  pub straight-within : (lanes next open_loops : ℕ) (more : List Action) → 1 ≤ lanes → next < 2 ^ 32 → AreArithmetic lanes next more → All (FactorsFit m) more → is_body_within m (straight_body more) open_loops ≡ true
+  straight-within lanes next open_loops [] some small are fit = refl
+  straight-within lanes next open_loops (a ∷ more) some small are fit =
+      both _ _ (op-within lanes next open_loops a some small are.0 (fit 0 a (omega arith))) (straight-within lanes next open_loops more some small are.1 (λ k d below. fit (suc k) d (omega arith)))
 
 -- the place of an entry of a longer leaf's table
 pub product-within : (depth n : ℕ) → n ≢ 1 → 0 < n → n < 2 ^ 32 → is_expr_within (product_place depth n) (depth + 2) ≡ true

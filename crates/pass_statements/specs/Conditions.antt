@@ -1,16 +1,15 @@
 -- What the emission of a pass asks for, and how many registers it uses.
-use Rattle.std.specs.Prelude.{◌≡◌, ℕ, ◌+◌, ◌*◌, ◌%◌, ◌^◌, ◌<◌, ◌≤◌, if◌then◌else◌, List, [], ◌∷◌, length, All, Option, Some, None, IsTrue}
-use Rattle.kernel_gen.specs.Kernel.{node_kernel}
-use Rattle.loop_merge.specs.Listed.{PlainListed, PlainMultiplier, listed_of}
+use Rattle.std.specs.Prelude.{◌≡◌, ℕ, ◌+◌, ◌*◌, ◌%◌, ◌^◌, ◌<◌, ◌≤◌, if◌then◌else◌, List, [], ◌∷◌, length, All, Option, Some, None}
+use Rattle.loop_merge.specs.Listed.{is_straight, vectors_of, PlainListed, PlainMultiplier, listed_of}
 use Rattle.loop_merge.specs.Merge.{PlainPass, merged_of}
 use Rattle.matrix_meaning.specs.declared.Request.{Request}
 use Rattle.matrix_meaning.specs.Valid.{IsValid}
-use Rattle.pass_code.specs.Acts.{registers_of}
+use Rattle.pass_code.specs.Acts.{straight_registers, registers_of}
 use Rattle.perm_algebra.specs.Affine.{Sum}
 use Rattle.place_code.specs.Laws.{CanWrite}
+use Rattle.sigma_lower.specs.Work.{PlainWork, transforming, tiling}
 use Rattle.tree_model.specs.Admissible.{IsAdmissible}
 use Rattle.tree_model.specs.Breakdown.{Breakdown, size_of, IsWellFormed}
-use Rattle.tree_model.specs.Cost.{is_kernel, is_plain}
 
 -- registers that are used, and more where items are multiplied
 abbrev pub multiplier_registers : Option PlainMultiplier → ℕ → ℕ → ℕ
@@ -19,19 +18,18 @@ multiplier_registers (Some m) used more = used + more
 
 abbrev pub listed_registers : Request → PlainListed → ℕ
 listed_registers c l =
-    if is_kernel c (size_of l.tree) then multiplier_registers l.multiplier (node_kernel c l.tree).next (size_of l.tree)
-    else multiplier_registers l.multiplier 3 1
+    if is_straight c l.work then multiplier_registers l.multiplier (straight_registers c l.work) (vectors_of l.work) else multiplier_registers l.multiplier 3 1
 
--- how many items have a place of their own
+-- how many registers have a place of their own
 abbrev pub items_named : Request → PlainListed → ℕ
-items_named c l = if is_kernel c (size_of l.tree) then size_of l.tree else 1
+items_named c l = if is_straight c l.work then vectors_of l.work else 1
 
--- a place for each of n items, which can be written
+-- a place for each of n registers, which can be written
 pub record HasPlaces (n : ℕ) (sums : List Sum) : Type 0 where
   pub enough : n ≤ length sums
   pub writable : All CanWrite sums
 
--- the places where the first n items go, and those of their factors
+-- the places where the first n registers go, and those of their factors
 pub record CanStore (n : ℕ) (l : PlainListed) : Type 0 where
   pub scatters : HasPlaces n l.scatters
   pub multiplies : (m : PlainMultiplier) → l.multiplier ≡ Some m → HasPlaces n m.places
@@ -41,10 +39,14 @@ abbrev pub HasFactors : Option PlainMultiplier → Type 0
 HasFactors None = Unit {0}
 HasFactors (Some m) = (0 < m.rows * m.cols) × (m.rows * m.cols < 2 ^ 32)
 
+-- a node of the request's transform, or a tile of its lanes
+abbrev pub CanCompute : Request → PlainWork → Type 0
+CanCompute c (transforming t) = IsWellFormed c.kind t × (c.size % size_of t ≡ 0)
+CanCompute c (tiling v) = v ≡ c.lanes
+
 -- a pass that can be written as statements
 pub record CanEmit (c : Request) (l : PlainListed) : Type 0 where
-  pub formed : IsWellFormed c.kind l.tree
-  pub divides : c.size % size_of l.tree ≡ 0
+  pub work : CanCompute c l.work
   pub shallow : length l.loops + 2 < 64
   pub gathers : HasPlaces (items_named c l) l.gathers
   pub stores : CanStore (items_named c l) l
@@ -61,4 +63,4 @@ AllEmittable c [] = Unit {0}
 AllEmittable c (p ∷ ps) = IsEmittable c p × AllEmittable c ps
 
 abbrev pub PassesCanBeEmitted : Type 0
-PassesCanBeEmitted = (c : Request) (t : Breakdown) → IsValid c → IsTrue (is_plain c) → c.weight ≡ 1 → IsAdmissible c t → AllEmittable c (merged_of c t)
+PassesCanBeEmitted = (c : Request) (t : Breakdown) → IsValid c → c.weight ≡ 1 → IsAdmissible c t → AllEmittable c (merged_of c t)

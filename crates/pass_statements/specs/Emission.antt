@@ -8,15 +8,17 @@ use Rattle.icode.specs.declared.action.Action.TheVariants as actions
 use Rattle.icode.specs.declared.program.Array.{Array}
 use Rattle.kernel_gen.specs.Kernel.{node_kernel}
 use Rattle.kernel_gen.specs.Making.{Made}
-use Rattle.loop_merge.specs.Listed.{PlainListed, PlainMultiplier}
+use Rattle.loop_merge.specs.Listed.{is_straight, frame_of, PlainListed, PlainMultiplier}
+use Rattle.loop_merge.specs.declared.listed.Frame.{Frame}
 use Rattle.matrix_meaning.specs.declared.Request.{Request}
 use Rattle.matrix_meaning.specs.Laws.{twiddle}
 use Rattle.operators.specs.Sum.{list_below}
 use Rattle.perm_algebra.specs.Affine.{Sum, constant}
 use Rattle.place_code.specs.Expressions.{expr_of}
 use Rattle.ring_mod.specs.Residue.{power_mod}
+use Rattle.sigma_lower.specs.Work.{PlainWork, transforming, tiling, work_size}
 use Rattle.tree_model.specs.Breakdown.{Breakdown, size_of}
-use Rattle.tree_model.specs.Cost.{is_kernel, node_root}
+use Rattle.tree_model.specs.Cost.{node_root}
 
 -- ---- tables
 
@@ -46,15 +48,15 @@ abbrev pub diagonal_of : Request → PlainMultiplier → List ℕ
 diagonal_of c m = list_below (m.rows * m.cols) (twiddle c.modulus m.cols (node_root c (m.rows * m.cols)))
 
 -- the tables after those that a pass uses: a longer leaf's powers, and then its diagonal
-abbrev pub tables_of_leaf : Request → Breakdown → List (List ℕ) → List (List ℕ)
-tables_of_leaf c t tables = if is_kernel c (size_of t) then tables else with_table tables (powers_of c (size_of t))
+abbrev pub tables_of_leaf : Request → PlainWork → List (List ℕ) → List (List ℕ)
+tables_of_leaf c w tables = if is_straight c w then tables else with_table tables (powers_of c (work_size w))
 
 abbrev pub tables_of_multiplier : Request → Option PlainMultiplier → List (List ℕ) → List (List ℕ)
 tables_of_multiplier c None tables = tables
 tables_of_multiplier c (Some m) tables = with_table tables (diagonal_of c m)
 
 abbrev pub tables_after : Request → PlainListed → List (List ℕ) → List (List ℕ)
-tables_after c l tables = tables_of_multiplier c l.multiplier (tables_of_leaf c l.tree tables)
+tables_after c l tables = tables_of_multiplier c l.multiplier (tables_of_leaf c l.work tables)
 
 -- ---- statements
 
@@ -70,12 +72,12 @@ in_a_row (suc n) body = followed_by (in_a_row n body) (body n)
 abbrev pub sum_at : List Sum → ℕ → Sum
 sum_at sums i = slice_index_or sums i (constant 0)
 
--- A register is stored at a place, by way of a free register where it is multiplied by an entry of the table; so many loops are open
-abbrev pub finish_body : Option PlainMultiplier → List Sum → ℕ → ℕ → Array → ℕ → ℕ → ℕ → PlainBody
-finish_body None scatters open_loops table target i from free = do_only (Store target (expr_of open_loops (sum_at scatters i)) from)
-finish_body (Some m) scatters open_loops table target i from free =
-    AndStmts (Do (MulTable free from table (expr_of open_loops (sum_at m.places i)) 0))
-    (do_only (Store target (expr_of open_loops (sum_at scatters i)) free))
+-- A register is stored at a place, by way of a free register where it is multiplied by entries of the table, which for lanes side by side stand so far apart; so many loops are open
+abbrev pub finish_body : Frame → ℕ → Option PlainMultiplier → List Sum → ℕ → ℕ → Array → ℕ → ℕ → ℕ → PlainBody
+finish_body f step None scatters open_loops table target i from free = do_only (Store target (expr_of f open_loops (sum_at scatters i)) from)
+finish_body f step (Some m) scatters open_loops table target i from free =
+    AndStmts (Do (MulTable free from table (expr_of f open_loops (sum_at m.places i)) step))
+    (do_only (Store target (expr_of f open_loops (sum_at scatters i)) free))
 
 -- the operation of an action of straight-line code
 abbrev pub op_of : Action → PlainOp
@@ -92,26 +94,38 @@ abbrev pub straight_body : List Action → PlainBody
 straight_body [] = NoStmts
 straight_body (action ∷ rest) = AndStmts (Do (op_of action)) (straight_body rest)
 
+-- a load for each of the first n registers
+abbrev pub loads_body : Frame → PlainListed → ℕ → Array → PlainBody
+loads_body f l n source = in_a_row n (λ k. do_only (Load k source (expr_of f (length l.loops) (sum_at l.gathers k))))
+
 -- a kernel: its inputs are loaded, its code is run, and its outputs are stored
-abbrev pub kernel_body : PlainListed → Made → ℕ → Array → Array → PlainBody
-kernel_body l made table source target =
-    followed_by (in_a_row (size_of l.tree) (λ k. do_only (Load k source (expr_of (length l.loops) (sum_at l.gathers k)))))
+abbrev pub kernel_body : Frame → PlainListed → Breakdown → Made → ℕ → Array → Array → PlainBody
+kernel_body f l t made table source target =
+    followed_by (loads_body f l (size_of t) source)
     (followed_by (straight_body made.acts)
-    (in_a_row (size_of l.tree) (λ k. finish_body l.multiplier l.scatters (length l.loops) table target k (slice_index made.outs k) (made.next + k))))
+    (in_a_row (size_of t) (λ k. finish_body f 0 l.multiplier l.scatters (length l.loops) table target k (slice_index made.outs k) (made.next + k))))
+
+-- a tile of v registers
+abbrev pub tile_body : Frame → PlainListed → ℕ → ℕ → Array → Array → PlainBody
+tile_body f l v table source target =
+    followed_by (loads_body f l v source)
+    (AndStmts (Do (Tile v 0))
+    (in_a_row v (λ k. finish_body f 1 l.multiplier l.scatters (length l.loops) table target k (v + k) (v + v + k))))
 
 -- a longer leaf: in loops over its rows and columns, register 0 becomes the sum of a row's products by the table of powers
-abbrev pub leaf_body : PlainListed → ℕ → ℕ → Array → Array → PlainBody
-leaf_body l powers table source target =
+abbrev pub leaf_body : Frame → PlainListed → ℕ → ℕ → Array → Array → PlainBody
+leaf_body f l powers table source target =
     let open_loops = length l.loops in
+    let size = work_size l.work in
     AndStmts
-    (Loop (size_of l.tree)
+    (Loop size
     (AndStmts (Do (Zero 0))
     (AndStmts
-    (Loop (size_of l.tree)
-    (AndStmts (Do (Load 1 source (expr_of (open_loops + 2) (sum_at l.gathers 0))))
-    (AndStmts (Do (MulTable 2 1 powers (product_place open_loops (size_of l.tree)) 0))
+    (Loop size
+    (AndStmts (Do (Load 1 source (expr_of f (open_loops + 2) (sum_at l.gathers 0))))
+    (AndStmts (Do (MulTable 2 1 powers (product_place open_loops size) 0))
     (AndStmts (Do (Add 0 0 2)) NoStmts))))
-    (finish_body l.multiplier l.scatters (open_loops + 1) table target 0 0 3))))
+    (finish_body f 0 l.multiplier l.scatters (open_loops + 1) table target 0 0 3))))
     NoStmts
 
 -- the number of the multiplier's table, and 0 where there is none
@@ -119,9 +133,13 @@ abbrev pub multiplier_number : Request → Option PlainMultiplier → List (List
 multiplier_number c None tables = 0
 multiplier_number c (Some m) tables = table_number tables (diagonal_of c m)
 
+abbrev pub straight_body_of : Request → PlainListed → PlainWork → ℕ → Array → Array → PlainBody
+straight_body_of c l (transforming t) table source target = kernel_body (frame_of c l.work) l t (node_kernel c t) table source target
+straight_body_of c l (tiling v) table source target = tile_body (frame_of c l.work) l v table source target
+
 -- a pass, where these are the tables before it
 abbrev pub pass_body : Request → PlainListed → List (List ℕ) → Array → Array → PlainBody
 pass_body c l tables source target =
     nested l.loops
-    (if is_kernel c (size_of l.tree) then kernel_body l (node_kernel c l.tree) (multiplier_number c l.multiplier tables) source target
-    else leaf_body l (table_number tables (powers_of c (size_of l.tree))) (multiplier_number c l.multiplier (tables_of_leaf c l.tree tables)) source target)
+    (if is_straight c l.work then straight_body_of c l l.work (multiplier_number c l.multiplier tables) source target
+    else leaf_body (frame_of c l.work) l (table_number tables (powers_of c (work_size l.work))) (multiplier_number c l.multiplier (tables_of_leaf c l.work tables)) source target)

@@ -13,14 +13,13 @@ use Rattle.matrix_meaning.specs.Valid.{IsValid}
 use Rattle.pass_code.specs.Acts.{pass_acts}
 use Rattle.tree_model.specs.Admissible.{IsAdmissible}
 use Rattle.tree_model.specs.Breakdown.{Breakdown}
-use Rattle.tree_model.specs.Cost.{is_plain}
 
 -- a program for the request's machine, with these tables first
 pub record HasTables (c : Request) (tables : List (List ℕ)) (program : PlainProgram) : Type 0 where
   pub size : program.size ≡ c.size
   pub modulus : program.modulus ≡ c.modulus
   pub line : program.line ≡ c.line
-  pub lanes : program.lanes ≡ 1
+  pub lanes : program.lanes ≡ c.lanes
   pub more : List (List ℕ)
   pub tables_are : program.tables ≡ tables ++ more
 
@@ -29,12 +28,12 @@ pub record IsInside (s : Step) : Type 0 where
   pub numbers : s.peak < 2 ^ 64
   pub place : s.reach ≤ s.room
 
--- in every program with its tables the statements of a pass are its actions, at places that are inside
+-- in every program with its tables the statements of a pass are its actions, on each processor, at places that are inside
 pub record IsEmitted (c : Request) (p : PlainPass) (tables : List (List ℕ)) (source target : Array) : Type 0 where
-  pub acts : (program : PlainProgram) (q : ℕ) → HasTables c (tables_after c (listed_of c p) tables) program →
+  pub acts : (program : PlainProgram) (q : ℕ) → q < c.procs → HasTables c (tables_after c (listed_of c p) tables) program →
       actions_of (steps_of_body program (pass_body c (listed_of c p) tables source target) [] q)
-      ≡ pass_acts c p (array_start (whole_lines c.size c.line) source) (array_start (whole_lines c.size c.line) target)
-  pub inside : (program : PlainProgram) (q : ℕ) → HasTables c (tables_after c (listed_of c p) tables) program →
+      ≡ pass_acts c p (array_start (whole_lines c.size c.line) source) (array_start (whole_lines c.size c.line) target) q
+  pub inside : (program : PlainProgram) (q : ℕ) → q < c.procs → HasTables c (tables_after c (listed_of c p) tables) program →
       All IsInside (steps_of_body program (pass_body c (listed_of c p) tables source target) [] q)
   pub within : IsTrue (is_body_within c.modulus (pass_body c (listed_of c p) tables source target) 0)
 
@@ -43,4 +42,4 @@ AllEmitted c [] = Unit {0}
 AllEmitted c (p ∷ ps) = ((tables : List (List ℕ)) (source target : Array) → length tables < 2 ^ 20 → IsEmitted c p tables source target) × AllEmitted c ps
 
 abbrev pub PassesAreEmitted : Type 0
-PassesAreEmitted = (c : Request) (t : Breakdown) → IsValid c → IsTrue (is_plain c) → c.weight ≡ 1 → IsAdmissible c t → AllEmitted c (merged_of c t)
+PassesAreEmitted = (c : Request) (t : Breakdown) → IsValid c → c.weight ≡ 1 → IsAdmissible c t → AllEmitted c (merged_of c t)

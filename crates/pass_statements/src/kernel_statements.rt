@@ -1,50 +1,23 @@
 // The statements of a kernel.
 ghost use Rattle.std.specs.Prelude.{◌≡◌, ◌+◌, ◌<◌, ◌^◌, IfOk, OnOk, length, map, slice_index};
 ghost use Rattle.std.specs.Option.{option_map};
-ghost use Rattle.icode.specs.Plain.{Load, plain_body, plain_op};
+ghost use Rattle.icode.specs.Plain.{plain_body, plain_op};
 ghost use Rattle.kernel_gen.specs.Kernels.{made_of};
 ghost use Rattle.loop_merge.specs.ListedViews.{plain_listed, plain_multiplier};
 ghost use Rattle.perm_algebra.specs.Views.{plain_sum};
-ghost use Rattle.place_code.specs.Expressions.{expr_of};
-ghost use Rattle.tree_model.specs.Breakdown.{breakdown_of, size_of};
+ghost use Rattle.tree_model.specs.Breakdown.{Breakdown, size_of};
 ghost use Rattle.pass_statements.specs.Conditions.{CanStore, HasPlaces};
-ghost use Rattle.pass_statements.specs.Emission.{do_only, finish_body, in_a_row, kernel_body, op_of, straight_body, sum_at};
+ghost use Rattle.pass_statements.specs.Emission.{finish_body, in_a_row, kernel_body, op_of, straight_body};
 
-use crate::outputs::{Outlet, place_at, put_output};
+use crate::inputs::loads;
+use crate::outputs::{Outlet, put_output};
 use crate::statements::put_op;
 use icode::action::Action;
 use icode::program::{Array, Op, Stmt};
 use kernel_gen::Kernel;
-use loop_merge::ListedPass;
+use loop_merge::{Frame, ListedPass};
 use memory::NoMemory;
-use perm_algebra::Affine;
 use std::alloc::Global;
-
-// A load of each item into a register of its own.
-fn loads(
-    alloc: Global,
-    sums: &[Affine],
-    count: u64,
-    open_loops: u64,
-    source: Array,
-) -> Result<Vec<Stmt>, NoMemory>
-    requires { HasPlaces count (map plain_sum sums.now) }
-    ensures { IfOk result (λ y. plain_body y.items ≡ in_a_row count (λ k. do_only (Load k source (expr_of open_loops (sum_at (map plain_sum sums.now) k))))) }
-{
-    let mut body = Vec::new(alloc);
-    for register in 0..count {
-        let place = place_at(alloc, sums, register, open_loops)?;
-        put_op(
-            &mut body,
-            Op::Load {
-                register,
-                array: source,
-                place,
-            },
-        )?;
-    }
-    Ok(body)
-}
 
 // The operation of an action. Straight-line code has no loads and stores, and one factor for all lanes.
 fn operation(action: &Action) -> Op
@@ -105,7 +78,7 @@ fn outputs(
     requires stores { CanStore (length made.now.outputs.items) (plain_listed pass.now) }
     requires room { made.now.regs + length made.now.outputs.items < 2 ^ 64 }
     ensures { IfOk result (λ y. plain_body y.items ≡ in_a_row (length made.now.outputs.items)
-        (λ k. finish_body (option_map plain_multiplier pass.now.multiplier) (map plain_sum pass.now.scatters.items) outlet.open_loops outlet.table outlet.target k (slice_index made.now.outputs.items k) (made.now.regs + k))) }
+        (λ k. finish_body outlet.frame outlet.step (option_map plain_multiplier pass.now.multiplier) (map plain_sum pass.now.scatters.items) outlet.open_loops outlet.table outlet.target k (slice_index made.now.outputs.items k) (made.now.regs + k))) }
 {
     let mut body = Vec::new(alloc);
     for k in 0..made.outputs.len() {
@@ -117,32 +90,35 @@ fn outputs(
     Ok(body)
 }
 
-/// The statements of a kernel: its inputs are loaded, its code is run, and its outputs are stored.
+/// The statements of a kernel: its inputs are loaded, its code is run, and its outputs are stored. Each lane multiplies by
+/// the same factor.
 pub(crate) fn statements_of_kernel(
     alloc: Global,
+    frame: Frame,
     pass: &ListedPass,
     made: &Kernel,
     table: u64,
     source: Array,
     target: Array,
 ) -> Result<Vec<Stmt>, NoMemory>
-    requires inputs { made.now.inputs ≡ size_of (breakdown_of pass.now.tree) }
-    requires outputs { length made.now.outputs.items ≡ size_of (breakdown_of pass.now.tree) }
-    requires loads { HasPlaces (size_of (breakdown_of pass.now.tree)) (map plain_sum pass.now.gathers.items) }
-    requires stores { CanStore (size_of (breakdown_of pass.now.tree)) (plain_listed pass.now) }
-    requires room { made.now.regs + size_of (breakdown_of pass.now.tree) < 2 ^ 64 }
-    ensures { IfOk result (λ y. plain_body y.items ≡ kernel_body (plain_listed pass.now) (made_of made.now) table source target) }
+    requires outputs { length made.now.outputs.items ≡ made.now.inputs }
+    requires loads { HasPlaces made.now.inputs (map plain_sum pass.now.gathers.items) }
+    requires stores { CanStore made.now.inputs (plain_listed pass.now) }
+    requires room { made.now.regs + made.now.inputs < 2 ^ 64 }
+    ensures { IfOk result (λ y. (t : Breakdown) → made.now.inputs ≡ size_of t → plain_body y.items ≡ kernel_body frame (plain_listed pass.now) t (made_of made.now) table source target) }
 {
     let open_loops = pass.loops.len() as u64;
     let outlet = Outlet {
+        frame,
         open_loops,
         table,
+        step: 0,
         target,
     };
     let mut stores = outputs(alloc, pass, made, outlet)?;
     let mut code = straight(alloc, &made.actions)?;
     code.append(&mut stores)?;
-    let mut statements = loads(alloc, &pass.gathers, made.inputs, open_loops, source)?;
+    let mut statements = loads(alloc, frame, &pass.gathers, made.inputs, open_loops, source)?;
     statements.append(&mut code)?;
     Ok(statements)
 }

@@ -3,7 +3,8 @@ ghost use Rattle.std.specs.Prelude.{◌≡◌, ◌+◌, ◌<◌, IfOk, length, m
 ghost use Rattle.icode.specs.Plain.{AndStmts, Do, NoStmts, Load, MulTable, Add, plain_body, plain_expr};
 ghost use Rattle.loop_merge.specs.ListedViews.{plain_listed};
 ghost use Rattle.perm_algebra.specs.Views.{plain_sum};
-ghost use Rattle.tree_model.specs.Breakdown.{breakdown_of, size_of};
+ghost use Rattle.loop_merge.specs.Views.{plain_work};
+ghost use Rattle.sigma_lower.specs.Work.{work_size};
 ghost use Rattle.pass_statements.specs.Bodies.{term_body};
 ghost use Rattle.pass_statements.specs.Conditions.{CanStore, HasPlaces};
 ghost use Rattle.pass_statements.specs.Emission.{leaf_body};
@@ -13,7 +14,7 @@ use crate::outputs::{Outlet, place_at, put_output};
 use crate::places::product_place;
 use crate::statements::put_op;
 use icode::program::{Array, Expr, Op, Stmt};
-use loop_merge::ListedPass;
+use loop_merge::{Frame, ListedPass};
 use memory::NoMemory;
 use std::alloc::Global;
 
@@ -60,6 +61,7 @@ fn term(
 /// The statements of a longer leaf: in loops over its rows and columns, register 0 becomes the sum of a row's products.
 pub(crate) fn statements_of_leaf(
     alloc: Global,
+    frame: Frame,
     pass: &ListedPass,
     size: u64,
     powers: u64,
@@ -67,14 +69,14 @@ pub(crate) fn statements_of_leaf(
     source: Array,
     target: Array,
 ) -> Result<Vec<Stmt>, NoMemory>
-    requires size { size ≡ size_of (breakdown_of pass.now.tree) }
+    requires size { size ≡ work_size (plain_work pass.now.work) }
     requires shallow { length pass.now.loops.items + 2 < 64 }
     requires loads { HasPlaces 1 (map plain_sum pass.now.gathers.items) }
     requires stores { CanStore 1 (plain_listed pass.now) }
-    ensures { IfOk result (λ y. plain_body y.items ≡ leaf_body (plain_listed pass.now) powers table source target) }
+    ensures { IfOk result (λ y. plain_body y.items ≡ leaf_body frame (plain_listed pass.now) powers table source target) }
 {
     let open_loops = pass.loops.len() as u64;
-    let input = place_at(alloc, &pass.gathers, 0, open_loops + 2)?;
+    let input = place_at(alloc, frame, &pass.gathers, 0, open_loops + 2)?;
     let entry = product_place(alloc, open_loops, size)?;
     let products = term(alloc, source, input, powers, entry)?;
     let mut sum = in_loops(alloc, &[size], products)?;
@@ -82,8 +84,10 @@ pub(crate) fn statements_of_leaf(
     put_op(&mut row, Op::Zero { register: 0 })?;
     row.append(&mut sum)?;
     let outlet = Outlet {
+        frame,
         open_loops: open_loops + 1,
         table,
+        step: 0,
         target,
     };
     put_output(alloc, &mut row, pass, outlet, 0, 0, 3)?;

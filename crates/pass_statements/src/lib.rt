@@ -1,6 +1,7 @@
 //! Loop code for passes. A pass is a nest of loops round a body that loads, computes and stores.
 #![tactic(auto)]
 
+mod inputs;
 mod kernel_statements;
 mod laws;
 mod leaf_statements;
@@ -10,6 +11,7 @@ mod pass;
 mod places;
 mod statements;
 mod tables;
+mod tile_statements;
 
 pub use laws::passes_are_emitted;
 pub use loops::in_loops;

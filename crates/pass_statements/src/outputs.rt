@@ -11,31 +11,35 @@ ghost use Rattle.pass_statements.specs.Emission.{do_only, finish_body, sum_at};
 
 use crate::statements::put_op;
 use icode::program::{Array, Expr, Op, Stmt};
-use loop_merge::{ListedPass, Multiplier};
+use loop_merge::{Frame, ListedPass, Multiplier};
 use memory::NoMemory;
 use perm_algebra::Affine;
 use place_code::place_expr;
 use std::alloc::Global;
 
-/// Where the items of a pass go: so many loops are open, and the factors stand in a table.
+/// Where the registers of a pass go: so many loops are open, and the factors stand in a table.
 #[derive(Clone, Copy)]
 pub(crate) struct Outlet {
+    pub frame: Frame,
     pub open_loops: u64,
     pub table: u64,
+    /// How far apart the factors of two lanes that lie side by side stand in the table.
+    pub step: u64,
     pub target: Array,
 }
 
-/// The place of an item.
+/// The place of a register.
 pub(crate) fn place_at(
     alloc: Global,
+    frame: Frame,
     sums: &[Affine],
     item: u64,
     open_loops: u64,
 ) -> Result<Expr, NoMemory>
     requires { HasPlaces (item + 1) (map plain_sum sums.now) }
-    ensures { IfOk result (λ e. plain_expr e ≡ expr_of open_loops (sum_at (map plain_sum sums.now) item)) }
+    ensures { IfOk result (λ e. plain_expr e ≡ expr_of frame open_loops (sum_at (map plain_sum sums.now) item)) }
 {
-    let place = place_expr(alloc, &sums[item as usize], open_loops)?;
+    let place = place_expr(alloc, frame, &sums[item as usize], open_loops)?;
     Ok(place)
 }
 
@@ -53,15 +57,16 @@ fn put_store(out: &mut Vec<Stmt>, array: Array, place: Expr, register: u64) -> R
     Ok(())
 }
 
-// Appends the product of a register and an entry of a table.
+// Appends the product of a register and entries of a table, of which the first has this place.
 fn put_product(
     out: &mut Vec<Stmt>,
     register: u64,
     source: u64,
     table: u64,
     place: Expr,
+    step: u64,
 ) -> Result<(), NoMemory>
-    ensures { OnOk result (plain_body out.new.items ≡ followed_by (plain_body out.old.items) (do_only (MulTable register source table (plain_expr place) 0))) }
+    ensures { OnOk result (plain_body out.new.items ≡ followed_by (plain_body out.old.items) (do_only (MulTable register source table (plain_expr place) step))) }
 {
     put_op(
         out,
@@ -70,13 +75,13 @@ fn put_product(
             source,
             table,
             place,
-            step: 0,
+            step,
         },
     )?;
     Ok(())
 }
 
-/// Appends the store of an item from a register, by way of a free one where it is multiplied.
+/// Appends the store of an item's register, by way of a free one where it is multiplied.
 pub(crate) fn put_output(
     alloc: Global,
     out: &mut Vec<Stmt>,
@@ -88,22 +93,24 @@ pub(crate) fn put_output(
 ) -> Result<(), NoMemory>
     requires { CanStore (item + 1) (plain_listed pass.now) }
     ensures { OnOk result (plain_body out.new.items ≡ followed_by (plain_body out.old.items)
-        (finish_body (option_map plain_multiplier pass.now.multiplier) (map plain_sum pass.now.scatters.items) outlet.open_loops outlet.table outlet.target item from free)) }
+        (finish_body outlet.frame outlet.step (option_map plain_multiplier pass.now.multiplier) (map plain_sum pass.now.scatters.items) outlet.open_loops outlet.table outlet.target item from free)) }
 {
     let Outlet {
+        frame,
         open_loops,
         table,
+        step,
         target,
     } = outlet;
-    let place = place_at(alloc, &pass.scatters, item, open_loops)?;
+    let place = place_at(alloc, frame, &pass.scatters, item, open_loops)?;
     match &pass.multiplier {
         None => {
             put_store(out, target, place, from)?;
             Ok(())
         }
         Some(multiplier) => {
-            let entry = place_at(alloc, &multiplier.places, item, open_loops)?;
-            put_product(out, free, from, table, entry)?;
+            let entry = place_at(alloc, frame, &multiplier.places, item, open_loops)?;
+            put_product(out, free, from, table, entry, step)?;
             put_store(out, target, place, free)?;
             Ok(())
         }

@@ -1,7 +1,12 @@
 pub mod Writing
 pub mod Low
+pub mod Bounded
+pub mod Sized
 pub mod Numbers
 pub mod Within
-pub mod LowSteps
-pub mod LowPlaces
+pub mod Shares
+pub mod SizedTerms
+pub mod SizedPasses
+pub mod Variables
+pub mod Loops
 pub mod Coded

@@ -1,8 +1,8 @@
 -- Sums whose numbers are small at every level.
-use Rattle.std.proofs.Common.{ℕ, ◌+◌, ◌-◌, ◌*◌, ◌%◌, ◌<◌, ◌≤◌, inl, inr, arith, mod-lt, le-mul_of_pos_right}
+use Rattle.std.proofs.Common.{ℕ, ◌+◌, ◌*◌, ◌%◌, ◌<◌, ◌≤◌, inl, inr, arith, mod-lt}
 use Rattle.std.proofs.lemmas.Bool.{cases_eq}
 use Rattle.std.proofs.lemmas.Nat.{mul-le}
-use Rattle.perm_algebra.specs.Affine.{IsProper, Sum, constant, variable, remainder, quotient, value, top, parts}
+use Rattle.perm_algebra.specs.Affine.{Sum, constant, variable, remainder, quotient, value, parts}
 use Rattle.place_code.specs.Expressions.{factor_at}
 use Rattle.place_code.specs.Laws.{CanWrite}
 use Rattle.place_code.proofs.Writing.{factor-same, factor-other}
@@ -13,24 +13,6 @@ IsLow n (constant c) = c ≤ 65536
 IsLow n (variable f d rest) = (f ≤ 65536) × (d < n) × IsLow n rest
 IsLow n (remainder f of m rest) = (0 < f) × (f ≤ 65536) × (0 < m) × (m ≤ 65536) × IsLow n of × IsLow n rest
 IsLow n (quotient f of m rest) = ⊥
-
--- the same of the sums inside remainders alone
-abbrev pub IsLowInside : ℕ → Sum → Type 0
-IsLowInside n (constant c) = Unit {0}
-IsLowInside n (variable f d rest) = (d < n) × IsLowInside n rest
-IsLowInside n (remainder f of m rest) = (m ≤ 65536) × IsLow n of × IsLowInside n rest
-IsLowInside n (quotient f of m rest) = ⊥
-
--- the numbers of the outer level are at most the greatest value
-pub low-outside : (n : ℕ) (e : Sum) (cs : ℕ → ℕ) → IsProper e cs → top e cs ≤ 65536 → IsLowInside n e → IsLow n e
-low-outside n (constant c) cs h small low = small
-low-outside n (variable f d rest) cs h small low =
-    let more : f ≤ f * (cs d - 1) = le-mul_of_pos_right {m = cs d - 1} f (omega (arith, h.1)) in
-    (omega arith, low.0, low-outside n rest cs h.2 (omega arith) low.1)
-low-outside n (remainder f of m rest) cs h small low =
-    let more : f ≤ f * (m - 1) = le-mul_of_pos_right {m = m - 1} f (omega (arith, h.1)) in
-    (h.0, omega arith, omega (arith, h.1), low.0, low.1, low-outside n rest cs h.2 (omega arith) low.2)
-low-outside n (quotient f of m rest) cs h small low = absurd low
 
 -- a factor of a variable is at most so much for each part
 pub factor-low : (n d : ℕ) (e : Sum) → IsLow n e → factor_at d e ≤ parts e * 65536

@@ -1,13 +1,14 @@
 -- The numbers of expressions: the value is the sum's, and no number on the way is great.
-use Rattle.std.proofs.Common.{◌≡◌, ℕ, zero, suc, ◌+◌, ◌*◌, ◌/◌, ◌%◌, ◌^◌, ◌<◌, ◌≤◌, inl, inr, arith, refl, sym, ap, ap₂, ◌∙◌, List, max, if◌then◌else◌, mul-zero, mul_comm, subst}
-use Rattle.std.specs.Prelude.{slice_index}
+use Rattle.std.proofs.Common.{◌≡◌, ℕ, zero, suc, ◌+◌, ◌*◌, ◌/◌, ◌%◌, ◌^◌, ◌<◌, ◌≤◌, Bool, true, false, inl, inr, arith, refl, sym, ap, ap₂, ◌∙◌, List, max, if◌then◌else◌, mul-zero, mul_comm, subst}
+use Rattle.std.specs.Prelude.{slice_index, ◌==◌}
 use Rattle.std.proofs.Math.Nat.{mul-add}
 use Rattle.std.proofs.lemmas.Bool.{cases_eq}
-use Rattle.icode.specs.Expression.{sum_numbers, parts_numbers}
-use Rattle.icode.specs.Plain.{PlainParts, AndParts, Var}
+use Rattle.icode.specs.Expression.{sum_numbers, parts_numbers, one_numbers}
+use Rattle.icode.specs.Plain.{PlainParts, PlainPart, AndParts, Proc, Var}
 use Rattle.perm_algebra.specs.Affine.{Sum, constant, variable, remainder, quotient, value, parts}
 use Rattle.perm_algebra.specs.Room.{constant_of}
-use Rattle.place_code.specs.Expressions.{factor_at, variables_of, divisions_of, expr_of}
+use Rattle.loop_merge.specs.declared.listed.Frame.{Frame}
+use Rattle.place_code.specs.Expressions.{factor_at, variables_of, processor_of, divisions_of, expr_of}
 use Rattle.place_code.proofs.Low.{IsLow, value-low, low-product, low-remainder}
 use Rattle.place_code.proofs.Writing.{is-zero, not-zero, factor-same, factor-other}
 
@@ -65,76 +66,164 @@ sum-value n (remainder f of m rest) vs h =
     omega (arith, turned, beside n 0 f m of rest vs, sum-value n rest vs h.5)
 sum-value n (quotient f of m rest) vs h = absurd h
 
+-- ---- what code says of variables: the processor's and the loops', while a lane's is 0
+
+-- all variables have these values where the loops have those, on a processor and its first lane
+pub record IsFramedBy (f : Frame) (all loops : ℕ → ℕ) (q : ℕ) : Type 0 where
+  pub processor : f.shared ≡ true → (0 < f.first_loop) × (all 0 ≡ q)
+  pub lane : (d : ℕ) → d < f.first_loop → (f.shared ≡ true → 0 < d) → all d ≡ 0
+  pub loop : (d : ℕ) → all (f.first_loop + d) ≡ loops d
+
+abbrev loops_value : Frame → ℕ → ℕ → Sum → (ℕ → ℕ) → ℕ
+loops_value f zero d e loops = 0
+loops_value f (suc k) d e loops = loops d * factor_at (f.first_loop + d) e + loops_value f k (d + 1) e loops
+
+abbrev processor_value : Frame → Sum → ℕ → ℕ
+processor_value f e q = if f.shared then q * factor_at 0 e else 0
+
+split : (a k d : ℕ) (e : Sum) (all : ℕ → ℕ) → variables_value (a + k) d e all ≡ variables_value a d e all + variables_value k (d + a) e all
+split zero k d e all =
+    let none_more : 0 + k ≡ k = omega arith in
+    let start : d ≡ d + 0 = omega arith in
+    ap₂ (λ n i. variables_value n i e all) none_more start ∙ omega arith
+split (suc a) k d e all =
+    let one_more : suc a + k ≡ suc (a + k) = omega arith in
+    let next : d + 1 + a ≡ d + suc a = omega arith in
+    ap (λ n. variables_value n d e all) one_more
+    ∙ ap (λ x. all d * factor_at d e + x) (split a k (d + 1) e all ∙ ap (λ i. variables_value a (d + 1) e all + variables_value k i e all) next)
+    ∙ omega arith
+
+all-zero : (k d : ℕ) (e : Sum) (all : ℕ → ℕ) → ((i : ℕ) → d ≤ i → i < d + k → all i ≡ 0) → variables_value k d e all ≡ 0
+all-zero zero d e all h = refl
+all-zero (suc k) d e all h =
+    let first : all d * factor_at d e ≡ 0 = ap (λ x. x * factor_at d e) (h d (omega arith) (omega arith)) ∙ omega arith in
+    omega (arith, first, all-zero k (d + 1) e all (λ i low high. h i (omega arith) (omega arith)))
+
+loops-are : (f : Frame) (k d : ℕ) (e : Sum) (all loops : ℕ → ℕ) (q : ℕ) → IsFramedBy f all loops q → variables_value k (f.first_loop + d) e all ≡ loops_value f k d e loops
+loops-are f zero d e all loops q h = refl
+loops-are f (suc k) d e all loops q h =
+    let next : f.first_loop + d + 1 ≡ f.first_loop + (d + 1) = omega arith in
+    ap₂ (λ x y. x * factor_at (f.first_loop + d) e + y) (h.loop d) (ap (λ i. variables_value k i e all) next ∙ loops-are f k (d + 1) e all loops q h)
+
+-- the variables before the loops'
+before : (shared : Bool) (a : ℕ) (e : Sum) (all : ℕ → ℕ) (q : ℕ) → (shared ≡ true → (0 < a) × (all 0 ≡ q)) → ((d : ℕ) → d < a → (shared ≡ true → 0 < d) → all d ≡ 0) →
+    variables_value a 0 e all ≡ (if shared then q * factor_at 0 e else 0)
+before false a e all q processor lane = all-zero a 0 e all (λ i low high. lane i (omega arith) (λ no. cc))
+before true zero e all q processor lane = absurd (let some = (processor refl).0 in omega arith)
+before true (suc a) e all q processor lane =
+    let others : variables_value a 1 e all ≡ 0 = all-zero a 1 e all (λ i low high. lane i (omega arith) (λ yes. omega arith)) in
+    ap₂ (λ x y. x * factor_at 0 e + y) (processor refl).1 others ∙ omega arith
+
+framed-value : (f : Frame) (n : ℕ) (e : Sum) (all loops : ℕ → ℕ) (q : ℕ) → IsFramedBy f all loops q → variables_value (f.first_loop + n) 0 e all ≡ processor_value f e q + loops_value f n 0 e loops
+framed-value f n e all loops q h =
+    let start : 0 + f.first_loop ≡ f.first_loop + 0 = omega arith in
+    split f.first_loop n 0 e all
+    ∙ ap₂ (λ x y. x + y) (before f.shared f.first_loop e all q h.processor h.lane) (ap (λ i. variables_value n i e all) start ∙ loops-are f n 0 e all loops q h)
+
 -- ---- the values of expressions
 
-pub left-out : (k d : ℕ) (e : Sum) (ps : PlainParts) → factor_at d e ≡ 0 → variables_of (suc k) d e ps ≡ variables_of k (d + 1) e ps
-left-out k d e ps gone = ap (λ b. if b then variables_of k (d + 1) e ps else AndParts (Var d (factor_at d e)) (variables_of k (d + 1) e ps)) (is-zero (factor_at d e) gone)
+-- a part before others, where its factor is not 0
+abbrev pub with_factor_of : ℕ → PlainPart → PlainParts → PlainParts
+with_factor_of g part ps = if g == 0 then ps else AndParts part ps
 
-pub put-in : (k d : ℕ) (e : Sum) (ps : PlainParts) → 0 < factor_at d e → variables_of (suc k) d e ps ≡ AndParts (Var d (factor_at d e)) (variables_of k (d + 1) e ps)
-put-in k d e ps some = ap (λ b. if b then variables_of k (d + 1) e ps else AndParts (Var d (factor_at d e)) (variables_of k (d + 1) e ps)) (not-zero (factor_at d e) some)
-
-no-value : (v f a b c : ℕ) → f ≡ 0 → a ≡ b + c → a ≡ v * f + b + c
-no-value v f a b c gone is = let product : v * f ≡ 0 = ap (λ x. v * x) gone ∙ mul-zero v in omega arith
-
-variables-value : (k d : ℕ) (e : Sum) (ps : PlainParts) (vs : List ℕ) (q : ℕ) → (parts_numbers (variables_of k d e ps) vs q).value ≡ variables_value k d e (slice_index vs) + (parts_numbers ps vs q).value
-variables-value zero d e ps vs q = omega arith
-variables-value (suc k) d e ps vs q =
-    elim (cases_eq (factor_at d e) 0) [
+part-value : (g x : ℕ) (part : PlainPart) (ps : PlainParts) (vs : List ℕ) (q : ℕ) → (one_numbers part vs q).value ≡ x * g → (parts_numbers (with_factor_of g part ps) vs q).value ≡ x * g + (parts_numbers ps vs q).value
+part-value g x part ps vs q is =
+    elim (cases_eq g 0) [
       | inl gone ↦
-          ap (λ x. (parts_numbers x vs q).value) (left-out k d e ps gone)
-          ∙ no-value (slice_index vs d) (factor_at d e) _ (variables_value k (d + 1) e (slice_index vs)) (parts_numbers ps vs q).value gone (variables-value k (d + 1) e ps vs q)
+          let product : x * g ≡ 0 = ap (λ y. x * y) gone ∙ mul-zero x in
+          ap (λ b. (parts_numbers (if b then ps else AndParts part ps) vs q).value) (is-zero g gone) ∙ omega arith
       | inr some ↦
-          ap (λ x. (parts_numbers x vs q).value) (put-in k d e ps (omega arith))
-          ∙ ap (λ x. slice_index vs d * factor_at d e + x) (variables-value k (d + 1) e ps vs q)
-          ∙ omega arith
+          ap (λ b. (parts_numbers (if b then ps else AndParts part ps) vs q).value) (not-zero g (omega arith)) ∙ ap (λ y. y + (parts_numbers ps vs q).value) is
     ]
 
-whole-value : (n : ℕ) (e : Sum) (vs : List ℕ) (q : ℕ) → IsLow n e → (parts_numbers (divisions_of n e) vs q).value ≡ divisions_value e (slice_index vs) → (sum_numbers (expr_of n e) vs q).value ≡ value e (slice_index vs)
-whole-value n e vs q h is =
-    ap (λ x. constant_of e + x) (variables-value n 0 e (divisions_of n e) vs q ∙ ap (λ x. variables_value n 0 e (slice_index vs) + x) is)
-    ∙ sym (sum-value n e (slice_index vs) h)
+variables-value : (f : Frame) (k d : ℕ) (e : Sum) (ps : PlainParts) (vs : List ℕ) (q : ℕ) → (parts_numbers (variables_of f k d e ps) vs q).value ≡ loops_value f k d e (slice_index vs) + (parts_numbers ps vs q).value
+variables-value f zero d e ps vs q = omega arith
+variables-value f (suc k) d e ps vs q =
+    part-value (factor_at (f.first_loop + d) e) (slice_index vs d) (Var d (factor_at (f.first_loop + d) e)) (variables_of f k (d + 1) e ps) vs q refl
+    ∙ ap (λ x. slice_index vs d * factor_at (f.first_loop + d) e + x) (variables-value f k (d + 1) e ps vs q)
+    ∙ omega arith
 
-divisions-value : (n : ℕ) (e : Sum) (vs : List ℕ) (q : ℕ) → IsLow n e → (parts_numbers (divisions_of n e) vs q).value ≡ divisions_value e (slice_index vs)
-divisions-value n (constant c) vs q h = refl
-divisions-value n (variable f d rest) vs q h = divisions-value n rest vs q h.2
-divisions-value n (remainder f of m rest) vs q h =
-    ap₂ (λ x y. x % m * f + y) (whole-value n of vs q h.4 (divisions-value n of vs q h.4)) (divisions-value n rest vs q h.5)
-divisions-value n (quotient f of m rest) vs q h = absurd h
+processor-value : (f : Frame) (e : Sum) (ps : PlainParts) (vs : List ℕ) (q : ℕ) → (parts_numbers (processor_of f e ps) vs q).value ≡ processor_value f e q + (parts_numbers ps vs q).value
+processor-value f e ps vs q = either f.shared
+  where
+    either : (b : Bool) → (parts_numbers (if b then with_factor_of (factor_at 0 e) (Proc (factor_at 0 e)) ps else ps) vs q).value ≡ (if b then q * factor_at 0 e else 0) + (parts_numbers ps vs q).value
+    either true = part-value (factor_at 0 e) q (Proc (factor_at 0 e)) ps vs q refl
+    either false = omega arith
 
-pub expr-value : (n : ℕ) (e : Sum) (vs : List ℕ) (q : ℕ) → IsLow n e → (sum_numbers (expr_of n e) vs q).value ≡ value e (slice_index vs)
-expr-value n e vs q h = whole-value n e vs q h (divisions-value n e vs q h)
+whole-value : (f : Frame) (n : ℕ) (e : Sum) (all : ℕ → ℕ) (vs : List ℕ) (q : ℕ) → IsLow (f.first_loop + n) e → IsFramedBy f all (slice_index vs) q →
+    (parts_numbers (divisions_of f n e) vs q).value ≡ divisions_value e all → (sum_numbers (expr_of f n e) vs q).value ≡ value e all
+whole-value f n e all vs q h framed is =
+    ap (λ x. constant_of e + x)
+    (processor-value f e (variables_of f n 0 e (divisions_of f n e)) vs q
+    ∙ ap (λ x. processor_value f e q + x) (variables-value f n 0 e (divisions_of f n e) vs q ∙ ap (λ x. loops_value f n 0 e (slice_index vs) + x) is)
+    ∙ sum_assoc (processor_value f e q) (loops_value f n 0 e (slice_index vs)) (divisions_value e all)
+    ∙ ap (λ x. x + divisions_value e all) (sym (framed-value f n e all (slice_index vs) q framed)))
+    ∙ sym (sum-value (f.first_loop + n) e all h)
+  where
+    sum_assoc : (a b c : ℕ) → a + (b + c) ≡ a + b + c
+    sum_assoc a b c = omega arith
+
+divisions-value : (f : Frame) (n : ℕ) (e : Sum) (all : ℕ → ℕ) (vs : List ℕ) (q : ℕ) → IsLow (f.first_loop + n) e → IsFramedBy f all (slice_index vs) q → (parts_numbers (divisions_of f n e) vs q).value ≡ divisions_value e all
+divisions-value f n (constant c) all vs q h framed = refl
+divisions-value f n (variable k d rest) all vs q h framed = divisions-value f n rest all vs q h.2 framed
+divisions-value f n (remainder k of m rest) all vs q h framed =
+    ap₂ (λ x y. x % m * k + y) (whole-value f n of all vs q h.4 framed (divisions-value f n of all vs q h.4 framed)) (divisions-value f n rest all vs q h.5 framed)
+divisions-value f n (quotient k of m rest) all vs q h framed = absurd h
+
+pub expr-value : (f : Frame) (n : ℕ) (e : Sum) (all : ℕ → ℕ) (vs : List ℕ) (q : ℕ) → IsLow (f.first_loop + n) e → IsFramedBy f all (slice_index vs) q → (sum_numbers (expr_of f n e) vs q).value ≡ value e all
+expr-value f n e all vs q h framed = whole-value f n e all vs q h framed (divisions-value f n e all vs q h framed)
 
 -- ---- the greatest numbers on the way
 
-variables-peak : (k d : ℕ) (e : Sum) (ps : PlainParts) (vs : List ℕ) (q b : ℕ) → variables_value k d e (slice_index vs) ≤ b → (parts_numbers ps vs q).peak ≤ b → (parts_numbers (variables_of k d e ps) vs q).peak ≤ b
-variables-peak zero d e ps vs q b h g = g
-variables-peak (suc k) d e ps vs q b h g =
-    let after : (parts_numbers (variables_of k (d + 1) e ps) vs q).peak ≤ b = variables-peak k (d + 1) e ps vs q b (omega arith) g in
-    elim (cases_eq (factor_at d e) 0) [
-      | inl gone ↦ subst (λ x. (parts_numbers x vs q).peak ≤ b) (sym (left-out k d e ps gone)) after
+part-peak : (g x b : ℕ) (part : PlainPart) (ps : PlainParts) (vs : List ℕ) (q : ℕ) → (one_numbers part vs q).peak ≡ x * g → x * g ≤ b → (parts_numbers ps vs q).peak ≤ b → (parts_numbers (with_factor_of g part ps) vs q).peak ≤ b
+part-peak g x b part ps vs q is low after =
+    elim (cases_eq g 0) [
+      | inl gone ↦ subst (λ c. (parts_numbers (if c then ps else AndParts part ps) vs q).peak ≤ b) (sym (is-zero g gone)) after
       | inr some ↦
-          let both : max (slice_index vs d * factor_at d e) (parts_numbers (variables_of k (d + 1) e ps) vs q).peak ≤ b = omega arith in
-          subst (λ x. (parts_numbers x vs q).peak ≤ b) (sym (put-in k d e ps (omega arith))) both
+          let both : max (one_numbers part vs q).peak (parts_numbers ps vs q).peak ≤ b = omega arith in
+          subst (λ c. (parts_numbers (if c then ps else AndParts part ps) vs q).peak ≤ b) (sym (not-zero g (omega arith))) both
     ]
 
-whole-peak : (n : ℕ) (e : Sum) (vs : List ℕ) (q : ℕ) → IsLow n e → parts e ≤ 64 → ((d : ℕ) → slice_index vs d ≤ 65536) → (parts_numbers (divisions_of n e) vs q).peak ≤ 1099511627776 → (sum_numbers (expr_of n e) vs q).peak ≤ 1099511627776
-whole-peak n e vs q h few small inner =
-    let low : value e (slice_index vs) ≤ 65536 + parts e * 4294967296 = value-low n e (slice_index vs) h small in
-    let is : (sum_numbers (expr_of n e) vs q).value ≡ value e (slice_index vs) = expr-value n e vs q h in
-    let split : value e (slice_index vs) ≡ constant_of e + (variables_value n 0 e (slice_index vs) + divisions_value e (slice_index vs)) = sum-value n e (slice_index vs) h in
-    let those : (parts_numbers (variables_of n 0 e (divisions_of n e)) vs q).peak ≤ 1099511627776 = variables-peak n 0 e (divisions_of n e) vs q 1099511627776 (omega arith) inner in omega arith
+variables-peak : (f : Frame) (k d : ℕ) (e : Sum) (ps : PlainParts) (vs : List ℕ) (q b : ℕ) → loops_value f k d e (slice_index vs) ≤ b → (parts_numbers ps vs q).peak ≤ b → (parts_numbers (variables_of f k d e ps) vs q).peak ≤ b
+variables-peak f zero d e ps vs q b h g = g
+variables-peak f (suc k) d e ps vs q b h g =
+    part-peak (factor_at (f.first_loop + d) e) (slice_index vs d) b (Var d (factor_at (f.first_loop + d) e)) (variables_of f k (d + 1) e ps) vs q refl (omega arith)
+    (variables-peak f k (d + 1) e ps vs q b (omega arith) g)
+
+processor-peak : (f : Frame) (e : Sum) (ps : PlainParts) (vs : List ℕ) (q b : ℕ) → processor_value f e q ≤ b → (parts_numbers ps vs q).peak ≤ b → (parts_numbers (processor_of f e ps) vs q).peak ≤ b
+processor-peak f e ps vs q b h g = either f.shared h
+  where
+    either : (s : Bool) → (if s then q * factor_at 0 e else 0) ≤ b → (parts_numbers (if s then with_factor_of (factor_at 0 e) (Proc (factor_at 0 e)) ps else ps) vs q).peak ≤ b
+    either true low = part-peak (factor_at 0 e) q b (Proc (factor_at 0 e)) ps vs q refl low g
+    either false low = g
+
+-- what is asked of the values of variables
+pub record AreFrameValues (f : Frame) (all : ℕ → ℕ) (vs : List ℕ) (q : ℕ) : Type 0 where
+  pub framed : IsFramedBy f all (slice_index vs) q
+  pub small : (d : ℕ) → all d ≤ 65536
+
+whole-peak : (f : Frame) (n : ℕ) (e : Sum) (all : ℕ → ℕ) (vs : List ℕ) (q : ℕ) → IsLow (f.first_loop + n) e → parts e ≤ 64 → AreFrameValues f all vs q → (parts_numbers (divisions_of f n e) vs q).peak ≤ 1099511627776 →
+    (sum_numbers (expr_of f n e) vs q).peak ≤ 1099511627776
+whole-peak f n e all vs q h few are inner =
+    let low : value e all ≤ 65536 + parts e * 4294967296 = value-low (f.first_loop + n) e all h are.small in
+    let is : (sum_numbers (expr_of f n e) vs q).value ≡ value e all = expr-value f n e all vs q h are.framed in
+    let split : value e all ≡ constant_of e + (variables_value (f.first_loop + n) 0 e all + divisions_value e all) = sum-value (f.first_loop + n) e all h in
+    let apart : variables_value (f.first_loop + n) 0 e all ≡ processor_value f e q + loops_value f n 0 e (slice_index vs) = framed-value f n e all (slice_index vs) q are.framed in
+    let loops : (parts_numbers (variables_of f n 0 e (divisions_of f n e)) vs q).peak ≤ 1099511627776 = variables-peak f n 0 e (divisions_of f n e) vs q 1099511627776 (omega arith) inner in
+    let those : (parts_numbers (processor_of f e (variables_of f n 0 e (divisions_of f n e))) vs q).peak ≤ 1099511627776 =
+    processor-peak f e (variables_of f n 0 e (divisions_of f n e)) vs q 1099511627776 (omega arith) loops in omega arith
 
 one-peak : (inner x f rest b : ℕ) → inner ≤ b → x * f ≤ b → rest ≤ b → max (max inner (x * f)) rest ≤ b
 one-peak inner x f rest b h g k = omega arith
 
-divisions-peak : (n : ℕ) (e : Sum) (vs : List ℕ) (q : ℕ) → IsLow n e → parts e ≤ 64 → ((d : ℕ) → slice_index vs d ≤ 65536) → (parts_numbers (divisions_of n e) vs q).peak ≤ 1099511627776
-divisions-peak n (constant c) vs q h few small = omega arith
-divisions-peak n (variable f d rest) vs q h few small = divisions-peak n rest vs q h.2 (omega arith) small
-divisions-peak n (remainder f of m rest) vs q h few small =
-    let inner = whole-peak n of vs q h.4 (omega arith) small (divisions-peak n of vs q h.4 (omega arith) small) in
-    let part : (sum_numbers (expr_of n of) vs q).value % m * f ≤ 4294967296 = low-product _ f (low-remainder (sum_numbers (expr_of n of) vs q).value m h.2 h.3) h.1 in
-    one-peak _ ((sum_numbers (expr_of n of) vs q).value % m) f _ 1099511627776 inner (omega arith) (divisions-peak n rest vs q h.5 (omega arith) small)
-divisions-peak n (quotient f of m rest) vs q h few small = absurd h
+divisions-peak : (f : Frame) (n : ℕ) (e : Sum) (all : ℕ → ℕ) (vs : List ℕ) (q : ℕ) → IsLow (f.first_loop + n) e → parts e ≤ 64 → AreFrameValues f all vs q → (parts_numbers (divisions_of f n e) vs q).peak ≤ 1099511627776
+divisions-peak f n (constant c) all vs q h few are = omega arith
+divisions-peak f n (variable k d rest) all vs q h few are = divisions-peak f n rest all vs q h.2 (omega arith) are
+divisions-peak f n (remainder k of m rest) all vs q h few are =
+    let inner = whole-peak f n of all vs q h.4 (omega arith) are (divisions-peak f n of all vs q h.4 (omega arith) are) in
+    let part : (sum_numbers (expr_of f n of) vs q).value % m * k ≤ 4294967296 = low-product _ k (low-remainder (sum_numbers (expr_of f n of) vs q).value m h.2 h.3) h.1 in
+    one-peak _ ((sum_numbers (expr_of f n of) vs q).value % m) k _ 1099511627776 inner (omega arith) (divisions-peak f n rest all vs q h.5 (omega arith) are)
+divisions-peak f n (quotient k of m rest) all vs q h few are = absurd h
 
-pub expr-peak : (n : ℕ) (e : Sum) (vs : List ℕ) (q : ℕ) → IsLow n e → parts e ≤ 64 → ((d : ℕ) → slice_index vs d ≤ 65536) → (sum_numbers (expr_of n e) vs q).peak < 2 ^ 64
-expr-peak n e vs q h few small = omega (arith, whole-peak n e vs q h few small (divisions-peak n e vs q h few small))
+pub expr-peak : (f : Frame) (n : ℕ) (e : Sum) (all : ℕ → ℕ) (vs : List ℕ) (q : ℕ) → IsLow (f.first_loop + n) e → parts e ≤ 64 → AreFrameValues f all vs q → (sum_numbers (expr_of f n e) vs q).peak < 2 ^ 64
+expr-peak f n e all vs q h few are = omega (arith, whole-peak f n e all vs q h few are (divisions-peak f n e all vs q h few are))

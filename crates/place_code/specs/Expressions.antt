@@ -1,6 +1,7 @@
--- Sums of loop variables as expressions of code.
+-- Sums of variables as expressions of code.
 use Rattle.std.specs.Prelude.{ℕ, zero, suc, ◌+◌, ◌==◌, if◌then◌else◌}
-use Rattle.icode.specs.Plain.{PlainExpr, PlainParts, Sum, NoParts, AndParts, Var, Rem, Quot}
+use Rattle.icode.specs.Plain.{PlainExpr, PlainParts, Sum, NoParts, AndParts, Proc, Var, Rem, Quot}
+use Rattle.loop_merge.specs.declared.listed.Frame.{Frame}
 use Rattle.perm_algebra.specs.Affine.{Sum as LoopSum, constant, variable, remainder, quotient}
 use Rattle.perm_algebra.specs.Room.{constant_of}
 
@@ -11,23 +12,27 @@ factor_at d (variable f e rest) = if d == e then f + factor_at d rest else facto
 factor_at d (remainder f of m rest) = factor_at d rest
 factor_at d (quotient f of m rest) = factor_at d rest
 
--- the parts of n variables from d on, before other parts; a variable whose factor is 0 has none
-abbrev pub variables_of : ℕ → ℕ → LoopSum → PlainParts → PlainParts
-variables_of zero d e parts = parts
-variables_of (suc n) d e parts =
-    if factor_at d e == 0 then variables_of n (d + 1) e parts else AndParts (Var d (factor_at d e)) (variables_of n (d + 1) e parts)
+-- the parts of n loops from depth d on, before other parts; a variable whose factor is 0 has none
+abbrev pub variables_of : Frame → ℕ → ℕ → LoopSum → PlainParts → PlainParts
+variables_of f zero d e parts = parts
+variables_of f (suc n) d e parts =
+    if factor_at (f.first_loop + d) e == 0 then variables_of f n (d + 1) e parts else AndParts (Var d (factor_at (f.first_loop + d) e)) (variables_of f n (d + 1) e parts)
 
--- the constant, the variables by rising depth, and other parts
-abbrev pub sum_of : ℕ → LoopSum → PlainParts → PlainExpr
-sum_of open_loops e parts = Sum (constant_of e) (variables_of open_loops 0 e parts)
+-- the part of the processor, where several share the pass, before other parts
+abbrev pub processor_of : Frame → LoopSum → PlainParts → PlainParts
+processor_of f e parts = if f.shared then (if factor_at 0 e == 0 then parts else AndParts (Proc (factor_at 0 e)) parts) else parts
+
+-- the constant, the processor, the variables by rising depth, and other parts; the lane has no part, so that the place is that of the first lane
+abbrev pub sum_of : Frame → ℕ → LoopSum → PlainParts → PlainExpr
+sum_of f open_loops e parts = Sum (constant_of e) (processor_of f e (variables_of f open_loops 0 e parts))
 
 -- the remainders and quotients
-abbrev pub divisions_of : ℕ → LoopSum → PlainParts
-divisions_of open_loops (constant c) = NoParts
-divisions_of open_loops (variable f d rest) = divisions_of open_loops rest
-divisions_of open_loops (remainder f of m rest) = AndParts (Rem (sum_of open_loops of (divisions_of open_loops of)) m f) (divisions_of open_loops rest)
-divisions_of open_loops (quotient f of m rest) = AndParts (Quot (sum_of open_loops of (divisions_of open_loops of)) m f) (divisions_of open_loops rest)
+abbrev pub divisions_of : Frame → ℕ → LoopSum → PlainParts
+divisions_of f open_loops (constant c) = NoParts
+divisions_of f open_loops (variable k d rest) = divisions_of f open_loops rest
+divisions_of f open_loops (remainder k of m rest) = AndParts (Rem (sum_of f open_loops of (divisions_of f open_loops of)) m k) (divisions_of f open_loops rest)
+divisions_of f open_loops (quotient k of m rest) = AndParts (Quot (sum_of f open_loops of (divisions_of f open_loops of)) m k) (divisions_of f open_loops rest)
 
 -- a sum as an expression, where so many loops are open
-abbrev pub expr_of : ℕ → LoopSum → PlainExpr
-expr_of open_loops e = sum_of open_loops e (divisions_of open_loops e)
+abbrev pub expr_of : Frame → ℕ → LoopSum → PlainExpr
+expr_of f open_loops e = sum_of f open_loops e (divisions_of f open_loops e)

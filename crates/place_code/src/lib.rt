@@ -1,51 +1,63 @@
 //! Places of passes as expressions of code.
 #![tactic(auto)]
 
-ghost use Rattle.std.specs.Prelude.{◌≡◌, ◌==◌, if◌then◌else◌, IfOk, map};
-ghost use Rattle.icode.specs.Plain.{AndParts, Rem, Quot, Var, parts_of, plain_expr, plain_part};
+ghost use Rattle.std.specs.Prelude.{◌≡◌, ◌+◌, ◌==◌, if◌then◌else◌, IfOk, map};
+ghost use Rattle.icode.specs.Plain.{AndParts, Rem, Quot, Proc, Var, parts_of, plain_expr, plain_part};
 ghost use Rattle.perm_algebra.specs.Room as room;
 ghost use Rattle.perm_algebra.specs.Views.{plain_sum};
-ghost use Rattle.place_code.specs.Expressions.{divisions_of, expr_of, factor_at, sum_of};
+ghost use Rattle.place_code.specs.Expressions.{divisions_of, expr_of, factor_at, processor_of, sum_of};
 ghost use Rattle.place_code.specs.Laws.{CanWrite, PlacesAreCoded};
 
 use icode::program::{Expr, Part};
+use loop_merge::Frame;
 use memory::NoMemory;
 use perm_algebra::Affine;
 use std::alloc::Global;
 
-/// The expression of a sum of loop variables, where so many loops are open: the constant, the variables by rising depth,
-/// each with its parts added up, and then the remainders and quotients.
-pub fn place_expr(alloc: Global, sum: &Affine, open_loops: u64) -> Result<Expr, NoMemory>
+/// The expression of a sum of variables that the frame tells apart, where so many loops are open: the constant, the processor,
+/// the variables of the loops by rising depth, each with its parts added up, and then the remainders and quotients. The lane
+/// is left out, so that the place is that of the first lane.
+pub fn place_expr(
+    alloc: Global,
+    frame: Frame,
+    sum: &Affine,
+    open_loops: u64,
+) -> Result<Expr, NoMemory>
     requires { CanWrite (plain_sum sum.now) }
-    ensures { IfOk result (λ e. plain_expr e ≡ expr_of open_loops (plain_sum sum.now)) }
+    ensures { IfOk result (λ e. plain_expr e ≡ expr_of frame open_loops (plain_sum sum.now)) }
 {
-    let divisions = divisions(alloc, sum, open_loops)?;
-    let place = with_variables(sum, open_loops, divisions)?;
+    let divisions = divisions(alloc, frame, sum, open_loops)?;
+    let place = with_variables(frame, sum, open_loops, divisions)?;
     Ok(place)
 }
 
 // The remainders and quotients of a sum.
-fn divisions(alloc: Global, sum: &Affine, open_loops: u64) -> Result<Vec<Part>, NoMemory>
+fn divisions(
+    alloc: Global,
+    frame: Frame,
+    sum: &Affine,
+    open_loops: u64,
+) -> Result<Vec<Part>, NoMemory>
     requires { CanWrite (plain_sum sum.now) }
-    ensures { IfOk result (λ parts. parts_of (map plain_part parts.items) ≡ divisions_of open_loops (plain_sum sum.now)) }
+    ensures { IfOk result (λ parts. parts_of (map plain_part parts.items) ≡ divisions_of frame open_loops (plain_sum sum.now)) }
 {
     match sum {
         Affine::Constant(_) => Ok(Vec::new(alloc)),
         Affine::Variable(_, _, rest) => {
-            let parts = divisions(alloc, rest, open_loops)?;
+            let parts = divisions(alloc, frame, rest, open_loops)?;
             Ok(parts)
         }
         Affine::Remainder(factor, of, divisor, rest) => {
-            let inner = divisions(alloc, of, open_loops)?;
-            let of = with_variables(of, open_loops, inner)?;
-            let parts = divisions(alloc, rest, open_loops)?;
+            let inner = divisions(alloc, frame, of, open_loops)?;
+            let of = with_variables(frame, of, open_loops, inner)?;
+            let parts = divisions(alloc, frame, rest, open_loops)?;
             let parts = with_remainder(of, *divisor, *factor, parts)?;
             Ok(parts)
         }
         Affine::Quotient(factor, of, divisor, rest) => {
-            let inner = divisions(alloc, of, open_loops)?;
-            let of = with_variables(of, open_loops, inner)?;
-            let parts = divisions(alloc, rest, open_loops)?;
+            let inner = divisions(alloc, frame, of, open_loops)?;
+            let of = with_variables(frame, of, open_loops, inner)?;
+            let parts = divisions(alloc, frame, rest, open_loops)?;
             let parts = with_quotient(of, *divisor, *factor, parts)?;
             Ok(parts)
         }
@@ -95,22 +107,28 @@ fn with_quotient(
 }
 
 // The constant and the variables of a sum, before other parts.
-fn with_variables(sum: &Affine, open_loops: u64, others: Vec<Part>) -> Result<Expr, NoMemory>
+fn with_variables(
+    frame: Frame,
+    sum: &Affine,
+    open_loops: u64,
+    others: Vec<Part>,
+) -> Result<Expr, NoMemory>
     requires { CanWrite (plain_sum sum.now) }
-    ensures { IfOk result (λ e. plain_expr e ≡ sum_of open_loops (plain_sum sum.now) (parts_of (map plain_part others.items))) }
+    ensures { IfOk result (λ e. plain_expr e ≡ sum_of frame open_loops (plain_sum sum.now) (parts_of (map plain_part others.items))) }
 {
     let mut parts = others;
     for depth in (0..open_loops).rev() {
-        let factor = factor_of(sum, depth);
+        let factor = factor_of(sum, frame.first_loop, depth);
         parts = with_variable(depth, factor, parts)?;
     }
+    let parts = with_processor(frame, sum, parts)?;
     Ok(Expr {
         constant: constant_of(sum),
         parts,
     })
 }
 
-// A multiple of a variable before other parts; none where the factor is 0.
+// A multiple of a loop's variable before other parts; none where the factor is 0.
 fn with_variable(depth: u64, factor: u64, others: Vec<Part>) -> Result<Vec<Part>, NoMemory>
     ensures { IfOk result (λ parts. parts_of (map plain_part parts.items) ≡ (if factor == 0 then parts_of (map plain_part others.items) else AndParts (Var depth factor) (parts_of (map plain_part others.items)))) }
 {
@@ -122,23 +140,40 @@ fn with_variable(depth: u64, factor: u64, others: Vec<Part>) -> Result<Vec<Part>
     Ok(parts)
 }
 
-// The factor of a variable, all its parts together.
-fn factor_of(sum: &Affine, variable: u64) -> u64
+// The multiple of the processor before other parts, where several share the pass; none where the factor is 0.
+fn with_processor(frame: Frame, sum: &Affine, others: Vec<Part>) -> Result<Vec<Part>, NoMemory>
     requires { CanWrite (plain_sum sum.now) }
-    ensures { result ≡ factor_at variable (plain_sum sum.now) }
+    ensures { IfOk result (λ parts. parts_of (map plain_part parts.items) ≡ processor_of frame (plain_sum sum.now) (parts_of (map plain_part others.items))) }
+{
+    if !frame.shared {
+        return Ok(others);
+    }
+    let factor = factor_of(sum, 0, 0);
+    if factor == 0 {
+        return Ok(others);
+    }
+    let mut parts = others;
+    parts.insert(0, Part::Proc { factor })?;
+    Ok(parts)
+}
+
+// The factor of a variable that stands so far behind the first one, all its parts together.
+fn factor_of(sum: &Affine, first: u64, behind: u64) -> u64
+    requires { CanWrite (plain_sum sum.now) }
+    ensures { result ≡ factor_at (first + behind) (plain_sum sum.now) }
 {
     match sum {
         Affine::Constant(_) => 0,
-        Affine::Variable(factor, other, rest) => {
-            let others = factor_of(rest, variable);
-            if variable == *other {
+        Affine::Variable(factor, variable, rest) => {
+            let others = factor_of(rest, first, behind);
+            if *variable >= first && *variable - first == behind {
                 *factor + others
             } else {
                 others
             }
         }
-        Affine::Remainder(_, _, _, rest) => factor_of(rest, variable),
-        Affine::Quotient(_, _, _, rest) => factor_of(rest, variable),
+        Affine::Remainder(_, _, _, rest) => factor_of(rest, first, behind),
+        Affine::Quotient(_, _, _, rest) => factor_of(rest, first, behind),
     }
 }
 
@@ -185,9 +220,12 @@ mod tests {
     fn variables_shown(alloc: Global, place: &Expr) -> Result<String, Fail> {
         let mut text = format!(in alloc; "{}", place.constant)?;
         for part in &place.parts {
-            if let Part::Var { depth, factor } = part {
-                text.push_str(format!(in alloc; "+v{depth}*{factor}")?.as_str())?;
-            }
+            let more = match part {
+                Part::Proc { factor } => format!(in alloc; "+q*{factor}")?,
+                Part::Var { depth, factor } => format!(in alloc; "+v{depth}*{factor}")?,
+                _ => format!(in alloc; "+?")?,
+            };
+            text.push_str(more.as_str())?;
         }
         Ok(text)
     }
@@ -197,6 +235,7 @@ mod tests {
         let mut text = format!(in alloc; "{}", place.constant)?;
         for part in &place.parts {
             let more = match part {
+                Part::Proc { factor } => format!(in alloc; "+q*{factor}")?,
                 Part::Var { depth, factor } => format!(in alloc; "+v{depth}*{factor}")?,
                 Part::Rem {
                     of,
@@ -226,13 +265,43 @@ mod tests {
     fn places(rt: HostRuntime) -> Result<(), Fail> {
         let alloc = rt.alloc();
         let sum = five_and_parts(alloc)?;
-        let place = place_expr(alloc, &sum, 3)?;
+        let alone = Frame {
+            shared: false,
+            first_loop: 0,
+        };
+        let place = place_expr(alloc, alone, &sum, 3)?;
         assert_eq!(rt;
             shown(alloc, &place)?.as_str(),
             "5+v0*2+v2*7+(7+v0*1+v1*1)%6*2+(0+v0*2)/3*1"
         );
-        let place = place_expr(alloc, &Affine::Constant(9), 2)?;
+        let place = place_expr(alloc, alone, &Affine::Constant(9), 2)?;
         assert_eq!(rt; shown(alloc, &place)?.as_str(), "9");
+        Ok(())
+    }
+
+    // By hand: variable 0 is the processor's and variable 1 the lane's, which is left out; that of the only loop is 2.
+    #[test]
+    fn shared_places(rt: HostRuntime) -> Result<(), Fail> {
+        let alloc = rt.alloc();
+        let sum = five_and_parts(alloc)?;
+        let lanes = Frame {
+            shared: true,
+            first_loop: 2,
+        };
+        let place = place_expr(alloc, lanes, &sum, 1)?;
+        assert_eq!(rt;
+            shown(alloc, &place)?.as_str(),
+            "5+q*2+v0*7+(7+q*1)%6*2+(0+q*2)/3*1"
+        );
+        let shared = Frame {
+            shared: true,
+            first_loop: 1,
+        };
+        let place = place_expr(alloc, shared, &sum, 2)?;
+        assert_eq!(rt;
+            shown(alloc, &place)?.as_str(),
+            "5+q*2+v1*7+(7+q*1+v0*1)%6*2+(0+q*2)/3*1"
+        );
         Ok(())
     }
 }

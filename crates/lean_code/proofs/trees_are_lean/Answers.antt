@@ -1,5 +1,5 @@
-use Rattle.lean_code.proofs.Lean as lean
+use Rattle.lean_code.proofs.Joined as joined
 use Rattle.lean_code.proofs.trees_are_lean.Goals as goal
 
 pub returns : goal.returns
-returns c = lean.trees_are_lean
+returns c = joined.trees_are_lean

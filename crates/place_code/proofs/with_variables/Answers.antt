@@ -7,5 +7,5 @@ use Rattle.place_code.proofs.with_variables.Goals as goal
 
 pub loop-depth-preserved : goal.loop-depth-preserved
 loop-depth-preserved c =
-    next-variable c.args.open_loops c.loop-depth.depth (c.loop-depth.depth - 1) c.factor_of-factor.result (plain_sum c.args.sum.now) (parts_of (map plain_part c.args.others.items))
+    next-variable c.args.frame c.args.open_loops c.loop-depth.depth (c.loop-depth.depth - 1) c.factor_of-factor.result (plain_sum c.args.sum.now) (parts_of (map plain_part c.args.others.items))
     (parts_of (map plain_part c.loop-depth.parts.items)) (parts_of (map plain_part c.in_ok-parts.parts.items)) (omega arith) (omega arith) c.factor_of-factor.ensures c.loop-depth.invariant c.in_ok-parts.ensures

@@ -6,4 +6,4 @@ use Rattle.place_code.proofs.with_variables.Given as goal
 
 abbrev pub invariant-loop-depth : goal.invariant-loop-depth
 invariant-loop-depth l =
-    parts_of (map plain_part l.parts.items) ≡ variables_of (l.open_loops - l.depth) l.depth (plain_sum l.sum) (parts_of (map plain_part l.fn.others.items))
+    parts_of (map plain_part l.parts.items) ≡ variables_of l.frame (l.open_loops - l.depth) l.depth (plain_sum l.sum) (parts_of (map plain_part l.fn.others.items))

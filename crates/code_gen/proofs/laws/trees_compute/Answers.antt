@@ -1,4 +1,4 @@
-use Rattle.code_gen.proofs.Trees as laws
+use Rattle.code_gen.proofs.Joined as laws
 use Rattle.code_gen.proofs.laws.trees_compute.Goals as goal
 
 pub returns : goal.returns

@@ -11,4 +11,4 @@ use Rattle.pass_statements.proofs.kernel_statements.outputs.Given as goal
 abbrev pub invariant-loop-k : goal.invariant-loop-k
 invariant-loop-k l =
     plain_body l.body.items
-    ≡ in_a_row l.k (λ k. finish_body (option_map plain_multiplier l.pass.multiplier) (map plain_sum l.pass.scatters.items) l.outlet.open_loops l.outlet.table l.outlet.target k (slice_index l.made.outputs.items k) (l.made.regs + k))
+    ≡ in_a_row l.k (λ k. finish_body l.outlet.frame l.outlet.step (option_map plain_multiplier l.pass.multiplier) (map plain_sum l.pass.scatters.items) l.outlet.open_loops l.outlet.table l.outlet.target k (slice_index l.made.outputs.items k) (l.made.regs + k))

@@ -13,7 +13,7 @@ returns c =
     let sum : List Stmt = c.in_ok-sum.sum.items in
     let loops = c.args.pass.now.loops in
     let deep : c.len-open_loops.result ≡ length loops.items = omega (arith, loops.ok.0, c.len-open_loops.ensures) in
-    leaf-statements (plain_listed c.args.pass.now) c.args.size c.args.powers c.args.table c.len-open_loops.result c.args.source c.args.target (map plain_sum c.deref.result.now) (plain_expr c.in_ok-input.input) (plain_expr c.in_ok-entry.entry)
+    leaf-statements c.args.frame (plain_listed c.args.pass.now) c.args.size c.args.powers c.args.table c.len-open_loops.result c.args.source c.args.target (map plain_sum c.deref.result.now) (plain_expr c.in_ok-input.input) (plain_expr c.in_ok-entry.entry)
     (plain_body c.in_ok-products.products.items) (plain_body sum) (plain_body c.append.new.self.items) (plain_body c.put_output.new.out.items) (plain_body c.in_ok-rows.rows.items) c.requires.size deep
     (ap (map plain_sum) c.deref.ensures.value) c.in_ok-input.ensures c.in_ok-entry.ensures c.in_ok-products.ensures c.in_ok-sum.ensures
     (ap plain_body c.in_ok-append.ensures.items

@@ -17,11 +17,12 @@ place_at-requires-in-Some c =
 
 pub returns-in_ok-put_store-in-Some : goal.returns-in_ok-put_store-in-Some
 returns-in_ok-put_store-in-Some c =
+    let f = c.args.outlet.frame in
     let open_loops = c.args.outlet.open_loops in
-    stored-product (plain_body c.args.out.now.items) (plain_body c.put_product.new.out.items) (plain_body c.put_store-in-Some.new.out.items) (option_map plain_multiplier c.args.pass.now.multiplier) (plain_multiplier c.in-Some.multiplier)
-    (map plain_sum c.args.pass.now.scatters.items) (plain_expr c.in_ok-place.place) (plain_expr c.in_ok-entry-in-Some.entry) open_loops c.args.outlet.table c.args.outlet.target c.args.item c.args.from c.args.free
+    stored-product f (plain_body c.args.out.now.items) (plain_body c.put_product.new.out.items) (plain_body c.put_store-in-Some.new.out.items) (option_map plain_multiplier c.args.pass.now.multiplier) (plain_multiplier c.in-Some.multiplier)
+    (map plain_sum c.args.pass.now.scatters.items) (plain_expr c.in_ok-place.place) (plain_expr c.in_ok-entry-in-Some.entry) c.args.outlet.step open_loops c.args.outlet.table c.args.outlet.target c.args.item c.args.from c.args.free
     (ap (option_map plain_multiplier) c.in-Some.is)
-    (c.in_ok-place.ensures ∙ ap (λ (xs : List Affine). expr_of open_loops (sum_at (map plain_sum xs) c.args.item)) c.deref.ensures.value)
-    (c.in_ok-entry-in-Some.ensures ∙ ap (λ (xs : List Affine). expr_of open_loops (sum_at (map plain_sum xs) c.args.item)) c.deref-in-Some.ensures.value)
+    (c.in_ok-place.ensures ∙ ap (λ (xs : List Affine). expr_of f open_loops (sum_at (map plain_sum xs) c.args.item)) c.deref.ensures.value)
+    (c.in_ok-entry-in-Some.ensures ∙ ap (λ (xs : List Affine). expr_of f open_loops (sum_at (map plain_sum xs) c.args.item)) c.deref-in-Some.ensures.value)
     c.in_ok-put_product-in-Some.ensures
     c.in_ok-put_store-in-Some.ensures
