@@ -1,5 +1,5 @@
 -- The reader of the request line reads by its grammar.
-use Rattle.std.proofs.Common.{◌≡◌, ℕ, ◌<◌, ◌≤◌, List, [], ◌∷◌, refl, sym, subst, codes, Result, arith}
+use Rattle.std.proofs.Common.{◌≡◌, ℕ, ◌<◌, ◌≤◌, List, [], ◌∷◌, refl, ap, subst, codes, Result, arith}
 use Rattle.matrix_meaning.specs.declared.Kind.{Kind}
 use Rattle.matrix_meaning.specs.declared.Kind.TheVariants.{Dft, Wht}
 use Rattle.matrix_meaning.specs.declared.Request.{Request}
@@ -10,7 +10,7 @@ use Rattle.grammar.proofs.Numbers.{NoDigit}
 use Rattle.grammar.proofs.Places.{IsReader, pure_reader, bind_reader}
 use Rattle.grammar.proofs.Parts.{Anything, Nothing, Keeps, behind_anything, keeps_pure, keeps_then, leaves_at_end, named_no_digit, then_no_digit, one_of_reader, number_reader, named_number_reader}
 use Rattle.grammar.proofs.OptionalParts.{BehindParts, parts_reader, parts_no_digit, parts_end}
-use Rattle.request_text.specs.Line.{request_line, kinds, root_of, optional_parts, above_all, IsPlain}
+use Rattle.request_text.specs.Line.{request_line, kinds, root_of, optional_parts, above_all}
 use Rattle.request_text.specs.Reading.{request_at, root_at}
 
 pos : 0 < above_all
@@ -48,8 +48,6 @@ request_reader =
 pub line_judges : (text : List ℕ) (r : Result Request ℕ) → whole request_at text ≡ r → Judges request_line text r
 line_judges text r e = subst (Judges request_line text) e (whole_judges Nothing request_line request_at request_reader refl text)
 
--- the fields that the line does not name
-pub line_is_plain : (text : List ℕ) (r : Request) → request_line text r → IsPlain r
-line_is_plain text r l =
-    let e = l.ends.ends.ends.ends.ends.1 in
-    subst IsPlain (sym e) record { procs = refl; line = refl; lanes = refl; weight = refl }
+-- the field that the line does not name
+pub line_weighs : (text : List ℕ) (r : Request) → request_line text r → r.weight ≡ 1
+line_weighs text r l = ap (λ (q : Request). q.weight) l.ends.ends.ends.ends.ends.1

@@ -19,7 +19,7 @@ root_of Wht = pure 0
 
 -- the optional parts in their order, each with its value when absent
 abbrev pub optional_parts : List (List ℕ × ℕ)
-optional_parts = (codes " unroll ", 8) ∷ (codes " budget ", 100000000) ∷ []
+optional_parts = (codes " procs ", 1) ∷ (codes " line ", 1) ∷ (codes " lanes ", 1) ∷ (codes " unroll ", 8) ∷ (codes " budget ", 100000000) ∷ []
 
 abbrev pub request_of : Kind → (size modulus root : ℕ) → List ℕ → Request
 request_of kind size modulus root options = record {
@@ -27,15 +27,15 @@ request_of kind size modulus root options = record {
   size = size;
   modulus = modulus;
   root = root;
-  procs = 1;
-  line = 1;
-  lanes = 1;
-  unroll = slice_index options 0;
-  budget = slice_index options 1;
+  procs = slice_index options 0;
+  line = slice_index options 1;
+  lanes = slice_index options 2;
+  unroll = slice_index options 3;
+  budget = slice_index options 4;
   weight = 1;
 }
 
--- the request line, without its end
+-- the request line, without its end; each operation counts the same
 abbrev pub request_line : List ℕ → Request → Type 0
 request_line = do
   kind ← one_of kinds
@@ -44,10 +44,3 @@ request_line = do
   root ← root_of kind
   options ← parts above_all optional_parts
   pure (request_of kind size modulus root options)
-
--- one processor with lines of one word and one lane, where each operation counts the same
-pub record IsPlain (r : Request) : Type 0 where
-  pub procs : r.procs ≡ 1
-  pub line : r.line ≡ 1
-  pub lanes : r.lanes ≡ 1
-  pub weight : r.weight ≡ 1

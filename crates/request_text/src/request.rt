@@ -1,6 +1,6 @@
 ghost use Rattle.std.specs.Prelude.{◌≡◌, ◌≤◌, IfOk};
 ghost use Rattle.request_text.specs.Limits.{within, below, shaped, divided, judged};
-ghost use Rattle.request_text.specs.Line.{request_line, IsPlain};
+ghost use Rattle.request_text.specs.Line.{request_line};
 ghost use Rattle.request_text.specs.Answer.{Answers};
 ghost use Rattle.grammar.specs.Cursor.{Gives, GivesAll};
 ghost use Rattle.grammar.specs.Reading.{whole};
@@ -39,9 +39,9 @@ fn request_of(cursor: &mut Cursor) -> Result<Request, Stuck>
         size,
         modulus,
         root,
-        procs: 1,
-        line: 1,
-        lanes: 1,
+        procs: cursor.optional_number(b" procs ", u64::MAX, 1),
+        line: cursor.optional_number(b" line ", u64::MAX, 1),
+        lanes: cursor.optional_number(b" lanes ", u64::MAX, 1),
         unroll: cursor.optional_number(b" unroll ", u64::MAX, 8),
         budget: cursor.optional_number(b" budget ", u64::MAX, 100_000_000),
         weight: 1,
@@ -129,7 +129,7 @@ fn checked(request: Request) -> Result<Request, RequestFault>
 pub fn read_request(text: &[u8]) -> Result<Request, RequestFault>
     ensures answer { Answers text.now result }
     ensures only { (r : Request) → request_line text.now r → result ≡ judged r }
-    ensures plain { IfOk result IsPlain }
+    ensures weight { IfOk result (λ r. r.weight ≡ 1) }
 {
     match whole_request(text) {
         Ok(request) => checked(request),

@@ -53,10 +53,56 @@ fn reads_a_line(rt: HostRuntime) {
     );
 }
 
+// Lanes have to divide the line where there are several processors, behind every other limit.
+#[test]
+fn reads_processors(rt: HostRuntime) {
+    let request = Request {
+        kind: Kind::Wht,
+        size: 16,
+        modulus: 97,
+        root: 0,
+        procs: 2,
+        line: 4,
+        lanes: 2,
+        unroll: 4,
+        budget: 100_000_000,
+        weight: 1,
+    };
+    assert_eq!(rt;
+        read_request(b"wht 16 mod 97 procs 2 line 4 lanes 2 unroll 4"),
+        Ok(request)
+    );
+    assert_eq!(rt;
+        read_request(b"wht 16 mod 97 procs 16 unroll 4"),
+        Ok(Request {
+            procs: 16,
+            line: 1,
+            lanes: 1,
+            ..request
+        })
+    );
+    assert_eq!(rt;
+        read_request(b"wht 16 mod 97 line 3 lanes 2 unroll 4"),
+        Ok(Request {
+            procs: 1,
+            line: 3,
+            ..request
+        })
+    );
+    assert_eq!(rt;
+        read_request(b"wht 16 mod 97 procs 2 line 3 lanes 2"),
+        Err(RequestFault::LanesLine { lanes: 2, line: 3 })
+    );
+    assert_eq!(rt;
+        read_request(b"wht 6 mod 97 procs 2 line 3 lanes 2"),
+        Err(RequestFault::Shape { size: 6 })
+    );
+}
+
 // The places come from a matcher of prefixes that is no part of this program.
 #[test]
 fn stuck_places(rt: HostRuntime) {
-    let lines: [(&[u8], u64); 24] = [
+    let lines: [(&[u8], u64); 26] = [
         (b"", 0),
         (b"dft", 3),
         (b"dft  4 mod 17 root 4", 4),
@@ -69,10 +115,12 @@ fn stuck_places(rt: HostRuntime) {
         (b"dft -4 mod 17 root 4", 4),
         (b"dft 18446744073709551616 mod 17 root 4", 23),
         (b"dft 4 mod 18446744073709551616 root 4", 29),
-        (b"dft 0 mod 1 root 5 procs", 19),
-        (b"dft 4 mod 17 root 4 procs 2", 20),
-        (b"dft 4 mod 17 root 4 line 1", 20),
-        (b"dft 4 mod 17 root 4 lanes 1", 20),
+        (b"dft 0 mod 1 root 5 procs", 24),
+        (b"dft 4 mod 17 root 4 procs 2 procs 2", 28),
+        (b"dft 4 mod 17 root 4 line 2 procs 1", 27),
+        (b"dft 4 mod 17 root 4 lanes 1 line 1", 28),
+        (b"dft 4 mod 17 root 4 procs 02", 27),
+        (b"dft 4 mod 17 root 4 lines 1", 24),
         (b"dft 4 mod 17 root 4 weight 1", 20),
         (b"xht 4 mod 5", 0),
         (b"wht", 3),
@@ -89,7 +137,7 @@ fn stuck_places(rt: HostRuntime) {
 
 #[test]
 fn first_limit(rt: HostRuntime) {
-    let lines: [(&[u8], Field, u64); 12] = [
+    let lines: [(&[u8], Field, u64); 18] = [
         (b"dft 0 mod 17 root 1", Field::Size, 0),
         (b"dft 65537 mod 1 root 1", Field::Size, 65_537),
         (b"dft 70000 mod 17 root 1", Field::Size, 70_000),
@@ -114,6 +162,16 @@ fn first_limit(rt: HostRuntime) {
             1_000_000_000_001,
         ),
         (b"dft 4 mod 17 root 18 unroll 65", Field::Root, 18),
+        (b"dft 4 mod 17 root 4 procs 0", Field::Procs, 0),
+        (b"dft 4 mod 17 root 4 procs 17 line 65", Field::Procs, 17),
+        (b"dft 4 mod 17 root 4 line 0", Field::Line, 0),
+        (b"wht 4 mod 17 procs 16 line 65 lanes 17", Field::Line, 65),
+        (b"wht 4 mod 17 line 64 lanes 17", Field::Lanes, 17),
+        (
+            b"wht 4 mod 17 procs 2 line 3 lanes 2 unroll 1",
+            Field::Unroll,
+            1,
+        ),
     ];
     for (line, field, value) in lines {
         assert_eq!(rt;

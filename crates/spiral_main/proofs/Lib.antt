@@ -1,4 +1,5 @@
 pub mod AskLemmas
+pub mod CountLemmas
 pub mod LineLemmas
 pub mod OneOutcome
 pub mod OneRequest

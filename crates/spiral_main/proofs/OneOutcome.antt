@@ -7,10 +7,8 @@ use Rattle.spiral_words.proofs.Usage.{usage_nothing}
 use Rattle.generate.specs.declared.GenerateFault.{GenerateFault}
 use Rattle.generate.specs.declared.GenerateFault.TheVariants as generate
 use Rattle.generate.specs.Planned.{IsPlanned, IsAdmitted, IsBarred}
-use Rattle.tree_model.specs.Admissible.{CanDivide, RootFits, IsCandidate}
-use Rattle.tree_model.specs.Breakdown.{Breakdown, leaf, node, size_of}
-use Rattle.tree_model.specs.Cost.{cost_of, is_plain}
-use Rattle.tree_model.specs.declared.tree.Rule.TheVariants.{Gt, Ct, Split}
+use Rattle.tree_model.specs.Breakdown.{Breakdown}
+use Rattle.tree_model.specs.Cost.{cost_of}
 use Rattle.plan_cert.proofs.OneVerdict.{one_verdict}
 use Rattle.spiral_main.specs.declared.status.Status.{Status}
 use Rattle.spiral_main.specs.Checked.{IsChecked, status_of_verdict}
@@ -20,6 +18,7 @@ use Rattle.spiral_main.specs.Line.{line_of}
 use Rattle.spiral_main.specs.Outcome.{spelt, IsRefused, IsShutOut, IsAccepted, IsDeclined, requested, Job, accepted, ordered, IsTextOf, IsTextOfData, Settles, IsOutcome, room_behind}
 use Rattle.spiral_main.specs.Line.{data_of}
 use Rattle.spiral_main.specs.Stage.{Stage, given, GoesOn, ◌>>=◌}
+use Rattle.spiral_main.proofs.PlanLemmas.{candidate_divides}
 use Rattle.spiral_main.proofs.OneRequest.{request_once, asked_once, answer_clash, fault_once}
 
 -- Stages
@@ -88,19 +87,6 @@ requested_decided words bytes =
     bind_decided (given (scheduled command request)) _ (given_decided (scheduled command request)) (λ served. given_decided (Ok (command, served))))))
 
 -- The request for the command
-
-fits_divides : (r : Request) (t : Breakdown) → RootFits r t → CanDivide r
-fits_divides r (leaf d) fits = absurd fits
-fits_divides r (node Gt a b) fits = absurd fits
-fits_divides r (node Ct a b) fits = inr (size_of a, size_of b, fits)
-fits_divides r (node Split a b) fits = inr (size_of a, size_of b, fits)
-
-candidate_divides : (r : Request) (t : Breakdown) → IsCandidate r r.size t → CanDivide r
-candidate_divides r t candidate = cases (is_plain r) refl
-  where
-    cases : (b : Bool) → is_plain r ≡ b → CanDivide r
-    cases true e = inl e
-    cases false e = fits_divides r t (candidate.root refl e)
 
 two_values : (b : Bool) → b ≡ true → b ≡ false → ⊥
 two_values b p q = absurd (cc)

@@ -11,7 +11,7 @@ use Rattle.matrix_meaning.specs.Valid.{IsInRange}
 use Rattle.request_text.specs.Schedule.{Plan}
 use Rattle.request_text.specs.Turns.{turns_of}
 use Rattle.icode.specs.Machine.{Code, State, results, runs}
-use Rattle.io_edge.specs.Faults.{HasCause, Reports}
+use Rattle.io_edge.specs.Faults.{HasCause, Reports, Rose}
 use Rattle.io_edge.specs.Feed.{Fed, limit}
 use Rattle.io_edge.specs.Taken.{AppendsPrefix, WritesAll}
 use Rattle.io_edge.proofs.TakenLemmas.{prefix_after}
@@ -451,6 +451,13 @@ reports_write before now fault r = record {
   cause = λ e. r.cause (ap failed (from_write fault e));
   told = λ h. ap status_of_fault (failed_same fault stream.WriteFault (r.told h));
 }
+
+-- a write that failed is no read that failed
+pub reports_unread : (now : ℕ) → Reports now now (WriteFault ≡ ReadFault)
+reports_unread now = record { later = omega arith; cause = λ e. absurd (cc); told = λ h. absurd (omega (arith, h)) }
+
+pub reports_unwritten : (before now : ℕ) → before ≤ now → Rose before now → Reports before now (WriteFault ≡ WriteFault)
+reports_unwritten before now later rose = record { later = later; cause = λ e. rose; told = λ h. refl }
 
 -- of a second call, where the first left the count as it was
 pub reports_after : {A : Type 0} (before mid now : ℕ) → mid ≡ before → Reports mid now A → Reports before now A

@@ -1,5 +1,5 @@
 -- The vector of a seed, and what a run on it counts.
-use Rattle.std.proofs.Common.{◌≡◌, ◌<◌, ◌+◌, ◌*◌, ◌%◌, ℕ, zero, suc, List, [], ◌∷◌, ◌++◌, slice_index, All, refl, sym, ap, ap₂, subst, ◌∙◌, arith, mod-lt, zero-add}
+use Rattle.std.proofs.Common.{◌≡◌, ◌<◌, ◌≤◌, ◌+◌, ◌*◌, ◌%◌, ℕ, zero, suc, List, [], ◌∷◌, ◌++◌, length, slice_index, All, refl, sym, ap, ap₂, subst, ◌∙◌, arith, mod-lt, zero-add}
 use Rattle.std.proofs.lemmas.Nat.{mul-mod}
 use Rattle.std.proofs.lemmas.List.Elements.{All-map}
 use Rattle.std.proofs.lemmas.List.FromFn.{map-range_with_len_more}
@@ -9,21 +9,24 @@ use Rattle.operators.proofs.Sums.{sum_below-same, sum_below_more}
 use Rattle.operators.proofs.Lists.{length-list_below}
 use Rattle.matrix_meaning.specs.declared.Request.{Request}
 use Rattle.matrix_meaning.specs.Valid.{IsInRange}
+use Rattle.icode.specs.declared.action.Action.{Action}
 use Rattle.icode.specs.declared.action.Counts.{Counts}
-use Rattle.icode.specs.Machine.{Code, State, IsCode, IsApart, results, runs, counts_so_far, whole_counts}
+use Rattle.icode.specs.Machine.{Code, State, IsCode, IsApart, results, runs, counts_of, counts_so_far, whole_counts}
 use Rattle.icode.specs.Program.{plain_program, code_of}
 use Rattle.icode.proofs.Lists.{code_is}
 use Rattle.icode.proofs.Runs.{counts_of_runs}
+use Rattle.par_machine.proofs.Executed.{AreSmall, counts_small}
 use Rattle.request_text.specs.Schedule.{Plan}
 use Rattle.request_text.specs.Turns.{next_state, state_after, turns_of}
 use Rattle.generate.specs.Good.{IsVector}
-use Rattle.generate.specs.Planned.{IsPlain}
+use Rattle.generate.proofs.Goodness.{whole-of}
 use Rattle.tree_model.specs.Cost.{cost_of}
 use Rattle.tree_model.specs.Passes.{loads_of, stores_of}
 use Rattle.spiral_main.specs.Outcome.{product, IsSampleText}
-use Rattle.spiral_main.specs.Sample.{sample_vector, weighted_sum, sample_text}
+use Rattle.spiral_main.specs.Sample.{sample_vector, weighted_sum, sample_text, AreCountable}
 use Rattle.spiral_main.specs.Steps.{IsGoodCode}
 use Rattle.spiral_main.specs.Stream.{HasNoStranger}
+use Rattle.spiral_main.proofs.CountLemmas.{within_word}
 use Rattle.spiral_main.proofs.RunLemmas.{good_turns}
 
 -- the generator goes on
@@ -55,13 +58,24 @@ sample_residues request code m n seed xs good in_range same is =
     let some : 0 < code.modulus = omega (arith, of_request, in_range.modulus.0) in
     rw (is, same) (sample_below code.modulus n seed some)
 
-pub sum_alone : (n : ℕ) (f : ℕ → ℕ) → n ≡ 1 → f 0 ≡ sum_below n f
-sum_alone n f one = let here : f 0 ≡ sum_below 1 f = omega arith in here ∙ ap (λ k. sum_below k f) (sym one)
-
-share_alone : (n c : ℕ) (f : ℕ → ℕ) → n ≡ 1 → ((q : ℕ) → q < n → n * f q ≡ c) → sum_below n f ≡ c
-share_alone n c f one each =
-    let whole : 1 * f 0 ≡ c = ap (λ k. k * f 0) (sym one) ∙ each 0 (omega (arith, one)) in
-    sym (sum_alone n f one) ∙ omega (arith, whole)
+-- a finished run of a good program is counted in 64 bits
+pub good_counts : (request : Request) (code : Code) (state : State) (vector turns : List ℕ) → IsGoodCode request code → IsInRange request → state ≡ runs code vector turns → AreCountable code state
+good_counts request code state vector turns good in_range ran =
+    let p = plain_program good.1 in
+    let header = good.3.header in
+    let few : p.lanes ≤ 16 = omega (arith, header.lanes, in_range.lanes.1) in
+    let is : IsCode code = subst IsCode (sym good.4) (code_is p) in
+    let apart : (phase : ℕ) → IsApart code phase = λ phase. subst (λ (k : Code). IsApart k phase) (sym good.4) (good.3.apart phase) in
+    let whole : (q : ℕ) → counts_so_far code state q ≡ whole_counts (code_of good.1) q = λ q.
+    ap (λ s. counts_so_far code s q) ran ∙ counts_of_runs code is apart vector turns q ∙ ap (λ (k : Code). whole_counts k q) good.4 in
+    let same : (pick : Counts → ℕ) → sum_below code.procs (λ q. pick (counts_so_far code state q)) ≡ sum_below p.procs (λ q. pick (whole_counts (code_of good.1) q)) = λ pick.
+    ap (λ (k : Code). sum_below k.procs (λ q. pick (counts_so_far code state q))) good.4 ∙ sum_below-same p.procs _ _ (λ q _. ap pick (whole q)) in
+    let small : (actions : List Action) → AreSmall (length actions * p.lanes) (counts_of p.lanes actions) = counts_small p.lanes in
+    record {
+      operations = omega (arith, same (λ c. c.operations), within_word p good.3.fits few (λ c. c.operations) (λ actions. (small actions).operations));
+      loads = omega (arith, same (λ c. c.loads), within_word p good.3.fits few (λ c. c.loads) (λ actions. (small actions).loads));
+      stores = omega (arith, same (λ c. c.stores), within_word p good.3.fits few (λ c. c.stores) (λ actions. (small actions).stores));
+    }
 
 -- the vector of a seed is one of the request
 pub sample_is : (request : Request) (code : Code) (m n seed : ℕ) → IsGoodCode request code → m ≡ code.modulus → n ≡ code.size → sample_vector m n seed ≡ sample_vector request.modulus request.size seed
@@ -76,7 +90,7 @@ sample_fits request seed in_range = record {
 
 -- what the parts of a sample come to
 pub sampled : (request : Request) (code after : Code) (plan : Plan) (m n seed : ℕ) (vector y : List ℕ) (state : State) (sum : ℕ) (counts : Counts) (text : List ℕ)
-    → IsGoodCode request code → IsInRange request → IsPlain request → HasNoStranger plan request.procs
+    → IsGoodCode request code → IsInRange request → HasNoStranger plan request.procs
     → after ≡ code → m ≡ code.modulus → n ≡ code.size → vector ≡ sample_vector m n seed
     → y ≡ results code vector (turns_of plan code.procs) → state ≡ runs code vector (turns_of plan code.procs) → sum ≡ weighted_sum m y
     → counts.operations ≡ sum_below after.procs (λ q. (counts_so_far after state q).operations)
@@ -84,7 +98,7 @@ pub sampled : (request : Request) (code after : Code) (plan : Plan) (m n seed : 
     → counts.stores ≡ sum_below after.procs (λ q. (counts_so_far after state q).stores)
     → text ≡ sample_text sum counts.operations counts.loads counts.stores
     → IsSampleText request seed text
-sampled request code after plan m n seed vector y state sum counts text good in_range plain none same modulus size v run ran s operations loads stores t =
+sampled request code after plan m n seed vector y state sum counts text good in_range none same modulus size v run ran s operations loads stores t =
     let turns = turns_of plan code.procs in
     let program = good.1 in
     let is : IsCode code = subst IsCode (sym good.4) (code_is (plain_program program)) in
@@ -94,7 +108,7 @@ sampled request code after plan m n seed vector y state sum counts text good in_
     let times : y ≡ product request vector = run ∙ ap (λ k. results k vector turns) good.4 ∙ good.3.product vector turns fits (good_turns plan request code good in_range none) in
     let of_request : m ≡ request.modulus = modulus ∙ ap (λ (k : Code). k.modulus) good.4 ∙ good.3.header.modulus in
     let whole : (q : ℕ) → counts_so_far code state q ≡ whole_counts code q = λ q. ap (λ s. counts_so_far code s q) ran ∙ counts_of_runs code is apart vector turns q in
-    let alone : (code_of program).procs ≡ 1 = good.3.header.procs ∙ plain.procs in
+    let some : 0 < (code_of program).procs = omega (arith, good.3.header.procs, in_range.procs.0) in
     let share : (q : ℕ) → q < (code_of program).procs → (code_of program).procs * (whole_counts (code_of program) q).operations ≡ cost_of request good.0 =
     λ q below. ap (λ n. n * (whole_counts (code_of program) q).operations) good.3.header.procs ∙ good.3.operations q (subst (λ n. q < n) good.3.header.procs below) in
     let sum_is = s ∙ ap₂ weighted_sum of_request (times ∙ ap (product request) here) in
@@ -102,7 +116,7 @@ sampled request code after plan m n seed vector y state sum counts text good in_
     operations ∙ ap (λ (k : Code). sum_below k.procs (λ q. (counts_so_far k state q).operations)) same
     ∙ sum_below-same code.procs _ _ (λ q _. ap (λ (c : Counts). c.operations) (whole q))
     ∙ ap (λ (k : Code). sum_below k.procs (λ q. (whole_counts k q).operations)) good.4
-    ∙ share_alone (code_of program).procs (cost_of request good.0) (λ q. (whole_counts (code_of program) q).operations) alone share in
+    ∙ whole-of (code_of program).procs (cost_of request good.0) (λ q. (whole_counts (code_of program) q).operations) some share in
     let loads_is : counts.loads ≡ loads_of request good.0 =
     loads ∙ ap (λ (k : Code). sum_below k.procs (λ q. (counts_so_far k state q).loads)) same
     ∙ sum_below-same code.procs _ _ (λ q _. ap (λ (c : Counts). c.loads) (whole q)) ∙ ap (λ (k : Code). sum_below k.procs (λ q. (whole_counts k q).loads)) good.4

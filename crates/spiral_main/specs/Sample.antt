@@ -1,6 +1,7 @@
 -- What `sample` makes and counts.
-use Rattle.std.specs.Prelude.{ℕ, ◌+◌, ◌*◌, ◌%◌, List, ◌++◌, length, slice_index, codes, decimal}
+use Rattle.std.specs.Prelude.{ℕ, ◌+◌, ◌*◌, ◌%◌, ◌^◌, ◌<◌, List, ◌++◌, length, slice_index, codes, decimal}
 use Rattle.operators.specs.Sum.{sum_below, list_below}
+use Rattle.icode.specs.Machine.{Code, State, counts_so_far}
 use Rattle.request_text.specs.Turns.{state_after}
 
 -- the vector of a seed: numbers of the generator, reduced
@@ -14,3 +15,9 @@ weighted_sum m y = sum_below (length y) (λ k. (k + 1) * slice_index y k) % m
 abbrev pub sample_text : ℕ → ℕ → ℕ → ℕ → List ℕ
 sample_text sum operations loads stores =
     codes "sum " ++ decimal sum ++ codes "\noperations " ++ decimal operations ++ codes "\nloads " ++ decimal loads ++ codes "\nstores " ++ decimal stores ++ codes "\n"
+
+-- what all processors have executed together is counted in 64 bits
+pub record AreCountable (code : Code) (s : State) : Type 0 where
+  pub operations : sum_below code.procs (λ q. (counts_so_far code s q).operations) < 2 ^ 64
+  pub loads : sum_below code.procs (λ q. (counts_so_far code s q).loads) < 2 ^ 64
+  pub stores : sum_below code.procs (λ q. (counts_so_far code s q).stores) < 2 ^ 64

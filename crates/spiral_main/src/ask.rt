@@ -1,7 +1,6 @@
 // What the words and the first line ask for.
 ghost use Rattle.std.specs.Prelude.{◌≡◌, ◌≢◌, ◌≤◌, ℕ, Some, Ok, Err, IfOk, IfErr, OnOk, IsErrOf, map, string_bytes};
 ghost use Rattle.matrix_meaning.specs.Valid.{IsInRange};
-ghost use Rattle.generate.specs.Planned.{IsPlain};
 ghost use Rattle.io_edge.specs.Faults.{Reports};
 ghost use Rattle.io_edge.specs.Feed.{to_come};
 ghost use Rattle.spiral_main.specs.Commands.{commanded, AskForCommand, schedule_of, stranger};
@@ -28,7 +27,7 @@ pub(crate) fn ask<I: Source>(
     ensures told { Asks (map string_bytes words.now.items) (to_come feed.old (I.left input.old)) (to_come feed.new (I.left input.new)) feed.new.taken result }
     ensures within { OnOk result (feed.new.taken ≤ 257) }
     ensures command { IfOk result (λ wanted. commanded (map string_bytes words.now.items) (Ok wanted.0)) }
-    ensures request { IfOk result (λ wanted. IsInRange wanted.1 × IsPlain wanted.1) }
+    ensures request { IfOk result (λ wanted. IsInRange wanted.1 × (wanted.1.weight ≡ 1)) }
     ensures turns { IfOk result (λ wanted. HasNoStranger (schedule_of wanted.0) wanted.1.procs) }
     ensures read { Reports (I.faults input.old) (I.faults input.new) (IsErrOf result Status.ReadFault) }
     ensures after { IsErrOf result Status.ReadFault → AskForCommand (map string_bytes words.now.items) }

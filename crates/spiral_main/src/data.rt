@@ -2,7 +2,6 @@
 ghost use Rattle.std.specs.Prelude.{◌≡◌, ◌-◌, ◌≤◌, []};
 ghost use Rattle.std.specs.Io.KnownBytes.{Appends, IsAtEnd};
 ghost use Rattle.matrix_meaning.specs.Valid.{IsInRange};
-ghost use Rattle.generate.specs.Planned.{IsPlain};
 ghost use Rattle.io_edge.specs.Faults.{Reports};
 ghost use Rattle.io_edge.specs.Feed.{to_come, limit};
 ghost use Rattle.spiral_main.specs.Stage.{status_of};
@@ -28,7 +27,7 @@ pub(crate) fn run<I: Source, O: Sink>(
     output: &mut O,
 ) -> Result<(), Status>
     requires in_range { IsInRange request.now }
-    requires plain { IsPlain request.now }
+    requires weight { request.now.weight ≡ 1 }
     requires turns { HasNoStranger schedule.now request.now.procs }
     requires within { feed.old.taken ≤ limit }
     ensures told { ToldPerforms (Command.Run schedule.now) request.now (limit - feed.old.taken) (to_come feed.old (I.left input.old))
@@ -61,7 +60,7 @@ pub(crate) fn trace<I: Source, O: Sink>(
     output: &mut O,
 ) -> Result<(), Status>
     requires in_range { IsInRange request.now }
-    requires plain { IsPlain request.now }
+    requires weight { request.now.weight ≡ 1 }
     requires turns { HasNoStranger schedule.now request.now.procs }
     requires within { feed.old.taken ≤ limit }
     ensures told { ToldPerforms (Command.Trace schedule.now) request.now (limit - feed.old.taken) (to_come feed.old (I.left input.old))

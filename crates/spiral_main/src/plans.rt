@@ -1,7 +1,7 @@
 // The texts of a request's plan: its lines, its formula and its certificate.
 ghost use Rattle.std.specs.Prelude.{◌≡◌, ◌++◌, ◌∷◌, [], Ok, IfOk, IfErr, OnOk};
 ghost use Rattle.matrix_meaning.specs.Valid.{IsInRange, IsValid};
-ghost use Rattle.generate.specs.Planned.{IsPlain, IsPlanned};
+ghost use Rattle.generate.specs.Planned.{IsPlanned};
 ghost use Rattle.tree_model.specs.Breakdown.{breakdown_of};
 ghost use Rattle.tree_model.specs.Cost.{cost_of};
 ghost use Rattle.spiral_main.specs.Outcome.{IsRefused, IsAffordable, IsPlanText, IsFormulaText, IsCertificate};
@@ -72,10 +72,9 @@ pub(crate) fn formula(alloc: Global, request: &Request) -> Result<Vec<u8>, Statu
 }
 
 /// The certificate of the tree's cost.
-#[tactic(auto, using(crate::proofs::PlanLemmas::plain_divides))]
+#[tactic(auto, using(crate::proofs::PlanLemmas::planned_divides))]
 pub(crate) fn certificate(alloc: Global, request: &Request) -> Result<Vec<u8>, Status>
     requires in_range { IsInRange request.now }
-    requires plain { IsPlain request.now }
     ensures affordable { OnOk result (IsAffordable request.now) }
     ensures text { IfOk result (λ text. IsCertificate request.now text.items) }
     ensures refused { IfErr result (λ status. IsDefined status → IsRefused request.now status) }

@@ -2,7 +2,6 @@
 ghost use Rattle.std.specs.Prelude.{◌≡◌, ◌≢◌, ◌-◌, ◌≤◌, ℕ, List, [], IfSome, IfNone, Ok, map, string_bytes, true, false};
 ghost use Rattle.std.specs.Io.KnownBytes.{Appends, IsAtEnd};
 ghost use Rattle.matrix_meaning.specs.Valid.{IsInRange};
-ghost use Rattle.generate.specs.Planned.{IsPlain};
 ghost use Rattle.io_edge.specs.Faults.{Reports};
 ghost use Rattle.io_edge.specs.Feed.{to_come, limit};
 ghost use Rattle.spiral_main.specs.Commands.{reads_rest, has_text, AskForRest, AskForCommand, schedule_of};
@@ -30,7 +29,7 @@ fn write_text<O: Sink>(
     output: &mut O,
 ) -> Result<(), Status>
     requires in_range { IsInRange request.now }
-    requires plain { IsPlain request.now }
+    requires weight { request.now.weight ≡ 1 }
     requires turns { HasNoStranger (schedule_of command.now) request.now.procs }
     requires textual { has_text command.now ≡ true }
     ensures told { (room : ℕ) (bytes : List ℕ) → Performs command.now request.now room bytes
@@ -54,7 +53,7 @@ fn perform<I: Source, O: Sink>(
     output: &mut O,
 ) -> Result<(), Status>
     requires in_range { IsInRange request.now }
-    requires plain { IsPlain request.now }
+    requires weight { request.now.weight ≡ 1 }
     requires turns { HasNoStranger (schedule_of command.now) request.now.procs }
     requires line { feed.old.taken ≤ 257 }
     ensures told { ToldPerforms command.now request.now (limit - feed.old.taken) (to_come feed.old (I.left input.old))

@@ -3,10 +3,9 @@ ghost use Rattle.std.specs.Prelude.{◌≡◌, ◌++◌, length, Ok, Err, IfOk, 
 ghost use Rattle.operators.specs.Sum.{sum_below};
 ghost use Rattle.matrix_meaning.specs.Valid.{IsInRange};
 ghost use Rattle.icode.specs.Machine.{counts_so_far};
-ghost use Rattle.generate.specs.Planned.{IsPlain};
 ghost use Rattle.request_text.specs.Turns.{next_state};
 ghost use Rattle.spiral_main.specs.Outcome.{IsRefused, IsAffordable, IsSampleText};
-ghost use Rattle.spiral_main.specs.Sample.{sample_vector, weighted_sum, sample_text};
+ghost use Rattle.spiral_main.specs.Sample.{sample_vector, weighted_sum, sample_text, AreCountable};
 ghost use Rattle.spiral_main.specs.Status.{IsDefined};
 ghost use Rattle.spiral_main.specs.Steps.{IsRefusal};
 ghost use Rattle.spiral_main.specs.Stream.{HasNoStranger};
@@ -56,14 +55,27 @@ fn weighted_sum(modulus: Modulus, vector: &[u64]) -> u64
     sum
 }
 
-// What the processors have executed together. There is one so far.
+// What the processors have executed together.
 fn all_counts(machine: &Machine) -> Counts
-    requires alone { machine.now.code.procs ≡ 1 }
+    requires { AreCountable machine.now.code machine.now.state }
     ensures operations { result.operations ≡ sum_below machine.now.code.procs (λ q. (counts_so_far machine.now.code machine.now.state q).operations) }
     ensures loads { result.loads ≡ sum_below machine.now.code.procs (λ q. (counts_so_far machine.now.code machine.now.state q).loads) }
     ensures stores { result.stores ≡ sum_below machine.now.code.procs (λ q. (counts_so_far machine.now.code machine.now.state q).stores) }
 {
-    machine.counts(0)
+    let mut operations = 0;
+    let mut loads = 0;
+    let mut stores = 0;
+    for proc in 0..machine.procs() {
+        let counts = machine.counts(proc);
+        operations += counts.operations;
+        loads += counts.loads;
+        stores += counts.stores;
+    }
+    Counts {
+        operations,
+        loads,
+        stores,
+    }
 }
 
 fn sample_text(alloc: Global, sum: u64, counts: &Counts) -> Result<Vec<u8>, NoMemory>
@@ -86,7 +98,7 @@ pub(crate) fn sample(
     schedule: &Schedule,
 ) -> Result<Vec<u8>, Status>
     requires in_range { IsInRange request.now }
-    requires plain { IsPlain request.now }
+    requires weight { request.now.weight ≡ 1 }
     requires turns { HasNoStranger schedule.now request.now.procs }
     ensures affordable { OnOk result (IsAffordable request.now) }
     ensures text { IfOk result (λ text. IsSampleText request.now seed text.items) }

@@ -283,6 +283,96 @@ fn note_row<E: Sink>(note: &mut E, size: u64, given: u64, found: u64) -> Result<
     )
 }
 
+// Writes that a size is no power of two.
+fn note_shape<E: Sink>(note: &mut E, size: u64) -> Result<(), WriteFault>
+    ensures bytes { WritesAll (E.taken note.old) (E.taken note.new) result (note_line (Status.Shape size)) }
+    ensures cause { HasCause (E.faults note.old) (E.faults note.new) result }
+{
+    note_number(
+        note,
+        b"spiral: wht size ",
+        size,
+        b" is not a power of two\n",
+    )
+}
+
+// Writes that the lanes do not divide the line.
+fn note_lanes_line<E: Sink>(note: &mut E, lanes: u64, line: u64) -> Result<(), WriteFault>
+    ensures bytes { WritesAll (E.taken note.old) (E.taken note.new) result (note_line (Status.LanesLine lanes line)) }
+    ensures cause { HasCause (E.faults note.old) (E.faults note.new) result }
+{
+    note_numbers(
+        note,
+        b"spiral: lanes ",
+        lanes,
+        b" do not divide line ",
+        line,
+        b"\n",
+    )
+}
+
+// Writes which processor of a schedule is none of so many.
+fn note_turn<E: Sink>(note: &mut E, q: u64, p: u64) -> Result<(), WriteFault>
+    ensures bytes { WritesAll (E.taken note.old) (E.taken note.new) result (note_line (Status.Turn q p)) }
+    ensures cause { HasCause (E.faults note.old) (E.faults note.new) result }
+{
+    note_numbers(note, b"spiral: turn names processor ", q, b" of ", p, b"\n")
+}
+
+// Writes what a root to the power of the size is.
+fn note_root<E: Sink>(note: &mut E, power: u64) -> Result<(), WriteFault>
+    ensures bytes { WritesAll (E.taken note.old) (E.taken note.new) result (note_line (Status.Root power)) }
+    ensures cause { HasCause (E.faults note.old) (E.faults note.new) result }
+{
+    note_number(note, b"spiral: root to the size is ", power, b", not 1\n")
+}
+
+// Writes that the least cost is over the budget.
+fn note_budget<E: Sink>(note: &mut E, cost: u64, budget: u64) -> Result<(), WriteFault>
+    ensures bytes { WritesAll (E.taken note.old) (E.taken note.new) result (note_line (Status.OverBudget cost budget)) }
+    ensures cause { HasCause (E.faults note.old) (E.faults note.new) result }
+{
+    note_numbers(
+        note,
+        b"spiral: least cost ",
+        cost,
+        b" is over budget ",
+        budget,
+        b"\n",
+    )
+}
+
+// Writes which token is no number.
+fn note_token<E: Sink>(note: &mut E, token: u64) -> Result<(), WriteFault>
+    ensures bytes { WritesAll (E.taken note.old) (E.taken note.new) result (note_line (Status.BadNumber token)) }
+    ensures cause { HasCause (E.faults note.old) (E.faults note.new) result }
+{
+    note_number(note, b"spiral: token ", token, b" is not a number\n")
+}
+
+// Writes how much of a vector the data hold.
+fn note_truncated<E: Sink>(note: &mut E, have: u64, need: u64) -> Result<(), WriteFault>
+    ensures bytes { WritesAll (E.taken note.old) (E.taken note.new) result (note_line (Status.Truncated have need)) }
+    ensures cause { HasCause (E.faults note.old) (E.faults note.new) result }
+{
+    note_numbers(
+        note,
+        b"spiral: input ends with ",
+        have,
+        b" of ",
+        need,
+        b" numbers\n",
+    )
+}
+
+// Writes how many bytes are too many.
+fn note_too_long<E: Sink>(note: &mut E, limit: u64) -> Result<(), WriteFault>
+    ensures bytes { WritesAll (E.taken note.old) (E.taken note.new) result (note_line (Status.TooLong limit)) }
+    ensures cause { HasCause (E.faults note.old) (E.faults note.new) result }
+{
+    note_number(note, b"spiral: more than ", limit, b" bytes\n")
+}
+
 /// Writes the line of a status.
 pub(crate) fn write_note<E: Sink>(note: &mut E, status: Status) -> Result<(), WriteFault>
     ensures bytes { WritesAll (E.taken note.old) (E.taken note.new) result (note_line status) }
@@ -296,60 +386,18 @@ pub(crate) fn write_note<E: Sink>(note: &mut E, status: Status) -> Result<(), Wr
         ),
         Status::Syntax { at } => note_number(note, b"spiral: syntax at byte ", at, b"\n"),
         Status::Range { field, value } => note_range(note, field, value),
-        Status::Shape { size } => {
-            note_number(
-                note,
-                b"spiral: wht size ",
-                size,
-                b" is not a power of two\n",
-            )
-        }
-        Status::LanesLine { lanes, line } => {
-            note_numbers(
-                note,
-                b"spiral: lanes ",
-                lanes,
-                b" do not divide line ",
-                line,
-                b"\n",
-            )
-        }
-        Status::Turn { q, p } => {
-            note_numbers(note, b"spiral: turn names processor ", q, b" of ", p, b"\n")
-        }
-        Status::Root { power } => {
-            note_number(note, b"spiral: root to the size is ", power, b", not 1\n")
-        }
-        Status::NoDivide => { write_all(note, b"spiral: no split fits procs, line and lanes\n") }
-        Status::OverBudget { cost, budget } => {
-            note_numbers(
-                note,
-                b"spiral: least cost ",
-                cost,
-                b" is over budget ",
-                budget,
-                b"\n",
-            )
-        }
-        Status::BadNumber { token } => {
-            note_number(note, b"spiral: token ", token, b" is not a number\n")
-        }
-        Status::Truncated { have, need } => {
-            note_numbers(
-                note,
-                b"spiral: input ends with ",
-                have,
-                b" of ",
-                need,
-                b" numbers\n",
-            )
-        }
+        Status::Shape { size } => note_shape(note, size),
+        Status::LanesLine { lanes, line } => note_lanes_line(note, lanes, line),
+        Status::Turn { q, p } => note_turn(note, q, p),
+        Status::Root { power } => note_root(note, power),
+        Status::NoDivide => write_all(note, b"spiral: no split fits procs, line and lanes\n"),
+        Status::OverBudget { cost, budget } => note_budget(note, cost, budget),
+        Status::BadNumber { token } => note_token(note, token),
+        Status::Truncated { have, need } => note_truncated(note, have, need),
         Status::ReadFault => write_all(note, b"spiral: read failed\n"),
         Status::WriteFault => write_all(note, b"spiral: write failed\n"),
         Status::NoMemory => write_all(note, b"spiral: out of memory\n"),
-        Status::TooLong { limit } => {
-            note_number(note, b"spiral: more than ", limit, b" bytes\n")
-        }
+        Status::TooLong { limit } => note_too_long(note, limit),
         Status::Unread => write_all(note, b"spiral: certificate unreadable\n"),
         Status::Wrong { size, given, found } => note_row(note, size, given, found),
     }

@@ -226,7 +226,7 @@ fn try_rows(rt: &impl Abort, alloc: Global, rows: &[Row]) -> Result<(), Fail> {
 // Results are computed by hand from the matrices and the rules, and by Python from the generator.
 #[test]
 fn worked_examples(rt: HostRuntime) -> Result<(), Fail> {
-    let rows: [Row; 21] = [
+    let rows: [Row; 25] = [
         ("spiral run", FOURIER, 0, RESULT, b""),
         ("spiral trace", PAIR, 0, PAIR_TRACE, b""),
         (
@@ -326,13 +326,41 @@ fn worked_examples(rt: HostRuntime) -> Result<(), Fail> {
             b"sum 3\noperations 26\nloads 6\nstores 6\n",
             b"",
         ),
+        (
+            "spiral run --schedule turns:1,1,1,0",
+            b"dft 4 mod 17 root 4 procs 2 line 1\n1 2 3 4",
+            0,
+            RESULT,
+            b"",
+        ),
+        (
+            "spiral plan",
+            b"dft 4 mod 17 root 4 procs 2 line 1\n",
+            0,
+            b"tree ct(leaf(2),leaf(2))\ncost 12\nphases 2\neach 6\n",
+            b"",
+        ),
+        (
+            "spiral run",
+            b"wht 4 mod 5 lanes 2\n1 2 3 4",
+            0,
+            b"0 3 1 0\n",
+            b"",
+        ),
+        (
+            "spiral sample --schedule seed:9:1000",
+            b"dft 16 mod 17 root 3 procs 2 line 2 lanes 2\n",
+            0,
+            b"sum 3\noperations 88\nloads 48\nstores 48\n",
+            b"",
+        ),
     ];
     try_rows(&rt, rt.alloc(), &rows)
 }
 
 #[test]
 fn refusals(rt: HostRuntime) -> Result<(), Fail> {
-    let rows: [Row; 13] = [
+    let rows: [Row; 17] = [
         ("spiral jump", FOURIER, 2, b"", USAGE),
         ("spiral run --seed 1", FOURIER, 2, b"", USAGE),
         (
@@ -405,6 +433,34 @@ fn refusals(rt: HostRuntime) -> Result<(), Fail> {
             13,
             b"",
             b"spiral: more than 256 bytes\n",
+        ),
+        (
+            "spiral run --schedule turns:1,2",
+            b"dft 4 mod 17 root 3 procs 2\n",
+            5,
+            b"",
+            b"spiral: turn names processor 2 of 2\n",
+        ),
+        (
+            "spiral code",
+            b"dft 144 mod 17 root 1 procs 2 line 3 lanes 2\n",
+            4,
+            b"",
+            b"spiral: lanes 2 do not divide line 3\n",
+        ),
+        (
+            "spiral formula",
+            b"dft 8 mod 17 root 2 procs 2 line 2\n",
+            7,
+            b"",
+            b"spiral: no split fits procs, line and lanes\n",
+        ),
+        (
+            "spiral check",
+            b"dft 6 mod 7 root 3 lanes 2\n{}",
+            7,
+            b"",
+            b"spiral: no split fits procs, line and lanes\n",
         ),
     ];
     try_rows(&rt, rt.alloc(), &rows)

@@ -5,7 +5,7 @@ ghost use Rattle.icode.specs.declared.program.Program.{Program as SpecProgram};
 ghost use Rattle.icode.specs.Program.{plain_program, code_of};
 ghost use Rattle.listing_text.specs.Listing.{listing_of};
 ghost use Rattle.generate.specs.Good.{IsGood, IsLean};
-ghost use Rattle.generate.specs.Planned.{IsPlain, IsPlanned};
+ghost use Rattle.generate.specs.Planned.{IsPlanned};
 ghost use Rattle.tree_model.specs.Breakdown.{breakdown_of};
 ghost use Rattle.tree_model.specs.Cost.{cost_of};
 ghost use Rattle.spiral_main.specs.Commands.{has_text, schedule_of};
@@ -28,7 +28,7 @@ use std::alloc::Global;
 // A good program for the request.
 fn good_product(alloc: Global, request: &Request) -> Result<Product, Status>
     requires in_range { IsInRange request.now }
-    requires plain { IsPlain request.now }
+    requires weight { request.now.weight ≡ 1 }
     ensures planned { IfOk result (λ product. IsPlanned request.now (Ok (breakdown_of product.plan.tree))) }
     ensures good { IfOk result (λ product. IsGood request.now (cost_of request.now (breakdown_of product.plan.tree)) product.program) }
     ensures lean { IfOk result (λ product. IsLean request.now (breakdown_of product.plan.tree) product.program) }
@@ -44,7 +44,7 @@ fn good_product(alloc: Global, request: &Request) -> Result<Product, Status>
 /// A machine with a good program for the request, and room for a vector.
 pub(crate) fn engine(alloc: Global, request: &Request) -> Result<(Machine, Vec<u64>), Status>
     requires in_range { IsInRange request.now }
-    requires plain { IsPlain request.now }
+    requires weight { request.now.weight ≡ 1 }
     ensures affordable { OnOk result (IsAffordable request.now) }
     ensures machine { IfOk result (λ made. IsGoodCode request.now made.0.code) }
     ensures room { IfOk result (λ made. vec_len made.1 ≡ made.0.code.size) }
@@ -64,7 +64,7 @@ pub(crate) fn traced_engine(
     request: &Request,
 ) -> Result<(Vec<u8>, Machine, Vec<u64>), Status>
     requires in_range { IsInRange request.now }
-    requires plain { IsPlain request.now }
+    requires weight { request.now.weight ≡ 1 }
     ensures program { IfOk result (λ made. (program : SpecProgram) × IsProgramFor request.now program
         × (made.0.items ≡ listing_of (plain_program program)) × (made.1.code ≡ code_of program)) }
     ensures room { IfOk result (λ made. vec_len made.2 ≡ made.1.code.size) }
@@ -82,7 +82,7 @@ pub(crate) fn traced_engine(
 // The listing of a good program for the request.
 fn listing(alloc: Global, request: &Request) -> Result<Vec<u8>, Status>
     requires in_range { IsInRange request.now }
-    requires plain { IsPlain request.now }
+    requires weight { request.now.weight ≡ 1 }
     ensures affordable { OnOk result (IsAffordable request.now) }
     ensures text { IfOk result (λ text. IsListing request.now text.items) }
     ensures refused { IfErr result (λ status. IsDefined status → IsRefused request.now status) }
@@ -96,7 +96,7 @@ fn listing(alloc: Global, request: &Request) -> Result<Vec<u8>, Status>
 // The C text of a good program for the request.
 fn c_text(alloc: Global, request: &Request) -> Result<Vec<u8>, Status>
     requires in_range { IsInRange request.now }
-    requires plain { IsPlain request.now }
+    requires weight { request.now.weight ≡ 1 }
     ensures affordable { OnOk result (IsAffordable request.now) }
     ensures text { IfOk result (λ text. IsCText request.now text.items) }
     ensures refused { IfErr result (λ status. IsDefined status → IsRefused request.now status) }
@@ -114,7 +114,7 @@ pub(crate) fn text_of(
     request: &Request,
 ) -> Result<Vec<u8>, Status>
     requires in_range { IsInRange request.now }
-    requires plain { IsPlain request.now }
+    requires weight { request.now.weight ≡ 1 }
     requires turns { HasNoStranger (schedule_of command.now) request.now.procs }
     requires textual { has_text command.now ≡ true }
     ensures affordable { OnOk result (IsAffordable request.now) }

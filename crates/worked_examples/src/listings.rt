@@ -272,15 +272,66 @@ end
 end
 ";
 
+// Two processors, each with every other word of a pass, and the twiddles behind the kernel, since the root is none.
+const SHARED: &str = "program size 4 mod 17 procs 2 line 1 lanes 1 regs 6
+table 0 values 1 1 1 4
+phase
+ld r0 X[0+q*1]
+ld r1 X[2+q*1]
+add r2 r0 r1
+sub r3 r0 r1
+mul r4 r2 t0[0+q*2] step 0
+st A[0+q*2] r4
+mul r5 r3 t0[1+q*2] step 0
+st A[1+q*2] r5
+end
+phase
+ld r0 A[0+q*1]
+ld r1 A[2+q*1]
+add r2 r0 r1
+sub r3 r0 r1
+st Y[0+q*1] r2
+st Y[2+q*1] r3
+end
+";
+
+// A pass of tiles between two passes of kernels.
+const LANES: &str = "program size 4 mod 17 procs 1 line 1 lanes 2 regs 6
+table 0 values 1 1 1 4
+phase
+ld r0 X[0]
+ld r1 X[2]
+add r2 r0 r1
+sub r3 r0 r1
+st A[0] r2
+st A[2] r3
+ld r0 A[0]
+ld r1 A[2]
+tile r2 r0
+mul r4 r2 t0[0] step 1
+st B[0] r4
+mul r5 r3 t0[2] step 1
+st B[2] r5
+ld r0 B[0]
+ld r1 B[2]
+add r2 r0 r1
+sub r3 r0 r1
+st Y[0] r2
+st Y[2] r3
+end
+";
+
 #[test]
 fn letter_for_letter(rt: HostRuntime) -> Result<(), Fail> {
-    let listings: [(&str, &str); 6] = [
+    let listings: [(&str, &str); 8] = [
         ("dft 2 mod 15 root 4\n", PAIR),
         ("dft 4 mod 17 root 4\n", QUAD),
         ("dft 9 mod 19 root 4 unroll 16\n", NINE_KERNEL),
         ("dft 9 mod 19 root 4 unroll 2\n", NINE_LEAVES),
         ("dft 30 mod 31 root 3 unroll 2\n", THIRTY),
         ("dft 15 mod 31 root 9\n", FIFTEEN),
+        ("dft 4 mod 17 root 4 procs 2 line 1\n", SHARED),
+        ("dft 4 mod 17 root 4 lanes 2\n", LANES),
     ];
     for (request, listing) in listings {
         let seen = call(rt.alloc(), "spiral code", request.as_bytes(), &AMPLE)?;

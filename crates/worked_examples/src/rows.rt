@@ -53,6 +53,48 @@ run; dft 4 mod 17 root 4/18446744073709551616; 9; -; token 1 is not a number
 run; dft 4 mod 17 root 4/1 99999999999999999999; 9; -; token 2 is not a number
 ";
 
+// Several processors and several lanes. The certificates that are no certificates are not read.
+const SPREAD: &str = "\
+run --schedule turns:1,1,1,0; dft 4 mod 17 root 4 procs 2 line 1/1 2 3 4/; 0; 10 7 15 6/; -
+run; dft 16 mod 17 root 3 procs 2 line 2 lanes 2/0 1 0 0 0 0 0 0 0 0 0 0 0 0 0 0/; 0; 1 3 9 10 13 5 15 11 16 14 8 7 4 12 2 6/; -
+run --schedule rr:3; dft 16 mod 17 root 3 procs 2 line 2/0 1 0 0 0 0 0 0 0 0 0 0 0 0 0 0/; 0; 1 3 9 10 13 5 15 11 16 14 8 7 4 12 2 6/; -
+run --schedule seed:9:1000; dft 16 mod 17 root 3 procs 2 line 2/0 1 0 0 0 0 0 0 0 0 0 0 0 0 0 0/; 0; 1 3 9 10 13 5 15 11 16 14 8 7 4 12 2 6/; -
+run; dft 4 mod 17 root 4 lanes 2/1 2 3 4/; 0; 10 7 15 6/; -
+run; wht 4 mod 5 lanes 2/1 2 3 4/; 0; 0 3 1 0/; -
+sample --schedule rr:3; dft 16 mod 17 root 3 procs 2 line 2/; 0; sum 3/operations 88/loads 32/stores 32/; -
+sample --schedule seed:9:1000; dft 16 mod 17 root 3 procs 2 line 2/; 0; sum 3/operations 88/loads 32/stores 32/; -
+sample; dft 16 mod 17 root 3 procs 2 line 2 lanes 2/; 0; sum 3/operations 88/loads 48/stores 48/; -
+sample --schedule turns:1,1,1,0; dft 4 mod 17 root 4 procs 2 line 1/; 0; sum 0/operations 12/loads 8/stores 8/; -
+sample --schedule rr:10; wht 1024 mod 65537 procs 16 line 2 lanes 2/; 0; sum 44731/operations 10240/loads 8192/stores 8192/; -
+plan; dft 4 mod 17 root 4 procs 2 line 1/; 0; tree ct(leaf(2),leaf(2))/cost 12/phases 2/each 6/; -
+plan; dft 4 mod 17 root 4 lanes 2/; 0; tree ct(leaf(2),leaf(2))/cost 12/phases 1/each 12/; -
+plan; wht 4 mod 5 lanes 2/; 0; tree split(leaf(2),leaf(2))/cost 8/phases 1/each 8/; -
+plan; dft 16 mod 17 root 3 procs 2 line 2/; 0; tree ct(ct(leaf(2),leaf(2)),ct(leaf(2),leaf(2)))/cost 88/phases 2/each 44/; -
+plan; dft 16 mod 17 root 3 procs 2 line 2 lanes 2/; 0; tree ct(ct(leaf(2),leaf(2)),ct(leaf(2),leaf(2)))/cost 88/phases 2/each 44/; -
+plan; wht 256 mod 17 procs 4 line 4 lanes 4/; 0; tree split(split(leaf(2),split(leaf(2),split(leaf(2),leaf(2)))),split(leaf(2),split(leaf(2),split(leaf(2),leaf(2)))))/cost 2048/phases 2/each 512/; -
+cert; dft 4 mod 17 root 4 procs 2 line 1/; 0; {\"rows\":[[2,2,\"leaf\",0,0],[4,12,\"ct\",2,2]],\"size\":4,\"version\":1}/; -
+formula; dft 4 mod 17 root 4 procs 2 line 1/; 0; TIMES(LEFT(DFT(2,16),2),TIMES(T(4,2,4),TIMES(RIGHT(2,DFT(2,16)),L(4,2))))/; -
+trace --schedule turns:1,1,1,1,1,1,1,1,1; dft 4 mod 17 root 4 procs 2 line 1/1 2 3 4/; 0; program size 4 mod 17 procs 2 line 1 lanes 1 regs 6/table 0 values 1 1 1 4/phase/ld r0 X[0+q*1]/ld r1 X[2+q*1]/add r2 r0 r1/sub r3 r0 r1/mul r4 r2 t0[0+q*2] step 0/st A[0+q*2] r4/mul r5 r3 t0[1+q*2] step 0/st A[1+q*2] r5/end/phase/ld r0 A[0+q*1]/ld r1 A[2+q*1]/add r2 r0 r1/sub r3 r0 r1/st Y[0+q*1] r2/st Y[2+q*1] r3/end/0 1 ld r0 1/1 1 ld r1 3/2 1 add r2 r0 r1/3 1 sub r3 r0 r1/4 1 mul r4 r2 1/5 1 st 10 r4/6 1 mul r5 r3 4/7 1 st 11 r5/8 1 waits/9 0 ld r0 0/10 0 ld r1 2/11 0 add r2 r0 r1/12 0 sub r3 r0 r1/13 0 mul r4 r2 1/14 0 st 8 r4/15 0 mul r5 r3 1/16 0 st 9 r5/17 0 ld r0 8/18 0 ld r1 10/19 0 add r2 r0 r1/20 0 sub r3 r0 r1/21 0 st 4 r2/22 0 st 6 r3/23 1 ld r0 9/24 1 ld r1 11/25 1 add r2 r0 r1/26 1 sub r3 r0 r1/27 1 st 5 r2/28 1 st 7 r3/10 7 15 6/; -
+trace; dft 4 mod 17 root 4 lanes 2/1 2 3 4/; 0; program size 4 mod 17 procs 1 line 1 lanes 2 regs 6/table 0 values 1 1 1 4/phase/ld r0 X[0]/ld r1 X[2]/add r2 r0 r1/sub r3 r0 r1/st A[0] r2/st A[2] r3/ld r0 A[0]/ld r1 A[2]/tile r2 r0/mul r4 r2 t0[0] step 1/st B[0] r4/mul r5 r3 t0[2] step 1/st B[2] r5/ld r0 B[0]/ld r1 B[2]/add r2 r0 r1/sub r3 r0 r1/st Y[0] r2/st Y[2] r3/end/0 0 ld r0 0/1 0 ld r1 2/2 0 add r2 r0 r1/3 0 sub r3 r0 r1/4 0 st 8 r2/5 0 st 10 r3/6 0 ld r0 8/7 0 ld r1 10/8 0 tile r2 r0/9 0 mul r4 r2 1,1/10 0 st 12 r4/11 0 mul r5 r3 1,4/12 0 st 14 r5/13 0 ld r0 12/14 0 ld r1 14/15 0 add r2 r0 r1/16 0 sub r3 r0 r1/17 0 st 4 r2/18 0 st 6 r3/10 7 15 6/; -
+run; dft 8 mod 17 root 2 procs 2 line 2/; 7; -; no split fits procs, line and lanes
+plan; dft 6 mod 7 root 3 lanes 2/; 7; -; no split fits procs, line and lanes
+code; dft 1 mod 2 root 1 procs 2/; 7; -; no split fits procs, line and lanes
+sample; dft 6 mod 7 root 3 procs 2/; 7; -; no split fits procs, line and lanes
+run; dft 4 mod 17 root 3 procs 2/; 6; -; root to the size is 13, not 1
+plan; dft 8 mod 17 root 3 procs 2 line 2/; 6; -; root to the size is 16, not 1
+plan; dft 4 mod 17 root 4 procs 2 line 1 budget 11/; 8; -; least cost 12 is over budget 11
+run --schedule turns:2; dft 4 mod 17 root 3 procs 2/; 5; -; turn names processor 2 of 2
+run; dft 144 mod 17 root 1 procs 2 line 3 lanes 2/; 4; -; lanes 2 do not divide line 3
+plan; dft 4 mod 17 root 4 procs 0/; 4; -; procs 0 is out of range
+code; dft 4 mod 17 root 4 procs 2 line 65/; 4; -; line 65 is out of range
+c; wht 4 mod 5 lanes 17/; 4; -; lanes 17 is out of range
+run; dft 4 mod 17 root 4 line 1 procs 2/; 3; -; syntax at byte 27
+check; dft 6 mod 7 root 3 lanes 2/x; 7; -; no split fits procs, line and lanes
+check; dft 8 mod 17 root 3 procs 2 line 2/x; 6; -; root to the size is 16, not 1
+check; dft 4 mod 17 root 4 procs 2 line 1/{\"rows\":[[2,2,\"leaf\",0,0],[4,12,\"ct\",2,2]],\"size\":4,\"version\":1}/; 0; least 12/; -
+check; dft 4 mod 17 root 4 procs 2 line 1/{\"rows\":[[2,2,\"leaf\",0,0],[4,9,\"ct\",2,2]],\"size\":4,\"version\":1}/; 14; -; certificate row 4 gives 9, found 12
+";
+
 // The field with its line ends.
 fn lines_of(alloc: Global, field: &str) -> Result<String, Fail> {
     if field == "-" {
@@ -101,6 +143,14 @@ fn answers(rt: HostRuntime) -> Result<(), Fail> {
         for row in rows.lines() {
             answers_as(&rt, alloc, row)?;
         }
+    }
+    Ok(())
+}
+
+#[test]
+fn answers_for_processors_and_lanes(rt: HostRuntime) -> Result<(), Fail> {
+    for row in SPREAD.lines() {
+        answers_as(&rt, rt.alloc(), row)?;
     }
     Ok(())
 }

@@ -220,6 +220,23 @@ wht 16 mod 1439038956852968080 unroll 6: 64 48 48
 wht 128 mod 813409916471997194 unroll 5: 896 768 768
 wht 2 mod 50 unroll 2: 2 2 2
 wht 1024 mod 1024: 10240 8192 8192
+dft 4 mod 17 root 4 procs 2 line 1: 12 8 8
+dft 4 mod 17 root 4 lanes 2: 12 12 12
+dft 16 mod 17 root 3 procs 2 line 2: 88 32 32
+dft 16 mod 17 root 3 procs 2 line 2 lanes 2: 88 48 48
+dft 36 mod 37 root 2 procs 2 line 3 unroll 2: 540 288 144
+dft 64 mod 193 root 125 lanes 8 unroll 2: 704 448 448
+dft 81 mod 163 root 38 procs 3 line 3 lanes 3: 891 405 405
+dft 144 mod 31 root 30 procs 3 line 4 unroll 3: 1584 864 864
+dft 225 mod 101 root 1 procs 3 line 5 unroll 2: 7425 3600 900
+dft 256 mod 257 root 3 procs 4 line 4 lanes 4: 3072 1280 1280
+wht 4 mod 5 lanes 2: 8 16 16
+wht 16 mod 10 procs 4: 64 32 32
+wht 64 mod 97 procs 2 line 4 lanes 4 unroll 2: 384 512 512
+wht 256 mod 4611686018427387903 procs 2 line 8 lanes 2: 2048 1536 1536
+dft 48 mod 97 root 25 procs 2 line 2 lanes 2 unroll 3: 496 288 288
+dft 100 mod 101 root 2 procs 5 line 2: 1740 400 400
+wht 1024 mod 1024 procs 16 line 2 lanes 2 unroll 4: 10240 10240 10240
 ";
 
 // The first `size` states of the generator behind the seed, as residues.

@@ -2,7 +2,6 @@
 
 ghost use Rattle.std.specs.Prelude.{◌≡◌, ◌<◌, All, IfOk, length};
 ghost use Rattle.matrix_meaning.specs.Valid.{IsInRange};
-ghost use Rattle.generate.specs.Planned.{IsPlain};
 ghost use Rattle.spl_ast.specs.Nesting.{IsPrintable};
 
 use breakdown::expand;
@@ -15,13 +14,14 @@ use ring_mod::Modulus;
 use spl_ast::Spl;
 use spl_text::{print_spl, read_spl};
 use std::alloc::Global;
+use std::process::Abort;
 use std::test::Fail;
 use tree_model::Ctx;
 
 // The request of the line.
 fn request_of(line: &[u8]) -> Result<Request, Fail>
     ensures in_range { IfOk result IsInRange }
-    ensures plain { IfOk result IsPlain }
+    ensures weight { IfOk result (λ request. request.weight ≡ 1) }
 {
     match read_request(line) {
         Ok(request) => Ok(request),
@@ -69,7 +69,7 @@ fn by_text(alloc: Global, request: &Request, x: &[u64]) -> Result<Vec<u64>, Fail
 // What a run of the generated program leaves.
 fn by_machine(alloc: Global, request: &Request, x: &[u64]) -> Result<Vec<u64>, Fail>
     requires in_range { IsInRange request.now }
-    requires plain { IsPlain request.now }
+    requires weight { request.now.weight ≡ 1 }
     requires size { length x.now ≡ request.now.size }
     requires residues { All (λ v. v < request.now.modulus) x.now }
 {
@@ -86,18 +86,30 @@ fn by_machine(alloc: Global, request: &Request, x: &[u64]) -> Result<Vec<u64>, F
 }
 
 // The transform modulo 17 with the root 4, by its formula, by the text of its formula, and on the machine.
-#[test]
-fn ways_agree(rt: HostRuntime) -> Result<(), Fail> {
-    let alloc = rt.alloc();
+fn agree(rt: &impl Abort, alloc: Global, line: &[u8]) -> Result<(), Fail> {
     let x = [1, 2, 3, 4];
     let wanted = [10, 7, 15, 6].as_slice();
-    let request = request_of(b"dft 4 mod 17 root 4")?;
+    let request = request_of(line)?;
     if request.size != 4 || request.modulus != 17 {
         Err("the size 4 and the modulus 17")?
     }
     assert_eq!(rt; by_formula(alloc, &request, &x)?.as_slice(), wanted);
     assert_eq!(rt; by_text(alloc, &request, &x)?.as_slice(), wanted);
     assert_eq!(rt; by_machine(alloc, &request, &x)?.as_slice(), wanted);
+    Ok(())
+}
+
+#[test]
+fn ways_agree(rt: HostRuntime) -> Result<(), Fail> {
+    let lines: [&[u8]; 4] = [
+        b"dft 4 mod 17 root 4",
+        b"dft 4 mod 17 root 4 procs 2 line 1",
+        b"dft 4 mod 17 root 4 lanes 2",
+        b"dft 4 mod 17 root 4 procs 2 unroll 4 budget 12",
+    ];
+    for line in lines {
+        agree(&rt, rt.alloc(), line)?;
+    }
     Ok(())
 }
 

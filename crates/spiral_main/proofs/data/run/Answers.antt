@@ -1,8 +1,9 @@
-use Rattle.std.proofs.Common.{Ok, Err}
+use Rattle.std.proofs.Common.{◌-◌, Ok, Err}
 use Rattle.std.proofs.lemmas.Result.{err_from_is_err_and}
 use Rattle.request_text.specs.Turns.{turns_of}
-use Rattle.io_edge.specs.Feed.{to_come}
-use Rattle.spiral_main.proofs.OutcomeLemmas.{performs_run, fault_success, fault_has_memory, reports_read, reports_write}
+use Rattle.io_edge.specs.Feed.{to_come, limit}
+use Rattle.spiral_words.specs.declared.Command.TheVariants as command
+use Rattle.spiral_main.proofs.OutcomeLemmas.{told_refused, performs_run, fault_success, fault_has_memory, reports_read, reports_write}
 use Rattle.spiral_main.proofs.RunLemmas.{good_turns}
 use Rattle.spiral_main.proofs.data.run.Goals as goal
 
@@ -51,3 +52,9 @@ returns-clause-told g c =
 
 pub returns-clause-end : goal.returns-clause-end
 returns-clause-end g c = λ _. c.in_ok-run_stream.ensures.streams.answer.1
+
+pub returns-in_err-machine-clause-told : goal.returns-in_err-machine-clause-told
+returns-in_err-machine-clause-told g c =
+    let p = err_from_is_err_and c.from_residual.result c.from_residual.ensures.1 in
+    rw (p.1, p.2) (told_refused (command.Run c.args.schedule.now) c.args.request.now (limit - c.args.feed.now.taken) (to_come c.args.feed.now (g.I.Source.left c.args.input.now)) (g.O.Sink.taken c.args.output.now)
+    c.in_err-machine.field-0.0 c.in_err-machine.ensures.refused c.in_err-machine.ensures.refusal)

@@ -1,7 +1,8 @@
 use Rattle.std.proofs.Common.{◌-◌, Ok, Err}
 use Rattle.std.proofs.lemmas.Result.{err_from_is_err_and}
 use Rattle.io_edge.specs.Feed.{to_come, limit}
-use Rattle.spiral_main.proofs.OutcomeLemmas.{performs_trace, listing_cut, traced_stranger, fault_success, fault_has_memory, reports_read, reports_write, reports_after}
+use Rattle.spiral_words.specs.declared.Command.TheVariants as command
+use Rattle.spiral_main.proofs.OutcomeLemmas.{told_refused, performs_trace, listing_cut, traced_stranger, fault_success, fault_has_memory, reports_read, reports_write, reports_after, reports_unread, reports_unwritten}
 use Rattle.spiral_main.proofs.data.trace.Goals as goal
 
 pub run_stream-requires-clause-no_stranger : goal.run_stream-requires-clause-no_stranger
@@ -60,3 +61,21 @@ returns-clause-told g c =
 
 pub returns-clause-end : goal.returns-clause-end
 returns-clause-end g c = λ _. c.in_ok-run_stream.ensures.streams.answer.1
+
+pub returns-in_err-listing-clause-told : goal.returns-in_err-listing-clause-told
+returns-in_err-listing-clause-told g c =
+    let p = err_from_is_err_and c.from_residual.result c.from_residual.ensures.1 in
+    rw (p.1, p.2) (told_refused (command.Trace c.args.schedule.now) c.args.request.now (limit - c.args.feed.now.taken) (to_come c.args.feed.now (g.I.Source.left c.args.input.now)) (g.O.Sink.taken c.args.output.now)
+    c.in_err-listing.field-0.0 c.in_err-listing.ensures.refused c.in_err-listing.ensures.refusal)
+
+pub returns-in_err-write_all-clause-read : goal.returns-in_err-write_all-clause-read
+returns-in_err-write_all-clause-read g c =
+    let p = err_from_is_err_and c.from_residual-in_err-write_all.result c.from_residual-in_err-write_all.ensures.1 in
+    rw (p.1, p.2) (reports_unread (g.I.Source.faults c.args.input.now))
+
+pub returns-in_err-write_all-clause-write : goal.returns-in_err-write_all-clause-write
+returns-in_err-write_all-clause-write g c =
+    let faults = g.O.Sink.faults in
+    let p = err_from_is_err_and c.from_residual-in_err-write_all.result c.from_residual-in_err-write_all.ensures.1 in
+    let cause = c.in_err-write_all.ensures.cause in
+    rw (p.1, p.2) (reports_unwritten (faults c.args.output.now) (faults c.write_all.new.sink) cause.later cause.err)
