@@ -3,7 +3,7 @@ comparison is of the status, the output and the note. The last line counts them.
 
 import subprocess
 import sys
-from math import gcd
+from math import gcd, lcm
 
 from emission import Emitter, actions, loads_and_stores, run
 from reference import answer, vectors
@@ -59,6 +59,7 @@ dft 36 mod 37 root 2 procs 2 line 3 unroll 2
 dft 64 mod 193 root 125 lanes 8 unroll 2
 dft 81 mod 163 root 38 procs 3 line 3 lanes 3
 dft 144 mod 31 root 30 procs 3 line 4 unroll 3
+dft 144 mod 17 root 1 procs 2 line 3 lanes 2
 dft 225 mod 101 root 1 procs 3 line 5 unroll 2
 dft 256 mod 257 root 3 procs 4 line 4 lanes 4
 wht 4 mod 5 lanes 2
@@ -133,6 +134,27 @@ def hadamard(numbers):
     return f"wht {2**numbers.below(9)} mod {modulus} unroll {numbers.one_of(UNROLLS)}"
 
 
+def spread(numbers):
+    """A request for processors and lanes, whose size is a product of two sizes that fit them."""
+    while True:
+        procs, line = numbers.one_of([1, 2, 2, 3, 4]), numbers.one_of([1, 1, 2, 3, 4])
+        lanes = numbers.one_of([v for v in (1, 2, 3, 4) if procs == 1 or line % v == 0])
+        part = lcm(procs * line if procs > 1 else 1, lanes)
+        r, s = part * (1 + numbers.below(4)), part * (1 + numbers.below(4))
+        if r == 1 or s == 1 or r * s > 256:
+            continue
+        modulus, element = numbers.one_of(RICH)
+        root = pow(element, (modulus - 1) // gcd(r * s, modulus - 1), modulus)
+        is_power = r & (r - 1) == 0 == s & (s - 1)
+        first = f"wht {r * s} mod {modulus}" if is_power and numbers.below(2) else f"dft {r * s} mod {modulus} root {root}"
+        return f"{first} procs {procs} line {line} lanes {lanes} unroll {numbers.one_of(UNROLLS)}"
+
+
+def spread_requests():
+    numbers = Numbers(5)
+    return SPREAD.split("\n")[1:-1] + [spread(numbers) for _ in range(40)]
+
+
 def requests():
     numbers = Numbers(7)
     makers = [any_root] * 120 + [rich_root] * 100 + [power_of_two] * 20 + [hadamard] * 30
@@ -160,13 +182,6 @@ class Sweep:
             pairs = zip(mine.splitlines() + ["(end)"], other.splitlines() + ["(end)"])
             for pair in [pair for pair in pairs if pair[0] != pair[1]][:1]:
                 print("  wanted {}\n  got    {}".format(*pair))
-
-    def is_there(self, command, line, missing, what):
-        """Whether the program knows the command and the line, by a status that is not that of what is missing."""
-        is_there = self.call(command, line)[0] != missing
-        if not is_there:
-            print(f"skipped: {what} not there")
-        return is_there
 
 
 def wanted(command, line, data=(), seed=0):
@@ -219,7 +234,7 @@ def agrees_with_itself(request, cost, tree, data):
         assert request.lanes * (len(words) - loads - stores - others) == cost
 
 
-def swept(sweep, line, numbers, has_check, has_trace):
+def swept(sweep, line, numbers):
     """All commands of a request. What the reference itself says of it is asked to agree first."""
     request = read_request(line)
     data, text = data_of(line, numbers)
@@ -227,28 +242,24 @@ def swept(sweep, line, numbers, has_check, has_trace):
     for command in ("plan", "formula", "cert", "code", "c"):
         sweep.compare(command, line, wanted(command, line))
     sweep.compare(f"sample --seed {seed}", line, wanted("sample", line, seed=seed))
-    sweep.compare("run", f"{line}\n{text}", wanted("run", line, data))
+    for schedule in ("", " --schedule rr:3", f" --schedule seed:{seed}:1000"):
+        sweep.compare(f"run{schedule}", f"{line}\n{text}", wanted("run", line, data))
     try:
         cost, tree = admitted(request)
     except Refused:
         return
     agrees_with_itself(request, cost, tree, data)
     budgets(sweep, line, cost)
-    if has_check:
-        checks(sweep, line, numbers)
-    if has_trace and cost < 1500:
+    checks(sweep, line, numbers)
+    if cost < 1500:
         sweep.compare("trace", f"{line}\n{text}", wanted("trace", line, data))
 
 
 def main():
     sweep = Sweep(sys.argv[1])
-    one = "dft 1 mod 2 root 1\n"
-    has_check = sweep.is_there("check", one, 2, "the command check is")
-    has_trace = sweep.is_there("trace", one, 2, "the command trace is")
-    is_spread = sweep.is_there("plan", "wht 4 mod 5 procs 2 lanes 1\n", 3, "the words procs, line and lanes are")
     numbers = Numbers(11)
-    for line in requests() + (SPREAD.split("\n")[1:-1] if is_spread else []):
-        swept(sweep, line, numbers, has_check, has_trace)
+    for line in requests() + spread_requests():
+        swept(sweep, line, numbers)
     for line in LARGE:
         for command in ("plan", "formula", "cert", "code"):
             sweep.compare(command, line, wanted(command, line))

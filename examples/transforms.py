@@ -159,6 +159,8 @@ def every_tree(request, d):
 
 def admitted(request):
     """The least cost and the chosen tree of a request that is done."""
+    if request.procs > 1 and request.line % request.lanes:
+        raise Refused(4, f"lanes {request.lanes} do not divide line {request.line}")
     power = pow(request.root, request.size, request.modulus)
     if request.kind == "dft" and power != 1:
         raise Refused(6, f"root to the size is {power}, not 1")
