@@ -10,8 +10,9 @@ pub record Cut : Type 0 where
   pub done : ℕ
   pub ended : Bool
 
--- Vectors that began at this feed's source, and no call has answered a fault or the end. A new one is, on a feed within its limit
+-- Vectors that began at this feed's source, and no call has answered a fault or the end. A new one is, on every feed
 pub record IsReady (vectors : Cut) (feed : Fed) (left : Option (List ℕ)) : Type 0 where
-  pub within : feed.taken ≤ limit
+  pub few : vectors.done ≤ limit
   pub counted : vectors.done ≤ feed.taken
+  pub within : vectors.ended ≡ true → feed.taken ≤ limit
   pub end : vectors.ended ≡ true → IsAtEnd left

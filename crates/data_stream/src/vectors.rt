@@ -77,7 +77,7 @@ impl Vectors {
         feed: &mut Feed,
         source: &mut S,
     ) -> Result<Option<u64>, TokenFault>
-        requires within { feed.old.taken ≤ limit }
+        requires within { self.old.ended ≡ true → feed.old.taken ≤ limit }
         requires end { self.old.ended ≡ true → IsAtEnd (to_come feed.old (S.left source.old)) }
 
         ensures answer { (read : List ℕ) × Consumes (to_come feed.old (S.left source.old)) (to_come feed.new (S.left source.new)) read
@@ -86,6 +86,7 @@ impl Vectors {
         ensures end { self.new.ended ≡ true → IsAtEnd (to_come feed.new (S.left source.new)) }
         ensures within { result ≢ Err TokenFault.TooLong → feed.new.taken ≤ limit }
         ensures same { self.new ≡ record self.old { ended = self.new.ended } }
+        ensures empty { IsErrOf result TokenFault.ReadFault → feed.new.held ≡ [] }
         ensures cause { Reports (S.faults source.old) (S.faults source.new) (IsErrOf result TokenFault.ReadFault) }
     {
         if self.ended {
@@ -108,7 +109,8 @@ impl Vectors {
         Ok(Some(token.value))
     }
 
-    /// The next vector, its numbers reduced, or the end of the data. After a fault or the end there is none.
+    /// The next vector, its numbers reduced, or the end of the data. After a fault or the end there is none. A feed that
+    /// has gone over its limit gives `TooLong`.
     pub fn next<S: Source>(
         &mut self,
         modulus: &Modulus,
@@ -129,6 +131,7 @@ impl Vectors {
         ensures once { self.old.ended ≡ true → (result ≡ Ok Next.End) × (self.new.ended ≡ true) }
         ensures size { self.new.size ≡ self.old.size }
         ensures done { result ≡ Ok Next.Vector → self.new.done ≡ self.old.done + self.old.size }
+        ensures empty { IsErrOf result DataFault.ReadFault → feed.new.held ≡ [] }
         ensures cause { Reports (S.faults source.old) (S.faults source.new) (IsErrOf result DataFault.ReadFault) }
     {
         for place in 0..vector.len() {

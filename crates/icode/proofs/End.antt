@@ -101,7 +101,7 @@ follows_rest code phase m0 r0 q apart lt (a ∷ rest) front m r done e n f =
     (follows_rest code phase m0 r0 q apart lt rest (front ++ a ∷ []) after.memory r1 done1 e1 n1 f1)
 
 -- a phase begins
-slice_index-zeros : (n q : ℕ) → slice_index (replicate n 0) q ≡ 0
+pub slice_index-zeros : (n q : ℕ) → slice_index (replicate n 0) q ≡ 0
 slice_index-zeros n q = ⊎_elim (λ (lt : q < n). get_or-replicate n q 0 0 lt) (λ (ge : n ≤ q). get_or_past (replicate n 0) q 0 (omega (arith, length-replicate {A = ℕ} n 0))) (cases_lt q n)
 
 pub none_done-zero : (code : Code) (q : ℕ) → slice_index (none_done code) q ≡ 0

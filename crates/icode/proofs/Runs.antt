@@ -70,13 +70,13 @@ pub first_open-closed : (code : Code) (n phase : ℕ) → is_open code phase (no
 first_open-closed code n phase e = ap (λ b. cond b phase (first_open code n (phase + 1))) e
 
 -- it lies within the phases, is open unless it is past them, and what comes before changes nothing
-record IsFirst (code : Code) (n phase first : ℕ) : Type 0 where
-  low : phase ≤ first
-  high : first ≤ n + phase
-  opens : first < n + phase → is_open code first (none_done code) ≡ true
-  skips : (w : Whole) → length w.registers ≡ code.procs → phases_alone code n phase w ≡ phases_alone code (n + phase - first) first w
+pub record IsFirst (code : Code) (n phase first : ℕ) : Type 0 where
+  pub low : phase ≤ first
+  pub high : first ≤ n + phase
+  pub opens : first < n + phase → is_open code first (none_done code) ≡ true
+  pub skips : (w : Whole) → length w.registers ≡ code.procs → phases_alone code n phase w ≡ phases_alone code (n + phase - first) first w
 
-first_is : (code : Code) → IsCode code → ((phase : ℕ) → IsApart code phase) → (n phase : ℕ) → IsFirst code n phase (first_open code n phase)
+pub first_is : (code : Code) → IsCode code → ((phase : ℕ) → IsApart code phase) → (n phase : ℕ) → IsFirst code n phase (first_open code n phase)
 first_is code is apart zero phase =
     let e : 0 + phase - phase ≡ 0 = omega arith in
     record { low = le_refl phase; high = omega arith; opens = λ h. absurd (omega arith); skips = λ w files. ap (λ k. phases_alone code k phase w) (sym e) }
@@ -102,19 +102,36 @@ first_is code is apart (suc n) phase =
 
 -- The phase began with `base`, whatever came before, and the phases from this one on lead from there
 -- to the result.
-record IsOnTheWay (code : Code) (result : Whole) (s : State) : Type 0 where
-  base : Whole
-  files : length base.registers ≡ code.procs
-  follows : IsFollowed code s.phase base.memory base.registers s.memory s.registers s.done
-  within : s.phase ≤ length code.lists
-  leads : phases_alone code (length code.lists - s.phase) s.phase base ≡ result
+pub record IsOnTheWay (code : Code) (result : Whole) (s : State) : Type 0 where
+  pub base : Whole
+  pub files : length base.registers ≡ code.procs
+  pub follows : IsFollowed code s.phase base.memory base.registers s.memory s.registers s.done
+  pub within : s.phase ≤ length code.lists
+  pub leads : phases_alone code (length code.lists - s.phase) s.phase base ≡ result
 
 -- a phase is open unless all are over
-record IsSettled (code : Code) (s : State) : Type 0 where
-  opens : s.phase < length code.lists → is_open code s.phase s.done ≡ true
+pub record IsSettled (code : Code) (s : State) : Type 0 where
+  pub opens : s.phase < length code.lists → is_open code s.phase s.done ≡ true
+
+-- who has an action left is a processor, in a phase of the code
+pub has_action : (code : Code) → IsCode code → (phase q n : ℕ) (a : Action) → slice_get (acts code phase q) n ≡ Some a → (q < code.procs) × (phase < length code.lists)
+has_action code is phase q n a e =
+    let none : (actions : List Action) → actions ≡ [] → slice_get actions n ≡ Some a → ⊥ = λ actions z h. none_of actions n a z h in (
+      ⊎_elim (λ (lt : q < code.procs). lt) (λ (ge : code.procs ≤ q). absurd (none (acts code phase q) (acts_past code is phase q ge) e)) (cases_lt q code.procs),
+      ⊎_elim (λ (lt : phase < length code.lists). lt) (λ (ge : length code.lists ≤ phase). absurd (none (acts code phase q) (ap (λ lists. slice_index_or lists q []) (get_or_past code.lists phase [] ge)) e)) (cases_lt phase (length code.lists)),
+    )
+  where
+    none_of : (actions : List Action) (n : ℕ) (a : Action) → actions ≡ [] → slice_get actions n ≡ Some a → ⊥
+    none_of [] n a z h = cc
+    none_of (x ∷ actions) n a z h = cc
+
+pub none_left : (actions : List Action) (n : ℕ) → slice_get actions n ≡ None → length actions ≤ n
+none_left [] n e = omega arith
+none_left (a ∷ actions) zero e = cc
+none_left (a ∷ actions) (suc n) e = suc-le-suc (none_left actions n e)
 
 module _ (code : Code) (is : IsCode code) (apart : (phase : ℕ) → IsApart code phase) where
-  next_state : State → State
+  pub next_state : State → State
   next_state s =
       record {
         memory = s.memory;
@@ -123,11 +140,11 @@ module _ (code : Code) (is : IsCode code) (apart : (phase : ℕ) → IsApart cod
         done = none_done code;
       }
 
-  moved_on-open : (s : State) → is_open code s.phase s.done ≡ true → moved_on code s ≡ s
+  pub moved_on-open : (s : State) → is_open code s.phase s.done ≡ true → moved_on code s ≡ s
   unfolding next_state
   moved_on-open s e = ap (λ b. cond b s (next_state s)) e
 
-  moved_on-closed : (s : State) → is_open code s.phase s.done ≡ false → moved_on code s ≡ next_state s
+  pub moved_on-closed : (s : State) → is_open code s.phase s.done ≡ false → moved_on code s ≡ next_state s
   unfolding next_state
   moved_on-closed s e = ap (λ b. cond b s (next_state s)) e
 
@@ -152,14 +169,14 @@ module _ (code : Code) (is : IsCode code) (apart : (phase : ℕ) → IsApart cod
             ∙ (ap (λ k. phases_alone code k s.phase g.base) (sym more) ∙ g.leads)));
       }
 
-  moved_on_the_way : (result : Whole) (s : State) → s.phase < length code.lists → IsOnTheWay code result s → IsOnTheWay code result (moved_on code s)
+  pub moved_on_the_way : (result : Whole) (s : State) → s.phase < length code.lists → IsOnTheWay code result s → IsOnTheWay code result (moved_on code s)
   moved_on_the_way result s lt g =
       ⊎_elim
       (λ (e : is_open code s.phase s.done ≡ true). subst (IsOnTheWay code result) (sym (moved_on-open s e)) g)
       (λ (e : is_open code s.phase s.done ≡ false). subst (IsOnTheWay code result) (sym (moved_on-closed s e)) (next_on_the_way result s lt e g))
       (cases_Bool (is_open code s.phase s.done))
 
-  moved_on_settled : (s : State) → s.phase < length code.lists → IsSettled code (moved_on code s)
+  pub moved_on_settled : (s : State) → s.phase < length code.lists → IsSettled code (moved_on code s)
   unfolding next_state
   moved_on_settled s lt =
       ⊎_elim
@@ -180,25 +197,13 @@ module _ (code : Code) (is : IsCode code) (apart : (phase : ℕ) → IsApart cod
   unfolding next_state
   next_later s = omega (arith, (first_is code is apart (phases_after code s.phase) (s.phase + 1)).low)
 
-  -- who has an action left is a processor, in a phase of the code
-  has_action : (phase q n : ℕ) (a : Action) → slice_get (acts code phase q) n ≡ Some a → (q < code.procs) × (phase < length code.lists)
-  has_action phase q n a e =
-      let none : (actions : List Action) → actions ≡ [] → slice_get actions n ≡ Some a → ⊥ = λ actions z h. none_of actions n a z h in (
-        ⊎_elim (λ (lt : q < code.procs). lt) (λ (ge : code.procs ≤ q). absurd (none (acts code phase q) (acts_past code is phase q ge) e)) (cases_lt q code.procs),
-        ⊎_elim (λ (lt : phase < length code.lists). lt) (λ (ge : length code.lists ≤ phase). absurd (none (acts code phase q) (ap (λ lists. slice_index_or lists q []) (get_or_past code.lists phase [] ge)) e)) (cases_lt phase (length code.lists)),
-      )
-    where
-      none_of : (actions : List Action) (n : ℕ) (a : Action) → actions ≡ [] → slice_get actions n ≡ Some a → ⊥
-      none_of [] n a z h = cc
-      none_of (x ∷ actions) n a z h = cc
-
   turn_on_the_way : (result : Whole) (s : State) (q : ℕ) → IsOnTheWay code result s → IsOnTheWay code result (turn code s q)
   turn_on_the_way result s q g = with_action (next_action code s q) refl
     where
       with_action : (o : Option Action) → next_action code s q ≡ o → IsOnTheWay code result (turn_with code q s o)
       with_action None e = g
       with_action (Some a) e =
-          let h = has_action s.phase q (slice_index s.done q) a e in
+          let h = has_action code is s.phase q (slice_index s.done q) a e in
           moved_on_the_way result (acted code q a s) h.1
           (record {
             base = g.base;
@@ -213,7 +218,7 @@ module _ (code : Code) (is : IsCode code) (apart : (phase : ℕ) → IsApart cod
     where
       with_action : (o : Option Action) → next_action code s q ≡ o → IsSettled code (turn_with code q s o)
       with_action None e = g
-      with_action (Some a) e = moved_on_settled (acted code q a s) (has_action s.phase q (slice_index s.done q) a e).1
+      with_action (Some a) e = moved_on_settled (acted code q a s) (has_action code is s.phase q (slice_index s.done q) a e).1
 
   turn_later : (s : State) (q : ℕ) → s.phase ≤ (turn code s q).phase
   turn_later s q = with_action (next_action code s q)
@@ -239,13 +244,13 @@ module _ (code : Code) (is : IsCode code) (apart : (phase : ℕ) → IsApart cod
   run-append (q ∷ xs) ys s = run-append xs ys (turn code s q)
 
   -- where it ends
-  at_end : (result : Whole) (s : State) → length code.lists ≤ s.phase → IsOnTheWay code result s → s.memory ≡ result.memory
+  pub at_end : (result : Whole) (s : State) → length code.lists ≤ s.phase → IsOnTheWay code result s → s.memory ≡ result.memory
   at_end result s ge g =
       let none : length code.lists - s.phase ≡ 0 = omega arith in
       same_memory code s.phase g.base.memory g.base.registers s.memory g.base.memory s.registers g.base.registers s.done (none_done code) is (past_over code s.phase s.done ge) (past_over code s.phase (none_done code) ge) g.follows (followed_at_first code s.phase g.base.memory g.base.registers g.files)
       ∙ ap (λ (w : Whole). w.memory) (ap (λ k. phases_alone code k s.phase g.base) (sym none) ∙ g.leads)
 
-  starts_on_the_way : (x : List ℕ) → IsOnTheWay code (in_order code x) (start code x)
+  pub starts_on_the_way : (x : List ℕ) → IsOnTheWay code (in_order code x) (start code x)
   starts_on_the_way x =
       let w : Whole = record { memory = (start code x).memory; registers = (start code x).registers } in
       let first = first_is code is apart (length code.lists) 0 in
@@ -259,7 +264,7 @@ module _ (code : Code) (is : IsCode code) (apart : (phase : ℕ) → IsApart cod
         leads = sym (first.skips w files ∙ ap (λ k. phases_alone code (k - first_open code (length code.lists) 0) (first_open code (length code.lists) 0) w) all);
       }
 
-  starts_settled : (x : List ℕ) → IsSettled code (start code x)
+  pub starts_settled : (x : List ℕ) → IsSettled code (start code x)
   starts_settled x = record { opens = λ h. (first_is code is apart (length code.lists) 0).opens (omega arith) }
 
   -- The completion ends it
@@ -299,11 +304,6 @@ module _ (code : Code) (is : IsCode code) (apart : (phase : ℕ) → IsApart cod
   record HasEnough (s : State) (phase : ℕ) (turns : List ℕ) : Type 0 where
     each : (q : ℕ) → length (acts code phase q) ≤ slice_index s.done q + turns_of q turns
 
-  none_left : (actions : List Action) (n : ℕ) → slice_get actions n ≡ None → length actions ≤ n
-  none_left [] n e = omega arith
-  none_left (a ∷ actions) zero e = cc
-  none_left (a ∷ actions) (suc n) e = suc-le-suc (none_left actions n e)
-
   same_turn : (p q : ℕ) → p ≡ q → one_if (nat_eq p q) ≡ 1
   same_turn p q e = ap one_if (eq-eqb p q e)
 
@@ -335,7 +335,7 @@ module _ (code : Code) (is : IsCode code) (apart : (phase : ℕ) → IsApart cod
           ⊎_elim
           (λ (open_still : is_open code s.phase (acted code p a s).done ≡ true).
           subst (λ (t : State). (s.phase < t.phase) ⊎ ((t.phase ≡ s.phase) × HasEnough t s.phase turns)) (sym (moved_on-open (acted code p a s) open_still))
-          (inr (refl, acted_enough a (has_action s.phase p (slice_index s.done p) a e).0)))
+          (inr (refl, acted_enough a (has_action code is s.phase p (slice_index s.done p) a e).0)))
           (λ (closed : is_open code s.phase (acted code p a s).done ≡ false).
           inl (omega (arith, ap (λ (t : State). t.phase) (moved_on-closed (acted code p a s) closed), next_later (acted code p a s))))
           (cases_Bool (is_open code s.phase (acted code p a s).done))

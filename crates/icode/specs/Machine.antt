@@ -5,6 +5,8 @@ use Rattle.ring_mod.specs.Residue.{sum_mod, difference_mod, negation_mod, produc
 use Rattle.icode.specs.declared.action.Action.{Action}
 use Rattle.icode.specs.declared.action.Action.TheVariants.{Load, Store, Zero, Add, Sub, Neg, Mul, Tile}
 use Rattle.icode.specs.declared.action.Counts.{Counts}
+use Rattle.icode.specs.declared.event.Turned.{Turned}
+use Rattle.icode.specs.declared.event.Turned.TheVariants.{Did, Waits, Done}
 
 -- what a machine runs: phase by phase, the list of actions of each processor
 pub record Code : Type 0 where
@@ -184,16 +186,11 @@ run code s [] = s
 run code s (q ∷ turns) = run code (turn code s q) turns
 
 -- what the turn answers
-pub data Answer : Type 0 where
-  Did : (action : Action) → Answer
-  Waits : Answer
-  Done : Answer
-
-abbrev pub answer_with : Code → State → Option Action → Answer
+abbrev pub answer_with : Code → State → Option Action → Turned
 answer_with code s (Some action) = Did action
 answer_with code s None = if nat_lt s.phase (length code.lists) then Waits else Done
 
-abbrev pub answer : Code → State → ℕ → Answer
+abbrev pub answer : Code → State → ℕ → Turned
 answer code s q = answer_with code s (next_action code s q)
 
 -- the actions that a processor has done, over all phases so far

@@ -12,7 +12,7 @@ use thiserror::Error;
 /// Why there is no next byte.
 #[derive(Clone, Copy, Debug, PartialEq, Eq, Error)]
 pub enum FeedFault {
-    /// The source failed. The feed is as before.
+    /// The source failed. The feed is as before, and holds nothing.
     #[error("read failed")]
     ReadFault,
     /// The input has more than [`Feed::LIMIT`] bytes.
@@ -76,6 +76,7 @@ impl Feed {
     /// The next byte, or none at the end of the input.
     pub fn byte<S: Source>(&mut self, source: &mut S) -> Result<Option<u8>, FeedFault>
         ensures answer { Feeds self.old self.new (to_come self.old (S.left source.old)) (to_come self.new (S.left source.new)) result }
+        ensures empty { IsErrOf result FeedFault.ReadFault → self.new.held ≡ [] }
         ensures cause { Reports (S.faults source.old) (S.faults source.new) (IsErrOf result FeedFault.ReadFault) }
     {
         if self.taken > Self::LIMIT {

@@ -15,7 +15,7 @@ use Rattle.icode.proofs.Lists.{All-slice_get}
 use Rattle.par_machine.specs.declared.cursor.Instruction.{Instruction}
 use Rattle.par_machine.specs.declared.cursor.Instruction.TheVariants.{Act, Again}
 use Rattle.par_machine.specs.declared.phase.Routine.{Routine}
-use Rattle.par_machine.specs.Operation.{AddressFits}
+use Rattle.icode.specs.Operation.{AddressFits}
 use Rattle.par_machine.specs.Position.{Position, next_position, positions, first_position}
 use Rattle.par_machine.specs.Hand.{step_with, step_at, action_of_step, HasPlace, Runs}
 use Rattle.par_machine.specs.Lengths.{HasLengths}

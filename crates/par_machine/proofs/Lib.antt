@@ -1,11 +1,7 @@
-pub mod LaneSteps
-pub mod Residues
 pub mod Cursors
-pub mod Transposes
 pub mod Phases
 pub mod Clears
 pub mod Frames
-pub mod Below
 pub mod Executed
 pub mod Steps
 pub mod Starts

@@ -14,7 +14,7 @@ use Rattle.par_machine.specs.Frame.{Frame, code_of_frame, room_of, IsRoutine, Is
 use Rattle.par_machine.specs.Translated.{AreTranslated}
 use Rattle.par_machine.specs.View.{frame_of, stand_of, running_of, IsWhole}
 use Rattle.par_machine.proofs.Frames.{has_lengths}
-use Rattle.par_machine.proofs.Residues.{below-zeros}
+use Rattle.icode.proofs.Residues.{below-zeros}
 use Rattle.par_machine.proofs.Starts.{IsFirst, first_runs, first_state, room_for}
 use Rattle.par_machine.proofs.Translations.{bare, same_code, routines_run, few_actions}
 use Rattle.std.proofs.lemmas.List.{length-replicate}

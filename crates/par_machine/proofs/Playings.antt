@@ -7,8 +7,8 @@ use Rattle.par_machine.specs.declared.cursor.Instruction.{Instruction}
 use Rattle.par_machine.specs.Hand.{step_at, action_of_step, Runs}
 use Rattle.par_machine.specs.Played.{Playing, played_one, played}
 use Rattle.par_machine.specs.Position.{Position, next_position, positions}
-use Rattle.par_machine.proofs.Residues.{AreBelow}
-use Rattle.par_machine.proofs.Below.{effect_memory_below, effect_registers_below}
+use Rattle.icode.proofs.Residues.{AreBelow}
+use Rattle.icode.proofs.Below.{effect_memory_below, effect_registers_below}
 use Rattle.par_machine.proofs.Executed.{counted_at_most}
 use Rattle.par_machine.proofs.Steps.{length-with_words, length-memory_after}
 

@@ -8,8 +8,8 @@ use Rattle.icode.proofs.Completion.{first_opens}
 use Rattle.icode.proofs.End.{none_done-zero}
 use Rattle.par_machine.specs.Position.{first_position}
 use Rattle.par_machine.specs.Frame.{Frame, Stand, code_of_frame, places_in, room_of, IsReady, IsRunning}
-use Rattle.par_machine.proofs.Residues.{AreBelow, below-zeros}
-use Rattle.par_machine.proofs.Below.{below-padded}
+use Rattle.icode.proofs.Residues.{AreBelow, below-zeros}
+use Rattle.icode.proofs.Below.{below-padded}
 use Rattle.par_machine.proofs.Executed.{executed_first}
 use Rattle.par_machine.proofs.Frames.{places_first, is_code, count_lists}
 use Rattle.par_machine.proofs.Steps.{state_same, get_replicate}

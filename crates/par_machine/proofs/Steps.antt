@@ -15,8 +15,8 @@ use Rattle.icode.proofs.Words.{slice_get-set_other, take-next}
 use Rattle.par_machine.specs.declared.phase.Routine.{Routine}
 use Rattle.par_machine.specs.Position.{Position, next_position, first_position}
 use Rattle.par_machine.specs.Frame.{Frame, Stand, code_of_frame, places_in, lens_of, IsReady, IsRunning}
-use Rattle.par_machine.proofs.Residues.{AreBelow}
-use Rattle.par_machine.proofs.Below.{effect_memory_below, effect_registers_below}
+use Rattle.icode.proofs.Residues.{AreBelow}
+use Rattle.icode.proofs.Below.{effect_memory_below, effect_registers_below}
 use Rattle.par_machine.proofs.Executed.{counts_more, counts_small, AreSmall, executed_moved, executed_length}
 use Rattle.par_machine.proofs.Frames.{length-positions, places_at, places_first, places_lens, place_after, is_code, count_lists, acts_places, IsHere, hand_place}
 

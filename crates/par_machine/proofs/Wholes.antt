@@ -14,7 +14,7 @@ use Rattle.par_machine.specs.declared.machine.Machine.TheInside.{Inside}
 use Rattle.par_machine.specs.declared.phase.Routine.{Routine}
 use Rattle.par_machine.specs.Lengths.{HasLengths, IsFirstLeft}
 use Rattle.par_machine.specs.Instruction.{IsClosed}
-use Rattle.par_machine.specs.Operation.{AddressFits}
+use Rattle.icode.specs.Operation.{AddressFits}
 use Rattle.par_machine.specs.Hand.{step_at, action_of_step}
 use Rattle.par_machine.specs.Position.{Position, next_position, first_position}
 use Rattle.par_machine.specs.Frame.{Frame, Stand, code_of_frame, lens_of, total, IsReady, IsRunning}

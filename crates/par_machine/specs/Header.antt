@@ -2,7 +2,7 @@
 use Rattle.std.specs.Prelude.{ℕ, List, [], Vec}
 use Rattle.std.proofs.Common.{Global}
 use Rattle.icode.specs.Plain.{PlainProgram, plain_tables}
-use Rattle.par_machine.specs.declared.shape.Shape.{Shape}
+use Rattle.icode.specs.declared.shape.Shape.{Shape}
 
 abbrev pub header_of : Shape → List (Vec ℕ Global) → PlainProgram
 header_of shape tables =

@@ -1,5 +1,4 @@
 pub mod Header
-pub mod Operation
 pub mod Position
 pub mod Instruction
 pub mod OnRegisters
@@ -8,7 +7,6 @@ pub mod Lengths
 pub mod Frame
 pub mod Plays
 pub mod Played
-pub mod Answers
 pub mod Unfinished
 pub mod Running
 pub mod View

@@ -3,7 +3,7 @@ use Rattle.std.specs.Prelude.{ℕ, []}
 use Rattle.icode.specs.declared.action.Action.{Action}
 use Rattle.icode.specs.Actions.{step_of}
 use Rattle.icode.specs.Plain.{PlainOp, Load, Store, Zero, MulTable, Tile}
-use Rattle.par_machine.specs.declared.shape.Shape.{Shape}
+use Rattle.icode.specs.declared.shape.Shape.{Shape}
 use Rattle.par_machine.specs.Header.{header_of}
 
 -- the operation loads and stores nothing

@@ -8,9 +8,9 @@ ghost use Rattle.par_machine.specs.Played.{played};
 ghost use Rattle.par_machine.specs.Position.{Position, positions, resting, first_position};
 
 use crate::play::play;
-use crate::shape::Shape;
 use icode::action::Counts;
 use icode::program::Op;
+use icode::shape::Shape;
 use memory::NoMemory;
 use std::alloc::Global;
 use std::marker::Model;

@@ -11,9 +11,9 @@ ghost use Rattle.par_machine.specs.Header.{header_of};
 ghost use Rattle.par_machine.specs.OnRegisters.{HasNoPlace, placeless_action};
 
 use crate::cursor::{Cursor, Instruction};
-use crate::shape::Shape;
 use icode::action::{Action, MAX_LANES};
 use icode::program::{Array, Op};
+use icode::shape::Shape;
 
 #[inline]
 pub(crate) fn address(room: u64, array: Array, place: u64) -> u64

@@ -5,35 +5,25 @@ ghost use Rattle.std.specs.List.{find};
 ghost use Rattle.icode.specs.Machine.{acts, next_action, turn, run, answer, completion, finished, start, counts_so_far, padded};
 ghost use Rattle.icode.specs.Program.{code_of, Fits};
 ghost use Rattle.request_text.specs.Turns.{named, turns_of};
-ghost use Rattle.par_machine.specs.Answers.{answered};
 ghost use Rattle.par_machine.specs.Unfinished.{IsUnfinished};
 
 use crate::cursor::Cursor;
 use crate::hand::at_hand;
 use crate::make::{
     NO_COUNTS, compile_phases, copy_tables, make_counts, make_cursors, make_done, make_registers,
-    shape_of,
 };
 use crate::phase::{Routine, first_busy, first_left, rewind_all, settle};
-use crate::shape::Shape;
 use crate::words::{Words, clear_all, play_on};
 use icode::action::{Action, Counts};
+use icode::event::Turned;
+use icode::header::shape_of;
 use icode::program::Program;
+use icode::shape::Shape;
 use memory::NoMemory;
 use request_text::Schedule;
 use ring_mod::Modulus;
 use std::alloc::Global;
 use std::marker::Model;
-
-/// What a turn did.
-#[derive(Clone, Copy, PartialEq, Eq, Debug)]
-pub enum Turned {
-    Did(Action),
-    /// Another processor has an action left in the phase.
-    Waits,
-    /// All phases are done.
-    Done,
-}
 
 /// A machine of several processors over one memory. It keeps for each processor a place in the program's code and the
 /// counters of its open loops, and no list of actions.
@@ -166,7 +156,7 @@ impl Machine {
         requires proc { proc < self.old.code.procs }
         ensures state { self.new.state ≡ turn self.old.code self.old.state proc }
         ensures code { self.new.code ≡ self.old.code }
-        ensures answer { answered result ≡ answer self.old.code self.old.state proc }
+        ensures answer { result ≡ answer self.old.code self.old.state proc }
     {
         if self.left(proc) > 0 {
             let action = self.action(proc);

@@ -11,13 +11,10 @@ ghost use Rattle.par_machine.specs.Translated.{AreTranslated};
 use crate::compile::compile_phase;
 use crate::cursor::Cursor;
 use crate::phase::Routine;
-use crate::shape::Shape;
 use crate::words::Words;
 use icode::action::Counts;
 use icode::program::Program;
 use memory::NoMemory;
-use quick_mod::QuickModulus;
-use ring_mod::Modulus;
 use std::alloc::Global;
 
 pub(crate) const NO_COUNTS: Counts = Counts {
@@ -25,26 +22,6 @@ pub(crate) const NO_COUNTS: Counts = Counts {
     loads: 0,
     stores: 0,
 };
-
-/// The numbers of the program's header.
-pub(crate) fn shape_of(program: &Program) -> Shape
-    ensures size { result.size ≡ program.now.size }
-    ensures modulus { result.modulus ≡ program.now.modulus }
-    ensures procs { result.procs ≡ program.now.procs }
-    ensures line { result.line ≡ program.now.line }
-    ensures lanes { result.lanes ≡ program.now.lanes }
-    ensures regs { result.regs ≡ program.now.regs }
-{
-    Shape {
-        size: program.size,
-        modulus: QuickModulus::new(Modulus::new(program.modulus).unwrap()),
-        procs: program.procs,
-        line: program.line,
-        lanes: program.lanes,
-        regs: program.regs,
-        room: program.array_size(),
-    }
-}
 
 fn copy_words(alloc: Global, words: &[u64]) -> Result<Vec<u64>, NoMemory>
     ensures { IfOk result (λ copy. copy.items ≡ words.now) }

@@ -10,21 +10,19 @@ ghost use Rattle.par_machine.specs.Hand.{step_at, action_of_step, Runs};
 ghost use Rattle.par_machine.specs.Header.{header_of};
 ghost use Rattle.par_machine.specs.Instruction.{IsClosed, IsWithin};
 ghost use Rattle.par_machine.specs.OnRegisters.{IsOnRegisters, operations_of};
-ghost use Rattle.par_machine.specs.Operation.{AddressFits};
+ghost use Rattle.icode.specs.Operation.{AddressFits};
 ghost use Rattle.par_machine.specs.Played.{played};
 ghost use Rattle.par_machine.specs.Position.{next_position, positions};
 
-use crate::arithmetic::Operation::{Difference, Sum};
 use crate::cursor::{Instruction, rest};
-use crate::effect::{
-    clear_register, combine_registers, copy_lanes, negate_register, scale_by_constant,
-    scale_by_entries, transpose,
-};
 use crate::hand::address;
 use crate::place::place_value;
-use crate::shape::Shape;
+use crate::scale::{scale_by_constant, scale_by_entries};
 use icode::action::Counts;
+use icode::arithmetic::Operation::{Difference, Sum};
+use icode::effect::{clear_register, combine_registers, copy_lanes, negate_register, transpose};
 use icode::program::Op;
+use icode::shape::Shape;
 
 /// Does the operation on the memory and one processor's registers, where these are the values of the open loops.
 #[inline]

@@ -8,8 +8,8 @@ ghost use Rattle.par_machine.specs.Played.{played};
 ghost use Rattle.par_machine.specs.Position.{positions};
 
 use crate::cursor::{Cursor, Instruction};
-use crate::shape::Shape;
 use icode::action::Counts;
+use icode::shape::Shape;
 use memory::NoMemory;
 use std::alloc::Global;
 use std::marker::Model;

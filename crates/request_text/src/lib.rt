@@ -3,10 +3,13 @@
 
 mod fault;
 mod generator;
+mod mix;
 mod request;
 mod schedule;
 
 pub use fault::{Field, RequestFault};
+pub use icode::event::Event;
+pub use mix::{Mix, MixFault, read_mix};
 pub use request::read_request;
 pub use schedule::{Schedule, ScheduleFault, read_schedule};
 

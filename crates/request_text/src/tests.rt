@@ -220,3 +220,49 @@ fn schedules(rt: HostRuntime) -> Result<(), Fail> {
     assert_eq!(rt; seeded.turn_at(999_999, 16), 15);
     Ok(())
 }
+
+// The places come from a matcher of prefixes that is no part of this program.
+#[test]
+fn mixes(rt: HostRuntime) -> Result<(), Fail> {
+    let words: [(&[u8], u64); 12] = [
+        (b"", 0),
+        (b"mix", 3),
+        (b"mix:", 4),
+        (b"mix:t", 5),
+        (b"mix:t1,", 7),
+        (b"mix:x1", 4),
+        (b"mix:t01", 6),
+        (b"mix:t4294967296", 14),
+        (b"mix:t1 ", 6),
+        (b"mix:t1,,d0", 7),
+        (b"seq", 0),
+        (b"mix:d0,t1,d", 11),
+    ];
+    for (word, at) in words {
+        match read_mix(rt.alloc(), word) {
+            Ok(_) => assert!(rt; false),
+            Err(fault) => assert_eq!(rt; fault, MixFault::Syntax { at }),
+        }
+    }
+    let mix = read_mix(rt.alloc(), b"mix:t1,d0,t0,d4294967295")
+        .ok()
+        .ok_or("four events")?;
+    let events = [
+        Event::Turn(1),
+        Event::Drain(0),
+        Event::Turn(0),
+        Event::Drain(4_294_967_295),
+    ];
+    assert_eq!(rt; mix.len(), 4);
+    for i in 0..4u64 {
+        if i < mix.len() {
+            assert_eq!(rt; mix.event_at(i), events[i as usize]);
+        }
+    }
+    assert_eq!(rt; mix.stranger(2), Some(4_294_967_295));
+    assert_eq!(rt; mix.stranger(1), Some(1));
+    let drain = read_mix(rt.alloc(), b"mix:d2").ok().ok_or("a drain")?;
+    assert_eq!(rt; drain.stranger(2), Some(2));
+    assert_eq!(rt; drain.stranger(3), None);
+    Ok(())
+}

@@ -15,7 +15,7 @@ use Rattle.spiral_words.specs.Named as named
 use Rattle.spiral_words.specs.Asked.{Means, IsAsked}
 use Rattle.spiral_main.specs.declared.status.Status.{Status}
 use Rattle.spiral_main.specs.declared.status.Status.TheVariants.{Success, Turn, ReadFault, WriteFault, TooLong}
-use Rattle.spiral_main.specs.Commands.{reads_rest, commanded, schedule_of, stranger, admitted}
+use Rattle.spiral_main.specs.Commands.{reads_rest, commanded, AreJudged, schedule_of, stranger, admitted}
 use Rattle.spiral_main.specs.Fault.{status_of_line, status_of_request}
 use Rattle.spiral_main.specs.Line.{first_line, line_of, IsWholeLine, GivesLine}
 use Rattle.spiral_main.specs.Status.{IsDefined}
@@ -174,6 +174,20 @@ request_fault_others (request.Syntax at) = (λ e. cc, λ e. cc)
 request_fault_others (request.Range field value) = (λ e. cc, λ e. cc)
 request_fault_others (request.Shape size) = (λ e. cc, λ e. cc)
 request_fault_others (request.LanesLine lanes line) = (λ e. cc, λ e. cc)
+
+-- a line's and a request's fault come behind a command line
+pub line_judged : (words : List (List ℕ)) (fault : FeedFault) (command : Command) → IsAsked words command → AreJudged words (status_of_line fault)
+line_judged words feed.ReadFault command asked = inr (inr (λ e. cc, (command, asked)))
+line_judged words feed.TooLong command asked = inr (inr (λ e. cc, (command, asked)))
+
+pub request_judged : (words : List (List ℕ)) (fault : RequestFault) (command : Command) → IsAsked words command → AreJudged words (status_of_request fault)
+request_judged words (request.Syntax at) command asked = inr (inr (λ e. cc, (command, asked)))
+request_judged words (request.Range field value) command asked = inr (inr (λ e. cc, (command, asked)))
+request_judged words (request.Shape size) command asked = inr (inr (λ e. cc, (command, asked)))
+request_judged words (request.LanesLine lanes line) command asked = inr (inr (λ e. cc, (command, asked)))
+
+pub turn_judged : (words : List (List ℕ)) (q p : ℕ) (command : Command) → IsAsked words command → AreJudged words (Turn q p)
+turn_judged words q p command asked = inr (inr (λ e. cc, (command, asked)))
 
 pub take_short : (n : ℕ) (xs : List ℕ) → length (take n xs) ≤ n
 take_short zero xs = omega arith

@@ -11,3 +11,4 @@ pub mod RunLemmas
 pub mod SampleLemmas
 pub mod StreamLemmas
 pub mod PlanLemmas
+pub mod RightCalls

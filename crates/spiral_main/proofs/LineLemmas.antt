@@ -1,10 +1,10 @@
 -- Where the first line of an input ends.
-use Rattle.std.proofs.Common.{◌≡◌, ◌≤◌, ◌+◌, ℕ, Bool, true, false, not, ◌||◌, List, [], ◌∷◌, ◌++◌, length, take, drop, cond, refl, sym, ap, ◌∙◌, arith, append_assoc, append-nil, length-append, add-zero, zero-add}
+use Rattle.std.proofs.Common.{◌≡◌, ◌⊎◌, ◌≤◌, ◌+◌, ℕ, Bool, true, false, not, ◌||◌, List, [], ◌∷◌, ◌++◌, length, take, drop, cond, refl, sym, ap, ◌∙◌, arith, append_assoc, append-nil, length-append, add-zero, zero-add, inl, inr}
 use Rattle.std.proofs.Math.Seq.{take-append_seam, take-append-add, drop-append-add}
 use Rattle.std.proofs.lemmas.List.{take_all}
 use Rattle.std.proofs.lemmas.List.Folds.{list_any-append}
 use Rattle.std.specs.List.{list_any, position_or_len}
-use Rattle.spiral_main.specs.Line.{is_line_end, first_line, data_of, IsWholeLine}
+use Rattle.spiral_main.specs.Line.{is_line_end, first_line, data_of, HasEnded, IsWholeLine}
 
 neither : (a b : Bool) → (a || b) ≡ false → (a ≡ false) × (b ≡ false)
 neither true b h = absurd (cc)
@@ -49,3 +49,20 @@ line_longer text more h =
     let same : first_line (text ++ more) ≡ text ++ take k more = ap (λ n. take n (text ++ more)) (goes_past text more h) ∙ take-append-add text more k in
     let count : length (first_line (text ++ more)) ≡ length text + length (take k more) = ap length same ∙ length-append text (take k more) in
     omega arith
+
+two_cases : (b : Bool) → (b ≡ true) ⊎ (b ≡ false)
+two_cases true = inl refl
+two_cases false = inr refl
+
+-- the first line has ended where what stands behind it is known, whatever follows
+pub line_there : (read rest : List ℕ) → ((more : List ℕ) → (rest ≡ [] → more ≡ []) → data_of (read ++ more) ≡ more) → HasEnded read (rest ≡ [])
+line_there read [] behind = inr refl
+line_there read (x ∷ rest) behind =
+    elim (two_cases (list_any is_line_end read)) [
+      | inl there ↦ inl there
+      | inr none ↦
+          let zero_behind : data_of (read ++ 0 ∷ []) ≡ 0 ∷ [] = behind (0 ∷ []) (λ e. absurd (cc)) in
+          let cut = line_cut (read ++ 0 ∷ []) (Unit {0}) (unended_push read 0 none refl) tt [] (λ _. refl) in
+          let nothing : data_of (read ++ 0 ∷ []) ≡ [] = ap data_of (sym (append-nil (read ++ 0 ∷ []))) ∙ cut.1 in
+          absurd (cc)
+    ]

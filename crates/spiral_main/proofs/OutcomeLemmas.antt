@@ -1,9 +1,10 @@
 -- From the parts of a run to its whole account.
-use Rattle.std.proofs.Common.{◌≡◌, ◌≢◌, ◌<◌, ◌≤◌, ◌+◌, ◌-◌, ◌*◌, ◌/◌, ℕ, zero, suc, true, false, List, [], ◌∷◌, ◌++◌, None, Some, Ok, Err, Result, IfSome, length, take, drop, refl, sym, ap, subst, ◌∙◌, arith, append_assoc, append-nil, length-append, inl, inr}
+use Rattle.std.proofs.Common.{◌≡◌, ◌≢◌, ◌<◌, ◌≤◌, ◌+◌, ◌-◌, ◌*◌, ◌/◌, ◌||◌, ℕ, zero, suc, true, false, List, [], ◌∷◌, ◌++◌, None, Some, Ok, Err, Result, IfSome, length, take, drop, refl, sym, ap, subst, ◌∙◌, arith, append_assoc, append-nil, length-append, inl, inr}
 use Rattle.std.proofs.Math.Nat.{div-mul-le_self}
 use Rattle.std.proofs.lemmas.List.{length-take-le, length-drop, length-map}
-use Rattle.std.proofs.KnownBytes.{Appends-nil, Appends-trans}
-use Rattle.std.specs.List.{All}
+use Rattle.std.proofs.KnownBytes.{Appends-nil, Appends-trans, Consumes-trans}
+use Rattle.std.proofs.lemmas.List.Folds.{list_any-append}
+use Rattle.std.specs.List.{All, list_any}
 use Rattle.std.specs.declared.option.Option.{Option}
 use Rattle.std.specs.Io.KnownBytes.{Appends, Consumes, IsAtEnd, prepend_known}
 use Rattle.matrix_meaning.specs.declared.Request.{Request}
@@ -12,7 +13,7 @@ use Rattle.request_text.specs.Schedule.{Plan}
 use Rattle.request_text.specs.Turns.{turns_of}
 use Rattle.icode.specs.Machine.{Code, State, results, runs}
 use Rattle.io_edge.specs.Faults.{HasCause, Reports, Rose}
-use Rattle.io_edge.specs.Feed.{Fed, limit}
+use Rattle.io_edge.specs.Feed.{Fed, limit, to_come}
 use Rattle.io_edge.specs.Taken.{AppendsPrefix, WritesAll}
 use Rattle.io_edge.proofs.TakenLemmas.{prefix_after}
 use Rattle.data_stream.specs.Data.{tokens, closed_part}
@@ -34,16 +35,17 @@ use Rattle.plan_cert.specs.Verdict.{IsVerdict}
 use Rattle.spiral_words.specs.declared.Command.{Command}
 use Rattle.spiral_words.specs.declared.Command.TheVariants as command
 use Rattle.spiral_main.specs.declared.status.Status.{Status}
-use Rattle.spiral_main.specs.declared.status.Status.TheVariants.{Success, ReadFault, WriteFault, NoMemory}
+use Rattle.spiral_main.specs.declared.status.Status.TheVariants.{Success, Usage, ReadFault, WriteFault, NoMemory}
 use Rattle.spiral_main.specs.declared.stream.StreamFault.{StreamFault}
 use Rattle.spiral_main.specs.declared.stream.StreamFault.TheVariants as stream
 use Rattle.spiral_main.specs.Checked.{certificate_limit, status_of_verdict, least_line, verdict_text}
 use Rattle.spiral_main.specs.Commands.{reads_certificate, has_text, AskForCommand}
 use Rattle.spiral_main.specs.Fault.{status_of_generate, status_of_rest, status_of_fault, status_of_stream}
-use Rattle.spiral_main.specs.Line.{data_of}
+use Rattle.spiral_main.specs.Line.{data_of, is_line_end, HasEnded}
 use Rattle.spiral_main.specs.Status.{IsDefined}
 use Rattle.spiral_main.specs.Stream.{group_vectors, vectors_of, texts, lines, run_text, data_answer, data_vectors, Reads, Streams, HasNoStranger}
-use Rattle.spiral_main.specs.Outcome.{IsRefused, IsShutOut, IsAffordable, IsAccepted, IsDeclined, requested, Job, product, IsProgramFor, IsTextOf, IsTextOfData, Settles, BreaksOff, ComesTo, room_behind, Accounts, Notes}
+use Rattle.spiral_main.specs.Outcome.{IsRefused, IsShutOut, IsAffordable, IsAccepted, IsDeclined, requested, Job, IsOrder, product, IsProgramFor, IsTextOf, IsTextOfData, Settles, BreaksOff, ComesTo, room_behind, Accounts, Notes}
+use Rattle.spiral_main.proofs.LineLemmas.{line_there}
 use Rattle.spiral_main.proofs.StreamLemmas.{vectors_few}
 use Rattle.spiral_main.specs.Steps.{IsRefusal, AsksBy, Asks, IsGoodCode, Ends, Performs, ToldPerforms, ToldAccounts}
 
@@ -57,10 +59,10 @@ generate_refused request (generate.OverBudget cost budget) p d = (generate.OverB
 generate_refused request generate.NoMemory p d = absurd (d.memory refl)
 
 pub generate_refusal : (fault : GenerateFault) → IsRefusal (status_of_generate fault)
-generate_refusal (generate.Root power) = record { success = λ e. cc; read = λ e. cc; write = λ e. cc }
-generate_refusal generate.NoDivide = record { success = λ e. cc; read = λ e. cc; write = λ e. cc }
-generate_refusal (generate.OverBudget cost budget) = record { success = λ e. cc; read = λ e. cc; write = λ e. cc }
-generate_refusal generate.NoMemory = record { success = λ e. cc; read = λ e. cc; write = λ e. cc }
+generate_refusal (generate.Root power) = record { success = λ e. cc; read = λ e. cc; write = λ e. cc; usage = λ e. cc }
+generate_refusal generate.NoDivide = record { success = λ e. cc; read = λ e. cc; write = λ e. cc; usage = λ e. cc }
+generate_refusal (generate.OverBudget cost budget) = record { success = λ e. cc; read = λ e. cc; write = λ e. cc; usage = λ e. cc }
+generate_refusal generate.NoMemory = record { success = λ e. cc; read = λ e. cc; write = λ e. cc; usage = λ e. cc }
 
 pub generate_barred : (request : Request) (fault : GenerateFault) → IsBarred request fault → IsShutOut request (status_of_generate fault)
 generate_barred request fault barred = (fault, barred, refl)
@@ -101,32 +103,32 @@ text_alone command.Check h = absurd (cc)
 text_alone (command.Sample seed schedule) h = refl
 
 -- a command that a refusal ends before its output
-pub performs_refused : (wanted : Command) (request : Request) (room : ℕ) (bytes : List ℕ) (out : Option (List ℕ)) (status : Status)
-    → (IsDefined status → IsDeclined wanted request status) → IsRefusal status → Performs wanted request room bytes out out status
-performs_refused wanted request room bytes out status p r = record {
+pub performs_refused : (wanted : Command) (request : Request) (room : ℕ) (bytes : List ℕ) (left out : Option (List ℕ)) (status : Status)
+    → (IsDefined status → IsDeclined wanted request status) → IsRefusal status → Performs wanted request room bytes left out out status
+performs_refused wanted request room bytes left out status p r = record {
   answer = λ d. ([], inl (p d, refl), Appends-nil out);
   read_fault = λ e. absurd (r.read e);
   write_fault = λ e. absurd (r.write e);
 }
 
-pub told_refused : (wanted : Command) (request : Request) (room : ℕ) (before out : Option (List ℕ)) (status : Status)
-    → (IsDefined status → IsDeclined wanted request status) → IsRefusal status → ToldPerforms wanted request room before out out status
-told_refused wanted request room None out status p r = tt
-told_refused wanted request room (Some bytes) out status p r = performs_refused wanted request room bytes out status p r
+pub told_refused : (wanted : Command) (request : Request) (room : ℕ) (before left out : Option (List ℕ)) (status : Status)
+    → (IsDefined status → IsDeclined wanted request status) → IsRefusal status → ToldPerforms wanted request room before left out out status
+told_refused wanted request room None left out status p r = tt
+told_refused wanted request room (Some bytes) left out status p r = performs_refused wanted request room bytes left out status p r
 
 -- Texts of the request alone
 
-pub performs_text : (wanted : Command) (request : Request) (room : ℕ) (bytes : List ℕ) (out out' : Option (List ℕ)) (text : List ℕ)
-    → IsAccepted wanted request → IsTextOf wanted request text → Appends out out' text → Performs wanted request room bytes out out' Success
-performs_text wanted request room bytes out out' text p l w = record {
+pub performs_text : (wanted : Command) (request : Request) (room : ℕ) (bytes : List ℕ) (left out out' : Option (List ℕ)) (text : List ℕ)
+    → IsAccepted wanted request → IsTextOf wanted request text → Appends out out' text → Performs wanted request room bytes left out out' Success
+performs_text wanted request room bytes left out out' text p l w = record {
   answer = λ d. (text, inr (p, inr (inl (refl, l))), w);
   read_fault = λ e. absurd (cc);
   write_fault = λ e. absurd (cc);
 }
 
-pub performs_cut : (wanted : Command) (request : Request) (room : ℕ) (bytes : List ℕ) (out out' : Option (List ℕ)) (text : List ℕ)
-    → IsAccepted wanted request → IsTextOf wanted request text → AppendsPrefix out out' text → Performs wanted request room bytes out out' WriteFault
-performs_cut wanted request room bytes out out' text p l w = record {
+pub performs_cut : (wanted : Command) (request : Request) (room : ℕ) (bytes : List ℕ) (left out out' : Option (List ℕ)) (text : List ℕ)
+    → IsAccepted wanted request → IsTextOf wanted request text → AppendsPrefix out out' text → Performs wanted request room bytes left out out' WriteFault
+performs_cut wanted request room bytes left out out' text p l w = record {
   answer = λ d. absurd (d.write refl);
   read_fault = λ e. absurd (cc);
   write_fault = λ _. ([], bytes, text, refl, p, inr (inl l), w);
@@ -151,9 +153,9 @@ reads_vectors : (size modulus : ℕ) (old new : Fed) (read : List ℕ) (ended : 
 reads_vectors size modulus old new read ended vectors (Ok u) s = (tokens read, s.4)
 reads_vectors size modulus old new read ended vectors (Err (stream.Truncated have need)) s = (tokens read, s.6)
 reads_vectors size modulus old new read ended vectors (Err (stream.BadNumber token)) s = (s.1.0, s.1.2)
-reads_vectors size modulus old new read ended vectors (Err stream.TooLong) s = (tokens (closed_part s.0), s.5)
+reads_vectors size modulus old new read ended vectors (Err stream.TooLong) s = (tokens (closed_part s.0), s.3)
 reads_vectors size modulus old new read ended vectors (Err stream.ReadFault) s = (tokens (closed_part read), s.2)
-reads_vectors size modulus old new read ended vectors (Err stream.WriteFault) s = (tokens read, s.2)
+reads_vectors size modulus old new read ended vectors (Err stream.WriteFault) s = (tokens read, s.3)
 
 -- the machine's lines are those of the matrix
 good_lines : (request : Request) (code : Code) (turns : List ℕ) (vectors : List (List ℕ)) → IsGoodCode request code → 0 < request.modulus → All (λ q. q < request.procs) turns
@@ -187,33 +189,32 @@ stream_answer wanted request room bytes text vectors out out' result there told 
 performed : {S : Type 0} (wanted : Command) (request : Request) (front : List ℕ) (text : List ℕ → List ℕ) (leaves : List ℕ → S) (old new : Fed) (bytes rest : List ℕ) (start out out' : Option (List ℕ)) (first last : S)
     (result : Result (Unit {0}) StreamFault)
     → IsAccepted wanted request → (s : Streams text leaves request.size request.modulus old new (Some bytes) (Some rest) out out' first last result)
-    → IsTextOfData wanted request s.vectors (front ++ texts text s.vectors) → Appends start out front
-    → Performs wanted request (limit - old.taken) bytes start out' (status_of_stream result)
-performed wanted request front text leaves old new bytes rest start out out' first last (Ok u) there s told begun = record {
-  answer = λ d. stream_answer wanted request _ bytes (front ++ texts text s.vectors) s.vectors start out' (Ok u) there told s.told.0 s.told.1 (Appends-trans start out out' front (texts text s.vectors) begun s.wrote);
+    → IsTextOfData wanted request s.vectors (front ++ texts text s.vectors) → Appends start out front → old.taken ≤ limit
+    → Performs wanted request (limit - old.taken) bytes (Some rest) start out' (status_of_stream result)
+performed wanted request front text leaves old new bytes rest start out out' first last (Ok u) there s told begun within = record {
+  answer = λ d. stream_answer wanted request _ bytes (front ++ texts text s.vectors) s.vectors start out' (Ok u) there told (s.told within).0 (s.told within).1 (Appends-trans start out out' front (texts text s.vectors) begun s.wrote);
   read_fault = λ e. absurd (cc);
   write_fault = λ e. absurd (cc);
 }
-performed wanted request front text leaves old new bytes rest start out out' first last (Err (stream.Truncated have need)) there s told begun = record {
-  answer = λ d. stream_answer wanted request _ bytes (front ++ texts text s.vectors) s.vectors start out' (Err (stream.Truncated have need)) there told s.told.0 s.told.1 (Appends-trans start out out' front (texts text s.vectors) begun s.wrote);
+performed wanted request front text leaves old new bytes rest start out out' first last (Err (stream.Truncated have need)) there s told begun within = record {
+  answer = λ d. stream_answer wanted request _ bytes (front ++ texts text s.vectors) s.vectors start out' (Err (stream.Truncated have need)) there told (s.told within).0 (s.told within).1 (Appends-trans start out out' front (texts text s.vectors) begun s.wrote);
   read_fault = λ e. absurd (cc);
   write_fault = λ e. absurd (cc);
 }
-performed wanted request front text leaves old new bytes rest start out out' first last (Err (stream.BadNumber token)) there s told begun = record {
-  answer = λ d. stream_answer wanted request _ bytes (front ++ texts text s.vectors) s.vectors start out' (Err (stream.BadNumber token)) there told s.told.0 s.told.1 (Appends-trans start out out' front (texts text s.vectors) begun s.wrote);
+performed wanted request front text leaves old new bytes rest start out out' first last (Err (stream.BadNumber token)) there s told begun within = record {
+  answer = λ d. stream_answer wanted request _ bytes (front ++ texts text s.vectors) s.vectors start out' (Err (stream.BadNumber token)) there told (s.told within).0 (s.told within).1 (Appends-trans start out out' front (texts text s.vectors) begun s.wrote);
   read_fault = λ e. absurd (cc);
   write_fault = λ e. absurd (cc);
 }
-performed wanted request front text leaves old new bytes rest start out out' first last (Err stream.TooLong) there s told begun = record {
-  answer = λ d. stream_answer wanted request _ bytes (front ++ texts text s.vectors) s.vectors start out' (Err stream.TooLong) there told s.told.0 s.told.1 (Appends-trans start out out' front (texts text s.vectors) begun s.wrote);
+performed wanted request front text leaves old new bytes rest start out out' first last (Err stream.TooLong) there s told begun within = record {
+  answer = λ d. stream_answer wanted request _ bytes (front ++ texts text s.vectors) s.vectors start out' (Err stream.TooLong) there told (s.told within).0 (s.told within).1 (Appends-trans start out out' front (texts text s.vectors) begun s.wrote);
   read_fault = λ e. absurd (cc);
   write_fault = λ e. absurd (cc);
 }
-performed wanted request front text leaves old new bytes rest start out out' first last (Err stream.ReadFault) there s told begun = record {
+performed wanted request front text leaves old new bytes rest start out out' first last (Err stream.ReadFault) there s told begun within = record {
   answer = λ d. absurd (d.read refl);
   read_fault = λ _. (
     s.read,
-    rest,
     front ++ texts text s.vectors,
     s.consumed,
     there,
@@ -222,7 +223,7 @@ performed wanted request front text leaves old new bytes rest start out out' fir
   );
   write_fault = λ e. absurd (cc);
 }
-performed wanted request front text leaves old new bytes rest start out out' first last (Err stream.WriteFault) there s told begun = record {
+performed wanted request front text leaves old new bytes rest start out out' first last (Err stream.WriteFault) there s told begun within = record {
   answer = λ d. absurd (d.write refl);
   read_fault = λ e. absurd (cc);
   write_fault = λ _. (
@@ -231,23 +232,23 @@ performed wanted request front text leaves old new bytes rest start out out' fir
     front ++ texts text s.vectors,
     s.consumed,
     there,
-    inl (s.answer.1, subst (λ (v : List (List ℕ)). IsTextOfData wanted request v (front ++ texts text s.vectors)) (sym s.answer.2) told),
+    inl (s.answer.1, s.answer.2, subst (λ (v : List (List ℕ)). IsTextOfData wanted request v (front ++ texts text s.vectors)) (sym s.answer.3) told),
     prefix_after start out out' front (texts text s.vectors) begun s.wrote,
   );
 }
 
 performs_stream : {S : Type 0} (wanted : Command) (request : Request) (front : List ℕ) (text : List ℕ → List ℕ) (leaves : List ℕ → S) (old new : Fed) (before after start out out' : Option (List ℕ)) (first last : S)
     (result : Result (Unit {0}) StreamFault)
-    → IsAccepted wanted request → IsTextFor wanted request front text → Appends start out front
+    → IsAccepted wanted request → IsTextFor wanted request front text → Appends start out front → old.taken ≤ limit
     → Streams text leaves request.size request.modulus old new before after out out' first last result
-    → ToldPerforms wanted request (limit - old.taken) before start out' (status_of_stream result)
-performs_stream wanted request front text leaves old new None after start out out' first last result there writes begun s = tt
-performs_stream wanted request front text leaves old new (Some bytes) None start out out' first last result there writes begun s = absurd s.consumed
-performs_stream wanted request front text leaves old new (Some bytes) (Some rest) start out out' first last result there writes begun s =
+    → ToldPerforms wanted request (limit - old.taken) before after start out' (status_of_stream result)
+performs_stream wanted request front text leaves old new None after start out out' first last result there writes begun within s = tt
+performs_stream wanted request front text leaves old new (Some bytes) None start out out' first last result there writes begun within s = absurd s.consumed
+performs_stream wanted request front text leaves old new (Some bytes) (Some rest) start out out' first last result there writes begun within s =
     let whole = front ++ texts text s.vectors in
     let made = reads_vectors request.size request.modulus old new s.read (rest ≡ []) s.vectors result s.answer in
     let told : IsTextOfData wanted request s.vectors whole = subst (λ (v : List (List ℕ)). IsTextOfData wanted request v (front ++ texts text v)) made.1 (writes made.0) in
-    performed wanted request front text leaves old new bytes rest start out out' first last result there s told begun
+    performed wanted request front text leaves old new bytes rest start out out' first last result there s told begun within
 
 -- the stream of a good program is one of the request
 stream_of_request : {S : Type 0} (request : Request) (code : Code) (text : List ℕ → List ℕ) (leaves : List ℕ → S) (old new : Fed) (before after out out' : Option (List ℕ)) (first last : S) (result : Result (Unit {0}) StreamFault)
@@ -258,16 +259,16 @@ stream_of_request request code text leaves old new before after out out' first l
     (subst (λ n. Streams text leaves n code.modulus old new before after out out' first last result) size s)
 
 pub performs_run : (plan : Plan) (request : Request) (code : Code) (turns : List ℕ) (old new : Fed) (before after out out' : Option (List ℕ)) (first last : State) (result : Result (Unit {0}) StreamFault)
-    → IsGoodCode request code → IsInRange request → All (λ q. q < request.procs) turns
+    → IsGoodCode request code → IsInRange request → All (λ q. q < request.procs) turns → old.taken ≤ limit
     → Streams (run_text false code turns) (λ x. runs code x turns) code.size code.modulus old new before after out out' first last result
-    → ToldPerforms (command.Run plan) request (limit - old.taken) before out out' (status_of_stream result)
-performs_run plan request code turns old new before after out out' first last result good in_range there s =
+    → ToldPerforms (command.Run plan) request (limit - old.taken) before after out out' (status_of_stream result)
+performs_run plan request code turns old new before after out out' first last result good in_range there within s =
     let size : code.size ≡ request.size = ap (λ (k : Code). k.size) good.4 ∙ good.3.header.size in
     let modulus : code.modulus ≡ request.modulus = ap (λ (k : Code). k.modulus) good.4 ∙ good.3.header.modulus in
     let sized = stream_of_request request code (run_text false code turns) (λ x. runs code x turns) old new before after out out' first last result size modulus s in
     let writes : IsTextFor (command.Run plan) request [] (run_text false code turns) =
     λ ts. good_lines request code turns (vectors_of request.size request.modulus ts) good (omega (arith, in_range.modulus.0)) there (ts, refl) in
-    performs_stream (command.Run plan) request [] (run_text false code turns) (λ x. runs code x turns) old new before after out out out' first last result (good.0, good.2) writes (Appends-nil out) sized
+    performs_stream (command.Run plan) request [] (run_text false code turns) (λ x. runs code x turns) old new before after out out out' first last result (good.0, good.2) writes (Appends-nil out) within sized
 
 -- what a traced run stands on: the listing of a program for the request, and its code
 abbrev pub IsTraced : Request → List ℕ → Code → Type 0
@@ -291,22 +292,22 @@ traced_writes plan request listing code made ts =
     (made.0, made.1, ap (λ l. l ++ texts (run_text true code (turns_of plan code.procs)) vectors) made.2 ∙ ap (λ (f : List ℕ → List ℕ). listing_of (plain_program made.0) ++ texts f vectors) same)
 
 pub performs_trace : (plan : Plan) (request : Request) (listing : List ℕ) (code : Code) (old new : Fed) (before after start out out' : Option (List ℕ)) (first last : State) (result : Result (Unit {0}) StreamFault)
-    → IsTraced request listing code → Appends start out listing
+    → IsTraced request listing code → Appends start out listing → old.taken ≤ limit
     → Streams (run_text true code (turns_of plan code.procs)) (λ x. runs code x (turns_of plan code.procs)) code.size code.modulus old new before after out out' first last result
-    → ToldPerforms (command.Trace plan) request (limit - old.taken) before start out' (status_of_stream result)
-performs_trace plan request listing code old new before after start out out' first last result made begun s =
+    → ToldPerforms (command.Trace plan) request (limit - old.taken) before after start out' (status_of_stream result)
+performs_trace plan request listing code old new before after start out out' first last result made begun within s =
     let size : code.size ≡ request.size = ap (λ (k : Code). k.size) made.3 ∙ made.1.2.0.header.size in
     let modulus : code.modulus ≡ request.modulus = ap (λ (k : Code). k.modulus) made.3 ∙ made.1.2.0.header.modulus in
     let text = run_text true code (turns_of plan code.procs) in
     let leaves : List ℕ → State = λ x. runs code x (turns_of plan code.procs) in
     let sized = stream_of_request request code text leaves old new before after out out' first last result size modulus s in
-    performs_stream (command.Trace plan) request listing text leaves old new before after start out out' first last result (traced_affordable request listing code made) (traced_writes plan request listing code made) begun sized
+    performs_stream (command.Trace plan) request listing text leaves old new before after start out out' first last result (traced_affordable request listing code made) (traced_writes plan request listing code made) begun within sized
 
 -- a trace whose listing is not written whole
-pub listing_cut : (plan : Plan) (request : Request) (listing : List ℕ) (code : Code) (room : ℕ) (before out out' : Option (List ℕ))
-    → IsTraced request listing code → IsInRange request → AppendsPrefix out out' listing → ToldPerforms (command.Trace plan) request room before out out' WriteFault
-listing_cut plan request listing code room None out out' made in_range w = tt
-listing_cut plan request listing code room (Some bytes) out out' made in_range w =
+pub listing_cut : (plan : Plan) (request : Request) (listing : List ℕ) (code : Code) (room : ℕ) (before left out out' : Option (List ℕ))
+    → IsTraced request listing code → IsInRange request → AppendsPrefix out out' listing → ToldPerforms (command.Trace plan) request room before left out out' WriteFault
+listing_cut plan request listing code room None left out out' made in_range w = tt
+listing_cut plan request listing code room (Some bytes) left out out' made in_range w =
     let text = run_text true code (turns_of plan code.procs) in
     let none : vectors_of request.size request.modulus [] ≡ [] = vectors_few request.size request.modulus [] (omega (arith, in_range.size.0)) in
     let alone : listing ++ texts text (vectors_of request.size request.modulus []) ≡ listing = ap (λ (v : List (List ℕ)). listing ++ texts text v) none ∙ append-nil listing in
@@ -319,7 +320,7 @@ listing_cut plan request listing code room (Some bytes) out out' made in_range w
         listing,
         refl,
         traced_affordable request listing code made,
-        inl (refl, subst (IsTextOfData (command.Trace plan) request (vectors_of request.size request.modulus [])) alone (traced_writes plan request listing code made [])),
+        inl (refl, inl refl, subst (IsTextOfData (command.Trace plan) request (vectors_of request.size request.modulus [])) alone (traced_writes plan request listing code made [])),
         w,
       );
     }
@@ -327,27 +328,27 @@ listing_cut plan request listing code room (Some bytes) out out' made in_range w
 -- Certificates
 
 -- a command that has no memory
-performs_nothing : (wanted : Command) (request : Request) (room : ℕ) (bytes : List ℕ) (out : Option (List ℕ)) → Performs wanted request room bytes out out NoMemory
-performs_nothing wanted request room bytes out = record { answer = λ d. absurd (d.memory refl); read_fault = λ e. absurd (cc); write_fault = λ e. absurd (cc) }
+performs_nothing : (wanted : Command) (request : Request) (room : ℕ) (bytes : List ℕ) (left out : Option (List ℕ)) → Performs wanted request room bytes left out out NoMemory
+performs_nothing wanted request room bytes left out = record { answer = λ d. absurd (d.memory refl); read_fault = λ e. absurd (cc); write_fault = λ e. absurd (cc) }
 
-pub told_nothing : (wanted : Command) (request : Request) (room : ℕ) (before out : Option (List ℕ)) → ToldPerforms wanted request room before out out NoMemory
-told_nothing wanted request room None out = tt
-told_nothing wanted request room (Some bytes) out = performs_nothing wanted request room bytes out
+pub told_nothing : (wanted : Command) (request : Request) (room : ℕ) (before left out : Option (List ℕ)) → ToldPerforms wanted request room before left out out NoMemory
+told_nothing wanted request room None left out = tt
+told_nothing wanted request room (Some bytes) left out = performs_nothing wanted request room bytes left out
 
-judged_performs : (request : Request) (room : ℕ) (bytes : List ℕ) (out out' : Option (List ℕ)) (found : Verdict)
+judged_performs : (request : Request) (room : ℕ) (bytes : List ℕ) (left out out' : Option (List ℕ)) (found : Verdict)
     → IsAdmitted request → length bytes ≤ certificate_limit → IsVerdict request bytes found → Appends out out' (verdict_text found)
-    → Performs command.Check request room bytes out out' (status_of_verdict found)
-judged_performs request room bytes out out' (verdict.Least cost) there few judged w = record {
+    → Performs command.Check request room bytes left out out' (status_of_verdict found)
+judged_performs request room bytes left out out' (verdict.Least cost) there few judged w = record {
   answer = λ d. (least_line cost, inr (there, inr (inr (refl, inr (few, (verdict.Least cost, judged, refl, refl))))), w);
   read_fault = λ e. absurd (cc);
   write_fault = λ e. absurd (cc);
 }
-judged_performs request room bytes out out' verdict.Unread there few judged w = record {
+judged_performs request room bytes left out out' verdict.Unread there few judged w = record {
   answer = λ d. ([], inr (there, inr (inr (refl, inr (few, (verdict.Unread, judged, refl, refl))))), w);
   read_fault = λ e. absurd (cc);
   write_fault = λ e. absurd (cc);
 }
-judged_performs request room bytes out out' (verdict.Wrong size given found) there few judged w = record {
+judged_performs request room bytes left out out' (verdict.Wrong size given found) there few judged w = record {
   answer = λ d. ([], inr (there, inr (inr (refl, inr (few, (verdict.Wrong size given found, judged, refl, refl))))), w);
   read_fault = λ e. absurd (cc);
   write_fault = λ e. absurd (cc);
@@ -355,7 +356,7 @@ judged_performs request room bytes out out' (verdict.Wrong size given found) the
 
 -- a check whose input has no rest that can be judged
 pub performs_unread : (request : Request) (room : ℕ) (before after out : Option (List ℕ)) (read : List ℕ) (fault : RestFault)
-    → IsAdmitted request → Consumes before after read → GivesRest certificate_limit read (IsAtEnd after) (Err fault) → ToldPerforms command.Check request room before out out (status_of_rest fault)
+    → IsAdmitted request → Consumes before after read → GivesRest certificate_limit read (IsAtEnd after) (Err fault) → ToldPerforms command.Check request room before after out out (status_of_rest fault)
 performs_unread request room None after out read fault there consumed given = tt
 performs_unread request room (Some bytes) None out read fault there consumed given = absurd consumed
 performs_unread request room (Some bytes) (Some rest) out read rest_fault.TooLong there consumed given =
@@ -368,10 +369,10 @@ performs_unread request room (Some bytes) (Some rest) out read rest_fault.TooLon
     }
 performs_unread request room (Some bytes) (Some rest) out read rest_fault.ReadFault there consumed given = record {
   answer = λ d. absurd (d.read refl);
-  read_fault = λ _. (read, rest, [], consumed, there, inr (refl, given, refl), Appends-nil out);
+  read_fault = λ _. (read, [], consumed, there, inr (refl, given, refl), Appends-nil out);
   write_fault = λ e. absurd (cc);
 }
-performs_unread request room (Some bytes) (Some rest) out read rest_fault.NoMemory there consumed given = performs_nothing command.Check request room bytes out
+performs_unread request room (Some bytes) (Some rest) out read rest_fault.NoMemory there consumed given = performs_nothing command.Check request room bytes (Some rest) out
 
 -- the verdict on the bytes, as it was found
 pub judged_of : (request own : Request) (text seen : List ℕ) (found other : Verdict) → own ≡ request → seen ≡ text → other ≡ found → IsVerdict own seen other → IsVerdict request text found
@@ -381,19 +382,19 @@ judged_of request own text seen found other p q e judged =
 -- a rest that was judged
 pub performs_judged : (request : Request) (room : ℕ) (before after out out' : Option (List ℕ)) (read text : List ℕ) (found : Verdict)
     → IsAdmitted request → Consumes before after read → text ≡ read → IsAtEnd after → length read ≤ certificate_limit → IsVerdict request text found → Appends out out' (verdict_text found)
-    → ToldPerforms command.Check request room before out out' (status_of_verdict found)
+    → ToldPerforms command.Check request room before after out out' (status_of_verdict found)
 performs_judged request room None after out out' read text found there consumed same end short judged w = tt
 performs_judged request room (Some bytes) None out out' read text found there consumed same end short judged w = absurd consumed
 performs_judged request room (Some bytes) (Some rest) out out' read text found there consumed same end short judged w =
     let whole : bytes ≡ read = consumed ∙ ap (λ l. read ++ l) end ∙ append-nil read in
     let few : length bytes ≤ certificate_limit = subst (λ l. length l ≤ certificate_limit) (sym whole) short in
     let here : IsVerdict request bytes found = subst (λ l. IsVerdict request l found) (same ∙ sym whole) judged in
-    judged_performs request room bytes out out' found there few here w
+    judged_performs request room bytes (Some rest) out out' found there few here w
 
 -- a rest that was judged right, and the line that says so was not written whole
 pub performs_judged_cut : (request : Request) (room : ℕ) (before after out out' : Option (List ℕ)) (read text : List ℕ) (cost : ℕ)
     → IsAdmitted request → Consumes before after read → text ≡ read → IsAtEnd after → length read ≤ certificate_limit → IsVerdict request text (verdict.Least cost) → AppendsPrefix out out' (least_line cost)
-    → ToldPerforms command.Check request room before out out' WriteFault
+    → ToldPerforms command.Check request room before after out out' WriteFault
 performs_judged_cut request room None after out out' read text cost there consumed same end short judged w = tt
 performs_judged_cut request room (Some bytes) None out out' read text cost there consumed same end short judged w = absurd consumed
 performs_judged_cut request room (Some bytes) (Some rest) out out' read text cost there consumed same end short judged w = record {
@@ -438,6 +439,9 @@ failed fault = Err fault
 failed_same : (a b : StreamFault) → failed a ≡ failed b → a ≡ b
 failed_same a b e = cc
 
+pub read_alone : (fault : StreamFault) → status_of_fault fault ≡ ReadFault → failed fault ≡ failed stream.ReadFault
+read_alone fault e = ap failed (from_read fault e)
+
 pub reports_read : (before now : ℕ) (fault : StreamFault) → Reports before now (failed fault ≡ failed stream.ReadFault) → Reports before now (status_of_fault fault ≡ ReadFault)
 reports_read before now fault r = record {
   later = r.later;
@@ -463,6 +467,18 @@ reports_unwritten before now later rose = record { later = later; cause = λ e. 
 pub reports_after : {A : Type 0} (before mid now : ℕ) → mid ≡ before → Reports mid now A → Reports before now A
 reports_after before mid now e r = rw (sym e) r
 
+pub fault_usage : (fault : StreamFault) → status_of_fault fault ≢ Usage
+fault_usage (stream.BadNumber token) = λ e. cc
+fault_usage (stream.Truncated have need) = λ e. cc
+fault_usage stream.TooLong = λ e. cc
+fault_usage stream.ReadFault = λ e. cc
+fault_usage stream.WriteFault = λ e. cc
+
+pub rest_usage : (fault : RestFault) → status_of_rest fault ≢ Usage
+rest_usage rest_fault.TooLong = λ e. cc
+rest_usage rest_fault.ReadFault = λ e. cc
+rest_usage rest_fault.NoMemory = λ e. cc
+
 pub fault_success : (fault : StreamFault) → status_of_fault fault ≡ Success → ⊥
 fault_success (stream.BadNumber token) e = absurd (cc)
 fault_success (stream.Truncated have need) e = absurd (cc)
@@ -476,19 +492,41 @@ nothing_before : (xs ys : List ℕ) → xs ++ ys ≡ [] → xs ≡ []
 nothing_before [] ys e = refl
 nothing_before (x ∷ xs) ys e = absurd (cc)
 
+nothing_behind : (xs ys : List ℕ) → xs ++ ys ≡ [] → ys ≡ []
+nothing_behind [] ys e = e
+nothing_behind (x ∷ xs) ys e = absurd (cc)
+
+-- of a source that has nothing left no bytes are read, and nothing is left then
+none_read : (rest read : List ℕ) (left : Option (List ℕ)) → Consumes (Some rest) left read → rest ≡ [] → read ≡ []
+none_read rest read None r e = absurd r
+none_read rest read (Some more) r e = nothing_before read more (sym r ∙ e)
+
+none_left : (rest read : List ℕ) (left : Option (List ℕ)) → Consumes (Some rest) left read → rest ≡ [] → IsAtEnd left
+none_left rest read None r e = absurd r
+none_left rest read (Some more) r e = nothing_behind read more (sym r ∙ e)
+
+-- a line that has ended has ended behind further bytes too
+still_ended : (read more : List ℕ) (now later : Type 0) → HasEnded read now → (now → later) → HasEnded (read ++ more) later
+still_ended read more now later (inl there) goes = inl (list_any-append is_line_end read more ∙ ap (λ b. b || list_any is_line_end more) there)
+still_ended read more now later (inr e) goes = inr (goes e)
+
 -- what a command does after the first line accounts for the whole run
-accounts_after : (words : List (List ℕ)) (bytes read rest : List ℕ) (taken : ℕ) (wanted : Command × Request) (out out' : Option (List ℕ)) (status : Status)
-    → bytes ≡ read ++ rest → AsksBy words read rest taken (Ok wanted) → Performs wanted.0 wanted.1 (limit - taken) rest out out' status → Accounts words bytes out out' status
-accounts_after words bytes read rest taken wanted out out' status whole asked p =
+accounts_after : (words : List (List ℕ)) (bytes read rest : List ℕ) (taken : ℕ) (wanted : Command × Request) (left out out' : Option (List ℕ)) (status : Status)
+    → bytes ≡ read ++ rest → AsksBy words read rest taken (Ok wanted) → Performs wanted.0 wanted.1 (limit - taken) rest left out out' status → Accounts words bytes left out out' status
+accounts_after words bytes read rest taken wanted left out out' status whole asked p =
     let here = asked.1 rest (λ e. e) in
     let requested_here : requested words bytes (Ok wanted) = subst (λ b. requested words b (Ok wanted)) (sym whole) here.0 in
     let data_here : data_of bytes ≡ rest = ap data_of whole ∙ here.1 in
     let count : length bytes ≡ length read + length rest = ap length whole ∙ length-append read rest in
-    let left : length (data_of bytes) ≡ length rest = ap length data_here in
+    let same : length (data_of bytes) ≡ length rest = ap length data_here in
     let room : limit - taken ≡ room_behind bytes = ap (λ n. limit - n) (let first = asked.0 in omega arith) in
-    let behind : (read' rest' : List ℕ) → rest ≡ read' ++ rest' → requested words (read ++ read') (Ok wanted) × (data_of (read ++ read') ≡ read') =
-    λ read' rest' e. asked.1 read' (λ none. nothing_before read' rest' (sym e ∙ none)) in
+    let line : HasEnded read (rest ≡ []) = line_there read rest (λ more none. (asked.1 more none).1) in
     let job : Job = record { command = wanted.0; request = wanted.1 } in
+    let order : (more : List ℕ) (ended : Type 0) → (rest ≡ [] → more ≡ []) → (rest ≡ [] → ended) → IsAccepted wanted.0 wanted.1 → IsOrder words (read ++ more) ended job =
+    λ more ended none goes there. record {
+      line = still_ended read more (rest ≡ []) ended line goes;
+      asks = record { value = wanted; before = (asked.1 more none).0; behind = (there, refl) };
+    } in
     record {
       answer = λ d.
           let found = p.answer d in (
@@ -506,61 +544,82 @@ accounts_after words bytes read rest taken wanted out out' status whole asked p 
           );
       read_fault = λ e.
           let found = p.read_fault e in
-          let at = behind found.0 found.1 found.3 in (
+          let none : rest ≡ [] → found.0 ≡ [] = none_read rest found.0 left found.2 in (
             read ++ found.0,
             found.1,
-            found.2,
-            whole ∙ ap (λ l. read ++ l) found.3 ∙ sym (append_assoc read found.0 found.1),
-            inr (job, record { value = wanted; before = at.0; behind = (found.4, refl) }, subst (λ b. BreaksOff wanted.0 wanted.1 b found.2) (sym at.1) found.5),
-            found.6,
+            Consumes-trans (Some bytes) (Some rest) left read found.0 whole found.2,
+            inr (
+              job,
+              order found.0 (IsAtEnd left) none (none_left rest found.0 left found.2) found.3,
+              subst (λ b. BreaksOff wanted.0 wanted.1 b found.1) (sym (asked.1 found.0 none).1) found.4,
+            ),
+            found.5,
           );
       write_fault = λ e.
           let found = p.write_fault e in
-          let at = behind found.0 found.1 found.3 in (
+          let none : rest ≡ [] → found.0 ≡ [] = λ end. nothing_before found.0 found.1 (sym found.3 ∙ end) in (
             read ++ found.0,
             found.1,
             found.2,
             whole ∙ ap (λ l. read ++ l) found.3 ∙ sym (append_assoc read found.0 found.1),
-            (job, record { value = wanted; before = at.0; behind = (found.4, refl) }, subst (λ b. ComesTo wanted.0 wanted.1 b found.1 found.2) (sym at.1) found.5),
+            (
+              job,
+              order found.0 (found.1 ≡ []) none (λ end. nothing_behind found.0 found.1 (sym found.3 ∙ end)) found.4,
+              subst (λ b. ComesTo wanted.0 wanted.1 b found.1 found.2) (sym (asked.1 found.0 none).1) found.5,
+            ),
             found.6,
           );
     }
 
-pub accounted : (words : List (List ℕ)) (before mid : Option (List ℕ)) (taken : ℕ) (wanted : Command × Request) (out out' : Option (List ℕ)) (status : Status)
-    → Asks words before mid taken (Ok wanted) → ToldPerforms wanted.0 wanted.1 (limit - taken) mid out out' status → ToldAccounts words before out out' status
-accounted words None mid taken wanted out out' status a p = tt
-accounted words (Some bytes) None taken wanted out out' status a p = absurd a
-accounted words (Some bytes) (Some rest) taken wanted out out' status a p = accounts_after words bytes a.0 rest taken wanted out out' status a.1 a.2 p
-
--- a run that ends with the first line
-pub accounted_early : (words : List (List ℕ)) (before after : Option (List ℕ)) (taken : ℕ) (out : Option (List ℕ)) (status : Status)
-    → Asks words before after taken (Err status) → status ≢ WriteFault → (status ≡ ReadFault → AskForCommand words) → ToldAccounts words before out out status
-accounted_early words None after taken out status a w c = tt
-accounted_early words (Some bytes) None taken out status a w c = absurd a
-accounted_early words (Some bytes) (Some rest) taken out status a w c = record {
-  answer = λ d. ([], inl (inl (subst (λ b. requested words b (Err status)) (sym a.1) (a.2.0 d)), refl), Appends-nil out);
-  read_fault = λ e. (a.0, rest, [], a.1, inl (c e, a.2.1 e, refl), Appends-nil out);
-  write_fault = λ e. absurd (w e);
-}
-
--- a run that has no memory for its first line
-pub accounted_nothing : (words : List (List ℕ)) (before out : Option (List ℕ)) → ToldAccounts words before out out NoMemory
-accounted_nothing words None out = tt
-accounted_nothing words (Some bytes) out = record { answer = λ d. absurd (d.memory refl); read_fault = λ e. absurd (cc); write_fault = λ e. absurd (cc) }
-
--- the performance of a command that needs no data
-pub told_any : (wanted : Command) (request : Request) (room : ℕ) (before out out' : Option (List ℕ)) (status : Status)
-    → ((room : ℕ) (bytes : List ℕ) → Performs wanted request room bytes out out' status) → ToldPerforms wanted request room before out out' status
-told_any wanted request room None out out' status p = tt
-told_any wanted request room (Some bytes) out out' status p = p room bytes
-
-pub accounts_told : (words : List (List ℕ)) (before out out' : Option (List ℕ)) (status : Status) → ToldAccounts words before out out' status → IfSome before (λ bytes. Accounts words bytes out out' status)
-accounts_told words None out out' status a = tt
-accounts_told words (Some bytes) out out' status a = a
+pub accounted : (words : List (List ℕ)) (before mid left : Option (List ℕ)) (taken : ℕ) (wanted : Command × Request) (out out' : Option (List ℕ)) (status : Status)
+    → Asks words before mid taken (Ok wanted) → ToldPerforms wanted.0 wanted.1 (limit - taken) mid left out out' status → ToldAccounts words before left out out' status
+accounted words None mid left taken wanted out out' status a p = tt
+accounted words (Some bytes) None left taken wanted out out' status a p = absurd a
+accounted words (Some bytes) (Some rest) left taken wanted out out' status a p = accounts_after words bytes a.0 rest taken wanted left out out' status a.1 a.2 p
 
 pub prepend_nothing : (left : Option (List ℕ)) → prepend_known [] left ≡ left
 prepend_nothing None = refl
 prepend_nothing (Some bytes) = refl
+
+-- what is left for a feed that holds nothing is left in the source
+pub nothing_held : (feed : Fed) (left : Option (List ℕ)) → feed.held ≡ [] → to_come feed left ≡ left
+nothing_held feed left e = ap (λ h. prepend_known h left) e ∙ prepend_nothing left
+
+-- where a read failed, the feed holds nothing
+pub told_by_source : (wanted : Command) (request : Request) (room : ℕ) (before : Option (List ℕ)) (feed : Fed) (left out out' : Option (List ℕ)) (status : Status)
+    → (status ≡ ReadFault → feed.held ≡ []) → ToldPerforms wanted request room before (to_come feed left) out out' status → ToldPerforms wanted request room before left out out' status
+told_by_source wanted request room None feed left out out' status empty p = tt
+told_by_source wanted request room (Some bytes) feed left out out' status empty p = record {
+  answer = p.answer;
+  read_fault = λ e. (subst (λ (o : Option (List ℕ)). Performs wanted request room bytes o out out' status) (nothing_held feed left (empty e)) p).read_fault e;
+  write_fault = p.write_fault;
+}
+
+-- a run that ends with the first line
+pub accounted_early : (words : List (List ℕ)) (before after left : Option (List ℕ)) (taken : ℕ) (out : Option (List ℕ)) (status : Status)
+    → Asks words before after taken (Err status) → status ≢ WriteFault → (status ≡ ReadFault → AskForCommand words) → (status ≡ ReadFault → after ≡ left) → ToldAccounts words before left out out status
+accounted_early words None after left taken out status a w c same = tt
+accounted_early words (Some bytes) None left taken out status a w c same = absurd a
+accounted_early words (Some bytes) (Some rest) left taken out status a w c same = record {
+  answer = λ d. ([], inl (inl (subst (λ b. requested words b (Err status)) (sym a.1) (a.2.0 d)), refl), Appends-nil out);
+  read_fault = λ e. (a.0, [], subst (λ (o : Option (List ℕ)). Consumes (Some bytes) o a.0) (same e) a.1, inl (c e, a.2.1 e, refl), Appends-nil out);
+  write_fault = λ e. absurd (w e);
+}
+
+-- a run that has no memory for its first line
+pub accounted_nothing : (words : List (List ℕ)) (before left out : Option (List ℕ)) → ToldAccounts words before left out out NoMemory
+accounted_nothing words None left out = tt
+accounted_nothing words (Some bytes) left out = record { answer = λ d. absurd (d.memory refl); read_fault = λ e. absurd (cc); write_fault = λ e. absurd (cc) }
+
+-- the performance of a command that needs no data
+pub told_any : (wanted : Command) (request : Request) (room : ℕ) (before left out out' : Option (List ℕ)) (status : Status)
+    → ((room : ℕ) (bytes : List ℕ) (left : Option (List ℕ)) → Performs wanted request room bytes left out out' status) → ToldPerforms wanted request room before left out out' status
+told_any wanted request room None left out out' status p = tt
+told_any wanted request room (Some bytes) left out out' status p = p room bytes left
+
+pub accounts_told : (words : List (List ℕ)) (before left out out' : Option (List ℕ)) (status : Status) → ToldAccounts words before left out out' status → IfSome before (λ bytes. Accounts words bytes left out out' status)
+accounts_told words None left out out' status a = tt
+accounts_told words (Some bytes) left out out' status a = a
 
 -- what a write of the line leaves, whatever it answers
 pub noted : {T E : Type 0} (result : Result T E) (old new : Option (List ℕ)) (before now : ℕ) (line : List ℕ)

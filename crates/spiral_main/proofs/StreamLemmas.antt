@@ -1,5 +1,5 @@
 -- Vectors that come one by one.
-use Rattle.std.proofs.Common.{◌≡◌, ◌<◌, ◌≤◌, ◌+◌, ◌/◌, ◌%◌, ℕ, suc, Bool, true, false, ◌&&◌, List, [], ◌∷◌, ◌++◌, None, Some, Ok, Err, Result, OnOk, nat_lt, ◌==◌, ◌-◌, ◌≢◌, zero, length, take, drop, refl, sym, ap, subst, ◌∙◌, arith, append_assoc, append-nil, length-append, cond, add_assoc, add-one, add-zero, slice_index}
+use Rattle.std.proofs.Common.{◌≡◌, ◌<◌, ◌≤◌, ◌+◌, ◌/◌, ◌%◌, ◌⊎◌, ℕ, suc, Bool, true, false, ◌&&◌, List, [], ◌∷◌, ◌++◌, None, Some, Ok, Err, Result, OnOk, nat_lt, ◌==◌, ◌-◌, ◌≢◌, zero, length, take, drop, refl, sym, ap, subst, ◌∙◌, arith, append_assoc, append-nil, length-append, cond, add_assoc, add-one, add-zero, slice_index, inl, inr}
 use Rattle.std.proofs.Math.Nat.{add-div_left, div-eq_of_lt, mod-eq_of_lt, add-mod_left}
 use Rattle.std.proofs.Math.Seq.{take-append_seam, take-append-add, drop-append_seam}
 use Rattle.std.proofs.KnownBytes.{Consumes-nil, Consumes-trans, Appends-trans}
@@ -23,7 +23,7 @@ use Rattle.data_stream.specs.declared.DataFault.{DataFault}
 use Rattle.data_stream.specs.declared.DataFault.TheVariants as data_fault
 use Rattle.data_stream.proofs.TokensLemmas.{not_ended}
 use Rattle.data_stream.proofs.TokenLemmas.{both_left, both_right}
-use Rattle.data_stream.proofs.VectorLemmas.{closed_after}
+use Rattle.data_stream.proofs.VectorLemmas.{closed_after, over_behind}
 use Rattle.spiral_main.specs.Stream.{group_vectors, vectors_of, texts, turn_lines, state_behind, good_front, bad_after, answer_of, vectors_seen, data_answer, data_vectors, Answers, ToldAnswers, Reads, Writes, Streams}
 use Rattle.spiral_main.specs.declared.stream.StreamFault.{StreamFault}
 use Rattle.spiral_main.specs.StreamFault.{stream_fault}
@@ -127,14 +127,20 @@ joined_all : (bytes read : List ℕ) (ts : List (List ℕ)) (mid new : Bool) →
 joined_all bytes read ts mid new p once =
     ap tokens (sym (append-nil (bytes ++ read))) ∙ joined bytes read [] ts mid new p once (λ _. refl) ∙ ap (λ l. ts ++ tokens l) (append-nil read)
 
+-- the data have no token that may go on, or have ended
+closed_or_ended : (ended : Bool) (closed end : Type 0) → (ended ≡ false → closed) → (ended ≡ true → end) → closed ⊎ end
+closed_or_ended true closed end c e = inr (e refl)
+closed_or_ended false closed end c e = inl (c refl)
+
 -- the line of a vector was not written whole
 pub stream_unwritten : (a c : Option (List ℕ)) (old new : Fed) (ended : Bool) (size modulus done : ℕ) (vectors : List (List ℕ)) (end : Type 0)
-    → 0 < size → (p : StreamProgress a c old.taken new.taken ended size modulus done vectors)
+    → 0 < size → (p : StreamProgress a c old.taken new.taken ended size modulus done vectors) → (ended ≡ true → end)
     → Reads size modulus old new p.bytes end vectors (Err WriteFault)
-stream_unwritten a c old new ended size modulus done vectors end some p =
+stream_unwritten a c old new ended size modulus done vectors end some p at_end =
     let there : tokens p.bytes ≡ p.ts = ap tokens (sym (append-nil p.bytes)) ∙ p.are_tokens [] (λ _. refl) ∙ append-nil p.ts in (
       p.taken,
       ap (list_all is_good) there ∙ p.good,
+      closed_or_ended ended (closed_part p.bytes ≡ p.bytes) end p.closed at_end,
       ap (vectors_of size modulus) (there ∙ sym (append-nil p.ts)) ∙ p.splits [] ∙ ap (λ l. vectors ++ l) (vectors_few size modulus [] some) ∙ append-nil vectors,
     )
 
@@ -180,12 +186,16 @@ part_behind a b old now mid size modulus done vectors read p going part =
           ∙ ap (λ l. vectors ++ l) (vectors_few size modulus (tokens (closed_part read)) part.few) ∙ append-nil vectors,
     )
 
+no_bytes : (bytes : List ℕ) → length bytes ≡ 0 → bytes ≡ []
+no_bytes [] e = refl
+no_bytes (x ∷ bytes) e = absurd (omega arith)
+
 -- the data end in a vector, or are faulty, or can't be read
 pub stream_fault_at : (a b c : Option (List ℕ)) (old now new : Fed) (mid ended : Bool) (size modulus done : ℕ) (vectors : List (List ℕ)) (end : Type 0) (read vector : List ℕ) (fault : DataFault)
-    → 0 < size → (p : StreamProgress a b old.taken now.taken mid size modulus done vectors) → Consumes b c read → mid ≡ false
+    → 0 < size → (p : StreamProgress a b old.taken now.taken mid size modulus done vectors) → (limit < now.taken → now.taken ≡ old.taken) → Consumes b c read → mid ≡ false
     → GivesVector size modulus done now new read ended vector (Err fault) → (ended ≡ true → end)
     → Consumes a c (p.bytes ++ read) × Reads size modulus old new (p.bytes ++ read) end vectors (Err (stream_fault fault))
-stream_fault_at a b c old now new mid ended size modulus done vectors end read vector (data_fault.Truncated have need) some p r going given at_end =
+stream_fault_at a b c old now new mid ended size modulus done vectors end read vector (data_fault.Truncated have need) some p begun r going given at_end =
     let there : tokens (p.bytes ++ read) ≡ p.ts ++ tokens read = p.are_tokens read (λ e. absurd (not_ended mid going e)) in
     let few : length (tokens read) < size = let n = given.3 in let h = given.5 in let s = given.6 in omega arith in (
       Consumes-trans a b c p.bytes read p.consumed r,
@@ -199,7 +209,7 @@ stream_fault_at a b c old now new mid ended size modulus done vectors end read v
         ap (vectors_of size modulus) there ∙ p.splits (tokens read) ∙ ap (λ l. vectors ++ l) (vectors_few size modulus (tokens read) few) ∙ append-nil vectors,
       ),
     )
-stream_fault_at a b c old now new mid ended size modulus done vectors end read vector (data_fault.BadNumber token) some p r going given at_end =
+stream_fault_at a b c old now new mid ended size modulus done vectors end read vector (data_fault.BadNumber token) some p begun r going given at_end =
     let us = given.1.0 in
     let good = all_good p.ts us p.good given.1.1 in
     let shown : (more : List ℕ) → tokens ((p.bytes ++ read) ++ more) ≡ (p.ts ++ us) ++ (given.1.4 more).0 ∷ (given.1.4 more).1 =
@@ -222,19 +232,17 @@ stream_fault_at a b c old now new mid ended size modulus done vectors end read v
         ),
       ),
     )
-stream_fault_at a b c old now new mid ended size modulus done vectors end read vector data_fault.ReadFault some p r going given at_end =
+stream_fault_at a b c old now new mid ended size modulus done vectors end read vector data_fault.ReadFault some p begun r going given at_end =
     let part = part_behind a b old.taken now.taken mid size modulus done vectors read p going given.1 in (
       Consumes-trans a b c p.bytes read p.consumed r,
       (grown old.taken now.taken new.taken p.bytes read p.taken given.0, part.0, part.1),
     )
-stream_fault_at a b c old now new mid ended size modulus done vectors end read vector data_fault.TooLong some p r going given at_end =
-    let part = part_behind a b old.taken now.taken mid size modulus done vectors given.0 p going given.4 in (
+stream_fault_at a b c old now new mid ended size modulus done vectors end read vector data_fault.TooLong some p begun r going given at_end =
+    let part = part_behind a b old.taken now.taken mid size modulus done vectors given.0 p going given.2 in (
       Consumes-trans a b c p.bytes read p.consumed r,
       (
         p.bytes ++ given.0,
-        given.1,
-        ap (λ l. p.bytes ++ l) given.2 ∙ sym (append_assoc p.bytes given.0 (given.1 ∷ [])),
-        (let l = length-append p.bytes given.0 in let t = p.taken in let at = given.3 in omega arith),
+        over_behind old now p.bytes read given.0 p.taken (λ over. no_bytes p.bytes (omega (arith, p.taken, begun over))) given.1,
         part.0,
         part.1,
       ),
@@ -257,6 +265,13 @@ link size modulus room bytes over bad seen o t b = (
       ∙ ap (λ x. vectors_seen size modulus over (bad_after 0 (tokens x)) x) t
       ∙ ap (λ x. vectors_seen size modulus over x seen) b,
 )
+
+-- good tokens in whole vectors
+pub right_answer : (size room : ℕ) (bytes : List ℕ) → length bytes ≤ room → list_all is_good (tokens bytes) ≡ true → length (tokens bytes) % size ≡ 0 → data_answer size room bytes ≡ Ok tt
+right_answer size room bytes few good whole =
+    let seen = whole_seen room bytes few in
+    let l = link size 1 room bytes false None bytes seen.0 seen.1 (all_good_none 0 (tokens bytes) good) in
+    l.0 ∙ ap (λ n. cond {A = Result (Unit {0}) StreamFault} (n == 0) (Ok tt) (Err (Truncated n size))) whole
 
 bad_any : (size count token : ℕ) (over : Bool) → answer_of size over (Some token) count ≡ Err (BadNumber token)
 bad_any size count token true = refl
@@ -303,15 +318,15 @@ answered size modulus old new read rest vectors (Err (BadNumber token)) s start 
       l.0 ∙ bad_any size (length (tokens (read ++ more))) token (nat_lt room (length (read ++ rest))),
       l.1 ∙ bad_vectors size modulus token (nat_lt room (length (read ++ rest))) (read ++ more) ∙ ap (vectors_of size modulus) found.1 ∙ s.1.2,
     )
-answered size modulus old new read rest vectors (Err TooLong) s start within =
+answered size modulus old new read rest vectors (Err TooLong) (within_bytes, inl (byte, whole, at), good, same) start within =
     let room = limit - old.taken in
-    let front : read ++ rest ≡ s.0 ++ s.1 ∷ rest = ap (λ l. l ++ rest) s.2 ∙ append_assoc s.0 (s.1 ∷ []) rest in
-    let at = s.3 in
-    let count = length-append s.0 (s.1 ∷ rest) in
-    let full : room ≡ length s.0 = omega arith in
-    let over : nat_lt room (length (s.0 ++ s.1 ∷ rest)) ≡ true = grind (arith, common_steps) in
-    let l = link size modulus room (s.0 ++ s.1 ∷ rest) true None s.0 over (ap (λ n. take n (s.0 ++ s.1 ∷ rest)) full ∙ take-append_seam s.0 (s.1 ∷ rest)) (all_good_none 0 (tokens s.0) s.4) in
-    rw front (l.0, l.1 ∙ s.5)
+    let front : read ++ rest ≡ within_bytes ++ byte ∷ rest = ap (λ l. l ++ rest) whole ∙ append_assoc within_bytes (byte ∷ []) rest in
+    let count = length-append within_bytes (byte ∷ rest) in
+    let full : room ≡ length within_bytes = omega arith in
+    let over : nat_lt room (length (within_bytes ++ byte ∷ rest)) ≡ true = grind (arith, common_steps) in
+    let l = link size modulus room (within_bytes ++ byte ∷ rest) true None within_bytes over (ap (λ n. take n (within_bytes ++ byte ∷ rest)) full ∙ take-append_seam within_bytes (byte ∷ rest)) (all_good_none 0 (tokens within_bytes) good) in
+    rw front (l.0, l.1 ∙ same)
+answered size modulus old new read rest vectors (Err TooLong) (within_bytes, inr (over, none, empty), good, same) start within = absurd (omega (arith, over, start))
 answered size modulus old new read rest vectors (Err ReadFault) s start within = tt
 answered size modulus old new read rest vectors (Err WriteFault) s start within = tt
 
@@ -367,15 +382,15 @@ fault_within data_fault.ReadFault fits w other = w (λ e. cc)
 -- the whole account of a run
 pub streamed : {S : Type 0} (text : List ℕ → List ℕ) (leaves : List ℕ → S) (size modulus : ℕ) (old new : Fed) (before after out out' : Option (List ℕ)) (first last : S)
     (result : Result (Unit {0}) StreamFault) (read : List ℕ) (vectors : List (List ℕ))
-    → Consumes before after read → Reads size modulus old new read (IsAtEnd after) vectors result → old.taken ≤ limit → (result ≢ Err TooLong → new.taken ≤ limit)
+    → Consumes before after read → Reads size modulus old new read (IsAtEnd after) vectors result → (result ≢ Err TooLong → new.taken ≤ limit)
     → Writes out out' result (texts text vectors) → (result ≢ Err WriteFault → last ≡ state_behind leaves first vectors)
     → Streams text leaves size modulus old new before after out out' first last result
-streamed text leaves size modulus old new before after out out' first last result read vectors consumed answer start within wrote stands = record {
+streamed text leaves size modulus old new before after out out' first last result read vectors consumed answer within wrote stands = record {
   read = read;
   vectors = vectors;
   consumed = consumed;
   answer = answer;
-  told = told_answers size modulus old new before after read vectors result consumed answer start within;
+  told = λ start. told_answers size modulus old new before after read vectors result consumed answer start within;
   wrote = wrote;
   stands = stands;
 }

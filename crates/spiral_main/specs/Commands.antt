@@ -1,5 +1,5 @@
 -- The commands that the words ask for, and what they read.
-use Rattle.std.specs.Prelude.{◌≡◌, ℕ, ◌||◌, Bool, true, false, List, None, Some, Ok, Err, Result, find, nat_le}
+use Rattle.std.specs.Prelude.{◌≡◌, ◌≢◌, ◌⊎◌, ℕ, ◌||◌, Bool, true, false, List, None, Some, Ok, Err, Result, find, nat_le}
 use Rattle.std.specs.declared.option.Option.{Option}
 use Rattle.matrix_meaning.specs.declared.Request.{Request}
 use Rattle.request_text.specs.Schedule.{Plan as Turns, Sequential}
@@ -9,7 +9,7 @@ use Rattle.spiral_words.specs.declared.Command.{Command}
 use Rattle.spiral_words.specs.declared.Command.TheVariants.{Plan, Formula, Cert, Check, Code, C, Run, Trace, Sample}
 use Rattle.spiral_main.specs.Stage.{Stage}
 use Rattle.spiral_main.specs.declared.status.Status.{Status}
-use Rattle.spiral_main.specs.declared.status.Status.TheVariants.{Usage, Turn}
+use Rattle.spiral_main.specs.declared.status.Status.TheVariants.{Usage, Turn, NoMemory}
 
 -- the commands that go over the data
 abbrev pub reads_data : Command → Bool
@@ -51,6 +51,10 @@ commanded words (Err status) = (status ≡ Usage) × IsUsage words
 -- the words ask for a command
 abbrev pub AskForCommand : List (List ℕ) → Type 0
 AskForCommand words = (command : Command) × IsAsked words command
+
+-- The words are judged first and alone: they are no command line, and the status is Usage, or they ask for a command, and it is another; or memory runs out
+abbrev pub AreJudged : List (List ℕ) → Status → Type 0
+AreJudged words status = (status ≡ NoMemory) ⊎ (((status ≡ Usage) × IsUsage words) ⊎ ((status ≢ Usage) × AskForCommand words))
 
 -- the words ask for a command that reads its input to its end
 abbrev pub AskForRest : List (List ℕ) → Type 0

@@ -3,6 +3,7 @@ pub mod Commands
 pub mod Fault
 pub mod Line
 pub mod Outcome
+pub mod Right
 pub mod Sample
 pub mod Stage
 pub mod Status

@@ -1,5 +1,5 @@
 -- The first line of an input, and what stands behind it.
-use Rattle.std.specs.Prelude.{◌≡◌, ℕ, ◌+◌, ◌<◌, ◌≤◌, ◌==◌, nat_le, Bool, false, List, [], ◌++◌, length, take, Ok, Err, Result, if◌then◌else◌}
+use Rattle.std.specs.Prelude.{◌≡◌, ◌⊎◌, ℕ, ◌+◌, ◌<◌, ◌≤◌, ◌==◌, nat_le, Bool, true, false, List, [], ◌++◌, length, take, Ok, Err, Result, if◌then◌else◌}
 use Rattle.std.specs.List.{before_first, after_first, list_any}
 use Rattle.io_edge.specs.declared.FeedFault.{FeedFault}
 use Rattle.io_edge.specs.declared.FeedFault.TheVariants.{ReadFault}
@@ -26,6 +26,10 @@ line_of bytes = if nat_le (length (first_line bytes)) 256 then Ok (first_line by
 pub record IsPartOfLine (bytes : List ℕ) : Type 0 where
   pub unended : list_any is_line_end bytes ≡ false
   pub short : length bytes ≤ 256
+
+-- the first line has ended, by a line end or with the input
+abbrev pub HasEnded : List ℕ → Type 0 → Type 0
+HasEnded bytes ended = (list_any is_line_end bytes ≡ true) ⊎ ended
 
 -- these bytes are the whole first line and its end, whatever follows, or, where the input has ended, as nothing follows
 abbrev pub IsWholeLine : List ℕ → Type 0 → List ℕ → Type 0

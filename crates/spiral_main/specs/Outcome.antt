@@ -1,8 +1,8 @@
 -- What the program answers for its words and the bytes of its input, and what it writes.
-use Rattle.std.specs.Prelude.{◌≡◌, ◌⊎◌, ℕ, ◌-◌, ◌≤◌, true, List, [], ◌∷◌, ◌++◌, length, Ok, Err}
+use Rattle.std.specs.Prelude.{◌≡◌, ◌⊎◌, ℕ, ◌-◌, ◌≤◌, true, List, [], ◌∷◌, ◌++◌, length, Some, Ok, Err}
 use Rattle.std.specs.List.{list_all}
 use Rattle.std.specs.declared.option.Option.{Option}
-use Rattle.std.specs.Io.KnownBytes.{Appends}
+use Rattle.std.specs.Io.KnownBytes.{Appends, Consumes, IsAtEnd}
 use Rattle.matrix_meaning.specs.declared.Request.{Request}
 use Rattle.matrix_meaning.specs.Kind.{transform}
 use Rattle.icode.specs.declared.program.Program.{Program}
@@ -35,7 +35,7 @@ use Rattle.spiral_main.specs.declared.status.Status.TheVariants.{Success, ReadFa
 use Rattle.spiral_main.specs.Checked.{certificate_limit, IsJudged, IsChecked}
 use Rattle.spiral_main.specs.Commands.{reads_certificate, commanded, AskForCommand, scheduled}
 use Rattle.spiral_main.specs.Fault.{status_of_request, status_of_generate, status_of_stream}
-use Rattle.spiral_main.specs.Line.{line_of, data_of, IsPartOfLine}
+use Rattle.spiral_main.specs.Line.{line_of, data_of, IsPartOfLine, HasEnded}
 use Rattle.spiral_main.specs.Sample.{sample_vector, weighted_sum, sample_text}
 use Rattle.spiral_main.specs.Stage.{Stage, given, ◌>>=◌}
 use Rattle.spiral_main.specs.Status.{IsDefined}
@@ -183,28 +183,34 @@ BreaksOff wanted request bytes text =
     ((list_all is_good (tokens bytes) ≡ true) × IsTextOfData wanted request (vectors_of request.size request.modulus (tokens (closed_part bytes))) text)
     ⊎ ((reads_certificate wanted ≡ true) × (length bytes ≤ certificate_limit) × (text ≡ []))
 
--- The bytes that were read show no fault: they are a part of the first line, and nothing is written, or a job and a part of what stands behind it
-abbrev pub IsBrokenOff : List (List ℕ) → List ℕ → List ℕ → Type 0
-IsBrokenOff words read text =
-    (AskForCommand words × IsPartOfLine read × (text ≡ []))
-    ⊎ ((job : Job) × ordered words read (Ok job) × BreaksOff job.command job.request (data_of read) text)
+-- the bytes are a first line that has ended, which orders the job, and what stands behind it
+pub record IsOrder (words : List (List ℕ)) (read : List ℕ) (ended : Type 0) (job : Job) : Type 0 where
+  pub line : HasEnded read ended
+  pub asks : ordered words read (Ok job)
 
--- the text to which a command has come by the bytes that it read behind the first line, where this is left
+-- The bytes that were read show no fault: they are a part of the first line, and nothing is written, or a job and a part of what stands behind it
+abbrev pub IsBrokenOff : List (List ℕ) → List ℕ → Type 0 → List ℕ → Type 0
+IsBrokenOff words read ended text =
+    (AskForCommand words × IsPartOfLine read × (text ≡ []))
+    ⊎ ((job : Job) × IsOrder words read ended job × BreaksOff job.command job.request (data_of read) text)
+
+-- The text to which a command has come by the bytes that it read behind the first line, where this is left. Of data no token counts that what is left may go on
 abbrev pub ComesTo : Command → Request → List ℕ → List ℕ → List ℕ → Type 0
 ComesTo wanted request bytes left text =
-    ((list_all is_good (tokens bytes) ≡ true) × IsTextOfData wanted request (vectors_of request.size request.modulus (tokens bytes)) text)
+    ((list_all is_good (tokens bytes) ≡ true) × ((closed_part bytes ≡ bytes) ⊎ (left ≡ []))
+    × IsTextOfData wanted request (vectors_of request.size request.modulus (tokens bytes)) text)
     ⊎ (IsTextOf wanted request text
     ⊎ ((reads_certificate wanted ≡ true) × (left ≡ []) × (length bytes ≤ certificate_limit) × IsJudged request bytes Success text))
 
--- Status and output of a run, by all the bytes of its input
-pub record Accounts (words : List (List ℕ)) (bytes : List ℕ) (before after : Option (List ℕ)) (status : Status) : Type 0 where
+-- Status and output of a run, by all the bytes of its input and by what the source has left of them
+pub record Accounts (words : List (List ℕ)) (bytes : List ℕ) (left before after : Option (List ℕ)) (status : Status) : Type 0 where
   -- where nothing failed, they are the outcome
   pub answer : IsDefined status → (text : List ℕ) × IsOutcome words bytes status text × Appends before after text
-  -- a read failed behind bytes that show no fault, and the output took the text up to there
-  pub read_fault : status ≡ ReadFault → (read : List ℕ) × (rest : List ℕ) × (text : List ℕ) × (bytes ≡ read ++ rest) × IsBrokenOff words read text × Appends before after text
+  -- a read failed: the bytes that the source gave show no fault, and the output took the whole text up to there
+  pub read_fault : status ≡ ReadFault → (read : List ℕ) × (text : List ℕ) × Consumes (Some bytes) left read × IsBrokenOff words read (IsAtEnd left) text × Appends before after text
   -- a write failed at a job's text, of which the output took a front
   pub write_fault : status ≡ WriteFault → (read : List ℕ) × (rest : List ℕ) × (text : List ℕ) × (bytes ≡ read ++ rest)
-      × ((job : Job) × ordered words read (Ok job) × ComesTo job.command job.request (data_of read) rest text) × AppendsPrefix before after text
+      × ((job : Job) × IsOrder words read (rest ≡ []) job × ComesTo job.command job.request (data_of read) rest text) × AppendsPrefix before after text
 
 -- the line went to the note whole, or a prefix of it where the note failed
 abbrev pub Notes : Option (List ℕ) → Option (List ℕ) → ℕ → ℕ → List ℕ → Type 0

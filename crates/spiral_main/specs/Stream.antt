@@ -1,5 +1,5 @@
 -- Data as a stream of vectors: which vectors they have, how they end, and what a run over them reads, writes and leaves.
-use Rattle.std.specs.Prelude.{◌≡◌, ◌≢◌, ℕ, zero, suc, ◌+◌, ◌-◌, ◌/◌, ◌%◌, ◌<◌, Bool, true, false, List, [], ◌∷◌, ◌++◌, length, take, drop, None, Some, Ok, Err, Result, if◌then◌else◌, nat_le, nat_lt, find, ◌==◌}
+use Rattle.std.specs.Prelude.{◌≡◌, ◌≢◌, ◌≤◌, ◌⊎◌, ℕ, zero, suc, ◌+◌, ◌-◌, ◌/◌, ◌%◌, ◌<◌, Bool, true, false, List, [], ◌∷◌, ◌++◌, length, take, drop, None, Some, Ok, Err, Result, if◌then◌else◌, nat_le, nat_lt, find, ◌==◌}
 use Rattle.std.specs.List.{list_all, flat_map}
 use Rattle.std.specs.declared.option.Option.{Option}
 use Rattle.std.specs.Io.KnownBytes.{Appends, Consumes, IsAtEnd}
@@ -9,7 +9,7 @@ use Rattle.request_text.specs.Turns.{named}
 use Rattle.io_edge.specs.Feed.{Fed, limit}
 use Rattle.io_edge.specs.Taken.{AppendsPrefix}
 use Rattle.data_stream.specs.Data.{tokens, closed_part, is_good}
-use Rattle.data_stream.specs.Reading.{residues}
+use Rattle.data_stream.specs.Reading.{GoesOver, residues}
 use Rattle.data_stream.specs.Line.{line_of}
 use Rattle.trace_text.specs.Trace.{trace_of}
 use Rattle.spiral_main.specs.declared.stream.StreamFault.{StreamFault}
@@ -101,12 +101,12 @@ Reads size modulus old new read ended vectors (Err (BadNumber token)) = (new.tak
     × ((good : List (List ℕ))
     × ((more : List ℕ) → (bad_after 0 (tokens (read ++ more)) ≡ Some token) × (good_front (tokens (read ++ more)) ≡ good))
     × (vectors_of size modulus good ≡ vectors))
-Reads size modulus old new read ended vectors (Err TooLong) = (within : List ℕ) × (byte : ℕ) × (read ≡ within ++ byte ∷ []) × (old.taken + length within ≡ limit)
+Reads size modulus old new read ended vectors (Err TooLong) = (within : List ℕ) × GoesOver old read within
     × (list_all is_good (tokens within) ≡ true) × (vectors_of size modulus (tokens (closed_part within)) ≡ vectors)
 Reads size modulus old new read ended vectors (Err ReadFault) = (new.taken ≡ old.taken + length read)
     × (list_all is_good (tokens read) ≡ true) × (vectors_of size modulus (tokens (closed_part read)) ≡ vectors)
 Reads size modulus old new read ended vectors (Err WriteFault) = (new.taken ≡ old.taken + length read)
-    × (list_all is_good (tokens read) ≡ true) × (vectors_of size modulus (tokens read) ≡ vectors)
+    × (list_all is_good (tokens read) ≡ true) × ((closed_part read ≡ read) ⊎ ended) × (vectors_of size modulus (tokens read) ≡ vectors)
 
 -- the output took the text, or a prefix of it where it failed
 abbrev pub Writes : Option (List ℕ) → Option (List ℕ) → Result (Unit {0}) StreamFault → List ℕ → Type 0
@@ -120,7 +120,7 @@ pub record Streams {S : Type 0} (text : List ℕ → List ℕ) (leaves : List �
   pub vectors : List (List ℕ)
   pub consumed : Consumes before after read
   pub answer : Reads size modulus old new read (IsAtEnd after) vectors result
-  pub told : ToldAnswers size modulus (limit - old.taken) before vectors result
+  pub told : old.taken ≤ limit → ToldAnswers size modulus (limit - old.taken) before vectors result
   pub wrote : Writes out out' result (texts text vectors)
   pub stands : result ≢ Err WriteFault → last ≡ state_behind leaves first vectors
 

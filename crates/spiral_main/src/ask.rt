@@ -1,11 +1,11 @@
 // What the words and the first line ask for.
-ghost use Rattle.std.specs.Prelude.{◌≡◌, ◌≢◌, ◌≤◌, ℕ, Some, Ok, Err, IfOk, IfErr, OnOk, IsErrOf, map, string_bytes};
+ghost use Rattle.std.specs.Prelude.{◌≡◌, ◌≢◌, ◌≤◌, ℕ, [], Some, Ok, Err, IfOk, IfErr, OnOk, IsErrOf, map, string_bytes};
 ghost use Rattle.matrix_meaning.specs.Valid.{IsInRange};
 ghost use Rattle.io_edge.specs.Faults.{Reports};
 ghost use Rattle.io_edge.specs.Feed.{to_come};
-ghost use Rattle.spiral_main.specs.Commands.{commanded, AskForCommand, schedule_of, stranger};
+ghost use Rattle.spiral_main.specs.Commands.{commanded, AskForCommand, AreJudged, schedule_of, stranger};
 ghost use Rattle.spiral_main.specs.Status.{IsDefined};
-ghost use Rattle.spiral_main.specs.Steps.{IsRefusal, Asks};
+ghost use Rattle.spiral_main.specs.Steps.{IsEarly, Asks};
 ghost use Rattle.spiral_main.specs.Stream.{HasNoStranger};
 
 use crate::Status;
@@ -29,8 +29,10 @@ pub(crate) fn ask<I: Source>(
     ensures command { IfOk result (λ wanted. commanded (map string_bytes words.now.items) (Ok wanted.0)) }
     ensures request { IfOk result (λ wanted. IsInRange wanted.1 × (wanted.1.weight ≡ 1)) }
     ensures turns { IfOk result (λ wanted. HasNoStranger (schedule_of wanted.0) wanted.1.procs) }
+    ensures empty { IsErrOf result Status.ReadFault → feed.new.held ≡ [] }
     ensures read { Reports (I.faults input.old) (I.faults input.new) (IsErrOf result Status.ReadFault) }
     ensures after { IsErrOf result Status.ReadFault → AskForCommand (map string_bytes words.now.items) }
+    ensures words { IfErr result (AreJudged (map string_bytes words.now.items)) }
     ensures others { IfErr result (λ status. (status ≢ Status.Success) × (status ≢ Status.WriteFault)) }
 {
     let command = asked(alloc, words)?;
@@ -45,7 +47,8 @@ pub(crate) fn ask<I: Source>(
 fn asked(alloc: Global, words: &Vec<String>) -> Result<Command, Status>
     ensures command { IfOk result (λ command. commanded (map string_bytes words.now.items) (Ok command)) }
     ensures refused { IfErr result (λ status. IsDefined status → commanded (map string_bytes words.now.items) (Err status)) }
-    ensures refusal { IfErr result IsRefusal }
+    ensures refusal { IfErr result IsEarly }
+    ensures words { IfErr result (AreJudged (map string_bytes words.now.items)) }
 {
     match command_of(alloc, words) {
         Ok(command) => Ok(command),

@@ -1,5 +1,5 @@
 // The commands that go over the vectors of the data.
-ghost use Rattle.std.specs.Prelude.{◌≡◌, ◌-◌, ◌≤◌, []};
+ghost use Rattle.std.specs.Prelude.{◌≡◌, ◌≢◌, ◌-◌, ◌≤◌, []};
 ghost use Rattle.std.specs.Io.KnownBytes.{Appends, IsAtEnd};
 ghost use Rattle.matrix_meaning.specs.Valid.{IsInRange};
 ghost use Rattle.io_edge.specs.Faults.{Reports};
@@ -31,8 +31,10 @@ pub(crate) fn run<I: Source, O: Sink>(
     requires turns { HasNoStranger schedule.now request.now.procs }
     requires within { feed.old.taken ≤ limit }
     ensures told { ToldPerforms (Command.Run schedule.now) request.now (limit - feed.old.taken) (to_come feed.old (I.left input.old))
-        (O.taken output.old) (O.taken output.new) (status_of result) }
+        (to_come feed.new (I.left input.new)) (O.taken output.old) (O.taken output.new) (status_of result) }
     ensures end { status_of result ≡ Status.Success → IsAtEnd (to_come feed.new (I.left input.new)) }
+    ensures empty { status_of result ≡ Status.ReadFault → feed.new.held ≡ [] }
+    ensures usage { status_of result ≢ Status.Usage }
     ensures read { Reports (I.faults input.old) (I.faults input.new) (status_of result ≡ Status.ReadFault) }
     ensures write { Reports (O.faults output.old) (O.faults output.new) (status_of result ≡ Status.WriteFault) }
     ensures memory { status_of result ≡ Status.NoMemory → Appends (O.taken output.old) (O.taken output.new) [] }
@@ -64,8 +66,10 @@ pub(crate) fn trace<I: Source, O: Sink>(
     requires turns { HasNoStranger schedule.now request.now.procs }
     requires within { feed.old.taken ≤ limit }
     ensures told { ToldPerforms (Command.Trace schedule.now) request.now (limit - feed.old.taken) (to_come feed.old (I.left input.old))
-        (O.taken output.old) (O.taken output.new) (status_of result) }
+        (to_come feed.new (I.left input.new)) (O.taken output.old) (O.taken output.new) (status_of result) }
     ensures end { status_of result ≡ Status.Success → IsAtEnd (to_come feed.new (I.left input.new)) }
+    ensures empty { status_of result ≡ Status.ReadFault → feed.new.held ≡ [] }
+    ensures usage { status_of result ≢ Status.Usage }
     ensures read { Reports (I.faults input.old) (I.faults input.new) (status_of result ≡ Status.ReadFault) }
     ensures write { Reports (O.faults output.old) (O.faults output.new) (status_of result ≡ Status.WriteFault) }
     ensures memory { status_of result ≡ Status.NoMemory → Appends (O.taken output.old) (O.taken output.new) [] }

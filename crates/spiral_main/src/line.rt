@@ -1,5 +1,5 @@
 // The first line of an input.
-ghost use Rattle.std.specs.Prelude.{◌≡◌, ℕ, List, length, IsErrOf};
+ghost use Rattle.std.specs.Prelude.{◌≡◌, ℕ, List, [], length, IsErrOf};
 ghost use Rattle.std.specs.Io.KnownBytes.{Consumes, IsAtEnd};
 ghost use Rattle.io_edge.specs.Faults.{Reports};
 ghost use Rattle.io_edge.specs.Feed.{to_come};
@@ -21,6 +21,7 @@ pub(crate) fn read_line<S: Source>(
     requires room { length buffer.old ≡ 256 }
     ensures answer { (read : List ℕ) × Consumes (to_come feed.old (S.left source.old)) (to_come feed.new (S.left source.new)) read
         × GivesLine read (IsAtEnd (to_come feed.new (S.left source.new))) feed.new.taken buffer.new result }
+    ensures empty { IsErrOf result FeedFault.ReadFault → feed.new.held ≡ [] }
     ensures cause { Reports (S.faults source.old) (S.faults source.new) (IsErrOf result FeedFault.ReadFault) }
 {
     let mut count = 0;

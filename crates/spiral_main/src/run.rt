@@ -1,10 +1,11 @@
 // The top call.
 ghost use Rattle.std.specs.Prelude.{◌≡◌, ◌≢◌, ◌-◌, ◌≤◌, ℕ, List, [], IfSome, IfNone, Ok, map, string_bytes, true, false};
+ghost use Rattle.std.specs.declared.option.Option.{Option};
 ghost use Rattle.std.specs.Io.KnownBytes.{Appends, IsAtEnd};
 ghost use Rattle.matrix_meaning.specs.Valid.{IsInRange};
 ghost use Rattle.io_edge.specs.Faults.{Reports};
 ghost use Rattle.io_edge.specs.Feed.{to_come, limit};
-ghost use Rattle.spiral_main.specs.Commands.{reads_rest, has_text, AskForRest, AskForCommand, schedule_of};
+ghost use Rattle.spiral_main.specs.Commands.{reads_rest, has_text, AskForRest, AskForCommand, AreJudged, schedule_of};
 ghost use Rattle.spiral_main.specs.Outcome.{Accounts, Notes};
 ghost use Rattle.spiral_main.specs.Stage.{status_of};
 ghost use Rattle.spiral_main.specs.Status.{note_line};
@@ -32,9 +33,10 @@ fn write_text<O: Sink>(
     requires weight { request.now.weight ≡ 1 }
     requires turns { HasNoStranger (schedule_of command.now) request.now.procs }
     requires textual { has_text command.now ≡ true }
-    ensures told { (room : ℕ) (bytes : List ℕ) → Performs command.now request.now room bytes
+    ensures told { (room : ℕ) (bytes : List ℕ) (left : Option (List ℕ)) → Performs command.now request.now room bytes left
         (O.taken output.old) (O.taken output.new) (status_of result) }
     ensures read { status_of result ≢ Status.ReadFault }
+    ensures usage { status_of result ≢ Status.Usage }
     ensures write { Reports (O.faults output.old) (O.faults output.new) (status_of result ≡ Status.WriteFault) }
     ensures memory { status_of result ≡ Status.NoMemory → Appends (O.taken output.old) (O.taken output.new) [] }
 {
@@ -57,8 +59,10 @@ fn perform<I: Source, O: Sink>(
     requires turns { HasNoStranger (schedule_of command.now) request.now.procs }
     requires line { feed.old.taken ≤ 257 }
     ensures told { ToldPerforms command.now request.now (limit - feed.old.taken) (to_come feed.old (I.left input.old))
-        (O.taken output.old) (O.taken output.new) (status_of result) }
+        (to_come feed.new (I.left input.new)) (O.taken output.old) (O.taken output.new) (status_of result) }
     ensures end { status_of result ≡ Status.Success → reads_rest command.now ≡ true → IsAtEnd (to_come feed.new (I.left input.new)) }
+    ensures empty { status_of result ≡ Status.ReadFault → feed.new.held ≡ [] }
+    ensures usage { status_of result ≢ Status.Usage }
     ensures read { Reports (I.faults input.old) (I.faults input.new) (status_of result ≡ Status.ReadFault) }
     ensures write { Reports (O.faults output.old) (O.faults output.new) (status_of result ≡ Status.WriteFault) }
     ensures memory { status_of result ≡ Status.NoMemory → Appends (O.taken output.old) (O.taken output.new) [] }
@@ -78,16 +82,27 @@ fn work<I: Source, O: Sink>(
     input: &mut I,
     output: &mut O,
 ) -> Result<(), Status>
-    ensures told { ToldAccounts (map string_bytes words.now.items) (I.left input.old) (O.taken output.old) (O.taken output.new) (status_of result) }
+    ensures told { ToldAccounts (map string_bytes words.now.items) (I.left input.old) (I.left input.new) (O.taken output.old) (O.taken output.new) (status_of result) }
     ensures end { status_of result ≡ Status.Success → AskForRest (map string_bytes words.now.items) → IsAtEnd (I.left input.new) }
     ensures read { Reports (I.faults input.old) (I.faults input.new) (status_of result ≡ Status.ReadFault) }
     ensures write { Reports (O.faults output.old) (O.faults output.new) (status_of result ≡ Status.WriteFault) }
     ensures after { status_of result ≡ Status.ReadFault → AskForCommand (map string_bytes words.now.items) }
+    ensures words { AreJudged (map string_bytes words.now.items) (status_of result) }
     ensures memory { status_of result ≡ Status.NoMemory → Appends (O.taken output.old) (O.taken output.new) [] }
 {
     let mut feed = Feed::new(alloc)?;
     let (command, request) = ask(alloc, words, &mut feed, input)?;
     perform(alloc, &command, &request, &mut feed, input, output)
+}
+
+// The status that a call ends with.
+fn ending(ended: Result<(), Status>) -> Status
+    ensures { result ≡ status_of ended }
+{
+    match ended {
+        Ok(()) => Status::Success,
+        Err(status) => status,
+    }
 }
 
 /// Does what the words and the input ask for, and says in the note why not if it doesn't.
@@ -102,8 +117,9 @@ pub fn spiral_run<I: Source, O: Sink, E: Sink>(
     output: &mut O,
     note: &mut E,
 ) -> Status
-    // Where the input tells its bytes, they and the words account for the status and for what the output took.
-    ensures told { IfSome (I.left input.old) (λ bytes. Accounts (map string_bytes words.now.items) bytes (O.taken output.old) (O.taken output.new) result) }
+    // Where the input tells its bytes, they and the words account for the status and for what the output took. Where a
+    // read failed, that is the whole text of what the input gave.
+    ensures told { IfSome (I.left input.old) (λ bytes. Accounts (map string_bytes words.now.items) bytes (I.left input.new) (O.taken output.old) (O.taken output.new) result) }
     // `run`, `trace` and `check` have read their input to its end where they succeed.
     ensures end { result ≡ Status.Success → AskForRest (map string_bytes words.now.items) → IsAtEnd (I.left input.new) }
 
@@ -112,15 +128,13 @@ pub fn spiral_run<I: Source, O: Sink, E: Sink>(
     ensures write { Reports (O.faults output.old) (O.faults output.new) (result ≡ Status.WriteFault) }
     // The words are judged before the input is read.
     ensures after { result ≡ Status.ReadFault → AskForCommand (map string_bytes words.now.items) }
+    ensures words { AreJudged (map string_bytes words.now.items) result }
 
     // Want of memory comes before the first byte of output.
     ensures memory { result ≡ Status.NoMemory → Appends (O.taken output.old) (O.taken output.new) [] }
     ensures note { Notes (E.taken note.old) (E.taken note.new) (E.faults note.old) (E.faults note.new) (note_line result) }
 {
-    let status = match work(alloc, words, input, output) {
-        Ok(()) => Status::Success,
-        Err(status) => status,
-    };
+    let status = ending(work(alloc, words, input, output));
     let _ = write_note(note, status);
     status
 }

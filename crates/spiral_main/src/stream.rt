@@ -1,5 +1,5 @@
 // A run over a stream: the lines of each vector.
-ghost use Rattle.std.specs.Prelude.{◌≡◌, ◌≢◌, ◌<◌, ◌≤◌, length, All, Err, OnOk, IsErrOf};
+ghost use Rattle.std.specs.Prelude.{◌≡◌, ◌≢◌, ◌<◌, ◌≤◌, [], length, All, Err, OnOk, IsErrOf};
 ghost use Rattle.icode.specs.Machine.{words_at, padded, run, finished, results, runs};
 ghost use Rattle.io_edge.specs.Faults.{HasCause, Reports};
 ghost use Rattle.io_edge.specs.Feed.{to_come, limit};
@@ -131,7 +131,8 @@ fn write_run<O: Sink>(
 /// Runs the machine on each vector of the data, by the turns of the schedule and those that complete them, and writes
 /// the line of its results before it reads the next. Where lines are asked for, one for each turn comes before it.
 ///
-/// The data go on where the feed stands. The slice is room for a vector, which has at least one number.
+/// The data go on where the feed stands. One that has gone over its limit gives `TooLong`. The slice is room for a vector,
+/// which has at least one number.
 pub fn run_stream<I: Source, O: Sink>(
     machine: &mut Machine,
     schedule: &Schedule,
@@ -144,7 +145,6 @@ pub fn run_stream<I: Source, O: Sink>(
     requires some { 0 < length vector.old }
     requires size { length vector.old ≡ machine.old.code.size }
     requires no_stranger { HasNoStranger schedule.now machine.old.code.procs }
-    requires within { feed.old.taken ≤ limit }
 
     // What it read, wrote and left, also of a source that doesn't tell its bytes.
     ensures streams { Streams (run_text lines machine.old.code (turns_of schedule.now machine.old.code.procs))
@@ -154,6 +154,7 @@ pub fn run_stream<I: Source, O: Sink>(
         (O.taken output.old) (O.taken output.new) machine.old.state machine.new.state result }
     ensures code { machine.new.code ≡ machine.old.code }
     ensures within { result ≢ Err StreamFault.TooLong → feed.new.taken ≤ limit }
+    ensures empty { IsErrOf result StreamFault.ReadFault → feed.new.held ≡ [] }
 
     // A fault has its cause, and is not swallowed.
     ensures read { Reports (I.faults input.old) (I.faults input.new) (IsErrOf result StreamFault.ReadFault) }

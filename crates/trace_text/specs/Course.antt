@@ -1,7 +1,8 @@
 -- The course of a run: the states that it passes through, and what the turns at its end do.
 use Rattle.std.specs.Prelude.{◌≡◌, ℕ, ◌<◌, ◌≤◌, List, [], ◌∷◌, ◌++◌, length}
 use Rattle.icode.specs.declared.action.Action.{Action}
-use Rattle.icode.specs.Machine.{Did, Code, IsCode, State, answer, turn, run, start}
+use Rattle.icode.specs.declared.event.Turned.TheVariants.{Did}
+use Rattle.icode.specs.Machine.{Code, IsCode, State, answer, turn, run, start}
 use Rattle.trace_text.specs.Trace.{answer_at, completed}
 
 -- the state is the one after a front of the turns

@@ -3,7 +3,9 @@ use Rattle.std.specs.Prelude.{ℕ, List, ◌++◌, codes, decimal, flat_map, len
 use Rattle.std.specs.List.{join_by, range_with_len}
 use Rattle.icode.specs.declared.action.Action.{Action}
 use Rattle.icode.specs.declared.action.Action.TheVariants.{Load, Store, Zero, Add, Sub, Neg, Mul, Tile}
-use Rattle.icode.specs.Machine.{Answer, Did, Waits, Done, Code, State, answer, run, completion}
+use Rattle.icode.specs.declared.event.Turned.{Turned}
+use Rattle.icode.specs.declared.event.Turned.TheVariants.{Did, Waits, Done}
+use Rattle.icode.specs.Machine.{Code, State, answer, run, completion}
 
 -- an action on so many lanes
 abbrev pub action_text : ℕ → Action → List ℕ
@@ -17,17 +19,17 @@ action_text lanes (Mul register source factors) =
     codes "mul r" ++ decimal register ++ codes " r" ++ decimal source ++ codes " " ++ join_by decimal (codes ",") (take lanes factors)
 action_text lanes (Tile register source) = codes "tile r" ++ decimal register ++ codes " r" ++ decimal source
 
-abbrev pub answer_text : ℕ → Answer → List ℕ
+abbrev pub answer_text : ℕ → Turned → List ℕ
 answer_text lanes (Did action) = action_text lanes action
 answer_text lanes Waits = codes "waits"
 answer_text lanes Done = codes "done"
 
 -- the line of a turn: its number, the processor, and what it answers
-abbrev pub turn_line : ℕ → ℕ → ℕ → Answer → List ℕ
+abbrev pub turn_line : ℕ → ℕ → ℕ → Turned → List ℕ
 turn_line lanes number q given = decimal number ++ codes " " ++ decimal q ++ codes " " ++ answer_text lanes given ++ codes "\n"
 
 -- what turn i answers, which is taken in the state after the turns before it
-abbrev pub answer_at : Code → State → List ℕ → ℕ → Answer
+abbrev pub answer_at : Code → State → List ℕ → ℕ → Turned
 answer_at code s turns i = answer code (run code s (take i turns)) (slice_index turns i)
 
 -- the line of turn i

@@ -3,7 +3,6 @@
 ghost use Rattle.std.specs.Prelude.{◌≡◌, ◌+◌, ◌*◌, ◌<◌, ◌≤◌, ◌++◌, length, take, codes, decimal, flat_map};
 ghost use Rattle.std.specs.List.{join_by};
 ghost use Rattle.arrayvec.specs.ArrayString.{array_string_len};
-ghost use Rattle.par_machine.specs.Answers.{answered};
 ghost use Rattle.trace_text.specs.Trace.{action_text, answer_text, turn_line};
 
 use arrayvec::ArrayString;
@@ -117,7 +116,7 @@ fn put_action(line: &mut Line, lanes: u64, action: &Action)
 fn put_answer(line: &mut Line, lanes: u64, turned: &Turned)
     requires lanes { lanes ≤ 16 }
     requires room { array_string_len line.old ≤ 42 }
-    ensures text { line.new.bytes ≡ line.old.bytes ++ answer_text lanes (answered turned.now) }
+    ensures text { line.new.bytes ≡ line.old.bytes ++ answer_text lanes turned.now }
     ensures len { array_string_len line.new ≤ 500 }
 {
     match turned {
@@ -130,7 +129,7 @@ fn put_answer(line: &mut Line, lanes: u64, turned: &Turned)
 /// The line of a turn of a machine with so many lanes.
 pub(crate) fn line_of(number: u64, proc: u64, lanes: u64, turned: &Turned) -> Line
     requires lanes { lanes ≤ 16 }
-    ensures { result.bytes ≡ turn_line lanes number proc (answered turned.now) }
+    ensures { result.bytes ≡ turn_line lanes number proc turned.now }
 {
     let mut line = Line::new();
     put(&mut line, "", number);

@@ -4,7 +4,7 @@ use Rattle.icode.specs.Actions.{lane_factors}
 use Rattle.icode.specs.Expression.{sum_numbers}
 use Rattle.icode.specs.Plain.{plain_expr, plain_tables}
 use Rattle.par_machine.proofs.Tables.{table_is}
-use Rattle.par_machine.proofs.Transposes.{tile_words}
+use Rattle.icode.proofs.Transposes.{tile_words}
 use Rattle.par_machine.proofs.play.perform_on_registers.Goals as goal
 
 pub scale_by_entries-requires-clause-factors : goal.scale_by_entries-requires-clause-factors

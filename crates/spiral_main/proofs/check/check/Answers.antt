@@ -4,14 +4,14 @@ use Rattle.std.proofs.KnownBytes.{Appends-nil}
 use Rattle.io_edge.specs.Feed.{to_come, limit}
 use Rattle.plan_cert.specs.declared.verdict.Verdict.TheVariants as verdict
 use Rattle.spiral_words.specs.declared.Command.TheVariants as command
-use Rattle.spiral_main.proofs.OutcomeLemmas.{generate_barred, generate_refusal, told_refused, performs_unread, judged_of, performs_judged, performs_judged_cut}
+use Rattle.spiral_main.proofs.OutcomeLemmas.{generate_barred, generate_refusal, rest_usage, told_refused, performs_unread, judged_of, performs_judged, performs_judged_cut}
 use Rattle.spiral_main.proofs.check.check.Goals as goal
 
 pub returns-in_err-admit-clause-told : goal.returns-in_err-admit-clause-told
 returns-in_err-admit-clause-told g c =
     let fault = c.in_err-admit.field-0.0 in
     let p = err_from_is_err_and c.from_residual.result c.from_residual.ensures.1 in
-    rw (p.1, p.2) (told_refused command.Check c.args.request.now (limit - c.args.feed.now.taken) (to_come c.args.feed.now (g.I.Source.left c.args.input.now)) (g.O.Sink.taken c.args.output.now) _
+    rw (p.1, p.2) (told_refused command.Check c.args.request.now (limit - c.args.feed.now.taken) (to_come c.args.feed.now (g.I.Source.left c.args.input.now)) (to_come c.args.feed.now (g.I.Source.left c.args.input.now)) (g.O.Sink.taken c.args.output.now) _
     (λ _. generate_barred c.args.request.now fault c.in_err-admit.ensures.barred) (generate_refusal fault))
 
 pub returns-in_err-text-clause-told : goal.returns-in_err-text-clause-told
@@ -69,3 +69,13 @@ returns-clause-told g c =
     let out = g.O.Sink.taken c.args.output.now in
     performs_judged request (limit - c.args.feed.now.taken) start reached out out answer.0 text (verdict.Wrong c.in-Wrong.size c.in-Wrong.given c.in-Wrong.found)
     c.in_ok-admit.ensures.admitted answer.1 answer.2.0 answer.2.1 answer.2.2 judged (Appends-nil out)
+
+pub returns-in_err-admit-clause-usage : goal.returns-in_err-admit-clause-usage
+returns-in_err-admit-clause-usage g c =
+    let p = err_from_is_err_and c.from_residual.result c.from_residual.ensures.1 in
+    rw (p.1, p.2) (generate_refusal c.in_err-admit.field-0.0).usage
+
+pub returns-in_err-text-clause-usage : goal.returns-in_err-text-clause-usage
+returns-in_err-text-clause-usage g c =
+    let p = err_from_is_err_and c.from_residual-in_err-text.result c.from_residual-in_err-text.ensures.1 in
+    rw (p.1, p.2) (rest_usage c.in_err-text.field-0.0)

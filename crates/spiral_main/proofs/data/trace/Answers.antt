@@ -2,7 +2,7 @@ use Rattle.std.proofs.Common.{◌-◌, Ok, Err}
 use Rattle.std.proofs.lemmas.Result.{err_from_is_err_and}
 use Rattle.io_edge.specs.Feed.{to_come, limit}
 use Rattle.spiral_words.specs.declared.Command.TheVariants as command
-use Rattle.spiral_main.proofs.OutcomeLemmas.{told_refused, performs_trace, listing_cut, traced_stranger, fault_success, fault_has_memory, reports_read, reports_write, reports_after, reports_unread, reports_unwritten}
+use Rattle.spiral_main.proofs.OutcomeLemmas.{told_refused, performs_trace, listing_cut, traced_stranger, fault_success, fault_usage, fault_has_memory, read_alone, reports_read, reports_write, reports_after, reports_unread, reports_unwritten}
 use Rattle.spiral_main.proofs.data.trace.Goals as goal
 
 pub run_stream-requires-clause-no_stranger : goal.run_stream-requires-clause-no_stranger
@@ -14,7 +14,7 @@ returns-in_err-write_all-clause-told g c =
     let p = err_from_is_err_and c.from_residual-in_err-write_all.result c.from_residual-in_err-write_all.ensures.1 in
     let wrote = rw c.deref.ensures.value at c.in_err-write_all.ensures.bytes in
     rw (p.1, p.2) (listing_cut c.args.schedule.now c.args.request.now c.in_ok-listing.listing.items c.in_ok-listing.machine.code (limit - c.args.feed.now.taken)
-    (to_come c.args.feed.now (g.I.Source.left c.args.input.now)) (g.O.Sink.taken c.args.output.now) (g.O.Sink.taken c.write_all.new.sink)
+    (to_come c.args.feed.now (g.I.Source.left c.args.input.now)) (to_come c.args.feed.now (g.I.Source.left c.args.input.now)) (g.O.Sink.taken c.args.output.now) (g.O.Sink.taken c.write_all.new.sink)
     c.in_ok-listing.ensures.program c.requires.in_range wrote)
 
 pub returns-in_err-run_stream-clause-told : goal.returns-in_err-run_stream-clause-told
@@ -25,7 +25,7 @@ returns-in_err-run_stream-clause-told g c =
     rw (p.1, p.2) (performs_trace c.args.schedule.now c.args.request.now c.in_ok-listing.listing.items c.in_ok-listing.machine.code c.args.feed.now c.run_stream.new.feed
     (to_come c.args.feed.now (g.I.Source.left c.args.input.now)) (to_come c.run_stream.new.feed (g.I.Source.left c.run_stream.new.input))
     (taken c.args.output.now) (taken c.write_all.new.sink) (taken c.run_stream.new.output) c.in_ok-listing.machine.state c.run_stream.new.machine.state (Err c.in_err-run_stream.field-0.0)
-    c.in_ok-listing.ensures.program wrote c.in_err-run_stream.ensures.streams)
+    c.in_ok-listing.ensures.program wrote c.requires.within c.in_err-run_stream.ensures.streams)
 
 pub returns-in_err-run_stream-clause-end : goal.returns-in_err-run_stream-clause-end
 returns-in_err-run_stream-clause-end g c =
@@ -57,7 +57,7 @@ returns-clause-told g c =
     performs_trace c.args.schedule.now c.args.request.now c.in_ok-listing.listing.items c.in_ok-listing.machine.code c.args.feed.now c.run_stream.new.feed
     (to_come c.args.feed.now (g.I.Source.left c.args.input.now)) (to_come c.run_stream.new.feed (g.I.Source.left c.run_stream.new.input))
     (taken c.args.output.now) (taken c.write_all.new.sink) (taken c.run_stream.new.output) c.in_ok-listing.machine.state c.run_stream.new.machine.state (Ok tt)
-    c.in_ok-listing.ensures.program wrote c.in_ok-run_stream.ensures.streams
+    c.in_ok-listing.ensures.program wrote c.requires.within c.in_ok-run_stream.ensures.streams
 
 pub returns-clause-end : goal.returns-clause-end
 returns-clause-end g c = λ _. c.in_ok-run_stream.ensures.streams.answer.1
@@ -65,7 +65,7 @@ returns-clause-end g c = λ _. c.in_ok-run_stream.ensures.streams.answer.1
 pub returns-in_err-listing-clause-told : goal.returns-in_err-listing-clause-told
 returns-in_err-listing-clause-told g c =
     let p = err_from_is_err_and c.from_residual.result c.from_residual.ensures.1 in
-    rw (p.1, p.2) (told_refused (command.Trace c.args.schedule.now) c.args.request.now (limit - c.args.feed.now.taken) (to_come c.args.feed.now (g.I.Source.left c.args.input.now)) (g.O.Sink.taken c.args.output.now)
+    rw (p.1, p.2) (told_refused (command.Trace c.args.schedule.now) c.args.request.now (limit - c.args.feed.now.taken) (to_come c.args.feed.now (g.I.Source.left c.args.input.now)) (to_come c.args.feed.now (g.I.Source.left c.args.input.now)) (g.O.Sink.taken c.args.output.now)
     c.in_err-listing.field-0.0 c.in_err-listing.ensures.refused c.in_err-listing.ensures.refusal)
 
 pub returns-in_err-write_all-clause-read : goal.returns-in_err-write_all-clause-read
@@ -79,3 +79,13 @@ returns-in_err-write_all-clause-write g c =
     let p = err_from_is_err_and c.from_residual-in_err-write_all.result c.from_residual-in_err-write_all.ensures.1 in
     let cause = c.in_err-write_all.ensures.cause in
     rw (p.1, p.2) (reports_unwritten (faults c.args.output.now) (faults c.write_all.new.sink) cause.later cause.err)
+
+pub returns-in_err-run_stream-clause-empty : goal.returns-in_err-run_stream-clause-empty
+returns-in_err-run_stream-clause-empty g c =
+    let p = err_from_is_err_and c.from_residual-in_err-run_stream.result c.from_residual-in_err-run_stream.ensures.1 in
+    rw (p.1, p.2) (λ e. c.in_err-run_stream.ensures.empty (read_alone c.in_err-run_stream.field-0.0 e))
+
+pub returns-in_err-run_stream-clause-usage : goal.returns-in_err-run_stream-clause-usage
+returns-in_err-run_stream-clause-usage g c =
+    let p = err_from_is_err_and c.from_residual-in_err-run_stream.result c.from_residual-in_err-run_stream.ensures.1 in
+    rw (p.1, p.2) (fault_usage c.in_err-run_stream.field-0.0)

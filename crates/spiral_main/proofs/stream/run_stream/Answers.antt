@@ -28,7 +28,8 @@ loop-machine-init g c =
       wrote = Appends-nil (g.O.Sink.taken c.args.output.now);
       stands = refl;
       ready = subst (λ v. IsReady v c.args.feed.now start) (sym c.new-vectors.ensures)
-          (record { within = c.requires.within; counted = omega arith; end = λ e. absurd (not_ended false refl e) });
+          (record { few = omega arith; counted = omega arith; within = λ e. absurd (not_ended false refl e); end = λ e. absurd (not_ended false refl e) });
+      begun = λ _. refl;
       size = ap (λ (v : Cut). v.size) c.new-vectors.ensures ∙ c.requires.size;
       code = refl;
       reads = refl;
@@ -43,8 +44,7 @@ loop-machine-smaller g c =
     let turns = turns_of c.args.schedule.now code.procs in
     let answer = rw (c.in-Vector.is, before.invariant.size, c.modulus-modulus.ensures) at c.in_ok-next.ensures.answer in
     let rises = vector_counted before.feed c.next.new.feed c.next.new.self.ended code.size code.modulus before.vectors.done answer.0 c.next.new.vector answer.3 in
-    let ready = rw c.in-Vector.is at c.in_ok-next.ensures.ready refl in
-    omega (arith, rises, ready.within, some)
+    omega (arith, rises, c.in_ok-next.ensures.within (λ e. cc), some)
 
 pub loop-machine-preserved : goal.loop-machine-preserved
 loop-machine-preserved g c =
@@ -66,6 +66,7 @@ loop-machine-preserved g c =
           (ap (λ (k : Code). run_text c.args.lines k (turns_of c.args.schedule.now k.procs) x) inv.code) inv.wrote c.in_ok-write_run.ensures.bytes;
       stands = c.in_ok-write_run.ensures.state ∙ ap (λ (k : Code). runs k x (turns_of c.args.schedule.now k.procs)) inv.code ∙ sym (state_behind-push (λ y. runs code y turns) c.args.machine.now.state inv.seen x);
       ready = rw c.in-Vector.is at c.in_ok-next.ensures.ready refl;
+      begun = λ over. absurd (omega (arith, over, c.in_ok-next.ensures.within (λ e. cc)));
       size = c.next.ensures.size ∙ inv.size;
       code = c.write_run.ensures.code ∙ inv.code;
       reads = reports_none _ _ _ c.in_ok-next.ensures.cause (λ e. cc) ∙ inv.reads;
@@ -89,9 +90,9 @@ returns-in_err-next-clause-streams g c =
     let going : before.vectors.ended ≡ false = not_true before.vectors.ended (λ e. let other = (c.next.ensures.once e).0 in cc c.in_err-next.was) in
     let p = err_from_is_err_and c.from_residual.result c.from_residual.ensures.1 in
     let out = stream_fault_at start _ reached c.args.feed.now before.feed c.next.new.feed before.vectors.ended c.next.new.self.ended code.size code.modulus before.vectors.done inv.seen
-    (IsAtEnd reached) answer.0 x fault some inv.progress answer.1 going given c.next.ensures.end in
+    (IsAtEnd reached) answer.0 x fault some inv.progress inv.begun answer.1 going given c.next.ensures.end in
     rw (p.1, p.2) (streamed (run_text c.args.lines code turns) (λ y. runs code y turns) code.size code.modulus c.args.feed.now c.next.new.feed start reached (g.O.Sink.taken c.args.output.now) (g.O.Sink.taken before.output)
-    c.args.machine.now.state before.machine.state (Err (stream_fault fault)) (inv.progress.bytes ++ answer.0) inv.seen out.0 out.1 c.requires.within
+    c.args.machine.now.state before.machine.state (Err (stream_fault fault)) (inv.progress.bytes ++ answer.0) inv.seen out.0 out.1
     (fault_within fault _ c.in_err-next.ensures.within) (writes_fault fault _ _ _ inv.wrote) (λ _. inv.stands))
 
 pub returns-in_err-write_run-clause-streams : goal.returns-in_err-write_run-clause-streams
@@ -106,13 +107,12 @@ returns-in_err-write_run-clause-streams g c =
     let start = to_come c.args.feed.now (g.I.Source.left c.args.input.now) in
     let reached = to_come c.next.new.feed (g.I.Source.left c.next.new.source) in
     let answer = rw (c.in-Vector.is, inv.size, c.modulus-modulus.ensures) at c.in_ok-next.ensures.answer in
-    let ready = rw c.in-Vector.is at c.in_ok-next.ensures.ready refl in
     let p = err_from_is_err_and c.from_residual-in_err-write_run.result c.from_residual-in_err-write_run.ensures.1 in
     let pushed = stream_push start _ reached c.args.feed.now.taken before.feed c.next.new.feed before.vectors.ended c.next.new.self.ended code.size code.modulus before.vectors.done inv.seen answer.0 x
     some inv.progress answer.1 (λ e. (answer.2 e, (c.next.ensures.once e).1)) answer.3 in
-    let reads = stream_unwritten start reached c.args.feed.now c.next.new.feed c.next.new.self.ended code.size code.modulus (before.vectors.done + code.size) (inv.seen ++ x ∷ []) (IsAtEnd reached) some pushed in
+    let reads = stream_unwritten start reached c.args.feed.now c.next.new.feed c.next.new.self.ended code.size code.modulus (before.vectors.done + code.size) (inv.seen ++ x ∷ []) (IsAtEnd reached) some pushed c.next.ensures.end in
     rw (p.1, p.2) (streamed (run_text c.args.lines code turns) (λ y. runs code y turns) code.size code.modulus c.args.feed.now c.next.new.feed start reached (taken c.args.output.now) (taken c.write_run.new.output)
-    c.args.machine.now.state c.write_run.new.machine.state (Err WriteFault) pushed.bytes (inv.seen ++ x ∷ []) pushed.consumed reads c.requires.within (λ _. ready.within)
+    c.args.machine.now.state c.write_run.new.machine.state (Err WriteFault) pushed.bytes (inv.seen ++ x ∷ []) pushed.consumed reads (λ _. c.in_ok-next.ensures.within (λ e. cc))
     (texts_cut (run_text c.args.lines code turns) (taken c.args.output.now) (taken before.output) (taken c.write_run.new.output) inv.seen x
     (run_text c.args.lines before.machine.code (turns_of c.args.schedule.now before.machine.code.procs) x)
     (ap (λ (k : Code). run_text c.args.lines k (turns_of c.args.schedule.now k.procs) x) inv.code) inv.wrote c.in_err-write_run.ensures.bytes)
@@ -131,4 +131,4 @@ returns-clause-streams g c =
     let out = stream_end start _ reached c.args.feed.now before.feed c.next.new.feed before.vectors.ended c.next.new.self.ended code.size code.modulus before.vectors.done inv.seen
     (IsAtEnd reached) answer.0 c.next.new.vector some inv.progress answer.1 (λ e. (answer.2 e, (c.next.ensures.once e).1)) answer.3 c.next.ensures.end in
     streamed (run_text c.args.lines code turns) (λ y. runs code y turns) code.size code.modulus c.args.feed.now c.next.new.feed start reached (g.O.Sink.taken c.args.output.now) (g.O.Sink.taken before.output)
-    c.args.machine.now.state before.machine.state (Ok tt) (inv.progress.bytes ++ answer.0) inv.seen out.0 out.1 c.requires.within (λ _. c.in_ok-next.ensures.within (λ e. cc)) inv.wrote (λ _. inv.stands)
+    c.args.machine.now.state before.machine.state (Ok tt) (inv.progress.bytes ++ answer.0) inv.seen out.0 out.1 (λ _. c.in_ok-next.ensures.within (λ e. cc)) inv.wrote (λ _. inv.stands)

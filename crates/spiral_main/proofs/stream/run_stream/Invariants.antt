@@ -1,4 +1,4 @@
-use Rattle.std.proofs.Common.{◌≡◌, ◌-◌, List, ℕ}
+use Rattle.std.proofs.Common.{◌≡◌, ◌<◌, ◌-◌, List, ℕ}
 use Rattle.std.specs.Io.KnownBytes.{Appends}
 use Rattle.icode.specs.Machine.{runs}
 use Rattle.request_text.specs.Turns.{turns_of}
@@ -8,7 +8,7 @@ use Rattle.spiral_main.specs.Stream.{texts, run_text, state_behind}
 use Rattle.spiral_main.proofs.StreamLemmas.{StreamProgress}
 use Rattle.spiral_main.proofs.stream.run_stream.Given as goal
 
--- the bytes so far are whole vectors, whose texts the output took, the machine is where the last left it, and nothing failed
+-- The bytes so far are whole vectors, whose texts the output took, the machine is where the last left it, and nothing failed. A feed over its limit has given none
 abbrev pub invariant-loop-machine : goal.invariant-loop-machine
 invariant-loop-machine g l =
     let left = g.I.Source.left in
@@ -20,6 +20,7 @@ invariant-loop-machine g l =
       wrote : Appends (taken l.fn.output) (taken l.output) (texts (run_text l.lines l.fn.machine.code (turns_of l.schedule l.fn.machine.code.procs)) seen);
       stands : l.machine.state ≡ state_behind (λ x. runs l.fn.machine.code x (turns_of l.schedule l.fn.machine.code.procs)) l.fn.machine.state seen;
       ready : IsReady l.vectors l.feed (to_come l.feed (left l.input));
+      begun : limit < l.feed.taken → l.feed.taken ≡ l.fn.feed.taken;
       size : l.vectors.size ≡ l.fn.machine.code.size;
       code : l.machine.code ≡ l.fn.machine.code;
       reads : g.I.Source.faults l.input ≡ g.I.Source.faults l.fn.input;

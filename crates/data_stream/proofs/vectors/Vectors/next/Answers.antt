@@ -4,7 +4,7 @@ use Rattle.std.specs.List.{All}
 use Rattle.data_stream.specs.Vectors.{Cut}
 use Rattle.data_stream.proofs.TokenLemmas.{not_true}
 use Rattle.data_stream.proofs.TokensLemmas.{reports_none, not_ended}
-use Rattle.data_stream.proofs.VectorLemmas.{residues_below, vector_counted, no_vector, no_vector_bytes, vector_push, vector_whole, vector_ending, vector_fault}
+use Rattle.data_stream.proofs.VectorLemmas.{residues_below, vector_counted, no_vector, no_vector_bytes, none_yet, vector_push, vector_whole, vector_ending, vector_fault}
 use Rattle.data_stream.proofs.vectors.Vectors.next.Goals as goal
 
 pub loop-place-init : goal.loop-place-init
@@ -15,7 +15,9 @@ loop-place-init g c = record {
   size = refl;
   done = refl;
   faults = refl;
-  within = c.requires.ready.within;
+  none = λ _. no_vector_bytes _ c.args.feed.now.taken c.args.self.now.ended c.args.modulus.now;
+  within = λ h. absurd (omega arith);
+  calm = c.requires.ready.within;
   positive = λ h. absurd (omega arith);
 }
 
@@ -40,7 +42,7 @@ returns-in-Err-clause-answer g c =
     let at : c.self.inside.done + before.place + 1 ≡ c.args.self.now.done + length (take before.place before.vector) + 1 = omega arith in
     rw (c.fault_at.ensures, at) (vector_fault _ _ _ c.args.feed.now before.feed c.number.new.feed c.args.self.now.ended before.self.ended c.number.new.self.ended c.args.self.now.size c.args.modulus.now c.args.self.now.done
     (take before.place before.vector) answer.0 before.vector c.in-Err.fault before.invariant.progress
-    (λ e. absurd (not_ended before.self.ended going (before.invariant.fresh e).1)) answer.1 going answer.3 (omega (arith, c.requires.size)))
+    (λ e. absurd (not_ended before.self.ended going (before.invariant.fresh e).1)) (λ over. before.invariant.none (none_yet before.place before.feed.taken before.invariant.within over)) answer.1 going answer.3 (omega (arith, c.requires.size)))
 
 pub loop-place-preserved : goal.loop-place-preserved
 loop-place-preserved g c =
@@ -56,7 +58,9 @@ loop-place-preserved g c =
       size = ap (λ (v : Cut). v.size) c.number.ensures.same ∙ before.invariant.size;
       done = ap (λ (v : Cut). v.done) c.number.ensures.same ∙ before.invariant.done;
       faults = reports_none _ _ _ c.in-Ok-Some.ensures.cause (λ e. cc) ∙ before.invariant.faults;
-      within = c.in-Ok-Some.ensures.within (λ e. cc);
+      none = λ e. absurd (omega arith);
+      within = λ _. c.in-Ok-Some.ensures.within (λ e. cc);
+      calm = λ _. c.in-Ok-Some.ensures.within (λ e. cc);
       positive = λ _. omega (arith, c.reduce.ensures.residue);
     }
 
@@ -76,9 +80,12 @@ returns-clause-ready g c =
     all (omega (arith, c.requires.size)) (λ e. (last.invariant.fresh e).2) in
     let rises = vector_counted c.args.feed.now last.feed last.self.ended c.args.self.now.size c.args.modulus.now c.args.self.now.done whole.0 last.vector whole.3 in
     let done : c.self-2.inside.done ≡ c.args.self.now.done = ap (λ (v : Cut). v.done) c.self-2.view_is ∙ last.invariant.done in
+    let size : c.self-2.inside.size ≡ c.args.self.now.size = ap (λ (v : Cut). v.size) c.self-2.view_is ∙ last.invariant.size in
+    let low = last.invariant.within (omega (arith, size, c.requires.size, c.self-2.invariant)) in
     record {
-      within = last.invariant.within;
+      few = omega (arith, rises, done, c.requires.size, c.requires.ready.counted, low);
       counted = omega (arith, rises, done, c.requires.size, c.requires.ready.counted);
+      within = λ e. last.invariant.calm (sym (ap (λ (v : Cut). v.ended) c.self-2.view_is) ∙ e);
       end = λ e. last.invariant.end (sym (ap (λ (v : Cut). v.ended) c.self-2.view_is) ∙ e);
     }
 

@@ -6,7 +6,7 @@ use Rattle.par_machine.specs.Position.{Position, first_position}
 use Rattle.par_machine.specs.Frame.{Stand, code_of_frame, IsRunning}
 use Rattle.par_machine.specs.Running.{Running}
 use Rattle.par_machine.specs.View.{frame_of}
-use Rattle.par_machine.proofs.Below.{below_from_all}
+use Rattle.icode.proofs.Below.{below_from_all}
 use Rattle.par_machine.proofs.Frames.{has_lengths}
 use Rattle.par_machine.proofs.Starts.{IsFirst, first_state, first_runs}
 use Rattle.par_machine.proofs.machine.Machine.put.Goals as goal

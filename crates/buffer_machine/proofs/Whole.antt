@@ -1,0 +1,443 @@
+-- What a machine keeps.
+use Rattle.std.proofs.Common.{◌≡◌, ℕ, zero, suc, Bool, cond, true, false, ⊎_elim, ◌+◌, ◌-◌, ◌*◌, ◌<◌, ◌≤◌, ◌⊎◌, ◌^◌, List, [], ◌∷◌, ◌++◌, length, map, drop, replicate, Option, Some, refl, sym, ap, ap₂, ◌∙◌, subst, arith, length-append, div-add-mod', mod-lt}
+use Rattle.std.specs.Prelude.{slice_get, slice_index, slice_index_or, slice_set}
+use Rattle.std.proofs.lemmas.List.{get_or-replicate, length-replicate, length-map, replicate-append-replicate}
+use Rattle.std.proofs.lemmas.Bool.{cases_eq, cases_lt, false≢true}
+use Rattle.std.proofs.lemmas.Option.{slice_get_within}
+use Rattle.icode.specs.declared.action.Action.{Action}
+use Rattle.icode.specs.declared.event.Event.TheVariants.{Turn, Drain}
+use Rattle.icode.specs.declared.program.Program.{Program}
+use Rattle.icode.specs.Actions.{Step}
+use Rattle.icode.specs.Buffers.{Waiting, Buffered, some_wait, IsBusy, IsIdle, is_waiting, buffered_completion, stores_among, buffered_start, buffered_turn, buffered_turn_with, buffered_moved_on, drain, drain_with, written}
+use Rattle.icode.specs.Operation.{AddressFits}
+use Rattle.icode.specs.declared.event.Turned.{Turned}
+use Rattle.icode.specs.declared.event.Turned.TheVariants.{Did, Waits, Done}
+use Rattle.icode.specs.Machine.{Code, IsCode, State, acts, padded, start, first_open, whole_lines, is_open, phases_after, none_done, next_action, answer, answer_with, moved_on, acted, turn_with, turn}
+use Rattle.icode.specs.Program.{plain_program, code_of, Fits, steps}
+use Rattle.icode.proofs.Below.{below-padded}
+use Rattle.icode.proofs.BufferedCompletion.{busy_step, starts_busy, waits_within, completion_turn, completion_drain, completion_past, idle_past}
+use Rattle.icode.proofs.End.{slice_index-zeros}
+use Rattle.icode.proofs.Completion.{first_opens}
+use Rattle.icode.proofs.Runs.{open_at}
+use Rattle.icode.proofs.Lists.{code_is, list_small}
+use Rattle.icode.proofs.Residues.{AreBelow, below-zeros}
+use Rattle.icode.proofs.StoreCounts.{stores_first}
+use Rattle.icode.proofs.BufferedCompletion.{drop_at}
+use Rattle.buffer_machine.specs.declared.machine.BufMachine.TheInside.{Inside}
+use Rattle.buffer_machine.specs.Backlog.{Backlog}
+use Rattle.buffer_machine.specs.Drains.{IsWritten}
+use Rattle.buffer_machine.specs.Good.{IsGood}
+use Rattle.buffer_machine.specs.Walking.{IsWalking}
+use Rattle.buffer_machine.specs.Ready.{CanAct}
+use Rattle.par_machine.specs.Running.{Running as Machine}
+use Rattle.buffer_machine.specs.Stand.{Stand, backlog_at, waits_of, buffered_of, acted_stand, cleared, first_busy, settled_stand, first_stand, HasLens, AreSound, IsStanding}
+use Rattle.buffer_machine.specs.View.{running_of, IsWhole}
+use Rattle.buffer_machine.proofs.Fitting.{can_be_done, acts_steps}
+use Rattle.buffer_machine.proofs.Lens.{acts_none}
+use Rattle.buffer_machine.proofs.Standing.{queue_is, standing_acted, acted_buffered, settled_buffered, standing_settled, standing_anew, standing_written, written_buffered, first_is_busy}
+
+abbrev next_of : Code → State → State
+next_of code s = record { memory = s.memory; registers = s.registers; phase = first_open code (phases_after code s.phase) (s.phase + 1); done = none_done code }
+
+abbrev pub code_in : Inside → Code
+code_in a = a.walker.code
+
+-- A program is good
+
+room_for : (size line : ℕ) → 0 < line → size ≤ whole_lines size line
+room_for size line pos =
+    let whole = div-add-mod' (size + (line - 1)) line in
+    let small = mod-lt (size + (line - 1)) pos in
+    omega (arith, whole, small)
+
+pub good : (p : Program) → Fits p → IsGood (code_of p)
+good p fits =
+    record {
+      lists = code_is (plain_program p);
+      modulus = omega (arith, p.header.of_modulus.0);
+      procs = omega (arith, p.header.of_procs.0);
+      size = room_for p.size p.line (omega (arith, p.header.of_line.0));
+      few = λ phase q small. ⊎_elim
+          (λ (lt : phase < length p.phases.items). omega (arith, list_small p fits phase q lt small, ap length (acts_steps (plain_program p) phase q small), length-map (steps p phase q) (λ (s : Step). s.action)))
+          (λ (ge : length p.phases.items ≤ phase). omega (arith, ap length (acts_none p phase q ge)))
+          (cases_lt phase (length p.phases.items));
+      each = λ phase q i a small e. can_be_done p fits phase q i a small e;
+    }
+
+-- The same machine with other values
+
+abbrev pub with_values : Inside → Stand → Machine → Inside
+with_values a v m = record { shape = a.shape; lens = a.lens; values = v; walker = m }
+
+pub whole_with : (a : Inside) (v : Stand) (m : Machine) → IsWhole a → m.code ≡ a.walker.code → IsStanding (code_in a) v → IsBusy (code_in a) (buffered_of v) → IsWalking (code_in a) (buffered_of v).state m.state → IsWhole (with_values a v m)
+whole_with a v m w same standing busy walking =
+    record {
+      good = subst IsGood (sym same) w.good;
+      modulus = w.modulus ∙ ap (λ (c : Code). c.modulus) (sym same);
+      procs = w.procs ∙ ap (λ (c : Code). c.procs) (sym same);
+      lanes = w.lanes ∙ ap (λ (c : Code). c.lanes) (sym same);
+      regs = w.regs ∙ ap (λ (c : Code). c.regs) (sym same);
+      lens = subst (λ (c : Code). HasLens c a.lens.items) (sym same) w.lens;
+      standing = subst (λ (c : Code). IsStanding c v) (sym same) standing;
+      busy = subst (λ (c : Code). IsBusy c (buffered_of v)) (sym same) busy;
+      walking = subst (λ (c : Code). IsWalking c (buffered_of v).state m.state) (sym same) walking;
+    }
+
+-- A turn
+
+-- the phase is open, since the processor has an action left
+open_here : (a : Inside) (q : ℕ) → IsWhole a → q < (code_in a).procs → slice_index a.values.done q < slice_index a.lens.items a.values.phase → is_open (code_in a) a.values.phase a.values.done ≡ true
+open_here a q w lt left = open_at (code_in a) a.values.phase a.values.done q lt (omega (arith, w.lens.each a.values.phase q lt))
+
+some_action : (xs : List Action) (i : ℕ) → i < length xs → (a : Action) × (slice_get xs i ≡ Some a)
+some_action [] i lt = absurd (omega arith)
+some_action (x ∷ xs) zero lt = (x, refl)
+some_action (x ∷ xs) (suc i) lt = some_action xs i (omega arith)
+
+-- so the walker does the action
+pub walker_next : (a : Inside) (q : ℕ) → IsWhole a → q < (code_in a).procs → slice_index a.values.done q < slice_index a.lens.items a.values.phase → next_action (code_in a) a.walker.state q ≡ next_action (code_in a) (buffered_of a.values).state q
+walker_next a q w lt left =
+    let at = w.walking.here (open_here a q w lt left) in
+    ap₂ (λ (phase : ℕ) (done : List ℕ). slice_get (acts (code_in a) phase q) (slice_index done q)) at.0 at.1
+
+pub walker_answers : (a : Inside) (q : ℕ) (turned : Turned) → IsWhole a → q < (code_in a).procs → slice_index a.values.done q < slice_index a.lens.items a.values.phase → turned ≡ answer (code_in a) a.walker.state q → (action : Action) × (turned ≡ Did action) × (next_action (code_in a) (buffered_of a.values).state q ≡ Some action)
+walker_answers a q turned w lt left e =
+    let xs : List Action = acts (code_in a) a.values.phase q in
+    let some = some_action xs (slice_index a.values.done q) (omega (arith, w.lens.each a.values.phase q lt)) in
+    (some.0, e ∙ ap (answer_with (code_in a) a.walker.state) (walker_next a q w lt left ∙ some.1), some.1)
+
+pub did_no_other : (t : Turned) (action : Action) → t ≡ Did action → (t ≡ Waits) ⊎ (t ≡ Done) → ⊥
+did_no_other t action e other =
+    ⊎_elim
+    (λ (w : t ≡ Waits). cc)
+    (λ (d : t ≡ Done). cc)
+    other
+
+pub action_is : (a : Inside) (q : ℕ) (action : Action) → IsWhole a → q < (code_in a).procs → slice_index a.values.done q < slice_index a.lens.items a.values.phase → Did action ≡ answer (code_in a) a.walker.state q → slice_get (acts (code_in a) a.values.phase q) (slice_index a.values.done q) ≡ Some action
+action_is a q action w lt left e =
+    let told = walker_answers a q (Did action) w lt left e in
+    told.2 ∙ ap (λ (x : Action). Some x) (sym (same_action action told.0 told.1))
+  where
+    same_action : (x y : Action) → Did x ≡ Did y → x ≡ y
+    same_action x y e = cc
+
+pub can_act : (a : Inside) (q : ℕ) (action : Action) → IsWhole a → q < (code_in a).procs → slice_get (acts (code_in a) a.values.phase q) (slice_index a.values.done q) ≡ Some action → CanAct a.shape.modulus a.shape.lanes a.shape.regs q action a.values
+can_act a q action w lt e =
+    let code : Code = code_in a in
+    let s = w.standing in
+    let can = w.good.each a.values.phase q (slice_index a.values.done q) action lt e in
+    let few = w.good.few a.values.phase q lt in
+    let room = room_for_one (acts code a.values.phase q) (slice_index a.values.done q) action e in
+    subst (λ m. CanAct m a.shape.lanes a.shape.regs q action a.values) (sym w.modulus)
+    (subst (λ lanes. CanAct code.modulus lanes a.shape.regs q action a.values) (sym w.lanes)
+    (subst (λ regs. CanAct code.modulus code.lanes regs q action a.values) (sym w.regs)
+    (record {
+      registers = omega (arith, s.files);
+      queues = omega (arith, s.lines);
+      dones = omega (arith, s.dones);
+      few = omega (arith, few, slice_get_within (acts code a.values.phase q) (slice_index a.values.done q) action e);
+      named = can.named;
+      factors = can.factors;
+      address = subst (λ span. AddressFits code.lanes span action) (sym s.memory) can.address;
+      file = s.file q lt;
+      residues = s.files_below q;
+      room = omega (arith, room, s.rooms q lt);
+      span = s.spans q lt ∙ sym s.memory;
+      lanes_are = s.lanes q lt;
+    })))
+  where
+    room_for_one : (xs : List Action) (i : ℕ) (a : Action) → slice_get xs i ≡ Some a → stores_among (a ∷ []) ≤ stores_among (drop i xs)
+    room_for_one xs i a e = omega (arith, ap stores_among (drop_at xs i a e), stores_first a (drop (suc i) xs))
+
+-- The walker keeps up
+
+-- after an action, before the phase moves on
+walking_acted : (code : Code) (s m n : State) (q : ℕ) (action : Action) → s.phase < length code.lists → is_open code s.phase s.done ≡ true → IsWalking code s m → next_action code m q ≡ Some action → n ≡ turn code m q → (t : State) → t.phase ≡ s.phase → t.done ≡ slice_set s.done q (suc (slice_index s.done q)) → IsWalking code t n
+walking_acted code s m n q action lt opened w e en t ep ed =
+    let at = w.here opened in
+    let done : List ℕ = slice_set m.done q (suc (slice_index m.done q)) in
+    let same : done ≡ t.done = ap (λ (d : List ℕ). slice_set d q (suc (slice_index d q))) at.1 ∙ sym ed in
+    let phase : m.phase ≡ t.phase = at.0 ∙ sym ep in
+    let acts : n ≡ moved_on code (acted code q action m) = en ∙ ap (turn_with code q m) e in
+    record {
+      here = λ o.
+          let open_m : is_open code m.phase done ≡ true = ap₂ (is_open code) phase same ∙ o in
+          let is : n ≡ acted code q action m = acts ∙ ap (λ b. cond b (acted code q action m) (next_of code (acted code q action m))) open_m in
+          (ap (λ (s : State). s.phase) is ∙ phase, ap (λ (s : State). s.done) is ∙ same);
+      ahead = λ low c.
+          let closed_m : is_open code m.phase done ≡ false = ap₂ (is_open code) phase same ∙ c in
+          let is : n ≡ next_of code (acted code q action m) = acts ∙ ap (λ b. cond b (acted code q action m) (next_of code (acted code q action m))) closed_m in
+          (ap (λ (s : State). s.phase) is ∙ ap (λ k. first_open code (phases_after code k) (k + 1)) phase, ap (λ (s : State). s.done) is);
+    }
+
+-- as the phase moves on
+walking_moved : (code : Code) → IsCode code → (b : Buffered) (m : State) → b.state.phase < length code.lists → IsWalking code b.state m → IsWalking code (buffered_moved_on code b).state m
+walking_moved code is b m lt w = at (some_wait b.queues) (is_open code b.state.phase b.state.done) refl
+  where
+    at : (c o : Bool) → is_open code b.state.phase b.state.done ≡ o → IsWalking code (cond c b.state (cond o b.state (next_of code b.state))) m
+    at true o eo = w
+    at false true eo = w
+    at false false eo =
+        let next = w.ahead lt eo in
+        record {
+          here = λ o. next;
+          ahead = λ low c. absurd (false≢true (sym c ∙ first_opens code is (phases_after code b.state.phase) (b.state.phase + 1) (omega (arith, low))));
+        }
+
+pub turned : (a : Inside) (q : ℕ) (action : Action) (v : Stand) (m : Machine) → IsWhole a → q < (code_in a).procs → a.values.phase < length a.lens.items → slice_index a.values.done q < slice_index a.lens.items a.values.phase → slice_get (acts (code_in a) a.values.phase q) (slice_index a.values.done q) ≡ Some action → v ≡ settled_stand a.lens.items (acted_stand a.shape.modulus a.shape.lanes q action a.values) → m.code ≡ a.walker.code → m.state ≡ turn (code_in a) a.walker.state q → IsWhole (with_values a v m) × (buffered_of v ≡ buffered_turn (code_in a) (buffered_of a.values) q)
+turned a q action v m w lt phase left e ev ec em =
+    let code : Code = code_in a in
+    let b : Buffered = buffered_of a.values in
+    let acted_now : Stand = acted_stand code.modulus code.lanes q action a.values in
+    let ev1 : v ≡ settled_stand a.lens.items acted_now = ev ∙ ap₂ (λ m lanes. settled_stand a.lens.items (acted_stand m lanes q action a.values)) w.modulus w.lanes in
+    let can = w.good.each a.values.phase q (slice_index a.values.done q) action lt e in
+    let standing : IsStanding code acted_now = standing_acted code a.values q action w.good.modulus w.standing lt e can.address in
+    let moved : buffered_of v ≡ buffered_moved_on code (buffered_of acted_now) = ap buffered_of ev1 ∙ settled_buffered code a.lens.items w.lens acted_now w.good.procs standing.dones in
+    let same : buffered_of v ≡ buffered_turn code b q =
+    moved
+    ∙ (ap (buffered_moved_on code) (acted_buffered code a.values q action)
+    ∙ ap (buffered_turn_with code q b) (sym e)) in
+    let low : a.values.phase < length code.lists = omega (arith, w.lens.count) in
+    let step = walking_acted code b.state a.walker.state m.state q action low (open_here a q w lt left) w.walking (walker_next a q w lt left ∙ e) em (buffered_of acted_now).state refl refl in
+    let walks : IsWalking code (buffered_of v).state m.state = subst (λ (c : Buffered). IsWalking code c.state m.state) (sym moved) (walking_moved code w.good.lists (buffered_of acted_now) m.state low step) in (
+      whole_with a v m w ec (subst (IsStanding code) (sym ev1) (standing_settled code a.lens.items acted_now standing))
+          (subst (IsBusy code) (sym same) (busy_step code w.good.lists b (Turn q) w.busy)) walks,
+      same,
+    )
+
+-- A drain
+
+pub drain_within : (a : Inside) (q address : ℕ) (u : Stand) → IsWhole a → IsWritten q a.values u address → u.phase < length a.lens.items
+drain_within a q address u w wr =
+    omega (arith, wr.phase, w.lens.count, waits_within (code_in a) w.good.lists (buffered_of a.values) q wr.drained.oldest wr.queue.waiting w.busy (queue_is a.values.queues q ∙ wr.drained.splits))
+
+pub drained : (a : Inside) (q address : ℕ) (u v : Stand) → IsWhole a → q < (code_in a).procs → IsWritten q a.values u address → v ≡ settled_stand a.lens.items u → IsWhole (with_values a v a.walker) × (buffered_of v ≡ drain (code_in a) (buffered_of a.values) q)
+drained a q address u v w lt wr ev =
+    let code : Code = code_in a in
+    let b : Buffered = buffered_of a.values in
+    let standing : IsStanding code u = standing_written code a.values u q address w.standing lt wr in
+    let there = queue_is a.values.queues q ∙ wr.drained.splits in
+    let moved : buffered_of v ≡ buffered_moved_on code (buffered_of u) = ap buffered_of ev ∙ settled_buffered code a.lens.items w.lens u w.good.procs standing.dones in
+    let same : buffered_of v ≡ drain code b q =
+    moved
+    ∙ (ap (buffered_moved_on code) (written_buffered code a.values u q address wr)
+    ∙ ap (drain_with code q b) (sym there)) in
+    let low : u.phase < length code.lists = omega (arith, drain_within a q address u w wr, w.lens.count) in
+    let step : IsWalking code (buffered_of u).state a.walker.state = record {
+      here = subst (λ (k : ℕ). is_open code k u.done ≡ true → (a.walker.state.phase ≡ k) × (a.walker.state.done ≡ u.done)) (sym wr.phase) (subst (λ (d : List ℕ). is_open code a.values.phase d ≡ true → (a.walker.state.phase ≡ a.values.phase) × (a.walker.state.done ≡ d)) (sym wr.done) w.walking.here);
+      ahead = subst (λ (k : ℕ). k < length code.lists → is_open code k u.done ≡ false → (a.walker.state.phase ≡ first_open code (phases_after code k) (k + 1)) × (a.walker.state.done ≡ none_done code)) (sym wr.phase) (subst (λ (d : List ℕ). a.values.phase < length code.lists → is_open code a.values.phase d ≡ false → (a.walker.state.phase ≡ first_open code (phases_after code a.values.phase) (a.values.phase + 1)) × (a.walker.state.done ≡ none_done code)) (sym wr.done) w.walking.ahead);
+    } in
+    let walks : IsWalking code (buffered_of v).state a.walker.state = subst (λ (c : Buffered). IsWalking code c.state a.walker.state) (sym moved) (walking_moved code w.good.lists (buffered_of u) a.walker.state low step) in (
+      whole_with a v a.walker w refl (subst (IsStanding code) (sym ev) (standing_settled code a.lens.items u standing))
+          (subst (IsBusy code) (sym same) (busy_step code w.good.lists b (Drain q) w.busy)) walks,
+      same,
+    )
+
+-- A beginning
+
+zero_files : (files : List (List ℕ)) (k : ℕ) → ((q : ℕ) → q < length files → length (slice_index_or files q []) ≡ k) → map (λ (file : List ℕ). replicate {A = ℕ} (length file) 0) files ≡ replicate (length files) (replicate {A = ℕ} k 0)
+zero_files [] k h = refl
+zero_files (f ∷ files) k h = ap₂ (λ (x : List ℕ) (xs : List (List ℕ)). x ∷ xs) (ap (λ n. replicate {A = ℕ} n 0) (h 0 (omega arith))) (zero_files files k (λ q lt. h (suc q) (omega arith)))
+
+empty_queues : (queues : List Backlog) → waits_of (map cleared queues) ≡ replicate (length queues) []
+empty_queues [] = refl
+empty_queues (l ∷ queues) = ap (λ (xs : List (List Waiting)). [] ∷ xs) (empty_queues queues)
+
+file_of_zeros : (m : ℕ) (files : List (List ℕ)) (q : ℕ) → 0 < m → AreBelow m (slice_index_or (map (λ (file : List ℕ). replicate (length file) 0) files) q [])
+file_of_zeros m [] q pos = λ j. pos
+file_of_zeros m (f ∷ files) zero pos = below-zeros m (length f) pos
+file_of_zeros m (f ∷ files) (suc q) pos = file_of_zeros m files q pos
+
+file_size : (files : List (List ℕ)) (q : ℕ) → length {A = ℕ} (slice_index_or (map (λ (file : List ℕ). replicate (length file) 0) files) q []) ≡ length (slice_index_or files q [])
+file_size [] q = refl
+file_size (f ∷ files) zero = length-replicate {A = ℕ} (length f) 0
+file_size (f ∷ files) (suc q) = file_size files q
+
+module _ (p : Code) (lens : List ℕ) (h : HasLens p lens) (g : IsGood p) where
+  pub first_standing : (t : Stand) (x : List ℕ) → length x ≤ length t.memory → AreBelow p.modulus x → IsStanding p t → IsStanding p (first_stand lens x t)
+  first_standing t x le below s =
+      let pos : 0 < p.modulus = g.modulus in
+      let anew = standing_anew p t (first_busy lens (length lens) 0) s in
+      record {
+        memory = length-append x (replicate (length t.memory - length x) 0) ∙ omega (arith, s.memory, length-replicate {A = ℕ} (length t.memory - length x) 0);
+        memory_below = below-padded p.modulus (length t.memory - length x) x pos below;
+        files = length-map t.registers _ ∙ s.files;
+        file = λ q lt. file_size t.registers q ∙ s.file q lt;
+        files_below = λ q. file_of_zeros p.modulus t.registers q pos;
+        dones = anew.dones;
+        lines = anew.lines;
+        lanes = anew.lanes;
+        spans = anew.spans;
+        rooms = anew.rooms;
+        mosts = anew.mosts;
+        waiting = anew.waiting;
+      }
+
+  -- the state of the first stand, where so much of memory is given
+  first_state : (t : Stand) (x y : List ℕ) → y ++ replicate (length t.memory - length y) 0 ≡ x ++ replicate (4 * padded p - p.size) 0 → IsStanding p t → buffered_of (first_stand lens y t) ≡ buffered_start p x
+  first_state t x y e s =
+      let pos : 0 < p.procs = g.procs in
+      let registers : map (λ (file : List ℕ). replicate (length file) 0) t.registers ≡ replicate p.procs (replicate (p.regs * p.lanes) 0) =
+      zero_files t.registers (p.regs * p.lanes) (λ q lt. s.file q (omega (arith, s.files))) ∙ ap (λ n. replicate n (replicate (p.regs * p.lanes) 0)) s.files in
+      let queues : waits_of (map cleared t.queues) ≡ replicate p.procs [] = empty_queues t.queues ∙ ap (λ n. replicate n []) s.lines in
+      let phase : first_busy lens (length lens) 0 ≡ first_open p (length p.lists) 0 =
+      ap (λ n. first_busy lens n 0) (sym h.count) ∙ sym (first_is_busy p lens h pos (length p.lists) 0) in
+      let done : replicate (length t.done) 0 ≡ replicate p.procs 0 = ap (λ n. replicate n 0) s.dones in
+      state_of _ _ _ _ _ _ _ _ _ _ e registers phase done queues
+    where
+      state_of : (m n : List ℕ) (r s : List (List ℕ)) (i j : ℕ) (d e : List ℕ) (q k : List (List Waiting)) → m ≡ n → r ≡ s → i ≡ j → d ≡ e → q ≡ k → ◌≡◌ {A = Buffered} (record { state = record { memory = m; registers = r; phase = i; done = d }; queues = q }) (record { state = record { memory = n; registers = s; phase = j; done = e }; queues = k })
+      state_of m n r s i j d e q k em er ei ed eq =
+          ap₂ (λ (m : List ℕ) (r : List (List ℕ)). record { state = record { memory = m; registers = r; phase = i; done = d }; queues = q }) em er
+          ∙ (ap₂ (λ (i : ℕ) (d : List ℕ). record { state = record { memory = n; registers = s; phase = i; done = d }; queues = q }) ei ed
+          ∙ ap (λ (q : List (List Waiting)). record { state = record { memory = n; registers = s; phase = j; done = e }; queues = q }) eq)
+
+  pub put_state : (t : Stand) (x : List ℕ) → length x ≡ p.size → IsStanding p t → buffered_of (first_stand lens x t) ≡ buffered_start p x
+  put_state t x size s = first_state t x x (ap₂ (λ n k. x ++ replicate (n - k) 0) s.memory size) s
+
+  pub new_state : (t : Stand) → IsStanding p t → buffered_of (first_stand lens [] t) ≡ buffered_start p (replicate p.size 0)
+  new_state t s =
+      let room : p.size ≤ padded p = g.size in
+      let all : p.size + (4 * padded p - p.size) ≡ length t.memory - 0 = omega (arith, s.memory) in
+      first_state t (replicate p.size 0) [] (ap (λ n. replicate n 0) (sym all) ∙ sym (replicate-append-replicate p.size (4 * padded p - p.size) 0)) s
+
+pub busy_at_start : (code : Code) → IsCode code → (t : Stand) (x : List ℕ) → buffered_of t ≡ buffered_start code x → IsBusy code (buffered_of t)
+busy_at_start code is t x e = subst (IsBusy code) (sym e) (starts_busy code is x)
+
+pub walking_at_start : (code : Code) → IsCode code → (t : Stand) (m : State) (x y : List ℕ) → buffered_of t ≡ buffered_start code x → m ≡ start code y → IsWalking code (buffered_of t).state m
+walking_at_start code is t m x y e em =
+    subst (λ (b : Buffered). IsWalking code b.state m) (sym e)
+    (record {
+      here = λ o. (ap (λ (s : State). s.phase) em, ap (λ (s : State). s.done) em);
+      ahead = λ low c. absurd (false≢true (sym c ∙ first_opens code is (length code.lists) 0 (omega (arith, low))));
+    })
+
+pub put_whole : (a : Inside) (x : List ℕ) (v : Stand) (m : Machine) → IsWhole a → v ≡ first_stand a.lens.items x a.values → length x ≡ (code_in a).size → AreBelow (code_in a).modulus x → m.code ≡ a.walker.code → m.state ≡ start (code_in a) x → IsWhole (with_values a v m) × (buffered_of v ≡ buffered_start (code_in a) x)
+put_whole a x v m w ev size below ec em =
+    let p : Code = code_in a in
+    let standing : IsStanding p v = subst (IsStanding p) (sym ev) (first_standing p a.lens.items w.lens w.good a.values x (omega (arith, w.standing.memory, w.good.size)) below w.standing) in
+    let same : buffered_of v ≡ buffered_start p x = ap buffered_of ev ∙ put_state p a.lens.items w.lens w.good a.values x size w.standing in
+    (whole_with a v m w ec standing (busy_at_start p w.good.lists v x same) (walking_at_start p w.good.lists v m.state x x same em), same)
+
+-- A new machine
+
+-- all words 0, and queues with room for so many stores
+abbrev pub zero_stand : ℕ → ℕ → ℕ → ℕ → ℕ → Stand
+zero_stand room procs words lanes most =
+    record {
+      memory = replicate (4 * room) 0;
+      registers = replicate procs (replicate words 0);
+      queues = replicate procs (record { lanes = lanes; waiting = []; room = most; most = most; span = 4 * room });
+      phase = 0;
+      done = replicate procs 0;
+    }
+
+zero_standing : (p : Program) (most : ℕ) → ((phase q : ℕ) → q < p.procs → stores_among (acts (code_of p) phase q) ≤ most) → IsStanding (code_of p) (zero_stand (padded (code_of p)) p.procs (p.regs * p.lanes) p.lanes most)
+zero_standing p most h =
+    let pos : 0 < p.modulus = omega (arith, p.header.of_modulus.0) in
+    let l : Backlog = record { lanes = p.lanes; waiting = []; room = most; most = most; span = 4 * padded (code_of p) } in
+    let at : (q : ℕ) → q < p.procs → backlog_at (replicate p.procs l) q ≡ l = λ q lt. get_or-replicate p.procs q l (record { lanes = 0; waiting = []; room = 0; most = 0; span = 0 }) lt in
+    record {
+      memory = length-replicate {A = ℕ} (4 * padded (code_of p)) 0;
+      memory_below = below-zeros p.modulus (4 * padded (code_of p)) pos;
+      files = length-replicate p.procs (replicate {A = ℕ} (p.regs * p.lanes) 0);
+      file = λ q lt. ap length (get_or-replicate p.procs q (replicate {A = ℕ} (p.regs * p.lanes) 0) [] lt) ∙ length-replicate {A = ℕ} (p.regs * p.lanes) 0;
+      files_below = λ q. zeros_below p.modulus p.procs (p.regs * p.lanes) q pos;
+      dones = length-replicate {A = ℕ} p.procs 0;
+      lines = length-replicate p.procs l;
+      lanes = λ q lt. ap (λ (l : Backlog). l.lanes) (at q lt);
+      spans = λ q lt. ap (λ (l : Backlog). l.span) (at q lt);
+      rooms = λ q lt. subst (λ (b : Backlog). stores_among (drop (slice_index (replicate p.procs 0) q) (acts (code_of p) 0 q)) ≤ b.room) (sym (at q lt))
+          (subst (λ k. stores_among (drop k (acts (code_of p) 0 q)) ≤ most) (sym (slice_index-zeros p.procs q)) (h 0 q lt));
+      mosts = λ phase q lt. subst (λ (b : Backlog). stores_among (acts (code_of p) phase q) ≤ b.most) (sym (at q lt)) (h phase q lt);
+      waiting = λ q. none_sound p.modulus p.lanes (4 * padded (code_of p)) p.procs p.lanes most (4 * padded (code_of p)) q;
+    }
+  where
+    zeros_below : (m n k q : ℕ) → 0 < m → AreBelow m (slice_index_or (replicate n (replicate k 0)) q [])
+    zeros_below m zero k q pos = λ j. pos
+    zeros_below m (suc n) k zero pos = below-zeros m k pos
+    zeros_below m (suc n) k (suc q) pos = zeros_below m n k q pos
+
+    none_sound : (m lanes span n lanes' most s q : ℕ) → AreSound m lanes span (backlog_at (replicate n (record { lanes = lanes'; waiting = []; room = most; most = most; span = s })) q).waiting
+    none_sound m lanes span zero lanes' most s q = tt
+    none_sound m lanes span (suc n) lanes' most s zero = tt
+    none_sound m lanes span (suc n) lanes' most s (suc q) = none_sound m lanes span n lanes' most s q
+
+pub record IsMade (p : Program) (a : Inside) (t : Stand) (most : ℕ) : Type 0 where
+  pub fits : Fits p
+  pub size : a.shape.size ≡ p.size
+  pub modulus : a.shape.modulus ≡ p.modulus
+  pub procs : a.shape.procs ≡ p.procs
+  pub line : a.shape.line ≡ p.line
+  pub lanes : a.shape.lanes ≡ p.lanes
+  pub regs : a.shape.regs ≡ p.regs
+  pub lens : HasLens (code_of p) a.lens.items
+  pub most_is : (phase q : ℕ) → q < p.procs → stores_among (acts (code_of p) phase q) ≤ most
+  pub values : t ≡ zero_stand a.shape.room a.shape.procs (a.shape.regs * a.shape.lanes) a.shape.lanes most
+  pub put : a.values ≡ first_stand a.lens.items [] t
+  pub walker_code : a.walker.code ≡ code_of p
+  pub walker_state : a.walker.state ≡ start (code_of p) (replicate p.size 0)
+
+pub made : (p : Program) (a : Inside) (t : Stand) (most : ℕ) → IsMade p a t most → IsWhole a × (buffered_of a.values ≡ buffered_start (code_of p) (replicate p.size 0))
+made p a t most w =
+    let g : IsGood (code_of p) = good p w.fits in
+    let room : a.shape.room ≡ padded (code_of p) = a.shape.lines ∙ ap₂ whole_lines w.size w.line in
+    let words : a.shape.regs * a.shape.lanes ≡ p.regs * p.lanes = ap₂ (λ r l. r * l) w.regs w.lanes in
+    let same : t ≡ zero_stand (padded (code_of p)) p.procs (p.regs * p.lanes) p.lanes most =
+    w.values
+    ∙ (ap₂ (λ room procs. zero_stand room procs (a.shape.regs * a.shape.lanes) a.shape.lanes most) room w.procs
+    ∙ ap₂ (λ words lanes. zero_stand (padded (code_of p)) p.procs words lanes most) words w.lanes) in
+    let standing : IsStanding (code_of p) t = subst (IsStanding (code_of p)) (sym same) (zero_standing p most w.most_is) in
+    let state : buffered_of a.values ≡ buffered_start (code_of p) (replicate p.size 0) = ap buffered_of w.put ∙ new_state (code_of p) a.lens.items w.lens g t standing in
+    let code = w.walker_code in (
+      record {
+        good = subst IsGood (sym code) g;
+        modulus = w.modulus ∙ ap (λ (c : Code). c.modulus) (sym code);
+        procs = w.procs ∙ ap (λ (c : Code). c.procs) (sym code);
+        lanes = w.lanes ∙ ap (λ (c : Code). c.lanes) (sym code);
+        regs = w.regs ∙ ap (λ (c : Code). c.regs) (sym code);
+        lens = subst (λ (c : Code). HasLens c a.lens.items) (sym code) w.lens;
+        standing = subst (λ (c : Code). IsStanding c a.values) (sym code) (subst (IsStanding (code_of p)) (sym w.put) (first_standing (code_of p) a.lens.items w.lens g t [] (omega arith) (λ k. g.modulus) standing));
+        busy = subst (λ (c : Code). IsBusy c (buffered_of a.values)) (sym code) (busy_at_start (code_of p) g.lists a.values (replicate p.size 0) state);
+        walking = subst (λ (c : Code). IsWalking c (buffered_of a.values).state a.walker.state) (sym code) (walking_at_start (code_of p) g.lists a.values a.walker.state (replicate p.size 0) (replicate p.size 0) state w.walker_state);
+      },
+      state,
+    )
+
+-- The next event
+
+pub idle_at : (a : Inside) (q : ℕ) → IsWhole a → q < (code_in a).procs → slice_index a.lens.items a.values.phase ≤ slice_index a.values.done q → is_waiting (backlog_at a.values.queues q).waiting ≡ false → IsIdle (code_in a) (buffered_of a.values) q
+idle_at a q w lt over none = (omega (arith, w.lens.each a.values.phase q lt), queue_is a.values.queues q ∙ empty (backlog_at a.values.queues q).waiting none)
+  where
+    empty : (ws : List Waiting) → is_waiting ws ≡ false → ws ≡ []
+    empty [] e = refl
+    empty (w ∷ ws) e = absurd (false≢true (sym e))
+
+pub idle_below : (a : Inside) (n : ℕ) → IsIdle (code_in a) (buffered_of a.values) n → ((q : ℕ) → q < n → IsIdle (code_in a) (buffered_of a.values) q) → (q : ℕ) → q < n + 1 → IsIdle (code_in a) (buffered_of a.values) q
+idle_below a n here before q lt =
+    ⊎_elim
+    (λ (e : q ≡ n). subst (IsIdle (code_in a) (buffered_of a.values)) (sym e) here)
+    (λ (ne : q ≡ n → ⊥). before q (omega arith))
+    (cases_eq q n)
+
+pub next_turn : (a : Inside) (q : ℕ) → IsWhole a → q < (code_in a).procs → slice_index a.values.done q < slice_index a.lens.items a.values.phase → ((k : ℕ) → k < q → IsIdle (code_in a) (buffered_of a.values) k) → buffered_completion (code_in a) (buffered_of a.values) ≡ Turn q ∷ buffered_completion (code_in a) (buffered_turn (code_in a) (buffered_of a.values) q)
+next_turn a q w lt left idle =
+    let code : Code = code_in a in
+    let xs : List Action = acts code a.values.phase q in
+    let small : slice_index a.values.done q < length xs = omega (arith, w.lens.each a.values.phase q lt) in
+    let some = some_action xs (slice_index a.values.done q) small in
+    completion_turn code w.good.lists (buffered_of a.values) q some.0 w.busy some.1 idle
+
+pub next_drain : (a : Inside) (q : ℕ) → IsWhole a → q < (code_in a).procs → slice_index a.lens.items a.values.phase ≤ slice_index a.values.done q → is_waiting (backlog_at a.values.queues q).waiting ≡ true → ((k : ℕ) → k < q → IsIdle (code_in a) (buffered_of a.values) k) → buffered_completion (code_in a) (buffered_of a.values) ≡ Drain q ∷ buffered_completion (code_in a) (drain (code_in a) (buffered_of a.values) q)
+next_drain a q w lt over some idle =
+    let there = oldest_there (backlog_at a.values.queues q).waiting some in
+    completion_drain (code_in a) w.good.lists (buffered_of a.values) q there.0 there.1 w.busy lt (omega (arith, w.lens.each a.values.phase q lt)) (queue_is a.values.queues q ∙ there.2) idle
+  where
+    oldest_there : (ws : List Waiting) → is_waiting ws ≡ true → (w : Waiting) × (rest : List Waiting) × (ws ≡ w ∷ rest)
+    oldest_there [] e = absurd (false≢true e)
+    oldest_there (w ∷ ws) e = (w, ws, refl)
+
+pub nothing_next : (a : Inside) → IsWhole a → length a.lens.items ≤ a.values.phase → buffered_completion (code_in a) (buffered_of a.values) ≡ []
+nothing_next a w le = completion_past (code_in a) w.good.lists (buffered_of a.values) w.busy (omega (arith, w.lens.count))
+
+pub all_idle : (a : Inside) → IsWhole a → ((q : ℕ) → q < (code_in a).procs → IsIdle (code_in a) (buffered_of a.values) q) → length a.lens.items ≤ a.values.phase
+all_idle a w idle = omega (arith, w.lens.count, idle_past (code_in a) w.good.lists (buffered_of a.values) w.busy idle)

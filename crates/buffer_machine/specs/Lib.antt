@@ -1,0 +1,11 @@
+pub mod Backlog
+pub mod Waits
+pub mod Sound
+pub mod Stand
+pub mod Drains
+pub mod Values
+pub mod Ready
+pub mod Running
+pub mod Good
+pub mod Walking
+pub mod View

@@ -1,0 +1,15 @@
+//! The machine with store buffers: what a processor stores waits in a queue of its own, and is written to memory later.
+#![tactic(auto)]
+
+mod machine;
+mod make;
+mod play;
+mod queue;
+mod registers;
+mod settle;
+#[cfg(test)]
+mod tests;
+mod values;
+
+pub use icode::event::{Drained, Event, Turned};
+pub use machine::BufMachine;

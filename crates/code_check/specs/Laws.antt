@@ -1,0 +1,24 @@
+-- The statements of the laws.
+use Rattle.std.specs.Prelude.{◌≡◌, ◌≢◌, ℕ, List, []}
+use Rattle.icode.specs.declared.program.Program.{Program}
+use Rattle.icode.specs.Machine.{runs}
+use Rattle.icode.specs.Plain.{PlainProgram}
+use Rattle.icode.specs.Program.{plain_program, code_of, Fits}
+use Rattle.code_check.specs.declared.fault.CheckFault.{CheckFault}
+use Rattle.code_check.specs.declared.fault.CheckFault.TheVariants.{NoMemory}
+use Rattle.code_check.specs.Refusals.{PassesCheck, IsCause}
+
+-- two causes of a program are one
+abbrev pub OneCause : Type 0
+OneCause =
+    (limit : ℕ) (p : PlainProgram) (f g : CheckFault) → f ≢ NoMemory → g ≢ NoMemory → IsCause limit p f → IsCause limit p g → f ≡ g
+
+-- a program that passes has none
+abbrev pub CausesExclude : Type 0
+CausesExclude =
+    (limit : ℕ) (p : PlainProgram) (f : CheckFault) → f ≢ NoMemory → PassesCheck limit p → IsCause limit p f → ⊥
+
+-- what passes a limit below 2^59 fits, and every order of turns leaves the same memory
+abbrev pub PassedFits : Type 0
+PassedFits =
+    (p : Program) → PassesCheck 100000000 (plain_program p) → Fits p × ((x turns : List ℕ) → (runs (code_of p) x turns).memory ≡ (runs (code_of p) x []).memory)

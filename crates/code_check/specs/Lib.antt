@@ -1,0 +1,9 @@
+pub mod Refusals
+pub mod Uses
+pub mod Walk
+pub mod Tables
+pub mod Phases
+pub mod Faults
+pub mod Laws
+pub mod Live
+pub mod Joined

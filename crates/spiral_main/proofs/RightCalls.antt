@@ -1,0 +1,87 @@
+-- A call that is right succeeds, unless the outside fails or memory runs out.
+use Rattle.std.proofs.Common.{◌≡◌, ◌≢◌, ◌⊎◌, ℕ, true, List, Ok, Err, refl, sym, ap, subst, ◌∙◌, arith, inl, inr}
+use Rattle.std.specs.declared.option.Option.{Option}
+use Rattle.matrix_meaning.specs.declared.Request.{Request}
+use Rattle.plan_cert.proofs.OneVerdict.{one_verdict}
+use Rattle.plan_cert.specs.declared.verdict.Verdict.TheVariants.{Least}
+use Rattle.spiral_words.specs.declared.Command.{Command}
+use Rattle.spiral_words.specs.declared.Command.TheVariants as command
+use Rattle.spiral_main.specs.declared.status.Status.{Status}
+use Rattle.spiral_main.specs.declared.status.Status.TheVariants.{Success, Usage, Syntax, Range, Shape, LanesLine, Turn, NoDivide, OverBudget, BadNumber, Truncated, ReadFault, WriteFault, NoMemory, TooLong, Unread, Wrong}
+use Rattle.spiral_main.specs.declared.status.Status.TheVariants as status
+use Rattle.spiral_main.specs.Checked.{IsChecked, status_of_verdict}
+use Rattle.spiral_main.specs.Commands.{reads_certificate}
+use Rattle.spiral_main.specs.Fault.{status_of_stream}
+use Rattle.spiral_main.specs.Line.{data_of}
+use Rattle.spiral_main.specs.Outcome.{Job, IsTextOfData, Settles, IsOutcome, room_behind, Accounts}
+use Rattle.spiral_main.specs.Right.{IsRightRest, IsRightCall, Succeeds}
+use Rattle.spiral_main.specs.Stream.{data_answer}
+use Rattle.spiral_main.proofs.OneOutcome.{done_same, done_ended, ordered_decided}
+use Rattle.spiral_main.proofs.StreamLemmas.{right_answer}
+
+data_right : (wanted : Command) (r : Request) (room : ℕ) (bytes : List ℕ) (vectors : List (List ℕ)) (text : List ℕ) → IsRightRest wanted r room bytes → IsTextOfData wanted r vectors text
+    → data_answer r.size room bytes ≡ Ok tt
+data_right (command.Run schedule) r room bytes vectors text right p = right_answer r.size room bytes right.few right.good right.whole
+data_right (command.Trace schedule) r room bytes vectors text right p = right_answer r.size room bytes right.few right.good right.whole
+data_right command.Plan r room bytes vectors text right p = absurd p
+data_right command.Formula r room bytes vectors text right p = absurd p
+data_right command.Code r room bytes vectors text right p = absurd p
+data_right command.C r room bytes vectors text right p = absurd p
+data_right command.Cert r room bytes vectors text right p = absurd p
+data_right command.Check r room bytes vectors text right p = absurd p
+data_right (command.Sample seed schedule) r room bytes vectors text right p = absurd p
+
+check_right : (wanted : Command) (r : Request) (room : ℕ) (bytes : List ℕ) (s : Status) (text : List ℕ) → IsRightRest wanted r room bytes → reads_certificate wanted ≡ true → IsChecked r bytes s text → s ≡ Success
+check_right command.Check r room bytes s text right h (inl p) = absurd (omega (arith, p.0, right.few))
+check_right command.Check r room bytes s text right h (inr p) = p.1.2 ∙ ap status_of_verdict (one_verdict r bytes p.1.0 (Least right.cost) p.1.1 right.judged)
+check_right (command.Run schedule) r room bytes s text right h p = absurd (cc)
+check_right (command.Trace schedule) r room bytes s text right h p = absurd (cc)
+check_right command.Plan r room bytes s text right h p = absurd (cc)
+check_right command.Formula r room bytes s text right h p = absurd (cc)
+check_right command.Code r room bytes s text right h p = absurd (cc)
+check_right command.C r room bytes s text right h p = absurd (cc)
+check_right command.Cert r room bytes s text right h p = absurd (cc)
+check_right (command.Sample seed schedule) r room bytes s text right h p = absurd (cc)
+
+settled_right : (wanted : Command) (r : Request) (room : ℕ) (bytes : List ℕ) (s : Status) (text : List ℕ) → IsRightRest wanted r room bytes → Settles wanted r room bytes s text → s ≡ Success
+settled_right wanted r room bytes s text right (inl p) = p.0 ∙ ap status_of_stream (data_right wanted r room bytes _ text right p.1)
+settled_right wanted r room bytes s text right (inr (inl p)) = p.0
+settled_right wanted r room bytes s text right (inr (inr p)) = check_right wanted r room bytes s text right p.0 p.1
+
+right_success : (words : List (List ℕ)) (bytes : List ℕ) (s : Status) (text : List ℕ) → IsRightCall words bytes → IsOutcome words bytes s text → s ≡ Success
+right_success words bytes s text right (inl p) = absurd (done_ended right.job s (ordered_decided words bytes (Ok right.job) (Err s) right.asks p.0))
+right_success words bytes s text right (inr p) =
+    let same : p.0 ≡ right.job = done_same p.0 right.job (ordered_decided words bytes (Ok p.0) (Ok right.job) p.1 right.asks) in
+    settled_right right.job.command right.job.request (room_behind bytes) (data_of bytes) s text right.rest
+    (subst (λ (job : Job). Settles job.command job.request (room_behind bytes) (data_of bytes) s text) same p.2)
+
+memory_or : (s : Status) → (s ≡ NoMemory) ⊎ (s ≢ NoMemory)
+memory_or NoMemory = inl refl
+memory_or Success = inr (λ e. cc)
+memory_or Usage = inr (λ e. cc)
+memory_or (Syntax at) = inr (λ e. cc)
+memory_or (Range field value) = inr (λ e. cc)
+memory_or (Shape size) = inr (λ e. cc)
+memory_or (LanesLine lanes line) = inr (λ e. cc)
+memory_or (Turn q p) = inr (λ e. cc)
+memory_or (status.Root power) = inr (λ e. cc)
+memory_or NoDivide = inr (λ e. cc)
+memory_or (OverBudget cost budget) = inr (λ e. cc)
+memory_or (BadNumber token) = inr (λ e. cc)
+memory_or (Truncated have need) = inr (λ e. cc)
+memory_or ReadFault = inr (λ e. cc)
+memory_or WriteFault = inr (λ e. cc)
+memory_or (TooLong limit) = inr (λ e. cc)
+memory_or Unread = inr (λ e. cc)
+memory_or (Wrong size given found) = inr (λ e. cc)
+
+pub right_calls : (words : List (List ℕ)) (bytes : List ℕ) (left before after : Option (List ℕ)) (s : Status) → IsRightCall words bytes → Accounts words bytes left before after s
+    → s ≢ ReadFault → s ≢ WriteFault → (s ≡ NoMemory) ⊎ Succeeds words bytes before after s
+right_calls words bytes left before after s right accounts read write =
+    elim (memory_or s) [
+      | inl none ↦ inl none
+      | inr memory ↦
+          let found = accounts.answer (record { read = read; write = write; memory = memory }) in
+          let success = right_success words bytes s found.0 right found.1 in
+          inr (record { success = success; text = found.0; outcome = subst (λ (t : Status). IsOutcome words bytes t found.0) success found.1; took = found.2 })
+    ]

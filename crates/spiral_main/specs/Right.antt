@@ -1,0 +1,48 @@
+-- Calls that are right in all that the program asks of them, and their success.
+use Rattle.std.specs.Prelude.{◌≡◌, ◌⊎◌, ℕ, ◌≤◌, ◌%◌, true, List, length, Ok}
+use Rattle.std.specs.List.{list_all}
+use Rattle.std.specs.declared.option.Option.{Option}
+use Rattle.std.specs.Io.KnownBytes.{Appends}
+use Rattle.matrix_meaning.specs.declared.Request.{Request}
+use Rattle.plan_cert.specs.declared.verdict.Verdict.TheVariants.{Least}
+use Rattle.plan_cert.specs.Verdict.{IsVerdict}
+use Rattle.data_stream.specs.Data.{tokens, is_good}
+use Rattle.spiral_words.specs.declared.Command.{Command}
+use Rattle.spiral_words.specs.declared.Command.TheVariants as command
+use Rattle.spiral_main.specs.declared.status.Status.{Status}
+use Rattle.spiral_main.specs.declared.status.Status.TheVariants.{Success}
+use Rattle.spiral_main.specs.Checked.{certificate_limit}
+use Rattle.spiral_main.specs.Line.{data_of}
+use Rattle.spiral_main.specs.Outcome.{Job, ordered, room_behind, IsOutcome}
+
+-- good tokens in whole vectors, and no more bytes than may come
+pub record AreWholeVectors (size room : ℕ) (bytes : List ℕ) : Type 0 where
+  pub few : length bytes ≤ room
+  pub good : list_all is_good (tokens bytes) ≡ true
+  pub whole : length (tokens bytes) % size ≡ 0
+
+-- a certificate that proves a least cost, and not too long
+pub record IsRightCertificate (request : Request) (bytes : List ℕ) : Type 0 where
+  pub few : length bytes ≤ certificate_limit
+  pub cost : ℕ
+  pub judged : IsVerdict request bytes (Least cost)
+
+-- what stands behind the first line is right for the command, of which so many bytes may come
+abbrev pub IsRightRest : Command → Request → ℕ → List ℕ → Type 0
+IsRightRest (command.Run schedule) request room bytes = AreWholeVectors request.size room bytes
+IsRightRest (command.Trace schedule) request room bytes = AreWholeVectors request.size room bytes
+IsRightRest command.Check request room bytes = IsRightCertificate request bytes
+IsRightRest _ request room bytes = Unit {0}
+
+-- The words are a command line, the first line spells a valid request, each turn that they name is of one of its processors, some tree fits, and the least cost is within the budget, which `check` does not ask. What stands behind the line is right
+pub record IsRightCall (words : List (List ℕ)) (bytes : List ℕ) : Type 0 where
+  pub job : Job
+  pub asks : ordered words bytes (Ok job)
+  pub rest : IsRightRest job.command job.request (room_behind bytes) (data_of bytes)
+
+-- the status is Success, and the output took the whole text
+pub record Succeeds (words : List (List ℕ)) (bytes : List ℕ) (before after : Option (List ℕ)) (status : Status) : Type 0 where
+  pub success : status ≡ Success
+  pub text : List ℕ
+  pub outcome : IsOutcome words bytes Success text
+  pub took : Appends before after text

@@ -1,0 +1,13 @@
+pub mod Arithmetic
+pub mod Residues
+pub mod Bounds
+pub mod Quick
+pub mod Simulation
+pub mod Reduce
+pub mod Puts
+pub mod Operations
+pub mod Programs
+pub mod Settling
+pub mod Tables
+pub mod Emitting
+pub mod Wholes

@@ -1,0 +1,26 @@
+use Rattle.std.proofs.Common.{◌≡◌, ◌≤◌, ℕ, List, ap, length, subst, sym, ◌∙◌, arith}
+use Rattle.icode.specs.Plain.{plain_stmt}
+use Rattle.word_code.specs.Quicken.{bound_at, loosest, quick_stmt}
+use Rattle.word_code.specs.Setting.{header_in}
+use Rattle.word_code.specs.View.{lazy_of}
+use Rattle.word_code.proofs.Emitting.{item_within, quick_more, stmt_sane}
+use Rattle.word_code.proofs.quicken.quicken_phase.Goals as goal
+
+pub quicken_stmt-requires-clause-within : goal.quicken_stmt-requires-clause-within
+quicken_stmt-requires-clause-within c =
+    item_within c.args.setting.modulus 0 c.loop-stmt.stmt-index c.args.body.now c.stmt-item.result c.requires.within (omega arith) c.stmt-item.is
+
+pub loop-stmt-preserved : goal.loop-stmt-preserved
+loop-stmt-preserved c =
+    let z = lazy_of c.args.setting.slack in
+    let h = header_in c.args.setting in
+    let ends = c.in_ok-stmt.ensures.after in
+    record {
+      is =
+          quick_more z h c.loop-stmt.stmt-index c.args.body.now c.stmt-item.result (loosest z h) c.loop-stmt.made.items c.push.new.self.items c.in_ok-stmt.stmt
+          c.loop-stmt.bounds c.quicken_stmt.new.bounds (omega arith) c.stmt-item.is c.loop-stmt.invariant.is c.in_ok-stmt.ensures.stmt ends c.in_ok-push.ensures.items;
+      sane =
+          subst (λ (bs : List ℕ). (r : ℕ) → bound_at c.args.setting.slack.limit bs r ≤ c.args.setting.slack.limit) (sym ends)
+          (stmt_sane z h (plain_stmt c.stmt-item.result) c.loop-stmt.bounds c.requires.some c.requires.keep c.requires.product c.loop-stmt.invariant.sane);
+      long = c.quicken_stmt.auto.bounds ∙ c.loop-stmt.invariant.long;
+    }

@@ -1,0 +1,4 @@
+use Rattle.word_code.proofs.settle.+settle.Given as goal
+
+abbrev pub decreases-settle : goal.decreases-settle
+decreases-settle l = l.times

@@ -1,0 +1,158 @@
+-- The program on words of a program: a bound for each register, in multiples of the modulus, and reductions where a sum of
+-- bounds would pass the limit.
+use Rattle.std.specs.Prelude.{ℕ, zero, suc, ◌+◌, ◌-◌, ◌*◌, ◌/◌, List, [], ◌∷◌, map, max, replicate, min, nat_le, if◌then◌else◌, slice_index_or, slice_set}
+use Rattle.icode.specs.declared.program.Array.{Array}
+use Rattle.icode.specs.declared.program.Array.TheVariants.{X, Y, A, B}
+use Rattle.icode.specs.Machine.{with_words}
+use Rattle.icode.specs.Plain.{PlainOp, PlainStmt, PlainBody, PlainProgram, Load, Store, Zero, Add, Sub, Neg, MulConst, MulTable, Tile}
+use Rattle.icode.specs.Plain as plain
+use Rattle.word_code.specs.Words.{Width, base_of, quotient_of, product_bound}
+use Rattle.word_code.specs.declared.program.Reduction.{Reduction}
+use Rattle.word_code.specs.WordProgram.{Note, WordStmt, WordBody, PlainWordProgram, Loop, Do, NoStmts, AndStmts}
+
+-- How lazy a program on words is: the words of A and B are below `keep` times the modulus, those of registers below `limit` times
+pub record Laziness : Type 0 where
+  pub width : Width
+  pub keep : ℕ
+  pub limit : ℕ
+
+abbrev pub bound_at : ℕ → List ℕ → ℕ → ℕ
+bound_at limit bounds r = slice_index_or bounds r limit
+
+-- half of a bound, rounded up
+abbrev pub half_up : ℕ → ℕ
+half_up b = (b + 1) / 2
+
+abbrev pub greater : ℕ → ℕ → ℕ → List ℕ → ℕ
+greater limit x y bounds = if nat_le (bound_at limit bounds y) (bound_at limit bounds x) then x else y
+
+pub record Settled : Type 0 where
+  pub reductions : List Reduction
+  pub bounds : List ℕ
+
+abbrev pub then_settled : Reduction → Settled → Settled
+then_settled r rest = record { reductions = r ∷ rest.reductions; bounds = rest.bounds }
+
+-- the greater of two registers is halved, at most so often, until their bounds together are at most the target
+abbrev pub settled : ℕ → ℕ → ℕ → ℕ → ℕ → ℕ → List ℕ → Settled
+settled m limit zero x y target bounds = record { reductions = []; bounds = bounds }
+settled m limit (suc n) x y target bounds =
+    if nat_le (bound_at limit bounds x + bound_at limit bounds y) target
+    then record { reductions = []; bounds = bounds }
+    else let r = greater limit x y bounds in
+    let h = half_up (bound_at limit bounds r) in
+    then_settled (record { register = r; amount = h * m }) (settled m limit n x y target (slice_set bounds r h))
+
+-- the bound of the words of an array
+abbrev pub array_bound : ℕ → Array → ℕ
+array_bound keep X = 1
+array_bound keep Y = 1
+array_bound keep A = keep
+array_bound keep B = keep
+
+-- the greatest bound of n registers from x on, or 0
+abbrev pub greatest_bound : ℕ → List ℕ → ℕ → ℕ → ℕ
+greatest_bound limit bounds zero x = 0
+greatest_bound limit bounds (suc n) x = max (bound_at limit bounds x) (greatest_bound limit bounds n (x + 1))
+
+pub record Noted : Type 0 where
+  pub note : Note
+  pub bounds : List ℕ
+
+abbrev pub no_note : Note
+no_note = record { before = []; bias = 0; quotient = 0 }
+
+-- the note of an operation, where the registers have these bounds, and the bounds behind it
+abbrev pub noted : Laziness → ℕ → ℕ → PlainOp → List ℕ → Noted
+noted z m lanes (Load r array place) bounds = record { note = no_note; bounds = slice_set bounds r (array_bound z.keep array) }
+noted z m lanes (Store array place r) bounds =
+    let s = settled m z.limit (2 * z.limit) r r (2 * array_bound z.keep array) bounds in
+    record { note = record { before = s.reductions; bias = 0; quotient = 0 }; bounds = s.bounds }
+noted z m lanes (Zero r) bounds = record { note = no_note; bounds = slice_set bounds r 1 }
+noted z m lanes (Add r x y) bounds =
+    let s = settled m z.limit (2 * z.limit) x y z.limit bounds in
+    record {
+      note = record { before = s.reductions; bias = 0; quotient = 0 };
+      bounds = slice_set s.bounds r (min z.limit (bound_at z.limit s.bounds x + bound_at z.limit s.bounds y));
+    }
+noted z m lanes (Sub r x y) bounds =
+    let s = settled m z.limit (2 * z.limit) x y z.limit bounds in
+    record {
+      note = record { before = s.reductions; bias = bound_at z.limit s.bounds y * m; quotient = 0 };
+      bounds = slice_set s.bounds r (min z.limit (bound_at z.limit s.bounds x + bound_at z.limit s.bounds y));
+    }
+noted z m lanes (Neg r x) bounds =
+    let s = settled m z.limit (2 * z.limit) x x (2 * (z.limit - 1)) bounds in
+    record {
+      note = record { before = s.reductions; bias = bound_at z.limit s.bounds x * m; quotient = 0 };
+      bounds = slice_set s.bounds r (min z.limit (bound_at z.limit s.bounds x + 1));
+    }
+noted z m lanes (MulConst r x factor) bounds =
+    record {
+      note = record { before = []; bias = 0; quotient = quotient_of (base_of z.width) m factor };
+      bounds = slice_set bounds r (product_bound z.width);
+    }
+noted z m lanes (MulTable r x table place step) bounds = record { note = no_note; bounds = slice_set bounds r (product_bound z.width) }
+noted z m lanes (Tile r x) bounds =
+    record { note = no_note; bounds = with_words bounds r (replicate lanes (greatest_bound z.limit bounds lanes x)) }
+
+-- the header of the program that is quickened
+pub record Header : Type 0 where
+  pub modulus : ℕ
+  pub lanes : ℕ
+  pub regs : ℕ
+
+-- nothing is known but the limit
+abbrev pub loosest : Laziness → Header → List ℕ
+loosest z h = replicate h.regs z.limit
+
+pub record QuickStmt : Type 0 where
+  pub stmt : WordStmt
+  pub bounds : List ℕ
+
+pub record QuickBody : Type 0 where
+  pub body : WordBody
+  pub bounds : List ℕ
+
+abbrev pub quick_do : PlainOp → Noted → QuickStmt
+quick_do op n = record { stmt = Do n.note op; bounds = n.bounds }
+
+abbrev pub quick_and : WordStmt → QuickBody → QuickBody
+quick_and stmt rest = record { body = AndStmts stmt rest.body; bounds = rest.bounds }
+
+-- nothing is known where a turn of a loop begins and where it ends
+abbrev mutual
+  pub quick_stmt : Laziness → Header → PlainStmt → List ℕ → QuickStmt
+  quick_stmt z h (plain.Loop count body) bounds =
+      record { stmt = Loop count (quick_body z h body (loosest z h)).body; bounds = loosest z h }
+  quick_stmt z h (plain.Do op) bounds = quick_do op (noted z h.modulus h.lanes op bounds)
+
+  pub quick_body : Laziness → Header → PlainBody → List ℕ → QuickBody
+  quick_body z h plain.NoStmts bounds = record { body = NoStmts; bounds = bounds }
+  quick_body z h (plain.AndStmts stmt rest) bounds =
+      let one = quick_stmt z h stmt bounds in quick_and one.stmt (quick_body z h rest one.bounds)
+
+abbrev pub quotients_of : Laziness → ℕ → List (List ℕ) → List (List ℕ)
+quotients_of z m tables = map (λ entries. map (quotient_of (base_of z.width) m) entries) tables
+
+abbrev pub header_of : PlainProgram → Header
+header_of p = record { modulus = p.modulus; lanes = p.lanes; regs = p.regs }
+
+-- the program on words
+abbrev pub quickened : Laziness → PlainProgram → PlainWordProgram
+quickened z p =
+    record {
+      width = z.width;
+      frame = record {
+        size = p.size;
+        modulus = p.modulus;
+        procs = p.procs;
+        line = p.line;
+        lanes = p.lanes;
+        regs = p.regs;
+        tables = p.tables;
+        phases = [];
+      };
+      quotients = quotients_of z p.modulus p.tables;
+      phases = map (λ body. (quick_body z (header_of p) body (loosest z (header_of p))).body) p.phases;
+    }

@@ -1,0 +1,10 @@
+//! Loop code on words: lazy residues, products by known factors, and why they leave what residues leave.
+#![tactic(auto)]
+
+pub mod choose;
+mod copies;
+pub mod laws;
+mod note;
+pub mod program;
+pub mod quicken;
+mod settle;

@@ -1,0 +1,219 @@
+// From programs on residues to programs on words.
+
+ghost use Rattle.std.specs.Prelude.{◌≡◌, ℕ, ◌+◌, ◌*◌, ◌^◌, ◌<◌, ◌≤◌, List, length, map, replicate, All, IfOk, OnOk, IsTrue};
+ghost use Rattle.icode.specs.Limits.{is_stmt_within, is_body_within, are_tables_within, are_phases_within};
+ghost use Rattle.icode.specs.Machine.{results};
+ghost use Rattle.icode.specs.Plain.{plain_stmt, plain_body, plain_tables, plain_phases};
+ghost use Rattle.icode.specs.Program.{plain_program, code_of, Fits};
+ghost use Rattle.word_code.specs.Words.{quotient_of, product_bound};
+ghost use Rattle.word_code.specs.Laws.{IsLazyWithin};
+ghost use Rattle.word_code.specs.Same.{LeavesTheSame, OrderIsFreeOf};
+ghost use Rattle.word_code.specs.Quicken.{Header, bound_at, loosest, quick_stmt, quick_body, quotients_of, quickened};
+ghost use Rattle.word_code.specs.Setting.{header_in};
+ghost use Rattle.word_code.specs.View.{lazy_of, plain_word_stmt, plain_word_body, plain_word_phases, plain_word_program};
+ghost use Rattle.word_code.specs.WordMachine.{word_results};
+ghost use Rattle.word_code.specs.WordProgram.{word_code};
+
+use crate::copies::{copy_op, copy_tables};
+use crate::note::{note_of, quotient};
+use crate::program::{Slack, WordProgram, WordStmt};
+use icode::program::{Program, Stmt};
+use memory::NoMemory;
+use std::alloc::Global;
+
+/// What the statements of a program share.
+#[derive(Clone, Copy, Drop)]
+pub(crate) struct Setting {
+    pub slack: Slack,
+    pub modulus: u64,
+    pub lanes: u64,
+    pub regs: u64,
+}
+
+/// Nothing is known but the limit.
+fn loosen(bounds: &mut [u64], limit: u64)
+    ensures { bounds.new ≡ replicate (length bounds.old) limit }
+{
+    bounds.fill(limit);
+}
+
+/// The statement on words, with the bounds of the registers behind it.
+fn quicken_stmt(
+    alloc: Global,
+    setting: Setting,
+    stmt: &Stmt,
+    depth: u64,
+    bounds: &mut [u64],
+) -> Result<WordStmt, NoMemory>
+    requires within { IsTrue (is_stmt_within setting.modulus (plain_stmt stmt.now) depth) }
+    requires room { setting.slack.limit * setting.modulus < 2 ^ 64 }
+    requires small { setting.slack.limit < 2 ^ 32 }
+    requires some { 1 ≤ setting.slack.limit }
+    requires half { setting.slack.half ≤ 2 ^ 32 }
+    requires keep { setting.slack.keep ≤ setting.slack.limit }
+    requires product { product_bound (lazy_of setting.slack).width ≤ setting.slack.limit }
+    requires lanes { setting.lanes ≤ 16 }
+    requires regs { length bounds.old ≡ setting.regs }
+    requires depth { depth ≤ 64 }
+    requires sane { (r : ℕ) → bound_at setting.slack.limit bounds.old r ≤ setting.slack.limit }
+    ensures stmt { IfOk result (λ s. plain_word_stmt s ≡ (quick_stmt (lazy_of setting.slack) (header_in setting) (plain_stmt stmt.now) bounds.old).stmt) }
+    ensures after { OnOk result (bounds.new ≡ (quick_stmt (lazy_of setting.slack) (header_in setting) (plain_stmt stmt.now) bounds.old).bounds) }
+{
+    match stmt {
+        Stmt::Loop { count, body } => {
+            loosen(bounds, setting.slack.limit);
+            let mut made = Vec::new(alloc);
+            for inner in body {
+                let inner = quicken_stmt(alloc, setting, inner, depth + 1, bounds)?;
+                made.push(inner)?;
+            }
+            loosen(bounds, setting.slack.limit);
+            Ok(WordStmt::Loop {
+                count: *count,
+                body: made,
+            })
+        }
+        Stmt::Do(op) => {
+            let note = note_of(
+                alloc,
+                setting.slack,
+                setting.modulus,
+                setting.lanes,
+                depth,
+                op,
+                bounds,
+            )?;
+            let op = copy_op(alloc, op)?;
+            Ok(WordStmt::Do { note, op })
+        }
+    }
+}
+
+/// The statements of a phase on words.
+fn quicken_phase(
+    alloc: Global,
+    setting: Setting,
+    body: &[Stmt],
+) -> Result<Vec<WordStmt>, NoMemory>
+    requires within { IsTrue (is_body_within setting.modulus (plain_body body.now) 0) }
+    requires room { setting.slack.limit * setting.modulus < 2 ^ 64 }
+    requires small { setting.slack.limit < 2 ^ 32 }
+    requires some { 1 ≤ setting.slack.limit }
+    requires half { setting.slack.half ≤ 2 ^ 32 }
+    requires keep { setting.slack.keep ≤ setting.slack.limit }
+    requires product { product_bound (lazy_of setting.slack).width ≤ setting.slack.limit }
+    requires lanes { setting.lanes ≤ 16 }
+    ensures { IfOk result (λ made. plain_word_body made.items ≡ (quick_body (lazy_of setting.slack) (header_in setting) (plain_body body.now) (loosest (lazy_of setting.slack) (header_in setting))).body) }
+{
+    let mut bounds = vec![in alloc; setting.slack.limit; setting.regs as usize]?;
+    let bounds = bounds.as_mut_slice();
+    let mut made = Vec::new(alloc);
+    for stmt in body {
+        let stmt = quicken_stmt(alloc, setting, stmt, 0, bounds)?;
+        made.push(stmt)?;
+    }
+    Ok(made)
+}
+
+fn quotients(
+    alloc: Global,
+    half: u64,
+    modulus: u64,
+    entries: &[u64],
+) -> Result<Vec<u64>, NoMemory>
+    requires half { half ≤ 2 ^ 32 }
+    requires below { All (λ c. c < modulus) entries.now }
+    ensures { IfOk result (λ made. made.items ≡ map (quotient_of (half * half) modulus) entries.now) }
+{
+    let mut made = Vec::new(alloc);
+    for entry in entries {
+        made.push(quotient(half, modulus, *entry))?;
+    }
+    Ok(made)
+}
+
+fn quotient_tables(
+    alloc: Global,
+    slack: Slack,
+    modulus: u64,
+    tables: &[Vec<u64>],
+) -> Result<Vec<Vec<u64>>, NoMemory>
+    requires half { slack.half ≤ 2 ^ 32 }
+    requires below { IsTrue (are_tables_within modulus (plain_tables tables.now)) }
+    ensures { IfOk result (λ made. plain_tables made.items ≡ quotients_of (lazy_of slack) modulus (plain_tables tables.now)) }
+{
+    let mut made = Vec::new(alloc);
+    for entries in tables {
+        let entries = quotients(alloc, slack.half, modulus, entries)?;
+        made.push(entries)?;
+    }
+    Ok(made)
+}
+
+fn quicken_phases(
+    alloc: Global,
+    setting: Setting,
+    phases: &[Vec<Stmt>],
+) -> Result<Vec<Vec<WordStmt>>, NoMemory>
+    requires within { IsTrue (are_phases_within setting.modulus (plain_phases phases.now)) }
+    requires room { setting.slack.limit * setting.modulus < 2 ^ 64 }
+    requires small { setting.slack.limit < 2 ^ 32 }
+    requires some { 1 ≤ setting.slack.limit }
+    requires half { setting.slack.half ≤ 2 ^ 32 }
+    requires keep { setting.slack.keep ≤ setting.slack.limit }
+    requires product { product_bound (lazy_of setting.slack).width ≤ setting.slack.limit }
+    requires lanes { setting.lanes ≤ 16 }
+    ensures { IfOk result (λ made. plain_word_phases made.items ≡ map (λ body. (quick_body (lazy_of setting.slack) (header_in setting) body (loosest (lazy_of setting.slack) (header_in setting))).body) (plain_phases phases.now)) }
+{
+    let mut made = Vec::new(alloc);
+    for body in phases {
+        let body = quicken_phase(alloc, setting, body)?;
+        made.push(body)?;
+    }
+    Ok(made)
+}
+
+fn words_of(alloc: Global, slack: Slack, program: &Program) -> Result<WordProgram, NoMemory>
+    requires lazy { IsLazyWithin (lazy_of slack) program.now.modulus }
+    requires small { slack.limit < 2 ^ 32 }
+    requires half { slack.half ≤ 2 ^ 32 }
+    ensures { IfOk result (λ words. plain_word_program words ≡ quickened (lazy_of slack) (plain_program program.now)) }
+{
+    let setting = Setting {
+        slack,
+        modulus: program.modulus,
+        lanes: program.lanes,
+        regs: program.regs,
+    };
+    let tables = copy_tables(alloc, &program.tables)?;
+    let quotients = quotient_tables(alloc, slack, program.modulus, &program.tables)?;
+    let phases = quicken_phases(alloc, setting, &program.phases)?;
+    Ok(WordProgram {
+        half: slack.half,
+        rough: slack.rough,
+        size: program.size,
+        modulus: program.modulus,
+        procs: program.procs,
+        line: program.line,
+        lanes: program.lanes,
+        regs: program.regs,
+        tables,
+        quotients,
+        phases,
+    })
+}
+
+/// The program on words. Where the program fits it leaves the residues that the program leaves, for every
+/// vector of residues and every order of turns; where no processor touches a line that another writes, that
+/// order is free.
+pub fn quicken(alloc: Global, slack: Slack, program: &Program) -> Result<WordProgram, NoMemory>
+    requires lazy { IsLazyWithin (lazy_of slack) program.now.modulus }
+    requires small { slack.limit < 2 ^ 32 }
+    requires half { slack.half ≤ 2 ^ 32 }
+    ensures made { IfOk result (λ words. plain_word_program words ≡ quickened (lazy_of slack) (plain_program program.now)) }
+    ensures same { IfOk result (λ words. LeavesTheSame words program.now) }
+    ensures order { IfOk result (λ words. OrderIsFreeOf words program.now) }
+{
+    let words = words_of(alloc, slack, program)?;
+    Ok(words)
+}
