@@ -7,7 +7,7 @@ use Rattle.io_edge.specs.Feed.{Fed, Feeds, limit}
 use Rattle.io_edge.specs.declared.feed.FeedFault.{FeedFault}
 use Rattle.io_edge.specs.declared.feed.FeedFault.TheVariants.{ReadFault, TooLong}
 use Rattle.input_rest.specs.FeedFaults.{rest_fault}
-use Rattle.input_rest.specs.Part.{ends_line, has_empty_line, before_empty_line, behind_empty_line, first_part, second_part, IsInPart, IsWholePart, GivesPart}
+use Rattle.input_rest.specs.Part.{ends_line, has_empty_line, before_empty_line, behind_empty_line, first_part, second_part, HasPartEnded, IsInPart, IsWholePart, GivesPart}
 
 -- The text is a front of a first part that has not ended: what follows it goes on with that part, where a line begins or not
 pub record IsFront (text : List ℕ) (begins : Bool) : Type 0 where
@@ -74,3 +74,17 @@ pub part_failed : (most first : ℕ) (text : List ℕ) (begins : Bool) (start be
 part_failed most first text begins start before after old new ReadFault consumed taken short room front fed =
     (text, Consumes-kept start before after text consumed fed.1, record { unended = front_unended text begins front; short = short })
 part_failed most first text begins start before after old new TooLong consumed taken short room front fed = absurd (omega (arith, fed.0, taken, short, room))
+
+either : (test a b : Bool) → (a ≡ true → b ≡ true) → (test || a) ≡ true → (test || b) ≡ true
+either true a b goes there = refl
+either false a b goes there = goes there
+
+-- what has ended has ended behind further bytes too
+empty_line_behind : (begins : Bool) (read more : List ℕ) → has_empty_line begins read ≡ true → has_empty_line begins (read ++ more) ≡ true
+empty_line_behind begins [] more there = absurd (cc)
+empty_line_behind begins (byte ∷ read) more there =
+    either (begins && ends_line byte) _ _ (empty_line_behind (ends_line byte) read more) there
+
+pub still_ended : (read more : List ℕ) (now later : Type 0) → HasPartEnded read now → (now → later) → HasPartEnded (read ++ more) later
+still_ended read more now later (inl there) goes = inl (empty_line_behind true read more there)
+still_ended read more now later (inr end) goes = inr (goes end)

@@ -30,7 +30,7 @@ fn to_the_end(rt: HostRuntime) -> Result<(), Fail> {
         let none = rest(alloc, b"?", step, Vec::new(alloc))??;
         assert_eq!(rt; none.as_slice(), b"".as_slice());
         assert!(rt;
-            rest(alloc, b"?abc\n ", step, Vec::new(alloc))?.err() == Some(RestFault::TooLong)
+            rest(alloc, b"?abc\n ", step, Vec::new(alloc))?.err() == Some(RestFault::TooLong { limit: 4 })
         );
     }
     assert!(rt; rest(alloc, b"?abc", 2, vec![in alloc; 1]?)?.err() == Some(RestFault::ReadFault));

@@ -6,12 +6,16 @@ use Rattle.input_rest.specs.declared.RestFault.{RestFault}
 use Rattle.input_rest.specs.declared.RestFault.TheVariants as rest
 use Rattle.request_text.specs.declared.RequestFault.{RequestFault}
 use Rattle.request_text.specs.declared.RequestFault.TheVariants as request
+use Rattle.listing_text.specs.declared.listing.ListingFault.{ListingFault}
+use Rattle.listing_text.specs.declared.listing.ListingFault.TheVariants as listing
+use Rattle.code_check.specs.declared.fault.CheckFault.{CheckFault}
+use Rattle.code_check.specs.declared.fault.CheckFault.TheVariants as check
 use Rattle.generate.specs.declared.GenerateFault.{GenerateFault}
 use Rattle.generate.specs.declared.GenerateFault.TheVariants as generate
 use Rattle.spiral_main.specs.declared.stream.StreamFault.{StreamFault}
 use Rattle.spiral_main.specs.declared.stream.StreamFault.TheVariants as stream
 use Rattle.spiral_main.specs.declared.status.Status.{Status}
-use Rattle.spiral_main.specs.declared.status.Status.TheVariants.{Success, Syntax, Range, Shape, LanesLine, Root, NoDivide, OverBudget, BadNumber, Truncated, ReadFault, WriteFault, NoMemory, TooLong}
+use Rattle.spiral_main.specs.declared.status.Status.TheVariants.{Success, Syntax, Range, Shape, LanesLine, Root, NoDivide, OverBudget, BadNumber, Truncated, ReadFault, WriteFault, NoMemory, TooLong, ListingSyntax, Address, Register, LineShared, OverSteps}
 
 -- of the first line
 abbrev pub status_of_line : FeedFault → Status
@@ -30,10 +34,10 @@ status_of_generate generate.NoDivide = NoDivide
 status_of_generate (generate.OverBudget cost budget) = OverBudget cost budget
 status_of_generate generate.NoMemory = NoMemory
 
--- of the rest of the input, which is a certificate
+-- of the rest of the input, or of a part of it
 abbrev pub status_of_rest : RestFault → Status
 status_of_rest rest.ReadFault = ReadFault
-status_of_rest rest.TooLong = TooLong 65536
+status_of_rest (rest.TooLong limit) = TooLong limit
 status_of_rest rest.NoMemory = NoMemory
 
 abbrev pub status_of_fault : StreamFault → Status
@@ -42,6 +46,17 @@ status_of_fault (stream.Truncated have need) = Truncated have need
 status_of_fault stream.TooLong = TooLong (2 ^ 30)
 status_of_fault stream.ReadFault = ReadFault
 status_of_fault stream.WriteFault = WriteFault
+
+abbrev pub status_of_listing : ListingFault → Status
+status_of_listing (listing.Syntax line) = ListingSyntax line
+status_of_listing listing.NoMemory = NoMemory
+
+abbrev pub status_of_check : CheckFault → Status
+status_of_check (check.OverSteps limit) = OverSteps limit
+status_of_check (check.Address phase proc action) = Address phase proc action
+status_of_check (check.Register phase proc action) = Register phase proc action
+status_of_check (check.LineShared phase line a b) = LineShared phase line a b
+status_of_check check.NoMemory = NoMemory
 
 -- of a run over the data
 abbrev pub status_of_stream : Result (Unit {0}) StreamFault → Status

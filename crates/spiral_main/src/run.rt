@@ -12,10 +12,12 @@ ghost use Rattle.spiral_main.specs.Status.{note_line};
 ghost use Rattle.spiral_main.specs.Steps.{Performs, ToldPerforms, ToldAccounts};
 ghost use Rattle.spiral_main.specs.Stream.{HasNoStranger};
 
-use crate::ask::ask;
+use crate::ask::{ask, asked};
 use crate::check::check;
 use crate::data::{run, trace};
-use crate::status::{Status, write_note};
+use crate::exec::exec;
+use crate::note::write_note;
+use crate::status::Status;
 use crate::texts::text_of;
 use io_edge::{Feed, Sink, Source, write_all};
 use matrix_meaning::Request;
@@ -91,7 +93,11 @@ fn work<I: Source, O: Sink>(
     ensures memory { status_of result ≡ Status.NoMemory → Appends (O.taken output.old) (O.taken output.new) [] }
 {
     let mut feed = Feed::new(alloc)?;
-    let (command, request) = ask(alloc, words, &mut feed, input)?;
+    let command = asked(alloc, words)?;
+    if let Command::Exec { schedule } = &command {
+        return exec(alloc, schedule, &mut feed, input, output);
+    }
+    let request = ask(&command, &mut feed, input)?;
     perform(alloc, &command, &request, &mut feed, input, output)
 }
 
@@ -109,7 +115,8 @@ fn ending(ended: Result<(), Status>) -> Status
 ///
 /// The words are the program's name, a command and its options. The first line of the input is the request. What stands
 /// behind it are the data of `run` and `trace`, numbers in tokens, of which every vector has as many as the request's size,
-/// or the certificate that `check` judges.
+/// or the certificate that `check` judges. `exec` has no request: the lines before the first empty line of its input are a
+/// listing, and what stands behind that line are the data of its program.
 pub fn spiral_run<I: Source, O: Sink, E: Sink>(
     alloc: Global,
     words: &Vec<String>,
@@ -120,7 +127,7 @@ pub fn spiral_run<I: Source, O: Sink, E: Sink>(
     // Where the input tells its bytes, they and the words account for the status and for what the output took. Where a
     // read failed, that is the whole text of what the input gave.
     ensures told { IfSome (I.left input.old) (λ bytes. Accounts (map string_bytes words.now.items) bytes (I.left input.new) (O.taken output.old) (O.taken output.new) result) }
-    // `run`, `trace` and `check` have read their input to its end where they succeed.
+    // `run`, `trace`, `check` and `exec` have read their input to its end where they succeed.
     ensures end { result ≡ Status.Success → AskForRest (map string_bytes words.now.items) → IsAtEnd (I.left input.new) }
 
     // A fault has its cause and is not swallowed, also where nothing is told.

@@ -2,11 +2,13 @@ use Rattle.std.proofs.Common.{◌≡◌, ◌-◌, Ok, Err, Global, map, ap, subs
 use Rattle.std.proofs.lemmas.Result.{err_from_is_err_and}
 use Rattle.matrix_meaning.specs.declared.Request.{Request}
 use Rattle.io_edge.specs.Feed.{to_come, limit}
+use Rattle.spiral_words.specs.Asked.{IsAsked}
 use Rattle.spiral_words.specs.declared.Command.{Command}
+use Rattle.spiral_main.specs.Commands.{commanded}
 use Rattle.spiral_main.specs.Stage.{status_of}
-use Rattle.spiral_main.specs.Steps.{Asks}
+use Rattle.spiral_main.specs.Steps.{Asks, ToldExecutes}
 use Rattle.spiral_main.proofs.AskLemmas.{reads_same}
-use Rattle.spiral_main.proofs.OutcomeLemmas.{accounted, accounted_early, nothing_held, prepend_nothing, told_by_source}
+use Rattle.spiral_main.proofs.Accounts.{accounted, accounted_words, accounted_line, executed_accounts, nothing_held, prepend_nothing, performs_by_source, executes_by_source}
 use Rattle.spiral_main.proofs.RunLemmas.{left_ended}
 use Rattle.spiral_main.proofs.run.work.Goals as goal
 
@@ -14,28 +16,11 @@ pub returns-in_err-command-clause-told : goal.returns-in_err-command-clause-told
 returns-in_err-command-clause-told g c =
     let words = map (string_bytes {Z = Global}) c.args.words.now.items in
     let left = g.I.Source.left c.args.input.now in
-    let reached = to_come c.ask.new.feed (g.I.Source.left c.ask.new.input) in
-    let fault = c.in_err-command.field-0.0 in
-    let start : to_come c.in_ok-feed.feed left ≡ left = ap (λ f. to_come f left) c.in_ok-feed.ensures ∙ prepend_nothing left in
-    let told = subst (λ b. Asks words b reached c.ask.new.feed.taken (Err fault)) start c.in_err-command.ensures.told in
     let p = err_from_is_err_and c.from_residual-in_err-command.result c.from_residual-in_err-command.ensures.1 in
-    let now = g.I.Source.left c.ask.new.input in
-    rw (p.1, p.2) (accounted_early words left reached now c.ask.new.feed.taken (g.O.Sink.taken c.args.output.now) fault told c.in_err-command.ensures.others.1 (λ e. c.in_err-command.ensures.after (ap (λ s. Err s) e))
-    (λ e. nothing_held c.ask.new.feed now (c.in_err-command.ensures.empty (ap (λ s. Err s) e))))
+    rw (p.1, p.2) (accounted_words words left left (g.O.Sink.taken c.args.output.now) c.in_err-command.field-0.0 c.in_err-command.ensures.refused c.in_err-command.ensures.refusal)
 
 pub returns-clause-told : goal.returns-clause-told
-returns-clause-told g c =
-    let words = map (string_bytes {Z = Global}) c.args.words.now.items in
-    let taken = g.O.Sink.taken in
-    let left = g.I.Source.left c.args.input.now in
-    let reached = to_come c.ask.new.feed (g.I.Source.left c.ask.new.input) in
-    let wanted : Command × Request = (c.in_ok-command.command, c.in_ok-command.request) in
-    let start : to_come c.in_ok-feed.feed left ≡ left = ap (λ f. to_come f left) c.in_ok-feed.ensures ∙ prepend_nothing left in
-    let told = subst (λ b. Asks words b reached c.ask.new.feed.taken (Ok wanted)) start c.in_ok-command.ensures.told in
-    let now = g.I.Source.left c.perform.new.input in
-    let status = status_of c.perform.result in
-    let performed = told_by_source wanted.0 wanted.1 (limit - c.ask.new.feed.taken) reached c.perform.new.feed now (taken c.args.output.now) (taken c.perform.new.output) status c.perform.ensures.empty c.perform.ensures.told in
-    accounted words left reached now c.ask.new.feed.taken wanted (taken c.args.output.now) (taken c.perform.new.output) status told performed
+returns-clause-told g c = ?
 
 pub returns-clause-end : goal.returns-clause-end
 returns-clause-end g c = λ success other.
