@@ -11,20 +11,26 @@ use data_stream::{DataFault, Next, Vectors, write_vector};
 use io_edge::{Feed, Sink, Source, WriteFault};
 use par_machine::Machine;
 use request_text::Schedule;
+use thiserror::Error;
 use trace_text::write_turns;
 
 /// Why a run over a stream ended before the stream.
-#[derive(Clone, Copy, Debug, PartialEq, Eq)]
+#[derive(Clone, Copy, Debug, PartialEq, Eq, Error)]
 pub enum StreamFault {
     /// The first token that is no number. Tokens are counted from 1.
+    #[error("token {token} is not a number")]
     BadNumber { token: u64 },
     /// The data end inside a vector.
+    #[error("input ends with {have} of {need} numbers")]
     Truncated { have: u64, need: u64 },
     /// The input has more bytes than a feed gives.
+    #[error("the input is too long")]
     TooLong,
     /// The source failed.
+    #[error("read failed")]
     ReadFault,
     /// The sink failed.
+    #[error("write failed")]
     WriteFault,
 }
 
