@@ -163,12 +163,7 @@ impl Schedule {
 fn first_from(turns: &[u64], p: u64) -> Option<u64>
     ensures { result ≡ find (λ q. nat_le p q) turns.now }
 {
-    for q in turns {
-        if p <= *q {
-            return Some(*q);
-        }
-    }
-    None
+    turns.iter().find(|q| p <= **q).copied()
 }
 
 /// What the generator gives at place `i`, before it is reduced.
