@@ -25,6 +25,3 @@ pub fn clap_refuses()
 pub fn usage_asks_nothing()
     ensures { (words : List Text) (command : Command) → IsUsage words → IsAsked words command → ⊥ }
 {}
-
-#[cfg(test)]
-mod tests;
