@@ -20,11 +20,7 @@ pub(crate) fn is_input(program: &Program, words: &[u64]) -> bool
 }
 
 /// The machine with this input.
-pub(crate) fn machine_with(
-    alloc: Global,
-    program: &Program,
-    input: &[u64],
-) -> Result<Machine, Fail>
+pub(crate) fn machine_with(alloc: Global, program: &Program, input: &[u64]) -> Result<Machine, Fail>
     requires { Fits program.now }
     ensures { IfOk result (λ machine. machine.code ≡ code_of program.now) }
 {
@@ -38,9 +34,11 @@ pub(crate) fn machine_with(
 
 /// The schedule of the word.
 pub(crate) fn schedule(alloc: Global, word: &str) -> Result<Schedule, Fail> {
-    Ok(read_schedule(alloc, word.as_bytes())
-        .ok()
-        .ok_or("a schedule")?)
+    Ok(
+        read_schedule(alloc, word.as_bytes())
+            .ok()
+            .ok_or("a schedule")?,
+    )
 }
 
 // The turns of a list, each by the processor of its number, or of what is left of it.

@@ -3,7 +3,8 @@
 ghost use Rattle.std.specs.Prelude.{IfOk};
 ghost use Rattle.icode.specs.Program.{Fits};
 
-use code_check::{laws::causes_are_exclusive, verify};
+use code_check::laws::causes_are_exclusive;
+use code_check::verify;
 use icode::program::Program;
 use listing_text::read_listing;
 use std::alloc::Global;

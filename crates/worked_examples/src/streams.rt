@@ -162,7 +162,12 @@ fn cut(alloc: Global, len: usize, step: u64) -> Result<Seen, Fail>
 {
     let outside = Outside { step, ..AMPLE };
     let input = FOUR.as_bytes();
-    call(alloc, "spiral run", &input[..len.min(input.len())], &outside)
+    call(
+        alloc,
+        "spiral run",
+        &input[..len.min(input.len())],
+        &outside,
+    )
 }
 
 #[test]
@@ -175,7 +180,10 @@ fn inputs_cut_after_each_byte(rt: HostRuntime) -> Result<(), Fail> {
         } else if have == 0 || have == 4 {
             (0, String::new(alloc))
         } else {
-            (9, format!(in alloc; "spiral: input ends with {have} of 4 numbers\n")?)
+            (
+                9,
+                format!(in alloc; "spiral: input ends with {have} of 4 numbers\n")?,
+            )
         };
         for step in [1, 4096] {
             let seen = cut(alloc, len, step)?;

@@ -121,7 +121,10 @@ fn reads_what_is_printed(rt: HostRuntime) -> Result<(), Fail> {
             .ok_or("a listing")?;
         let printed = print_c(rt.alloc(), &program)?;
         let back = read_c(rt.alloc(), &printed).ok().ok_or("a C text")?;
-        assert_eq!(rt; print_listing(rt.alloc(), &back)?.as_slice(), listing.as_bytes());
+        assert_eq!(rt;
+            print_listing(rt.alloc(), &back)?.as_slice(),
+            listing.as_bytes()
+        );
     }
     Ok(())
 }
@@ -132,11 +135,17 @@ fn prints_and_reads(rt: HostRuntime) -> Result<(), Fail> {
         let program = read_listing(rt.alloc(), listing.as_bytes())
             .ok()
             .ok_or("a listing")?;
-        assert_eq!(rt; print_c(rt.alloc(), &program)?.as_slice(), c_text.as_bytes());
+        assert_eq!(rt;
+            print_c(rt.alloc(), &program)?.as_slice(),
+            c_text.as_bytes()
+        );
         let program = read_c(rt.alloc(), c_text.as_bytes())
             .ok()
             .ok_or("a C text")?;
-        assert_eq!(rt; print_listing(rt.alloc(), &program)?.as_slice(), listing.as_bytes());
+        assert_eq!(rt;
+            print_listing(rt.alloc(), &program)?.as_slice(),
+            listing.as_bytes()
+        );
     }
     Ok(())
 }
@@ -253,8 +262,7 @@ for (uint64_t v2 = 0; v2 < 4294967296; v2++) {~}|18
 fn inside_loops(alloc: Global, line: &str) -> Result<String, Fail> {
     let outer = "for (uint64_t v0 = 0; v0 < 2; v0++) {";
     let inner = "for (uint64_t v1 = 0; v1 < 3; v1++) {";
-    let text =
-        format!(in alloc; "FRONTFUNCTIONSPHASE{outer}~{inner}~{line}~}}~}}~}}~")?;
+    let text = format!(in alloc; "FRONTFUNCTIONSPHASE{outer}~{inner}~{line}~}}~}}~}}~")?;
     whole(alloc, &text)
 }
 
@@ -272,8 +280,7 @@ fn lines_inside_loops(rt: HostRuntime) -> Result<(), Fail> {
 fn nested_loops(alloc: Global, count: u64) -> Result<String, Fail> {
     let mut text = whole(alloc, "FRONTFUNCTIONSPHASE")?;
     for depth in 0..count {
-        let line =
-            format!(in alloc; "for (uint64_t v{depth} = 0; v{depth} < 2; v{depth}++) {{\n")?;
+        let line = format!(in alloc; "for (uint64_t v{depth} = 0; v{depth} < 2; v{depth}++) {{\n")?;
         text.push_str(&line)?;
     }
     for _ in 0..count {
@@ -294,7 +301,11 @@ fn limits_of_depth(rt: HostRuntime) -> Result<(), Fail> {
         let place = place(alloc, number(parentheses)?, number(parts)?)?;
         let line = format!(in alloc; "for (int l = 0; l < V; l++) r[0][l] = X[{place} + l];")?;
         let lost = if lost.is_empty() { 0 } else { 18 };
-        assert_eq!(rt; lost_line(alloc, &inside_loops(alloc, &line)?), lost, "{row}");
+        assert_eq!(rt;
+            lost_line(alloc, &inside_loops(alloc, &line)?),
+            lost,
+            "{row}"
+        );
     }
     Ok(())
 }

@@ -104,9 +104,7 @@ fn printed_as_read(rt: HostRuntime) -> Result<(), Fail> {
 
 fn product(alloc: Global, formula: &str, modulus: u64, x: &[u64]) -> Result<String, Fail> {
     let m = Modulus::new(modulus).ok_or("a modulus")?;
-    let formula = read_spl(alloc, formula.as_bytes())
-        .ok()
-        .ok_or("a formula")?;
+    let formula = read_spl(alloc, formula.as_bytes()).ok().ok_or("a formula")?;
     if formula.cols() != x.len() as u64 || !x.iter().all(|v| *v < m.get()) {
         Err("a vector of the formula")?
     }

@@ -237,7 +237,11 @@ fn limits_of_depth(rt: HostRuntime) -> Result<(), Fail> {
         let place = place(alloc, number(parentheses)?, number(parts)?)?;
         let line = format!(in alloc; "ld r0 X[{place}]")?;
         let lost = if lost.is_empty() { 0 } else { 5 };
-        assert_eq!(rt; lost_line(alloc, &inside_loops(alloc, &line)?), lost, "{row}");
+        assert_eq!(rt;
+            lost_line(alloc, &inside_loops(alloc, &line)?),
+            lost,
+            "{row}"
+        );
     }
     Ok(())
 }
