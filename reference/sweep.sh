@@ -5,4 +5,4 @@ set -euo pipefail
 top=$(cd "$(dirname "$0")/.." && pwd)
 program=${1:-"$top/crates/spiral/out/spiral"}
 [ -x "$program" ] || "$top/bin/build"
-exec python3 -B "$top/examples/sweep.py" "$program"
+exec python3 -B "$top/reference/sweep.py" "$program"

@@ -1,8 +1,8 @@
 #!/usr/bin/env python3
 """What spiral writes, from the definitions and as plainly as can be. It shares no code with the program:
-examples/sweep.sh compares the two.
+reference/sweep.sh compares the two.
 
-    printf 'dft 4 mod 17 root 4\n1 2 3 4\n' | examples/reference.py run
+    printf 'dft 4 mod 17 root 4\n1 2 3 4\n' | reference/reference.py run
 
 The commands are plan, formula, cert, code, c, run, trace and sample (with a seed behind it). Requests and data have to be
 well formed.
