@@ -13,6 +13,3 @@ pub use icode::event::Event;
 pub use mix::{Mix, MixFault, read_mix};
 pub use request::read_request;
 pub use schedule::{Schedule, ScheduleFault, read_schedule};
-
-#[cfg(test)]
-mod tests;
