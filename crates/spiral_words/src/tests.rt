@@ -1,6 +1,6 @@
 // Command lines with known answers.
-use crate::{Command, Refusal, command_of};
-use request_text::Schedule;
+use crate::{Command, Order, Refusal, command_of};
+use request_text::{Event, Mix, Schedule};
 use std::alloc::Global;
 use std::test::Fail;
 
@@ -14,6 +14,26 @@ fn shown(alloc: Global, name: &str, schedule: &Schedule) -> Result<String, Fail>
     Ok(format!(in alloc; "{name} {len} {last}")?)
 }
 
+fn mixed(alloc: Global, name: &str, mix: &Mix) -> Result<String, Fail> {
+    let len = mix.len();
+    let last = match mix.event_at(len - 1) {
+        Event::Turn(q) => format!(in alloc; "t{q}")?,
+        Event::Drain(q) => format!(in alloc; "d{q}")?,
+    };
+    Ok(format!(in alloc; "{name} mixed {len} {last}")?)
+}
+
+fn ordered(alloc: Global, name: &str, order: &Order) -> Result<String, Fail> {
+    match order {
+        Order::Turns(schedule) => shown(alloc, name, schedule),
+        Order::Buffered(schedule) => {
+            let name = format!(in alloc; "{name} buffered")?;
+            shown(alloc, &name, schedule)
+        }
+        Order::Mixed(mix) => mixed(alloc, name, mix),
+    }
+}
+
 fn answer(alloc: Global, line: &str) -> Result<String, Fail> {
     let mut words = Vec::new(alloc);
     for word in line.split(' ') {
@@ -24,14 +44,15 @@ fn answer(alloc: Global, line: &str) -> Result<String, Fail> {
         Ok(Command::Formula) => "formula",
         Ok(Command::Code) => "code",
         Ok(Command::C) => "c",
-        Ok(Command::Run { schedule }) => return shown(alloc, "run", &schedule),
-        Ok(Command::Trace { schedule }) => return shown(alloc, "trace", &schedule),
+        Ok(Command::Run { order }) => return ordered(alloc, "run", &order),
+        Ok(Command::Trace { order }) => return ordered(alloc, "trace", &order),
         Ok(Command::Cert) => "cert",
         Ok(Command::Check) => "check",
         Ok(Command::Sample { seed, schedule }) => {
             let name = format!(in alloc; "sample {seed}")?;
             return shown(alloc, &name, &schedule);
         }
+        Ok(Command::Exec { schedule }) => return shown(alloc, "exec", &schedule),
         Err(Refusal::Usage) => "usage",
         Err(Refusal::NoMemory) => "no memory",
     };
@@ -75,6 +96,51 @@ fn command_lines(rt: HostRuntime) -> Result<(), Fail> {
         ("spiral sample --seed +1", "usage"),
         ("spiral sample --seed 18446744073709551616", "usage"),
         ("spiral check -- more", "usage"),
+        ("spiral exec", "exec 0"),
+        ("spiral exec --schedule turns:1,1,1,0", "exec 4 0"),
+        ("spiral run --buffers", "run buffered 0"),
+        (
+            "spiral trace --buffers --schedule mix:d0,t0",
+            "trace mixed 2 t0",
+        ),
+        (
+            "spiral run --schedule mix:t1,d0,t0,d1 --buffers",
+            "run mixed 4 d1",
+        ),
+        (
+            "spiral run --buffers --schedule=turns:0,1",
+            "run buffered 2 1",
+        ),
+        ("spiral run --schedule mix:t0", "usage"),
+        ("spiral run --buffers --schedule mix:", "usage"),
+        ("spiral run --buffers --schedule mix:t", "usage"),
+        ("spiral run --buffers --schedule mix:t01", "usage"),
+        ("spiral run --buffers --schedule mix:t4294967296", "usage"),
+        ("spiral run --buffers --buffers", "usage"),
+        ("spiral run --buffers=true", "usage"),
+        ("spiral run --buffers seq", "usage"),
+        ("spiral run --buffer", "usage"),
+        ("spiral sample --buffers", "usage"),
+        ("spiral apply --mod 17 --buffers", "usage"),
+        ("spiral exec --schedule mix:t0", "usage"),
+        ("spiral compile", "usage"),
+        ("spiral apply --schedule seq", "usage"),
+        ("spiral compile --mod", "usage"),
+        ("spiral compile --mod=", "usage"),
+        ("spiral compile --mod 0", "usage"),
+        ("spiral compile --mod 1", "usage"),
+        ("spiral compile --mod 017", "usage"),
+        ("spiral compile --mod +17", "usage"),
+        ("spiral compile --mod -17", "usage"),
+        ("spiral compile --mod 4611686018427387904", "usage"),
+        ("spiral compile --mod 18446744073709551618", "usage"),
+        ("spiral compile --mod 17 --mod 17", "usage"),
+        ("spiral compile --mod 17 --schedule seq", "usage"),
+        ("spiral exec --mod 17", "usage"),
+        ("spiral convolve --code --code", "usage"),
+        ("spiral exec --code", "usage"),
+        ("spiral code --code", "usage"),
+        ("spiral --mod 17 compile", "usage"),
     ];
     for (line, wanted) in rows {
         assert_eq!(rt; answer(alloc, line)?.as_str(), wanted, "{line}");
