@@ -85,18 +85,24 @@ abbrev pub word_tables_text : List ℕ → ℕ → List (List ℕ) → List ℕ
 word_tables_text name number [] = []
 word_tables_text name number (entries ∷ tables) = word_table_text name number entries ++ word_tables_text name (number + 1) tables
 
+-- a register, which need not be used
+abbrev pub declared_text : ℕ → List ℕ
+declared_text register = numbered_text (codes "vec r") register (codes " = splat(0); ") ++ numbered_text (codes "(void)r") register (codes ";\n")
+
 -- so many registers from this one on
 abbrev pub registers_text : ℕ → ℕ → List ℕ
 registers_text zero register = []
-registers_text (suc n) register =
-    numbered_text (codes "vec r") register (codes " = splat(0); ") ++ numbered_text (codes "(void)r") register (codes ";\n") ++ registers_text n (register + 1)
+registers_text (suc n) register = declared_text register ++ registers_text n (register + 1)
+
+-- a phase, of a program with so many lanes and registers
+abbrev pub word_phase_text : ℕ → ℕ → ℕ → WordBody → List ℕ
+word_phase_text lanes regs number body =
+    numbered_text (codes "void phase") number (codes "(uint64_t q) {\n(void)q;\n") ++ registers_text regs 0 ++ word_body_text lanes 0 body ++ codes "}\n"
 
 -- the phases from this number on
 abbrev pub word_phases_text : ℕ → ℕ → ℕ → List WordBody → List ℕ
 word_phases_text lanes regs number [] = []
-word_phases_text lanes regs number (body ∷ phases) =
-    numbered_text (codes "void phase") number (codes "(uint64_t q) {\n(void)q;\n") ++ registers_text regs 0 ++ word_body_text lanes 0 body ++ codes "}\n"
-    ++ word_phases_text lanes regs (number + 1) phases
+word_phases_text lanes regs number (body ∷ phases) = word_phase_text lanes regs number body ++ word_phases_text lanes regs (number + 1) phases
 
 abbrev pub words_text : PlainWordProgram → List ℕ
 words_text p =

@@ -4,8 +4,9 @@ ghost use Rattle.std.specs.Prelude.{◌≡◌, ◌++◌, ◌+◌, ◌^◌, ◌<�
 ghost use Rattle.icode.specs.Limits.{IsHeaderWithin};
 ghost use Rattle.icode.specs.Machine.{whole_lines};
 ghost use Rattle.icode.specs.Plain.{plain_tables};
+ghost use Rattle.listing_text.specs.Listing.{header_text};
 ghost use Rattle.word_code.specs.View.{plain_word_stmt, plain_word_body, plain_word_phases, plain_word_program};
-ghost use Rattle.word_print.specs.WordText.{loop_text, word_stmt_text, word_body_text, word_header_text, word_table_text, word_tables_text, registers_text, word_phases_text, words_text};
+ghost use Rattle.word_print.specs.WordText.{loop_text, word_stmt_text, word_body_text, word_header_text, word_table_text, word_tables_text, declared_text, registers_text, word_phase_text, word_phases_text, words_text};
 ghost use Rattle.word_print.specs.WordNests.{is_word_nest_within, are_word_nests_within, are_word_phases_within};
 
 use crate::front::{put_arrays, put_functions, put_numbered, put_sizes, put_word};
@@ -57,15 +58,23 @@ fn put_body(out: &mut Vec<u8>, lanes: u64, body: &[WordStmt]) -> Result<(), Allo
     Ok(())
 }
 
-fn put_header(out: &mut Vec<u8>, program: &WordProgram) -> Result<(), AllocError>
-    ensures { OnOk result (out.new.items ≡ out.old.items ++ word_header_text (plain_word_program program.now)) }
+// Writes the header of the listing.
+fn put_numbers(out: &mut Vec<u8>, program: &WordProgram) -> Result<(), AllocError>
+    ensures { OnOk result (out.new.items ≡ out.old.items ++ header_text (plain_word_program program.now).frame) }
 {
-    put(out, b"/* program size ", program.size)?;
+    put(out, b"program size ", program.size)?;
     put(out, b" mod ", program.modulus)?;
     put(out, b" procs ", program.procs)?;
     put(out, b" line ", program.line)?;
     put(out, b" lanes ", program.lanes)?;
-    put(out, b" regs ", program.regs)?;
+    put(out, b" regs ", program.regs)
+}
+
+fn put_header(out: &mut Vec<u8>, program: &WordProgram) -> Result<(), AllocError>
+    ensures { OnOk result (out.new.items ≡ out.old.items ++ word_header_text (plain_word_program program.now)) }
+{
+    put_word(out, b"/* ")?;
+    put_numbers(out, program)?;
     put_word(out, b" */\n")
 }
 
@@ -90,14 +99,37 @@ fn put_tables(out: &mut Vec<u8>, name: &[u8], tables: &[Vec<u64>]) -> Result<(),
     Ok(())
 }
 
+fn put_register(out: &mut Vec<u8>, register: u64) -> Result<(), AllocError>
+    ensures { OnOk result (out.new.items ≡ out.old.items ++ declared_text register) }
+{
+    put_numbered(out, b"vec r", register, b" = splat(0); ")?;
+    put_numbered(out, b"(void)r", register, b";\n")
+}
+
 fn put_registers(out: &mut Vec<u8>, count: u64) -> Result<(), AllocError>
     ensures { OnOk result (out.new.items ≡ out.old.items ++ registers_text count 0) }
 {
     for register in 0..count {
-        put_numbered(out, b"vec r", register, b" = splat(0); ")?;
-        put_numbered(out, b"(void)r", register, b";\n")?;
+        put_register(out, register)?;
     }
     Ok(())
+}
+
+fn put_phase(
+    out: &mut Vec<u8>,
+    lanes: u64,
+    regs: u64,
+    number: u64,
+    body: &[WordStmt],
+) -> Result<(), AllocError>
+    requires lanes { lanes ≤ 16 }
+    requires nests { IsTrue (are_word_nests_within (plain_word_body body.now) 0) }
+    ensures { OnOk result (out.new.items ≡ out.old.items ++ word_phase_text lanes regs number (plain_word_body body.now)) }
+{
+    put_numbered(out, b"void phase", number, b"(uint64_t q) {\n(void)q;\n")?;
+    put_registers(out, regs)?;
+    put_body(out, lanes, body)?;
+    put_word(out, b"}\n")
 }
 
 fn put_phases(
@@ -111,15 +143,7 @@ fn put_phases(
     ensures { OnOk result (out.new.items ≡ out.old.items ++ word_phases_text lanes regs 0 (plain_word_phases phases.now)) }
 {
     for (number, body) in phases.iter().enumerate() {
-        put_numbered(
-            out,
-            b"void phase",
-            number as u64,
-            b"(uint64_t q) {\n(void)q;\n",
-        )?;
-        put_registers(out, regs)?;
-        put_body(out, lanes, body)?;
-        put_word(out, b"}\n")?;
+        put_phase(out, lanes, regs, number as u64, body)?;
     }
     Ok(())
 }
