@@ -1,5 +1,4 @@
 -- The faults of a feed, as those of the rest.
-use Rattle.io_edge.specs.Feed.{limit}
 use Rattle.io_edge.specs.declared.feed.FeedFault.{FeedFault}
 use Rattle.io_edge.specs.declared.feed.FeedFault.TheVariants as feed
 use Rattle.input_rest.specs.declared.RestFault.{RestFault}
@@ -7,4 +6,4 @@ use Rattle.input_rest.specs.declared.RestFault.TheVariants.{ReadFault, TooLong}
 
 abbrev pub rest_fault : FeedFault → RestFault
 rest_fault feed.ReadFault = ReadFault
-rest_fault feed.TooLong = TooLong limit
+rest_fault feed.TooLong = TooLong

@@ -7,6 +7,6 @@ use Rattle.input_rest.specs.declared.RestFault.TheVariants.{ReadFault, TooLong, 
 -- the answer, by the bytes that were read: all of them, where the input has ended with them; one too many; or those before a fault
 abbrev pub GivesRest : ℕ → List ℕ → Type 0 → Result (Vec ℕ Global) RestFault → Type 0
 GivesRest most read ended (Ok text) = (text.items ≡ read) × ended × (length read ≤ most)
-GivesRest most read ended (Err (TooLong limit)) = (limit ≡ most) × (length read ≡ most + 1)
+GivesRest most read ended (Err TooLong) = length read ≡ most + 1
 GivesRest most read ended (Err ReadFault) = length read ≤ most
 GivesRest most read ended (Err NoMemory) = Unit {0}

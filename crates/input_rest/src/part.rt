@@ -37,7 +37,7 @@ pub fn read_part<S: Source>(
             return Ok(text);
         }
         if text.len() as u64 == most {
-            return Err(RestFault::TooLong { limit: most });
+            return Err(RestFault::TooLong);
         }
         append(&mut text, byte)?;
         begins = byte == b'\n';

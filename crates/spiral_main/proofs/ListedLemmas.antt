@@ -28,7 +28,7 @@ use Rattle.spiral_main.specs.declared.status.Status.{Status}
 use Rattle.spiral_main.specs.declared.status.Status.TheVariants.{Usage, Turn, ReadFault, WriteFault, NoMemory, TooLong}
 use Rattle.spiral_main.specs.declared.stream.StreamFault.{StreamFault}
 use Rattle.spiral_main.specs.Commands.{stranger, admitted}
-use Rattle.spiral_main.specs.Fault.{status_of_listing, status_of_check, status_of_rest, status_of_stream}
+use Rattle.spiral_main.specs.Fault.{status_of_listing, status_of_check, status_of_part, status_of_stream}
 use Rattle.spiral_main.specs.Listed.{listing_limit, action_limit, listing_in, loaded, runnable, result_of, IsResultText, room_behind_listing, IsAnswerOfProgram, IsProgramOver, IsExecution}
 use Rattle.spiral_main.specs.Status.{IsDefined}
 use Rattle.spiral_main.specs.Steps.{IsRefusal, Executes, ToldExecutes}
@@ -141,12 +141,12 @@ executes_nothing schedule bytes left out status refused read write = record {
 
 -- the listing is not read
 pub executes_unread : (schedule : Plan) (before after out : Option (List ℕ)) (first taken : ℕ) (read : List ℕ) (fault : RestFault)
-    → Consumes before after read → GivesPart listing_limit read (IsAtEnd after) first taken (Err fault) → ToldExecutes schedule before after out out (status_of_rest fault)
+    → Consumes before after read → GivesPart listing_limit read (IsAtEnd after) first taken (Err fault) → ToldExecutes schedule before after out out (status_of_part fault)
 executes_unread schedule None after out first taken read fault consumed given = tt
 executes_unread schedule (Some bytes) None out first taken read fault consumed given = absurd consumed
-executes_unread schedule (Some bytes) (Some rest) out first taken read (rest_fault.TooLong most) consumed given =
-    executes_nothing schedule bytes (Some rest) out (TooLong most)
-    (λ d. inl (ap {A = ℕ} (λ n. Err (TooLong n)) given.0 ∙ sym (listing_long bytes (subst (λ b. listing_limit < length (first_part b)) (sym consumed) (given.1 rest))))) (λ e. cc) (λ e. cc)
+executes_unread schedule (Some bytes) (Some rest) out first taken read rest_fault.TooLong consumed given =
+    executes_nothing schedule bytes (Some rest) out (TooLong listing_limit)
+    (λ d. inl (sym (listing_long bytes (subst (λ b. listing_limit < length (first_part b)) (sym consumed) (given rest))))) (λ e. cc) (λ e. cc)
 executes_unread schedule (Some bytes) (Some rest) out first taken read rest_fault.ReadFault consumed given = record {
   answer = λ d. absurd (d.read refl);
   read_fault = λ _. (read, [], consumed, inl (given, refl), Appends-nil out);

@@ -35,7 +35,7 @@ use Rattle.plan_cert.specs.Verdict.{IsVerdict}
 use Rattle.spiral_words.specs.declared.Command.{Command}
 use Rattle.spiral_words.specs.declared.Command.TheVariants as command
 use Rattle.spiral_main.specs.declared.status.Status.{Status}
-use Rattle.spiral_main.specs.declared.status.Status.TheVariants.{Success, Usage, ReadFault, WriteFault, NoMemory, TooLong}
+use Rattle.spiral_main.specs.declared.status.Status.TheVariants.{Success, Usage, ReadFault, WriteFault, NoMemory}
 use Rattle.spiral_main.specs.declared.stream.StreamFault.{StreamFault}
 use Rattle.spiral_main.specs.declared.stream.StreamFault.TheVariants as stream
 use Rattle.spiral_main.specs.Checked.{certificate_limit, status_of_verdict, least_line, verdict_text}
@@ -298,11 +298,11 @@ pub performs_unread : (request : Request) (room : ℕ) (before after out : Optio
     → IsAdmitted request → Consumes before after read → GivesRest certificate_limit read (IsAtEnd after) (Err fault) → ToldPerforms command.Check request room before after out out (status_of_rest fault)
 performs_unread request room None after out read fault there consumed given = tt
 performs_unread request room (Some bytes) None out read fault there consumed given = absurd consumed
-performs_unread request room (Some bytes) (Some rest) out read (rest_fault.TooLong most) there consumed given =
+performs_unread request room (Some bytes) (Some rest) out read rest_fault.TooLong there consumed given =
     let count : length bytes ≡ length read + length rest = ap length consumed ∙ length-append read rest in
-    let long : certificate_limit < length bytes = omega (arith, count, given.1) in
+    let long : certificate_limit < length bytes = omega (arith, count, given) in
     record {
-      answer = λ d. ([], inr (there, inr (inr (refl, inl (long, ap TooLong given.0, refl)))), Appends-nil out);
+      answer = λ d. ([], inr (there, inr (inr (refl, inl (long, refl, refl)))), Appends-nil out);
       read_fault = λ e. absurd (cc);
       write_fault = λ e. absurd (cc);
     }
@@ -414,7 +414,7 @@ fault_usage stream.ReadFault = λ e. cc
 fault_usage stream.WriteFault = λ e. cc
 
 pub rest_usage : (fault : RestFault) → status_of_rest fault ≢ Usage
-rest_usage (rest_fault.TooLong most) = λ e. cc
+rest_usage rest_fault.TooLong = λ e. cc
 rest_usage rest_fault.ReadFault = λ e. cc
 rest_usage rest_fault.NoMemory = λ e. cc
 

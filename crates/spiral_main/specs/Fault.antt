@@ -34,10 +34,10 @@ status_of_generate generate.NoDivide = NoDivide
 status_of_generate (generate.OverBudget cost budget) = OverBudget cost budget
 status_of_generate generate.NoMemory = NoMemory
 
--- of the rest of the input, or of a part of it
+-- of the rest of the input, which is a certificate
 abbrev pub status_of_rest : RestFault → Status
 status_of_rest rest.ReadFault = ReadFault
-status_of_rest (rest.TooLong limit) = TooLong limit
+status_of_rest rest.TooLong = TooLong 65536
 status_of_rest rest.NoMemory = NoMemory
 
 abbrev pub status_of_fault : StreamFault → Status
@@ -57,6 +57,12 @@ status_of_check (check.Address phase proc action) = Address phase proc action
 status_of_check (check.Register phase proc action) = Register phase proc action
 status_of_check (check.LineShared phase line a b) = LineShared phase line a b
 status_of_check check.NoMemory = NoMemory
+
+-- of the part of the input that is a listing
+abbrev pub status_of_part : RestFault → Status
+status_of_part rest.ReadFault = ReadFault
+status_of_part rest.TooLong = TooLong 1048576
+status_of_part rest.NoMemory = NoMemory
 
 -- of a run over the data
 abbrev pub status_of_stream : Result (Unit {0}) StreamFault → Status

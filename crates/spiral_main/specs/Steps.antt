@@ -1,5 +1,6 @@
 -- What the parts of the top call answer.
-use Rattle.std.specs.Prelude.{◌≡◌, ◌≢◌, ◌⊎◌, ℕ, List, [], ◌++◌, length, None, Some, Ok, Err, Result}
+use Rattle.std.specs.Prelude.{◌≡◌, ◌≢◌, ◌⊎◌, ℕ, List, [], ◌++◌, length, None, Some, Ok, Err, Result, Vec}
+use Rattle.std.proofs.Common.{Global}
 use Rattle.std.specs.declared.option.Option.{Option}
 use Rattle.std.specs.Io.KnownBytes.{Appends, Consumes, IsAtEnd}
 use Rattle.matrix_meaning.specs.declared.Request.{Request}
@@ -11,12 +12,15 @@ use Rattle.generate.specs.Planned.{IsPlanned}
 use Rattle.tree_model.specs.Breakdown.{Breakdown}
 use Rattle.tree_model.specs.Cost.{cost_of}
 use Rattle.io_edge.specs.Taken.{AppendsPrefix}
+use Rattle.input_rest.specs.declared.RestFault.{RestFault}
+use Rattle.input_rest.specs.Part.{GivesPart}
 use Rattle.request_text.specs.Schedule.{Plan as Turns}
 use Rattle.spiral_words.specs.declared.Command.{Command}
 use Rattle.spiral_main.specs.declared.status.Status.{Status}
 use Rattle.spiral_main.specs.declared.status.Status.TheVariants.{Success, Usage, ReadFault, WriteFault}
+use Rattle.spiral_main.specs.Fault.{status_of_part}
 use Rattle.spiral_main.specs.Line.{data_of, IsPartOfLine}
-use Rattle.spiral_main.specs.Listed.{IsExecution, IsBrokenExecution, IsCutExecution}
+use Rattle.spiral_main.specs.Listed.{listing_limit, IsExecution, IsBrokenExecution, IsCutExecution}
 use Rattle.spiral_main.specs.Status.{IsDefined}
 use Rattle.spiral_main.specs.Outcome.{requested, IsAccepted, IsDeclined, Settles, BreaksOff, ComesTo, Accounts}
 
@@ -67,6 +71,11 @@ pub record Performs (command : Command) (request : Request) (room : ℕ) (bytes 
 abbrev pub ToldPerforms : Command → Request → ℕ → Option (List ℕ) → Option (List ℕ) → Option (List ℕ) → Option (List ℕ) → Status → Type 0
 ToldPerforms command request room None left before after status = Unit {0}
 ToldPerforms command request room (Some bytes) left before after status = Performs command request room bytes left before after status
+
+-- the listing's text, by the bytes that were read; or why it is not read
+abbrev pub GivesListing : List ℕ → Type 0 → ℕ → Result (Vec ℕ Global) Status → Type 0
+GivesListing read ended taken (Ok text) = GivesPart listing_limit read ended 0 taken (Ok text)
+GivesListing read ended taken (Err status) = (fault : RestFault) × (status ≡ status_of_part fault) × GivesPart listing_limit read ended 0 taken (Err fault)
 
 -- status and output of `exec`, by all the bytes of its input and by what is left of them
 pub record Executes (schedule : Turns) (bytes : List ℕ) (left before after : Option (List ℕ)) (status : Status) : Type 0 where

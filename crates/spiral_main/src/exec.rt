@@ -1,6 +1,6 @@
 // The command that runs a listing.
-ghost use Rattle.std.specs.Prelude.{◌≡◌, ◌≢◌, ◌<◌, [], Ok, Err, IfOk, IfErr, vec_len};
-ghost use Rattle.std.specs.Io.KnownBytes.{Appends, IsAtEnd};
+ghost use Rattle.std.specs.Prelude.{◌≡◌, ◌≢◌, ◌<◌, ℕ, List, [], Ok, Err, IfOk, IfErr, IsErrOf, vec_len};
+ghost use Rattle.std.specs.Io.KnownBytes.{Appends, Consumes, IsAtEnd};
 ghost use Rattle.icode.specs.declared.program.Program.{Program as SpecProgram};
 ghost use Rattle.icode.specs.Program.{plain_program, code_of};
 ghost use Rattle.io_edge.specs.Faults.{Reports};
@@ -8,14 +8,14 @@ ghost use Rattle.io_edge.specs.Feed.{to_come};
 ghost use Rattle.spiral_main.specs.Listed.{loaded};
 ghost use Rattle.spiral_main.specs.Stage.{status_of};
 ghost use Rattle.spiral_main.specs.Status.{IsDefined};
-ghost use Rattle.spiral_main.specs.Steps.{IsRefusal, ToldExecutes};
+ghost use Rattle.spiral_main.specs.Steps.{GivesListing, IsRefusal, ToldExecutes};
 ghost use Rattle.spiral_main.specs.Stream.{HasNoStranger};
 
 use crate::Status;
 use crate::ask::check_turns;
 use crate::stream::run_stream;
 use code_check::verify;
-use input_rest::read_part;
+use input_rest::{RestFault, read_part};
 use io_edge::{Feed, Sink, Source};
 use listing_text::read_listing;
 use par_machine::Machine;
@@ -24,6 +24,29 @@ use std::alloc::Global;
 
 /// How many bytes a listing has at most.
 const LISTING_LIMIT: u64 = 1_048_576;
+
+// The listing with which the input begins, as it stands there.
+fn listing_text<I: Source>(
+    alloc: Global,
+    feed: &mut Feed,
+    input: &mut I,
+) -> Result<Vec<u8>, Status>
+    requires fresh { feed.old.taken ≡ 0 }
+    ensures told { (read : List ℕ) × Consumes (to_come feed.old (I.left input.old)) (to_come feed.new (I.left input.new)) read
+        × GivesListing read (IsAtEnd (to_come feed.new (I.left input.new))) feed.new.taken result }
+    ensures empty { IsErrOf result Status.ReadFault → feed.new.held ≡ [] }
+    ensures read { Reports (I.faults input.old) (I.faults input.new) (IsErrOf result Status.ReadFault) }
+    ensures others { IfErr result (λ status. (status ≢ Status.Success) × (status ≢ Status.Usage) × (status ≢ Status.WriteFault)) }
+{
+    match read_part(alloc, feed, input, LISTING_LIMIT) {
+        Ok(text) => Ok(text),
+        Err(RestFault::ReadFault) => Err(Status::ReadFault),
+        Err(RestFault::TooLong) => Err(Status::TooLong {
+            limit: LISTING_LIMIT,
+        }),
+        Err(RestFault::NoMemory) => Err(Status::NoMemory),
+    }
+}
 
 // A machine with the listing's program, if it passes the check and has the schedule's processors, and room for a vector.
 fn loaded_engine(
@@ -65,7 +88,7 @@ pub(crate) fn exec<I: Source, O: Sink>(
     ensures write { Reports (O.faults output.old) (O.faults output.new) (status_of result ≡ Status.WriteFault) }
     ensures memory { status_of result ≡ Status.NoMemory → Appends (O.taken output.old) (O.taken output.new) [] }
 {
-    let text = read_part(alloc, feed, input, LISTING_LIMIT)?;
+    let text = listing_text(alloc, feed, input)?;
     let (mut machine, mut vector) = loaded_engine(alloc, &text, schedule)?;
     run_stream(
         &mut machine,

@@ -2,6 +2,7 @@
 ghost use Rattle.std.specs.Prelude.{◌≡◌};
 ghost use Rattle.spiral_main.specs.Status.{code_of};
 
+use crate::check::CERTIFICATE_LIMIT;
 use crate::line::LINE_LIMIT;
 use crate::stream::StreamFault;
 use generate::GenerateFault;
@@ -166,7 +167,9 @@ impl From<RestFault> for Status {
     fn from(fault: RestFault) -> Self {
         match fault {
             RestFault::ReadFault => Status::ReadFault,
-            RestFault::TooLong { limit } => Status::TooLong { limit },
+            RestFault::TooLong => Status::TooLong {
+                limit: CERTIFICATE_LIMIT,
+            },
             RestFault::NoMemory => Status::NoMemory,
         }
     }

@@ -1,4 +1,4 @@
-use Rattle.std.proofs.Common.{◌≡◌, ◌+◌, ◌++◌, ◌∷◌, [], refl, arith, length, length-append}
+use Rattle.std.proofs.Common.{◌≡◌, ◌+◌, ◌++◌, ◌∷◌, [], arith, length, length-append}
 use Rattle.std.proofs.KnownBytes.{Consumes-trans}
 use Rattle.std.proofs.lemmas.Result.{err_from_is_err_and}
 use Rattle.io_edge.specs.Feed.{to_come}
@@ -11,7 +11,7 @@ returns-then-len-most-clause-answer g c =
     let grown = length-append before.text.items (c.in-Some.byte ∷ []) in (
       before.text.items ++ c.in-Some.byte ∷ [],
       Consumes-trans _ (to_come before.feed (g.S.Source.left before.source)) _ before.text.items (c.in-Some.byte ∷ []) before.invariant.consumed given.0,
-      (refl, omega (arith, grown, c.if-len-most.true, c.len.ensures)),
+      omega (arith, grown, c.if-len-most.true, c.len.ensures),
     )
 
 pub returns-in_err-append-clause-answer : goal.returns-in_err-append-clause-answer

@@ -1,4 +1,4 @@
-use Rattle.std.proofs.Common.{◌≡◌, ◌+◌, ◌++◌, ◌∷◌, [], refl, sym, ◌∙◌, arith, length, length-append}
+use Rattle.std.proofs.Common.{◌≡◌, ◌+◌, ◌++◌, ◌∷◌, [], sym, ◌∙◌, arith, length, length-append}
 use Rattle.std.proofs.KnownBytes.{Consumes-trans, Consumes-kept}
 use Rattle.std.proofs.lemmas.Result.{err_from_is_err_and}
 use Rattle.std.specs.Io.KnownBytes.{IsAtEnd}
@@ -40,9 +40,9 @@ returns-then-len-most-clause-answer g c =
     let grown = length-append text (c.in-Some.byte ∷ []) in (
       text ++ c.in-Some.byte ∷ [],
       Consumes-trans _ (to_come before.feed (g.S.Source.left before.source)) _ text (c.in-Some.byte ∷ []) before.invariant.consumed given.0,
-      (refl, λ more.
+      λ more.
           let longer = part_longer (text ++ c.in-Some.byte ∷ []) more (ends_line c.in-Some.byte) (front_push text before.begins c.in-Some.byte before.invariant.front (sym c.ends_part.ensures ∙ c.if-ends_part.false)) in
-          omega (arith, longer, grown, c.if-len-most.true, c.len.ensures)),
+          omega (arith, longer, grown, c.if-len-most.true, c.len.ensures),
     )
 
 pub returns-in_err-append-clause-answer : goal.returns-in_err-append-clause-answer
