@@ -72,6 +72,7 @@ fn stranger(command: &Command, p: u64) -> Option<u64>
         Command::Run { schedule } => schedule.stranger(p),
         Command::Trace { schedule } => schedule.stranger(p),
         Command::Sample { schedule, .. } => schedule.stranger(p),
+        Command::Exec { schedule } => schedule.stranger(p),
         _ => None,
     }
 }

@@ -1,11 +1,11 @@
 // The top call.
-ghost use Rattle.std.specs.Prelude.{◌≡◌, ◌≢◌, ◌-◌, ◌≤◌, ℕ, List, [], IfSome, IfNone, Ok, map, string_bytes, true, false};
+ghost use Rattle.std.specs.Prelude.{◌≡◌, ◌≢◌, ◌-◌, ◌≤◌, ℕ, List, [], IfSome, IfNone, MatchOption, Ok, map, string_bytes, true, false};
 ghost use Rattle.std.specs.declared.option.Option.{Option};
 ghost use Rattle.std.specs.Io.KnownBytes.{Appends, IsAtEnd};
 ghost use Rattle.matrix_meaning.specs.Valid.{IsInRange};
 ghost use Rattle.io_edge.specs.Faults.{Reports};
 ghost use Rattle.io_edge.specs.Feed.{to_come, limit};
-ghost use Rattle.spiral_main.specs.Commands.{reads_rest, has_text, AskForRest, AskForCommand, AreJudged, schedule_of};
+ghost use Rattle.spiral_main.specs.Commands.{reads_rest, takes_request, has_text, AskForRest, AskForCommand, AreJudged, schedule_of};
 ghost use Rattle.spiral_main.specs.Outcome.{Accounts, Notes};
 ghost use Rattle.spiral_main.specs.Stage.{status_of};
 ghost use Rattle.spiral_main.specs.Status.{note_line};
@@ -21,6 +21,7 @@ use crate::status::Status;
 use crate::texts::text_of;
 use io_edge::{Feed, Sink, Source, write_all};
 use matrix_meaning::Request;
+use request_text::Schedule;
 use spiral_words::Command;
 use std::alloc::Global;
 
@@ -60,6 +61,7 @@ fn perform<I: Source, O: Sink>(
     requires weight { request.now.weight ≡ 1 }
     requires turns { HasNoStranger (schedule_of command.now) request.now.procs }
     requires line { feed.old.taken ≤ 257 }
+    requires request { takes_request command.now ≡ true }
     ensures told { ToldPerforms command.now request.now (limit - feed.old.taken) (to_come feed.old (I.left input.old))
         (to_come feed.new (I.left input.new)) (O.taken output.old) (O.taken output.new) (status_of result) }
     ensures end { status_of result ≡ Status.Success → reads_rest command.now ≡ true → IsAtEnd (to_come feed.new (I.left input.new)) }
@@ -74,6 +76,16 @@ fn perform<I: Source, O: Sink>(
         Command::Trace { schedule } => trace(alloc, request, schedule, feed, input, output),
         Command::Check => check(alloc, request, feed, input, output),
         _ => write_text(alloc, command, request, output),
+    }
+}
+
+// The schedule of `exec`, if that is the command.
+fn schedule_of_exec(command: &Command) -> Option<&Schedule>
+    ensures { MatchOption result (takes_request command.now ≡ true) (λ schedule. command.now ≡ Command.Exec schedule.now) }
+{
+    match command {
+        Command::Exec { schedule } => Some(schedule),
+        _ => None,
     }
 }
 
@@ -94,7 +106,7 @@ fn work<I: Source, O: Sink>(
 {
     let mut feed = Feed::new(alloc)?;
     let command = asked(alloc, words)?;
-    if let Command::Exec { schedule } = &command {
+    if let Some(schedule) = schedule_of_exec(&command) {
         return exec(alloc, schedule, &mut feed, input, output);
     }
     let request = ask(&command, &mut feed, input)?;

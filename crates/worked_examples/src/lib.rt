@@ -22,4 +22,6 @@ mod samples;
 #[cfg(test)]
 mod streams;
 #[cfg(test)]
+mod strangers;
+#[cfg(test)]
 mod ways;

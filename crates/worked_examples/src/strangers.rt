@@ -3,33 +3,11 @@
 ghost use Rattle.std.specs.Prelude.{◌<◌};
 
 use crate::call::{AMPLE, Outside, Seen, call};
+use crate::programs::QUAD;
+use crate::rows::USAGE;
 use std::alloc::Global;
 use std::process::Abort;
 use std::test::Fail;
-
-// The transform of size 4 with root 4, modulo 17, on two processors: 20 lines, the first phase ends with the twelfth.
-const QUAD: &str = "\
-program size 4 mod 17 procs 2 line 1 lanes 1 regs 6
-table 0 values 1 1 1 4
-phase
-ld r0 X[0+q*1]
-ld r1 X[2+q*1]
-add r2 r0 r1
-sub r3 r0 r1
-mul r4 r2 t0[0+q*2] step 0
-st A[0+q*2] r4
-mul r5 r3 t0[1+q*2] step 0
-st A[1+q*2] r5
-end
-phase
-ld r0 A[0+q*1]
-ld r1 A[2+q*1]
-add r2 r0 r1
-sub r3 r0 r1
-st Y[0+q*1] r2
-st Y[2+q*1] r3
-end
-";
 
 // A request, the words behind `exec`, a vector, and what its listing makes of it. A stroke stands for a line end.
 const LISTED: &str = "\
@@ -44,7 +22,7 @@ dft 1 mod 2 root 1; exec; 3 4/; 1/0/
 dft 4 mod 17 root 4; exec; -; -
 ";
 
-// What stands in the listing, what takes its place, the words, what stands behind the listing, and the answer: the status'
+// What stands in the listing of `QUAD`, whose first phase ends with line 12 of 20, what takes its place, the words, what stands behind the listing, and the answer: the status'
 // code, the output and the note. A stroke stands for a line end, and a dash for nothing.
 const CHANGED: &str = "\
 -; -; exec; /1 2 3 4; 0; 10 7 15 6/; -
@@ -75,9 +53,6 @@ regs 6; regs 5; exec --schedule turns:0,2; /1 2 3 4; 20; -; bad register in phas
 -; -; exec --schedule mix:t0; /1 2 3 4; 2; -; usage
 -; -; exec run; /1 2 3 4; 2; -; usage
 ";
-
-const USAGE: &str = "usage: spiral plan|formula|code|c|run|trace|cert|check|sample|compile|apply|exec|convolve \
-[--schedule WORD] [--seed NUMBER] [--mod NUMBER] [--buffers] [--code]";
 
 // The field with its line ends.
 fn lines_of(alloc: Global, field: &str) -> Result<String, Fail> {
