@@ -10,10 +10,9 @@ ghost use Rattle.input_rest.specs.declared.RestFault.TheVariants as fault;
 
 mod part;
 
-pub use part::read_part;
-
 use io_edge::{Feed, FeedFault, Source};
 use memory::NoMemory;
+pub use part::read_part;
 use std::alloc::Global;
 use thiserror::Error;
 

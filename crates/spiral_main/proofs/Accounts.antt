@@ -135,9 +135,9 @@ accounted_line words None after left taken wanted out status named a w same = tt
 accounted_line words (Some bytes) None left taken wanted out status named a w same = absurd a
 accounted_line words (Some bytes) (Some rest) left taken wanted out status named a w same = record {
   answer = λ d. (
-      [],
-      inl (inl (inr (record { value = wanted; before = named; behind = inl (subst (λ b. requested wanted b (Err status)) (sym a.1) (a.2.0 d)) }), refl)),
-      Appends-nil out,
+    [],
+    inl (inl (inr (record { value = wanted; before = named; behind = inl (subst (λ b. requested wanted b (Err status)) (sym a.1) (a.2.0 d)) }), refl)),
+    Appends-nil out,
   );
   read_fault = λ e. (a.0, [], subst (λ (o : Option (List ℕ)). Consumes (Some bytes) o a.0) (same e) a.1, inl ((wanted, named), a.2.1 e, refl), Appends-nil out);
   write_fault = λ e. absurd (w e);

@@ -139,17 +139,6 @@ reads_same words a b asked other =
     let same : asked.0 ≡ other.0 = same_texts asked.0 other.0 (sym asked.1 ∙ other.1) in
     means_reads asked.0 a asked.2 ∙ ap named_reads same ∙ sym (means_reads other.0 b other.2)
 
--- a line's and a request's fault come behind a command line and before the output
-pub line_fault_others : (fault : FeedFault) → (status_of_line fault ≢ Success) × (status_of_line fault ≢ Usage) × (status_of_line fault ≢ WriteFault)
-line_fault_others feed.ReadFault = (λ e. cc, λ e. cc, λ e. cc)
-line_fault_others feed.TooLong = (λ e. cc, λ e. cc, λ e. cc)
-
-pub request_fault_others : (fault : RequestFault) → (status_of_request fault ≢ Success) × (status_of_request fault ≢ Usage) × (status_of_request fault ≢ WriteFault)
-request_fault_others (request.Syntax at) = (λ e. cc, λ e. cc, λ e. cc)
-request_fault_others (request.Range field value) = (λ e. cc, λ e. cc, λ e. cc)
-request_fault_others (request.Shape size) = (λ e. cc, λ e. cc, λ e. cc)
-request_fault_others (request.LanesLine lanes line) = (λ e. cc, λ e. cc, λ e. cc)
-
 pub take_short : (n : ℕ) (xs : List ℕ) → length (take n xs) ≤ n
 take_short zero xs = omega arith
 take_short (suc n) [] = omega arith

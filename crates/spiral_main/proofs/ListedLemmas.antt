@@ -115,7 +115,7 @@ admitted_same (Some s) procs p q e = absurd (cc)
 pub loaded_passes : (schedule : Plan) (text : List ℕ) (program : PlainProgram) → loaded schedule text (Ok program) → PassesCheck action_limit program
 loaded_passes schedule text program l =
     let passed = l.behind.value in
-    subst (λ (p : PlainProgram). PassesCheck action_limit p) (sym (admitted_same (stranger schedule passed.procs) passed.procs passed program l.behind.behind ∙ l.behind.before.1) ) l.behind.before.0
+    subst (λ (p : PlainProgram). PassesCheck action_limit p) (sym (admitted_same (stranger schedule passed.procs) passed.procs passed program l.behind.behind ∙ l.behind.before.1)) l.behind.before.0
 
 -- so every order of turns leaves the same results
 same_results : (program : PlainProgram) (x turns : List ℕ) → PassesCheck action_limit program → results (plain_code program) x turns ≡ result_of program x

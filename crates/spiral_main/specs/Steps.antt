@@ -5,7 +5,9 @@ use Rattle.std.specs.declared.option.Option.{Option}
 use Rattle.std.specs.Io.KnownBytes.{Appends, Consumes, IsAtEnd}
 use Rattle.matrix_meaning.specs.declared.Request.{Request}
 use Rattle.icode.specs.declared.program.Program.{Program}
+use Rattle.icode.specs.Actions.{plain_code}
 use Rattle.icode.specs.Machine.{Code}
+use Rattle.icode.specs.Plain.{PlainProgram}
 use Rattle.icode.specs.Program.{code_of}
 use Rattle.generate.specs.Good.{IsGood, IsLean}
 use Rattle.generate.specs.Planned.{IsPlanned}
@@ -20,7 +22,7 @@ use Rattle.spiral_main.specs.declared.status.Status.{Status}
 use Rattle.spiral_main.specs.declared.status.Status.TheVariants.{Success, Usage, ReadFault, WriteFault}
 use Rattle.spiral_main.specs.Fault.{status_of_part}
 use Rattle.spiral_main.specs.Line.{data_of, IsPartOfLine}
-use Rattle.spiral_main.specs.Listed.{listing_limit, IsExecution, IsBrokenExecution, IsCutExecution}
+use Rattle.spiral_main.specs.Listed.{listing_limit, loaded, IsExecution, IsBrokenExecution, IsCutExecution}
 use Rattle.spiral_main.specs.Status.{IsDefined}
 use Rattle.spiral_main.specs.Outcome.{requested, IsAccepted, IsDeclined, Settles, BreaksOff, ComesTo, Accounts}
 
@@ -76,6 +78,10 @@ ToldPerforms command request room (Some bytes) left before after status = Perfor
 abbrev pub GivesListing : List ℕ → Type 0 → ℕ → Result (Vec ℕ Global) Status → Type 0
 GivesListing read ended taken (Ok text) = GivesPart listing_limit read ended 0 taken (Ok text)
 GivesListing read ended taken (Err status) = (fault : RestFault) × (status ≡ status_of_part fault) × GivesPart listing_limit read ended 0 taken (Err fault)
+
+-- the code of the program that a listing orders to run
+abbrev pub IsLoadedCode : Turns → List ℕ → Code → Type 0
+IsLoadedCode schedule text code = (program : PlainProgram) × loaded schedule text (Ok program) × (code ≡ plain_code program)
 
 -- status and output of `exec`, by all the bytes of its input and by what is left of them
 pub record Executes (schedule : Turns) (bytes : List ℕ) (left before after : Option (List ℕ)) (status : Status) : Type 0 where

@@ -1,14 +1,12 @@
 // The command that runs a listing.
-ghost use Rattle.std.specs.Prelude.{◌≡◌, ◌≢◌, ◌<◌, ℕ, List, [], Ok, Err, IfOk, IfErr, IsErrOf, vec_len};
+ghost use Rattle.std.specs.Prelude.{◌≡◌, ◌≢◌, ◌<◌, ℕ, List, [], Err, IfOk, IfErr, IsErrOf, vec_len};
 ghost use Rattle.std.specs.Io.KnownBytes.{Appends, Consumes, IsAtEnd};
-ghost use Rattle.icode.specs.declared.program.Program.{Program as SpecProgram};
-ghost use Rattle.icode.specs.Program.{plain_program, code_of};
 ghost use Rattle.io_edge.specs.Faults.{Reports};
 ghost use Rattle.io_edge.specs.Feed.{to_come};
 ghost use Rattle.spiral_main.specs.Listed.{loaded};
 ghost use Rattle.spiral_main.specs.Stage.{status_of};
 ghost use Rattle.spiral_main.specs.Status.{IsDefined};
-ghost use Rattle.spiral_main.specs.Steps.{GivesListing, IsRefusal, ToldExecutes};
+ghost use Rattle.spiral_main.specs.Steps.{GivesListing, IsLoadedCode, IsRefusal, ToldExecutes};
 ghost use Rattle.spiral_main.specs.Stream.{HasNoStranger};
 
 use crate::Status;
@@ -26,17 +24,16 @@ use std::alloc::Global;
 const LISTING_LIMIT: u64 = 1_048_576;
 
 // The listing with which the input begins, as it stands there.
-fn listing_text<I: Source>(
-    alloc: Global,
-    feed: &mut Feed,
-    input: &mut I,
-) -> Result<Vec<u8>, Status>
+fn listing_text<I: Source>(alloc: Global, feed: &mut Feed, input: &mut I) -> Result<Vec<u8>, Status>
     requires fresh { feed.old.taken ≡ 0 }
-    ensures told { (read : List ℕ) × Consumes (to_come feed.old (I.left input.old)) (to_come feed.new (I.left input.new)) read
+    ensures told { (read : List ℕ)
+        × Consumes (to_come feed.old (I.left input.old)) (to_come feed.new (I.left input.new)) read
         × GivesListing read (IsAtEnd (to_come feed.new (I.left input.new))) feed.new.taken result }
     ensures empty { IsErrOf result Status.ReadFault → feed.new.held ≡ [] }
-    ensures read { Reports (I.faults input.old) (I.faults input.new) (IsErrOf result Status.ReadFault) }
-    ensures others { IfErr result (λ status. (status ≢ Status.Success) × (status ≢ Status.Usage) × (status ≢ Status.WriteFault)) }
+    ensures read { Reports (I.faults input.old) (I.faults input.new)
+        (IsErrOf result Status.ReadFault) }
+    ensures others { IfErr result (λ status.
+        (status ≢ Status.Success) × (status ≢ Status.Usage) × (status ≢ Status.WriteFault)) }
 {
     match read_part(alloc, feed, input, LISTING_LIMIT) {
         Ok(text) => Ok(text),
@@ -54,11 +51,12 @@ fn loaded_engine(
     text: &[u8],
     schedule: &Schedule,
 ) -> Result<(Machine, Vec<u64>), Status>
-    ensures program { IfOk result (λ made. (program : SpecProgram) × loaded schedule.now text.now (Ok (plain_program program)) × (made.0.code ≡ code_of program)) }
+    ensures code { IfOk result (λ made. IsLoadedCode schedule.now text.now made.0.code) }
     ensures turns { IfOk result (λ made. HasNoStranger schedule.now made.0.code.procs) }
     ensures room { IfOk result (λ made. vec_len made.1 ≡ made.0.code.size) }
     ensures some { IfOk result (λ made. 0 < vec_len made.1) }
-    ensures refused { IfErr result (λ status. IsDefined status → loaded schedule.now text.now (Err status)) }
+    ensures refused { IfErr result
+        (λ status. IsDefined status → loaded schedule.now text.now (Err status)) }
     ensures refusal { IfErr result IsRefusal }
 {
     let program = read_listing(alloc, text)?;
@@ -79,14 +77,18 @@ pub(crate) fn exec<I: Source, O: Sink>(
     output: &mut O,
 ) -> Result<(), Status>
     requires fresh { feed.old.taken ≡ 0 }
-    ensures told { ToldExecutes schedule.now (to_come feed.old (I.left input.old)) (to_come feed.new (I.left input.new))
+    ensures told { ToldExecutes schedule.now
+        (to_come feed.old (I.left input.old)) (to_come feed.new (I.left input.new))
         (O.taken output.old) (O.taken output.new) (status_of result) }
     ensures end { status_of result ≡ Status.Success → IsAtEnd (to_come feed.new (I.left input.new)) }
     ensures empty { status_of result ≡ Status.ReadFault → feed.new.held ≡ [] }
     ensures usage { status_of result ≢ Status.Usage }
-    ensures read { Reports (I.faults input.old) (I.faults input.new) (status_of result ≡ Status.ReadFault) }
-    ensures write { Reports (O.faults output.old) (O.faults output.new) (status_of result ≡ Status.WriteFault) }
-    ensures memory { status_of result ≡ Status.NoMemory → Appends (O.taken output.old) (O.taken output.new) [] }
+    ensures read { Reports (I.faults input.old) (I.faults input.new)
+        (status_of result ≡ Status.ReadFault) }
+    ensures write { Reports (O.faults output.old) (O.faults output.new)
+        (status_of result ≡ Status.WriteFault) }
+    ensures memory { status_of result ≡ Status.NoMemory
+        → Appends (O.taken output.old) (O.taken output.new) [] }
 {
     let text = listing_text(alloc, feed, input)?;
     let (mut machine, mut vector) = loaded_engine(alloc, &text, schedule)?;

@@ -5,9 +5,9 @@ ghost use Rattle.spiral_main.specs.Status.{code_of};
 use crate::check::CERTIFICATE_LIMIT;
 use crate::line::LINE_LIMIT;
 use crate::stream::StreamFault;
+use code_check::CheckFault;
 use generate::GenerateFault;
 use input_rest::RestFault;
-use code_check::CheckFault;
 use io_edge::{Feed, FeedFault, WriteFault};
 use listing_text::ListingFault;
 use memory::NoMemory;
@@ -21,46 +21,92 @@ pub enum Status {
     /// The words are no command line.
     Usage,
     /// No request's line begins with more bytes of the first line than these.
-    Syntax { at: u64 },
+    Syntax {
+        at: u64,
+    },
     /// The first field of the request that is out of its limits.
-    Range { field: Field, value: u64 },
+    Range {
+        field: Field,
+        value: u64,
+    },
     /// The size of a Walsh-Hadamard transform is no power of two.
-    Shape { size: u64 },
+    Shape {
+        size: u64,
+    },
     /// There are several processors, and the lanes do not divide the line.
-    LanesLine { lanes: u64, line: u64 },
+    LanesLine {
+        lanes: u64,
+        line: u64,
+    },
     /// The schedule's first turn of a processor that is none of so many.
-    Turn { q: u64, p: u64 },
+    Turn {
+        q: u64,
+        p: u64,
+    },
     /// The root to the power of the size, which is not 1.
-    Root { power: u64 },
+    Root {
+        power: u64,
+    },
     /// No tree fits the request's processors, line and lanes.
     NoDivide,
     /// The least cost of a program exceeds the budget.
-    OverBudget { cost: u64, budget: u64 },
+    OverBudget {
+        cost: u64,
+        budget: u64,
+    },
     /// The first token of the data that is no number. Tokens are counted from 1.
-    BadNumber { token: u64 },
+    BadNumber {
+        token: u64,
+    },
     /// The data end inside a vector.
-    Truncated { have: u64, need: u64 },
+    Truncated {
+        have: u64,
+        need: u64,
+    },
     /// The input failed.
     ReadFault,
     /// The output failed.
     WriteFault,
     NoMemory,
     /// The line, the input or the certificate has more bytes than this.
-    TooLong { limit: u64 },
+    TooLong {
+        limit: u64,
+    },
     /// What stands behind the request line is no certificate for the request.
     Unread,
     /// The certificate's first wrong row: its size, its cost, and the cost that was found in its place.
-    Wrong { size: u64, given: u64, found: u64 },
+    Wrong {
+        size: u64,
+        given: u64,
+        found: u64,
+    },
     /// The first line of a listing after which no listing goes on.
-    ListingSyntax { line: u64 },
+    ListingSyntax {
+        line: u64,
+    },
     /// The first action of a listing whose place is not there.
-    Address { phase: u64, proc: u64, action: u64 },
+    Address {
+        phase: u64,
+        proc: u64,
+        action: u64,
+    },
     /// The first action of a listing with a register that is not there, or with tiles that meet.
-    Register { phase: u64, proc: u64, action: u64 },
+    Register {
+        phase: u64,
+        proc: u64,
+        action: u64,
+    },
     /// In the phase a writes the line and b touches it.
-    LineShared { phase: u64, line: u64, a: u64, b: u64 },
+    LineShared {
+        phase: u64,
+        line: u64,
+        a: u64,
+        b: u64,
+    },
     /// The listing has more actions than this.
-    OverSteps { limit: u64 },
+    OverSteps {
+        limit: u64,
+    },
 }
 
 impl Status {
@@ -198,9 +244,30 @@ impl From<CheckFault> for Status {
     fn from(fault: CheckFault) -> Self {
         match fault {
             CheckFault::OverSteps { limit } => Status::OverSteps { limit },
-            CheckFault::Address { phase, proc, action } => Status::Address { phase, proc, action },
-            CheckFault::Register { phase, proc, action } => Status::Register { phase, proc, action },
-            CheckFault::LineShared { phase, line, a, b } => Status::LineShared { phase, line, a, b },
+            CheckFault::Address {
+                phase,
+                proc,
+                action,
+            } => Status::Address {
+                phase,
+                proc,
+                action,
+            },
+            CheckFault::Register {
+                phase,
+                proc,
+                action,
+            } => Status::Register {
+                phase,
+                proc,
+                action,
+            },
+            CheckFault::LineShared { phase, line, a, b } => Status::LineShared {
+                phase,
+                line,
+                a,
+                b,
+            },
             CheckFault::NoMemory => Status::NoMemory,
         }
     }

@@ -20,8 +20,8 @@ mod runs;
 #[cfg(test)]
 mod samples;
 #[cfg(test)]
-mod streams;
-#[cfg(test)]
 mod strangers;
+#[cfg(test)]
+mod streams;
 #[cfg(test)]
 mod ways;

@@ -9,7 +9,8 @@ use std::test::Fail;
 // name, with `; ` between them. A stroke stands for a line end, and a dash for nothing.
 
 /// What the note says of words that are no command line.
-pub(crate) const USAGE: &str = "usage: spiral plan|formula|code|c|run|trace|cert|check|sample|compile|apply|exec|convolve \
+pub(crate) const USAGE: &str =
+    "usage: spiral plan|formula|code|c|run|trace|cert|check|sample|compile|apply|exec|convolve \
 [--schedule WORD] [--seed NUMBER] [--mod NUMBER] [--buffers] [--code]";
 
 // A square root of 1 that is not -1, a tie of two rules, twiddles that are -1, and a size that is no unit.

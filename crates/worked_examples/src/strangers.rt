@@ -64,7 +64,9 @@ fn lines_of(alloc: Global, field: &str) -> Result<String, Fail> {
 
 // The code, the output and the note of a call, as a row has them.
 fn told(alloc: Global, seen: &Seen) -> Result<String, Fail> {
-    let output = std::str::from_utf8(seen.output.bytes()).ok().ok_or("a text")?;
+    let output = std::str::from_utf8(seen.output.bytes())
+        .ok()
+        .ok_or("a text")?;
     let note = std::str::from_utf8(seen.note.bytes()).ok().ok_or("a text")?;
     Ok(format!(in alloc; "{}; {output}; {note}", seen.code)?)
 }
@@ -96,10 +98,16 @@ fn listings_of_requests(rt: HostRuntime) -> Result<(), Fail> {
         let data = lines_of(alloc, fields.next().ok_or("a vector")?)?;
         let output = fields.next().ok_or("an output")?;
         let code = call(alloc, "spiral code", request.as_bytes(), &AMPLE)?;
-        let listing = std::str::from_utf8(code.output.bytes()).ok().ok_or("a text")?;
+        let listing = std::str::from_utf8(code.output.bytes())
+            .ok()
+            .ok_or("a text")?;
         let input = format!(in alloc; "{listing}\n{data}")?;
         let got = executed(alloc, words, &input)?;
-        assert_eq!(rt; got.as_str(), wanted(alloc, "0", output, "-")?.as_str(), "{row}");
+        assert_eq!(rt;
+            got.as_str(),
+            wanted(alloc, "0", output, "-")?.as_str(),
+            "{row}"
+        );
     }
     Ok(())
 }
@@ -118,7 +126,11 @@ fn answers_as(rt: &impl Abort, alloc: Global, row: &str) -> Result<(), Fail> {
         false => QUAD.replacen(alloc, &old, &new, 1)?,
     };
     let got = executed(alloc, words, &format!(in alloc; "{listing}{behind}")?)?;
-    assert_eq!(rt; got.as_str(), wanted(alloc, code, output, note)?.as_str(), "{row}");
+    assert_eq!(rt;
+        got.as_str(),
+        wanted(alloc, code, output, note)?.as_str(),
+        "{row}"
+    );
     Ok(())
 }
 
@@ -158,13 +170,21 @@ fn other_line_ends(rt: HostRuntime) -> Result<(), Fail> {
     let first = wanted(alloc, "18", "-", "listing syntax at line 1")?;
     let last = wanted(alloc, "18", "-", "listing syntax at line 21")?;
     for input in ["", "\n", "\n1 2 3 4", "\n\n", "x"] {
-        assert_eq!(rt; executed(alloc, "exec", input)?.as_str(), first.as_str(), "{input}");
+        assert_eq!(rt;
+            executed(alloc, "exec", input)?.as_str(),
+            first.as_str(),
+            "{input}"
+        );
     }
     let returns = QUAD.replace(alloc, "\n", "\r\n")?;
     assert_eq!(rt; executed(alloc, "exec", &returns)?.as_str(), first.as_str());
     for behind in ["\r\n1 2 3 4", " \n1 2 3 4", "\t\n"] {
         let input = format!(in alloc; "{QUAD}{behind}")?;
-        assert_eq!(rt; executed(alloc, "exec", &input)?.as_str(), last.as_str(), "{behind}");
+        assert_eq!(rt;
+            executed(alloc, "exec", &input)?.as_str(),
+            last.as_str(),
+            "{behind}"
+        );
     }
     Ok(())
 }
@@ -206,7 +226,11 @@ fn failing_calls(rt: HostRuntime) -> Result<(), Fail> {
             read_fails: Some(fails),
             ..AMPLE
         };
-        assert_eq!(rt; failing(alloc, &outside)?.as_str(), read.as_str(), "{fails}");
+        assert_eq!(rt;
+            failing(alloc, &outside)?.as_str(),
+            read.as_str(),
+            "{fails}"
+        );
     }
     let write = wanted(alloc, "11", "-", "write failed")?;
     let outside = Outside {

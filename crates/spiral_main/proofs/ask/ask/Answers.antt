@@ -2,7 +2,7 @@ use Rattle.std.proofs.Common.{◌≤◌, arith, take, length, sym, ◌∙◌}
 use Rattle.std.proofs.lemmas.Result.{err_from_is_err_and}
 use Rattle.std.specs.Io.KnownBytes.{IsAtEnd}
 use Rattle.io_edge.specs.Feed.{to_come}
-use Rattle.spiral_main.proofs.AskLemmas.{asked_line_fault, asked_request_fault, asked_turn_fault, asked_request, line_fault_others, request_fault_others, take_short}
+use Rattle.spiral_main.proofs.AskLemmas.{asked_line_fault, asked_request_fault, asked_turn_fault, asked_request, take_short}
 use Rattle.spiral_main.proofs.ask.ask.Goals as goal
 
 pub returns-in_err-count-clause-told : goal.returns-in_err-count-clause-told

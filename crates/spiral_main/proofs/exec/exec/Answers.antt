@@ -1,7 +1,6 @@
 use Rattle.std.proofs.Common.{◌≡◌, ◌≤◌, Ok, Err, zero-add, sym, ap, ◌∙◌, arith, length}
 use Rattle.std.proofs.lemmas.Result.{err_from_is_err_and}
 use Rattle.std.specs.Io.KnownBytes.{IsAtEnd}
-use Rattle.icode.specs.Program.{plain_program}
 use Rattle.request_text.specs.Turns.{turns_of}
 use Rattle.io_edge.specs.Feed.{to_come}
 use Rattle.data_stream.proofs.TokensLemmas.{reports_none}
@@ -32,11 +31,11 @@ returns-in_err-run_stream-clause-told g c =
     let start = to_come c.args.feed.now (g.I.Source.left c.args.input.now) in
     let reached = to_come c.listing_text.new.feed (g.I.Source.left c.listing_text.new.input) in
     let told = c.in_ok-text.ensures.told in
-    let made = rw c.deref.ensures.value at c.in_ok-machine.ensures.program in
+    let made = rw c.deref.ensures.value at c.in_ok-machine.ensures.code in
     let code = c.in_ok-machine.machine.code in
     let taken = g.O.Sink.taken in
     let p = err_from_is_err_and c.from_residual-in_err-run_stream.result c.from_residual-in_err-run_stream.ensures.1 in
-    rw (p.1, p.2) (executes_run c.args.schedule.now (turns_of c.args.schedule.now code.procs) (plain_program made.0) code c.listing_text.new.feed c.run_stream.new.feed
+    rw (p.1, p.2) (executes_run c.args.schedule.now (turns_of c.args.schedule.now code.procs) made.0 code c.listing_text.new.feed c.run_stream.new.feed
     start reached (to_come c.run_stream.new.feed (g.I.Source.left c.run_stream.new.input)) (taken c.args.output.now) (taken c.run_stream.new.output) told.0 c.in_ok-text.text.items
     c.in_ok-machine.machine.state c.run_stream.new.machine.state (Err c.in_err-run_stream.field-0.0)
     told.1 (told.2.0 ∙ zero-add (length told.0)) told.2.3 told.2.1 told.2.2 made.1 made.2 c.in_err-run_stream.ensures.streams)
@@ -60,10 +59,10 @@ returns-clause-told g c =
     let start = to_come c.args.feed.now (g.I.Source.left c.args.input.now) in
     let reached = to_come c.listing_text.new.feed (g.I.Source.left c.listing_text.new.input) in
     let told = c.in_ok-text.ensures.told in
-    let made = rw c.deref.ensures.value at c.in_ok-machine.ensures.program in
+    let made = rw c.deref.ensures.value at c.in_ok-machine.ensures.code in
     let code = c.in_ok-machine.machine.code in
     let taken = g.O.Sink.taken in
-    executes_run c.args.schedule.now (turns_of c.args.schedule.now code.procs) (plain_program made.0) code c.listing_text.new.feed c.run_stream.new.feed
+    executes_run c.args.schedule.now (turns_of c.args.schedule.now code.procs) made.0 code c.listing_text.new.feed c.run_stream.new.feed
     start reached (to_come c.run_stream.new.feed (g.I.Source.left c.run_stream.new.input)) (taken c.args.output.now) (taken c.run_stream.new.output) told.0 c.in_ok-text.text.items
     c.in_ok-machine.machine.state c.run_stream.new.machine.state (Ok tt)
     told.1 (told.2.0 ∙ zero-add (length told.0)) told.2.3 told.2.1 told.2.2 made.1 made.2 c.in_ok-run_stream.ensures.streams

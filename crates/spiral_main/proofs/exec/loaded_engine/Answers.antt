@@ -12,9 +12,9 @@ returns-in_err-check_turns-clause-refused c =
     let p = err_from_is_err_and c.from_residual-in_err-check_turns.result c.from_residual-in_err-check_turns.ensures.1 in
     rw (p.1, p.2, first.2) (λ _. unturned c.args.schedule.now c.args.text.now (plain_program c.in_ok-program.program) first.0 c.in_ok-program.ensures.answer c.in_ok-verified.ensures.verified (sym c.stranger.ensures ∙ first.1))
 
-pub returns-clause-program : goal.returns-clause-program
-returns-clause-program c = (
-  c.in_ok-program.program,
+pub returns-clause-code : goal.returns-clause-code
+returns-clause-code c = (
+  plain_program c.in_ok-program.program,
   loads c.args.schedule.now c.args.text.now (plain_program c.in_ok-program.program) c.in_ok-program.ensures.answer c.in_ok-verified.ensures.verified (sym c.stranger.ensures ∙ c.in_ok-check_turns.ensures.none),
   c.in_ok-machine.ensures.code ∙ ap code_of (c.program.ensures.same ∙ c.in_ok-verified.ensures.same),
 )
