@@ -77,6 +77,3 @@ pub fn read_rest<S: Source>(
     }
     Ok(text)
 }
-
-#[cfg(test)]
-mod tests;

@@ -45,6 +45,3 @@ pub fn right_calls_succeed()
         → Accounts words bytes left before after status → status ≢ ReadFault → status ≢ WriteFault
         → (status ≡ NoMemory) ⊎ Succeeds words bytes before after status }
 {}
-
-#[cfg(test)]
-mod tests;

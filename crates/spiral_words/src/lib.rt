@@ -30,6 +30,3 @@ pub fn usage_asks_nothing()
 pub fn words_ask_for_one_command()
     ensures { (words : List Text) (a b : Command) → IsAsked words a → IsAsked words b → a ≡ b }
 {}
-
-#[cfg(test)]
-mod tests;
