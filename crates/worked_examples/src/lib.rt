@@ -2,6 +2,8 @@
 #![tactic(auto)]
 
 #[cfg(test)]
+mod buffers;
+#[cfg(test)]
 mod call;
 #[cfg(test)]
 mod checks;
@@ -20,8 +22,8 @@ mod runs;
 #[cfg(test)]
 mod samples;
 #[cfg(test)]
-mod streams;
-#[cfg(test)]
 mod strangers;
+#[cfg(test)]
+mod streams;
 #[cfg(test)]
 mod ways;
