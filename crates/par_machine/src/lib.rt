@@ -10,8 +10,6 @@ mod phase;
 mod place;
 mod play;
 mod scale;
-#[cfg(test)]
-mod tests;
 mod words;
 
 pub use icode::event::Turned;
