@@ -36,8 +36,8 @@ fn buffered_engine(alloc: Global, request: &Request) -> Result<(BufMachine, Vec<
     ensures refusal { IfErr result IsRefusal }
 {
     let product = good_product(alloc, request)?;
-    let machine = BufMachine::new(alloc, &product.program)?;
     let vector = vec![in alloc; 0; request.size as usize]?;
+    let machine = BufMachine::new(alloc, &product.program)?;
     Ok((machine, vector))
 }
 
@@ -57,8 +57,8 @@ fn traced_buffered_engine(
 {
     let product = good_product(alloc, request)?;
     let text = print_listing(alloc, &product.program)?;
-    let machine = BufMachine::new(alloc, &product.program)?;
     let vector = vec![in alloc; 0; request.size as usize]?;
+    let machine = BufMachine::new(alloc, &product.program)?;
     Ok((text, machine, vector))
 }
 
