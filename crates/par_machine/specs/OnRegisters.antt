@@ -4,7 +4,7 @@ use Rattle.icode.specs.declared.action.Action.{Action}
 use Rattle.icode.specs.Actions.{step_of}
 use Rattle.icode.specs.Plain.{PlainOp, Load, Store, Zero, MulTable, Tile}
 use Rattle.icode.specs.declared.shape.Shape.{Shape}
-use Rattle.par_machine.specs.Header.{header_of}
+use Rattle.par_machine.specs.Header.{header_with}
 
 -- the operation loads and stores nothing
 abbrev pub IsOnRegisters : PlainOp → Type 0
@@ -27,4 +27,4 @@ HasNoPlace op = IsOnRegisters op
 
 -- the action of such an operation, to which tables, loops and processors do not matter
 abbrev pub placeless_action : Shape → PlainOp → Action
-placeless_action shape op = (step_of (header_of shape []) op [] 0).action
+placeless_action shape op = (step_of (header_with shape []) op [] 0).action

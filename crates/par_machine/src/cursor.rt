@@ -1,16 +1,10 @@
 // A processor's place in its code.
 
-ghost use Rattle.std.specs.Prelude.{◌≡◌, ℕ, ◌+◌, ◌*◌, ◌^◌, ◌<◌, ◌≤◌, length, drop, slice_index, IfOk, All};
-ghost use Rattle.par_machine.specs.Hand.{step_at, Runs};
-ghost use Rattle.par_machine.specs.Header.{header_of};
-ghost use Rattle.par_machine.specs.Instruction.{IsClosed, IsWithin};
-ghost use Rattle.par_machine.specs.Played.{played};
-ghost use Rattle.par_machine.specs.Position.{Position, positions, resting, first_position};
+ghost use Rattle.std.specs.Prelude.{◌≡◌, ◌<◌, ◌≤◌, length, drop, IfOk, All};
+ghost use Rattle.par_machine.specs.Instruction.{IsClosed};
+ghost use Rattle.par_machine.specs.Position.{resting, next_position, first_position};
 
-use crate::play::play;
-use icode::action::Counts;
 use icode::program::Op;
-use icode::shape::Shape;
 use memory::NoMemory;
 use std::alloc::Global;
 use std::marker::Model;
@@ -48,7 +42,7 @@ impl Model for Cursor {
 
 /// Where a cursor comes to rest that goes on from this place: at the next action.
 #[inline]
-pub(crate) fn rest(code: &[Instruction], from: u64, values: &mut [u64]) -> u64
+fn rest(code: &[Instruction], from: u64, values: &mut [u64]) -> u64
     requires from { from ≤ length code.now }
     requires values { length values.old ≡ 64 }
     requires closed { All IsClosed code.now }
@@ -90,46 +84,14 @@ impl Cursor {
         self.values.fill(0);
     }
 
-    /// Does so many actions, from here on.
+    /// Goes on to the next action.
     #[inline]
-    pub(crate) fn play(
-        &mut self,
-        shape: &Shape,
-        tables: &[Vec<u64>],
-        code: &[Instruction],
-        proc: u64,
-        count: u64,
-        memory: &mut [u64],
-        registers: &mut [u64],
-        counts: &mut Counts,
-    )
+    pub(crate) fn go_on(&mut self, code: &[Instruction])
+        requires inside { self.old.at < length code.now }
         requires closed { All IsClosed code.now }
-        requires within { All (IsWithin shape.now.modulus) code.now }
-        requires runs { All (λ place. Runs (header_of shape.now tables.now) (step_at (header_of shape.now tables.now) code.now proc place)) (positions code.now count self.old) }
-        requires memory { length memory.old ≡ 4 * shape.now.room }
-        requires words { (k : ℕ) → slice_index memory.old k < shape.now.modulus }
-        requires file { length registers.old ≡ shape.now.regs * shape.now.lanes }
-        requires residues { (k : ℕ) → slice_index registers.old k < shape.now.modulus }
-        requires operations { counts.old.operations + count * shape.now.lanes < 2 ^ 64 }
-        requires loads { counts.old.loads + count * shape.now.lanes < 2 ^ 64 }
-        requires stores { counts.old.stores + count * shape.now.lanes < 2 ^ 64 }
-        ensures memory { memory.new ≡ (played (header_of shape.now tables.now) code.now proc count (record { memory = memory.old; registers = registers.old; place = self.old; counts = counts.old })).memory }
-        ensures registers { registers.new ≡ (played (header_of shape.now tables.now) code.now proc count (record { memory = memory.old; registers = registers.old; place = self.old; counts = counts.old })).registers }
-        ensures counts { counts.new ≡ (played (header_of shape.now tables.now) code.now proc count (record { memory = memory.old; registers = registers.old; place = self.old; counts = counts.old })).counts }
-        ensures cursor { self.new ≡ (played (header_of shape.now tables.now) code.now proc count (record { memory = memory.old; registers = registers.old; place = self.old; counts = counts.old })).place }
+        ensures { self.new ≡ next_position code.now self.old }
     {
-        self.at = play(
-            shape,
-            tables,
-            code,
-            self.at,
-            &mut self.values,
-            proc,
-            count,
-            memory,
-            registers,
-            counts,
-        );
+        self.at = rest(code, self.at + 1, &mut self.values);
     }
 
     pub(crate) fn at(&self) -> u64

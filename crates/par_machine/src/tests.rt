@@ -6,8 +6,9 @@ ghost use Rattle.icode.specs.Examples.{at, at_proc, pair, quad};
 ghost use Rattle.icode.specs.Plain.{plain_expr, plain_stmt, Do, Load, Store, Add, Sub, MulTable};
 ghost use Rattle.icode.specs.Program.{plain_program};
 
-use crate::machine::{Machine, Turned};
+use crate::machine::Machine;
 use icode::action::Counts;
+use icode::event::Turned;
 use icode::program::{Array, Expr, Op, Part, Program, Stmt};
 use memory::NoMemory;
 use request_text::{Schedule, read_schedule};
