@@ -1,5 +1,5 @@
 -- A new machine.
-use Rattle.std.proofs.Common.{◌≡◌, ℕ, zero, suc, ◌+◌, ◌-◌, ◌*◌, ◌<◌, ◌≤◌, List, [], ◌∷◌, ◌++◌, length, replicate, sym, ap, ap₂, ◌∙◌, subst, arith, zero-add, suc-add}
+use Rattle.std.proofs.Common.{◌≡◌, ℕ, zero, suc, ◌+◌, ◌-◌, ◌*◌, ◌<◌, ◌≤◌, ◌∷◌, ◌++◌, length, replicate, sym, ap, ap₂, ◌∙◌, subst, arith, zero-add, suc-add}
 use Rattle.std.specs.Prelude.{slice_index_or}
 use Rattle.icode.specs.declared.program.Program.{Program}
 use Rattle.icode.specs.Plain.{PlainProgram}

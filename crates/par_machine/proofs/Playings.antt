@@ -1,6 +1,5 @@
 -- Actions that are played one after another.
-use Rattle.std.proofs.Common.{◌≡◌, ℕ, zero, suc, ◌+◌, ◌-◌, ◌*◌, ◌<◌, ◌^◌, List, All, Some, length, take, get_or, refl, ap, ◌∙◌, subst, arith}
-use Rattle.std.specs.Prelude.{slice_get}
+use Rattle.std.proofs.Common.{◌≡◌, ℕ, zero, suc, ◌-◌, ◌*◌, ◌<◌, List, All, Some, length, take, get_or, refl, ap, ◌∙◌, subst, arith}
 use Rattle.std.proofs.lemmas.Option.{slice_get_read}
 use Rattle.icode.specs.declared.program.Op.{Op}
 use Rattle.icode.specs.Actions.{StepFits, step_of}
@@ -12,7 +11,6 @@ use Rattle.par_machine.specs.declared.cursor.Instruction.TheVariants.{Act, Again
 use Rattle.par_machine.specs.Hand.{step_with, step_at, action_of_step, Runs}
 use Rattle.par_machine.specs.Played.{Playing, CanPlay, played_one, played}
 use Rattle.par_machine.specs.Position.{Position, next_position, positions}
-use Rattle.icode.proofs.Residues.{AreBelow}
 use Rattle.icode.proofs.Below.{effect_memory_below, effect_registers_below}
 use Rattle.par_machine.proofs.Executed.{counted_at_most}
 use Rattle.par_machine.proofs.Steps.{length-with_words, length-memory_after}

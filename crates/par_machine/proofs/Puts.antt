@@ -1,5 +1,5 @@
 -- A machine that begins on an input.
-use Rattle.std.proofs.Common.{◌≡◌, ℕ, zero, suc, ◌-◌, ◌*◌, ◌<◌, ◌≤◌, List, [], ◌∷◌, ◌++◌, length, map, replicate, refl, ap, ap₂, ◌∙◌, subst, sym, arith}
+use Rattle.std.proofs.Common.{◌≡◌, ℕ, suc, ◌-◌, ◌*◌, ◌<◌, ◌≤◌, List, [], ◌∷◌, ◌++◌, length, map, replicate, refl, ap, ap₂, ◌∙◌, subst, sym, arith}
 use Rattle.std.specs.Prelude.{slice_index_or}
 use Rattle.std.proofs.lemmas.List.{length-map}
 use Rattle.icode.specs.Machine.{Code, State, first_open, start}
@@ -7,7 +7,7 @@ use Rattle.icode.proofs.Residues.{AreBelow}
 use Rattle.par_machine.specs.declared.machine.Machine.TheInside.{Inside}
 use Rattle.par_machine.specs.declared.phase.Routine.{Routine}
 use Rattle.par_machine.specs.declared.processor.Processor.{Processor}
-use Rattle.par_machine.specs.Frame.{Frame, Stand, code_of_frame, IsRunning}
+use Rattle.par_machine.specs.Frame.{Frame, code_of_frame, IsRunning}
 use Rattle.par_machine.specs.Lengths.{HasLengths}
 use Rattle.par_machine.specs.Processors.{fresh, as_new, registers_of, cursors_of, counts_of_all}
 use Rattle.par_machine.specs.View.{frame_of, stand_with, running_of, IsWhole}

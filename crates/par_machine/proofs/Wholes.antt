@@ -1,28 +1,21 @@
 -- What a machine's methods find.
-use Rattle.std.proofs.Common.{⊎_elim, zero, ap₂, length-set, replicate, if◌then◌else◌, ◌^◌, ◌≡◌, ℕ, suc, ◌+◌, ◌-◌, ◌<◌, ◌≤◌, List, [], ◌∷◌, length, get_or, All, Option, None, Some, refl, sym, ap, ◌∙◌, subst, arith}
-use Rattle.std.specs.Prelude.{slice_get, slice_index, slice_index_or, slice_set, IfNone}
+use Rattle.std.proofs.Common.{⊎_elim, zero, ◌≡◌, ℕ, suc, ◌+◌, ◌<◌, ◌≤◌, List, [], ◌∷◌, length, get_or, Option, None, Some, sym, ap, ◌∙◌, arith}
+use Rattle.std.specs.Prelude.{slice_index, IfNone}
 use Rattle.std.proofs.lemmas.Bool.{false≢true, cases_lt}
 use Rattle.std.proofs.lemmas.Grind.{get_or_default_zero}
-use Rattle.std.proofs.lemmas.Option.{slice_get_within, slice_get-get_or}
-use Rattle.icode.specs.declared.action.Action.{Action}
+use Rattle.std.proofs.lemmas.Option.{slice_get-get_or}
 use Rattle.icode.specs.declared.action.Action.TheVariants.{Zero}
-use Rattle.icode.specs.declared.action.Counts.{Counts}
-use Rattle.icode.specs.Actions.{RegistersFit, FactorsFit}
-use Rattle.icode.specs.Machine.{Code, acts, next_action, is_open, first_open, effect, counted, completion, turn}
+use Rattle.icode.specs.Machine.{acts, completion, turn}
 use Rattle.icode.proofs.Completion.{completion_past, completion_step}
 use Rattle.par_machine.specs.declared.machine.Machine.TheInside.{Inside}
 use Rattle.par_machine.specs.declared.phase.Routine.{Routine}
-use Rattle.par_machine.specs.Lengths.{HasLengths, IsFirstLeft}
-use Rattle.par_machine.specs.Instruction.{IsClosed}
-use Rattle.icode.specs.Operation.{AddressFits}
-use Rattle.par_machine.specs.Hand.{step_at, action_of_step}
-use Rattle.par_machine.specs.Position.{Position, next_position, first_position}
-use Rattle.par_machine.specs.Frame.{Frame, Stand, code_of_frame, lens_of, total, IsReady, IsRunning}
+use Rattle.par_machine.specs.Lengths.{IsFirstLeft}
+use Rattle.par_machine.specs.Position.{Position, first_position}
+use Rattle.par_machine.specs.Frame.{total}
 use Rattle.par_machine.specs.Processors.{cursors_of}
 use Rattle.par_machine.specs.View.{frame_of, stand_of, running_of, IsWhole}
-use Rattle.par_machine.proofs.Frames.{length-positions, places_at, places_past, acts_places, is_code, count_lists, has_lengths, IsHere, some_same, hand_runs, hand_action, has_place, runs_registers, runs_factors, runs_address, place_inside, routine_is}
-use Rattle.par_machine.proofs.Phases.{len_at, over_now}
-use Rattle.par_machine.proofs.Steps.{IsHand, IsStepped, count_small}
+use Rattle.par_machine.proofs.Frames.{length-positions, places_at, places_past, acts_places, is_code, count_lists, has_lengths, IsHere}
+use Rattle.par_machine.proofs.Phases.{over_now}
 
 pub done_is : (a : Inside) (proc done : ℕ) → IsWhole a → proc < a.engine.shape.procs → done ≡ get_or a.done.items proc done → slice_index a.done.items proc ≡ done
 done_is a proc done w lt e = sym (e ∙ get_or_default_zero a.done.items proc done (omega (arith, w.running.dones)))

@@ -1,4 +1,4 @@
-use Rattle.std.proofs.Common.{◌≡◌, ◌-◌, ◌<◌, ◌++◌, ◌∙◌, List, ℕ, ap, sym, subst, arith, refl, length, map, replicate, All}
+use Rattle.std.proofs.Common.{◌-◌, ◌<◌, ◌++◌, ◌∙◌, List, ap, sym, subst, arith, refl, length, map, replicate, All}
 use Rattle.std.specs.Vec.{with_items}
 use Rattle.std.proofs.lemmas.List.{with_items_is}
 use Rattle.icode.specs.Machine.{State, start}
