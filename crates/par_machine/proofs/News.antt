@@ -6,7 +6,7 @@ use Rattle.icode.specs.Plain.{PlainProgram}
 use Rattle.icode.specs.Program.{plain_program, code_of, Fits}
 use Rattle.icode.specs.Machine.{Code, first_open, start}
 use Rattle.par_machine.specs.declared.phase.Routine.{Routine}
-use Rattle.par_machine.specs.declared.processor.Processor.{Processor}
+use Rattle.par_machine.specs.Context.{Context}
 use Rattle.par_machine.specs.declared.machine.Machine.TheInside.{Inside}
 use Rattle.par_machine.specs.Header.{header_of, without_statements}
 use Rattle.par_machine.specs.Lengths.{HasLengths}
@@ -58,11 +58,11 @@ new_first p a h =
     let all : length a.phases.items - 0 ≡ length a.phases.items = omega arith in
     record {
       memory = h.memory ∙ (ap (λ n. replicate {A = ℕ} n 0) split ∙ zeros_append a.engine.shape.size (4 * room_of f - a.engine.shape.size));
-      registers = ap registers_of h.processors ∙ map_replicate (λ (p : Processor). p.datapath.registers) procs (fresh words);
+      registers = ap registers_of h.processors ∙ map_replicate (λ (p : Context). p.registers) procs (fresh words);
       phase = h.phase (code_of_frame f) (has_lengths f) (omega (arith, a.engine.shape.limits.of_procs.0)) ∙ ap (λ n. first_open (code_of_frame f) n 0) all;
       done = h.done;
-      places = ap cursors_of h.processors ∙ map_replicate (λ (p : Processor). p.cursor) procs (fresh words);
-      counts = ap counts_of_all h.processors ∙ map_replicate (λ (p : Processor). p.datapath.counts) procs (fresh words);
+      places = ap cursors_of h.processors ∙ map_replicate (λ (p : Context). p.place) procs (fresh words);
+      counts = ap counts_of_all h.processors ∙ map_replicate (λ (p : Context). p.counts) procs (fresh words);
       within = h.within;
     }
 

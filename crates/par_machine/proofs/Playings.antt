@@ -1,13 +1,17 @@
 -- Actions that are played one after another.
-use Rattle.std.proofs.Common.{◌≡◌, ℕ, zero, suc, ◌-◌, ◌*◌, ◌<◌, List, All, Some, length, take, get_or, refl, ap, ◌∙◌, subst, arith}
+use Rattle.std.specs.Prelude.{IsTrue, ◌≤◌}
+use Rattle.std.proofs.Common.{◌≡◌, ℕ, zero, suc, ◌-◌, ◌*◌, ◌<◌, List, All, Some, length, take, get_or, refl, sym, ap, ◌∙◌, subst, arith}
 use Rattle.std.proofs.lemmas.Option.{slice_get_read}
 use Rattle.icode.specs.declared.program.Op.{Op}
 use Rattle.icode.specs.Actions.{StepFits, step_of}
 use Rattle.icode.specs.declared.action.Counts.{Counts}
-use Rattle.icode.specs.Machine.{Local, value_put, register_put}
-use Rattle.icode.specs.Plain.{PlainProgram, plain_op}
+use Rattle.icode.specs.Machine.{Local, counted, value_put, register_put}
+use Rattle.icode.specs.Plain.{PlainProgram, PlainOp, Load, Store, Zero, Add, Sub, Neg, MulConst, MulTable, Tile, plain_op}
 use Rattle.par_machine.specs.declared.cursor.Instruction.{Instruction}
 use Rattle.par_machine.specs.declared.cursor.Instruction.TheVariants.{Act, Again}
+use Rattle.icode.specs.Limits.{is_op_within}
+use Rattle.par_machine.specs.Instruction.{IsClosed, IsWithin}
+use Rattle.par_machine.specs.OnRegisters.{counted_op}
 use Rattle.par_machine.specs.Hand.{step_with, step_at, action_of_step, Runs}
 use Rattle.par_machine.specs.Played.{Playing, CanPlay, played_one, played}
 use Rattle.par_machine.specs.Position.{Position, next_position, positions}
@@ -21,6 +25,20 @@ playing_same m m' r r' p p' c c' em er ep ec =
     ∙ (ap (λ r. record { memory = m'; registers = r; place = p; counts = c }) er
     ∙ (ap (λ p. record { memory = m'; registers = r'; place = p; counts = c }) ep
     ∙ ap (λ c. record { memory = m'; registers = r'; place = p'; counts = c }) ec))
+
+pub place_same : (i i' : ℕ) (vs vs' : List ℕ) → i ≡ i' → vs ≡ vs' → ◌≡◌ {A = Position} (record { at = i; values = vs }) (record { at = i'; values = vs' })
+place_same i i' vs vs' ei ev = ap (λ i. record { at = i; values = vs }) ei ∙ ap (λ vs. record { at = i'; values = vs }) ev
+
+pub counted_op_is : (p : PlainProgram) (op : PlainOp) (vs : List ℕ) (q : ℕ) (c : Counts) → counted_op p.lanes op c ≡ counted p.lanes (step_of p op vs q).action c
+counted_op_is p (Load register array place) vs q c = refl
+counted_op_is p (Store array place register) vs q c = refl
+counted_op_is p (Zero register) vs q c = refl
+counted_op_is p (Add register left right) vs q c = refl
+counted_op_is p (Sub register left right) vs q c = refl
+counted_op_is p (Neg register source) vs q c = refl
+counted_op_is p (MulConst register source factor) vs q c = refl
+counted_op_is p (MulTable register source table place step) vs q c = refl
+counted_op_is p (Tile register source) vs q c = refl
 
 module _ (g : PlainProgram) (code : List Instruction) (q : ℕ) where
   abbrev CanRun : Position → Type 0
@@ -48,28 +66,17 @@ module _ (g : PlainProgram) (code : List Instruction) (q : ℕ) where
       let e : n ≡ suc n - 1 = omega arith in
       ap (λ k. played g code q k (played_one g code q s)) e
 
-  -- the first of several actions
-  pub can_play_one : (n : ℕ) (s : Playing) → 0 < n → CanPlay g code q n s → CanPlay g code q 1 s
-  can_play_one zero s some h = absurd (omega arith)
-  can_play_one (suc n) s some h =
-      record {
-        closed = h.closed;
-        within = h.within;
-        runs = only_first s.place (h.runs 0 s.place (omega arith));
-        memory = h.memory;
-        words = h.words;
-        file = h.file;
-        residues = h.residues;
-        operations = omega (arith, h.operations);
-        loads = omega (arith, h.loads);
-        stores = omega (arith, h.stores);
-      }
-    where
-      only_first : (p : Position) → CanRun p → All CanRun (positions code 1 p)
-      only_first p first zero d lt = first
-      only_first p first (suc j) d lt = absurd (omega (arith, lt))
+  pub runs_here : (n : ℕ) (s : Playing) → 0 < n → CanPlay g code q n s → CanRun s.place
+  runs_here zero s some h = absurd (omega arith)
+  runs_here (suc n) s some h = h.runs 0 s.place (omega arith)
 
-  -- and those that come after it
+  pub closed_here : (n at : ℕ) (s : Playing) (i : Instruction) (op : Op) (depth : ℕ) → at < length code → i ≡ get_or code at i → i ≡ Act op depth → CanPlay g code q n s → depth ≤ 64
+  closed_here n at s i op depth lt e is h = subst IsClosed is (subst IsClosed (sym e) (h.closed at i lt))
+
+  pub within_here : (n at : ℕ) (s : Playing) (i : Instruction) (op : Op) (depth : ℕ) → at < length code → i ≡ get_or code at i → i ≡ Act op depth → CanPlay g code q n s → IsTrue (is_op_within g.modulus (plain_op op) depth)
+  within_here n at s i op depth lt e is h = subst (IsWithin g.modulus) is (subst (IsWithin g.modulus) (sym e) (h.within at i lt))
+
+  -- the actions that come after the first
   pub can_play_rest : (n : ℕ) (s : Playing) → 0 < g.modulus → 0 < n → CanPlay g code q n s → CanPlay g code q (n - 1) (played_one g code q s)
   can_play_rest zero s pos some h = absurd (omega arith)
   can_play_rest (suc n) s pos some h =

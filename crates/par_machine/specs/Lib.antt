@@ -4,7 +4,7 @@ pub mod Instruction
 pub mod OnRegisters
 pub mod Scaled
 pub mod Hand
-pub mod Computing
+pub mod Context
 pub mod Performed
 pub mod Processors
 pub mod Lengths

@@ -1,13 +1,12 @@
 -- What an operation needs, and what it leaves.
-use Rattle.std.specs.Prelude.{ℕ, ◌+◌, ◌<◌, ◌^◌, List, replicate}
+use Rattle.std.specs.Prelude.{ℕ, ◌+◌, ◌<◌, ◌^◌, List}
 use Rattle.icode.specs.declared.action.Action.{Action}
 use Rattle.icode.specs.declared.action.Counts.{Counts}
 use Rattle.icode.specs.declared.program.Op.{Op}
 use Rattle.icode.specs.Actions.{Step, step_of}
-use Rattle.icode.specs.Machine.{Local, effect, no_counts}
+use Rattle.icode.specs.Machine.{Local, effect}
 use Rattle.icode.specs.Plain.{plain_op}
 use Rattle.par_machine.specs.declared.engine.Engine.{Engine}
-use Rattle.par_machine.specs.Computing.{Computing}
 use Rattle.par_machine.specs.Header.{header_of}
 
 -- the operation's step, where these are the values of the open loops on this processor
@@ -18,16 +17,12 @@ abbrev pub action_by : Engine → Op → List ℕ → ℕ → Action
 action_by engine op values proc = (step_by engine op values proc).action
 
 -- the memory and the registers after it
-abbrev pub performed : Engine → Op → List ℕ → ℕ → List ℕ → Computing → Local
-performed engine op values proc memory before =
-    effect engine.shape.modulus engine.shape.lanes (action_by engine op values proc) (record { memory = memory; registers = before.registers })
+abbrev pub performed : Engine → Op → List ℕ → ℕ → List ℕ → List ℕ → Local
+performed engine op values proc memory registers =
+    effect engine.shape.modulus engine.shape.lanes (action_by engine op values proc) (record { memory = memory; registers = registers })
 
 -- one more action on all lanes can be counted
 pub record HasRoom (lanes : ℕ) (counts : Counts) : Type 0 where
   pub operations : counts.operations + lanes < 2 ^ 64
   pub loads : counts.loads + lanes < 2 ^ 64
   pub stores : counts.stores + lanes < 2 ^ 64
-
--- so many words of registers, all of them 0, and nothing executed
-abbrev pub cleared : ℕ → Computing
-cleared words = record { registers = replicate words 0; counts = no_counts }

@@ -4,7 +4,7 @@ use Rattle.icode.specs.declared.action.Counts.{Counts}
 use Rattle.icode.specs.Machine.{Local, effect, counted, whole_lines}
 use Rattle.icode.specs.Plain.{PlainProgram}
 use Rattle.par_machine.specs.declared.cursor.Instruction.{Instruction}
-use Rattle.par_machine.specs.declared.processor.Processor.{Processor}
+use Rattle.par_machine.specs.Context.{Context}
 use Rattle.par_machine.specs.Hand.{step_at, action_of_step, Runs}
 use Rattle.par_machine.specs.Instruction.{IsClosed, IsWithin}
 use Rattle.par_machine.specs.Position.{Position, next_position, positions}
@@ -16,9 +16,9 @@ pub record Playing : Type 0 where
   pub place : Position
   pub counts : Counts
 
-abbrev pub playing : List ℕ → Processor → Playing
+abbrev pub playing : List ℕ → Context → Playing
 playing memory p =
-    record { memory = memory; registers = p.datapath.registers; place = p.cursor; counts = p.datapath.counts }
+    record { memory = memory; registers = p.registers; place = p.place; counts = p.counts }
 
 -- the action at its place, after which it goes on to the next
 abbrev pub played_one : PlainProgram → List Instruction → ℕ → Playing → Playing

@@ -3,7 +3,7 @@ use Rattle.std.specs.Prelude.{List}
 use Rattle.icode.specs.Machine.{State}
 use Rattle.par_machine.specs.Running.{Running}
 use Rattle.par_machine.specs.declared.machine.Machine.TheInside.{Inside}
-use Rattle.par_machine.specs.declared.processor.Processor.{Processor}
+use Rattle.par_machine.specs.Context.{Context}
 use Rattle.par_machine.specs.Header.{header_of}
 use Rattle.par_machine.specs.Frame.{Frame, Stand, code_of_frame, IsReady, IsRunning}
 use Rattle.par_machine.specs.Processors.{registers_of, cursors_of, counts_of_all}
@@ -11,7 +11,7 @@ use Rattle.par_machine.specs.Processors.{registers_of, cursors_of, counts_of_all
 abbrev pub frame_of : Inside → Frame
 frame_of a = record { header = header_of a.engine; phases = a.phases.items }
 
-abbrev pub stand_with : State → List Processor → Stand
+abbrev pub stand_with : State → List Context → Stand
 stand_with state processors =
     record { state = state; places = cursors_of processors; counts = counts_of_all processors }
 

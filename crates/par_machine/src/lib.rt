@@ -4,10 +4,10 @@
 mod action;
 mod compile;
 mod cursor;
-mod datapath;
 mod engine;
 mod initial;
 mod machine;
+mod perform;
 mod phase;
 mod place;
 mod processor;

@@ -4,22 +4,48 @@ ghost use Rattle.std.specs.Prelude.{◌≡◌, map, IfOk, All};
 ghost use Rattle.par_machine.specs.Hand.{step_at, action_of_step, Runs};
 ghost use Rattle.par_machine.specs.Header.{header_of};
 ghost use Rattle.par_machine.specs.Instruction.{IsClosed, IsWithin};
-ghost use Rattle.par_machine.specs.Played.{CanPlay, playing, played, played_one};
+ghost use Rattle.par_machine.specs.Played.{CanPlay, playing, played};
 ghost use Rattle.par_machine.specs.Processors.{fresh, as_new, rewound};
 
 use crate::action::action_of;
-use crate::cursor::{Cursor, Instruction};
-use crate::datapath::Datapath;
+use crate::cursor::{Instruction, OPEN_LOOPS, rest};
 use crate::engine::Engine;
+use crate::initial::zeros;
+use crate::perform::{counted, perform};
 use icode::action::{Action, Counts};
 use memory::NoMemory;
 use std::alloc::Global;
+use std::marker::Model;
+
+const NO_COUNTS: Counts = Counts {
+    operations: 0,
+    loads: 0,
+    stores: 0,
+};
 
 /// A processor: its place in the code of the phase, its registers, and what it has executed.
 #[derive(Drop)]
 pub(crate) struct Processor {
-    cursor: Cursor,
-    datapath: Datapath,
+    at: u64,
+    /// The values of the open loops, the outermost first. Loops that are not open have the value 0.
+    values: Vec<u64>,
+    registers: Vec<u64>,
+    counts: Counts,
+}
+
+impl Model for Processor {
+    ghost use Rattle.std.specs.Prelude.{◌≡◌, length};
+    ghost use Rattle.par_machine.specs.Context.{Context};
+
+    ghost Value = { Context };
+
+    ghost view = { λ p. record {
+      place = record { at = p.at; values = p.values.items };
+      registers = p.registers.items;
+      counts = p.counts;
+    } };
+
+    ghost invariant = { λ p. length p.values.items ≡ 64 };
 }
 
 impl Processor {
@@ -27,64 +53,54 @@ impl Processor {
     pub(crate) fn new(alloc: Global, words: u64) -> Result<Self, NoMemory>
         ensures { IfOk result (λ processor. processor ≡ fresh words) }
     {
-        let cursor = Cursor::new(alloc)?;
-        let datapath = Datapath::new(alloc, words)?;
-        Ok(Processor { cursor, datapath })
+        let values = zeros(alloc, OPEN_LOOPS)?;
+        let registers = zeros(alloc, words)?;
+        Ok(Processor {
+            at: 0,
+            values,
+            registers,
+            counts: NO_COUNTS,
+        })
     }
 
     /// As a new one.
     pub(crate) fn reset(&mut self)
         ensures { self.new ≡ as_new self.old }
     {
-        self.cursor.rewind();
-        self.datapath.clear();
+        self.at = 0;
+        self.values.fill(0);
+        self.registers.fill(0);
+        self.counts = NO_COUNTS;
     }
 
     /// Goes back to the beginning of the code.
     pub(crate) fn rewind(&mut self)
         ensures { self.new ≡ rewound self.old }
     {
-        self.cursor.rewind();
+        self.at = 0;
+        self.values.fill(0);
     }
 
     /// What it has executed.
     pub(crate) fn counts(&self) -> Counts
-        ensures { result ≡ self.now.datapath.counts }
+        ensures { result ≡ self.now.counts }
     {
-        self.datapath.counts()
+        self.counts
     }
 
     /// The action at its place.
     pub(crate) fn action(&self, engine: &Engine, code: &[Instruction], proc: u64) -> Action
         requires closed { All IsClosed code.now }
         requires within { All (IsWithin engine.now.shape.modulus) code.now }
-        requires runs { Runs (header_of engine.now) (step_at (header_of engine.now) code.now proc self.now.cursor) }
-        ensures { result ≡ action_of_step (step_at (header_of engine.now) code.now proc self.now.cursor) }
+        requires runs { Runs (header_of engine.now) (step_at (header_of engine.now) code.now proc self.now.place) }
+        ensures { result ≡ action_of_step (step_at (header_of engine.now) code.now proc self.now.place) }
     {
-        match &code[self.cursor.at() as usize] {
+        match &code[self.at as usize] {
             Instruction::Act { op, depth } => {
-                let values = &self.cursor.values()[..*depth as usize];
-                action_of(engine, op, values, proc)
+                action_of(engine, op, &self.values[..*depth as usize], proc)
             }
             Instruction::Again { .. } => unreachable!(),
         }
-    }
-
-    /// Does the action at its place, and goes on to the next.
-    #[inline]
-    fn step(&mut self, engine: &Engine, code: &[Instruction], proc: u64, memory: &mut [u64])
-        requires { CanPlay (header_of engine.now) code.now proc 1 (playing memory.old self.old) }
-        ensures { playing memory.new self.new
-            ≡ played_one (header_of engine.now) code.now proc (playing memory.old self.old) }
-    {
-        match &code[self.cursor.at() as usize] {
-            Instruction::Act { op, depth } => {
-                let values = &self.cursor.values()[..*depth as usize];
-                self.datapath.perform(engine, op, values, proc, memory);
-            }
-            Instruction::Again { .. } => unreachable!(),
-        }
-        self.cursor.go_on(code);
     }
 
     /// Does so many actions, from its place on.
@@ -100,11 +116,31 @@ impl Processor {
         ensures { playing memory.new self.new
             ≡ played (header_of engine.now) code.now proc count (playing memory.old self.old) }
     {
+        let mut at = self.at;
+        let mut counts = self.counts;
+        let values: &mut [u64] = &mut self.values;
+        let registers: &mut [u64] = &mut self.registers;
         let mut left = count;
         while left > 0 {
-            self.step(engine, code, proc, memory);
+            match &code[at as usize] {
+                Instruction::Act { op, depth } => {
+                    perform(
+                        engine,
+                        op,
+                        &values[..*depth as usize],
+                        proc,
+                        memory,
+                        registers,
+                    );
+                    counts = counted(op, engine.shape.lanes, counts);
+                }
+                Instruction::Again { .. } => unreachable!(),
+            }
+            at = rest(code, at + 1, values);
             left -= 1;
         }
+        self.at = at;
+        self.counts = counts;
     }
 }
 

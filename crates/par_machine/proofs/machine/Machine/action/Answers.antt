@@ -24,7 +24,7 @@ action-requires-clause-within c =
 
 pub action-requires-clause-runs : goal.action-requires-clause-runs
 action-requires-clause-runs c =
-    (can_play c.self.inside c.args.proc 1 c.index-routine.result.now c.index-processor.result.now c.deref.result.now c.self.inside.memory.items (left_here c) c.deref.ensures.value refl).runs 0 c.index-processor.result.now.cursor (omega arith)
+    (can_play c.self.inside c.args.proc 1 c.index-routine.result.now c.index-processor.result.now c.deref.result.now c.self.inside.memory.items (left_here c) c.deref.ensures.value refl).runs 0 c.index-processor.result.now.place (omega arith)
 
 pub returns : goal.returns
 returns c =
@@ -34,6 +34,6 @@ returns c =
     let p = c.index-processor.result.now in
     let left = left_is a c.args.self.now q 1 r p c.self.view_is c.self.invariant c.requires.proc (omega arith) (omega (arith, c.requires.left)) c.index-routine.ensures c.index-processor.ensures in
     subst (λ (x : Running). next_action x.code x.state q ≡ Some c.action.result) c.self.view_is
-    (hand_action (frame_of a) (stand_of a) q r p.cursor c.self.invariant.running (set_is a q 1 r p left).here
+    (hand_action (frame_of a) (stand_of a) q r p.place c.self.invariant.running (set_is a q 1 r p left).here
     ∙ ap (λ (x : Action). Some x)
-    (ap (λ (xs : List Instruction). action_of_step (step_at (header_of a.engine) xs q p.cursor)) (sym c.deref.ensures.value) ∙ sym c.action.ensures))
+    (ap (λ (xs : List Instruction). action_of_step (step_at (header_of a.engine) xs q p.place)) (sym c.deref.ensures.value) ∙ sym c.action.ensures))

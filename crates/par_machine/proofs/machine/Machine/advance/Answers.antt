@@ -3,7 +3,7 @@ use Rattle.std.specs.Prelude.{slice_index, slice_set}
 use Rattle.std.specs.Vec.{with_item, with_items}
 use Rattle.std.proofs.lemmas.List.{with_items_is}
 use Rattle.icode.specs.Machine.{State, run}
-use Rattle.par_machine.specs.declared.processor.Processor.{Processor}
+use Rattle.par_machine.specs.Context.{Context}
 use Rattle.par_machine.specs.Played.{playing}
 use Rattle.par_machine.specs.Processors.{registers_of}
 use Rattle.par_machine.specs.Running.{Running}
@@ -31,7 +31,7 @@ memory_after c = (with_items c.self.inside.memory c.play.new.memory).items
 abbrev done_after : goal.After-self-6-1 → List ℕ
 done_after c = (with_items (with_item c.self.inside.done c.args.proc (c.index_mut.result.now + c.args.count)) c.settle-self-inside.new.done).items
 
-abbrev processors_after : goal.After-self-6-1 → List Processor
+abbrev processors_after : goal.After-self-6-1 → List Context
 processors_after c = (with_items (with_item c.self.inside.processors c.args.proc c.play.new.self) c.settle-self-inside.new.processors).items
 
 abbrev state_after : goal.After-self-6-1 → State

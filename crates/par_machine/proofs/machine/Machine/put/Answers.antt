@@ -3,13 +3,13 @@ use Rattle.std.specs.Vec.{with_items}
 use Rattle.std.proofs.lemmas.List.{with_items_is}
 use Rattle.icode.specs.Machine.{State, start}
 use Rattle.icode.proofs.Below.{below_from_all}
-use Rattle.par_machine.specs.declared.processor.Processor.{Processor}
+use Rattle.par_machine.specs.Context.{Context}
 use Rattle.par_machine.specs.Processors.{as_new, registers_of}
 use Rattle.par_machine.specs.Running.{Running}
 use Rattle.par_machine.proofs.Puts.{IsPut, put_state, put_runs}
 use Rattle.par_machine.proofs.machine.Machine.put.Goals as goal
 
-abbrev processors_after : goal.After-self-3-1 → List Processor
+abbrev processors_after : goal.After-self-3-1 → List Context
 processors_after c = (with_items c.self.inside.processors c.reset_all.new.processors).items
 
 abbrev state_after : goal.After-self-3-1 → State

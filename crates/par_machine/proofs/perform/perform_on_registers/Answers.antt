@@ -5,7 +5,7 @@ use Rattle.icode.specs.Plain.{plain_expr, plain_tables}
 use Rattle.icode.proofs.Transposes.{tile_words}
 use Rattle.par_machine.specs.Scaled.{table_factors}
 use Rattle.par_machine.proofs.Tables.{table_is}
-use Rattle.par_machine.proofs.datapath.perform_on_registers.Goals as goal
+use Rattle.par_machine.proofs.perform.perform_on_registers.Goals as goal
 
 pub scale_by_entries-requires-clause-factors : goal.scale_by_entries-requires-clause-factors
 scale_by_entries-requires-clause-factors c =
