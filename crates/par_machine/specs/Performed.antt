@@ -1,9 +1,10 @@
 -- What an operation needs, and what it leaves.
-use Rattle.std.specs.Prelude.{ℕ, ◌+◌, ◌<◌, ◌^◌, List}
+use Rattle.std.specs.Prelude.{ℕ, ◌+◌, ◌<◌, ◌^◌, List, IsTrue}
 use Rattle.icode.specs.declared.action.Action.{Action}
 use Rattle.icode.specs.declared.action.Counts.{Counts}
 use Rattle.icode.specs.declared.program.Op.{Op}
 use Rattle.icode.specs.Actions.{Step, step_of}
+use Rattle.icode.specs.Limits.{is_op_within}
 use Rattle.icode.specs.Machine.{Local, effect}
 use Rattle.icode.specs.Plain.{plain_op}
 use Rattle.par_machine.specs.declared.engine.Engine.{Engine}
@@ -15,6 +16,10 @@ step_by engine op values proc = step_of (header_of engine) (plain_op op) values 
 
 abbrev pub action_by : Engine → Op → List ℕ → ℕ → Action
 action_by engine op values proc = (step_by engine op values proc).action
+
+-- it is within the limits, where so many loops are open
+abbrev pub OpIsWithin : Engine → Op → ℕ → Type 0
+OpIsWithin engine op depth = IsTrue (is_op_within engine.shape.modulus (plain_op op) depth)
 
 -- the memory and the registers after it
 abbrev pub performed : Engine → Op → List ℕ → ℕ → List ℕ → List ℕ → Local

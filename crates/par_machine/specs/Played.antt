@@ -1,10 +1,13 @@
 -- What a processor changes as it does its actions.
-use Rattle.std.specs.Prelude.{◌≡◌, ℕ, zero, suc, ◌+◌, ◌*◌, ◌<◌, ◌^◌, List, length, slice_index, All}
+use Rattle.std.specs.Prelude.{◌≡◌, ℕ, zero, suc, ◌+◌, ◌*◌, ◌<◌, ◌^◌, List, Option, length, slice_index, All}
 use Rattle.icode.specs.declared.action.Counts.{Counts}
+use Rattle.icode.specs.Actions.{Step}
 use Rattle.icode.specs.Machine.{Local, effect, counted, whole_lines}
 use Rattle.icode.specs.Plain.{PlainProgram}
 use Rattle.par_machine.specs.declared.cursor.Instruction.{Instruction}
 use Rattle.par_machine.specs.Context.{Context}
+use Rattle.par_machine.specs.declared.engine.Engine.{Engine}
+use Rattle.par_machine.specs.Header.{header_of}
 use Rattle.par_machine.specs.Hand.{step_at, action_of_step, Runs}
 use Rattle.par_machine.specs.Instruction.{IsClosed, IsWithin}
 use Rattle.par_machine.specs.Position.{Position, next_position, positions}
@@ -36,6 +39,10 @@ played_one p code q s =
 abbrev pub played : PlainProgram → List Instruction → ℕ → ℕ → Playing → Playing
 played p code q zero s = s
 played p code q (suc n) s = played p code q n (played_one p code q s)
+
+-- the step at its place
+abbrev pub step_here : Engine → List Instruction → ℕ → Context → Option Step
+step_here engine code proc context = step_at (header_of engine) code proc context.place
 
 -- what processor q needs to do n actions: they fit, all words are there and below the modulus, and the actions can be
 -- counted

@@ -1,12 +1,11 @@
 // The action of an operation.
 
-ghost use Rattle.std.specs.Prelude.{◌≡◌, ℕ, ◌+◌, ◌-◌, ◌*◌, ◌<◌, ◌≤◌, ◌^◌, length, slice_index, IsTrue};
+ghost use Rattle.std.specs.Prelude.{◌≡◌, ℕ, ◌+◌, ◌-◌, ◌*◌, ◌<◌, ◌≤◌, ◌^◌, length, slice_index};
 ghost use Rattle.icode.specs.Actions.{array_start, lane_factors, StepFits};
-ghost use Rattle.icode.specs.Limits.{is_op_within};
 ghost use Rattle.icode.specs.Plain.{plain_op};
 ghost use Rattle.par_machine.specs.Header.{header_of};
 ghost use Rattle.par_machine.specs.OnRegisters.{HasNoPlace, placeless_action};
-ghost use Rattle.par_machine.specs.Performed.{step_by, action_by};
+ghost use Rattle.par_machine.specs.Performed.{OpIsWithin, step_by, action_by};
 
 use crate::engine::Engine;
 use icode::action::{Action, MAX_LANES};
@@ -95,7 +94,7 @@ fn placeless_action(shape: &Shape, op: &Op) -> Action
 
 /// The action of an operation, where these are the values of the open loops on this processor.
 pub(crate) fn action_of(engine: &Engine, op: &Op, values: &[u64], proc: u64) -> Action
-    requires within { IsTrue (is_op_within engine.now.shape.modulus (plain_op op.now) (length values.now)) }
+    requires within { OpIsWithin engine.now op.now (length values.now) }
     requires fits { StepFits (header_of engine.now) (step_by engine.now op.now values.now proc) }
     ensures { result ≡ action_by engine.now op.now values.now proc }
 {

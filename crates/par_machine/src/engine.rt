@@ -21,7 +21,8 @@ pub(crate) struct Engine {
 impl Engine {
     /// The program's header and tables.
     pub(crate) fn new(alloc: Global, program: &Program) -> Result<Self, NoMemory>
-        ensures { IfOk result (λ engine. header_of engine ≡ without_statements (plain_program program.now)) }
+        ensures { IfOk result
+            (λ engine. header_of engine ≡ without_statements (plain_program program.now)) }
     {
         let shape = shape_of(program);
         let tables = copy_tables(alloc, &program.tables)?;

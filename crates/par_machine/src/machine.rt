@@ -5,7 +5,7 @@ ghost use Rattle.std.specs.List.{find};
 ghost use Rattle.icode.specs.Machine.{acts, next_action, turn, run, answer, completion, finished, start, counts_so_far, padded};
 ghost use Rattle.icode.specs.Program.{code_of, Fits};
 ghost use Rattle.request_text.specs.Turns.{named, turns_of};
-ghost use Rattle.par_machine.specs.Unfinished.{IsUnfinished};
+ghost use Rattle.par_machine.specs.Unfinished.{IsUnfinished, left_of};
 
 use crate::engine::Engine;
 use crate::initial::{compile_phases, make_processors, put_input, zeros};
@@ -20,8 +20,8 @@ use ring_mod::Modulus;
 use std::alloc::Global;
 use std::marker::Model;
 
-/// A machine of several processors over one memory. It keeps for each processor a place in the program's code and the
-/// counters of its open loops, and no list of actions.
+/// A machine of several processors over one memory. It keeps for each processor a place in the
+/// program's code and the counters of its open loops, and no list of actions.
 #[derive(Drop)]
 pub struct Machine {
     engine: Engine,
@@ -72,7 +72,7 @@ impl Machine {
     /// How many actions the processor has left in this phase.
     fn left(&self, proc: u64) -> u64
         requires proc { proc < self.now.code.procs }
-        ensures { result ≡ length (acts self.now.code self.now.state.phase proc) - slice_index self.now.state.done proc }
+        ensures { result ≡ left_of self.now.code self.now.state proc }
     {
         if self.phase == self.phases.len() as u64 {
             return 0;
@@ -83,7 +83,8 @@ impl Machine {
     /// The action that the processor has left.
     fn action(&self, proc: u64) -> Action
         requires proc { proc < self.now.code.procs }
-        requires left { slice_index self.now.state.done proc < length (acts self.now.code self.now.state.phase proc) }
+        requires left { slice_index self.now.state.done proc
+            < length (acts self.now.code self.now.state.phase proc) }
         ensures { next_action self.now.code self.now.state proc ≡ Some result }
     {
         let routine = &self.phases[self.phase as usize];
@@ -95,7 +96,8 @@ impl Machine {
     fn advance(&mut self, proc: u64, count: u64)
         requires proc { proc < self.old.code.procs }
         requires some { 0 < count }
-        requires left { slice_index self.old.state.done proc + count ≤ length (acts self.old.code self.old.state.phase proc) }
+        requires left { slice_index self.old.state.done proc + count
+            ≤ length (acts self.old.code self.old.state.phase proc) }
         ensures state { self.new.state ≡ run self.old.code self.old.state (replicate count proc) }
         ensures code { self.new.code ≡ self.old.code }
     {

@@ -1,13 +1,12 @@
 // One action of a processor, by the operation that it stands for.
 
-ghost use Rattle.std.specs.Prelude.{◌≡◌, ℕ, ◌+◌, ◌*◌, ◌<◌, [], length, slice_index, IsTrue};
+ghost use Rattle.std.specs.Prelude.{◌≡◌, ℕ, ◌+◌, ◌*◌, ◌<◌, [], length, slice_index};
 ghost use Rattle.icode.specs.Actions.{StepFits};
-ghost use Rattle.icode.specs.Limits.{is_op_within};
 ghost use Rattle.icode.specs.OnRegisters.{registers_after};
 ghost use Rattle.icode.specs.Plain.{plain_op};
 ghost use Rattle.par_machine.specs.Header.{header_of};
 ghost use Rattle.par_machine.specs.OnRegisters.{IsOnRegisters, operations_of, counted_op};
-ghost use Rattle.par_machine.specs.Performed.{HasRoom, step_by, action_by, performed};
+ghost use Rattle.par_machine.specs.Performed.{HasRoom, OpIsWithin, step_by, action_by, performed};
 
 use crate::action::address;
 use crate::engine::Engine;
@@ -28,18 +27,19 @@ pub(crate) fn perform(
     memory: &mut [u64],
     registers: &mut [u64],
 )
-    requires within { IsTrue (is_op_within engine.now.shape.modulus (plain_op op.now) (length values.now)) }
+    requires within { OpIsWithin engine.now op.now (length values.now) }
     requires fits { StepFits (header_of engine.now) (step_by engine.now op.now values.now proc) }
     requires memory { length memory.old ≡ 4 * engine.now.shape.room }
     requires file { length registers.old ≡ engine.now.shape.regs * engine.now.shape.lanes }
     requires residues { (k : ℕ) → slice_index registers.old k < engine.now.shape.modulus }
-    ensures memory { memory.new ≡ (performed engine.now op.now values.now proc memory.old registers.old).memory }
+    ensures memory { memory.new
+        ≡ (performed engine.now op.now values.now proc memory.old registers.old).memory }
     ensures registers { registers.new
         ≡ (performed engine.now op.now values.now proc memory.old registers.old).registers }
 {
     let shape = &engine.shape;
     let lanes = shape.lanes;
-    // Two tests tell loads and stores, and one jump the others: with more arms here it is two jumps.
+    // Two tests tell loads and stores, and one jump the others: more arms make it two jumps.
     match op {
         Op::Load {
             register,
@@ -80,7 +80,7 @@ pub(crate) fn counted(op: &Op, lanes: u64, before: Counts) -> Counts
 #[inline]
 fn perform_on_registers(engine: &Engine, op: &Op, values: &[u64], proc: u64, registers: &mut [u64])
     requires on_registers { IsOnRegisters (plain_op op.now) }
-    requires within { IsTrue (is_op_within engine.now.shape.modulus (plain_op op.now) (length values.now)) }
+    requires within { OpIsWithin engine.now op.now (length values.now) }
     requires fits { StepFits (header_of engine.now) (step_by engine.now op.now values.now proc) }
     requires file { length registers.old ≡ engine.now.shape.regs * engine.now.shape.lanes }
     requires residues { (k : ℕ) → slice_index registers.old k < engine.now.shape.modulus }

@@ -43,8 +43,8 @@ pub(crate) fn first_busy(phases: &[Routine], from: u64) -> u64
     phase
 }
 
-/// Where no action is left in the phase, nothing is done of the next one that has an action. The result
-/// is the phase. The processor is asked first, so that most calls look at no other.
+/// Where no action is left in the phase, nothing is done of the next one that has an action. The
+/// result is the phase. The processor is asked first, so that most calls look at no other.
 #[inline]
 pub(crate) fn settle(
     phases: &[Routine],
@@ -55,8 +55,10 @@ pub(crate) fn settle(
 ) -> u64
     requires proc { proc < length done.old }
     requires phase { phase < length phases.now }
-    ensures phase { OfCode phases.now done.old (λ code. result ≡ settled_phase code (length phases.now) phase done.old) }
-    ensures done { OfCode phases.now done.old (λ code. done.new ≡ settled_done code phase done.old) }
+    ensures phase { OfCode phases.now done.old
+        (λ code. result ≡ settled_phase code (length phases.now) phase done.old) }
+    ensures done { OfCode phases.now done.old
+        (λ code. done.new ≡ settled_done code phase done.old) }
     ensures processors { OfCode phases.now done.old (λ code. processors.new
         ≡ (if is_open code phase done.old then processors.old else map rewound processors.old)) }
     ensures within { result ≤ length phases.now }

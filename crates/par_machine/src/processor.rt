@@ -1,10 +1,10 @@
 // A processor of the machine.
 
 ghost use Rattle.std.specs.Prelude.{◌≡◌, map, IfOk, All};
-ghost use Rattle.par_machine.specs.Hand.{step_at, action_of_step, Runs};
+ghost use Rattle.par_machine.specs.Hand.{action_of_step, Runs};
 ghost use Rattle.par_machine.specs.Header.{header_of};
 ghost use Rattle.par_machine.specs.Instruction.{IsClosed, IsWithin};
-ghost use Rattle.par_machine.specs.Played.{CanPlay, playing, played};
+ghost use Rattle.par_machine.specs.Played.{CanPlay, playing, played, step_here};
 ghost use Rattle.par_machine.specs.Processors.{fresh, as_new, rewound};
 
 use crate::action::action_of;
@@ -92,8 +92,8 @@ impl Processor {
     pub(crate) fn action(&self, engine: &Engine, code: &[Instruction], proc: u64) -> Action
         requires closed { All IsClosed code.now }
         requires within { All (IsWithin engine.now.shape.modulus) code.now }
-        requires runs { Runs (header_of engine.now) (step_at (header_of engine.now) code.now proc self.now.place) }
-        ensures { result ≡ action_of_step (step_at (header_of engine.now) code.now proc self.now.place) }
+        requires runs { Runs (header_of engine.now) (step_here engine.now code.now proc self.now) }
+        ensures { result ≡ action_of_step (step_here engine.now code.now proc self.now) }
     {
         match &code[self.at as usize] {
             Instruction::Act { op, depth } => {
@@ -112,7 +112,8 @@ impl Processor {
         count: u64,
         memory: &mut [u64],
     )
-        requires { CanPlay (header_of engine.now) code.now proc count (playing memory.old self.old) }
+        requires { CanPlay (header_of engine.now) code.now proc count
+            (playing memory.old self.old) }
         ensures { playing memory.new self.new
             ≡ played (header_of engine.now) code.now proc count (playing memory.old self.old) }
     {

@@ -20,7 +20,8 @@ pub(crate) fn scale_by_constant(
     requires named { (register < shape.now.regs) × (source < shape.now.regs) }
     requires file { length registers.old ≡ shape.now.regs * shape.now.lanes }
     requires residues { (k : ℕ) → slice_index registers.old k < shape.now.modulus }
-    requires factors { All (λ c. c < shape.now.modulus) (lane_factors shape.now.lanes (λ _. factor)) }
+    requires factors { All (λ c. c < shape.now.modulus)
+        (lane_factors shape.now.lanes (λ _. factor)) }
     ensures { registers.new ≡ scaled shape.now register source
         (lane_factors shape.now.lanes (λ _. factor)) registers.old }
 {
@@ -48,7 +49,8 @@ pub(crate) fn scale_by_entries(
     requires file { length registers.old ≡ shape.now.regs * shape.now.lanes }
     requires residues { (k : ℕ) → slice_index registers.old k < shape.now.modulus }
     requires inside { at + step * (shape.now.lanes - 1) < length entries.now }
-    requires factors { All (λ c. c < shape.now.modulus) (table_factors shape.now.lanes entries.now at step) }
+    requires factors { All (λ c. c < shape.now.modulus)
+        (table_factors shape.now.lanes entries.now at step) }
     ensures { registers.new ≡ scaled shape.now operands.0 operands.1
         (table_factors shape.now.lanes entries.now at step) registers.old }
 {

@@ -1,4 +1,4 @@
-use Rattle.std.proofs.Common.{◌≡◌, ◌<◌, ◌≤◌, ◌-◌, ◌∙◌, ap, sym, subst, arith, rules, take, length, length-take-le}
+use Rattle.std.proofs.Common.{◌≡◌, ◌<◌, ◌-◌, ◌∙◌, ap, sym, subst, arith, rules, take, length, length-take-le}
 use Rattle.std.specs.Prelude.{IsTrue}
 use Rattle.icode.specs.declared.action.Action.{Action}
 use Rattle.icode.specs.Limits.{is_op_within}
