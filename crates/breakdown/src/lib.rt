@@ -145,6 +145,3 @@ pub fn expansion_is_transform()
     good_thomas();
     split();
 }
-
-#[cfg(test)]
-mod tests;

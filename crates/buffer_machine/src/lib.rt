@@ -7,8 +7,6 @@ mod play;
 mod queue;
 mod registers;
 mod settle;
-#[cfg(test)]
-mod tests;
 mod values;
 
 pub use icode::event::{Drained, Event, Turned};

@@ -14,6 +14,3 @@ pub use lines::read_c_line;
 pub use printing::print_c;
 pub use reading::{CFault, read_c};
 pub use tables::read_c_table;
-
-#[cfg(test)]
-mod tests;

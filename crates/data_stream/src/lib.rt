@@ -7,6 +7,3 @@ mod write;
 
 pub use vectors::{DataFault, Next, Vectors};
 pub use write::write_vector;
-
-#[cfg(test)]
-mod tests;

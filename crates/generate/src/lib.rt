@@ -150,6 +150,3 @@ fn tree_program(alloc: Global, c: &Ctx, tree: &Tree) -> Result<Program, NoMemory
     let program = emit(alloc, c, &merged)?;
     Ok(program)
 }
-
-#[cfg(test)]
-mod tests;

@@ -1,6 +1,6 @@
 -- The events that finish a run with store buffers, one by one.
-use Rattle.std.proofs.Common.{◌≡◌, ℕ, zero, suc, ◌+◌, ◌-◌, ◌<◌, ◌≤◌, ◌≢◌, ◌⊎◌, List, [], ◌∷◌, ◌++◌, Bool, true, false, cond, length, drop, flat_map, replicate, Option, Some, None, refl, sym, ap, ap₂, ◌∙◌, subst, arith, inl, inr, ⊎_elim, get_or-set_same, get_or-set_other, length-set, length-append, le_refl, nat_lt}
-use Rattle.std.specs.Prelude.{slice_get, slice_index, slice_index_or, slice_set}
+use Rattle.std.proofs.Common.{◌≡◌, ℕ, zero, suc, ◌+◌, ◌<◌, ◌≤◌, ◌≢◌, ◌⊎◌, List, [], ◌∷◌, ◌++◌, Bool, true, false, cond, length, drop, flat_map, replicate, Option, Some, None, refl, sym, ap, ap₂, ◌∙◌, subst, arith, inl, inr, ⊎_elim, get_or-set_same, get_or-set_other, length-set, length-append, le_refl}
+use Rattle.std.specs.Prelude.{slice_get, slice_index, slice_index_or}
 use Rattle.std.specs.List.{range_with_len}
 use Rattle.std.proofs.lemmas.Bool.{cases_eq, cases_lt, cases_Bool, false≢true, le-ltb}
 use Rattle.std.proofs.lemmas.List.{ext_get_or, get_or-replicate, length-replicate}
@@ -8,11 +8,11 @@ use Rattle.icode.specs.declared.action.Action.{Action}
 use Rattle.icode.specs.declared.action.Action.TheVariants.{Store}
 use Rattle.icode.specs.declared.event.Event.{Event}
 use Rattle.icode.specs.declared.event.Event.TheVariants.{Turn, Drain}
-use Rattle.icode.specs.Machine.{Code, IsCode, State, acts, is_open, none_done, next_action, first_open, phases_after, moved_on}
+use Rattle.icode.specs.Machine.{Code, IsCode, State, acts, is_open, none_done, next_action, first_open, phases_after}
 use Rattle.icode.specs.Buffers.{Waiting, Buffered, queue_of, some_wait, stored, stores_among, rest_of_processor, buffered_moved_on, buffered_acted, buffered_turn_with, buffered_turn, written, drain_with, drain, buffered_step, buffered_run, none_waiting, buffered_start, buffered_rest, buffered_phases, buffered_completion, buffered_finished, IsIdle, IsBusy}
 use Rattle.icode.proofs.Completion.{first_opens}
-use Rattle.icode.proofs.End.{IsOver, none_done-zero}
-use Rattle.icode.proofs.Runs.{closed_over, past_over, not_open, first_open-open, first_open-closed, has_action, none_left}
+use Rattle.icode.proofs.End.{IsOver}
+use Rattle.icode.proofs.Open.{closed_over, past_over, not_open, first_open-open, first_open-closed, first_is, has_action, none_left}
 use Rattle.icode.proofs.Waiting.{none_waits, one_waits, all_empty}
 
 -- Lists, processor by processor
@@ -61,12 +61,7 @@ module _ (code : Code) (is : IsCode code) where
   -- What turns and drains keep
 
   pub first_within : (n phase : ℕ) → first_open code n phase ≤ n + phase
-  first_within zero phase = omega arith
-  first_within (suc n) phase =
-      ⊎_elim
-      (λ (o : is_open code phase (none_done code) ≡ true). omega (arith, first_open-open code n phase o))
-      (λ (o : is_open code phase (none_done code) ≡ false). omega (arith, first_open-closed code n phase o, first_within n (phase + 1)))
-      (cases_Bool (is_open code phase (none_done code)))
+  first_within n phase = (first_is code n phase).high
 
   next_of : State → State
   next_of s = record { memory = s.memory; registers = s.registers; phase = first_open code (phases_after code s.phase) (s.phase + 1); done = none_done code }

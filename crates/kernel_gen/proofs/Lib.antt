@@ -9,7 +9,6 @@ pub mod Sizes
 pub mod Kernels
 pub mod NodeCosts
 pub mod RequestNodes
-pub mod Worked
 pub mod Writes
 pub mod Turns
 pub mod Parts

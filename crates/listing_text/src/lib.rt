@@ -15,6 +15,3 @@ pub use drafts::{Refusal, blank, entered, with_act, with_table};
 pub use listing::{ListingFault, cut_line, read_listing};
 pub use printing::{print_listing, put, put_array, put_expr, put_header};
 pub use reading::read_place;
-
-#[cfg(test)]
-mod tests;

@@ -33,7 +33,6 @@ pub mod PassesStore
 pub mod Wholes
 pub mod RootDealt
 pub mod Counts
-pub mod Worked
 pub mod Walks
 pub mod TreePlaces
 pub mod Listing

@@ -299,6 +299,3 @@ pub fn places_are_values()
 pub fn passes_store()
     ensures { PassesStore }
 {}
-
-#[cfg(test)]
-mod tests;

@@ -12,8 +12,6 @@ mod phase;
 mod place;
 mod processor;
 mod scale;
-#[cfg(test)]
-mod tests;
 
 pub use icode::event::Turned;
 pub use machine::Machine;

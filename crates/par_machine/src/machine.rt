@@ -259,6 +259,14 @@ impl Machine {
         self.engine.shape.lanes
     }
 
+    /// The number of words of a vector.
+    pub fn size(&self) -> u64
+        ensures value { result ≡ self.now.code.size }
+        ensures some { 0 < result }
+    {
+        self.engine.shape.size
+    }
+
     /// The number of words of memory.
     pub fn span(&self) -> u64
         ensures value { result ≡ 4 * padded self.now.code }

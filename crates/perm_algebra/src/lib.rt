@@ -199,28 +199,3 @@ impl IndexRule {
         ensures { Holds self }
     {}
 }
-
-#[cfg(test)]
-mod tests {
-    use super::*;
-    use std::test::Fail;
-
-    // A variable at a stride permutation, and a row and a column of it.
-    #[test]
-    fn sums(rt: HostRuntime) -> Result<(), Fail> {
-        let alloc = rt.alloc();
-        let turn = Index::StridePermutation(2, 3);
-        let end = Box::new(alloc, Affine::Constant(0))?;
-        let place = Affine::Variable(1, 0, end);
-        let sum = simplify(alloc, &turn, &place, &[6])?;
-        let text = format!(in alloc; "{sum}")?;
-        assert_eq!(rt; text.as_str(), "0+(0+v0*1)%3*2+(0+v0*1)/3*1");
-        let end = Box::new(alloc, Affine::Constant(0))?;
-        let column = Box::new(alloc, Affine::Variable(1, 1, end))?;
-        let place = Affine::Variable(3, 0, column);
-        let sum = simplify(alloc, &turn, &place, &[2, 3])?;
-        let text = format!(in alloc; "{sum}")?;
-        assert_eq!(rt; text.as_str(), "0+v1*2+v0*1");
-        Ok(())
-    }
-}

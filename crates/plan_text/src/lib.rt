@@ -80,6 +80,3 @@ pub fn print_plan(
     text.extend_from_slice(b"\n")?;
     Ok(text)
 }
-
-#[cfg(test)]
-mod tests;

@@ -133,26 +133,3 @@ impl QuickModulus {
         self.divisor.rest(scaled as u128 * b as u128) >> self.shift
     }
 }
-
-#[cfg(test)]
-mod tests {
-    use super::*;
-    use std::test::Fail;
-
-    // Values by Python's integers.
-    #[test]
-    fn products(rt: HostRuntime) -> Result<(), Fail> {
-        let m = QuickModulus::new(Modulus::new(4611686018427387903).ok_or("a modulus")?);
-        assert_eq!(rt; m.mul(4611686018427387902, 4611686018427387902), 1);
-        assert_eq!(rt;
-            m.mul(1234567890123456789, 3456789012345678901),
-            2528027654149735671
-        );
-        let m = QuickModulus::new(Modulus::new(12289).ok_or("a modulus")?);
-        assert_eq!(rt; m.mul(12288, 12288), 1);
-        assert_eq!(rt; m.mul(6789, 1234), 8817);
-        let m = QuickModulus::new(Modulus::new(2).ok_or("a modulus")?);
-        assert_eq!(rt; m.mul(1, 1), 1);
-        Ok(())
-    }
-}

@@ -8,10 +8,8 @@ mod request;
 mod schedule;
 
 pub use fault::{Field, RequestFault};
+pub use generator::next_state;
 pub use icode::event::Event;
 pub use mix::{Mix, MixFault, read_mix};
 pub use request::read_request;
 pub use schedule::{Schedule, ScheduleFault, read_schedule};
-
-#[cfg(test)]
-mod tests;

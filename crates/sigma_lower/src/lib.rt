@@ -305,6 +305,3 @@ pub fn plain_terms()
 pub fn shared_terms()
     ensures { SharedTerms }
 {}
-
-#[cfg(test)]
-mod tests;

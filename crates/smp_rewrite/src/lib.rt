@@ -15,9 +15,6 @@ ghost use Rattle.smp_rewrite.specs.Laws.{IsShaped, MovesLines, SmpCosts, SmpShap
 ghost use Rattle.smp_rewrite.specs.Smp.{PlainFactor, smp_on, smp_share, within};
 ghost use Rattle.smp_rewrite.specs.Views.{plain_factor, plain_smp};
 
-#[cfg(test)]
-mod tests;
-
 use memory::NoMemory;
 use std::alloc::Global;
 use steps::{Core, Step, steps_of_tree};

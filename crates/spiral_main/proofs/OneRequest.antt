@@ -48,6 +48,7 @@ means_once (named.trace word) a b p q = p.2 ∙ ap command.Trace (schedule_once 
 means_once named.cert a b p q = p ∙ sym q
 means_once named.check a b p q = p ∙ sym q
 means_once (named.sample number word) a b p q = p.4 ∙ ap₂ command.Sample (some_same p.0 q.0 (sym p.2 ∙ q.2)) (schedule_once word p.1 q.1 p.3 q.3) ∙ sym q.4
+means_once (named.exec word) a b p q = p.2 ∙ ap command.Exec (schedule_once word p.0 q.0 p.1 q.1) ∙ sym q.2
 
 pub asked_once : (words : List (List ℕ)) (a b : Command) → IsAsked words a → IsAsked words b → a ≡ b
 asked_once words a b p q =

@@ -67,7 +67,7 @@ good_counts request code state vector turns good in_range ran =
     let is : IsCode code = subst IsCode (sym good.4) (code_is p) in
     let apart : (phase : ℕ) → IsApart code phase = λ phase. subst (λ (k : Code). IsApart k phase) (sym good.4) (good.3.apart phase) in
     let whole : (q : ℕ) → counts_so_far code state q ≡ whole_counts (code_of good.1) q = λ q.
-    ap (λ s. counts_so_far code s q) ran ∙ counts_of_runs code is apart vector turns q ∙ ap (λ (k : Code). whole_counts k q) good.4 in
+    ap (λ s. counts_so_far code s q) ran ∙ counts_of_runs code is vector turns q ∙ ap (λ (k : Code). whole_counts k q) good.4 in
     let same : (pick : Counts → ℕ) → sum_below code.procs (λ q. pick (counts_so_far code state q)) ≡ sum_below p.procs (λ q. pick (whole_counts (code_of good.1) q)) = λ pick.
     ap (λ (k : Code). sum_below k.procs (λ q. pick (counts_so_far code state q))) good.4 ∙ sum_below-same p.procs _ _ (λ q _. ap pick (whole q)) in
     let small : (actions : List Action) → AreSmall (length actions * p.lanes) (counts_of p.lanes actions) = counts_small p.lanes in
@@ -107,7 +107,7 @@ sampled request code after plan m n seed vector y state sum counts text good in_
     let fits : IsVector request vector = subst (IsVector request) (sym here) (sample_fits request seed in_range) in
     let times : y ≡ product request vector = run ∙ ap (λ k. results k vector turns) good.4 ∙ good.3.product vector turns fits (good_turns plan request code good in_range none) in
     let of_request : m ≡ request.modulus = modulus ∙ ap (λ (k : Code). k.modulus) good.4 ∙ good.3.header.modulus in
-    let whole : (q : ℕ) → counts_so_far code state q ≡ whole_counts code q = λ q. ap (λ s. counts_so_far code s q) ran ∙ counts_of_runs code is apart vector turns q in
+    let whole : (q : ℕ) → counts_so_far code state q ≡ whole_counts code q = λ q. ap (λ s. counts_so_far code s q) ran ∙ counts_of_runs code is vector turns q in
     let some : 0 < (code_of program).procs = omega (arith, good.3.header.procs, in_range.procs.0) in
     let share : (q : ℕ) → q < (code_of program).procs → (code_of program).procs * (whole_counts (code_of program) q).operations ≡ cost_of request good.0 =
     λ q below. ap (λ n. n * (whole_counts (code_of program) q).operations) good.3.header.procs ∙ good.3.operations q (subst (λ n. q < n) good.3.header.procs below) in

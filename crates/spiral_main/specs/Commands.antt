@@ -6,7 +6,7 @@ use Rattle.request_text.specs.Schedule.{Plan as Turns, Sequential}
 use Rattle.request_text.specs.Turns.{named}
 use Rattle.spiral_words.specs.Asked.{IsAsked, IsUsage}
 use Rattle.spiral_words.specs.declared.Command.{Command}
-use Rattle.spiral_words.specs.declared.Command.TheVariants.{Plan, Formula, Cert, Check, Code, C, Run, Trace, Sample}
+use Rattle.spiral_words.specs.declared.Command.TheVariants.{Plan, Formula, Cert, Check, Code, C, Run, Trace, Sample, Exec}
 use Rattle.spiral_main.specs.Stage.{Stage}
 use Rattle.spiral_main.specs.declared.status.Status.{Status}
 use Rattle.spiral_main.specs.declared.status.Status.TheVariants.{Usage, Turn, NoMemory}
@@ -15,7 +15,13 @@ use Rattle.spiral_main.specs.declared.status.Status.TheVariants.{Usage, Turn, No
 abbrev pub reads_data : Command → Bool
 reads_data (Run schedule) = true
 reads_data (Trace schedule) = true
+reads_data (Exec schedule) = true
 reads_data _ = false
+
+-- the commands that go by a request, which the first line of the input spells
+abbrev pub takes_request : Command → Bool
+takes_request (Exec schedule) = false
+takes_request _ = true
 
 -- the command that judges a certificate
 abbrev pub reads_certificate : Command → Bool
@@ -43,14 +49,18 @@ prints_one_text C = false
 prints_one_text (Trace schedule) = false
 prints_one_text _ = true
 
--- the command that the words ask for
+-- the command that the words ask for, if it goes by a request
 abbrev pub commanded : List (List ℕ) → Stage Command
-commanded words (Ok command) = IsAsked words command
+commanded words (Ok command) = IsAsked words command × (takes_request command ≡ true)
 commanded words (Err status) = (status ≡ Usage) × IsUsage words
 
 -- the words ask for a command
 abbrev pub AskForCommand : List (List ℕ) → Type 0
 AskForCommand words = (command : Command) × IsAsked words command
+
+-- the words ask for a command that goes by a request
+abbrev pub AskForRequest : List (List ℕ) → Type 0
+AskForRequest words = (command : Command) × commanded words (Ok command)
 
 -- The words are judged first and alone: they are no command line, and the status is Usage, or they ask for a command, and it is another; or memory runs out
 abbrev pub AreJudged : List (List ℕ) → Status → Type 0
@@ -65,16 +75,18 @@ abbrev pub schedule_of : Command → Turns
 schedule_of (Run schedule) = schedule
 schedule_of (Trace schedule) = schedule
 schedule_of (Sample seed schedule) = schedule
+schedule_of (Exec schedule) = schedule
 schedule_of _ = Sequential
 
 -- the first turn that the schedule names of a processor that is not there
 abbrev pub stranger : Turns → ℕ → Option ℕ
 stranger schedule procs = find (λ q. nat_le procs q) (named schedule)
 
-abbrev pub admitted : Option ℕ → Request → Result Request Status
-admitted None request = Ok request
-admitted (Some q) request = Err (Turn q request.procs)
+-- what goes on, if there is no stranger to so many processors
+abbrev pub admitted : {A : Type 0} → Option ℕ → ℕ → A → Result A Status
+admitted None procs value = Ok value
+admitted (Some q) procs value = Err (Turn q procs)
 
 -- the request, if each turn is of one of its processors
 abbrev pub scheduled : Command → Request → Result Request Status
-scheduled command request = admitted (stranger (schedule_of command) request.procs) request
+scheduled command request = admitted (stranger (schedule_of command) request.procs) request.procs request

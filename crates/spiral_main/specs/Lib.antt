@@ -2,6 +2,7 @@ pub mod Checked
 pub mod Commands
 pub mod Fault
 pub mod Line
+pub mod Listed
 pub mod Outcome
 pub mod Right
 pub mod Sample

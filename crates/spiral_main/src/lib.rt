@@ -14,7 +14,9 @@ ghost use Rattle.spiral_main.specs.Right.{IsRightCall, Succeeds};
 mod ask;
 mod check;
 mod data;
+mod exec;
 mod line;
+mod note;
 mod plans;
 mod run;
 mod sample;
@@ -45,6 +47,3 @@ pub fn right_calls_succeed()
         → Accounts words bytes left before after status → status ≢ ReadFault → status ≢ WriteFault
         → (status ≡ NoMemory) ⊎ Succeeds words bytes before after status }
 {}
-
-#[cfg(test)]
-mod tests;

@@ -1,5 +1,5 @@
 -- Words name no command only where clap refuses them, and then they ask for nothing.
-use Rattle.std.proofs.Common.{◌≡◌, ◌⊎◌, List, [], ◌∷◌, Bool, true, false, Option, Some, None, is_some, option_map, find, refl, sym, ap, subst, ◌∙◌, inl, inr, arith}
+use Rattle.std.proofs.Common.{◌≡◌, ◌⊎◌, ℕ, List, [], ◌∷◌, Bool, true, false, Option, Some, None, is_some, option_map, find, refl, sym, ap, subst, ◌∙◌, inl, inr, arith}
 use Rattle.std.proofs.lemmas.Bool.Decides.{nat_tests}
 use Rattle.clap.specs.Words.{App, Shape, Row, Text, Kinds, built, fault_of, subcommand_of}
 use Rattle.clap.specs.Kinds.{or_else}
@@ -8,8 +8,10 @@ use Rattle.clap.specs.Simple.{argument_words, names_of, label_of, entered, rows_
 use Rattle.clap.specs.Walk.{is_empty, nothing_held, walk, walk_from, finished, settled, answers_to, rows_after, stop_after}
 use Rattle.spiral_words.specs.CommandLine.{spiral_app}
 use Rattle.spiral_words.specs.declared.command.Command.{Command}
-use Rattle.spiral_words.specs.Named.{NamedTexts, plan, formula, code, c, run, trace, cert, check, sample, named_by, named_in, named_of}
-use Rattle.spiral_words.specs.Asked.{Means, HasOtherText, IsAsked, IsUsage}
+use Rattle.spiral_words.specs.declared.command.Order.{Order}
+use Rattle.spiral_words.specs.declared.command.Order.TheVariants as order
+use Rattle.spiral_words.specs.Named.{NamedTexts, plan, formula, code, c, run, trace, cert, check, sample, exec, named_by, named_in, named_of}
+use Rattle.spiral_words.specs.Asked.{SpellsOrder, IsNoOrder, Means, HasOtherText, IsAsked, IsUsage}
 
 none_of : (kinds : Kinds) → is_empty kinds ≡ true → kinds ≡ []
 none_of [] h = refl
@@ -67,7 +69,7 @@ known =
               λ rows. there rows cert,
               (
                 λ rows. there rows check,
-                (λ rows e. absurd (cc), (λ rows e. absurd (cc), (λ rows e. absurd (cc), tt))),
+                (λ rows e. absurd (cc), (λ rows e. absurd (cc), (λ rows e. absurd (cc), (λ rows e. absurd (cc), tt)))),
               ),
             ),
           ),
@@ -96,11 +98,20 @@ refuses words h = at (is_empty (fault_of spiral_app words)) refl
 some_same : (a b : NamedTexts) → Some a ≡ Some b → a ≡ b
 some_same a b e = cc
 
+no_order : (buffers : Bool) (word : Text) (order : Order) → IsNoOrder buffers word → SpellsOrder buffers word order → ⊥
+no_order false word (order.Turns schedule) none spells = none schedule spells
+no_order false word (order.Buffered schedule) none spells = spells
+no_order false word (order.Mixed events) none spells = spells
+no_order true word (order.Turns schedule) none spells = spells
+no_order true word (order.Buffered schedule) none spells = none.0 schedule spells
+no_order true word (order.Mixed events) none spells = none.1 events spells
+
 other_means_nothing : (named : NamedTexts) (command : Command) → HasOtherText named → Means named command → ⊥
-other_means_nothing (run word) command other means = other means.0 means.1
-other_means_nothing (trace word) command other means = other means.0 means.1
-other_means_nothing (sample number word) command (inl none) means = absurd (let some = means.2 in cc)
+other_means_nothing (run buffers word) command other means = no_order buffers word means.0 other means.1
+other_means_nothing (trace buffers word) command other means = no_order buffers word means.0 other means.1
+other_means_nothing (sample number word) command (inl none) means = none means.0 means.2
 other_means_nothing (sample number word) command (inr other) means = other means.1 means.3
+other_means_nothing (exec word) command other means = other means.0 means.1
 other_means_nothing _ command other means = absurd other
 
 pub usage_nothing : (words : List Text) (command : Command) → IsUsage words → IsAsked words command → ⊥

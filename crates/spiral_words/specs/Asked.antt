@@ -1,25 +1,50 @@
 -- What the words of a command line ask for.
-use Rattle.std.specs.Prelude.{◌≡◌, ◌⊎◌, ℕ, ◌^◌, ◌&&◌, ◌||◌, ◌==◌, List, Bool, not, nat_lt, length, slice_index, Option, Some, None, if◌then◌else◌}
-use Rattle.std.specs.List.{list_all}
-use Rattle.std.specs.Char.{is_ascii_digit}
-use Rattle.std.specs.Str.Parse.{digits_value}
+use Rattle.std.specs.Prelude.{◌≡◌, ◌⊎◌, ℕ, ◌^◌, List, Bool, true, false, Some, None}
+use Rattle.grammar.specs.Grammar.{number}
 use Rattle.clap.specs.Words.{Text}
+use Rattle.icode.specs.declared.event.Event.{Event}
+use Rattle.request_text.specs.Mix.{mix_word}
 use Rattle.request_text.specs.Schedule.{Plan, schedule_word}
 use Rattle.spiral_words.specs.declared.command.Command.{Command}
 use Rattle.spiral_words.specs.declared.command.Command.TheVariants as command
-use Rattle.spiral_words.specs.Named.{NamedTexts, plan, formula, code, c, run, trace, cert, check, sample, named_of}
+use Rattle.spiral_words.specs.declared.command.Order.{Order}
+use Rattle.spiral_words.specs.declared.command.Order.TheVariants as order
+use Rattle.spiral_words.specs.Named.{NamedTexts, plan, formula, code, c, run, trace, cert, check, sample, exec, named_of}
 
--- digits with no leading zero
-abbrev pub is_spelled : List ℕ → Bool
-is_spelled word = nat_lt 0 (length word) && (list_all is_ascii_digit word && (not (slice_index word 0 == 48) || length word == 1))
+-- ---- seeds
 
--- the seed that a word is
-abbrev pub seed_of : List ℕ → Option ℕ
-seed_of word = if is_spelled word && nat_lt (digits_value 10 word) (2 ^ 64) then Some (digits_value 10 word) else None
+-- a number below 2^64
+abbrev pub seed_word : List ℕ → ℕ → Type 0
+seed_word = number (2 ^ 64)
+
+-- the word spells no seed
+abbrev pub IsNoSeed : List ℕ → Type 0
+IsNoSeed word = (seed : ℕ) → seed_word word seed → ⊥
+
+-- ---- schedules
 
 -- the word spells no schedule
 abbrev pub IsNoSchedule : List ℕ → Type 0
 IsNoSchedule word = (schedule : Plan) → schedule_word word schedule → ⊥
+
+-- it names no turns and drains
+abbrev pub IsNoMix : List ℕ → Type 0
+IsNoMix word = (events : List Event) → mix_word word events → ⊥
+
+-- the word spells this order: a schedule, or with buffers turns and drains too
+abbrev pub SpellsOrder : Bool → List ℕ → Order → Type 0
+SpellsOrder false word (order.Turns schedule) = schedule_word word schedule
+SpellsOrder false word (order.Buffered schedule) = ⊥
+SpellsOrder false word (order.Mixed events) = ⊥
+SpellsOrder true word (order.Turns schedule) = ⊥
+SpellsOrder true word (order.Buffered schedule) = schedule_word word schedule
+SpellsOrder true word (order.Mixed events) = mix_word word events
+
+abbrev pub IsNoOrder : Bool → List ℕ → Type 0
+IsNoOrder false word = IsNoSchedule word
+IsNoOrder true word = IsNoSchedule word × IsNoMix word
+
+-- ---- commands
 
 -- the command, with what the texts of its options spell
 abbrev pub Means : NamedTexts → Command → Type 0
@@ -27,17 +52,20 @@ Means plan asked = asked ≡ command.Plan
 Means formula asked = asked ≡ command.Formula
 Means code asked = asked ≡ command.Code
 Means c asked = asked ≡ command.C
-Means (run word) asked = (schedule : Plan) × schedule_word word schedule × (asked ≡ command.Run schedule)
-Means (trace word) asked = (schedule : Plan) × schedule_word word schedule × (asked ≡ command.Trace schedule)
+Means (run buffers word) asked = (order : Order) × SpellsOrder buffers word order × (asked ≡ command.Run order)
+Means (trace buffers word) asked = (order : Order) × SpellsOrder buffers word order × (asked ≡ command.Trace order)
 Means cert asked = asked ≡ command.Cert
 Means check asked = asked ≡ command.Check
-Means (sample number word) asked = (seed : ℕ) × (schedule : Plan) × (seed_of number ≡ Some seed) × schedule_word word schedule × (asked ≡ command.Sample seed schedule)
+Means (sample seed_text word) asked =
+    (seed : ℕ) × (schedule : Plan) × seed_word seed_text seed × schedule_word word schedule × (asked ≡ command.Sample seed schedule)
+Means (exec word) asked = (schedule : Plan) × schedule_word word schedule × (asked ≡ command.Exec schedule)
 
 -- an option's text is outside its grammar
 abbrev pub HasOtherText : NamedTexts → Type 0
-HasOtherText (run word) = IsNoSchedule word
-HasOtherText (trace word) = IsNoSchedule word
-HasOtherText (sample number word) = (seed_of number ≡ None) ⊎ IsNoSchedule word
+HasOtherText (run buffers word) = IsNoOrder buffers word
+HasOtherText (trace buffers word) = IsNoOrder buffers word
+HasOtherText (sample seed_text word) = IsNoSeed seed_text ⊎ IsNoSchedule word
+HasOtherText (exec word) = IsNoSchedule word
 HasOtherText _ = ⊥
 
 -- the words ask for this command

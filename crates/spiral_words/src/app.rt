@@ -1,8 +1,8 @@
 // The command line, as `clap` is told of it.
-ghost use Rattle.std.specs.Prelude.{◌≡◌, IfOk, false};
+ghost use Rattle.std.specs.Prelude.{◌≡◌, [], ◌∷◌, IfOk, false};
 ghost use Rattle.clap.specs.Words.{app_of, shape_of, rule_of};
 ghost use Rattle.clap.specs.declared.Command.TheViews.{out-Command as fields_of};
-ghost use Rattle.spiral_words.specs.CommandLine.{option_rule, scheduled, sampled, bare_app, with_bare, plain_app, spiral_app};
+ghost use Rattle.spiral_words.specs.CommandLine.{option_rule, flag_rule, schedule_rule, seed_rule, buffers_rule, command, bare_app, with_bare, plain_app, running_app, spiral_app};
 
 use clap::{Arg, ArgAction, Command};
 use std::alloc::{AllocError, Global};
@@ -18,18 +18,35 @@ fn option<'a>(alloc: Global, name: &'a str, default: &'a str) -> Arg<'a>
         .default_value(default)
 }
 
+/// An option without a value.
+fn flag<'a>(alloc: Global, name: &'a str) -> Arg<'a>
+    ensures rule { rule_of result ≡ flag_rule name.now }
+    ensures local { result.global ≡ false }
+{
+    Arg::new(alloc, name).long(name).action(ArgAction::SetTrue)
+}
+
 /// A subcommand that takes a schedule.
 fn scheduled<'a>(alloc: Global, name: &'a str) -> Result<Command<'a>, AllocError>
-    ensures shape { IfOk result (λ r. shape_of r ≡ scheduled name.now) }
+    ensures shape { IfOk result (λ r. shape_of r ≡ command name.now (schedule_rule ∷ [])) }
     ensures local { IfOk result (λ r. (fields_of r).has_globals ≡ false) }
 {
     let schedule = option(alloc, "schedule", "seq");
     Command::new(alloc, name).arg(schedule)
 }
 
+/// A subcommand that takes a schedule, and may have store buffers.
+fn buffered<'a>(alloc: Global, name: &'a str) -> Result<Command<'a>, AllocError>
+    ensures shape { IfOk result (λ r. shape_of r ≡ command name.now (schedule_rule ∷ buffers_rule ∷ [])) }
+    ensures local { IfOk result (λ r. (fields_of r).has_globals ≡ false) }
+{
+    let buffers = flag(alloc, "buffers");
+    scheduled(alloc, name)?.arg(buffers)
+}
+
 /// A subcommand that takes a seed and a schedule.
 fn sampled<'a>(alloc: Global, name: &'a str) -> Result<Command<'a>, AllocError>
-    ensures shape { IfOk result (λ r. shape_of r ≡ sampled name.now) }
+    ensures shape { IfOk result (λ r. shape_of r ≡ command name.now (seed_rule ∷ schedule_rule ∷ [])) }
     ensures local { IfOk result (λ r. (fields_of r).has_globals ≡ false) }
 {
     let seed = option(alloc, "seed", "0");
@@ -70,14 +87,22 @@ fn plain<'a>(alloc: Global) -> Result<Command<'a>, AllocError>
     with_bare(alloc, cert, "check")
 }
 
-/// The whole command line.
-pub(crate) fn spiral_app<'a>(alloc: Global) -> Result<Command<'a>, AllocError>
-    ensures { IfOk result (λ r. app_of r ≡ spiral_app) }
+/// Those, and the commands that run a request's program.
+fn running<'a>(alloc: Global) -> Result<Command<'a>, AllocError>
+    ensures { IfOk result (λ r. app_of r ≡ running_app) }
 {
-    let run = scheduled(alloc, "run")?;
-    let trace = scheduled(alloc, "trace")?;
+    let run = buffered(alloc, "run")?;
+    let trace = buffered(alloc, "trace")?;
     let sample = sampled(alloc, "sample")?;
     let with_run = plain(alloc)?.subcommand(run)?;
     let with_trace = with_run.subcommand(trace)?;
     with_trace.subcommand(sample)
+}
+
+/// The whole command line.
+pub(crate) fn spiral_app<'a>(alloc: Global) -> Result<Command<'a>, AllocError>
+    ensures { IfOk result (λ r. app_of r ≡ spiral_app) }
+{
+    let exec = scheduled(alloc, "exec")?;
+    running(alloc)?.subcommand(exec)
 }

@@ -1,13 +1,14 @@
 // Commands, with their options.
-ghost use Rattle.std.specs.Prelude.{◌≡◌, Err, IfOk, map, string_bytes};
+ghost use Rattle.std.specs.Prelude.{◌≡◌, Err, IfOk, map, string_bytes, true};
+ghost use Rattle.request_text.specs.Mix.{mix_word};
 ghost use Rattle.request_text.specs.Schedule.{schedule_word};
 ghost use Rattle.spiral_words.specs.declared.command.Refusal.TheVariants.{NoMemory};
 ghost use Rattle.spiral_words.specs.Named.{texts_of};
-ghost use Rattle.spiral_words.specs.Asked.{IsNoSchedule, Means, HasOtherText, IsAsked, IsUsage};
+ghost use Rattle.spiral_words.specs.Asked.{IsNoMix, IsNoOrder, IsNoSchedule, SpellsOrder, Means, HasOtherText, IsAsked, IsUsage};
 
 use crate::line::{Named, command_found, parsed};
 use crate::seed::seed_of;
-use request_text::{Schedule, ScheduleFault, read_schedule};
+use request_text::{Mix, MixFault, Schedule, ScheduleFault, read_mix, read_schedule};
 use std::alloc::{AllocError, Global};
 
 /// What the words ask for.
@@ -17,11 +18,23 @@ pub enum Command {
     Formula,
     Code,
     C,
-    Run { schedule: Schedule },
-    Trace { schedule: Schedule },
+    Run { order: Order },
+    Trace { order: Order },
     Cert,
     Check,
     Sample { seed: u64, schedule: Schedule },
+    Exec { schedule: Schedule },
+}
+
+/// The order in which the processors of a request's program go on.
+#[derive(Debug, Drop)]
+pub enum Order {
+    /// Turns of the machine.
+    Turns(Schedule),
+    /// Turns of the machine with store buffers.
+    Buffered(Schedule),
+    /// Turns and drains of the machine with store buffers.
+    Mixed(Mix),
 }
 
 /// Why the words ask for nothing.
@@ -62,23 +75,63 @@ fn read(alloc: Global, named: Named) -> Result<Command, Refusal>
         Named::Formula => Ok(Command::Formula),
         Named::Code => Ok(Command::Code),
         Named::C => Ok(Command::C),
-        Named::Run { schedule } => {
-            let schedule = schedule_of(alloc, schedule)?;
-            Ok(Command::Run { schedule })
+        Named::Run { buffers, schedule } => {
+            let order = order_of(alloc, buffers, schedule)?;
+            Ok(Command::Run { order })
         }
-        Named::Trace { schedule } => {
-            let schedule = schedule_of(alloc, schedule)?;
-            Ok(Command::Trace { schedule })
+        Named::Trace { buffers, schedule } => {
+            let order = order_of(alloc, buffers, schedule)?;
+            Ok(Command::Trace { order })
         }
         Named::Cert => Ok(Command::Cert),
         Named::Check => Ok(Command::Check),
         Named::Sample { seed, schedule } => {
-            let Some(seed) = seed_of(seed) else {
-                return Err(Refusal::Usage);
-            };
+            let seed = seed_of(seed)?;
             let schedule = schedule_of(alloc, schedule)?;
             Ok(Command::Sample { seed, schedule })
         }
+        Named::Exec { schedule } => {
+            let schedule = schedule_of(alloc, schedule)?;
+            Ok(Command::Exec { schedule })
+        }
+    }
+}
+
+fn order_of(alloc: Global, buffers: bool, word: &str) -> Result<Order, Refusal>
+    ensures ok { IfOk result (λ order. SpellsOrder buffers word.now order) }
+    ensures usage { result ≡ Err Refusal.Usage → IsNoOrder buffers word.now }
+{
+    if buffers {
+        buffered_order(alloc, word)
+    } else {
+        let schedule = schedule_of(alloc, word)?;
+        Ok(Order::Turns(schedule))
+    }
+}
+
+/// A schedule, or turns and drains.
+fn buffered_order(alloc: Global, word: &str) -> Result<Order, Refusal>
+    ensures ok { IfOk result (λ order. SpellsOrder true word.now order) }
+    ensures usage { result ≡ Err Refusal.Usage → IsNoOrder true word.now }
+{
+    match schedule_of(alloc, word) {
+        Ok(schedule) => Ok(Order::Buffered(schedule)),
+        Err(Refusal::NoMemory) => Err(Refusal::NoMemory),
+        Err(Refusal::Usage) => {
+            let mix = mix_of(alloc, word)?;
+            Ok(Order::Mixed(mix))
+        }
+    }
+}
+
+fn mix_of(alloc: Global, word: &str) -> Result<Mix, Refusal>
+    ensures ok { IfOk result (λ mix. mix_word word.now mix) }
+    ensures usage { result ≡ Err Refusal.Usage → IsNoMix word.now }
+{
+    match read_mix(alloc, word.as_bytes()) {
+        Ok(mix) => Ok(mix),
+        Err(MixFault::Syntax { .. }) => Err(Refusal::Usage),
+        Err(MixFault::NoMemory) => Err(Refusal::NoMemory),
     }
 }
 

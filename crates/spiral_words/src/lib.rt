@@ -14,7 +14,7 @@ mod command;
 mod line;
 mod seed;
 
-pub use command::{Command, Refusal, command_of};
+pub use command::{Command, Order, Refusal, command_of};
 
 /// Words name no command only where clap refuses them.
 pub fn clap_refuses()
@@ -26,5 +26,7 @@ pub fn usage_asks_nothing()
     ensures { (words : List Text) (command : Command) → IsUsage words → IsAsked words command → ⊥ }
 {}
 
-#[cfg(test)]
-mod tests;
+/// Words ask for one command.
+pub fn words_ask_for_one_command()
+    ensures { (words : List Text) (a b : Command) → IsAsked words a → IsAsked words b → a ≡ b }
+{}

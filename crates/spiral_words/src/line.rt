@@ -1,9 +1,10 @@
 // Command lines, as clap reads them.
-ghost use Rattle.std.specs.Prelude.{◌≡◌, unwrap_or, true, false, Some, None, Err, IfOk, OnOk, option_map, map, string_bytes};
+ghost use Rattle.std.specs.Prelude.{◌≡◌, unwrap_or, true, false, Some, None, Err, IfOk, OnOk, option_map, map, string_bytes, codes};
+ghost use Rattle.std.specs.Str.{bytes_eq};
 ghost use Rattle.clap.specs.Words.{fault_of, first_of, found_of, kind_of, rows_of, subcommand_of, subcommand_rows_of};
 ghost use Rattle.clap.specs.Walk.{is_empty};
 ghost use Rattle.spiral_words.specs.CommandLine.{spiral_app};
-ghost use Rattle.spiral_words.specs.Named.{texts_of, schedule_in, seed_in, named_by, named_in};
+ghost use Rattle.spiral_words.specs.Named.{texts_of, schedule_in, seed_in, is_given, named_by, named_in};
 
 use crate::app::spiral_app;
 use crate::command::Refusal;
@@ -18,11 +19,12 @@ pub(crate) enum Named<'a> {
     Formula,
     Code,
     C,
-    Run { schedule: &'a str },
-    Trace { schedule: &'a str },
+    Run { buffers: bool, schedule: &'a str },
+    Trace { buffers: bool, schedule: &'a str },
     Cert,
     Check,
     Sample { seed: &'a str, schedule: &'a str },
+    Exec { schedule: &'a str },
 }
 
 /// What clap finds in the words.
@@ -67,15 +69,20 @@ fn named_by<'a>(name: &str, options: &ArgMatches<'a>) -> Option<Named<'a>>
         "code" => Some(Named::Code),
         "c" => Some(Named::C),
         "run" => Some(Named::Run {
+            buffers: is_given(options, "buffers"),
             schedule: schedule_in(options),
         }),
         "trace" => Some(Named::Trace {
+            buffers: is_given(options, "buffers"),
             schedule: schedule_in(options),
         }),
         "cert" => Some(Named::Cert),
         "check" => Some(Named::Check),
         "sample" => Some(Named::Sample {
             seed: option_or(options, "seed", "0"),
+            schedule: schedule_in(options),
+        }),
+        "exec" => Some(Named::Exec {
             schedule: schedule_in(options),
         }),
         _ => None,
@@ -86,6 +93,25 @@ fn schedule_in<'a>(options: &ArgMatches<'a>) -> &'a str
     ensures { result.now ≡ schedule_in (rows_of (found_of options.now)) }
 {
     option_or(options, "schedule", "seq")
+}
+
+/// Whether an option without a value is given.
+fn is_given<'a>(options: &ArgMatches<'a>, name: &str) -> bool
+    ensures { result ≡ is_given name.now (rows_of (found_of options.now)) }
+{
+    match option_in(options, name) {
+        Some(word) => is_true(word),
+        None => false,
+    }
+}
+
+fn is_true(word: &str) -> bool
+    ensures { result ≡ bytes_eq word.now (codes "true") }
+{
+    match word {
+        "true" => true,
+        _ => false,
+    }
 }
 
 /// The word of an option, or its default.

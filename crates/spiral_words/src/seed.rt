@@ -1,29 +1,28 @@
 // Seeds.
-ghost use Rattle.std.specs.Prelude.{◌≡◌};
-ghost use Rattle.std.specs.List.{list_all};
-ghost use Rattle.std.specs.Char.{is_ascii_digit};
-ghost use Rattle.spiral_words.specs.Asked.{is_spelled, seed_of};
+ghost use Rattle.std.specs.Prelude.{◌≡◌, ◌^◌, Err, IfOk};
+ghost use Rattle.grammar.specs.Cursor.{GivesAll};
+ghost use Rattle.grammar.specs.Reading.{number_at, whole};
+ghost use Rattle.spiral_words.specs.Asked.{IsNoSeed, seed_word};
 
-/// The seed that a word is: `0`, or digits with no leading zero, below 2^64.
-pub(crate) fn seed_of(word: &str) -> Option<u64>
-    ensures { result ≡ seed_of word.now }
+use crate::command::Refusal;
+use grammar::{Cursor, Stuck};
+
+/// The seed that a word is: a number below 2^64.
+pub(crate) fn seed_of(word: &str) -> Result<u64, Refusal>
+    ensures ok { IfOk result (λ seed. seed_word word.now seed) }
+    ensures usage { result ≡ Err Refusal.Usage → IsNoSeed word.now }
 {
-    if is_spelled(word.as_bytes()) {
-        word.parse::<u64>().ok()
-    } else {
-        None
+    match whole_number(word) {
+        Ok(number) => Ok(number),
+        Err(_) => Err(Refusal::Usage),
     }
 }
 
-/// Whether there are digits alone, with no leading zero.
-fn is_spelled(word: &[u8]) -> bool
-    ensures { result ≡ is_spelled word.now }
+fn whole_number(word: &str) -> Result<u64, Stuck>
+    ensures { GivesAll result (whole (number_at (2 ^ 64)) word.now) }
 {
-    !word.is_empty() && has_digits(word) && (word[0] != b'0' || word.len() == 1)
-}
-
-fn has_digits(word: &[u8]) -> bool
-    ensures { result ≡ list_all is_ascii_digit word.now }
-{
-    word.iter().all(|byte| byte.is_ascii_digit())
+    let mut cursor = Cursor::new(word.as_bytes());
+    let number = cursor.number(u64::MAX)?;
+    cursor.end()?;
+    Ok(number)
 }

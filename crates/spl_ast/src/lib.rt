@@ -112,6 +112,3 @@ impl Spl {
         self.rows()
     }
 }
-
-#[cfg(test)]
-mod tests;

@@ -10,6 +10,3 @@ mod reading;
 
 pub use printing::print_spl;
 pub use reading::{SplFault, read_spl};
-
-#[cfg(test)]
-mod tests;

@@ -1,5 +1,4 @@
 pub mod Lines
 pub mod Goes
-pub mod Examples
 mod Courses
 mod Settled

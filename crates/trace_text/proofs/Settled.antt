@@ -7,49 +7,12 @@ use Rattle.std.proofs.lemmas.Option.{slice_get-get_or}
 use Rattle.icode.specs.declared.action.Action.{Action}
 use Rattle.icode.specs.declared.action.Action.TheVariants.{Zero}
 use Rattle.icode.specs.Machine.{Code, IsCode, State, acts, is_open, none_done, next_action, first_open, phases_after, moved_on, acted, turn, turn_with, run, start, completion}
-use Rattle.icode.proofs.Completion.{completion_step, completion_past, first_opens}
-use Rattle.icode.proofs.Runs.{not_open}
+use Rattle.icode.proofs.Completion.{completion_step, completion_past}
+use Rattle.icode.proofs.Open.{IsSettled, not_open, turn_settled, run_settled, starts_settled}
 use Rattle.trace_text.specs.Course.{EachActs}
 use Rattle.trace_text.proofs.Courses.{one_more_acts, none_act}
 
--- the phase is open, or all phases are done
-record IsSettled (code : Code) (s : State) : Type 0 where
-  dones : length s.done ≡ code.procs
-  opens : s.phase < length code.lists → is_open code s.phase s.done ≡ true
-
 module _ (code : Code) (is : IsCode code) where
-  settled_acted : (s : State) → length s.done ≡ code.procs → IsSettled code (moved_on code s)
-  settled_acted s dones = at (is_open code s.phase s.done) refl
-    where
-      next : State
-      next = record { memory = s.memory; registers = s.registers; phase = first_open code (phases_after code s.phase) (s.phase + 1); done = none_done code }
-
-      at : (b : Bool) → is_open code s.phase s.done ≡ b → IsSettled code (cond b s next)
-      at true o = record { dones = dones; opens = λ lt. o }
-      at false o =
-          record {
-            dones = length-replicate code.procs 0;
-            opens = λ lt. first_opens code is (phases_after code s.phase) (s.phase + 1) (omega arith);
-          }
-
-  settled_turn : (s : State) (q : ℕ) → IsSettled code s → IsSettled code (turn code s q)
-  settled_turn s q h = at (next_action code s q)
-    where
-      at : (o : Option Action) → IsSettled code (turn_with code q s o)
-      at None = h
-      at (Some action) = settled_acted (acted code q action s) (length-set s.done q (suc (slice_index s.done q)) ∙ h.dones)
-
-  settled_run : (turns : List ℕ) (s : State) → IsSettled code s → IsSettled code (run code s turns)
-  settled_run [] s h = h
-  settled_run (q ∷ turns) s h = settled_run turns (turn code s q) (settled_turn s q h)
-
-  settled_start : (x : List ℕ) → IsSettled code (start code x)
-  settled_start x =
-      record {
-        dones = length-replicate code.procs 0;
-        opens = λ lt. first_opens code is (length code.lists) 0 (omega arith);
-      }
-
   -- the first processor from here on with an action left, or that there is none
   first_with : (s : State) (n first : ℕ) → first + n ≡ code.procs → ((q : ℕ) → q < first → length (acts code s.phase q) ≤ slice_index s.done q)
       → ((who : ℕ) × (who < code.procs) × (slice_index s.done who < length (acts code s.phase who)) × ((q : ℕ) → q < who → length (acts code s.phase q) ≤ slice_index s.done q))
@@ -80,11 +43,11 @@ module _ (code : Code) (is : IsCode code) where
       (λ (within : s.phase < length code.lists).
       let next = next_turn s h within in
       let t : State = turn code s next.0 in
-      one_more_acts code s t next.0 next.1 refl (all_act n t (omega (arith, lt, ap length next.1)) (settled_turn s next.0 h)))
+      one_more_acts code s t next.0 next.1 refl (all_act n t (omega (arith, lt, ap length next.1)) (turn_settled code is s next.0 h)))
       (λ (past : length code.lists ≤ s.phase). none_act code s (completion_past code is s past))
       (cases_lt s.phase (length code.lists))
 
   pub completion_each : (x turns : List ℕ) → EachActs code (run code (start code x) turns) (completion code (run code (start code x) turns))
   completion_each x turns =
       let s : State = run code (start code x) turns in
-      all_act (suc (length (completion code s))) s (omega arith) (settled_run turns (start code x) (settled_start x))
+      all_act (suc (length (completion code s))) s (omega arith) (run_settled code is turns (start code x) (starts_settled code is x))

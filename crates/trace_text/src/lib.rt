@@ -6,8 +6,3 @@ mod text;
 mod turns;
 
 pub use turns::write_turns;
-
-#[cfg(test)]
-mod runs;
-#[cfg(test)]
-mod tests;

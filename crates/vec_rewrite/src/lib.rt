@@ -17,9 +17,6 @@ ghost use Rattle.vec_rewrite.specs.Turning.{block_factors, grid_after, grouped, 
 ghost use Rattle.vec_rewrite.specs.Vectors.{factor_step, vec_on, vec_share, vec_steps};
 ghost use Rattle.vec_rewrite.specs.Views.{plain_vec, plain_vec_factor};
 
-#[cfg(test)]
-mod tests;
-
 use memory::NoMemory;
 use smp_rewrite::{Factor, SmpSpl, step_of, step_within, to_smp, within};
 use std::alloc::Global;

@@ -84,11 +84,11 @@ quick_more z h i stmts stmt before made new word bounds after lt e is same ends 
     record {
       is =
           ap (λ ss. quick_body z h (body_of ss) before)
-            (ap (map plain_stmt) (take_more stmts i stmt lt ∙ ap (λ (s : Stmt). take i stmts ++ s ∷ []) (sym e)) ∙ map-append plain_stmt (take i stmts) (stmt ∷ []))
+          (ap (map plain_stmt) (take_more stmts i stmt lt ∙ ap (λ (s : Stmt). take i stmts ++ s ∷ []) (sym e)) ∙ map-append plain_stmt (take i stmts) (stmt ∷ []))
           ∙ quick_last z h (map plain_stmt (take i stmts)) (plain_stmt stmt) before (map plain_word_stmt made) bounds is.is
           ∙ ap₂ (λ ws bs. let r : QuickBody = record { body = word_body_of ws; bounds = bs } in r)
-            (ap (λ w. map plain_word_stmt made ++ w ∷ []) (sym same) ∙ sym (map-append plain_word_stmt made (word ∷ [])) ∙ ap (map plain_word_stmt) (sym appended))
-            (sym ends);
+          (ap (λ w. map plain_word_stmt made ++ w ∷ []) (sym same) ∙ sym (map-append plain_word_stmt made (word ∷ [])) ∙ ap (map plain_word_stmt) (sym appended))
+          (sym ends);
     }
 
 -- No bound passes the limit

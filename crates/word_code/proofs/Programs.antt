@@ -103,7 +103,7 @@ module _ (z : Laziness) (p : PlainProgram) where
 
   lists_under : (bodies : List PlainBody) (qs : List ℕ) →
       map (λ (lists : List (List WordAction)). map actions_under lists)
-        (map (λ body. map (λ q. word_actions_of_body (quickened z p) body [] q) qs) (map (λ body. (quick_body z (header_of p) body (loosest z (header_of p))).body) bodies))
+      (map (λ body. map (λ q. word_actions_of_body (quickened z p) body [] q) qs) (map (λ body. (quick_body z (header_of p) body (loosest z (header_of p))).body) bodies))
       ≡ map (λ body. map (λ q. actions_of (steps_of_body p body [] q)) qs) bodies
   lists_under [] qs = refl
   lists_under (body ∷ bodies) qs = ap₂ (λ x xs. x ∷ xs) (row_under body qs) (lists_under bodies qs)

@@ -60,9 +60,9 @@ quick_put s b d c rs action bias quotients n v reductions stays put sane new old
         let made : List ℕ → List ℕ → Local = λ memory registers. record { memory = memory; registers = registers } in
         ap (λ registers. effect s.modulus s.lanes action (made (residues s.modulus t.memory) registers)) (sym (reductions.same t.registers low))
         ∙ ap₂ made
-          (stays (residue_local s.modulus (settled t)) ∙ ap (residues s.modulus) (sym (stays (settled t))))
-          (ap (with_words (residues s.modulus words) (register_put action * s.lanes)) (put.same (settled t) (reductions.below t.registers low))
-          ∙ residues-with_words s.modulus (word_put s.width s.modulus s.lanes bias quotients action (settled t)) words (register_put action * s.lanes))
+        (stays (residue_local s.modulus (settled t)) ∙ ap (residues s.modulus) (sym (stays (settled t))))
+        (ap (with_words (residues s.modulus words) (register_put action * s.lanes)) (put.same (settled t) (reductions.below t.registers low))
+        ∙ residues-with_words s.modulus (word_put s.width s.modulus s.lanes bias quotients action (settled t)) words (register_put action * s.lanes))
 
 -- a store
 pub quick_store : (s : Scale) (b d : Bounds) (rs : List Reduction) (address r bias : ℕ) (quotients : List ℕ) →
@@ -101,8 +101,8 @@ quick_store s b d rs address r bias quotients reductions sane small outer =
         let made : List ℕ → List ℕ → Local = λ memory registers. record { memory = memory; registers = registers } in
         ap (λ registers. effect s.modulus s.lanes (Store address r) (made (residues s.modulus t.memory) registers)) (sym (reductions.same t.registers low))
         ∙ ap (λ memory. made memory (residues s.modulus (reduced t)))
-          (ap (with_words (residues s.modulus t.memory) address) (residues-words_at s.modulus s.lanes (reduced t) (r * s.lanes))
-          ∙ residues-with_words s.modulus (words t) t.memory address)
+        (ap (with_words (residues s.modulus t.memory) address) (residues-words_at s.modulus s.lanes (reduced t) (r * s.lanes))
+        ∙ residues-with_words s.modulus (words t) t.memory address)
 
 one_lane : (lanes : ℕ) → lanes ≡ 1 * lanes
 one_lane lanes = omega arith

@@ -15,4 +15,3 @@ table_more tables copy after i t new lt e same h ea =
     ∙ (ap₂ (λ xs (x : List ℕ). xs ++ x ∷ []) h same
     ∙ (sym (tables_more (take i tables) t)
     ∙ ap plain_tables (ap (λ (x : Vec ℕ Global). take i tables ++ x ∷ []) e ∙ sym (take_more tables i t lt)))))
-

@@ -1,16 +1,26 @@
-//! Worked examples over the whole program: requests whose answers are known from outside. There are only tests here.
+//! Worked examples over the whole program, its machines and their programs: answers that are known from outside. There are only tests here.
 #![tactic(auto)]
 
 #[cfg(test)]
 mod call;
 #[cfg(test)]
+mod checks;
+#[cfg(test)]
 mod listings;
 #[cfg(test)]
 mod machines;
 #[cfg(test)]
+mod programs;
+#[cfg(test)]
+mod queues;
+#[cfg(test)]
 mod rows;
 #[cfg(test)]
+mod runs;
+#[cfg(test)]
 mod samples;
+#[cfg(test)]
+mod strangers;
 #[cfg(test)]
 mod streams;
 #[cfg(test)]

@@ -1,23 +1,11 @@
 // Listings of programs, letter for letter, as the rules of emission give them.
 
 use crate::call::{AMPLE, call};
+use crate::programs::{PAIR, QUAD};
 use std::test::Fail;
 
-// A kernel of the whole size.
-const PAIR: &str = "program size 2 mod 15 procs 1 line 1 lanes 1 regs 5
-phase
-ld r0 X[0]
-ld r1 X[1]
-add r2 r0 r1
-mul r3 r1 4
-add r4 r0 r3
-st Y[0] r2
-st Y[1] r4
-end
-";
-
 // A kernel of two levels, whose one twiddle that is not 1 costs a product.
-const QUAD: &str = "program size 4 mod 17 procs 1 line 1 lanes 1 regs 13
+const FOUR: &str = "program size 4 mod 17 procs 1 line 1 lanes 1 regs 13
 phase
 ld r0 X[0]
 ld r1 X[1]
@@ -272,29 +260,6 @@ end
 end
 ";
 
-// Two processors, each with every other word of a pass, and the twiddles behind the kernel, since the root is none.
-const SHARED: &str = "program size 4 mod 17 procs 2 line 1 lanes 1 regs 6
-table 0 values 1 1 1 4
-phase
-ld r0 X[0+q*1]
-ld r1 X[2+q*1]
-add r2 r0 r1
-sub r3 r0 r1
-mul r4 r2 t0[0+q*2] step 0
-st A[0+q*2] r4
-mul r5 r3 t0[1+q*2] step 0
-st A[1+q*2] r5
-end
-phase
-ld r0 A[0+q*1]
-ld r1 A[2+q*1]
-add r2 r0 r1
-sub r3 r0 r1
-st Y[0+q*1] r2
-st Y[2+q*1] r3
-end
-";
-
 // A pass of tiles between two passes of kernels.
 const LANES: &str = "program size 4 mod 17 procs 1 line 1 lanes 2 regs 6
 table 0 values 1 1 1 4
@@ -321,16 +286,42 @@ st Y[2] r3
 end
 ";
 
+// The C text of the first listing.
+const C_TEXT: &str = "/* program size 2 mod 15 procs 1 line 1 lanes 1 regs 5 */
+#include <stdint.h>
+#define M 15ULL
+#define V 1
+#define X (W + 0)
+#define Y (W + 2)
+#define A (W + 4)
+#define B (W + 6)
+static uint64_t W[8];
+static uint64_t add(uint64_t a, uint64_t b) { uint64_t c = a + b; return c >= M ? c - M : c; }
+static uint64_t sub(uint64_t a, uint64_t b) { return a >= b ? a - b : a + M - b; }
+static uint64_t mul(uint64_t a, uint64_t b) { return (uint64_t)((unsigned __int128)a * b % M); }
+void phase0(uint64_t q) {
+uint64_t r[5][V];
+(void)q;
+for (int l = 0; l < V; l++) r[0][l] = X[0 + l];
+for (int l = 0; l < V; l++) r[1][l] = X[1 + l];
+for (int l = 0; l < V; l++) r[2][l] = add(r[0][l], r[1][l]);
+for (int l = 0; l < V; l++) r[3][l] = mul(r[1][l], 4);
+for (int l = 0; l < V; l++) r[4][l] = add(r[0][l], r[3][l]);
+for (int l = 0; l < V; l++) Y[0 + l] = r[2][l];
+for (int l = 0; l < V; l++) Y[1 + l] = r[4][l];
+}
+";
+
 #[test]
 fn letter_for_letter(rt: HostRuntime) -> Result<(), Fail> {
     let listings: [(&str, &str); 8] = [
         ("dft 2 mod 15 root 4\n", PAIR),
-        ("dft 4 mod 17 root 4\n", QUAD),
+        ("dft 4 mod 17 root 4\n", FOUR),
         ("dft 9 mod 19 root 4 unroll 16\n", NINE_KERNEL),
         ("dft 9 mod 19 root 4 unroll 2\n", NINE_LEAVES),
         ("dft 30 mod 31 root 3 unroll 2\n", THIRTY),
         ("dft 15 mod 31 root 9\n", FIFTEEN),
-        ("dft 4 mod 17 root 4 procs 2 line 1\n", SHARED),
+        ("dft 4 mod 17 root 4 procs 2 line 1\n", QUAD),
         ("dft 4 mod 17 root 4 lanes 2\n", LANES),
     ];
     for (request, listing) in listings {
@@ -338,5 +329,7 @@ fn letter_for_letter(rt: HostRuntime) -> Result<(), Fail> {
         assert_eq!(rt; seen.code, 0, "{request}");
         assert_eq!(rt; seen.output.bytes(), listing.as_bytes(), "{request}");
     }
+    let seen = call(rt.alloc(), "spiral c", b"dft 2 mod 15 root 4\n", &AMPLE)?;
+    assert_eq!(rt; seen.output.bytes(), C_TEXT.as_bytes());
     Ok(())
 }

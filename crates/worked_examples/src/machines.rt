@@ -1,98 +1,65 @@
-// A program for two processors and two lanes on the machine: its listing, written by the reference of examples/.
+// Runs on the machine, of programs that are read from their listings.
 
-ghost use Rattle.std.specs.Prelude.{◌≡◌, ◌<◌, All, IfOk, length};
-ghost use Rattle.icode.specs.Program.{Fits};
+ghost use Rattle.std.specs.Prelude.{◌≡◌, ◌<◌, ◌↔◌, All, IfOk, IsTrue, length};
+ghost use Rattle.icode.specs.Program.{Fits, code_of};
 
+use crate::programs::{joined, number, numbers, program};
+use icode::action::Action;
 use icode::program::Program;
-use listing_text::read_listing;
-use par_machine::Machine;
-use request_text::read_schedule;
+use par_machine::{Machine, Turned};
+use request_text::{Schedule, read_schedule};
 use std::alloc::Global;
 use std::test::Fail;
 
-// The transform of size 16 modulo 17 with the root 3: a pass of kernels, one of tiles, and behind the barrier one of kernels.
-const TILED: &[u8] = b"program size 16 mod 17 procs 2 line 2 lanes 2 regs 13
-table 0 values 1 1 1 1 1 3 9 10 1 9 13 15 1 10 15 14
-phase
-ld r0 X[0+q*2]
-ld r1 X[4+q*2]
-ld r2 X[8+q*2]
-ld r3 X[12+q*2]
-add r4 r0 r2
-sub r5 r0 r2
-add r6 r1 r3
-sub r7 r1 r3
-mul r8 r7 13
-add r9 r4 r6
-sub r10 r4 r6
-add r11 r5 r8
-sub r12 r5 r8
-st A[0+q*8] r9
-st A[2+q*8] r11
-st A[4+q*8] r10
-st A[6+q*8] r12
-for v0 2
-ld r0 A[0+q*8+v0*4]
-ld r1 A[2+q*8+v0*4]
-tile r2 r0
-mul r4 r2 t0[0+q*8+v0*2] step 1
-st B[0+q*8+v0*2] r4
-mul r5 r3 t0[4+q*8+v0*2] step 1
-st B[4+q*8+v0*2] r5
-end
-end
-phase
-ld r0 B[0+q*2]
-ld r1 B[4+q*2]
-ld r2 B[8+q*2]
-ld r3 B[12+q*2]
-add r4 r0 r2
-sub r5 r0 r2
-add r6 r1 r3
-sub r7 r1 r3
-mul r8 r7 13
-add r9 r4 r6
-sub r10 r4 r6
-add r11 r5 r8
-sub r12 r5 r8
-st Y[0+q*2] r9
-st Y[4+q*2] r11
-st Y[8+q*2] r10
-st Y[12+q*2] r12
-end
-";
-
-fn tiled_program(alloc: Global) -> Result<Program, Fail>
-    ensures fits { IfOk result (λ program. Fits program) }
-    ensures size { IfOk result (λ program. program.size ≡ 16) }
-    ensures modulus { IfOk result (λ program. program.modulus ≡ 17) }
+/// Whether the words are an input of the program.
+pub(crate) fn is_input(program: &Program, words: &[u64]) -> bool
+    ensures size { IsTrue result → length words.now ≡ program.now.size }
+    ensures residues { IsTrue result → All (λ v. v < program.now.modulus) words.now }
 {
-    match read_listing(alloc, TILED) {
-        Ok(program) => Ok(program),
-        Err(_) => Err(Fail::from("no listing")),
+    words.len() as u64 == program.size && words.iter().all(|v| *v < program.modulus)
+}
+
+/// The machine with this input.
+pub(crate) fn machine_with(alloc: Global, program: &Program, input: &[u64]) -> Result<Machine, Fail>
+    requires { Fits program.now }
+    ensures { IfOk result (λ machine. machine.code ≡ code_of program.now) }
+{
+    if !is_input(program, input) {
+        return Err(Fail::from("an input"));
+    }
+    let mut machine = Machine::new(alloc, program)?;
+    machine.put(input);
+    Ok(machine)
+}
+
+/// The schedule of the word.
+pub(crate) fn schedule(alloc: Global, word: &str) -> Result<Schedule, Fail> {
+    Ok(
+        read_schedule(alloc, word.as_bytes())
+            .ok()
+            .ok_or("a schedule")?,
+    )
+}
+
+// The turns of a list, each by the processor of its number, or of what is left of it.
+fn take_turns(machine: &mut Machine, turns: &[u64])
+    ensures { machine.new.code ≡ machine.old.code }
+{
+    for turn in turns {
+        let proc = *turn % machine.procs();
+        machine.turn(proc);
     }
 }
 
-// The machine after a run on the vector under the schedule of the word.
-fn machine_after(
-    alloc: Global,
-    program: &Program,
-    vector: &[u64],
-    word: &[u8],
-) -> Result<Machine, Fail>
-    requires fits { Fits program.now }
-    requires size { length vector.now ≡ program.now.size }
-    requires residues { All (λ v. v < program.now.modulus) vector.now }
-{
-    let schedule = read_schedule(alloc, word).map_err(|_| "no schedule")?;
-    let mut machine = Machine::new(alloc, program)?;
-    machine.put(vector);
+// A run under the schedule of the word, to its end.
+fn run(alloc: Global, machine: &mut Machine, word: &str) -> Result<(), Fail> {
+    let schedule = schedule(alloc, word)?;
     match schedule.stranger(machine.procs()) {
         None => machine.run_list(&schedule),
         Some(_) => return Err(Fail::from("a stranger")),
     }
     machine.finish();
-    Ok(machine)
+    Ok(())
 }
 
 // The words of the second array, and then the operations, loads and stores of each processor.
@@ -111,19 +78,168 @@ fn numbers_of(alloc: Global, machine: &Machine) -> Result<Vec<u64>, Fail> {
     Ok(numbers)
 }
 
+// A program, its input and a schedule; and the words of the second array, and the operations, loads and stores of each
+// processor. No loop round nothing is walked.
+const RUNS: &str = "\
+pair; 1 1; seq|2 5 3 2 2
+pair; 1 1; seed:1:1000000|2 5 3 2 2
+exchanged; 1 1; seq|5 2 3 2 2
+nested; 1 2 3 4; seq|0 0 0 0 0 0 0
+nested; 1 2 3 4; turns:0,0|0 0 0 0 0 0 0
+quad; 1 2 3 4; seq|10 7 15 6 6 4 4 6 4 4
+quad; 1 2 3 4; rr:0|10 7 15 6 6 4 4 6 4 4
+quad; 1 2 3 4; rr:3|10 7 15 6 6 4 4 6 4 4
+quad; 1 2 3 4; rr:7|10 7 15 6 6 4 4 6 4 4
+quad; 1 2 3 4; rr:20|10 7 15 6 6 4 4 6 4 4
+quad; 1 2 3 4; seed:9:5|10 7 15 6 6 4 4 6 4 4
+quad; 1 2 3 4; seed:1:100|10 7 15 6 6 4 4 6 4 4
+quad; 1 2 3 4; seed:1:1000000|10 7 15 6 6 4 4 6 4 4
+quad; 1 2 3 4; turns:1,1,1,1,1,1,1,1,1,0|10 7 15 6 6 4 4 6 4 4
+tiled; 0 1 0 0 0 0 0 0 0 0 0 0 0 0 0 0; seq|1 3 9 10 13 5 15 11 16 14 8 7 4 12 2 6 44 24 24 44 24 24
+tiled; 0 1 0 0 0 0 0 0 0 0 0 0 0 0 0 0; turns:1,1,1,0|1 3 9 10 13 5 15 11 16 14 8 7 4 12 2 6 44 24 24 44 24 24
+tiled; 0 1 0 0 0 0 0 0 0 0 0 0 0 0 0 0; rr:5|1 3 9 10 13 5 15 11 16 14 8 7 4 12 2 6 44 24 24 44 24 24
+tiled; 0 1 0 0 0 0 0 0 0 0 0 0 0 0 0 0; seed:9:1000|1 3 9 10 13 5 15 11 16 14 8 7 4 12 2 6 44 24 24 44 24 24
+";
+
+fn run_answer(alloc: Global, name: &str, input: &str, word: &str) -> Result<String, Fail> {
+    let program = program(alloc, name)?;
+    let mut machine = machine_with(alloc, &program, &numbers(alloc, input)?)?;
+    run(alloc, &mut machine, word)?;
+    joined(alloc, &numbers_of(alloc, &machine)?)
+}
+
 #[test]
-fn lanes_and_processors(rt: HostRuntime) -> Result<(), Fail> {
-    let alloc = rt.alloc();
-    let program = tiled_program(alloc)?;
-    let vector = [0, 1, 0, 0, 0, 0, 0, 0, 0, 0, 0, 0, 0, 0, 0, 0];
-    let powers = [1, 3, 9, 10, 13, 5, 15, 11, 16, 14, 8, 7, 4, 12, 2, 6];
-    let words: [&[u8]; 4] = [b"seq", b"turns:1,1,1,0", b"rr:5", b"seed:9:1000"];
-    for word in words {
-        let machine = machine_after(alloc, &program, &vector, word)?;
-        let numbers = numbers_of(alloc, &machine)?;
-        let (results, counts) = numbers.split_at(numbers.len().min(16));
-        assert_eq!(rt; results, powers.as_slice());
-        assert_eq!(rt; counts, [44, 24, 24, 44, 24, 24].as_slice());
+fn results_of_schedules(rt: HostRuntime) -> Result<(), Fail> {
+    for row in RUNS.lines() {
+        let (question, wanted) = row.split_once('|').ok_or("a row")?;
+        let (name, rest) = question.split_once("; ").ok_or("an input")?;
+        let (input, word) = rest.split_once("; ").ok_or("a schedule")?;
+        let answer = run_answer(rt.alloc(), name, input, word)?;
+        assert_eq!(rt; answer.as_str(), wanted, "{row}");
     }
     Ok(())
+}
+
+// 65,536 turns of one processor, named.
+#[test]
+fn as_many_turns_as_can_be_named(rt: HostRuntime) -> Result<(), Fail> {
+    let alloc = rt.alloc();
+    for proc in ["0", "1"] {
+        let mut word = format!(in alloc; "turns:{proc}")?;
+        for _ in 1..65_536 {
+            word.push_str(",")?;
+            word.push_str(proc)?;
+        }
+        let answer = run_answer(alloc, "quad", "1 2 3 4", &word)?;
+        assert_eq!(rt; answer.as_str(), "10 7 15 6 6 4 4 6 4 4");
+    }
+    Ok(())
+}
+
+// Any five turns on another input may come before an input is put.
+#[test]
+fn put_after_turns(rt: HostRuntime) -> Result<(), Fail> {
+    let alloc = rt.alloc();
+    let quad = program(alloc, "quad")?;
+    let input = [1, 2, 3, 4];
+    if !is_input(&quad, &input) {
+        return Err(Fail::from("an input"));
+    }
+    for turns in 0..32u64 {
+        let mut machine = machine_with(alloc, &quad, &[16, 5, 9, 7])?;
+        let procs = [
+            turns & 1,
+            turns >> 1 & 1,
+            turns >> 2 & 1,
+            turns >> 3 & 1,
+            turns >> 4,
+        ];
+        take_turns(&mut machine, &procs);
+        machine.put(&input);
+        run(alloc, &mut machine, "seq")?;
+        let answer = joined(alloc, &numbers_of(alloc, &machine)?)?;
+        assert_eq!(rt; answer.as_str(), "10 7 15 6 6 4 4 6 4 4", "after {turns}");
+    }
+    Ok(())
+}
+
+// A program, its input and the processors of some turns; and what each turn answers, the phases that are over, the words of
+// the second array, and the counts.
+const TURNS: &str = "\
+pair; 1 1; 0 0 0 0 0 0 0 0|did did did did did did did done 1: 2 5 3 2 2
+quad; 1 2 3 4; 1 1 1 1 1 1 1 1 1|did did did did did did did did waits 0: 0 0 0 0 0 0 0 4 2 2
+nested; 1 2 3 4; 0 0|done done 1: 0 0 0 0 0 0 0
+";
+
+fn turn(machine: &mut Machine, proc: u64) -> &'static str
+    ensures { machine.new.code ≡ machine.old.code }
+{
+    let proc = proc % machine.procs();
+    match machine.turn(proc) {
+        Turned::Did(_) => "did ",
+        Turned::Waits => "waits ",
+        Turned::Done => "done ",
+    }
+}
+
+fn turns_answer(alloc: Global, name: &str, input: &str, procs: &str) -> Result<String, Fail> {
+    let program = program(alloc, name)?;
+    let mut machine = machine_with(alloc, &program, &numbers(alloc, input)?)?;
+    let mut text = String::new(alloc);
+    for proc in procs.split(' ') {
+        text.push_str(turn(&mut machine, number(proc)?))?;
+    }
+    let left = joined(alloc, &numbers_of(alloc, &machine)?)?;
+    text.push_str(format!(in alloc; "{}: {left}", machine.phase())?.as_str())?;
+    Ok(text)
+}
+
+#[test]
+fn answers_of_turns(rt: HostRuntime) -> Result<(), Fail> {
+    for row in TURNS.lines() {
+        let (question, wanted) = row.split_once('|').ok_or("a row")?;
+        let (name, rest) = question.split_once("; ").ok_or("an input")?;
+        let (input, procs) = rest.split_once("; ").ok_or("turns")?;
+        let answer = turns_answer(rt.alloc(), name, input, procs)?;
+        assert_eq!(rt; answer.as_str(), wanted, "{row}");
+    }
+    Ok(())
+}
+
+// The program's words of memory, and its actions by number.
+#[test]
+fn actions_by_number(rt: HostRuntime) -> Result<(), Fail> {
+    let alloc = rt.alloc();
+    let pair = program(alloc, "pair")?;
+    assert_eq!(rt; pair.span(), 8);
+    if pair.phases.len() != 1 || pair.procs != 1 {
+        return Err(Fail::from("one phase and one processor"));
+    }
+    let mut text = String::new(alloc);
+    for index in 0..pair.len(0, 0) {
+        let action = pair.action_at(0, 0, index);
+        text.push_str(&action_text(alloc, &action)?)?;
+    }
+    let wanted = "ld 0 0, ld 1 1, add 2 0 1, mul 3 1 4, add 4 0 3, st 2 2, st 3 4, ";
+    assert_eq!(rt; text.as_str(), wanted);
+    Ok(())
+}
+
+// The action's word and numbers, on one lane.
+fn action_text(alloc: Global, action: &Action) -> Result<String, Fail> {
+    Ok(match *action {
+        Action::Load { register, address } => format!(in alloc; "ld {register} {address}, ")?,
+        Action::Store { address, register } => format!(in alloc; "st {address} {register}, ")?,
+        Action::Add {
+            register,
+            left,
+            right,
+        } => format!(in alloc; "add {register} {left} {right}, ")?,
+        Action::Mul {
+            register,
+            source,
+            factors,
+        } => format!(in alloc; "mul {register} {source} {}, ", factors[0])?,
+        _ => format!(in alloc; "another, ")?,
+    })
 }

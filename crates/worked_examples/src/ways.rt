@@ -166,3 +166,39 @@ fn turns_of_a_program(rt: HostRuntime) -> Result<(), Fail> {
     assert_eq!(rt; machine.counts(0), counts);
     Ok(())
 }
+
+// A request, and the tree, its cost, and the tables and registers of its program, or the refusal. By hand, from the rules'
+// costs.
+const PRODUCTS: &str = "\
+dft 4 mod 17 root 4 budget 9|ct(leaf(2),leaf(2)) 9 0 13
+dft 4 mod 17 root 4 budget 8|the least cost 9 is over the budget 8
+dft 11 mod 23 root 2 budget 242|leaf(11) 242 1 3
+dft 11 mod 23 root 2 budget 241|the least cost 242 is over the budget 241
+dft 4 mod 17 root 3 budget 1|the root to the power of the size is 13, not 1
+";
+
+fn described(alloc: Global, request: &Request) -> Result<String, Fail>
+    requires in_range { IsInRange request.now }
+    requires weight { request.now.weight ≡ 1 }
+{
+    match generate(alloc, request) {
+        Ok(product) => {
+            let tree = &product.plan.tree;
+            let cost = product.plan.cost;
+            let tables = product.program.tables.len();
+            let registers = product.program.regs;
+            Ok(format!(in alloc; "{tree} {cost} {tables} {registers}")?)
+        }
+        Err(fault) => Ok(format!(in alloc; "{fault}")?),
+    }
+}
+
+#[test]
+fn plans_and_refusals(rt: HostRuntime) -> Result<(), Fail> {
+    for row in PRODUCTS.lines() {
+        let (line, wanted) = row.split_once('|').ok_or("a row")?;
+        let answer = described(rt.alloc(), &request_of(line.as_bytes())?)?;
+        assert_eq!(rt; answer.as_str(), wanted, "{line}");
+    }
+    Ok(())
+}

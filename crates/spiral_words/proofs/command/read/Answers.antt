@@ -2,18 +2,12 @@ use Rattle.std.proofs.Common.{inr}
 use Rattle.std.proofs.lemmas.Result.{err_from_is_err_and}
 use Rattle.spiral_words.proofs.command.read.Goals as goal
 
-pub returns-in_err-schedule-in-Run-clause-usage : goal.returns-in_err-schedule-in-Run-clause-usage
-returns-in_err-schedule-in-Run-clause-usage c =
-    let p = err_from_is_err_and c.from_residual.result c.from_residual.ensures.1 in
-    λ e. rw c.in-Run.is (c.in_err-schedule-in-Run.ensures.usage (let q = p.1 in let r = p.2 in cc))
-
-pub returns-in_err-schedule-in-Trace-clause-usage : goal.returns-in_err-schedule-in-Trace-clause-usage
-returns-in_err-schedule-in-Trace-clause-usage c =
-    let p = err_from_is_err_and c.from_residual-in_err-schedule-in-Trace.result c.from_residual-in_err-schedule-in-Trace.ensures.1 in
-    λ e. rw c.in-Trace.is (c.in_err-schedule-in-Trace.ensures.usage (let q = p.1 in let r = p.2 in cc))
-
-pub returns-in_err-schedule-in-Sample-clause-usage :
-    goal.returns-in_err-schedule-in-Sample-clause-usage
+pub returns-in_err-schedule-in-Sample-clause-usage : goal.returns-in_err-schedule-in-Sample-clause-usage
 returns-in_err-schedule-in-Sample-clause-usage c =
     let p = err_from_is_err_and c.from_residual-in_err-schedule-in-Sample.result c.from_residual-in_err-schedule-in-Sample.ensures.1 in
     λ e. rw c.in-Sample.is (inr (c.in_err-schedule-in-Sample.ensures.usage (let q = p.1 in let r = p.2 in cc)))
+
+pub returns-in_err-schedule-in-Exec-clause-usage : goal.returns-in_err-schedule-in-Exec-clause-usage
+returns-in_err-schedule-in-Exec-clause-usage c =
+    let p = err_from_is_err_and c.from_residual-in_err-schedule-in-Exec.result c.from_residual-in_err-schedule-in-Exec.ensures.1 in
+    λ e. rw c.in-Exec.is (c.in_err-schedule-in-Exec.ensures.usage (let q = p.1 in let r = p.2 in cc))

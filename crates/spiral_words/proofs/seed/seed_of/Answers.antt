@@ -1,9 +1,9 @@
-use Rattle.std.proofs.Common.{◌≡◌, true, ◌∙◌, rules}
-use Rattle.spiral_words.specs.Asked.{is_spelled}
-use Rattle.spiral_words.proofs.Numerals.{seed_parsed}
+use Rattle.std.proofs.Common.{Ok, Err}
+use Rattle.spiral_words.proofs.SeedWord.{seed_judges}
 use Rattle.spiral_words.proofs.seed.seed_of.Goals as goal
 
-pub returns-then-is_spelled : goal.returns-then-is_spelled
-returns-then-is_spelled c =
-    let spelled : is_spelled c.args.word.now ≡ true = search rules in
-    c.ok.ensures.value ∙ seed_parsed c.args.word.now c.parse.result spelled c.parse.ensures.value.0
+pub returns-in-Ok-clause-ok : goal.returns-in-Ok-clause-ok
+returns-in-Ok-clause-ok c = (seed_judges c.args.word.now (Ok c.in-Ok.number) c.in-Ok.ensures).0
+
+pub returns-in-Err-clause-usage : goal.returns-in-Err-clause-usage
+returns-in-Err-clause-usage c = λ _. (seed_judges c.args.word.now (Err c.in-Err.field-0.left) c.in-Err.ensures).1.nothing

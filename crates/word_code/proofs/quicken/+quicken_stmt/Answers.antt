@@ -21,7 +21,7 @@ quicken_stmt-requires t c =
       (
         item_within c.args.setting.modulus (c.args.depth + 1) c.loop-inner.inner-index c.deref-inner-items.result.now c.inner-item.result
             (subst (λ (xs : List Stmt). is_body_within c.args.setting.modulus (plain_body xs) (c.args.depth + 1) ≡ true) (sym items) parts.1) (omega arith) c.inner-item.is,
-        (c.requires.room, (c.requires.small, (c.requires.some, (c.requires.half, (c.requires.keep, (c.requires.product, (c.requires.lanes, (search rules, (omega (arith, parts.0), c.loop-inner.invariant.sane)))))))))
+        (c.requires.room, (c.requires.small, (c.requires.some, (c.requires.half, (c.requires.keep, (c.requires.product, (c.requires.lanes, (search rules, (omega (arith, parts.0), c.loop-inner.invariant.sane))))))))),
       ),
     )
 

@@ -1,0 +1,90 @@
+-- Words ask for one command.
+use Rattle.std.proofs.Common.{◌≡◌, ◌⊎◌, ℕ, List, [], ◌∷◌, ◌++◌, Bool, true, false, Result, Ok, Err, Some, refl, sym, ap, ap₂, subst, ◌∙◌, codes, arith, inl, inr}
+use Rattle.clap.specs.Words.{Text}
+use Rattle.grammar.specs.Grammar.{Judges, one_of}
+use Rattle.icode.specs.declared.event.Event.{Event}
+use Rattle.request_text.specs.Mix.{mix_word}
+use Rattle.request_text.specs.Schedule.{Plan, schedule_word}
+use Rattle.request_text.proofs.MixWord.{mix_judges}
+use Rattle.request_text.proofs.ScheduleWord.{word_judges}
+use Rattle.spiral_words.proofs.SeedWord.{seed_judges}
+use Rattle.spiral_words.specs.declared.command.Command.{Command}
+use Rattle.spiral_words.specs.declared.command.Command.TheVariants as command
+use Rattle.spiral_words.specs.declared.command.Order.{Order}
+use Rattle.spiral_words.specs.declared.command.Order.TheVariants as order
+use Rattle.spiral_words.specs.Named.{NamedTexts}
+use Rattle.spiral_words.specs.Named as named
+use Rattle.spiral_words.specs.Asked.{Means, IsAsked, SpellsOrder, seed_word}
+
+-- a text spells one value
+spelt_once : {S A : Type 0} (L : List S → A → Type 0) (text : List S) (r : Result A ℕ) (a b : A) → Judges L text r → L text a → L text b → a ≡ b
+spelt_once L text (Ok value) a b j p q = j.1 a p ∙ sym (j.1 b q)
+spelt_once L text (Err left) a b j p q = absurd (j.1.nothing a p)
+
+seed_once : (word : List ℕ) (s t : ℕ) → seed_word word s → seed_word word t → s ≡ t
+seed_once word s t p q = spelt_once seed_word word _ s t (seed_judges word _ refl) p q
+
+pub schedule_once : (word : List ℕ) (s t : Plan) → schedule_word word s → schedule_word word t → s ≡ t
+schedule_once word s t p q = spelt_once schedule_word word _ s t (word_judges word _ refl) p q
+
+pub mix_once : (word : List ℕ) (s t : List Event) → mix_word word s → mix_word word t → s ≡ t
+mix_once word s t p q = spelt_once mix_word word _ s t (mix_judges word _ refl) p q
+
+-- ---- no word spells a schedule, and turns and drains
+
+abbrev first_letter : List ℕ → ℕ
+first_letter [] = 0
+first_letter (x ∷ text) = x
+
+mix_letter : (word : List ℕ) (events : List Event) → mix_word word events → first_letter word ≡ 109
+mix_letter word events l = ap (λ (w : List ℕ). first_letter w) (l.whole ∙ ap (λ (w : List ℕ). w ++ l.rest) l.begins)
+
+other_letter : (front rest w : List ℕ) → front ≡ w → first_letter (front ++ rest) ≡ 109 → first_letter (w ++ rest) ≡ 109
+other_letter front rest w is e = subst (λ (u : List ℕ). first_letter (u ++ rest) ≡ 109) is e
+
+form_letter : {F : Type 0} (front rest : List ℕ) (a b c d form : F) → one_of ((codes "seq", a) ∷ (codes "rr:", b) ∷ (codes "turns:", c) ∷ (codes "seed:", d) ∷ []) front form → first_letter (front ++ rest) ≡ 109 → ⊥
+form_letter front rest a b c d form (inl p) e = absurd (omega (arith, other_letter front rest (codes "seq") p.0 e))
+form_letter front rest a b c d form (inr (inl p)) e = absurd (omega (arith, other_letter front rest (codes "rr:") p.0 e))
+form_letter front rest a b c d form (inr (inr (inl p))) e = absurd (omega (arith, other_letter front rest (codes "turns:") p.0 e))
+form_letter front rest a b c d form (inr (inr (inr (inl p)))) e = absurd (omega (arith, other_letter front rest (codes "seed:") p.0 e))
+form_letter front rest a b c d form (inr (inr (inr (inr p)))) e = p
+
+pub not_both : (word : List ℕ) (schedule : Plan) (events : List Event) → schedule_word word schedule → mix_word word events → ⊥
+not_both word schedule events p q =
+    form_letter p.front p.rest _ _ _ _ p.spelt p.begins (ap (λ (w : List ℕ). first_letter w) (sym p.whole) ∙ mix_letter word events q)
+
+order_once : (buffers : Bool) (word : Text) (a b : Order) → SpellsOrder buffers word a → SpellsOrder buffers word b → a ≡ b
+order_once false word (order.Turns s) (order.Turns t) p q = ap order.Turns (schedule_once word s t p q)
+order_once false word (order.Turns s) (order.Buffered t) p q = absurd q
+order_once false word (order.Turns s) (order.Mixed t) p q = absurd q
+order_once false word (order.Buffered s) b p q = absurd p
+order_once false word (order.Mixed s) b p q = absurd p
+order_once true word (order.Turns s) b p q = absurd p
+order_once true word (order.Buffered s) (order.Turns t) p q = absurd q
+order_once true word (order.Buffered s) (order.Buffered t) p q = ap order.Buffered (schedule_once word s t p q)
+order_once true word (order.Buffered s) (order.Mixed t) p q = absurd (not_both word s t p q)
+order_once true word (order.Mixed s) (order.Turns t) p q = absurd q
+order_once true word (order.Mixed s) (order.Buffered t) p q = absurd (not_both word t s q p)
+order_once true word (order.Mixed s) (order.Mixed t) p q = ap order.Mixed (mix_once word s t p q)
+
+-- ---- commands
+
+some_same : {A : Type 0} (a b : A) → Some a ≡ Some b → a ≡ b
+some_same a b e = cc
+
+means_once : (texts : NamedTexts) (a b : Command) → Means texts a → Means texts b → a ≡ b
+means_once named.plan a b p q = p ∙ sym q
+means_once named.formula a b p q = p ∙ sym q
+means_once named.code a b p q = p ∙ sym q
+means_once named.c a b p q = p ∙ sym q
+means_once (named.run buffers word) a b p q = p.2 ∙ ap command.Run (order_once buffers word p.0 q.0 p.1 q.1) ∙ sym q.2
+means_once (named.trace buffers word) a b p q = p.2 ∙ ap command.Trace (order_once buffers word p.0 q.0 p.1 q.1) ∙ sym q.2
+means_once named.cert a b p q = p ∙ sym q
+means_once named.check a b p q = p ∙ sym q
+means_once (named.sample number word) a b p q = p.4 ∙ ap₂ command.Sample (seed_once number p.0 q.0 p.2 q.2) (schedule_once word p.1 q.1 p.3 q.3) ∙ sym q.4
+means_once (named.exec word) a b p q = p.2 ∙ ap command.Exec (schedule_once word p.0 q.0 p.1 q.1) ∙ sym q.2
+
+pub asked_once : (words : List Text) (a b : Command) → IsAsked words a → IsAsked words b → a ≡ b
+asked_once words a b p q =
+    let same : p.0 ≡ q.0 = some_same p.0 q.0 (sym p.1 ∙ q.1) in
+    means_once q.0 a b (subst (λ (t : NamedTexts). Means t a) same p.2) q.2

@@ -1,9 +1,0 @@
-use Rattle.std.proofs.Common.{◌≡◌, None, nat_le, subst, sym}
-use Rattle.std.specs.List.{find}
-use Rattle.request_text.specs.Turns.{named}
-use Rattle.trace_text.proofs.runs.results.Goals as goal
-
-pub run_list-requires : goal.run_list-requires
-run_list-requires c = record {
-  no_stranger = subst (λ n. find (λ q. nat_le n q) (named c.in_ok-schedule.schedule) ≡ None) c.procs.ensures.value (sym c.in-None.ensures);
-}

@@ -1,0 +1,123 @@
+// Certificates, and what is to be said of texts.
+
+use crate::contexts::context;
+use crate::rows::{halves, spelled};
+use plan_cert::{Verdict, certify, check_cert};
+use std::alloc::Global;
+use std::test::Fail;
+use tree_model::{Ctx, divides};
+
+// What is said of a text.
+fn verdict(alloc: Global, c: &Ctx, text: &str) -> Result<String, Fail> {
+    match check_cert(alloc, c, text.as_bytes())? {
+        Verdict::Least(cost) => Ok(format!(in alloc; "least {cost}")?),
+        Verdict::Unread => Ok(format!(in alloc; "unread")?),
+        Verdict::Wrong { size, given, found } => {
+            Ok(format!(in alloc; "wrong {size} {given} {found}")?)
+        }
+    }
+}
+
+// A request, its certificate, and what is said of it. Costs are by hand and by the reference of examples/.
+const CERTIFICATES: &str = "\
+dft 4 mod 17 root 4|{\"rows\":[[2,2,\"leaf\",0,0],[4,9,\"ct\",2,2]],\"size\":4,\"version\":1}~|least 9
+dft 4 mod 17 root 4 procs 2|{\"rows\":[[2,2,\"leaf\",0,0],[4,12,\"ct\",2,2]],\"size\":4,\"version\":1}~|least 12
+dft 4 mod 17 root 4 lanes 2|{\"rows\":[[2,2,\"leaf\",0,0],[4,12,\"ct\",2,2]],\"size\":4,\"version\":1}~|least 12
+dft 1 mod 2 root 1|{\"rows\":[[1,0,\"leaf\",0,0]],\"size\":1,\"version\":1}~|least 0
+dft 6 mod 7 root 3|{\"rows\":[[2,2,\"leaf\",0,0],[3,10,\"leaf\",0,0],[6,26,\"gt\",2,3]],\"size\":6,\"version\":1}~|least 26
+wht 4 mod 5|{\"rows\":[[2,2,\"leaf\",0,0],[4,8,\"split\",2,2]],\"size\":4,\"version\":1}~|least 8
+wht 4 mod 5 lanes 2|{\"rows\":[[2,2,\"leaf\",0,0],[4,8,\"split\",2,2]],\"size\":4,\"version\":1}~|least 8
+";
+
+#[test]
+fn certificates(rt: HostRuntime) -> Result<(), Fail> {
+    let alloc = rt.alloc();
+    for row in CERTIFICATES.lines() {
+        let (question, wanted) = halves(row)?;
+        let (request, text) = halves(question)?;
+        let c = context(request)?;
+        if !divides(&c) {
+            Err("sizes that divide")?
+        }
+        let text = spelled(alloc, text)?;
+        assert_eq!(rt; certify(alloc, &c)?.as_slice(), text.as_bytes(), "{row}");
+        assert_eq!(rt; verdict(alloc, &c, &text)?.as_str(), wanted, "{row}");
+    }
+    Ok(())
+}
+
+// Rows of a certificate of `dft 4 mod 17 root 4`, what stands between their list and the version, the version, and what is
+// said.
+const FOUR: &str = "\
+[2,2,\"leaf\",0,0],[4,9,\"ct\",2,2]||1|least 9
+[2, 2, \"leaf\", 0, 0], [4, 9, \"ct\", 2, 2]| | 1|least 9
+[2,2,\"leaf\",0,0],[4,8,\"ct\",2,2]||1|wrong 4 8 9
+[2,3,\"leaf\",0,0],[4,9,\"ct\",2,2]||1|wrong 2 3 2
+[2,2,\"leaf\",0,0],[4,9,\"leaf\",0,0]||1|wrong 4 9 16
+[2,2,\"leaf\",0,0],[4,16,\"leaf\",0,0]||1|wrong 4 16 9
+[2,2,\"leaf\",0,0],[4,18446744073709551615,\"ct\",2,2]||1|wrong 4 18446744073709551615 9
+[2,2,\"leaf\",0,0],[4,18446744073709551616,\"ct\",2,2]||1|unread
+[2,2,\"leaf\",0,0],[4,9,\"ct\",2,2]||2|unread
+[4,9,\"ct\",2,2],[2,2,\"leaf\",0,0]||1|unread
+[2,2,\"leaf\",0,0],[4,9,\"ct\",2,2]|,\"x\":0|1|unread
+[2,2,\"leaf\",0,0],[4,9,\"ct\",1,4]||1|unread
+[2,2,\"leaf\",0,0],[4,9,\"split\",2,2]||1|unread
+[2,2,\"leaf\",0,0],[4,9,\"gt\",2,2]||1|unread
+[2,2,\"leaf\",0,1],[4,9,\"ct\",2,2]||1|unread
+[2,2,\"leaf\",0,0,0],[4,9,\"ct\",2,2]||1|unread
+[2,2,\"leaf\",0],[4,9,\"ct\",2,2]||1|unread
+[2,2,\"leaf\",0,0],[4,9,2,2,2]||1|unread
+[4,9,\"ct\",2,2]||1|unread
+||1|unread
+[1,0,\"leaf\",0,0],[2,2,\"leaf\",0,0],[4,9,\"ct\",2,2]||1|unread
+[2,2,\"leaf\",0,0],[4,9,\"ct\",2,2]||1.0|unread
+[2,2,\"leaf\",0,0],[4,9,\"ct\",2,2]||1e0|unread
+[2,2,\"leaf\",-0,0],[4,9,\"ct\",2,2]||1|unread
+[2,2,\"leaf\",0,0],[4,9,\"ct\",2,2]|,\"version\":2|1|least 9
+[2,2,\"leaf\",0,0],[4,9,\"ct\",2,2]|,\"size\":8|1|unread
+";
+
+// A request, a text, and what is said of it. On two processors the root is no leaf.
+const TEXTS: &str = "\
+dft 4 mod 17 root 4||unread
+dft 4 mod 17 root 4|4|unread
+dft 4 mod 17 root 4|[]|unread
+dft 4 mod 17 root 4|{}|unread
+dft 4 mod 17 root 4|{\"rows\":[[2,2,\"leaf\",0,0],[4,9,\"ct\",2,2]],\"size\":4,\"version\":1|unread
+dft 4 mod 17 root 4|~{\"version\":1}|unread
+dft 4 mod 17 root 4|{\"rows\": [[2, 2, \"leaf\", 0, 0], [4, 9, \"ct\", 2, 2]], \"size\": 4, \"version\": 1}|least 9
+dft 4 mod 17 root 4|{\"rows\":[[2, 2, \"leaf\", 0, 0], [4, 9, \"ct\", 2, 2]], \"size\":4, \"version\":1}|least 9
+dft 4 mod 17 root 4 procs 2|{\"rows\":[[2,2,\"leaf\",0,0],[4,12,\"ct\",2,2]],\"size\":4,\"version\":1}|least 12
+dft 4 mod 17 root 4 procs 2|{\"rows\":[[2,2,\"leaf\",0,0],[4,9,\"ct\",2,2]],\"size\":4,\"version\":1}|wrong 4 9 12
+dft 4 mod 17 root 4 procs 2|{\"rows\":[[2,2,\"leaf\",0,0],[4,16,\"leaf\",0,0]],\"size\":4,\"version\":1}|unread
+dft 6 mod 7 root 3|{\"rows\":[[2,2,\"leaf\",0,0],[3,10,\"leaf\",0,0],[6,25,\"gt\",2,3]],\"size\":6,\"version\":1}|wrong 6 25 26
+dft 6 mod 7 root 3|{\"rows\":[[2,2,\"leaf\",0,0],[3,10,\"leaf\",0,0],[6,26,\"gt\",3,2]],\"size\":6,\"version\":1}|least 26
+dft 6 mod 7 root 3|{\"rows\":[[2,2,\"leaf\",0,0],[3,10,\"leaf\",0,0],[6,28,\"ct\",2,3]],\"size\":6,\"version\":1}|wrong 6 28 26
+dft 6 mod 7 root 3|{\"rows\":[[2,2,\"leaf\",0,0],[3,10,\"leaf\",0,0],[6,26,\"ct\",2,3]],\"size\":6,\"version\":1}|wrong 6 26 28
+wht 4 mod 5|{\"rows\":[[2,2,\"leaf\",0,0],[4,9,\"split\",2,2]],\"size\":4,\"version\":1}|wrong 4 9 8
+wht 4 mod 5|{\"rows\":[[2,2,\"leaf\",0,0],[4,8,\"ct\",2,2]],\"size\":4,\"version\":1}|unread
+wht 4 mod 5|{\"rows\":[[2,2,\"leaf\",0,0],[4,8,\"leaf\",0,0]],\"size\":4,\"version\":1}|unread
+";
+
+#[test]
+fn verdicts(rt: HostRuntime) -> Result<(), Fail> {
+    let alloc = rt.alloc();
+    let four = context("dft 4 mod 17 root 4")?;
+    for row in FOUR.lines() {
+        let (question, wanted) = halves(row)?;
+        let (question, version) = halves(question)?;
+        let (rows, between) = halves(question)?;
+        let text = format!(in alloc;
+            "{{\"size\":4,\"rows\":[{rows}]{between},\"version\":{version}}}"
+        )?;
+        assert_eq!(rt; verdict(alloc, &four, &text)?.as_str(), wanted, "{row}");
+    }
+    for row in TEXTS.lines() {
+        let (question, wanted) = halves(row)?;
+        let (request, text) = question.split_once('|').ok_or("a request")?;
+        let text = spelled(alloc, text)?;
+        let answer = verdict(alloc, &context(request)?, &text)?;
+        assert_eq!(rt; answer.as_str(), wanted, "{row}");
+    }
+    Ok(())
+}

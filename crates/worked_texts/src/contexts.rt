@@ -1,0 +1,93 @@
+// Requests by their lines, as contexts of trees, and trees by their leaves.
+
+ghost use Rattle.std.specs.Prelude.{IsTrue};
+ghost use Rattle.matrix_meaning.specs.Valid.{IsBetween, HasShape, IsInRange, IsValid};
+
+use crate::rows::{number, numbers};
+use matrix_meaning::{Kind, Request};
+use request_text::read_request;
+use ring_mod::Modulus;
+use std::alloc::Global;
+use std::test::Fail;
+use tree_model::{Ctx, Tree};
+
+fn is_between(low: u64, high: u64, x: u64) -> bool
+    ensures { IsTrue result → IsBetween low high x }
+{
+    low <= x && x <= high
+}
+
+fn has_shape(kind: Kind, size: u64) -> bool
+    ensures { IsTrue result → HasShape kind size }
+{
+    match kind {
+        Kind::Dft => true,
+        Kind::Wht => size.is_power_of_two(),
+    }
+}
+
+fn is_in_range(r: &Request) -> bool
+    ensures { IsTrue result → IsInRange r.now }
+{
+    is_between(1, 65536, r.size)
+        && is_between(2, 4_611_686_018_427_387_903, r.modulus)
+        && r.root < r.modulus
+        && is_between(1, 16, r.procs)
+        && is_between(1, 64, r.line)
+        && is_between(1, 16, r.lanes)
+        && is_between(2, 64, r.unroll)
+        && is_between(1, 1_000_000_000_000, r.budget)
+        && is_between(1, 1000, r.weight)
+        && has_shape(r.kind, r.size)
+        && (r.procs == 1 || r.line % r.lanes == 0)
+}
+
+/// Whether the request is in its limits and has a root.
+pub(crate) fn is_valid(r: &Request) -> bool
+    ensures { IsTrue result → IsValid r.now }
+{
+    if !is_in_range(r) {
+        return false;
+    }
+    match r.kind {
+        Kind::Dft => Modulus::new(r.modulus).unwrap().pow(r.root, r.size) == 1,
+        Kind::Wht => true,
+    }
+}
+
+/// The request of a line, behind which a weight may stand: `dft 4 mod 17 root 4; weight 5`.
+pub(crate) fn request(text: &str) -> Result<Request, Fail> {
+    let (line, weight) = match text.split_once("; weight ") {
+        Some((line, weight)) => (line, number(weight)?),
+        None => (text, 1),
+    };
+    let request = read_request(line.as_bytes()).ok().ok_or("a request")?;
+    Ok(Request { weight, ..request })
+}
+
+/// The context of the request, where it is valid.
+pub(crate) fn context(text: &str) -> Result<Ctx, Fail> {
+    let request = request(text)?;
+    if !is_valid(&request) {
+        Err("a valid request")?
+    }
+    Ok(Ctx::new(&request))
+}
+
+/// The tree with these leaves, where each left part is a leaf: `ct 2 2 3` is `ct(leaf(2),ct(leaf(2),leaf(3)))`.
+pub(crate) fn tree_of(alloc: Global, text: &str) -> Result<Tree, Fail> {
+    let (rule, sizes) = text.split_once(' ').ok_or("a rule")?;
+    let sizes = numbers(alloc, sizes)?;
+    let (last, front) = sizes.split_last().ok_or("a leaf")?;
+    let mut tree = Tree::Leaf(*last);
+    for size in front.iter().rev() {
+        let left = Box::new(alloc, Tree::Leaf(*size))?;
+        let right = Box::new(alloc, tree)?;
+        tree = match rule {
+            "gt" => Tree::Gt(left, right),
+            "ct" => Tree::Ct(left, right),
+            _ => Tree::Split(left, right),
+        };
+    }
+    Ok(tree)
+}

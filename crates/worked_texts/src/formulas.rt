@@ -1,0 +1,139 @@
+// Formulas: what is read, refused, printed, applied and rewritten.
+
+use crate::rows::{halves, spelled};
+use ring_mod::Modulus;
+use spl_ast::{Distribute, Spl, rewrite};
+use spl_text::{print_spl, read_spl};
+use std::alloc::Global;
+use std::test::Fail;
+
+// A text, and the fault where it is no formula.
+const FAULTS: &str = "\
+I(65536)|None
+DFT(12,4611686018427387903)~|None
+WHT(4)|None
+L(6,2)|None
+T(12,4,7)|None
+DIAG(4611686018427387903,1,4)|None
+PERM(2,0,1)|None
+GTIN(3,4)|None
+GTOUT(4,3)|None
+TIMES(LEFT(DFT(2,16),2),L(4,2))|None
+RIGHT(3,SUM(PERM(0),DIAG(3,4)))|None
+|Some(Syntax { at: 0 })
+I(2|Some(Syntax { at: 3 })
+I(0)|Some(Syntax { at: 2 })
+I(65537)|Some(Syntax { at: 6 })
+I(2)x|Some(Syntax { at: 4 })
+I(2)~~|Some(Syntax { at: 5 })
+DFT(2,4611686018427387904)|Some(Syntax { at: 24 })
+DFT(2,01)|Some(Syntax { at: 7 })
+DIAG()|Some(Syntax { at: 5 })
+LIFT(I(2),3)|Some(Syntax { at: 1 })
+TIMES(I(2),I(x|Some(Syntax { at: 13 })
+TIMES(I(2),I(3))|Some(Shape { at: 0, left: 2, right: 3 })
+LEFT(TIMES(I(2),I(3)),0)|Some(Shape { at: 5, left: 2, right: 3 })
+L(6,4)|Some(Shape { at: 0, left: 6, right: 4 })
+T(6,4,1)|Some(Shape { at: 0, left: 6, right: 4 })
+GTIN(4,6)|Some(Shape { at: 0, left: 4, right: 6 })
+GTOUT(1,6)|Some(Shape { at: 0, left: 1, right: 6 })
+GTIN(257,256)|Some(Shape { at: 0, left: 65792, right: 65536 })
+WHT(6)|Some(Shape { at: 0, left: 6, right: 2 })
+PERM(2,0,2,1)|Some(Shape { at: 0, left: 4, right: 2 })
+PERM(0,3,1)|Some(Shape { at: 0, left: 3, right: 3 })
+SUM(I(65536),I(1))|Some(Shape { at: 0, left: 65537, right: 65536 })
+";
+
+fn fault_of(alloc: Global, text: &str) -> Result<String, Fail> {
+    Ok(format!(in alloc; "{:?}", read_spl(alloc, text.as_bytes()).err())?)
+}
+
+#[test]
+fn kinds_and_faults(rt: HostRuntime) -> Result<(), Fail> {
+    for row in FAULTS.lines() {
+        let (text, wanted) = halves(row)?;
+        let answer = fault_of(rt.alloc(), &spelled(rt.alloc(), text)?)?;
+        assert_eq!(rt; answer.as_str(), wanted, "{row}");
+    }
+    Ok(())
+}
+
+// RIGHT(1,RIGHT(1,.. I(1)..)).
+fn nested(alloc: Global, depth: u64) -> Result<String, Fail> {
+    let mut text = String::new(alloc);
+    for _ in 0..depth {
+        text.push_str("RIGHT(1,")?;
+    }
+    text.push_str("I(1)")?;
+    for _ in 0..depth {
+        text.push_str(")")?;
+    }
+    Ok(text)
+}
+
+#[test]
+fn depth(rt: HostRuntime) -> Result<(), Fail> {
+    let alloc = rt.alloc();
+    assert_eq!(rt; fault_of(alloc, &nested(alloc, 127)?)?.as_str(), "None");
+    let answer = fault_of(alloc, &nested(alloc, 128)?)?;
+    assert_eq!(rt; answer.as_str(), "Some(TooDeep { at: 1025 })");
+    Ok(())
+}
+
+// Formulas that are printed as they were read.
+const TEXTS: &str = "\
+SUM(DIAG(4611686018427387903,1,4),PERM(2,0,1))
+TIMES(GTOUT(3,4),TIMES(LEFT(DFT(3,9),4),TIMES(RIGHT(3,WHT(4)),GTIN(3,4))))
+TIMES(T(12,4,7),L(12,3))
+RIGHT(3,LEFT(I(2),5))
+DIAG(0)
+I(65536)
+TIMES(LEFT(DFT(2,16),2),L(4,2))
+";
+
+#[test]
+fn printed_as_read(rt: HostRuntime) -> Result<(), Fail> {
+    let alloc = rt.alloc();
+    for text in TEXTS.lines() {
+        let formula = read_spl(alloc, text.as_bytes()).ok().ok_or("a formula")?;
+        let printed = print_spl(alloc, &formula)?;
+        assert_eq!(rt; printed.as_slice(), text.as_bytes());
+    }
+    Ok(())
+}
+
+fn product(alloc: Global, formula: &str, modulus: u64, x: &[u64]) -> Result<String, Fail> {
+    let m = Modulus::new(modulus).ok_or("a modulus")?;
+    let formula = read_spl(alloc, formula.as_bytes()).ok().ok_or("a formula")?;
+    if formula.cols() != x.len() as u64 || !x.iter().all(|v| *v < m.get()) {
+        Err("a vector of the formula")?
+    }
+    let y = Spl::apply_plain(alloc, &m, &formula, x)?;
+    let mut text = format!(in alloc; "{} rows:", formula.rows())?;
+    for value in &y {
+        text.push_str(format!(in alloc; " {value}")?.as_str())?;
+    }
+    Ok(text)
+}
+
+#[test]
+fn read_and_applied(rt: HostRuntime) -> Result<(), Fail> {
+    let alloc = rt.alloc();
+    let text = "TIMES(LEFT(DFT(2,16),2),L(4,2))";
+    let answer = product(alloc, text, 17, &[1, 2, 3, 4])?;
+    assert_eq!(rt; answer.as_str(), "4 rows: 3 7 16 16");
+    Ok(())
+}
+
+// A tensor of a product becomes a product of tensors.
+#[test]
+fn tensors_distribute(rt: HostRuntime) -> Result<(), Fail> {
+    let alloc = rt.alloc();
+    let m = Modulus::new(12).ok_or("a modulus")?;
+    let text = b"RIGHT(3,LEFT(TIMES(DFT(2,11),L(2,1)),2))";
+    let formula = read_spl(alloc, text).ok().ok_or("a formula")?;
+    let product = rewrite(alloc, &Distribute::new(m), formula)?;
+    let printed = print_spl(alloc, &product)?;
+    assert!(rt; printed.starts_with(b"TIMES("));
+    Ok(())
+}

@@ -1,0 +1,247 @@
+// Listings: what is read and printed again, and the line where a text is no listing.
+
+use crate::rows::{halves, number, spelled};
+use listing_text::{ListingFault, print_listing, read_listing};
+use std::alloc::Global;
+use std::test::Fail;
+
+// The transform of size 4 with root 4, modulo 17, by its definition.
+const LEAF: &str = "program size 4 mod 17 procs 1 line 1 lanes 1 regs 3
+table 0 values 1 4 16 13
+phase
+for v0 4
+zero r0
+for v1 4
+ld r1 X[0+v1*1]
+mul r2 r1 t0[0+(0+v0*v1*1)%4*1] step 0
+add r0 r0 r2
+end
+st Y[0+v0*1] r0
+end
+end
+";
+
+/// The transform of size 2 with root 4, modulo 15.
+pub(crate) const PAIR: &str = "program size 2 mod 15 procs 1 line 1 lanes 1 regs 5
+phase
+ld r0 X[0]
+ld r1 X[1]
+add r2 r0 r1
+mul r3 r1 4
+add r4 r0 r3
+st Y[0] r2
+st Y[1] r4
+end
+";
+
+/// The transform of size 4 with root 4, modulo 17, on two processors.
+pub(crate) const QUAD: &str = "program size 4 mod 17 procs 2 line 1 lanes 1 regs 6
+table 0 values 1 1 1 4
+phase
+ld r0 X[0+q*1]
+ld r1 X[2+q*1]
+add r2 r0 r1
+sub r3 r0 r1
+mul r4 r2 t0[0+q*2] step 0
+st A[0+q*2] r4
+mul r5 r3 t0[1+q*2] step 0
+st A[1+q*2] r5
+end
+phase
+ld r0 A[0+q*1]
+ld r1 A[2+q*1]
+add r2 r0 r1
+sub r3 r0 r1
+st Y[0+q*1] r2
+st Y[2+q*1] r3
+end
+";
+
+// Every form, and numbers at their limits.
+const ALL_FORMS: &str =
+    "program size 65536 mod 4611686018427387903 procs 16 line 64 lanes 16 regs 1048575
+table 0 values 0
+table 1 values 4611686018427387902 1
+phase
+end
+phase
+for v0 4294967295
+for v1 1
+neg r4294967295 r0
+tile r16 r0
+ld r2 B[4294967295+q*4294967295+v0*1+v1*2+v0*v1*3+(1+v0*4)%5*6+(7+(8+q*9)/10*11)/12*13]
+mul r3 r2 4611686018427387902
+mul r3 r2 t4294967295[0] step 1
+end
+end
+end
+";
+
+#[test]
+fn printed_as_read(rt: HostRuntime) -> Result<(), Fail> {
+    for text in [LEAF, PAIR, QUAD, ALL_FORMS] {
+        let program = read_listing(rt.alloc(), text.as_bytes())
+            .ok()
+            .ok_or("a listing")?;
+        let printed = print_listing(rt.alloc(), &program)?;
+        assert_eq!(rt; printed.as_slice(), text.as_bytes());
+    }
+    Ok(())
+}
+
+// The line where a text is lost, or 0 for a listing.
+fn lost_line(alloc: Global, text: &str) -> u64 {
+    match read_listing(alloc, text.as_bytes()) {
+        Ok(_) => 0,
+        Err(ListingFault::Syntax { line }) => line,
+        Err(ListingFault::NoMemory) => u64::MAX,
+    }
+}
+
+// A text, and the line where it is lost.
+const TEXTS: &str = "\
+|1
+program size 2 mod 15 procs 1 line 1 lanes 1 regs 5|1
+program size 2 mod 15 procs 1 line 1 lanes 1 regs 5\r~phase~end~|1
+program size 2 mod 15 procs 1 line 1 lanes 1 regs 5~|2
+program size 0 mod 15 procs 1 line 1 lanes 1 regs 5~phase~end~|1
+program size 65537 mod 15 procs 1 line 1 lanes 1 regs 5~phase~end~|1
+program size 2 mod 4611686018427387904 procs 1 line 1 lanes 1 regs 5~phase~end~|1
+program size 2 mod 1 procs 1 line 1 lanes 1 regs 5~phase~end~|1
+program size 2 mod 15 procs 17 line 1 lanes 1 regs 5~phase~end~|1
+program size 2 mod 15 procs 1 line 65 lanes 1 regs 5~phase~end~|1
+program size 2 mod 15 procs 1 line 1 lanes 17 regs 5~phase~end~|1
+program size 2 mod 15 procs 1 line 1 lanes 1 regs 1048576~phase~end~|1
+program size 2 mod 15 procs 1 line 1 lanes 1 regs 0~phase~end~|0
+program size 2 mod 15 procs 1 line 1 lanes 1 regs 0~phase~end|3
+program size 2 mod 15 procs 1 line 1 lanes 1 regs 0~phase~end~~|4
+program size 2 mod 15 procs 1 line 1 lanes 1 regs 0~phase~|3
+program size 2 mod 15 procs 1 line 1 lanes 1 regs 0~table 1 values 1~phase~end~|2
+program size 2 mod 15 procs 1 line 1 lanes 1 regs 0~table 0 values~phase~end~|2
+program size 2 mod 15 procs 1 line 1 lanes 1 regs 0~table 0 values 15~phase~end~|2
+program size 2 mod 15 procs 1 line 1 lanes 1 regs 0~phase~end~table 0 values 1~|4
+program size 2 mod 15 procs 1 line 1 lanes 1 regs 5~phase~ld r0 X[0]~|4
+program size 2 mod 15 procs 1 line 1 lanes 1 regs 5~phase~ld r0 X[0]~ld r1 X[01]~end~|4
+";
+
+#[test]
+fn lost_lines(rt: HostRuntime) -> Result<(), Fail> {
+    for row in TEXTS.lines() {
+        let (text, line) = halves(row)?;
+        let text = spelled(rt.alloc(), text)?;
+        assert_eq!(rt; lost_line(rt.alloc(), &text), number(line)?, "{row}");
+    }
+    Ok(())
+}
+
+// Lines inside two loops, from the text's fifth line on, and the line where the text is lost.
+const LINES: &str = "\
+add r2 r0 r9|0
+add r2 r0  r9|5
+add r2 r0 r4294967296|5
+zero r0 |5
+mul r1 r0 14|0
+mul r1 r0 15|5
+mul r1 r0 t0[0] step 1|0
+mul r1 r0 t0[0] step 2|5
+mul r1 r0 t4294967296[0] step 0|5
+ld r0 C[0]|5
+ld r0 X[4294967296]|5
+ld r0 X[0+q*0]|5
+ld r0 X[0+q*1+q*1]|5
+ld r0 X[0+v0*1+q*1]|5
+ld r0 X[0+v0*1+v1*1]|0
+ld r0 X[0+v1*1+v0*1]|5
+ld r0 X[0+v1*1+v1*1]|5
+ld r0 X[0+v2*1]|5
+ld r0 X[0+v0*v1*1]|0
+ld r0 X[0+v0*v0*1]|5
+ld r0 X[0+v1*v0*1]|5
+ld r0 X[0+v0*v1*1+v1*1]|5
+ld r0 X[0+(0)%1*1+(0)%1*1]|0
+ld r0 X[0+(0)/1*1+(0)/1*1]|0
+ld r0 X[0+(0)%1*1+(0)/1*1]|0
+ld r0 X[0+(0)/1*1+(0)%1*1]|5
+ld r0 X[0+(0)%0*1]|5
+ld r0 X[0+(0)%1*0]|5
+ld r0 X[0+(0%1*1]|5
+for v2 1~end|0
+for v1 1~end|5
+for v2 0~end|5
+for v2 4294967296~end|5
+";
+
+fn inside_loops(alloc: Global, line: &str) -> Result<String, Fail> {
+    let header = "program size 2 mod 15 procs 1 line 1 lanes 1 regs 5";
+    Ok(format!(in alloc; "{header}\nphase\nfor v0 2\nfor v1 3\n{line}\nend\nend\nend\n")?)
+}
+
+#[test]
+fn lines_of_a_phase(rt: HostRuntime) -> Result<(), Fail> {
+    for row in LINES.lines() {
+        let (line, lost) = halves(row)?;
+        let text = inside_loops(rt.alloc(), &spelled(rt.alloc(), line)?)?;
+        assert_eq!(rt; lost_line(rt.alloc(), &text), number(lost)?, "{row}");
+    }
+    Ok(())
+}
+
+// A program with so many loops, one inside the other.
+fn nested_loops(alloc: Global, count: u64) -> Result<String, Fail> {
+    let header = "program size 2 mod 15 procs 1 line 1 lanes 1 regs 5";
+    let mut text = format!(in alloc; "{header}\nphase\n")?;
+    for depth in 0..count {
+        text.push_str(format!(in alloc; "for v{depth} 2\n")?.as_str())?;
+    }
+    for _ in 0..count {
+        text.push_str("end\n")?;
+    }
+    text.push_str("end\n")?;
+    Ok(text)
+}
+
+/// So many times this text.
+pub(crate) fn times(alloc: Global, count: u64, piece: &str) -> Result<String, Fail> {
+    let mut text = String::new(alloc);
+    for _ in 0..count {
+        text.push_str(piece)?;
+    }
+    Ok(text)
+}
+
+/// A place with so many parts in each of so many parentheses.
+pub(crate) fn place(alloc: Global, parentheses: u64, parts: u64) -> Result<String, Fail> {
+    let open = times(alloc, parentheses, "+(0")?;
+    let inner = times(alloc, parts, "+(0)%2*1")?;
+    let close = times(alloc, parentheses, ")/2*1")?;
+    Ok(format!(in alloc; "0{open}{inner}{close}")?)
+}
+
+/// The parentheses and parts of places that are as deep as may be, or deeper.
+pub(crate) const DEPTHS: &str = "\
+64 0|
+65 0|lost
+0 64|
+0 65|lost
+32 33|lost
+";
+
+#[test]
+fn limits_of_depth(rt: HostRuntime) -> Result<(), Fail> {
+    let alloc = rt.alloc();
+    assert_eq!(rt; lost_line(alloc, &nested_loops(alloc, 64)?), 0);
+    assert_eq!(rt; lost_line(alloc, &nested_loops(alloc, 65)?), 67);
+    for row in DEPTHS.lines() {
+        let (counts, lost) = halves(row)?;
+        let (parentheses, parts) = counts.split_once(' ').ok_or("two numbers")?;
+        let place = place(alloc, number(parentheses)?, number(parts)?)?;
+        let line = format!(in alloc; "ld r0 X[{place}]")?;
+        let lost = if lost.is_empty() { 0 } else { 5 };
+        assert_eq!(rt;
+            lost_line(alloc, &inside_loops(alloc, &line)?),
+            lost,
+            "{row}"
+        );
+    }
+    Ok(())
+}

@@ -1,0 +1,80 @@
+// Passes against places found by hand.
+
+ghost use Rattle.tree_model.specs.Admissible.{IsAdmissible};
+ghost use Rattle.tree_model.specs.Breakdown.{breakdown_of};
+
+use crate::contexts::{context, tree_of};
+use crate::rows::halves;
+use loop_merge::{ListedPass, Merged, merge};
+use memory::NoMemory;
+use sigma_lower::lower;
+use std::alloc::Global;
+use std::test::Fail;
+use tree_model::{Ctx, Tree, admissible};
+use vec_rewrite::vec_of_tree;
+
+// A request and a tree, and the number of phases and the places of the passes.
+//
+// A step by strides has `k * 2 + i` before it and `i * 2 + k` after its right part. On two processors variable 0 is the
+// processor's, and lines are single words, so each loads and stores its own part. On two lanes variable 0 is the lane's in the
+// passes of both parts; a tile has none: its registers begin at its items 0 and 2. A step by coprime factors has
+// `(3 * i + 2 * l) mod 6` before it and `(3 * k + 4 * j) mod 6` after it.
+const ROWS: &str = "\
+dft 4 mod 17 root 4 unroll 2; ct 2 2|1 ld 0+v0*1 ld 2+v0*1 mul 0+v0*2 mul 1+v0*2 st 0+v0*2 st 1+v0*2 ld 0+v0*1 ld 2+v0*1 st 0+v0*1 st 2+v0*1
+dft 4 mod 17 root 4 procs 2 unroll 2; ct 2 2|2 ld 0+v0*1 ld 2+v0*1 mul 0+v0*2 mul 1+v0*2 st 0+v0*2 st 1+v0*2 ld 0+v0*1 ld 2+v0*1 st 0+v0*1 st 2+v0*1
+dft 4 mod 17 root 4 lanes 2 unroll 2; ct 2 2|1 ld 0+v0*1 ld 2+v0*1 st 0+v0*1 st 2+v0*1 ld 0 ld 2 mul 0 mul 2 st 0 st 2 ld 0+v0*1 ld 2+v0*1 st 0+v0*1 st 2+v0*1
+dft 6 mod 7 root 3 unroll 2; gt 2 3|1 ld 0+(0+v0*3+v2*2)%6*1 st 0+v0*3+v1*1 ld 0+v0*1 ld 3+v0*1 st 0+(0+v0*4)%6*1 st 0+(3+v0*4)%6*1
+";
+
+fn merged_tree(alloc: Global, c: &Ctx, tree: &Tree) -> Result<Merged, NoMemory>
+    requires { IsAdmissible c.now (breakdown_of tree.now) }
+{
+    let formula = vec_of_tree(alloc, c, tree)?;
+    let formulas = lower(alloc, c, &formula)?;
+    merge(alloc, c, &formulas)
+}
+
+fn list_pass(alloc: Global, text: &mut String, pass: &ListedPass) -> Result<(), Fail> {
+    for sum in &pass.gathers {
+        text.push_str(format!(in alloc; " ld {sum}")?.as_str())?;
+    }
+    if let Some(multiplier) = &pass.multiplier {
+        for sum in &multiplier.places {
+            text.push_str(format!(in alloc; " mul {sum}")?.as_str())?;
+        }
+    }
+    for sum in &pass.scatters {
+        text.push_str(format!(in alloc; " st {sum}")?.as_str())?;
+    }
+    Ok(())
+}
+
+fn listing(alloc: Global, merged: &Merged) -> Result<String, Fail> {
+    let mut text = format!(in alloc; "{}", merged.phases.len())?;
+    for phase in &merged.phases {
+        for pass in phase {
+            list_pass(alloc, &mut text, pass)?;
+        }
+    }
+    Ok(text)
+}
+
+fn answer(alloc: Global, request: &str, tree: &str) -> Result<String, Fail> {
+    let c = context(request)?;
+    let tree = tree_of(alloc, tree)?;
+    if !admissible(&c, &tree) {
+        return Ok(format!(in alloc; "not admissible")?);
+    }
+    let merged = merged_tree(alloc, &c, &tree)?;
+    listing(alloc, &merged)
+}
+
+#[test]
+fn places_of_passes(rt: HostRuntime) -> Result<(), Fail> {
+    for row in ROWS.lines() {
+        let (question, wanted) = halves(row)?;
+        let (request, tree) = question.split_once("; ").ok_or("a tree")?;
+        assert_eq!(rt; answer(rt.alloc(), request, tree)?.as_str(), wanted);
+    }
+    Ok(())
+}

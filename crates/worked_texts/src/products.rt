@@ -1,0 +1,132 @@
+// Products of vectors: by the definition, by the formula of a tree, and by its formulas with loops.
+
+ghost use Rattle.std.specs.Prelude.{◌≡◌, ◌<◌, ◌↔◌, vec_len, All, IfOk, IsTrue, map};
+ghost use Rattle.sigma_lower.specs.Lowered.{all_mean, IsWhole};
+ghost use Rattle.sigma_spl.specs.Views.{plain_sigma};
+ghost use Rattle.spl_ast.specs.Meaning.{IsVector};
+ghost use Rattle.steps.specs.Meaning.{transform_of};
+ghost use Rattle.tree_model.specs.Admissible.{IsAdmissible};
+ghost use Rattle.tree_model.specs.Breakdown.{breakdown_of};
+
+use crate::contexts::{context, tree_of};
+use crate::rows::{halves, numbers};
+use breakdown::expand;
+use matrix_meaning::times_plain;
+use memory::NoMemory;
+use ring_mod::Modulus;
+use sigma_lower::lower;
+use sigma_spl::Sigma;
+use spl_ast::Spl;
+use std::alloc::Global;
+use std::test::Fail;
+use tree_model::{Ctx, Tree, admissible};
+use vec_rewrite::vec_of_tree;
+
+// The transform of `x`, by the plain product of the tree's formulas.
+fn times(alloc: Global, c: &Ctx, tree: &Tree, x: &[u64]) -> Result<Vec<u64>, NoMemory>
+    requires admissible { IsAdmissible c.now (breakdown_of tree.now) }
+    requires vector { IsVector c.now.modulus c.now.size x.now }
+    ensures { IfOk result (λ y. y.items ≡ transform_of c.now c.now.size x.now) }
+{
+    let _request = c.request();
+    let vectors = vec_of_tree(alloc, c, tree)?;
+    let formulas = lower(alloc, c, &vectors)?;
+    let y = apply_all(alloc, c, &formulas, x)?;
+    Ok(y)
+}
+
+// All formulas, one after the other.
+fn apply_all(alloc: Global, c: &Ctx, formulas: &[Sigma], x: &[u64]) -> Result<Vec<u64>, NoMemory>
+    requires whole { All (IsWhole c.now) (map plain_sigma formulas.now) }
+    requires vector { IsVector c.now.modulus c.now.size x.now }
+    ensures { IfOk result (λ y. y.items ≡ all_mean c.now (map plain_sigma formulas.now) x.now) }
+{
+    match formulas.split_first() {
+        None => Ok(x.to_vec(alloc)?),
+        Some((formula, rest)) => {
+            let y = Sigma::apply_plain(alloc, c, formula, x)?;
+            let all = apply_all(alloc, c, rest, &y)?;
+            Ok(all)
+        }
+    }
+}
+
+fn is_vector(modulus: u64, size: u64, x: &[u64]) -> bool
+    ensures { IsTrue result ↔ IsVector modulus size x.now }
+{
+    x.len() as u64 == size && x.iter().all(|&v| v < modulus)
+}
+
+// A request, a tree and a vector, and its product, worked out apart from this program.
+const ROWS: &str = "\
+dft 4 mod 17 root 4; ct 2 2; 1 2 3 4|10 7 15 6
+dft 4 mod 17 root 4 unroll 2; ct 2 2; 1 2 3 4|10 7 15 6
+dft 4 mod 17 root 4 procs 2 line 1; ct 2 2; 1 2 3 4|10 7 15 6
+dft 4 mod 17 root 4 lanes 2; ct 2 2; 1 2 3 4|10 7 15 6
+dft 1 mod 2 root 1; leaf 1; 1|1
+dft 2 mod 15 root 4; leaf 2; 1 1|2 5
+dft 4 mod 10 root 9; ct 2 2; 1 2 3 4|0 8 0 8
+dft 6 mod 7 root 3; gt 2 3; 0 1 0 0 0 0|1 3 2 6 4 5
+dft 6 mod 7 root 3 unroll 2; gt 2 3; 0 1 0 0 0 0|1 3 2 6 4 5
+wht 4 mod 5; split 2 2; 1 2 3 4|0 3 1 0
+wht 4 mod 5 unroll 2; split 2 2; 1 2 3 4|0 3 1 0
+dft 16 mod 17 root 3; ct 4 4; 0 1 0 0 0 0 0 0 0 0 0 0 0 0 0 0|1 3 9 10 13 5 15 11 16 14 8 7 4 12 2 6
+dft 16 mod 17 root 3; ct 4 4; 0 0 1 0 0 0 0 0 0 0 0 0 0 0 0 0|1 9 13 15 16 8 4 2 1 9 13 15 16 8 4 2
+dft 16 mod 17 root 3 procs 2 line 2; ct 4 4; 0 1 0 0 0 0 0 0 0 0 0 0 0 0 0 0|1 3 9 10 13 5 15 11 16 14 8 7 4 12 2 6
+dft 16 mod 17 root 3 line 2 lanes 2; ct 4 4; 0 1 0 0 0 0 0 0 0 0 0 0 0 0 0 0|1 3 9 10 13 5 15 11 16 14 8 7 4 12 2 6
+dft 16 mod 17 root 3 procs 2 line 2 lanes 2; ct 4 4; 0 1 0 0 0 0 0 0 0 0 0 0 0 0 0 0|1 3 9 10 13 5 15 11 16 14 8 7 4 12 2 6
+dft 6 mod 7 root 3; gt 2 3; 5 4 0 6 1 0|2 1 0 3 3 0
+dft 4 mod 10 root 9; ct 2 2; 5 4 7 6|2 2 2 2
+dft 12 mod 12 root 1; ct 3 2 2; 5 4 7 6 1 0 3 2 1 0 3 2|10 10 10 10 10 10 10 10 10 10 10 10
+dft 12 mod 15 root 4; ct 2 2 3; 5 4 7 6 1 0 3 2 13 12 0 14|7 1 7 1 7 1 7 1 7 1 7 1
+dft 21 mod 21 root 4; gt 3 7; 5 4 7 6 1 0 3 2 13 12 15 14 9 8 11 10 0 20 2 1 17|13 13 10 13 13 10 13 13 10 13 13 10 13 13 10 13 13 10 13 13 10
+wht 8 mod 12; split 2 2 2; 5 4 7 6 1 0 3 2|4 4 4 0 4 0 0 0
+";
+
+fn by_definition(alloc: Global, c: &Ctx, x: &[u64]) -> Result<Vec<u64>, Fail>
+    requires { IsVector c.now.modulus c.now.size x.now }
+{
+    let r = c.request();
+    Ok(times_plain(alloc, r.kind, r.size, r.root, r.modulus, x)?)
+}
+
+fn by_formula(alloc: Global, c: &Ctx, tree: &Tree, x: &[u64]) -> Result<Vec<u64>, Fail>
+    requires { IsAdmissible c.now (breakdown_of tree.now) }
+{
+    let m = Modulus::new(c.request().modulus).ok_or("a modulus")?;
+    let formula = expand(alloc, c, tree)?;
+    if formula.cols() != x.len() as u64 || !x.iter().all(|v| *v < m.get()) {
+        Err("a vector of the formula")?
+    }
+    Ok(Spl::apply_plain(alloc, &m, &formula, x)?)
+}
+
+// The product by each of the three ways, where the tree is admissible.
+fn answers(alloc: Global, c: &Ctx, tree: &Tree, x: &[u64]) -> Result<[Vec<u64>; 3], Fail> {
+    let request = c.request();
+    if !admissible(c, tree) || !is_vector(request.modulus, request.size, x) {
+        Err("an admissible tree and a vector")?
+    }
+    let by_loops = times(alloc, c, tree, x)?;
+    Ok([
+        by_definition(alloc, c, x)?,
+        by_formula(alloc, c, tree, x)?,
+        by_loops,
+    ])
+}
+
+#[test]
+fn products(rt: HostRuntime) -> Result<(), Fail> {
+    let alloc = rt.alloc();
+    for row in ROWS.lines() {
+        let (question, wanted) = halves(row)?;
+        let (question, x) = question.rsplit_once("; ").ok_or("a vector")?;
+        let (request, leaves) = question.rsplit_once("; ").ok_or("a tree")?;
+        let tree = tree_of(alloc, leaves)?;
+        let wanted = numbers(alloc, wanted)?;
+        for y in answers(alloc, &context(request)?, &tree, &numbers(alloc, x)?)? {
+            assert_eq!(rt; y.as_slice(), wanted.as_slice(), "{row}");
+        }
+    }
+    Ok(())
+}

@@ -1,0 +1,184 @@
+// Request lines, and the words of schedules and of turns with drains.
+
+use crate::rows::{halves, number, numbers, spelled};
+use request_text::{Mix, Schedule, read_mix, read_request, read_schedule};
+use std::alloc::Global;
+use std::test::Fail;
+
+// A line, and what it asks for or what is wrong with it. The places of syntax faults come from a matcher of prefixes that
+// is no part of this program.
+const LINES: &str = "\
+dft 9 mod 19 root 4 unroll 2 budget 1000000000000|Ok(Request { kind: Dft, size: 9, modulus: 19, root: 4, procs: 1, line: 1, lanes: 1, unroll: 2, budget: 1000000000000, weight: 1 })
+dft 9 mod 19 root 4|Ok(Request { kind: Dft, size: 9, modulus: 19, root: 4, procs: 1, line: 1, lanes: 1, unroll: 8, budget: 100000000, weight: 1 })
+wht 8 mod 10 unroll 4|Ok(Request { kind: Wht, size: 8, modulus: 10, root: 0, procs: 1, line: 1, lanes: 1, unroll: 4, budget: 100000000, weight: 1 })
+wht 16 mod 97 procs 2 line 4 lanes 2 unroll 4|Ok(Request { kind: Wht, size: 16, modulus: 97, root: 0, procs: 2, line: 4, lanes: 2, unroll: 4, budget: 100000000, weight: 1 })
+wht 16 mod 97 procs 16 unroll 4|Ok(Request { kind: Wht, size: 16, modulus: 97, root: 0, procs: 16, line: 1, lanes: 1, unroll: 4, budget: 100000000, weight: 1 })
+wht 16 mod 97 line 3 lanes 2 unroll 4|Ok(Request { kind: Wht, size: 16, modulus: 97, root: 0, procs: 1, line: 3, lanes: 2, unroll: 4, budget: 100000000, weight: 1 })
+wht 6 mod 10|Err(Shape { size: 6 })
+wht 6 mod 97 procs 2 line 3 lanes 2|Err(Shape { size: 6 })
+wht 16 mod 97 procs 2 line 3 lanes 2|Err(LanesLine { lanes: 2, line: 3 })
+wht 6 mod 10 unroll 99|Err(Range { field: Unroll, value: 99 })
+dft 0 mod 17 root 1|Err(Range { field: Size, value: 0 })
+dft 65537 mod 1 root 1|Err(Range { field: Size, value: 65537 })
+dft 70000 mod 17 root 1|Err(Range { field: Size, value: 70000 })
+dft 4 mod 1 root 0|Err(Range { field: Mod, value: 1 })
+dft 2 mod 4611686018427387904 root 1|Err(Range { field: Mod, value: 4611686018427387904 })
+dft 4 mod 17 root 17|Err(Range { field: Root, value: 17 })
+dft 1 mod 2 root 18446744073709551615|Err(Range { field: Root, value: 18446744073709551615 })
+dft 4 mod 17 root 4 unroll 1 budget 0|Err(Range { field: Unroll, value: 1 })
+dft 4 mod 17 root 4 unroll 65|Err(Range { field: Unroll, value: 65 })
+dft 4 mod 17 root 4 budget 0|Err(Range { field: Budget, value: 0 })
+dft 4 mod 17 root 4 budget 1000000000001|Err(Range { field: Budget, value: 1000000000001 })
+dft 4 mod 17 root 18 unroll 65|Err(Range { field: Root, value: 18 })
+dft 4 mod 17 root 4 procs 0|Err(Range { field: Procs, value: 0 })
+dft 4 mod 17 root 4 procs 17 line 65|Err(Range { field: Procs, value: 17 })
+dft 4 mod 17 root 4 procs 17 budget 0|Err(Range { field: Procs, value: 17 })
+dft 4 mod 17 root 4 line 0|Err(Range { field: Line, value: 0 })
+wht 4 mod 17 procs 16 line 65 lanes 17|Err(Range { field: Line, value: 65 })
+wht 4 mod 17 line 64 lanes 17|Err(Range { field: Lanes, value: 17 })
+wht 4 mod 17 procs 2 line 3 lanes 2 unroll 1|Err(Range { field: Unroll, value: 1 })
+|Err(Syntax { at: 0 })
+dft|Err(Syntax { at: 3 })
+dft  4 mod 17 root 4|Err(Syntax { at: 4 })
+dft 4 mod 17|Err(Syntax { at: 12 })
+dft 4 mod 17 rot 4|Err(Syntax { at: 15 })
+dft 04 mod 17 root 4|Err(Syntax { at: 5 })
+dft 4 mod 17 root 4 |Err(Syntax { at: 20 })
+dft 4 mod 17 root 4\r|Err(Syntax { at: 19 })
+dft 4 mod 17 root 4~|Err(Syntax { at: 19 })
+dft -4 mod 17 root 4|Err(Syntax { at: 4 })
+dft 18446744073709551616 mod 17 root 4|Err(Syntax { at: 23 })
+dft 4 mod 18446744073709551616 root 4|Err(Syntax { at: 29 })
+dft 0 mod 1 root 5 procs|Err(Syntax { at: 24 })
+dft 4 mod 17 root 4 procs 2 procs 2|Err(Syntax { at: 28 })
+dft 4 mod 17 root 4 line 2 procs 1|Err(Syntax { at: 27 })
+dft 4 mod 17 root 4 lanes 1 line 1|Err(Syntax { at: 28 })
+dft 4 mod 17 root 4 procs 02|Err(Syntax { at: 27 })
+dft 4 mod 17 root 4 lines 1|Err(Syntax { at: 24 })
+dft 4 mod 17 root 4 weight 1|Err(Syntax { at: 20 })
+xht 4 mod 5|Err(Syntax { at: 0 })
+wht|Err(Syntax { at: 3 })
+wht 4 mod 5 root 1|Err(Syntax { at: 12 })
+dft 4 mod 17 root 4 unroll 8 unroll 8|Err(Syntax { at: 29 })
+dft 4 mod 17 root 4 budget 9 unroll 8|Err(Syntax { at: 28 })
+dft 4 mod 17 root 4 unroll 8 bidget 9|Err(Syntax { at: 30 })
+dft 4 mod 17 root 4 budget 99x|Err(Syntax { at: 29 })
+";
+
+#[test]
+fn lines(rt: HostRuntime) -> Result<(), Fail> {
+    for row in LINES.lines() {
+        let (line, wanted) = halves(row)?;
+        let line = spelled(rt.alloc(), line)?;
+        let answer = format!(in rt.alloc(); "{:?}", read_request(line.as_bytes()))?;
+        assert_eq!(rt; answer.as_str(), wanted);
+    }
+    Ok(())
+}
+
+// A word, a number of processors and some places; and the number of turns, those at the places, and the first turn of a
+// processor that is not there. The seed's turns are those of the generator in Python.
+const SCHEDULES: &str = "\
+seq; 3|0: None
+turns:1,4294967295; 2|2: Some(4294967295)
+turns:1,1; 2 0 1|2: 1 1 None
+rr:3; 5 13|15: 3 None
+rr:3; 1|3: None
+seed:18446744073709551615:1000000; 16 0 65535 524288 999999|1000000: 8 9 5 15 None
+; 1|Syntax { at: 0 }
+turns:; 1|Syntax { at: 6 }
+rr:1000001; 1|Syntax { at: 9 }
+seq1; 1|Syntax { at: 3 }
+rr:01; 1|Syntax { at: 4 }
+seed:1; 1|Syntax { at: 6 }
+seed:18446744073709551616:1; 1|Syntax { at: 24 }
+turns:1,,2; 1|Syntax { at: 8 }
+turns:1,; 1|Syntax { at: 8 }
+turns:4294967296; 1|Syntax { at: 15 }
+";
+
+fn turns(alloc: Global, schedule: &Schedule, procs: u64, places: &[u64]) -> Result<String, Fail> {
+    if procs < 1 || procs > 16 {
+        Err("a number of processors")?
+    }
+    let mut text = format!(in alloc; "{}:", schedule.len(procs))?;
+    for place in places {
+        if *place < schedule.len(procs) {
+            let turn = schedule.turn_at(*place, procs);
+            text.push_str(format!(in alloc; " {turn}")?.as_str())?;
+        }
+    }
+    text.push_str(format!(in alloc; " {:?}", schedule.stranger(procs))?.as_str())?;
+    Ok(text)
+}
+
+fn schedule_answer(alloc: Global, word: &str, numbers: &[u64]) -> Result<String, Fail> {
+    let (procs, places) = numbers.split_first().ok_or("a number of processors")?;
+    match read_schedule(alloc, word.as_bytes()) {
+        Ok(schedule) => turns(alloc, &schedule, *procs, places),
+        Err(fault) => Ok(format!(in alloc; "{fault:?}")?),
+    }
+}
+
+#[test]
+fn schedules(rt: HostRuntime) -> Result<(), Fail> {
+    for row in SCHEDULES.lines() {
+        let (question, wanted) = halves(row)?;
+        let (word, rest) = question.split_once("; ").ok_or("numbers")?;
+        let numbers = numbers(rt.alloc(), rest)?;
+        let answer = schedule_answer(rt.alloc(), word, &numbers)?;
+        assert_eq!(rt; answer.as_str(), wanted, "{row}");
+    }
+    Ok(())
+}
+
+// A word and a number of processors; and the turns and drains, and the first processor that is not there. The places of
+// faults come from a matcher of prefixes that is no part of this program.
+const MIXES: &str = "\
+mix:t1,d0,t0,d4294967295; 2|Turn(1) Drain(0) Turn(0) Drain(4294967295) Some(4294967295)
+mix:t1,d0,t0,d4294967295; 1|Turn(1) Drain(0) Turn(0) Drain(4294967295) Some(1)
+mix:d2; 2|Drain(2) Some(2)
+mix:d2; 3|Drain(2) None
+; 1|Syntax { at: 0 }
+mix; 1|Syntax { at: 3 }
+mix:; 1|Syntax { at: 4 }
+mix:t; 1|Syntax { at: 5 }
+mix:t1,; 1|Syntax { at: 7 }
+mix:x1; 1|Syntax { at: 4 }
+mix:t01; 1|Syntax { at: 6 }
+mix:t4294967296; 1|Syntax { at: 14 }
+mix:t1 ; 1|Syntax { at: 6 }
+mix:t1,,d0; 1|Syntax { at: 7 }
+seq; 1|Syntax { at: 0 }
+mix:d0,t1,d; 1|Syntax { at: 11 }
+";
+
+fn events(alloc: Global, mix: &Mix, procs: u64) -> Result<String, Fail> {
+    let mut text = String::new(alloc);
+    for place in 0..mix.len() {
+        if place < mix.len() {
+            let event = mix.event_at(place);
+            text.push_str(format!(in alloc; "{event:?} ")?.as_str())?;
+        }
+    }
+    text.push_str(format!(in alloc; "{:?}", mix.stranger(procs))?.as_str())?;
+    Ok(text)
+}
+
+fn mix_answer(alloc: Global, word: &str, procs: u64) -> Result<String, Fail> {
+    match read_mix(alloc, word.as_bytes()) {
+        Ok(mix) => events(alloc, &mix, procs),
+        Err(fault) => Ok(format!(in alloc; "{fault:?}")?),
+    }
+}
+
+#[test]
+fn mixes(rt: HostRuntime) -> Result<(), Fail> {
+    for row in MIXES.lines() {
+        let (question, wanted) = halves(row)?;
+        let (word, procs) = question.split_once("; ").ok_or("a number")?;
+        let answer = mix_answer(rt.alloc(), word, number(procs)?)?;
+        assert_eq!(rt; answer.as_str(), wanted, "{row}");
+    }
+    Ok(())
+}

@@ -1,0 +1,110 @@
+// Arithmetic modulo a number, index functions, and sums of loop variables.
+
+use crate::rows::{halves, number};
+use index_fn::{Index, compose};
+use matrix_meaning::twiddle_factor;
+use perm_algebra::{Affine, simplify};
+use quick_mod::QuickModulus;
+use ring_mod::Modulus;
+use std::test::Fail;
+
+// A call, the modulus and the numbers that it takes, and the value by Python's integers.
+const VALUES: &str = "\
+pow 4611686018427387903 3 1000000000000000000|Some(2215898355356453769)
+pow 4611686018427387903 2 62|Some(1)
+pow 4611686018427387903 0 0|Some(1)
+mul 4611686018427387903 4611686018427387902 4611686018427387902|Some(1)
+add 4611686018427387903 4611686018427387902 4611686018427387902|Some(4611686018427387901)
+sub 4611686018427387903 0 4611686018427387902|Some(1)
+neg 4611686018427387903 0 0|Some(0)
+reduce 4611686018427387903 18446744073709551615 0|Some(3)
+reduce 1 0 0|None
+reduce 4611686018427387904 0 0|None
+quick 4611686018427387903 4611686018427387902 4611686018427387902|Some(1)
+quick 4611686018427387903 1234567890123456789 3456789012345678901|Some(2528027654149735671)
+quick 12289 12288 12288|Some(1)
+quick 12289 6789 1234|Some(8817)
+quick 2 1 1|Some(1)
+twiddle 17 3 11|Some(15)
+";
+
+// The value of a call on numbers that are residues, where there is such a modulus. A twiddle factor is one of four columns.
+fn value(call: &str, modulus: u64, a: u64, b: u64) -> Option<u64> {
+    let m = Modulus::new(modulus)?;
+    let (left, right) = (m.reduce(a), m.reduce(b));
+    Some(match call {
+        "pow" => m.pow(left, b),
+        "add" => m.add(left, right),
+        "sub" => m.sub(left, right),
+        "neg" => m.neg(left),
+        "mul" => m.mul(left, right),
+        "quick" => QuickModulus::new(m).mul(left, right),
+        "twiddle" => twiddle_factor(&m, 4, left, b),
+        _ => left,
+    })
+}
+
+#[test]
+fn values(rt: HostRuntime) -> Result<(), Fail> {
+    for row in VALUES.lines() {
+        let (question, wanted) = halves(row)?;
+        let (call, rest) = question.split_once(' ').ok_or("a call")?;
+        let (modulus, rest) = rest.split_once(' ').ok_or("a modulus")?;
+        let (a, b) = rest.split_once(' ').ok_or("two numbers")?;
+        let value = value(call, number(modulus)?, number(a)?, number(b)?);
+        let answer = format!(in rt.alloc(); "{value:?}")?;
+        assert_eq!(rt; answer.as_str(), wanted, "{row}");
+    }
+    Ok(())
+}
+
+// By hand, from the formulas of the permutations.
+#[test]
+fn places_of_permutations(rt: HostRuntime) -> Result<(), Fail> {
+    let alloc = rt.alloc();
+    let turn = Index::StridePermutation(2, 3);
+    let turn_back = turn.inverse(alloc)?;
+    let into = Index::ThomasIn(2, 3);
+    let out = Index::ThomasOut(2, 3);
+    let out_back = Index::ThomasBack(2, 3, 3, 4);
+    for i in 0..6 {
+        let k = i as usize;
+        assert_eq!(rt; turn.at(i), [0, 2, 4, 1, 3, 5][k]);
+        assert_eq!(rt; turn_back.at(i), [0, 3, 1, 4, 2, 5][k]);
+        assert_eq!(rt; into.at(i), [0, 2, 4, 3, 5, 1][k]);
+        assert_eq!(rt; out.at(i), [0, 4, 2, 3, 1, 5][k]);
+        assert_eq!(rt; out_back.at(i), [0, 4, 2, 3, 1, 5][k]);
+    }
+    let composed = compose(alloc, &Index::Stride(1, 2), &Index::Stride(0, 3))?;
+    assert_eq!(rt; composed.at(2), 13);
+    Ok(())
+}
+
+#[test]
+fn inverse_of_a_list(rt: HostRuntime) -> Result<(), Fail> {
+    let list = Index::Explicit(vec![in rt.alloc(); 1, 2, 0]?);
+    let back = list.inverse(rt.alloc())?;
+    assert_eq!(rt; back.at(0), 2);
+    assert_eq!(rt; back.at(1), 0);
+    assert_eq!(rt; back.at(2), 1);
+    Ok(())
+}
+
+// A variable at a stride permutation, and a row and a column of it.
+#[test]
+fn sums(rt: HostRuntime) -> Result<(), Fail> {
+    let alloc = rt.alloc();
+    let turn = Index::StridePermutation(2, 3);
+    let end = Box::new(alloc, Affine::Constant(0))?;
+    let place = Affine::Variable(1, 0, end);
+    let sum = simplify(alloc, &turn, &place, &[6])?;
+    let text = format!(in alloc; "{sum}")?;
+    assert_eq!(rt; text.as_str(), "0+(0+v0*1)%3*2+(0+v0*1)/3*1");
+    let end = Box::new(alloc, Affine::Constant(0))?;
+    let column = Box::new(alloc, Affine::Variable(1, 1, end))?;
+    let place = Affine::Variable(3, 0, column);
+    let sum = simplify(alloc, &turn, &place, &[2, 3])?;
+    let text = format!(in alloc; "{sum}")?;
+    assert_eq!(rt; text.as_str(), "0+v1*2+v0*1");
+    Ok(())
+}

@@ -1,0 +1,147 @@
+// Command lines.
+
+use crate::rows::halves;
+use request_text::{Event, Mix, Schedule};
+use spiral_words::{Command, Order, Refusal, command_of};
+use std::alloc::Global;
+use std::test::Fail;
+
+// The words, and the command: its seed, and its schedule by the turns or events that it has on two processors and the last
+// of them.
+const ROWS: &str = "\
+spiral plan|plan
+spiral formula|formula
+spiral code|code
+spiral c|c
+spiral cert|cert
+spiral check --|check
+spiral run|run 0
+spiral run --schedule seq|run 0
+spiral run --schedule=rr:3|run 6 1
+spiral trace --schedule turns:0,1,1,0,7|trace 5 7
+spiral trace --schedule seed:0:1000|trace 1000 0
+spiral sample|sample 0 0
+spiral sample --schedule turns:1 --seed 18446744073709551615|sample 18446744073709551615 1 1
+spiral|usage
+spiral jump|usage
+spiral help|usage
+spiral --help|usage
+spiral run -h|usage
+spiral plan -V|usage
+spiral plan --schedule seq|usage
+spiral run --seed 1|usage
+spiral --schedule seq run|usage
+spiral run --schedule seq --schedule seq|usage
+spiral run --sched seq|usage
+spiral run --schedule|usage
+spiral run --schedule turns:|usage
+spiral run --schedule seq1|usage
+spiral run --schedule rr:01|usage
+spiral run --schedule seed:1|usage
+spiral run --schedule turns:1,,2|usage
+spiral run --schedule turns:4294967296|usage
+spiral trace --schedule rr:1000001|usage
+spiral sample --seed 01|usage
+spiral sample --seed +1|usage
+spiral sample --seed 18446744073709551616|usage
+spiral check -- more|usage
+spiral exec|exec 0
+spiral exec --schedule turns:1,1,1,0|exec 4 0
+spiral run --buffers|run buffered 0
+spiral trace --buffers --schedule mix:d0,t0|trace mixed 2 t0
+spiral run --schedule mix:t1,d0,t0,d1 --buffers|run mixed 4 d1
+spiral run --buffers --schedule=turns:0,1|run buffered 2 1
+spiral run --schedule mix:t0|usage
+spiral run --buffers --schedule mix:|usage
+spiral run --buffers --schedule mix:t|usage
+spiral run --buffers --schedule mix:t01|usage
+spiral run --buffers --schedule mix:t4294967296|usage
+spiral run --buffers --buffers|usage
+spiral run --buffers=true|usage
+spiral run --buffers seq|usage
+spiral run --buffer|usage
+spiral sample --buffers|usage
+spiral apply --mod 17 --buffers|usage
+spiral exec --schedule mix:t0|usage
+spiral compile|usage
+spiral apply --schedule seq|usage
+spiral compile --mod|usage
+spiral compile --mod=|usage
+spiral compile --mod 0|usage
+spiral compile --mod 1|usage
+spiral compile --mod 017|usage
+spiral compile --mod +17|usage
+spiral compile --mod -17|usage
+spiral compile --mod 4611686018427387904|usage
+spiral compile --mod 18446744073709551618|usage
+spiral compile --mod 17 --mod 17|usage
+spiral compile --mod 17 --schedule seq|usage
+spiral exec --mod 17|usage
+spiral convolve --code --code|usage
+spiral exec --code|usage
+spiral code --code|usage
+spiral --mod 17 compile|usage
+";
+
+fn shown(alloc: Global, name: &str, schedule: &Schedule) -> Result<String, Fail> {
+    let len = schedule.len(2);
+    if len == 0 {
+        return Ok(format!(in alloc; "{name} 0")?);
+    }
+    let last = schedule.turn_at(len - 1, 2);
+    Ok(format!(in alloc; "{name} {len} {last}")?)
+}
+
+fn mixed(alloc: Global, name: &str, mix: &Mix) -> Result<String, Fail> {
+    let len = mix.len();
+    let last = match mix.event_at(len - 1) {
+        Event::Turn(q) => format!(in alloc; "t{q}")?,
+        Event::Drain(q) => format!(in alloc; "d{q}")?,
+    };
+    Ok(format!(in alloc; "{name} mixed {len} {last}")?)
+}
+
+fn ordered(alloc: Global, name: &str, order: &Order) -> Result<String, Fail> {
+    match order {
+        Order::Turns(schedule) => shown(alloc, name, schedule),
+        Order::Buffered(schedule) => {
+            let name = format!(in alloc; "{name} buffered")?;
+            shown(alloc, &name, schedule)
+        }
+        Order::Mixed(mix) => mixed(alloc, name, mix),
+    }
+}
+
+fn answer(alloc: Global, line: &str) -> Result<String, Fail> {
+    let mut words = Vec::new(alloc);
+    for word in line.split(' ') {
+        words.push(String::from_str(alloc, word)?)?;
+    }
+    let name = match command_of(alloc, &words) {
+        Ok(Command::Plan) => "plan",
+        Ok(Command::Formula) => "formula",
+        Ok(Command::Code) => "code",
+        Ok(Command::C) => "c",
+        Ok(Command::Run { order }) => return ordered(alloc, "run", &order),
+        Ok(Command::Trace { order }) => return ordered(alloc, "trace", &order),
+        Ok(Command::Cert) => "cert",
+        Ok(Command::Check) => "check",
+        Ok(Command::Sample { seed, schedule }) => {
+            let name = format!(in alloc; "sample {seed}")?;
+            return shown(alloc, &name, &schedule);
+        }
+        Ok(Command::Exec { schedule }) => return shown(alloc, "exec", &schedule),
+        Err(Refusal::Usage) => "usage",
+        Err(Refusal::NoMemory) => "no memory",
+    };
+    Ok(name.to_string(alloc)?)
+}
+
+#[test]
+fn command_lines(rt: HostRuntime) -> Result<(), Fail> {
+    for row in ROWS.lines() {
+        let (line, wanted) = halves(row)?;
+        assert_eq!(rt; answer(rt.alloc(), line)?.as_str(), wanted, "{line}");
+    }
+    Ok(())
+}

@@ -1,0 +1,85 @@
+#!/usr/bin/env bash
+# Runs the commands of docs/GUIDE.md and compares what they answer with what the guide says, letter for letter.
+# usage: guide.sh [--write] [GUIDE.md]     --write puts the answers into the guide
+#
+# In a block ```console a line `$ COMMAND` is a command, lines `> ..` behind it go on with it, and what follows up to
+# the next command is its answer: standard output and standard error. All run in one shell, in an empty folder with
+# examples/ in it. Blocks of other names are not run. The pictures that the commands leave are those beside the guide.
+# SPIRAL names the program, if not the built one. README.md may stand for the guide, too.
+set -uo pipefail
+top=$(cd "$(dirname "$0")/.." && pwd)
+write=
+[ "${1:-}" = --write ] && write=yes && shift
+guide=$(readlink -f "${1:-$top/docs/GUIDE.md}")
+program=${SPIRAL:-$top/crates/spiral/out/spiral}
+[ -x "$program" ] || "$top/bin/build" || exit 1
+work=$(mktemp -d)
+trap 'rm -rf "$work"' EXIT
+mkdir "$work/bin" "$work/here"
+ln -s "$(readlink -f "$program")" "$work/bin/spiral"
+ln -s "$top/bin/spiral-fast" "$work/bin/spiral-fast"
+ln -s "$top/examples" "$work/here/examples"
+cd "$work/here" || exit 1
+PATH=$work/bin:$PATH
+export PATH SPIRAL=spiral
+
+fence='```'
+inside=
+command=
+status=0
+commands=0
+
+# Runs the command that was read, and writes what it answers.
+run_command() {
+  [ -n "$command" ] || return
+  commands=$((commands + 1))
+  (exit "$status")
+  eval "$command" >"$work/answer" 2>&1 </dev/null
+  status=$?
+  cat "$work/answer"
+  if [ -s "$work/answer" ] && [ -n "$(tail -c 1 "$work/answer")" ]; then
+    echo
+  fi
+  command=
+}
+
+while IFS= read -r line <&3; do
+  if [ "$inside" = console ]; then
+    case $line in
+    "> "*)
+      command+=$'\n'${line#> }
+      echo "$line"
+      continue
+      ;;
+    '$ '* | "$fence") run_command ;;
+    *) continue ;;
+    esac
+    [ "$line" = "$fence" ] && inside=
+    [ "$line" = "$fence" ] || command=${line#\$ }
+  elif [ -n "$inside" ]; then
+    [ "$line" = "$fence" ] && inside=
+  elif [[ $line == "$fence"* ]]; then
+    inside=${line#"$fence"}
+    inside=${inside:-text}
+  fi
+  echo "$line"
+done 3<"$guide" >"$work/guide"
+
+pictures=$(dirname "$guide")/pictures
+for picture in *.svg; do
+  [ -e "$picture" ] || continue
+  if [ -n "$write" ]; then
+    mkdir -p "$pictures" && cp "$picture" "$pictures/"
+  elif ! cmp "$picture" "$pictures/$picture"; then
+    echo "guide: the picture differs"
+    exit 1
+  fi
+done
+
+if [ -n "$write" ]; then
+  cp "$work/guide" "$guide"
+elif ! diff -u "$guide" "$work/guide"; then
+  echo "guide: the guide and the answers differ"
+  exit 1
+fi
+echo "guide: $commands commands answered as written"
