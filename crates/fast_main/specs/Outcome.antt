@@ -6,7 +6,7 @@ use Rattle.icode.specs.Plain.{PlainProgram}
 use Rattle.grammar.specs.Grammar.{IsLost}
 use Rattle.listing_text.specs.Texts.{is_listing}
 use Rattle.code_check.specs.declared.CheckFault.{CheckFault}
-use Rattle.code_check.specs.declared.CheckFault.TheVariants as fault
+use Rattle.code_check.specs.declared.CheckFault.TheVariants as faults
 use Rattle.code_check.specs.Refusals.{PassesCheck, IsCause}
 use Rattle.io_edge.specs.Faults.{Rose}
 use Rattle.io_edge.specs.Taken.{AppendsPrefix}
@@ -23,11 +23,11 @@ abbrev pub action_limit : ℕ
 action_limit = 100000000
 
 abbrev pub status_of_check : CheckFault → Status
-status_of_check (fault.OverSteps limit) = OverSteps limit
-status_of_check (fault.Address phase q i) = Address phase q i
-status_of_check (fault.Register phase q i) = Register phase q i
-status_of_check (fault.LineShared phase line a b) = LineShared phase line a b
-status_of_check fault.NoMemory = NoMemory
+status_of_check (faults.OverSteps limit) = OverSteps limit
+status_of_check (faults.Address phase q i) = Address phase q i
+status_of_check (faults.Register phase q i) = Register phase q i
+status_of_check (faults.LineShared phase line a b) = LineShared phase line a b
+status_of_check faults.NoMemory = NoMemory
 
 -- the bytes are the listing of no program, and lost in a line
 pub record IsUnread (bytes : List ℕ) (status : Status) : Type 0 where
@@ -40,7 +40,7 @@ pub record IsUnsound (bytes : List ℕ) (status : Status) : Type 0 where
   pub program : PlainProgram
   pub fault : CheckFault
   pub listing : is_listing bytes program
-  pub told : fault ≢ fault.NoMemory
+  pub told : fault ≢ faults.NoMemory
   pub cause : IsCause action_limit program fault
   pub says : status ≡ status_of_check fault
 
@@ -75,6 +75,13 @@ pub record IsDefined (status : Status) : Type 0 where
   pub read : status ≢ ReadFault
   pub write : status ≢ WriteFault
   pub memory : status ≢ NoMemory
+
+-- neither success nor a fault of the outside
+pub record IsInside (status : Status) : Type 0 where
+  pub success : status ≢ Success
+  pub read : status ≢ ReadFault
+  pub write : status ≢ WriteFault
+  pub usage : status ≢ Usage
 
 -- Status and output of a call, by all the bytes of its input and by what the source has left of them
 pub record Accounts (words : List (List ℕ)) (bytes : List ℕ) (left before after : Option (List ℕ)) (status : Status) : Type 0 where

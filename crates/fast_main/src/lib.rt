@@ -1,13 +1,9 @@
 //! Fast C from a listing: a listing on an input to a C text on an output, a note and a status.
 #![tactic(auto)]
 
-ghost use Rattle.std.specs.Prelude.{◌≡◌, ◌×◌, ℕ, List};
-ghost use Rattle.icode.specs.Plain.{PlainProgram};
-ghost use Rattle.listing_text.specs.Texts.{is_listing};
-ghost use Rattle.code_check.specs.Refusals.{PassesCheck};
+ghost use Rattle.std.specs.Prelude.{◌≡◌, ℕ, List};
 ghost use Rattle.fast_main.specs.declared.status.Status.{Status as SpecStatus};
 ghost use Rattle.fast_main.specs.Outcome.{IsOutcome};
-ghost use Rattle.fast_main.specs.Translation.{IsFaithful};
 
 mod run;
 mod status;

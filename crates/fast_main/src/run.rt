@@ -1,14 +1,15 @@
 // The top call.
-ghost use Rattle.std.specs.Prelude.{◌≡◌, ◌≢◌, ℕ, List, [], length, map, string_bytes, IfOk, IfErr, IfSome, OnOk};
+ghost use Rattle.std.specs.Prelude.{◌≡◌, ◌≢◌, ℕ, List, [], length, map, string_bytes, IfOk, IfErr, IfSome};
 ghost use Rattle.std.specs.declared.option.Option.{Option};
 ghost use Rattle.std.specs.Io.KnownBytes.{Appends, IsAtEnd};
-ghost use Rattle.icode.specs.Program.{plain_program};
+ghost use Rattle.icode.specs.Machine.{IsApart};
+ghost use Rattle.icode.specs.Program.{plain_program, code_of, Fits};
 ghost use Rattle.io_edge.specs.Faults.{Reports};
 ghost use Rattle.word_code.specs.Choice.{fast_words};
 ghost use Rattle.word_code.specs.View.{plain_word_program};
-ghost use Rattle.fast_main.specs.Outcome.{IsRefused, IsTranslated, IsDefined, Accounts, Notes};
+ghost use Rattle.fast_main.specs.Outcome.{IsRefused, IsTranslated, IsInside, IsDefined, Accounts, Notes};
 ghost use Rattle.fast_main.specs.Status.{note_line, status_of};
-ghost use Rattle.fast_main.specs.Translation.{fast_text};
+ghost use Rattle.fast_main.specs.Translation.{fast_text, IsFaithful};
 
 use crate::status::{Status, write_note};
 use code_check::verify;
@@ -26,17 +27,19 @@ pub const LISTING_LIMIT: u64 = 1 << 26;
 
 // The C text of a program.
 fn fast_text_of(alloc: Global, program: &Program) -> Result<Vec<u8>, NoMemory>
-    ensures { IfOk result (λ text. text.items ≡ fast_text (plain_program program.now)) }
+    ensures text { IfOk result (λ text. text.items ≡ fast_text (plain_program program.now)) }
+    ensures faithful { IfOk result (λ text. Fits program.now → ((phase : ℕ) → IsApart (code_of program.now) phase) → IsFaithful (plain_program program.now)) }
 {
     let words = make_fast(alloc, program)?;
-    print_words(alloc, &words)
+    let text = print_words(alloc, &words)?;
+    Ok(text)
 }
 
 // The C text that the bytes of a listing call for.
 fn text_of(alloc: Global, listing: &[u8]) -> Result<Vec<u8>, Status>
     ensures text { IfOk result (λ text. IsTranslated listing.now text.items) }
     ensures refused { IfErr result (λ status. IsDefined status → IsRefused listing.now status) }
-    ensures inside { IfErr result (λ status. (status ≢ Status.ReadFault) × (status ≢ Status.WriteFault)) }
+    ensures inside { IfErr result (λ status. IsInside status) }
 {
     let program = read_listing(alloc, listing)?;
     let verified = verify(alloc, &program)?;
@@ -52,7 +55,7 @@ fn work<I: Source, O: Sink>(
     output: &mut O,
 ) -> Result<(), Status>
     ensures told { IfSome (I.left input.old) (λ bytes. Accounts (map string_bytes words.now.items) bytes (I.left input.new) (O.taken output.old) (O.taken output.new) (status_of result)) }
-    ensures end { OnOk result (IsAtEnd (I.left input.new)) }
+    ensures end { status_of result ≡ Status.Success → IsAtEnd (I.left input.new) }
     ensures read { Reports (I.faults input.old) (I.faults input.new) (status_of result ≡ Status.ReadFault) }
     ensures write { Reports (O.faults output.old) (O.faults output.new) (status_of result ≡ Status.WriteFault) }
     ensures nothing { status_of result ≢ Status.Success → status_of result ≢ Status.WriteFault → Appends (O.taken output.old) (O.taken output.new) [] }

@@ -169,6 +169,12 @@ impl From<NoMemory> for Status {
     }
 }
 
+fn digits(buffer: &mut Buffer, number: u64) -> &[u8]
+    ensures { result.now ≡ decimal number }
+{
+    buffer.format(number).as_bytes()
+}
+
 // Writes a number between two texts.
 fn note_number<E: Sink>(
     note: &mut E,
@@ -179,8 +185,8 @@ fn note_number<E: Sink>(
     ensures bytes { WritesAll (E.taken note.old) (E.taken note.new) result (concat (front.now ∷ decimal number ∷ end.now ∷ [])) }
     ensures cause { HasCause (E.faults note.old) (E.faults note.new) result }
 {
-    let mut buffer = Buffer::new();
-    write_parts(note, &[front, buffer.format(number).as_bytes(), end])
+    let mut numbers = Buffer::new();
+    write_parts(note, &[front, digits(&mut numbers, number), end])
 }
 
 // Writes which action of a processor is bad.
@@ -197,16 +203,19 @@ fn note_action<E: Sink>(
     let mut phases = Buffer::new();
     let mut procs = Buffer::new();
     let mut actions = Buffer::new();
+    let phase = digits(&mut phases, phase);
+    let proc = digits(&mut procs, proc);
+    let action = digits(&mut actions, action);
     write_parts(
         note,
         &[
             front,
             b" in phase ",
-            phases.format(phase).as_bytes(),
+            phase,
             b", processor ",
-            procs.format(proc).as_bytes(),
+            proc,
             b", action ",
-            actions.format(action).as_bytes(),
+            action,
             b"\n",
         ],
     )
@@ -227,17 +236,21 @@ fn note_shared<E: Sink>(
     let mut lines = Buffer::new();
     let mut writers = Buffer::new();
     let mut others = Buffer::new();
+    let phase = digits(&mut phases, phase);
+    let line = digits(&mut lines, line);
+    let writer = digits(&mut writers, a);
+    let other = digits(&mut others, b);
     write_parts(
         note,
         &[
             b"spiral_fast: phase ",
-            phases.format(phase).as_bytes(),
+            phase,
             b" line ",
-            lines.format(line).as_bytes(),
+            line,
             b" is shared by ",
-            writers.format(a).as_bytes(),
+            writer,
             b" and ",
-            others.format(b).as_bytes(),
+            other,
             b"\n",
         ],
     )
