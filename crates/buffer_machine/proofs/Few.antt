@@ -122,8 +122,12 @@ module _ (code : Code) where
 
     no_rest : (phase : ℕ) → length code.lists ≤ phase → length (buffered_rest code phase (none_done code) (none_waiting code)) ≤ 0
     no_rest phase past =
-        omega (arith, flat_sum (whole_of code phase) (λ _. 0) code.procs 0
-        (λ q i e lt. omega (arith, nothing q)), sum_below-zeros code.procs)
+        omega (
+          arith,
+          flat_sum (whole_of code phase) (λ _. 0) code.procs 0
+              (λ q i e lt. omega (arith, nothing q)),
+          sum_below-zeros code.procs,
+        )
       where
         nothing : (q : ℕ) → length (whole_of code phase q) ≡ 0
         nothing q =
@@ -213,7 +217,7 @@ one_phase p phase =
     omega (
       arith,
       flat_sum (whole_of (plain_code p) phase) (λ q. length (steps_of_phase p phase q) + length (steps_of_phase p phase q)) p.procs 0
-      (λ q i e lt. let same : q ≡ i = omega (arith, e) in subst (λ (k : ℕ). length (whole_of (plain_code p) phase q) ≤ length (steps_of_phase p phase k) + length (steps_of_phase p phase k)) same (one_processor p phase q (omega (arith, e)))),
+          (λ q i e lt. let same : q ≡ i = omega (arith, e) in subst (λ (k : ℕ). length (whole_of (plain_code p) phase q) ≤ length (steps_of_phase p phase k) + length (steps_of_phase p phase k)) same (one_processor p phase q (omega (arith, e)))),
       sum_below-add p.procs (λ q. length (steps_of_phase p phase q)) (λ q. length (steps_of_phase p phase q)),
     )
 
@@ -224,7 +228,7 @@ few_events p fits =
       arith,
       ap (λ (n : ℕ). length (buffered_phases (plain_code p) n 0)) count,
       phases_sum (plain_code p) (λ phase. actions_in p phase + actions_in p phase) (length p.phases) 0
-      (λ k i e lt. let same : k ≡ i = omega (arith, e) in subst (λ (j : ℕ). length (buffered_rest (plain_code p) k (none_done (plain_code p)) (none_waiting (plain_code p))) ≤ actions_in p j + actions_in p j) same (one_phase p k)),
+          (λ k i e lt. let same : k ≡ i = omega (arith, e) in subst (λ (j : ℕ). length (buffered_rest (plain_code p) k (none_done (plain_code p)) (none_waiting (plain_code p))) ≤ actions_in p j + actions_in p j) same (one_phase p k)),
       sum_below-add (length p.phases) (actions_in p) (actions_in p),
       fits.few,
     )
