@@ -1,4 +1,4 @@
-// Calls whose answers are worked out from the definitions, or by the reference of examples/.
+// Calls whose answers are worked out from the definitions, or by the reference in reference/.
 
 use crate::call::{AMPLE, call};
 use std::alloc::Global;
