@@ -1,5 +1,5 @@
 -- The words of a program that passes the check leave what it leaves.
-use Rattle.std.proofs.Common.{◌≡◌, ℕ, List, [], sym, ap, ◌∙◌}
+use Rattle.std.proofs.Common.{◌≡◌, ℕ, sym, ap, ◌∙◌}
 use Rattle.icode.specs.declared.program.Program.{Program}
 use Rattle.icode.specs.Machine.{IsApart, words_at, padded}
 use Rattle.icode.specs.Program.{plain_program, code_of, Fits}

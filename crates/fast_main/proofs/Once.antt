@@ -1,18 +1,16 @@
 -- The words and the bytes of a call determine its status and its text.
-use Rattle.std.proofs.Common.{◌≡◌, ◌≢◌, ℕ, zero, suc, ◌+◌, ◌-◌, ◌<◌, ◌≤◌, ◌⊎◌, Bool, true, false, cond, eqb, List, [], ◌∷◌, ◌++◌, length, None, Ok, Err, Result, inl, inr, refl, sym, ap, subst, ◌∙◌, append_assoc, arith}
+use Rattle.std.proofs.Common.{◌≡◌, ℕ, zero, suc, ◌-◌, ◌<◌, ◌≤◌, Bool, true, false, cond, eqb, List, [], ◌∷◌, ◌++◌, None, Ok, Err, Result, inl, inr, refl, sym, ap, subst, ◌∙◌, append_assoc, arith}
 use Rattle.icode.specs.Plain.{PlainProgram}
-use Rattle.code_check.specs.declared.CheckFault.{CheckFault}
-use Rattle.code_check.specs.declared.CheckFault.TheVariants as checks
 use Rattle.code_check.specs.Refusals.{PassesCheck, IsCause}
 use Rattle.code_check.proofs.Causes.{one_cause, none_if_passed}
-use Rattle.grammar.specs.Grammar.{Begins, IsLost, first_lines, line_ends}
+use Rattle.grammar.specs.Grammar.{Begins, IsLost, first_lines}
 use Rattle.listing_text.specs.Lines.{read_lines}
 use Rattle.listing_text.specs.Drafts.{step, finish}
 use Rattle.listing_text.specs.Texts.{is_listing}
 use Rattle.listing_text.proofs.DraftReads.{listing_judges}
 use Rattle.fast_main.specs.declared.status.Status.{Status}
-use Rattle.fast_main.specs.declared.status.Status.TheVariants.{Success, ListingSyntax, OverSteps, Address, Register, LineShared, NoMemory}
-use Rattle.fast_main.specs.Outcome.{action_limit, listing_limit, status_of_check, IsUnread, IsUnsound, IsTranslated, IsRefused, IsAnswer, IsOutcomeOfInput, IsOutcome}
+use Rattle.fast_main.specs.declared.status.Status.TheVariants.{ListingSyntax}
+use Rattle.fast_main.specs.Outcome.{action_limit, status_of_check, IsTranslated, IsRefused, IsAnswer, IsOutcomeOfInput, IsOutcome}
 use Rattle.fast_main.specs.Translation.{fast_text}
 
 -- The first lines are a front of the first lines and one more

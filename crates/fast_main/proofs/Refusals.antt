@@ -1,8 +1,7 @@
 -- Why the bytes of a listing have no text.
-use Rattle.std.proofs.Common.{◌≡◌, ◌≢◌, ℕ, List, Err, inl, inr, refl, ap}
+use Rattle.std.proofs.Common.{ℕ, List, Err, inl, inr, refl, ap}
 use Rattle.icode.specs.Plain.{PlainProgram}
 use Rattle.code_check.specs.declared.CheckFault.{CheckFault}
-use Rattle.code_check.specs.declared.CheckFault.TheVariants as checks
 use Rattle.code_check.specs.Refusals.{IsCause}
 use Rattle.listing_text.specs.declared.listing.ListingFault.{ListingFault}
 use Rattle.listing_text.specs.declared.listing.ListingFault.TheVariants as listings

@@ -1,12 +1,11 @@
 -- What the bytes of the input account for.
-use Rattle.std.proofs.Common.{◌≡◌, ◌≢◌, ℕ, ◌+◌, ◌<◌, ◌≤◌, List, [], ◌∷◌, ◌++◌, length, None, Some, Err, Ok, Result, inl, inr, refl, sym, ap, subst, ◌∙◌, append-nil, length-append, arith}
+use Rattle.std.proofs.Common.{◌≡◌, ◌≢◌, ℕ, ◌≤◌, List, [], ◌∷◌, ◌++◌, length, None, Some, Err, inl, inr, refl, sym, ap, subst, ◌∙◌, append-nil, length-append, arith}
 use Rattle.std.specs.Prelude.{IfSome}
 use Rattle.std.specs.declared.option.Option.{Option}
 use Rattle.std.specs.Io.KnownBytes.{Appends, Consumes, IsAtEnd, prepend_known}
 use Rattle.std.proofs.KnownBytes.{Appends-nil}
 use Rattle.icode.specs.declared.program.Program.{Program}
-use Rattle.icode.specs.Machine.{IsApart}
-use Rattle.icode.specs.Program.{plain_program, code_of, Fits}
+use Rattle.icode.specs.Program.{plain_program}
 use Rattle.input_rest.specs.declared.RestFault.{RestFault}
 use Rattle.input_rest.specs.declared.RestFault.TheVariants as rest
 use Rattle.input_rest.specs.Rest.{GivesRest}
@@ -15,7 +14,7 @@ use Rattle.io_edge.specs.Taken.{AppendsPrefix}
 use Rattle.listing_text.specs.Texts.{is_listing}
 use Rattle.code_check.specs.Refusals.{PassesCheck}
 use Rattle.fast_main.specs.declared.status.Status.{Status}
-use Rattle.fast_main.specs.declared.status.Status.TheVariants.{Success, ReadFault, WriteFault, NoMemory, TooLong}
+use Rattle.fast_main.specs.declared.status.Status.TheVariants.{Success, WriteFault}
 use Rattle.fast_main.specs.Outcome.{action_limit, listing_limit, IsRefused, IsTranslated, IsDefined, IsInside, IsOutcome, Accounts}
 use Rattle.fast_main.specs.Status.{status_of_rest}
 use Rattle.fast_main.specs.Translation.{fast_text, IsFaithful}

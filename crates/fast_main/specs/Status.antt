@@ -1,5 +1,5 @@
 -- What a call answers with: its exit code and its line on the note.
-use Rattle.std.specs.Prelude.{◌≡◌, ℕ, List, [], ◌∷◌, codes, decimal, Ok, Err, Result}
+use Rattle.std.specs.Prelude.{ℕ, List, [], ◌∷◌, codes, decimal, Ok, Err, Result}
 use Rattle.std.specs.List.{concat}
 use Rattle.input_rest.specs.declared.RestFault.{RestFault}
 use Rattle.input_rest.specs.declared.RestFault.TheVariants as rest

@@ -1,5 +1,5 @@
 -- The C text of a program, and what the words that it spells leave.
-use Rattle.std.specs.Prelude.{◌≡◌, ℕ, ◌<◌, List, [], All}
+use Rattle.std.specs.Prelude.{◌≡◌, ℕ, ◌<◌, List, All}
 use Rattle.icode.specs.Actions.{plain_code}
 use Rattle.icode.specs.Machine.{results}
 use Rattle.icode.specs.Plain.{PlainProgram}

@@ -15,7 +15,7 @@ use Rattle.spiral_words.specs.Named as named
 use Rattle.spiral_words.specs.Asked.{Means, IsAsked}
 use Rattle.spiral_main.specs.declared.status.Status.{Status}
 use Rattle.spiral_main.specs.declared.status.Status.TheVariants.{Success, Usage, Turn, ReadFault, WriteFault, TooLong}
-use Rattle.spiral_main.specs.Commands.{reads_rest, schedule_of, stranger, admitted}
+use Rattle.spiral_main.specs.Commands.{reads_rest, first_stranger, procs_named, admitted}
 use Rattle.spiral_main.specs.Fault.{status_of_line, status_of_request}
 use Rattle.spiral_main.specs.Line.{first_line, line_of, IsWholeLine, GivesLine}
 use Rattle.spiral_main.specs.Status.{IsDefined}
@@ -71,7 +71,7 @@ asked_request_fault command (Some bytes) (Some rest) taken read line fault consu
 -- a turn is of a processor that is not there
 pub asked_turn_fault : (command : Command) (before after : Option (List ℕ)) (taken : ℕ) (read line : List ℕ) (wanted : Request) (q : ℕ)
     → Consumes before after read → IsWholeLine read (IsAtEnd after) line → length line ≤ 256 → Answers line (Ok wanted)
-    → stranger (schedule_of command) wanted.procs ≡ Some q → Asks command before after taken (Err (Turn q wanted.procs))
+    → first_stranger (procs_named command) wanted.procs ≡ Some q → Asks command before after taken (Err (Turn q wanted.procs))
 asked_turn_fault command None after taken read line wanted q consumed whole short answer found = tt
 asked_turn_fault command (Some bytes) None taken read line wanted q consumed whole short answer found = consumed
 asked_turn_fault command (Some bytes) (Some rest) taken read line wanted q consumed whole short answer found =
@@ -91,7 +91,7 @@ asked_turn_fault command (Some bytes) (Some rest) taken read line wanted q consu
 -- the request
 pub asked_request : (command : Command) (before after : Option (List ℕ)) (taken : ℕ) (read line : List ℕ) (wanted : Request)
     → Consumes before after read → taken ≡ length read → IsWholeLine read (IsAtEnd after) line → length line ≤ 256 → Answers line (Ok wanted)
-    → stranger (schedule_of command) wanted.procs ≡ None → Asks command before after taken (Ok wanted)
+    → first_stranger (procs_named command) wanted.procs ≡ None → Asks command before after taken (Ok wanted)
 asked_request command None after taken read line wanted consumed count whole short answer none_found = tt
 asked_request command (Some bytes) None taken read line wanted consumed count whole short answer none_found = consumed
 asked_request command (Some bytes) (Some rest) taken read line wanted consumed count whole short answer none_found = (
@@ -113,8 +113,8 @@ asked_request command (Some bytes) (Some rest) taken read line wanted consumed c
 
 -- whether the input is read to its end depends on the command's name alone
 abbrev named_reads : NamedTexts → Bool
-named_reads (named.run word) = true
-named_reads (named.trace word) = true
+named_reads (named.run buffers word) = true
+named_reads (named.trace buffers word) = true
 named_reads named.check = true
 named_reads (named.exec word) = true
 named_reads _ = false
@@ -124,8 +124,8 @@ means_reads named.plan command means = ap reads_rest means
 means_reads named.formula command means = ap reads_rest means
 means_reads named.code command means = ap reads_rest means
 means_reads named.c command means = ap reads_rest means
-means_reads (named.run word) command means = ap reads_rest means.2
-means_reads (named.trace word) command means = ap reads_rest means.2
+means_reads (named.run buffers word) command means = ap reads_rest means.2
+means_reads (named.trace buffers word) command means = ap reads_rest means.2
 means_reads named.cert command means = ap reads_rest means
 means_reads named.check command means = ap reads_rest means
 means_reads (named.sample number word) command means = ap reads_rest means.4

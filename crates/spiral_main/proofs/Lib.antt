@@ -18,3 +18,5 @@ pub mod ListedLemmas
 pub mod OneExecution
 pub mod Notes
 pub mod Stages
+pub mod BufferedLemmas
+pub mod BufferedOutcome

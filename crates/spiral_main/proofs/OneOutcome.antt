@@ -24,7 +24,8 @@ use Rattle.spiral_main.specs.Stage.{given}
 use Rattle.spiral_main.proofs.OneExecution.{execution_status_once}
 use Rattle.spiral_main.proofs.PlanLemmas.{candidate_divides}
 use Rattle.spiral_main.proofs.Stages.{IsDecided, done, ended, done_same, ended_same, done_ended, given_decided, bind_decided}
-use Rattle.spiral_main.proofs.OneRequest.{request_once, asked_once, answer_clash, fault_once}
+use Rattle.spiral_words.proofs.OneCommand.{asked_once}
+use Rattle.spiral_main.proofs.OneRequest.{request_once, answer_clash, fault_once}
 
 -- The words and the line
 
@@ -106,8 +107,8 @@ accepted_clash command.Plan r s p q = plan_clash r p.0 q.0 p.1 q.1
 accepted_clash command.Formula r s p q = plan_clash r p.0 q.0 p.1 q.1
 accepted_clash command.Code r s p q = plan_clash r p.0 q.0 p.1 q.1
 accepted_clash command.C r s p q = plan_clash r p.0 q.0 p.1 q.1
-accepted_clash (command.Run schedule) r s p q = plan_clash r p.0 q.0 p.1 q.1
-accepted_clash (command.Trace schedule) r s p q = plan_clash r p.0 q.0 p.1 q.1
+accepted_clash (command.Run order) r s p q = plan_clash r p.0 q.0 p.1 q.1
+accepted_clash (command.Trace order) r s p q = plan_clash r p.0 q.0 p.1 q.1
 accepted_clash command.Cert r s p q = plan_clash r p.0 q.0 p.1 q.1
 accepted_clash command.Check r s p q = bar_clash r q.0 p q.1
 accepted_clash (command.Sample seed schedule) r s p q = plan_clash r p.0 q.0 p.1 q.1
@@ -118,8 +119,8 @@ declined_once command.Plan r s t p q = refused_once r s t p q
 declined_once command.Formula r s t p q = refused_once r s t p q
 declined_once command.Code r s t p q = refused_once r s t p q
 declined_once command.C r s t p q = refused_once r s t p q
-declined_once (command.Run schedule) r s t p q = refused_once r s t p q
-declined_once (command.Trace schedule) r s t p q = refused_once r s t p q
+declined_once (command.Run order) r s t p q = refused_once r s t p q
+declined_once (command.Trace order) r s t p q = refused_once r s t p q
 declined_once command.Cert r s t p q = refused_once r s t p q
 declined_once command.Check r s t p q = shut_out_once r s t p q
 declined_once (command.Sample seed schedule) r s t p q = refused_once r s t p q
@@ -143,16 +144,16 @@ data_or_text command.Plan r vectors s t p q = p
 data_or_text command.Formula r vectors s t p q = p
 data_or_text command.Code r vectors s t p q = p
 data_or_text command.C r vectors s t p q = p
-data_or_text (command.Run schedule) r vectors s t p q = q
-data_or_text (command.Trace schedule) r vectors s t p q = q
+data_or_text (command.Run order) r vectors s t p q = q
+data_or_text (command.Trace order) r vectors s t p q = q
 data_or_text command.Cert r vectors s t p q = p
 data_or_text command.Check r vectors s t p q = p
 data_or_text (command.Sample seed schedule) r vectors s t p q = p
 data_or_text (command.Exec schedule) r vectors s t p q = p
 
 pub data_or_check : (wanted : Command) (r : Request) (vectors : List (List ℕ)) (s : List ℕ) → IsTextOfData wanted r vectors s → reads_certificate wanted ≡ true → ⊥
-data_or_check (command.Run schedule) r vectors s p q = absurd (cc)
-data_or_check (command.Trace schedule) r vectors s p q = absurd (cc)
+data_or_check (command.Run order) r vectors s p q = absurd (cc)
+data_or_check (command.Trace order) r vectors s p q = absurd (cc)
 data_or_check command.Plan r vectors s p q = p
 data_or_check command.Formula r vectors s p q = p
 data_or_check command.Code r vectors s p q = p
@@ -169,8 +170,8 @@ text_or_check command.Code r s p q = absurd (cc)
 text_or_check command.C r s p q = absurd (cc)
 text_or_check command.Cert r s p q = absurd (cc)
 text_or_check (command.Sample seed schedule) r s p q = absurd (cc)
-text_or_check (command.Run schedule) r s p q = p
-text_or_check (command.Trace schedule) r s p q = p
+text_or_check (command.Run order) r s p q = p
+text_or_check (command.Trace order) r s p q = p
 text_or_check command.Check r s p q = p
 text_or_check (command.Exec schedule) r s p q = p
 

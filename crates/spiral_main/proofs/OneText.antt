@@ -22,7 +22,7 @@ use Rattle.spiral_main.specs.Line.{data_of}
 use Rattle.spiral_main.specs.Listed.{IsExecution}
 use Rattle.spiral_main.specs.Outcome.{Job, ordered, product, IsTextOf, IsTextOfData, Settles, IsAnswerToRequest, IsOutcome, room_behind}
 use Rattle.spiral_main.specs.Sample.{sample_vector, weighted_sum, sample_text}
-use Rattle.spiral_main.proofs.OneRequest.{asked_once}
+use Rattle.spiral_words.proofs.OneCommand.{asked_once}
 use Rattle.spiral_main.proofs.OneTable.{table_once}
 use Rattle.spiral_main.proofs.OneTree.{chosen_once}
 use Rattle.spiral_main.proofs.OneExecution.{execution_text_once}
@@ -37,8 +37,8 @@ text_once command.Plan r s t h p q = p.2 ∙ ap (plan_text r) (planned_once r p.
 text_once command.Formula r s t h p q = p.2 ∙ ap (λ (tree : Breakdown). spelling (expansion r tree) ++ 10 ∷ []) (planned_once r p.0 q.0 p.1 q.1) ∙ sym q.2
 text_once command.Code r s t h p q = absurd (cc)
 text_once command.C r s t h p q = absurd (cc)
-text_once (command.Run schedule) r s t h p q = absurd p
-text_once (command.Trace schedule) r s t h p q = absurd p
+text_once (command.Run order) r s t h p q = absurd p
+text_once (command.Trace order) r s t h p q = absurd p
 text_once command.Cert r s t h p q =
     let one : IsTableText r s q.0 = subst (λ (rows : List Row). IsTableText r s rows) (table_once r p.0 q.0 p.1.table q.1.table) p.1 in
     one.spelled ∙ sym q.1.spelled
@@ -51,8 +51,8 @@ text_once (command.Sample seed schedule) r s t h p q =
 
 data_text_once : (wanted : Command) (r : Request) (vectors : List (List ℕ)) (s t : List ℕ) → prints_one_text wanted ≡ true
     → IsTextOfData wanted r vectors s → IsTextOfData wanted r vectors t → s ≡ t
-data_text_once (command.Run schedule) r vectors s t h p q = p ∙ sym q
-data_text_once (command.Trace schedule) r vectors s t h p q = absurd (cc)
+data_text_once (command.Run order) r vectors s t h p q = p ∙ sym q
+data_text_once (command.Trace order) r vectors s t h p q = absurd (cc)
 data_text_once command.Plan r vectors s t h p q = absurd p
 data_text_once command.Formula r vectors s t h p q = absurd p
 data_text_once command.Code r vectors s t h p q = absurd p

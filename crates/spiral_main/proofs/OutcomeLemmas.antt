@@ -34,14 +34,16 @@ use Rattle.plan_cert.specs.declared.verdict.Verdict.TheVariants as verdict
 use Rattle.plan_cert.specs.Verdict.{IsVerdict}
 use Rattle.spiral_words.specs.declared.Command.{Command}
 use Rattle.spiral_words.specs.declared.Command.TheVariants as command
+use Rattle.spiral_words.specs.declared.Order.{Order}
 use Rattle.spiral_main.specs.declared.status.Status.{Status}
 use Rattle.spiral_main.specs.declared.status.Status.TheVariants.{Success, Usage, ReadFault, WriteFault, NoMemory}
 use Rattle.spiral_main.specs.declared.stream.StreamFault.{StreamFault}
 use Rattle.spiral_main.specs.declared.stream.StreamFault.TheVariants as stream
 use Rattle.spiral_main.specs.Checked.{certificate_limit, status_of_verdict, least_line, verdict_text}
-use Rattle.spiral_main.specs.Commands.{reads_certificate, has_text, AskForCommand}
+use Rattle.spiral_main.specs.Commands.{reads_certificate, first_stranger, has_text, AskForCommand}
 use Rattle.spiral_main.specs.Fault.{status_of_generate, status_of_rest, status_of_fault, status_of_stream}
 use Rattle.spiral_main.specs.Line.{data_of, is_line_end, HasEnded}
+use Rattle.spiral_main.specs.Orders.{traced_text}
 use Rattle.spiral_main.specs.Status.{IsDefined}
 use Rattle.spiral_main.specs.Stream.{group_vectors, vectors_of, texts, lines, run_text, data_answer, data_vectors, Reads, Streams, HasNoStranger}
 use Rattle.spiral_main.specs.Outcome.{IsRefused, IsShutOut, IsAffordable, IsAccepted, IsDeclined, requested, Job, IsOrder, product, IsProgramFor, IsTextOf, IsTextOfData, Settles, BreaksOff, ComesTo, room_behind, Accounts, Notes}
@@ -73,8 +75,8 @@ plan_accepted command.Plan request other p = p
 plan_accepted command.Formula request other p = p
 plan_accepted command.Code request other p = p
 plan_accepted command.C request other p = p
-plan_accepted (command.Run schedule) request other p = p
-plan_accepted (command.Trace schedule) request other p = p
+plan_accepted (command.Run order) request other p = p
+plan_accepted (command.Trace order) request other p = p
 plan_accepted command.Cert request other p = p
 plan_accepted command.Check request other p = absurd (cc)
 plan_accepted (command.Sample seed schedule) request other p = p
@@ -85,8 +87,8 @@ plan_declined command.Plan request status other p = p
 plan_declined command.Formula request status other p = p
 plan_declined command.Code request status other p = p
 plan_declined command.C request status other p = p
-plan_declined (command.Run schedule) request status other p = p
-plan_declined (command.Trace schedule) request status other p = p
+plan_declined (command.Run order) request status other p = p
+plan_declined (command.Trace order) request status other p = p
 plan_declined command.Cert request status other p = p
 plan_declined command.Check request status other p = absurd (cc)
 plan_declined (command.Sample seed schedule) request status other p = p
@@ -98,8 +100,8 @@ text_alone command.Plan h = refl
 text_alone command.Formula h = refl
 text_alone command.Code h = refl
 text_alone command.C h = refl
-text_alone (command.Run schedule) h = refl
-text_alone (command.Trace schedule) h = refl
+text_alone (command.Run order) h = refl
+text_alone (command.Trace order) h = refl
 text_alone command.Cert h = refl
 text_alone command.Check h = absurd (cc)
 text_alone (command.Sample seed schedule) h = refl
@@ -152,7 +154,7 @@ lines_equal size modulus f h same some (suc count) ts fits =
     ∙ ap (λ l. line_of (h (residues modulus us)) ++ l) (lines_equal size modulus f h same some count (drop size ts) (omega arith))
 
 -- the machine's lines are those of the matrix
-good_lines : (request : Request) (code : Code) (turns : List ℕ) (vectors : List (List ℕ)) → IsGoodCode request code → 0 < request.modulus → All (λ q. q < request.procs) turns
+pub good_lines : (request : Request) (code : Code) (turns : List ℕ) (vectors : List (List ℕ)) → IsGoodCode request code → 0 < request.modulus → All (λ q. q < request.procs) turns
     → (ts : List (List ℕ)) × (vectors_of request.size request.modulus ts ≡ vectors) → lines (λ x. results code x turns) vectors ≡ lines (product request) vectors
 good_lines request code turns vectors good some there made =
     let apart = good.3.product in
@@ -178,7 +180,7 @@ data_performed wanted request room bytes left out out' status there r = record {
   write_fault = λ e. let found = r.write_fault e in (found.0, found.1, found.2, found.3, there, inl (found.4, found.5, found.6), found.7);
 }
 
-performs_stream : {S : Type 0} (wanted : Command) (request : Request) (front : List ℕ) (text : List ℕ → List ℕ) (leaves : List ℕ → S) (old new : Fed) (before after start out out' : Option (List ℕ)) (first last : S)
+pub performs_stream : {S : Type 0} (wanted : Command) (request : Request) (front : List ℕ) (text : List ℕ → List ℕ) (leaves : List ℕ → S) (old new : Fed) (before after start out out' : Option (List ℕ)) (first last : S)
     (result : Result (Unit {0}) StreamFault)
     → IsAccepted wanted request → IsTextFor wanted request front text → Appends start out front → old.taken ≤ limit
     → Streams text leaves request.size request.modulus old new before after out out' first last result
@@ -190,24 +192,24 @@ performs_stream wanted request front text leaves old new (Some bytes) (Some rest
     (runs_over (IsTextOfData wanted request) request.size request.modulus front text leaves old new bytes rest start out out' first last result writes begun within s)
 
 -- the stream of a good program is one of the request
-stream_of_request : {S : Type 0} (request : Request) (code : Code) (text : List ℕ → List ℕ) (leaves : List ℕ → S) (old new : Fed) (before after out out' : Option (List ℕ)) (first last : S) (result : Result (Unit {0}) StreamFault)
+pub stream_of_request : {S : Type 0} (request : Request) (code : Code) (text : List ℕ → List ℕ) (leaves : List ℕ → S) (old new : Fed) (before after out out' : Option (List ℕ)) (first last : S) (result : Result (Unit {0}) StreamFault)
     → code.size ≡ request.size → code.modulus ≡ request.modulus
     → Streams text leaves code.size code.modulus old new before after out out' first last result → Streams text leaves request.size request.modulus old new before after out out' first last result
 stream_of_request request code text leaves old new before after out out' first last result size modulus s =
     subst (λ n. Streams text leaves request.size n old new before after out out' first last result) modulus
     (subst (λ n. Streams text leaves n code.modulus old new before after out out' first last result) size s)
 
-pub performs_run : (plan : Plan) (request : Request) (code : Code) (turns : List ℕ) (old new : Fed) (before after out out' : Option (List ℕ)) (first last : State) (result : Result (Unit {0}) StreamFault)
+pub performs_run : (order : Order) (request : Request) (code : Code) (turns : List ℕ) (old new : Fed) (before after out out' : Option (List ℕ)) (first last : State) (result : Result (Unit {0}) StreamFault)
     → IsGoodCode request code → IsInRange request → All (λ q. q < request.procs) turns → old.taken ≤ limit
     → Streams (run_text false code turns) (λ x. runs code x turns) code.size code.modulus old new before after out out' first last result
-    → ToldPerforms (command.Run plan) request (limit - old.taken) before after out out' (status_of_stream result)
-performs_run plan request code turns old new before after out out' first last result good in_range there within s =
+    → ToldPerforms (command.Run order) request (limit - old.taken) before after out out' (status_of_stream result)
+performs_run order request code turns old new before after out out' first last result good in_range there within s =
     let size : code.size ≡ request.size = ap (λ (k : Code). k.size) good.4 ∙ good.3.header.size in
     let modulus : code.modulus ≡ request.modulus = ap (λ (k : Code). k.modulus) good.4 ∙ good.3.header.modulus in
     let sized = stream_of_request request code (run_text false code turns) (λ x. runs code x turns) old new before after out out' first last result size modulus s in
-    let writes : IsTextFor (command.Run plan) request [] (run_text false code turns) =
+    let writes : IsTextFor (command.Run order) request [] (run_text false code turns) =
     λ ts. good_lines request code turns (vectors_of request.size request.modulus ts) good (omega (arith, in_range.modulus.0)) there (ts, refl) in
-    performs_stream (command.Run plan) request [] (run_text false code turns) (λ x. runs code x turns) old new before after out out out' first last result (good.0, good.2) writes (Appends-nil out) within sized
+    performs_stream (command.Run order) request [] (run_text false code turns) (λ x. runs code x turns) old new before after out out out' first last result (good.0, good.2) writes (Appends-nil out) within sized
 
 -- what a traced run stands on: the listing of a program for the request, and its code
 abbrev pub IsTraced : Request → List ℕ → Code → Type 0
@@ -219,35 +221,34 @@ traced_affordable request listing code made = (made.1.0, made.1.1)
 traced_procs : (request : Request) (listing : List ℕ) (code : Code) → IsTraced request listing code → code.procs ≡ request.procs
 traced_procs request listing code made = ap (λ (k : Code). k.procs) made.3 ∙ made.1.2.0.header.procs
 
-pub traced_stranger : (plan : Plan) (request : Request) (listing : List ℕ) (code : Code) → IsTraced request listing code → HasNoStranger plan request.procs → HasNoStranger plan code.procs
-traced_stranger plan request listing code made none = subst (HasNoStranger plan) (sym (traced_procs request listing code made)) none
+pub traced_stranger : (names : List ℕ) (request : Request) (listing : List ℕ) (code : Code) → IsTraced request listing code → first_stranger names request.procs ≡ None → first_stranger names code.procs ≡ None
+traced_stranger names request listing code made none = subst (λ p. first_stranger names p ≡ None) (sym (traced_procs request listing code made)) none
 
-traced_writes : (plan : Plan) (request : Request) (listing : List ℕ) (code : Code) → IsTraced request listing code
-    → IsTextFor (command.Trace plan) request listing (run_text true code (turns_of plan code.procs))
-traced_writes plan request listing code made ts =
+traced_writes : (order : Order) (request : Request) (listing : List ℕ) (code : Code) → IsTraced request listing code
+    → IsTextFor (command.Trace order) request listing (traced_text order code.procs code)
+traced_writes order request listing code made ts =
     let vectors = vectors_of request.size request.modulus ts in
-    let same : run_text true code (turns_of plan code.procs) ≡ run_text true (code_of made.0) (turns_of plan request.procs) =
-    ap (λ n. run_text true code (turns_of plan n)) (traced_procs request listing code made) ∙ ap (λ (k : Code). run_text true k (turns_of plan request.procs)) made.3 in
-    (made.0, made.1, ap (λ l. l ++ texts (run_text true code (turns_of plan code.procs)) vectors) made.2 ∙ ap (λ (f : List ℕ → List ℕ). listing_of (plain_program made.0) ++ texts f vectors) same)
+    let same : traced_text order code.procs code ≡ traced_text order request.procs (code_of made.0) =
+    ap (λ n. traced_text order n code) (traced_procs request listing code made) ∙ ap (λ (k : Code). traced_text order request.procs k) made.3 in
+    (made.0, made.1, ap (λ l. l ++ texts (traced_text order code.procs code) vectors) made.2 ∙ ap (λ (f : List ℕ → List ℕ). listing_of (plain_program made.0) ++ texts f vectors) same)
 
-pub performs_trace : (plan : Plan) (request : Request) (listing : List ℕ) (code : Code) (old new : Fed) (before after start out out' : Option (List ℕ)) (first last : State) (result : Result (Unit {0}) StreamFault)
+pub performs_trace : {S : Type 0} (order : Order) (request : Request) (listing : List ℕ) (code : Code) (leaves : List ℕ → S) (old new : Fed) (before after start out out' : Option (List ℕ)) (first last : S) (result : Result (Unit {0}) StreamFault)
     → IsTraced request listing code → Appends start out listing → old.taken ≤ limit
-    → Streams (run_text true code (turns_of plan code.procs)) (λ x. runs code x (turns_of plan code.procs)) code.size code.modulus old new before after out out' first last result
-    → ToldPerforms (command.Trace plan) request (limit - old.taken) before after start out' (status_of_stream result)
-performs_trace plan request listing code old new before after start out out' first last result made begun within s =
+    → Streams (traced_text order code.procs code) leaves code.size code.modulus old new before after out out' first last result
+    → ToldPerforms (command.Trace order) request (limit - old.taken) before after start out' (status_of_stream result)
+performs_trace order request listing code leaves old new before after start out out' first last result made begun within s =
     let size : code.size ≡ request.size = ap (λ (k : Code). k.size) made.3 ∙ made.1.2.0.header.size in
     let modulus : code.modulus ≡ request.modulus = ap (λ (k : Code). k.modulus) made.3 ∙ made.1.2.0.header.modulus in
-    let text = run_text true code (turns_of plan code.procs) in
-    let leaves : List ℕ → State = λ x. runs code x (turns_of plan code.procs) in
+    let text = traced_text order code.procs code in
     let sized = stream_of_request request code text leaves old new before after out out' first last result size modulus s in
-    performs_stream (command.Trace plan) request listing text leaves old new before after start out out' first last result (traced_affordable request listing code made) (traced_writes plan request listing code made) begun within sized
+    performs_stream (command.Trace order) request listing text leaves old new before after start out out' first last result (traced_affordable request listing code made) (traced_writes order request listing code made) begun within sized
 
 -- a trace whose listing is not written whole
-pub listing_cut : (plan : Plan) (request : Request) (listing : List ℕ) (code : Code) (room : ℕ) (before left out out' : Option (List ℕ))
-    → IsTraced request listing code → IsInRange request → AppendsPrefix out out' listing → ToldPerforms (command.Trace plan) request room before left out out' WriteFault
-listing_cut plan request listing code room None left out out' made in_range w = tt
-listing_cut plan request listing code room (Some bytes) left out out' made in_range w =
-    let text = run_text true code (turns_of plan code.procs) in
+pub listing_cut : (order : Order) (request : Request) (listing : List ℕ) (code : Code) (room : ℕ) (before left out out' : Option (List ℕ))
+    → IsTraced request listing code → IsInRange request → AppendsPrefix out out' listing → ToldPerforms (command.Trace order) request room before left out out' WriteFault
+listing_cut order request listing code room None left out out' made in_range w = tt
+listing_cut order request listing code room (Some bytes) left out out' made in_range w =
+    let text = traced_text order code.procs code in
     let none : vectors_of request.size request.modulus [] ≡ [] = vectors_few request.size request.modulus [] (omega (arith, in_range.size.0)) in
     let alone : listing ++ texts text (vectors_of request.size request.modulus []) ≡ listing = ap (λ (v : List (List ℕ)). listing ++ texts text v) none ∙ append-nil listing in
     record {
@@ -259,7 +260,7 @@ listing_cut plan request listing code room (Some bytes) left out out' made in_ra
         listing,
         refl,
         traced_affordable request listing code made,
-        inl (refl, inl refl, subst (IsTextOfData (command.Trace plan) request (vectors_of request.size request.modulus [])) alone (traced_writes plan request listing code made [])),
+        inl (refl, inl refl, subst (IsTextOfData (command.Trace order) request (vectors_of request.size request.modulus [])) alone (traced_writes order request listing code made [])),
         w,
       );
     }

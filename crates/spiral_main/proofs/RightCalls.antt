@@ -27,8 +27,8 @@ use Rattle.spiral_main.proofs.StreamLemmas.{right_answer}
 
 data_right : (wanted : Command) (r : Request) (room : ℕ) (bytes : List ℕ) (vectors : List (List ℕ)) (text : List ℕ) → IsRightRest wanted r room bytes → IsTextOfData wanted r vectors text
     → data_answer r.size room bytes ≡ Ok tt
-data_right (command.Run schedule) r room bytes vectors text right p = right_answer r.size room bytes right.few right.good right.whole
-data_right (command.Trace schedule) r room bytes vectors text right p = right_answer r.size room bytes right.few right.good right.whole
+data_right (command.Run order) r room bytes vectors text right p = right_answer r.size room bytes right.few right.good right.whole
+data_right (command.Trace order) r room bytes vectors text right p = right_answer r.size room bytes right.few right.good right.whole
 data_right command.Plan r room bytes vectors text right p = absurd p
 data_right command.Formula r room bytes vectors text right p = absurd p
 data_right command.Code r room bytes vectors text right p = absurd p
@@ -41,8 +41,8 @@ data_right (command.Exec schedule) r room bytes vectors text right p = absurd p
 check_right : (wanted : Command) (r : Request) (room : ℕ) (bytes : List ℕ) (s : Status) (text : List ℕ) → IsRightRest wanted r room bytes → reads_certificate wanted ≡ true → IsChecked r bytes s text → s ≡ Success
 check_right command.Check r room bytes s text right h (inl p) = absurd (omega (arith, p.0, right.few))
 check_right command.Check r room bytes s text right h (inr p) = p.1.2 ∙ ap status_of_verdict (one_verdict r bytes p.1.0 (Least right.cost) p.1.1 right.judged)
-check_right (command.Run schedule) r room bytes s text right h p = absurd (cc)
-check_right (command.Trace schedule) r room bytes s text right h p = absurd (cc)
+check_right (command.Run order) r room bytes s text right h p = absurd (cc)
+check_right (command.Trace order) r room bytes s text right h p = absurd (cc)
 check_right command.Plan r room bytes s text right h p = absurd (cc)
 check_right command.Formula r room bytes s text right h p = absurd (cc)
 check_right command.Code r room bytes s text right h p = absurd (cc)

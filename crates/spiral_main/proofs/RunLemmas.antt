@@ -20,7 +20,7 @@ left_ended [] (Some bytes) h = h
 left_ended (x ∷ xs) (Some bytes) h = absurd (cc)
 
 -- a good program has the request's processors
-good_procs : (request : Request) (code : Code) → IsGoodCode request code → code.procs ≡ request.procs
+pub good_procs : (request : Request) (code : Code) → IsGoodCode request code → code.procs ≡ request.procs
 good_procs request code good = ap (λ (k : Code). k.procs) good.4 ∙ good.3.header.procs
 
 -- the turns of a schedule are of these processors

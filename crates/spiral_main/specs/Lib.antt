@@ -10,4 +10,6 @@ pub mod Stage
 pub mod Status
 pub mod Steps
 pub mod Stream
+pub mod BufferedText
+pub mod Orders
 pub mod StreamFault

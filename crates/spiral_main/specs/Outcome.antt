@@ -13,7 +13,6 @@ use Rattle.generate.specs.Good.{IsGood, IsLean}
 use Rattle.generate.specs.Planned.{IsPlanned, IsAdmitted, IsBarred}
 use Rattle.icode.specs.Program.{plain_program, code_of}
 use Rattle.request_text.specs.Schedule.{Plan as Turns}
-use Rattle.request_text.specs.Turns.{turns_of}
 use Rattle.tree_model.specs.Breakdown.{Breakdown}
 use Rattle.tree_model.specs.Cost.{cost_of}
 use Rattle.tree_model.specs.Passes.{loads_of, stores_of}
@@ -30,6 +29,7 @@ use Rattle.io_edge.specs.Taken.{AppendsPrefix}
 use Rattle.data_stream.specs.Data.{tokens, closed_part, is_good}
 use Rattle.spiral_words.specs.Asked.{IsAsked}
 use Rattle.spiral_words.specs.declared.Command.{Command}
+use Rattle.spiral_words.specs.declared.Order.{Order}
 use Rattle.spiral_words.specs.declared.Command.TheVariants as command
 use Rattle.spiral_main.specs.declared.status.Status.{Status}
 use Rattle.spiral_main.specs.declared.status.Status.TheVariants.{Success, ReadFault, WriteFault}
@@ -38,10 +38,11 @@ use Rattle.spiral_main.specs.Commands.{reads_certificate, commanded, AskForReque
 use Rattle.spiral_main.specs.Fault.{status_of_request, status_of_generate, status_of_stream}
 use Rattle.spiral_main.specs.Line.{line_of, data_of, IsPartOfLine, HasEnded}
 use Rattle.spiral_main.specs.Listed.{IsExecution, IsBrokenExecution, IsCutExecution}
+use Rattle.spiral_main.specs.Orders.{traced_text}
 use Rattle.spiral_main.specs.Sample.{sample_vector, weighted_sum, sample_text}
 use Rattle.spiral_main.specs.Stage.{Stage, given, ◌>>=◌}
 use Rattle.spiral_main.specs.Status.{IsDefined}
-use Rattle.spiral_main.specs.Stream.{texts, lines, run_text, vectors_of, data_answer, data_vectors}
+use Rattle.spiral_main.specs.Stream.{texts, lines, vectors_of, data_answer, data_vectors}
 
 -- The stages
 
@@ -143,15 +144,15 @@ IsTextOf command.C request text = IsCText request text
 IsTextOf (command.Sample seed schedule) request text = IsSampleText request seed text
 IsTextOf _ request text = ⊥
 
--- the listing of a good program, and for each vector the lines of its run under the schedule and the line of its results
-abbrev pub IsTrace : Turns → Request → List (List ℕ) → List ℕ → Type 0
-IsTrace schedule request vectors text = (program : Program) × IsProgramFor request program
-    × (text ≡ listing_of (plain_program program) ++ texts (run_text true (code_of program) (turns_of schedule request.procs)) vectors)
+-- the listing of a good program, and for each vector the lines of its run in the order and the line of its results
+abbrev pub IsTrace : Order → Request → List (List ℕ) → List ℕ → Type 0
+IsTrace order request vectors text = (program : Program) × IsProgramFor request program
+    × (text ≡ listing_of (plain_program program) ++ texts (traced_text order request.procs (code_of program)) vectors)
 
 -- the text of a command that goes over the data, of which these vectors are whole
 abbrev pub IsTextOfData : Command → Request → List (List ℕ) → List ℕ → Type 0
-IsTextOfData (command.Run schedule) request vectors text = text ≡ lines (product request) vectors
-IsTextOfData (command.Trace schedule) request vectors text = IsTrace schedule request vectors text
+IsTextOfData (command.Run order) request vectors text = text ≡ lines (product request) vectors
+IsTextOfData (command.Trace order) request vectors text = IsTrace order request vectors text
 IsTextOfData _ request vectors text = ⊥
 
 -- the status and the text of a command that goes over the data, of which so many bytes may come

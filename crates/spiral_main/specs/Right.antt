@@ -34,8 +34,8 @@ pub record IsRightCertificate (request : Request) (bytes : List ℕ) : Type 0 wh
 
 -- what stands behind the first line is right for the command, of which so many bytes may come
 abbrev pub IsRightRest : Command → Request → ℕ → List ℕ → Type 0
-IsRightRest (command.Run schedule) request room bytes = AreWholeVectors request.size room bytes
-IsRightRest (command.Trace schedule) request room bytes = AreWholeVectors request.size room bytes
+IsRightRest (command.Run order) request room bytes = AreWholeVectors request.size room bytes
+IsRightRest (command.Trace order) request room bytes = AreWholeVectors request.size room bytes
 IsRightRest command.Check request room bytes = IsRightCertificate request bytes
 IsRightRest _ request room bytes = Unit {0}
 

@@ -4,17 +4,17 @@ ghost use Rattle.matrix_meaning.specs.Valid.{IsInRange};
 ghost use Rattle.io_edge.specs.Faults.{Reports};
 ghost use Rattle.io_edge.specs.Feed.{to_come};
 ghost use Rattle.spiral_words.specs.Asked.{IsAsked};
-ghost use Rattle.spiral_main.specs.Commands.{commanded, AreJudged, schedule_of, stranger};
+ghost use Rattle.spiral_main.specs.Commands.{commanded, AreJudged, NamesNoStranger, first_stranger, procs_named};
+ghost use Rattle.spiral_main.specs.Orders.{procs_of};
 ghost use Rattle.spiral_main.specs.Status.{IsDefined};
 ghost use Rattle.spiral_main.specs.Steps.{IsEarly, Asks};
-ghost use Rattle.spiral_main.specs.Stream.{HasNoStranger};
 
 use crate::Status;
 use crate::line::{LINE_LIMIT, read_line};
 use io_edge::{Feed, Source};
 use matrix_meaning::Request;
 use request_text::read_request;
-use spiral_words::{Command, Refusal, command_of};
+use spiral_words::{Command, Order, Refusal, command_of};
 use std::alloc::Global;
 
 /// The request that the first line of the input spells, for the command.
@@ -27,7 +27,7 @@ pub(crate) fn ask<I: Source>(
     ensures told { Asks command.now (to_come feed.old (I.left input.old)) (to_come feed.new (I.left input.new)) feed.new.taken result }
     ensures within { OnOk result (feed.new.taken ≤ 257) }
     ensures request { IfOk result (λ request. IsInRange request × (request.weight ≡ 1)) }
-    ensures turns { IfOk result (λ request. HasNoStranger (schedule_of command.now) request.procs) }
+    ensures turns { IfOk result (λ request. NamesNoStranger command.now request.procs) }
     ensures empty { IsErrOf result Status.ReadFault → feed.new.held ≡ [] }
     ensures read { Reports (I.faults input.old) (I.faults input.new) (IsErrOf result Status.ReadFault) }
     ensures others { IfErr result (λ status. (status ≢ Status.Success) × (status ≢ Status.Usage) × (status ≢ Status.WriteFault)) }
@@ -64,13 +64,24 @@ pub(crate) fn check_turns(stranger: Option<u64>, p: u64) -> Result<(), Status>
     }
 }
 
-// The first turn that the command's schedule names of a stranger to so many processors.
+// The first stranger to so many processors that the order names.
+fn stranger_in(order: &Order, p: u64) -> Option<u64>
+    ensures { result ≡ first_stranger (procs_of order.now) p }
+{
+    match order {
+        Order::Turns(schedule) => schedule.stranger(p),
+        Order::Buffered(schedule) => schedule.stranger(p),
+        Order::Mixed(mix) => mix.stranger(p),
+    }
+}
+
+// The first stranger to so many processors that the words of the command name.
 fn stranger(command: &Command, p: u64) -> Option<u64>
-    ensures { result ≡ stranger (schedule_of command.now) p }
+    ensures { result ≡ first_stranger (procs_named command.now) p }
 {
     match command {
-        Command::Run { schedule } => schedule.stranger(p),
-        Command::Trace { schedule } => schedule.stranger(p),
+        Command::Run { order } => stranger_in(order, p),
+        Command::Trace { order } => stranger_in(order, p),
         Command::Sample { schedule, .. } => schedule.stranger(p),
         Command::Exec { schedule } => schedule.stranger(p),
         _ => None,

@@ -5,12 +5,11 @@ ghost use Rattle.std.specs.Io.KnownBytes.{Appends, IsAtEnd};
 ghost use Rattle.matrix_meaning.specs.Valid.{IsInRange};
 ghost use Rattle.io_edge.specs.Faults.{Reports};
 ghost use Rattle.io_edge.specs.Feed.{to_come, limit};
-ghost use Rattle.spiral_main.specs.Commands.{reads_rest, takes_request, has_text, AskForRest, AskForCommand, AreJudged, schedule_of};
+ghost use Rattle.spiral_main.specs.Commands.{reads_rest, takes_request, has_text, AskForRest, AskForCommand, AreJudged, NamesNoStranger};
 ghost use Rattle.spiral_main.specs.Outcome.{Accounts, Notes};
 ghost use Rattle.spiral_main.specs.Stage.{status_of};
 ghost use Rattle.spiral_main.specs.Status.{note_line};
 ghost use Rattle.spiral_main.specs.Steps.{Performs, ToldPerforms, ToldAccounts};
-ghost use Rattle.spiral_main.specs.Stream.{HasNoStranger};
 
 use crate::ask::{ask, asked};
 use crate::check::check;
@@ -34,7 +33,7 @@ fn write_text<O: Sink>(
 ) -> Result<(), Status>
     requires in_range { IsInRange request.now }
     requires weight { request.now.weight ≡ 1 }
-    requires turns { HasNoStranger (schedule_of command.now) request.now.procs }
+    requires turns { NamesNoStranger command.now request.now.procs }
     requires textual { has_text command.now ≡ true }
     ensures told { (room : ℕ) (bytes : List ℕ) (left : Option (List ℕ)) → Performs command.now request.now room bytes left
         (O.taken output.old) (O.taken output.new) (status_of result) }
@@ -59,7 +58,7 @@ fn perform<I: Source, O: Sink>(
 ) -> Result<(), Status>
     requires in_range { IsInRange request.now }
     requires weight { request.now.weight ≡ 1 }
-    requires turns { HasNoStranger (schedule_of command.now) request.now.procs }
+    requires turns { NamesNoStranger command.now request.now.procs }
     requires line { feed.old.taken ≤ 257 }
     requires request { takes_request command.now ≡ true }
     ensures told { ToldPerforms command.now request.now (limit - feed.old.taken) (to_come feed.old (I.left input.old))
@@ -72,8 +71,8 @@ fn perform<I: Source, O: Sink>(
     ensures memory { status_of result ≡ Status.NoMemory → Appends (O.taken output.old) (O.taken output.new) [] }
 {
     match command {
-        Command::Run { schedule } => run(alloc, request, schedule, feed, input, output),
-        Command::Trace { schedule } => trace(alloc, request, schedule, feed, input, output),
+        Command::Run { order } => run(alloc, request, order, feed, input, output),
+        Command::Trace { order } => trace(alloc, request, order, feed, input, output),
         Command::Check => check(alloc, request, feed, input, output),
         _ => write_text(alloc, command, request, output),
     }

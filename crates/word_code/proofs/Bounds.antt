@@ -2,7 +2,7 @@
 use Rattle.std.proofs.Common.{◌≡◌, ℕ, zero, suc, ◌+◌, ◌-◌, ◌*◌, ◌<◌, ◌≤◌, ◌⊎◌, inl, inr, List, [], ◌∷◌, length, sym, ap, ◌∙◌, subst, arith, mul-le-mul_left, ⊎_elim}
 use Rattle.std.specs.Prelude.{slice_index, slice_set}
 use Rattle.std.proofs.lemmas.Bool.{cases_lt}
-use Rattle.icode.specs.Machine.{words_at, with_words, register_of}
+use Rattle.icode.specs.Machine.{with_words, register_of}
 use Rattle.code_laws.proofs.Placing.{with_words_elsewhere}
 use Rattle.word_code.proofs.Residues.{AllBelow, below-words_at}
 

@@ -1,13 +1,11 @@
 -- Statements that are quickened one after another.
-use Rattle.std.proofs.Common.{◌≡◌, ℕ, zero, suc, ◌+◌, ◌-◌, ◌*◌, ◌<◌, ◌≤◌, List, [], ◌∷◌, ◌++◌, true, Vec, Global, length, take, map, replicate, get_or, min, ltb-true, refl, sym, ap, ap₂, ◌∙◌, subst, arith}
+use Rattle.std.proofs.Common.{◌≡◌, ℕ, zero, suc, ◌+◌, ◌-◌, ◌*◌, ◌<◌, ◌≤◌, List, [], ◌∷◌, ◌++◌, true, Vec, Global, length, take, map, replicate, get_or, ltb-true, refl, sym, ap, ap₂, ◌∙◌, arith}
 use Rattle.std.proofs.lemmas.List.{take_more}
 use Rattle.icode.specs.declared.program.Stmt.{Stmt}
 use Rattle.icode.specs.Plain.{PlainOp, PlainStmt, PlainBody, Load, Store, Zero, Add, Sub, Neg, MulConst, MulTable, Tile, plain_stmt, plain_body, body_of}
 use Rattle.icode.specs.Plain as plain
 use Rattle.icode.specs.declared.program.Array.{Array}
 use Rattle.icode.specs.declared.program.Array.TheVariants as arrays
-use Rattle.icode.specs.Machine.{with_words}
-use Rattle.icode.proofs.Views.{plain_stmt-Loop, plain_stmt-Do}
 use Rattle.word_code.specs.declared.program.WordStmt.{WordStmt}
 use Rattle.word_code.specs.declared.program.WordStmt.TheVariants as words
 use Rattle.word_code.specs.declared.program.WordStmt.TheOpen.{WordStmt-F}

@@ -1,5 +1,5 @@
 -- Each operation on words does what the operation does.
-use Rattle.std.proofs.Common.{◌≡◌, ℕ, zero, suc, ◌+◌, ◌-◌, ◌*◌, ◌/◌, ◌<◌, ◌≤◌, ◌⊎◌, inl, inr, List, [], ◌∷◌, ◌++◌, length, map, replicate, max, min, refl, sym, ap, ap₂, ◌∙◌, subst, arith, ⊎_elim, length-append, mul-le-mul_left}
+use Rattle.std.proofs.Common.{◌≡◌, ℕ, zero, suc, ◌+◌, ◌-◌, ◌*◌, ◌/◌, ◌<◌, ◌≤◌, ◌⊎◌, inl, inr, List, [], ◌∷◌, ◌++◌, length, map, replicate, min, refl, sym, ap, ◌∙◌, subst, arith, ⊎_elim, length-append}
 use Rattle.std.specs.Prelude.{slice_index, slice_index_or, slice_set}
 use Rattle.std.specs.List.{range_with_len}
 use Rattle.std.proofs.Math.Nat.{zero-div, min-eq_right, le-max_left, le-max_right, max-le}
@@ -9,15 +9,15 @@ use Rattle.icode.specs.declared.program.Array.TheVariants as arrays
 use Rattle.icode.specs.Actions.{step_of, StepFits, lane_factors, array_start}
 use Rattle.icode.specs.Expression.{sum_numbers}
 use Rattle.icode.specs.Machine.{whole_lines, with_words}
-use Rattle.icode.specs.Plain.{PlainOp, PlainExpr, PlainProgram, Load, Store, Zero, Add, Sub, Neg, MulConst, MulTable, Tile}
-use Rattle.word_code.specs.Words.{Width, base_of, quotient_of, product_bound}
+use Rattle.icode.specs.Plain.{PlainOp, PlainProgram, Load, Store, Zero, Add, Sub, Neg, MulConst, MulTable, Tile}
+use Rattle.word_code.specs.Words.{base_of, quotient_of, product_bound}
 use Rattle.word_code.specs.WordProgram.{word_action_of}
 use Rattle.word_code.specs.Quicken.{Laziness, bound_at, settled, array_bound, greatest_bound, noted, quickened}
 use Rattle.word_code.proofs.Arithmetic.{two_at_least}
 use Rattle.word_code.proofs.Residues.{AreQuotients}
 use Rattle.word_code.proofs.Quick.{Scale, IsMemoryBelow, IsQuick}
-use Rattle.word_code.proofs.Reduce.{AreReductions, no_reductions, IsSettled, settled_is, set_bound_here, kept_bound, length-set}
-use Rattle.word_code.proofs.Puts.{IsSound, IsPut, quick_put, quick_store, zero_put, load_put, add_put, sub_put, neg_put, mul_put, tile_put}
+use Rattle.word_code.proofs.Reduce.{no_reductions, IsSettled, settled_is, set_bound_here, kept_bound, length-set}
+use Rattle.word_code.proofs.Puts.{IsSound, quick_put, quick_store, zero_put, load_put, add_put, sub_put, neg_put, mul_put, tile_put}
 
 abbrev pub scale : Laziness → PlainProgram → Scale
 scale z p =

@@ -1,17 +1,16 @@
 -- What actions on words put into registers and memory.
-use Rattle.std.proofs.Common.{◌≡◌, ℕ, zero, suc, ◌+◌, ◌-◌, ◌*◌, ◌<◌, ◌≤◌, ◌⊎◌, List, [], ◌∷◌, ◌++◌, length, map, flat_map, replicate, refl, sym, ap, ap₂, ◌∙◌, subst, arith, mul-le-mul_left, length-append}
+use Rattle.std.proofs.Common.{◌≡◌, ℕ, zero, suc, ◌+◌, ◌*◌, ◌<◌, ◌≤◌, ◌⊎◌, List, [], length, map, flat_map, replicate, refl, sym, ap, ap₂, ◌∙◌, subst, arith, mul-le-mul_left, length-append}
 use Rattle.std.specs.Prelude.{slice_index}
 use Rattle.std.specs.List.{range_with_len}
-use Rattle.std.proofs.lemmas.List.FromFn.{length-range_with_len}
 use Rattle.ring_mod.specs.Residue.{sum_mod, difference_mod, negation_mod, product_mod}
 use Rattle.icode.specs.declared.action.Action.{Action}
 use Rattle.icode.specs.declared.action.Action.TheVariants.{Load, Store, Zero, Add, Sub, Neg, Mul, Tile}
-use Rattle.icode.specs.Machine.{Local, effect, value_put, memory_after, register_put, register_of, words_at, with_words, lane_by_lane, transposed}
+use Rattle.icode.specs.Machine.{Local, effect, value_put, memory_after, register_put, register_of, with_words, lane_by_lane}
 use Rattle.icode.proofs.Words.{length-words_at}
 use Rattle.code_laws.proofs.Placing.{length-lane_by_lane, length-mapped}
-use Rattle.word_code.specs.Words.{Width, base_of, product_bound, wrapped_sum, wrapped_difference, biased_difference, lazy_product}
+use Rattle.word_code.specs.Words.{base_of, product_bound, wrapped_sum, wrapped_difference, biased_difference, lazy_product}
 use Rattle.word_code.specs.declared.program.Reduction.{Reduction}
-use Rattle.word_code.specs.WordMachine.{WordAction, word_put, word_effect, bare_effect, reduce_registers, lane_by_three}
+use Rattle.word_code.specs.WordMachine.{word_put, bare_effect, reduce_registers, lane_by_three}
 use Rattle.word_code.proofs.Arithmetic.{sum_word, difference_word, negation_word}
 use Rattle.word_code.proofs.Residues.{residues, residues-words_at, residues-with_words, residues-zeros, residues-transposed, AllBelow, below-words_at, below-zeros, below-transposed, lazy_map, lazy_lanes, lazy_products, AreQuotients, length-three}
 use Rattle.word_code.proofs.Bounds.{Bounds, AreRegistersBelow, register_below, put_below, write_below}

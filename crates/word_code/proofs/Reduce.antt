@@ -1,13 +1,13 @@
 -- Reductions of registers until bounds are small enough.
-use Rattle.std.proofs.Common.{◌≡◌, ℕ, zero, suc, ◌+◌, ◌-◌, ◌*◌, ◌/◌, ◌%◌, ◌<◌, ◌≤◌, ◌≢◌, ◌⊎◌, inl, inr, List, [], ◌∷◌, Bool, true, false, cond, length, map, refl, sym, ap, ap₂, ◌∙◌, subst, arith, ⊎_elim, mul-le-mul_left, get_or-set_same, get_or-set_other}
-use Rattle.std.specs.Prelude.{nat_le, slice_index, slice_index_or, slice_set}
-use Rattle.std.proofs.lemmas.Bool.{cases_eq, cases_lt}
+use Rattle.std.proofs.Common.{◌≡◌, ℕ, zero, suc, ◌+◌, ◌*◌, ◌<◌, ◌≤◌, ◌≢◌, ◌⊎◌, inl, inr, List, [], ◌∷◌, true, false, cond, length, map, refl, sym, ap, ◌∙◌, subst, arith, ⊎_elim, mul-le-mul_left, get_or-set_same, get_or-set_other}
+use Rattle.std.specs.Prelude.{nat_le, slice_index, slice_set}
+use Rattle.std.proofs.lemmas.Bool.{cases_lt}
 use Rattle.std.proofs.lemmas.Bool.Decides.{nat_tests}
 use Rattle.std.proofs.lemmas.Nat.{div-add-mod', mod_below}
 use Rattle.icode.specs.Machine.{words_at, with_words, register_of}
 use Rattle.icode.proofs.Words.{length-words_at}
 use Rattle.code_laws.proofs.Placing.{length-mapped}
-use Rattle.word_code.specs.Words.{Width, base_of, reduced, product_bound}
+use Rattle.word_code.specs.Words.{reduced}
 use Rattle.word_code.specs.declared.program.Reduction.{Reduction}
 use Rattle.word_code.specs.WordMachine.{reduce_register, reduce_registers}
 use Rattle.word_code.specs.Quicken.{bound_at, half_up, greater, Settled, then_settled, settled}

@@ -1,6 +1,6 @@
 -- How lazy the words of a program are: words of 32 bits where the modulus allows them, else of 64. A greater limit of
 -- registers than 8 times the modulus, or of A and B than 4 times, is of no use.
-use Rattle.std.specs.Prelude.{ℕ, ◌/◌, ◌^◌, min, nat_lt, false, if◌then◌else◌}
+use Rattle.std.specs.Prelude.{ℕ, ◌/◌, min, nat_lt, false, if◌then◌else◌}
 use Rattle.icode.specs.Plain.{PlainProgram}
 use Rattle.word_code.specs.WordProgram.{PlainWordProgram}
 use Rattle.word_code.specs.Words.{Width}

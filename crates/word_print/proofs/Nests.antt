@@ -1,12 +1,11 @@
 -- Programs on words that are made of programs within their limits can be spelt.
-use Rattle.std.proofs.Common.{◌≡◌, ℕ, ◌+◌, true, ltb, ◌&&◌, List, [], ◌∷◌, map, refl, subst, sym, ap}
+use Rattle.std.proofs.Common.{◌≡◌, ℕ, ◌+◌, true, ltb, ◌&&◌, List, [], ◌∷◌, map, refl}
 use Rattle.std.specs.List.{list_all}
 use Rattle.std.proofs.lemmas.Bool.{and_parts, and_from}
-use Rattle.icode.specs.Limits.{is_small, is_small_positive, is_op_within, is_stmt_within, is_body_within, are_phases_within, IsWithinLimits}
+use Rattle.icode.specs.Limits.{is_small_positive, is_op_within, is_stmt_within, is_body_within, are_phases_within}
 use Rattle.icode.specs.Plain.{PlainOp, PlainStmt, PlainBody, PlainProgram, Load, Store, Zero, Add, Sub, Neg, MulConst, MulTable, Tile}
 use Rattle.icode.specs.Plain as plain
-use Rattle.word_code.specs.Quicken.{Laziness, Header, header_of, loosest, noted, quick_stmt, quick_body, quickened}
-use Rattle.word_code.specs.WordProgram.{PlainWordProgram}
+use Rattle.word_code.specs.Quicken.{Laziness, Header, header_of, loosest, quick_stmt, quick_body, quickened}
 use Rattle.word_print.specs.WordNests.{is_tile_small, is_word_nest_within, are_word_nests_within, are_word_phases_within}
 
 tile_small : (m : ℕ) (op : PlainOp) (depth : ℕ) → is_op_within m op depth ≡ true → is_tile_small op ≡ true

@@ -1,9 +1,9 @@
 -- Which programs on words can be spelt: their numbers can be counted on.
 use Rattle.std.specs.Prelude.{ℕ, ◌+◌, List, Bool, true, ◌&&◌, nat_lt}
 use Rattle.std.specs.List.{list_all}
-use Rattle.icode.specs.Limits.{IsHeaderWithin, is_small}
-use Rattle.icode.specs.Plain.{PlainOp, PlainProgram, Tile}
-use Rattle.word_code.specs.WordProgram.{WordStmt, WordBody, PlainWordProgram, Loop, Do, NoStmts, AndStmts}
+use Rattle.icode.specs.Limits.{is_small}
+use Rattle.icode.specs.Plain.{PlainOp, Tile}
+use Rattle.word_code.specs.WordProgram.{WordStmt, WordBody, Loop, Do, NoStmts, AndStmts}
 
 -- the registers of a tile are small numbers
 abbrev pub is_tile_small : PlainOp → Bool

@@ -1,4 +1,4 @@
-// Calls whose answers are worked out from the definitions, or by the reference of examples/.
+// Calls whose answers are worked out from the definitions, or by the reference in reference/.
 
 use crate::call::{AMPLE, call};
 use std::alloc::Global;
@@ -198,7 +198,8 @@ fn command_line(alloc: Global, words: &str) -> Result<String, Fail> {
     })
 }
 
-fn answers_as(rt: &impl Abort, alloc: Global, row: &str) -> Result<(), Fail> {
+/// The call answers as the row has it.
+pub(crate) fn answers_as(rt: &impl Abort, alloc: Global, row: &str) -> Result<(), Fail> {
     let mut fields = row.split("; ");
     let words = fields.next().ok_or("words")?;
     let input = lines_of(alloc, fields.next().ok_or("an input")?)?;

@@ -1,4 +1,4 @@
-use Rattle.std.proofs.Common.{ap, sym, ◌∙◌}
+use Rattle.std.proofs.Common.{ap, ◌∙◌}
 use Rattle.icode.specs.Program.{plain_program}
 use Rattle.word_code.specs.WordProgram.{PlainWordProgram}
 use Rattle.word_code.specs.Choice.{laziness_for}

@@ -1,10 +1,10 @@
-use Rattle.std.proofs.Common.{◌≡◌, ◌≤◌, ◌+◌, ℕ, List, ap, sym, ◌∙◌, subst, arith, length, take, rules, true}
+use Rattle.std.proofs.Common.{◌≡◌, ◌≤◌, ◌+◌, ℕ, List, ap, sym, ◌∙◌, subst, arith, rules, true}
 use Rattle.std.proofs.lemmas.Grind.{common_steps}
 use Rattle.icode.specs.declared.program.Stmt.{Stmt, the_lemmas}
 use Rattle.icode.specs.Plain.{Loop, plain_stmt, plain_body}
 use Rattle.icode.specs.Limits.{is_body_within}
 use Rattle.icode.proofs.Views.{plain_stmt-Loop}
-use Rattle.word_code.specs.Quicken.{bound_at, loosest, quick_stmt}
+use Rattle.word_code.specs.Quicken.{bound_at, loosest}
 use Rattle.word_code.specs.Setting.{header_in}
 use Rattle.word_code.specs.View.{lazy_of}
 use Rattle.word_code.proofs.Emitting.{IsQuickBody, quick_more, loop_parts, item_within, take_whole, loop_made, stmt_sane}
