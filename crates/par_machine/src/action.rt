@@ -1,56 +1,17 @@
 // The action of an operation.
 
-ghost use Rattle.std.specs.Prelude.{◌≡◌, ℕ, ◌+◌, ◌-◌, ◌*◌, ◌<◌, ◌≤◌, ◌^◌, length, slice_index};
-ghost use Rattle.icode.specs.Actions.{array_start, lane_factors, StepFits};
+ghost use Rattle.std.specs.Prelude.{◌≡◌, length};
+ghost use Rattle.icode.specs.Actions.{StepFits};
 ghost use Rattle.icode.specs.Plain.{plain_op};
 ghost use Rattle.par_machine.specs.Header.{header_of};
 ghost use Rattle.par_machine.specs.OnRegisters.{HasNoPlace, placeless_action};
 ghost use Rattle.par_machine.specs.Performed.{OpIsWithin, step_by, action_by};
 
 use crate::engine::Engine;
-use icode::action::{Action, MAX_LANES};
-use icode::program::{Array, Op};
+use icode::action::Action;
+use icode::address::{address_at, same_factors, table_factors};
+use icode::program::Op;
 use icode::shape::Shape;
-
-#[inline]
-pub(crate) fn address(room: u64, array: Array, place: u64) -> u64
-    requires inside { place ≤ room }
-    requires small { 4 * room < 2 ^ 64 }
-    ensures { result ≡ array_start room array + place }
-{
-    let start = match array {
-        Array::X => 0,
-        Array::Y => room,
-        Array::A => 2 * room,
-        Array::B => 3 * room,
-    };
-    start + place
-}
-
-/// The factor of each lane, from the table's entry at the place on.
-pub(crate) fn table_factors(entries: &[u64], lanes: u64, place: u64, step: u64) -> [u64; MAX_LANES]
-    requires lanes { (0 < lanes) × (lanes ≤ 16) }
-    requires inside { place + step * (lanes - 1) < length entries.now }
-    ensures { result ≡ lane_factors lanes (λ lane. slice_index entries.now (place + step * lane)) }
-{
-    let mut factors = [0; MAX_LANES];
-    for lane in 0..lanes {
-        factors[lane as usize] = entries[(place + step * lane) as usize];
-    }
-    factors
-}
-
-/// The same factor for each lane.
-pub(crate) fn same_factors(factor: u64, lanes: u64) -> [u64; MAX_LANES]
-    requires lanes { lanes ≤ 16 }
-    ensures { result ≡ lane_factors lanes (λ _. factor) }
-{
-    let mut factors = [0; MAX_LANES];
-    for lane in 0..lanes {
-        factors[lane as usize] = factor;
-    }
-    factors
-}
 
 /// The action of an operation that names no place.
 fn placeless_action(shape: &Shape, op: &Op) -> Action
@@ -106,14 +67,14 @@ pub(crate) fn action_of(engine: &Engine, op: &Op, values: &[u64], proc: u64) -> 
             place,
         } => Action::Load {
             register: *register,
-            address: address(shape.room, *array, place.value(values, proc)),
+            address: address_at(shape.room, *array, place.value(values, proc)),
         },
         Op::Store {
             array,
             place,
             register,
         } => Action::Store {
-            address: address(shape.room, *array, place.value(values, proc)),
+            address: address_at(shape.room, *array, place.value(values, proc)),
             register: *register,
         },
         Op::MulTable {

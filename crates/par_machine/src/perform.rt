@@ -8,11 +8,11 @@ ghost use Rattle.par_machine.specs.Header.{header_of};
 ghost use Rattle.par_machine.specs.OnRegisters.{IsOnRegisters, operations_of, counted_op};
 ghost use Rattle.par_machine.specs.Performed.{HasRoom, OpIsWithin, step_by, action_by, performed};
 
-use crate::action::address;
 use crate::engine::Engine;
 use crate::place::place_value;
 use crate::scale::{scale_by_constant, scale_by_entries};
 use icode::action::Counts;
+use icode::address::address_at;
 use icode::arithmetic::Operation::{Difference, Sum};
 use icode::effect::{clear_register, combine_registers, copy_lanes, negate_register, transpose};
 use icode::program::Op;
@@ -46,7 +46,7 @@ pub(crate) fn perform(
             array,
             place,
         } => {
-            let at = address(shape.room, *array, place_value(place, values, proc));
+            let at = address_at(shape.room, *array, place_value(place, values, proc));
             copy_lanes(memory, at, registers, *register * lanes, lanes);
         }
         Op::Store {
@@ -54,7 +54,7 @@ pub(crate) fn perform(
             place,
             register,
         } => {
-            let at = address(shape.room, *array, place_value(place, values, proc));
+            let at = address_at(shape.room, *array, place_value(place, values, proc));
             copy_lanes(registers, *register * lanes, memory, at, lanes);
         }
         _ => perform_on_registers(engine, op, values, proc, registers),

@@ -4,7 +4,7 @@ ghost use Rattle.std.specs.Prelude.{◌≡◌, ℕ, ◌+◌, ◌-◌, ◌*◌, �
 ghost use Rattle.icode.specs.Actions.{lane_factors};
 ghost use Rattle.par_machine.specs.Scaled.{scaled, table_factors};
 
-use crate::action::{same_factors, table_factors};
+use icode::address::{same_factors, table_factors};
 use icode::effect::scale_register;
 use icode::shape::Shape;
 
