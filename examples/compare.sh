@@ -1,10 +1,13 @@
 #!/usr/bin/env bash
-# Compiles the C text of each request of the table with each compiler that is there, and compares what it makes of
-# some vectors with what `spiral run` writes. Once also with ThreadSanitizer, and once with AddressSanitizer and UBSan.
+# Compiles the C text and the fast C text of each request of the tables with each compiler that is there, and compares
+# what they make of some vectors with what `spiral run` writes. The table of fast texts has its own requests, for moduli
+# and lanes at the limits of words. Some also with ThreadSanitizer, and with AddressSanitizer and UBSan.
 set -euo pipefail
 top=$(cd "$(dirname "$0")/.." && pwd)
 program="$top/crates/spiral/out/spiral"
+fast="$top/crates/spiral_fast/out/spiral_fast"
 [ -x "$program" ] || "$top/bin/build"
+[ -x "$fast" ] || "$top/bin/build" spiral_fast
 work=$(mktemp -d)
 trap 'rm -rf "$work"' EXIT
 passed=0
@@ -16,10 +19,21 @@ vectors() {
     printf "%d%s", int(rand() * 2147483648) * (1 + v), (k + 1 < size ? " " : "\n") }'
 }
 
+# extremes SIZE MODULUS: the greatest residue, 0, both by turns, and both at random
+extremes() {
+  awk -v size="$1" -v most="$(($2 - 1))" 'BEGIN { srand(7); for (v = 0; v < 4; v++) for (k = 0; k < size; k++) {
+    great = v == 0 || (v == 2 && k % 2) || (v == 3 && rand() < 0.5)
+    printf "%s%s", (great ? most : "0"), (k + 1 < size ? " " : "\n") } }'
+}
+
 # compared NAME COMPILER [FLAG ..]: the text in $work/text.c, the data and results beside it
 compared() {
   local name=$1
   shift
+  if ! command -v "$1" >/dev/null; then
+    echo "skipped: $1 is not here"
+    return
+  fi
   : >"$work/got"
   if "$top/examples/compile.sh" "$work/text.c" "$work/program" "$@" 2>"$work/errors" &&
     "$work/program" <"$work/data" >"$work/got" 2>>"$work/errors" && cmp -s "$work/got" "$work/wanted"; then
@@ -32,27 +46,48 @@ compared() {
   fi
 }
 
+# prepared REQUEST: the results that are wanted for the data
+prepared() {
+  { echo "$1" && cat "$work/data"; } | "$program" run >"$work/wanted"
+}
+
+# fast_text REQUEST: as the text
+fast_text() {
+  echo "$1" | "$program" code | "$fast" >"$work/text.c"
+}
+
 while read -r request; do
   [ -n "$request" ] || continue
   last=$request
-  size=$(echo "$request" | cut -d' ' -f2)
+  vectors "$(echo "$request" | cut -d' ' -f2)" 5 >"$work/data"
+  prepared "$request"
   echo "$request" | "$program" c >"$work/text.c"
-  vectors "$size" 5 >"$work/data"
-  { echo "$request" && cat "$work/data"; } | "$program" run >"$work/wanted"
-  for compiler in gcc clang; do
-    if command -v "$compiler" >/dev/null; then
-      compared "$request" "$compiler" -O2
-    else
-      echo "skipped: $compiler is not here"
-    fi
-  done
+  compared "$request" gcc -O2
+  compared "$request" clang -O2
+  fast_text "$request"
+  compared "fast text of $request" gcc -O2
+  compared "fast text of $request" clang -O2
 done <"$top/examples/requests"
 
-if command -v gcc >/dev/null; then
-  compared "$last" gcc -O1 -g -fsanitize=thread
-  compared "$last" gcc -O1 -g -fsanitize=address,undefined
-else
-  echo "skipped: the sanitizers, since gcc is not here"
-fi
+echo "$last" | "$program" c >"$work/text.c"
+compared "$last" gcc -O1 -g -fsanitize=thread
+compared "$last" gcc -O1 -g -fsanitize=address,undefined
+
+while read -r request; do
+  [ -n "$request" ] || continue
+  size=$(echo "$request" | cut -d' ' -f2)
+  modulus=$(echo "$request" | cut -d' ' -f4)
+  { extremes "$size" "$modulus" && vectors "$size" 2; } >"$work/data"
+  prepared "$request"
+  fast_text "$request"
+  compared "fast text of $request" gcc -O2
+  compared "fast text of $request" clang -O3 -march=native
+  if [ "$size" -le 256 ]; then
+    compared "fast text of $request" gcc -O1 -g -fsanitize=address,undefined
+  elif [[ $request == *procs* ]]; then
+    compared "fast text of $request" gcc -O1 -g -fsanitize=thread
+  fi
+done <"$top/examples/fast_requests"
+
 echo "examples: $passed passed, $failed failed"
 [ "$failed" -eq 0 ]

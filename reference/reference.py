@@ -4,13 +4,16 @@ reference/sweep.sh compares the two.
 
     printf 'dft 4 mod 17 root 4\n1 2 3 4\n' | reference/reference.py run
 
-The commands are plan, formula, cert, code, c, run, trace and sample (with a seed behind it). Requests and data have to be
-well formed.
+The commands are plan, formula, cert, code, c, run, trace, sample and exec. Requests and data have to be well formed, and
+listings need not.
 """
 
+import argparse
 import sys
 
-from emission import Emitter, action_text, actions, c_text, listing, loads_and_stores, phase_count
+from emission import Emitter, actions_of, c_text, listing, loads_and_stores, phase_count
+from machine import Machine, run_lines
+from strangers import executed
 from transforms import Refused, admitted, certificate, certificate_rows, formula, read_request, transform, tree_text
 
 
@@ -64,13 +67,22 @@ def result_line(request, vector):
     return " ".join(map(str, transform(request, vector))) + "\n"
 
 
-def trace(program, data):
-    turns = "".join(f"{turn} {q} {action_text(*action)}\n" for turn, (q, action) in enumerate(actions(program)))
-    results = (turns + result_line(program.request, vector) for vector in vectors(program.request, data))
-    return listing(program) + "".join(results)
+def lists_of(program):
+    """The actions of each phase and processor."""
+    procs = range(program.request.procs)
+    return [[list(actions_of(program, statements, {-1: q})) for q in procs] for statements in program.phases]
 
 
-def answer(command, request, data=(), seed=0):
+def trace(program, data, schedule, is_buffered):
+    request, lists, text = program.request, lists_of(program), listing(program)
+    for vector in vectors(request, data):
+        machine = Machine(request, program.registers, lists, vector, is_buffered)
+        text += run_lines(machine, schedule) + result_line(request, vector)
+        assert machine.results() == transform(request, vector)
+    return text
+
+
+def answer(command, request, data=(), seed=0, schedule="seq", is_buffered=False):
     """What the command writes. The data are numbers."""
     cost, tree = admitted(request)
     if command == "plan":
@@ -85,20 +97,34 @@ def answer(command, request, data=(), seed=0):
         return "".join(result_line(request, vector) for vector in vectors(request, data))
     program = Emitter(request, tree).program
     if command == "trace":
-        return trace(program, data)
+        return trace(program, data, schedule, is_buffered)
     return {"code": listing, "c": c_text}[command](program)
 
 
-def main():
-    _, command, *seed = sys.argv
-    line, _, rest = sys.stdin.read().partition("\n")
+def answered(asked, text):
+    """Status, output and note."""
+    if asked.command == "exec":
+        return executed(text)
+    line, _, rest = text.decode().partition("\n")
+    data = [int(token) for token in rest.split()]
     try:
-        text = answer(command, read_request(line), [int(token) for token in rest.split()], int(seed[0]) if seed else 0)
+        return 0, answer(asked.command, read_request(line), data, asked.seed, asked.schedule, asked.buffers), ""
     except Refused as refused:
         code, note = refused.args
-        print(f"spiral: {note}", file=sys.stderr)
-        sys.exit(code)
+        return code, "", note
+
+
+def main():
+    words = argparse.ArgumentParser()
+    words.add_argument("command")
+    words.add_argument("--seed", type=int, default=0)
+    words.add_argument("--schedule", default="seq")
+    words.add_argument("--buffers", action="store_true")
+    code, text, note = answered(words.parse_args(), sys.stdin.buffer.read())
     sys.stdout.write(text)
+    if note:
+        print(f"spiral: {note}", file=sys.stderr)
+    sys.exit(code)
 
 
 if __name__ == "__main__":

@@ -1,12 +1,15 @@
 """Compares the program, the first word, with the reference over a list of requests that is the same at each run. Each
 comparison is of the status, the output and the note. The last line counts them."""
 
+import re
 import subprocess
 import sys
 from math import gcd, lcm
 
-from emission import Emitter, actions, loads_and_stores, run
+from emission import Emitter, actions, listing, loads_and_stores, run
+from listings import Lost, read_listing
 from reference import answer, vectors
+from strangers import MOST_ACTIONS, count, executed, parts_of
 from transforms import Refused, admitted, certificate, certificate_rows, every_tree, read_request, transform
 
 # Requests that the documents speak of, and the ends of the limits.
@@ -170,9 +173,12 @@ class Sweep:
         return done.returncode, done.stdout.decode(), done.stderr.decode()
 
     def compare(self, words, text, wanted):
-        """Whether the program answers as it is wanted: a text with success, or the code and note of a refusal."""
+        """Whether the program answers as it is wanted: a text with success, or the code and note of a refusal, perhaps
+        with a text between them."""
         got = self.call(words, text)
-        wanted = (0, wanted, "") if isinstance(wanted, str) else (wanted[0], "", f"spiral: {wanted[1]}\n")
+        wanted = (0, wanted, "") if isinstance(wanted, str) else wanted
+        code, *output, note = wanted
+        wanted = (code, "".join(output), f"spiral: {note}\n" if note else "")
         if got == wanted:
             self.passed += 1
             return
@@ -184,9 +190,9 @@ class Sweep:
                 print("  wanted {}\n  got    {}".format(*pair))
 
 
-def wanted(command, line, data=(), seed=0):
+def wanted(command, line, *data, **options):
     try:
-        return answer(command, read_request(line), data, seed)
+        return answer(command, read_request(line), *data, **options)
     except Refused as refused:
         return refused.args
 
@@ -255,11 +261,96 @@ def swept(sweep, line, numbers):
         sweep.compare("trace", f"{line}\n{text}", wanted("trace", line, data))
 
 
+def mix(numbers, procs):
+    """Turns and drains, of which processors do many at a time."""
+    events = []
+    for _ in range(1 + numbers.below(12)):
+        events += [numbers.one_of("ttd") + str(numbers.below(procs))] * (1 + numbers.below(6))
+    return "mix:" + ",".join(events)
+
+
+def runs(sweep, line, numbers):
+    """Runs and traces under several schedules, with store buffers and without."""
+    request = read_request(line)
+    data, text = data_of(line, numbers)
+    turns = ",".join(str(numbers.below(request.procs)) for _ in range(1 + numbers.below(40)))
+    words = ["rr:2", f"turns:{turns}", f"seed:{numbers.next()}:30"]
+    buffered = [*words, "seq", mix(numbers, request.procs), mix(numbers, request.procs)]
+    for word, is_buffered in [(word, False) for word in words] + [(word, True) for word in buffered]:
+        options = f" --buffers --schedule {word}" if is_buffered else f" --schedule {word}"
+        sweep.compare(f"run{options}", f"{line}\n{text}", wanted("run", line, data))
+        told = wanted("trace", line, data, schedule=word, is_buffered=is_buffered)
+        sweep.compare(f"trace{options}", f"{line}\n{text}", told)
+
+
+# Numbers that a listing's number is exchanged for, and what a byte is.
+OTHERS = [0, 1, 2, 3, 4, 5, 7, 8, 12, 16, 17, 63, 64, 65, 2**20 - 1, 2**20, 2**32 - 1, 2**32, 2**62 - 1, 2**62]
+BYTES = "0123456789 +*%/()[]rvqtXYABldstmunegzoifphacrk_\r\n"
+
+
+def other_number(numbers, text):
+    """The text with a number exchanged for a near one, for that of a limit, or with a zero before it."""
+    found = numbers.one_of(list(re.finditer(r"[0-9]+", text)))
+    value = numbers.one_of([int(found[0]) + 1, max(int(found[0]) - 1, 0), numbers.one_of(OTHERS), f"0{found[0]}"])
+    return f"{text[: found.start()]}{value}{text[found.end() :]}"
+
+
+def other_lines(numbers, text):
+    """The text without a line, with one twice, or with two exchanged."""
+    lines = text.splitlines(keepends=True)
+    at, to = numbers.below(len(lines)), numbers.below(len(lines))
+    lines[at : at + 1] = numbers.one_of([[], [lines[at]] * 2, [lines[to]]])
+    return "".join(lines)
+
+
+def other_byte(numbers, text):
+    """The text cut off, or with another byte, or with one more."""
+    at = numbers.below(len(text))
+    byte = numbers.one_of(BYTES)
+    return numbers.one_of([text[:at], text[:at] + byte + text[at + 1 :], text[:at] + byte + text[at:]])
+
+
+def is_long(text):
+    """Whether it would take long here to say what the listing's actions do."""
+    try:
+        program = read_listing(parts_of(text.encode())[0])
+    except Lost:
+        return False
+    return 20_000 < program.request.procs * sum(map(count, program.phases)) <= MOST_ACTIONS
+
+
+def strangers(sweep, line, numbers):
+    """The request's listing is run as it stands, and what becomes of it by small changes is run or refused."""
+    request = read_request(line)
+    data, text = data_of(line, numbers)
+    whole = listing(Emitter(request, admitted(request)[1]).program)
+    sweep.compare(f"exec --schedule seed:{numbers.next()}:50", f"{whole}\n{text}", wanted("run", line, data))
+    change = [other_number] * 5 + [other_lines, other_byte]
+    for _ in range(14):
+        changed = numbers.one_of(change)(numbers, whole)
+        if numbers.below(4) == 0:
+            changed = numbers.one_of(change)(numbers, changed or whole)
+        given = numbers.one_of([f"{changed}\n{text}"] * 9 + [changed])
+        if not is_long(given):
+            sweep.compare("exec", given, executed(given.encode()))
+
+
+def is_small(line):
+    """Whether the request has a program of few actions."""
+    try:
+        return admitted(read_request(line))[0] < 600
+    except Refused:
+        return False
+
+
 def main():
     sweep = Sweep(sys.argv[1])
     numbers = Numbers(11)
     for line in requests() + spread_requests():
         swept(sweep, line, numbers)
+    for line in filter(is_small, NAMED.split("\n")[1:-1] + spread_requests()):
+        runs(sweep, line, numbers)
+        strangers(sweep, line, numbers)
     for line in LARGE:
         for command in ("plan", "formula", "cert", "code"):
             sweep.compare(command, line, wanted(command, line))

@@ -5,3 +5,5 @@ pub mod Fitting
 pub mod Standing
 pub mod Lens
 pub mod Whole
+pub mod Named
+pub mod Few

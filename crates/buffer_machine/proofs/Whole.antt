@@ -5,10 +5,11 @@ use Rattle.std.proofs.lemmas.List.{get_or-replicate, length-replicate, length-ma
 use Rattle.std.proofs.lemmas.Bool.{cases_eq, cases_lt, false≢true}
 use Rattle.std.proofs.lemmas.Option.{slice_get_within}
 use Rattle.icode.specs.declared.action.Action.{Action}
+use Rattle.icode.specs.declared.event.Event.{Event}
 use Rattle.icode.specs.declared.event.Event.TheVariants.{Turn, Drain}
 use Rattle.icode.specs.declared.program.Program.{Program}
 use Rattle.icode.specs.Actions.{Step}
-use Rattle.icode.specs.Buffers.{Waiting, Buffered, some_wait, IsBusy, IsIdle, is_waiting, buffered_completion, stores_among, buffered_start, buffered_turn, buffered_turn_with, buffered_moved_on, drain, drain_with, written}
+use Rattle.icode.specs.Buffers.{Waiting, Buffered, some_wait, IsBusy, IsIdle, is_waiting, buffered_completion, stores_among, buffered_start, buffered_turn, buffered_turn_with, buffered_moved_on, buffered_step, drain, drain_with, written}
 use Rattle.icode.specs.Operation.{AddressFits}
 use Rattle.icode.specs.declared.event.Turned.{Turned}
 use Rattle.icode.specs.declared.event.Turned.TheVariants.{Did, Waits, Done}
@@ -33,6 +34,7 @@ use Rattle.par_machine.specs.Running.{Running as Machine}
 use Rattle.buffer_machine.specs.Stand.{Stand, backlog_at, waits_of, buffered_of, acted_stand, cleared, first_busy, settled_stand, first_stand, HasLens, AreSound, IsStanding}
 use Rattle.buffer_machine.specs.View.{running_of, IsWhole}
 use Rattle.buffer_machine.proofs.Fitting.{can_be_done, acts_steps}
+use Rattle.buffer_machine.proofs.Few.{few_step, few_start, few_events}
 use Rattle.buffer_machine.proofs.Lens.{acts_none}
 use Rattle.buffer_machine.proofs.Standing.{queue_is, standing_acted, acted_buffered, settled_buffered, standing_settled, standing_anew, standing_written, written_buffered, first_is_busy}
 
@@ -62,6 +64,7 @@ good p fits =
           (λ (ge : length p.phases.items ≤ phase). omega (arith, ap length (acts_none p phase q ge)))
           (cases_lt phase (length p.phases.items));
       each = λ phase q i a small e. can_be_done p fits phase q i a small e;
+      events = few_events (plain_program p) fits;
     }
 
 -- The same machine with other values
@@ -69,8 +72,15 @@ good p fits =
 abbrev pub with_values : Inside → Stand → Machine → Inside
 with_values a v m = record { shape = a.shape; lens = a.lens; values = v; walker = m }
 
-pub whole_with : (a : Inside) (v : Stand) (m : Machine) → IsWhole a → m.code ≡ a.walker.code → IsStanding (code_in a) v → IsBusy (code_in a) (buffered_of v) → IsWalking (code_in a) (buffered_of v).state m.state → IsWhole (with_values a v m)
-whole_with a v m w same standing busy walking =
+-- few events are left after a step, and at the start
+few_after : (code : Code) (b t : Buffered) (event : Event) → IsCode code → IsBusy code b → length (buffered_completion code b) < 2 ^ 60 → t ≡ buffered_step code b event → length (buffered_completion code t) < 2 ^ 60
+few_after code b t event is busy few e = omega (arith, few, few_step code is b event busy, ap (λ (c : Buffered). length (buffered_completion code c)) e)
+
+few_at_start : (code : Code) → IsGood code → (t : Buffered) (x : List ℕ) → t ≡ buffered_start code x → length (buffered_completion code t) < 2 ^ 60
+few_at_start code g t x e = omega (arith, g.events, few_start code g.lists x, ap (λ (c : Buffered). length (buffered_completion code c)) e)
+
+pub whole_with : (a : Inside) (v : Stand) (m : Machine) → IsWhole a → m.code ≡ a.walker.code → IsStanding (code_in a) v → IsBusy (code_in a) (buffered_of v) → length (buffered_completion (code_in a) (buffered_of v)) < 2 ^ 60 → IsWalking (code_in a) (buffered_of v).state m.state → IsWhole (with_values a v m)
+whole_with a v m w same standing busy few walking =
     record {
       good = subst IsGood (sym same) w.good;
       modulus = w.modulus ∙ ap (λ (c : Code). c.modulus) (sym same);
@@ -80,6 +90,7 @@ whole_with a v m w same standing busy walking =
       lens = subst (λ (c : Code). HasLens c a.lens.items) (sym same) w.lens;
       standing = subst (λ (c : Code). IsStanding c v) (sym same) standing;
       busy = subst (λ (c : Code). IsBusy c (buffered_of v)) (sym same) busy;
+      few = subst (λ (c : Code). length (buffered_completion c (buffered_of v)) < 2 ^ 60) (sym same) few;
       walking = subst (λ (c : Code). IsWalking c (buffered_of v).state m.state) (sym same) walking;
     }
 
@@ -201,7 +212,7 @@ turned a q action v m w lt phase left e ev ec em =
     let step = walking_acted code b.state a.walker.state m.state q action low (open_here a q w lt left) w.walking (walker_next a q w lt left ∙ e) em (buffered_of acted_now).state refl refl in
     let walks : IsWalking code (buffered_of v).state m.state = subst (λ (c : Buffered). IsWalking code c.state m.state) (sym moved) (walking_moved code w.good.lists (buffered_of acted_now) m.state low step) in (
       whole_with a v m w ec (subst (IsStanding code) (sym ev1) (standing_settled code a.lens.items acted_now standing))
-          (subst (IsBusy code) (sym same) (busy_step code w.good.lists b (Turn q) w.busy)) walks,
+          (subst (IsBusy code) (sym same) (busy_step code w.good.lists b (Turn q) w.busy)) (few_after code b (buffered_of v) (Turn q) w.good.lists w.busy w.few same) walks,
       same,
     )
 
@@ -229,7 +240,7 @@ drained a q address u v w lt wr ev =
     } in
     let walks : IsWalking code (buffered_of v).state a.walker.state = subst (λ (c : Buffered). IsWalking code c.state a.walker.state) (sym moved) (walking_moved code w.good.lists (buffered_of u) a.walker.state low step) in (
       whole_with a v a.walker w refl (subst (IsStanding code) (sym ev) (standing_settled code a.lens.items u standing))
-          (subst (IsBusy code) (sym same) (busy_step code w.good.lists b (Drain q) w.busy)) walks,
+          (subst (IsBusy code) (sym same) (busy_step code w.good.lists b (Drain q) w.busy)) (few_after code b (buffered_of v) (Drain q) w.good.lists w.busy w.few same) walks,
       same,
     )
 
@@ -316,7 +327,7 @@ put_whole a x v m w ev size below ec em =
     let p : Code = code_in a in
     let standing : IsStanding p v = subst (IsStanding p) (sym ev) (first_standing p a.lens.items w.lens w.good a.values x (omega (arith, w.standing.memory, w.good.size)) below w.standing) in
     let same : buffered_of v ≡ buffered_start p x = ap buffered_of ev ∙ put_state p a.lens.items w.lens w.good a.values x size w.standing in
-    (whole_with a v m w ec standing (busy_at_start p w.good.lists v x same) (walking_at_start p w.good.lists v m.state x x same em), same)
+    (whole_with a v m w ec standing (busy_at_start p w.good.lists v x same) (few_at_start p w.good (buffered_of v) x same) (walking_at_start p w.good.lists v m.state x x same em), same)
 
 -- A new machine
 
@@ -398,6 +409,7 @@ made p a t most w =
         lens = subst (λ (c : Code). HasLens c a.lens.items) (sym code) w.lens;
         standing = subst (λ (c : Code). IsStanding c a.values) (sym code) (subst (IsStanding (code_of p)) (sym w.put) (first_standing (code_of p) a.lens.items w.lens g t [] (omega arith) (λ k. g.modulus) standing));
         busy = subst (λ (c : Code). IsBusy c (buffered_of a.values)) (sym code) (busy_at_start (code_of p) g.lists a.values (replicate p.size 0) state);
+        few = subst (λ (c : Code). length (buffered_completion c (buffered_of a.values)) < 2 ^ 60) (sym code) (few_at_start (code_of p) g (buffered_of a.values) (replicate p.size 0) state);
         walking = subst (λ (c : Code). IsWalking c (buffered_of a.values).state a.walker.state) (sym code) (walking_at_start (code_of p) g.lists a.values a.walker.state (replicate p.size 0) (replicate p.size 0) state w.walker_state);
       },
       state,

@@ -1,3 +1,4 @@
+pub mod Listed
 pub mod Backlog
 pub mod Waits
 pub mod Sound

@@ -1,6 +1,6 @@
 -- How a machine's fields are seen.
-use Rattle.std.specs.Prelude.{◌≡◌}
-use Rattle.icode.specs.Buffers.{Buffered, IsBusy}
+use Rattle.std.specs.Prelude.{◌≡◌, ◌<◌, ◌^◌, length}
+use Rattle.icode.specs.Buffers.{Buffered, IsBusy, buffered_completion}
 use Rattle.icode.specs.Machine.{Code}
 use Rattle.buffer_machine.specs.declared.machine.BufMachine.TheInside.{Inside}
 use Rattle.buffer_machine.specs.Good.{IsGood}
@@ -20,4 +20,5 @@ pub record IsWhole (a : Inside) : Type 0 where
   pub lens : HasLens a.walker.code a.lens.items
   pub standing : IsStanding a.walker.code a.values
   pub busy : IsBusy a.walker.code (buffered_of a.values)
+  pub few : length (buffered_completion a.walker.code (buffered_of a.values)) < 2 ^ 60
   pub walking : IsWalking a.walker.code (buffered_of a.values).state a.walker.state

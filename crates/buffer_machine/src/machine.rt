@@ -1,11 +1,13 @@
 // The machine.
 
 ghost use Rattle.std.specs.Prelude.{◌≡◌, ℕ, ◌+◌, ◌-◌, ◌*◌, ◌^◌, ◌<◌, ◌≤◌, [], ◌∷◌, length, All, slice_index, replicate, IfSome, IfNone, IfOk};
-ghost use Rattle.icode.specs.Buffers.{proc_of, buffered_start, buffered_turn, drain, drain_answer, buffered_step, buffered_completion, buffered_finished};
+ghost use Rattle.icode.specs.Buffers.{proc_of, buffered_start, buffered_turn, drain, drain_answer, buffered_step, buffered_run, buffered_completion, buffered_finished};
 ghost use Rattle.icode.specs.Machine.{acts, answer, padded};
 ghost use Rattle.icode.specs.Program.{code_of, Fits};
+ghost use Rattle.buffer_machine.specs.Listed.{events_of, HasNoStranger};
 ghost use Rattle.buffer_machine.specs.Running.{Running};
 
+use crate::events::Events;
 use crate::make::{make_lens, make_values, most_stores};
 use crate::values::Values;
 use icode::event::{Drained, Event, Turned};
@@ -14,6 +16,7 @@ use icode::program::Program;
 use icode::shape::Shape;
 use memory::NoMemory;
 use par_machine::Machine;
+use ring_mod::Modulus;
 use std::alloc::Global;
 use std::marker::Model;
 
@@ -115,6 +118,7 @@ impl BufMachine {
     pub fn next_event(&self) -> Option<Event>
         ensures found { IfSome result (λ e. (proc_of e < self.now.code.procs) × (buffered_completion self.now.code self.now.state ≡ e ∷ buffered_completion self.now.code (buffered_step self.now.code self.now.state e))) }
         ensures none { IfNone result (buffered_completion self.now.code self.now.state ≡ []) }
+        ensures few { length (buffered_completion self.now.code self.now.state) < 2 ^ 60 }
     {
         let phase = self.values.phase();
         if phase == self.lens.len() as u64 {
@@ -148,6 +152,18 @@ impl BufMachine {
         }
     }
 
+    /// The events of a word, without their completion.
+    pub fn run_events(&mut self, events: Events)
+        requires no_stranger { HasNoStranger events self.old.code.procs }
+        ensures state { self.new.state ≡ buffered_run self.old.code self.old.state (events_of events.entry self.old.code.procs) }
+        ensures code { self.new.code ≡ self.old.code }
+    {
+        let procs = self.procs();
+        for place in 0..events.len(procs) {
+            self.step(events.event_at(place, procs));
+        }
+    }
+
     /// The events that finish the run.
     pub fn finish(&mut self)
         ensures state { self.new.state ≡ buffered_finished self.old.code self.old.state }
@@ -172,5 +188,36 @@ impl BufMachine {
         ensures { result ≡ self.now.state.state.phase }
     {
         self.values.phase()
+    }
+
+    /// The modulus of the program.
+    pub fn modulus(&self) -> Modulus
+        ensures { result ≡ self.now.code.modulus }
+    {
+        self.shape.modulus.modulus()
+    }
+
+    /// The number of processors.
+    pub fn procs(&self) -> u64
+        ensures value { result ≡ self.now.code.procs }
+        ensures limits { (1 ≤ result) × (result ≤ 16) }
+    {
+        self.shape.procs
+    }
+
+    /// The number of lanes.
+    pub fn lanes(&self) -> u64
+        ensures value { result ≡ self.now.code.lanes }
+        ensures limits { (1 ≤ result) × (result ≤ 16) }
+    {
+        self.shape.lanes
+    }
+
+    /// The number of words of memory.
+    pub fn span(&self) -> u64
+        ensures value { result ≡ 4 * padded self.now.code }
+        ensures room { (0 < self.now.code.size) × (self.now.code.size ≤ padded self.now.code) }
+    {
+        self.walker.span()
     }
 }

@@ -12,12 +12,15 @@ use crate::drafts::{begun, with_line};
 use icode::program::Program;
 use listing_text::{Draft, Refusal, cut_line};
 use std::alloc::Global;
+use thiserror::Error;
 
 /// Why a text is no C text of a program.
-#[derive(Clone, Copy, PartialEq, Eq, Debug)]
+#[derive(Clone, Copy, PartialEq, Eq, Debug, Error)]
 pub enum CFault {
     /// Some C text begins with the lines before this one, counted from 1, and none with this line too.
+    #[error("no C text of a program goes on with line {line}")]
     Syntax { line: u64 },
+    #[error("out of memory")]
     NoMemory,
 }
 

@@ -66,8 +66,11 @@ pub fn verify<'a>(alloc: Global, program: &'a Program) -> Result<Verified<'a>, C
     ensures cause { IfErr result (IsCause STEP_LIMIT (plain_program program.now)) }
 
     // And what passes is verified, and what has a cause is refused for it.
-    ensures passes { PassesCheck STEP_LIMIT (plain_program program.now) → IfErr result (λ fault. fault ≡ CheckFault.NoMemory) }
-    ensures refused { (fault : CheckFault) → fault ≢ CheckFault.NoMemory → IsCause STEP_LIMIT (plain_program program.now) fault → IsErrAnd result (λ answer. (answer ≡ fault) ⊎ (answer ≡ CheckFault.NoMemory)) }
+    ensures passes { PassesCheck STEP_LIMIT (plain_program program.now)
+        → IfErr result (λ fault. fault ≡ CheckFault.NoMemory) }
+    ensures refused { (fault : CheckFault) → fault ≢ CheckFault.NoMemory
+        → IsCause STEP_LIMIT (plain_program program.now) fault
+        → IsErrAnd result (λ answer. (answer ≡ fault) ⊎ (answer ≡ CheckFault.NoMemory)) }
 {
     let answer = judge(alloc, program);
     answer
@@ -79,7 +82,8 @@ impl Verified<'_> {
         ensures same { result.now ≡ self.now }
         ensures fits { Fits result.now }
         ensures apart { (phase : ℕ) → IsApart (code_of result.now) phase }
-        ensures order { (x turns : List ℕ) → (runs (code_of result.now) x turns).memory ≡ (runs (code_of result.now) x []).memory }
+        ensures order { (x turns : List ℕ)
+            → (runs (code_of result.now) x turns).memory ≡ (runs (code_of result.now) x []).memory }
     {
         order_is_free();
         self.program

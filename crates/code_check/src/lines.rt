@@ -69,7 +69,8 @@ impl LineUse {
 pub(crate) fn touch(program: &Program, address: u64, proc: u8, writes: bool, lines: &mut [LineUse])
     requires lines { length lines.old ≡ line_count (plain_program program.now) }
     requires address { address + program.now.lanes ≤ 4 * array_size program.now }
-    ensures { lines.new ≡ touched_all proc writes (lines_of program.now.line (range_with_len address program.now.lanes)) lines.old }
+    ensures { lines.new ≡ touched_all proc writes
+        (lines_of program.now.line (range_with_len address program.now.lanes)) lines.old }
 {
     for lane in 0..program.lanes {
         let line = ((address + lane) / program.line) as usize;

@@ -19,7 +19,8 @@ pub(crate) enum Live<'a> {
 // Puts the statement behind the others, if it holds an action.
 #[cycle(live)]
 fn keep<'a>(alloc: Global, stmt: &'a Stmt, kept: &mut Vec<Live<'a>>) -> Result<(), NoMemory>
-    ensures { OnOk result (plain_lives kept.new.items ≡ joined (plain_lives kept.old.items) (pruned_before (plain_stmt stmt.now) NoStmts)) }
+    ensures { OnOk result (plain_lives kept.new.items
+        ≡ joined (plain_lives kept.old.items) (pruned_before (plain_stmt stmt.now) NoStmts)) }
 {
     match stmt {
         Stmt::Loop { count, body } => {

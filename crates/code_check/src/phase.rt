@@ -17,7 +17,8 @@ use std::alloc::Global;
 
 // A table for all lines of the four arrays.
 fn fresh_table(alloc: Global, program: &Program) -> Result<Vec<LineUse>, NoMemory>
-    ensures { IfOk result (λ table. table.items ≡ replicate (line_count (plain_program program.now)) unused) }
+    ensures { IfOk result
+        (λ table. table.items ≡ replicate (line_count (plain_program program.now)) unused) }
 {
     let count = 4 * ((program.size + (program.line - 1)) / program.line);
     let table = vec![in alloc; LineUse::NONE; count as usize]?;
@@ -49,7 +50,8 @@ pub(crate) fn check_phase(
 ) -> Result<Option<Sharing>, CheckFault>
     requires phase { phase < length program.now.phases.items }
     requires few { action_count (plain_program program.now) < 2 ^ 64 }
-    ensures { MatchResult result (IsPhaseSound (plain_program program.now) phase) (IsPhaseFault (plain_program program.now) phase) }
+    ensures { let p = plain_program program.now in
+        MatchResult result (IsPhaseSound p phase) (IsPhaseFault p phase) }
 {
     let body = live_of(alloc, &program.phases[phase])?;
     if body.is_empty() {

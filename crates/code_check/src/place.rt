@@ -11,7 +11,8 @@ use icode::program::{Expr, Part};
 #[cycle(value)]
 pub(crate) fn checked_value(place: &Expr, values: &[u64], proc: u64) -> Option<u64>
     requires { IsTrue (is_sum_within (plain_expr place.now) (length values.now)) }
-    ensures { SomeIff result ((expr_numbers place.now values.now proc).peak < 2 ^ 64) (expr_numbers place.now values.now proc).value }
+    ensures { let at = expr_numbers place.now values.now proc in
+        SomeIff result (at.peak < 2 ^ 64) at.value }
 {
     let mut sum = place.constant;
     for part in &place.parts {
@@ -29,7 +30,8 @@ pub(crate) fn checked_value(place: &Expr, values: &[u64], proc: u64) -> Option<u
 #[cycle(value)]
 fn checked_part(part: &Part, values: &[u64], proc: u64) -> Option<u64>
     requires { IsTrue (is_part_within (plain_part part.now) (length values.now)) }
-    ensures { SomeIff result ((part_numbers part.now values.now proc).peak < 2 ^ 64) (part_numbers part.now values.now proc).value }
+    ensures { let at = part_numbers part.now values.now proc in
+        SomeIff result (at.peak < 2 ^ 64) at.value }
 {
     match part {
         Part::Proc { factor } => proc.checked_mul(*factor),

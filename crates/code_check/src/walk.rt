@@ -32,7 +32,8 @@ pub(crate) enum Offence {
 // The place, where it is inside its array with all lanes.
 fn array_place(program: &Program, place: &Expr, values: &[u64], proc: u64) -> Option<u64>
     requires { IsTrue (is_expr_within (plain_expr place.now) (length values.now)) }
-    ensures { SomeIff result (((expr_numbers place.now values.now proc).peak < 2 ^ 64) × ((expr_numbers place.now values.now proc).value + program.now.lanes ≤ array_size program.now)) (expr_numbers place.now values.now proc).value }
+    ensures { let at = expr_numbers place.now values.now proc in
+        SomeIff result ((at.peak < 2 ^ 64) × (at.value + program.now.lanes ≤ array_size program.now)) at.value }
 {
     let Some(at) = checked_value(place, values, proc) else {
         return None;
@@ -56,7 +57,9 @@ fn is_in_table(
 ) -> bool
     requires within { IsTrue (is_expr_within (plain_expr place.now) (length values.now)) }
     requires step { step < 2 }
-    ensures { IsTrue result ↔ (((expr_numbers place.now values.now proc).peak < 2 ^ 64) × ((expr_numbers place.now values.now proc).value + step * (program.now.lanes - 1) + 1 ≤ length (table_of program.now table))) }
+    ensures { let at = expr_numbers place.now values.now proc in
+        IsTrue result ↔ ((at.peak < 2 ^ 64)
+        × (at.value + step * (program.now.lanes - 1) + 1 ≤ length (table_of program.now table))) }
 {
     let Some(at) = checked_value(place, values, proc) else {
         return false;
@@ -80,7 +83,11 @@ pub(crate) fn check_op(
     requires within { IsTrue (is_op_within program.now.modulus (plain_op op.now) (length values.now)) }
     requires lines { length lines.old ≡ line_count (plain_program program.now) }
     requires proc { proc < 256 }
-    ensures { MatchResult result (λ _. (judged (plain_program program.now) (op_step program.now op.now values.now proc) ≡ None) × (lines.new ≡ noted (plain_program program.now) proc (op_step program.now op.now values.now proc) lines.old)) (λ offence. judged (plain_program program.now) (op_step program.now op.now values.now proc) ≡ Some offence) }
+    ensures { let p = plain_program program.now in
+        let s = op_step program.now op.now values.now proc in
+        MatchResult result
+        (λ _. (judged p s ≡ None) × (lines.new ≡ noted p proc s lines.old))
+        (λ offence. judged p s ≡ Some offence) }
 {
     let fit = registers_fit(program, op);
     match op {
@@ -144,7 +151,9 @@ pub(crate) fn walk_stmt(
     requires few { count.old + len_of_stmt (plain_live stmt.now) < 2 ^ 64 }
     requires lines { length lines.old ≡ line_count (plain_program program.now) }
     requires proc { proc < 256 }
-    ensures walk { Answers result count.new lines.new (walked (plain_program program.now) proc (steps_of_stmt (plain_program program.now) (plain_live stmt.now) (take depth values.old) proc) count.old lines.old) }
+    ensures walk { let p = plain_program program.now in
+        let steps = steps_of_stmt p (plain_live stmt.now) (take depth values.old) proc in
+        Answers result count.new lines.new (walked p proc steps count.old lines.old) }
     ensures values { take depth values.new ≡ take depth values.old }
 {
     match stmt {
@@ -178,7 +187,9 @@ pub(crate) fn walk_body(
     requires few { count.old + len_of_body (plain_lives body.now) < 2 ^ 64 }
     requires lines { length lines.old ≡ line_count (plain_program program.now) }
     requires proc { proc < 256 }
-    ensures walk { Answers result count.new lines.new (walked (plain_program program.now) proc (steps_of_body (plain_program program.now) (plain_lives body.now) (take depth values.old) proc) count.old lines.old) }
+    ensures walk { let p = plain_program program.now in
+        let steps = steps_of_body p (plain_lives body.now) (take depth values.old) proc in
+        Answers result count.new lines.new (walked p proc steps count.old lines.old) }
     ensures values { take depth values.new ≡ take depth values.old }
 {
     for stmt in body {

@@ -1,4 +1,4 @@
-//! The rest of an input, read to its end.
+//! Parts of an input: its rest, read to its end, and the lines before its first empty line.
 #![tactic(auto)]
 
 ghost use Rattle.std.specs.Prelude.{◌≡◌, ℕ, ◌+◌, ◌<◌, List, [], ◌∷◌, ◌++◌, OnOk, IsErrOf};
@@ -8,8 +8,11 @@ ghost use Rattle.io_edge.specs.Feed.{to_come, limit};
 ghost use Rattle.input_rest.specs.Rest.{GivesRest};
 ghost use Rattle.input_rest.specs.declared.RestFault.TheVariants as fault;
 
+mod part;
+
 use io_edge::{Feed, FeedFault, Source};
 use memory::NoMemory;
+pub use part::read_part;
 use std::alloc::Global;
 use thiserror::Error;
 
@@ -48,7 +51,8 @@ impl From<NoMemory> for RestFault {
     }
 }
 
-fn append(text: &mut Vec<u8>, byte: u8) -> Result<(), NoMemory>
+// Puts a byte behind the text.
+pub(crate) fn append(text: &mut Vec<u8>, byte: u8) -> Result<(), NoMemory>
     ensures { OnOk result (text.new.items ≡ text.old.items ++ byte ∷ []) }
 {
     text.push(byte)?;

@@ -1,6 +1,6 @@
 -- Lists whose items are below a number, and what is read from them.
 use Rattle.std.proofs.Common.{◌≡◌, ℕ, zero, suc, ◌+◌, ◌<◌, ◌≤◌, arith, refl, sym, ap, ap₂, ◌∙◌, List, [], ◌∷◌, ◌++◌, length, map}
-use Rattle.std.specs.Prelude.{slice_index}
+use Rattle.std.specs.Prelude.{All, slice_index}
 use Rattle.std.proofs.lemmas.List.FromFn.{fill_by_all}
 use Rattle.operators.specs.Operator.{gather}
 use Rattle.operators.proofs.Lists.{length-list_below, at-list_below}
@@ -14,6 +14,11 @@ AllBelow a (r ∷ rs) = (r < a) × AllBelow a rs
 pub AllBelow-more : (a b : ℕ) (rs : List ℕ) → a ≤ b → AllBelow a rs → AllBelow b rs
 AllBelow-more a b [] h s = tt
 AllBelow-more a b (r ∷ rs) h s = (omega (arith, s.0), AllBelow-more a b rs h s.1)
+
+pub AllBelow-all : (a : ℕ) (rs : List ℕ) → AllBelow a rs → All (λ r. r < a) rs
+AllBelow-all a [] h k d lt = absurd (omega arith)
+AllBelow-all a (r ∷ rs) h zero d lt = h.0
+AllBelow-all a (r ∷ rs) h (suc k) d lt = AllBelow-all a rs h.1 k d (omega arith)
 
 pub AllBelow-append : (a : ℕ) (rs qs : List ℕ) → AllBelow a rs → AllBelow a qs → AllBelow a (rs ++ qs)
 AllBelow-append a [] qs h s = s

@@ -1,16 +1,16 @@
 -- Kernels on the machine.
-use Rattle.std.proofs.Common.{◌≡◌, ℕ, ◌*◌, ◌<◌, ◌≤◌, ap, ◌∙◌, List, map}
+use Rattle.std.proofs.Common.{◌≡◌, ℕ, ◌*◌, ◌<◌, ◌≤◌, ap, ◌∙◌, List, length, map}
 use Rattle.std.proofs.lemmas.List.FromFn.{fill_by_all}
 use Rattle.code_laws.specs.Lanes.{Registers, lane_of, AreArithmetic}
-use Rattle.code_laws.proofs.ByLane.{arithmetic_is_by_lane, operations_are_by_lane}
+use Rattle.code_laws.proofs.ByLane.{arithmetic_is_by_lane}
+use Rattle.icode.specs.Machine.{Local, effects}
 use Rattle.code_laws.proofs.Placing.{slice_index-map, length-mapped}
 use Rattle.matrix_meaning.specs.declared.Kind.{Kind}
 use Rattle.matrix_meaning.specs.Kind.{transform}
 use Rattle.operators.specs.Sum.{list_below}
 use Rattle.operators.proofs.Lists.{length-list_below, at-list_below}
 use Rattle.tree_model.specs.Breakdown.{Breakdown, size_of, IsWellFormed}
-use Rattle.kernel_gen.specs.Kernel.{tree_make, kernel_of, kernel_cost}
-use Rattle.kernel_gen.specs.Laws.{IsRoot, KernelsTransform, KernelsCost, KernelsRegisters, KernelsAreConstant}
+use Rattle.kernel_gen.specs.Kernel.{IsRoot, tree_make, kernel_of, kernel_cost}
 use Rattle.kernel_gen.proofs.Below.{AllBelow, AllBelow-at}
 use Rattle.kernel_gen.proofs.Pieces.{Does, DoesAt, AreArithmetic-more}
 use Rattle.kernel_gen.proofs.Trees.{does-tree}
@@ -44,7 +44,15 @@ kernel-does m lanes lane kind t w modulus there formed root =
     does-tree m lanes lane modulus there kind t w formed root in
     done.at (firsts (size_of t)) (size_of t) (length-list_below (size_of t) _) (firsts-below (size_of t))
 
-pub kernels_transform : KernelsTransform
+-- in each lane its outputs are its tree's transform of the first registers, and it leaves the memory
+pub kernels_transform : (m lanes regs : ℕ) (kind : Kind) (t : Breakdown) (w : ℕ) (s : Local) → 2 ≤ m → 0 < lanes → IsWellFormed kind t → IsRoot kind m (size_of t) w →
+    (kernel_of m lanes kind t w).next ≤ regs → regs * lanes ≤ length s.registers →
+    let made = kernel_of m lanes kind t w in
+    let after = effects m lanes made.acts s in
+    (after.memory ≡ s.memory)
+    × ((lane : ℕ) → lane < lanes → ((k : ℕ) → k < size_of t → lane_of lanes s.registers lane k < m) →
+    map (lane_of lanes after.registers lane) made.outs
+    ≡ transform kind m (size_of t) w (list_below (size_of t) (lane_of lanes s.registers lane)))
 kernels_transform m lanes regs kind t w s modulus some formed root room wide =
     let made = kernel_of m lanes kind t w in
     let first : DoesAt m lanes 0 (size_of t) (kernel_cost m kind t w) (firsts (size_of t)) (size_of t) made (transform kind m (size_of t) w) =
@@ -60,20 +68,3 @@ kernels_transform m lanes regs kind t w s modulus some formed root room wide =
           ∙ done.values g (firsts-residues g m (size_of t) small)
           ∙ ap (transform kind m (size_of t) w) (map-firsts g (size_of t)),
     )
-
-pub kernels_cost : KernelsCost
-kernels_cost m lanes kind t w modulus some formed root =
-    let made = kernel_of m lanes kind t w in
-    let done : DoesAt m lanes 0 (size_of t) (kernel_cost m kind t w) (firsts (size_of t)) (size_of t) made (transform kind m (size_of t) w) =
-    kernel-does m lanes 0 kind t w modulus some formed root in
-    operations_are_by_lane lanes made.acts ∙ ap (λ n. lanes * n) done.costs
-
-pub kernels_registers : KernelsRegisters
-kernels_registers m lanes kind t w modulus some formed root =
-    let done : DoesAt m lanes 0 (size_of t) (kernel_cost m kind t w) (firsts (size_of t)) (size_of t) (kernel_of m lanes kind t w) (transform kind m (size_of t) w) = kernel-does m lanes 0 kind t w modulus some formed root in
-    done.next_is
-
-pub kernels_are_constant : KernelsAreConstant
-kernels_are_constant m lanes kind t w modulus some formed root =
-    let done : DoesAt m lanes 0 (size_of t) (kernel_cost m kind t w) (firsts (size_of t)) (size_of t) (kernel_of m lanes kind t w) (transform kind m (size_of t) w) = kernel-does m lanes 0 kind t w modulus some formed root in
-    done.constant

@@ -1,19 +1,23 @@
 -- The kernels of the nodes of a request's transform.
-use Rattle.std.proofs.Common.{◌≡◌, ℕ, ◌*◌, ◌%◌, ◌<◌, ◌≤◌, sym, ap, ap₂, ◌∙◌, arith, mul_comm}
+use Rattle.std.proofs.Common.{◌≡◌, ℕ, ◌+◌, ◌*◌, ◌%◌, ◌<◌, ◌≤◌, sym, ap, ap₂, ◌∙◌, arith, mul_comm}
 use Rattle.std.proofs.Math.Nat.{mod-eq_of_lt}
 use Rattle.matrix_meaning.specs.declared.Kind.{Kind}
 use Rattle.matrix_meaning.specs.declared.Kind.TheVariants.{Dft, Wht}
 use Rattle.matrix_meaning.specs.declared.Request.{Request}
+use Rattle.matrix_meaning.specs.Kind.{transform}
+use Rattle.code_laws.proofs.ByLane.{operations_are_by_lane}
 use Rattle.matrix_meaning.specs.Valid.{IsValid, HasRoot}
 use Rattle.ring_mod.specs.Residue.{power_mod}
 use Rattle.ring_mod.proofs.Powers.{power_mod_of_power}
-use Rattle.tree_model.specs.Breakdown.{Breakdown, size_of}
+use Rattle.tree_model.specs.Breakdown.{Breakdown, size_of, IsWellFormed}
 use Rattle.tree_model.specs.Cost.{node_root}
 use Rattle.tree_model.proofs.Splits.{product_div}
-use Rattle.kernel_gen.specs.Kernel.{kernel_of, node_kernel}
+use Rattle.kernel_gen.specs.Kernel.{IsRoot, kernel_of, kernel_cost, node_kernel}
 use Rattle.kernel_gen.specs.Making.{Made}
-use Rattle.kernel_gen.specs.Laws.{IsRoot, NodesTransform, NodesCost}
-use Rattle.kernel_gen.proofs.Kernels.{kernels_transform, kernels_cost}
+use Rattle.kernel_gen.specs.Kernels.{TransformsNode, CostsNode, IsStraight}
+use Rattle.kernel_gen.proofs.Below.{AllBelow-all}
+use Rattle.kernel_gen.proofs.Kernels.{firsts, kernel-does, kernels_transform}
+use Rattle.kernel_gen.proofs.Pieces.{DoesAt}
 use Rattle.kernel_gen.proofs.NodeCosts.{cost-same}
 
 -- the root of a part
@@ -27,17 +31,35 @@ pub root-of : (c : Request) (t : Breakdown) → IsValid c → c.size % size_of t
 root-of c t valid divides =
     part_root c.kind c.modulus c.root c.size (size_of t) _ valid.in_range.modulus.0 (product_div c.size (size_of t) divides) valid.root
 
-pub nodes_transform : NodesTransform
-nodes_transform c t regs s valid formed divides room wide =
-    let lanes = valid.in_range.lanes in
-    kernels_transform c.modulus c.lanes regs c.kind t (node_root c (size_of t)) s valid.in_range.modulus.0 (omega arith) formed (root-of c t valid divides) room wide
+some_lanes : (c : Request) → IsValid c → 0 < c.lanes
+some_lanes c valid = let lanes = valid.in_range.lanes in omega arith
 
-pub nodes_cost : NodesCost
-nodes_cost c t valid one formed divides is =
-    let lanes = valid.in_range.lanes in
+pub nodes_transform : (c : Request) (t : Breakdown) → IsValid c → IsWellFormed c.kind t → c.size % size_of t ≡ 0 → TransformsNode c t (node_kernel c t)
+nodes_transform c t valid formed divides regs s room wide =
+    kernels_transform c.modulus c.lanes regs c.kind t (node_root c (size_of t)) s valid.in_range.modulus.0 (some_lanes c valid) formed (root-of c t valid divides) room wide
+
+-- what the code for a node does in a lane
+node-does : (c : Request) (t : Breakdown) → IsValid c → IsWellFormed c.kind t → c.size % size_of t ≡ 0 →
+    DoesAt c.modulus c.lanes 0 (size_of t) (kernel_cost c.modulus c.kind t (node_root c (size_of t))) (firsts (size_of t)) (size_of t) (node_kernel c t) (transform c.kind c.modulus (size_of t) (node_root c (size_of t)))
+node-does c t valid formed divides =
+    kernel-does c.modulus c.lanes 0 c.kind t (node_root c (size_of t)) valid.in_range.modulus.0 (some_lanes c valid) formed (root-of c t valid divides)
+
+pub nodes_cost : (c : Request) (t : Breakdown) → IsValid c → IsWellFormed c.kind t → c.size % size_of t ≡ 0 → CostsNode c t (node_kernel c t)
+nodes_cost c t valid formed divides one is =
     let size = valid.in_range.size in
-    kernels_cost c.modulus c.lanes c.kind t (node_root c (size_of t)) valid.in_range.modulus.0 (omega arith) formed (root-of c t valid divides)
-    ∙ ap (λ n. c.lanes * n) (cost-same c one t _ (omega arith) formed (product_div c.size (size_of t) divides) is)
+    let done = node-does c t valid formed divides in
+    operations_are_by_lane c.lanes (node_kernel c t).acts
+    ∙ ap (λ n. c.lanes * n) (done.costs ∙ cost-same c one t _ (omega arith) formed (product_div c.size (size_of t) divides) is)
+
+pub nodes_straight : (c : Request) (t : Breakdown) → IsValid c → IsWellFormed c.kind t → c.size % size_of t ≡ 0 → IsStraight c.lanes (size_of t) (node_kernel c t)
+nodes_straight c t valid formed divides =
+    let done = node-does c t valid formed divides in
+    record {
+      arithmetic = done.arithmetic;
+      constant = done.constant;
+      outputs = AllBelow-all (node_kernel c t).next (node_kernel c t).outs done.below;
+      registers = done.next_is ∙ ap (λ n. size_of t + n) (sym done.costs);
+    }
 
 -- code that was written for the fields of a request
 pub written_for : (c r : Request) (t : Breakdown) (m root d : ℕ) (made : Made) → made ≡ kernel_of m r.lanes r.kind t root → r ≡ c → m ≡ r.modulus → root ≡ node_root c d → d ≡ size_of t → made ≡ node_kernel c t

@@ -25,8 +25,7 @@ use Rattle.ring_mod.proofs.Powers.{power_mod-zero, power_mod-part}
 use Rattle.tree_model.specs.declared.tree.Rule.TheVariants.{Gt, Ct, Split}
 use Rattle.tree_model.specs.Breakdown.{Breakdown, leaf, node, size_of, IsWellFormed}
 use Rattle.kernel_gen.specs.Making.{Maker, pick_make, then_make, rows_make, diagonal_make}
-use Rattle.kernel_gen.specs.Kernel.{columns_make, node_make, tree_make, product_cost, rule_cost, kernel_cost}
-use Rattle.kernel_gen.specs.Laws.{IsRoot}
+use Rattle.kernel_gen.specs.Kernel.{IsRoot, columns_make, node_make, tree_make, product_cost, rule_cost, kernel_cost}
 use Rattle.kernel_gen.proofs.Pieces.{Does, does-same, does-price, does-pick, does-then}
 use Rattle.kernel_gen.proofs.Rows.{sum_below-constant, does-rows, does-blocks, does-columns}
 use Rattle.kernel_gen.proofs.Factors.{does-diagonal}

@@ -1,7 +1,7 @@
 -- The kernel of a tree, and what it costs.
-use Rattle.std.specs.Prelude.{ℕ, ◌+◌, ◌-◌, ◌*◌, ◌==◌, if◌then◌else◌}
+use Rattle.std.specs.Prelude.{◌≡◌, ℕ, ◌+◌, ◌-◌, ◌*◌, ◌%◌, ◌==◌, if◌then◌else◌}
 use Rattle.matrix_meaning.specs.declared.Kind.{Kind}
-use Rattle.matrix_meaning.specs.declared.Kind.TheVariants.{Dft}
+use Rattle.matrix_meaning.specs.declared.Kind.TheVariants.{Dft, Wht}
 use Rattle.operators.specs.Identities.{turn}
 use Rattle.matrix_meaning.specs.Kind.{entry_of}
 use Rattle.operators.specs.Operator.{good_thomas_in, good_thomas_out}
@@ -14,6 +14,11 @@ use Rattle.tree_model.specs.Breakdown.{Breakdown, leaf, node, size_of}
 use Rattle.tree_model.specs.Cost.{node_root}
 use Rattle.matrix_meaning.specs.declared.Request.{Request}
 use Rattle.kernel_gen.specs.Making.{Made, Maker, pick_make, then_make, rows_make, matrix_make, diagonal_make}
+
+-- a root of the size of a transform
+abbrev pub IsRoot : Kind → ℕ → ℕ → ℕ → Type 0
+IsRoot Dft m n w = power_mod m w n ≡ 1 % m
+IsRoot Wht m n w = Unit {0}
 
 -- a piece on each of s columns of r inputs
 abbrev pub columns_make : ℕ → ℕ → Maker → Maker

@@ -3,7 +3,7 @@ ghost use Rattle.std.specs.Prelude.{◌≡◌, ◌%◌, vec_len, IfOk};
 ghost use Rattle.operators.specs.Sum.{list_below};
 ghost use Rattle.tree_model.specs.Breakdown.{breakdown_of, size_of, IsWellFormed};
 ghost use Rattle.kernel_gen.specs.Kernel.{node_kernel};
-ghost use Rattle.kernel_gen.specs.Kernels.{made_of};
+ghost use Rattle.kernel_gen.specs.Kernels.{made_of, TransformsNode, CostsNode, IsStraight};
 
 use crate::straight::Kernel;
 use crate::writer::Writer;
@@ -20,12 +20,17 @@ fn first_registers(alloc: Global, n: u64) -> Result<Vec<u64>, NoMemory>
     Ok((0..n).map(|k| k).collect(alloc)?)
 }
 
-/// The code of a tree, for a node of the request's transform.
+/// The code of a tree for a node of the request's transform: from its inputs in the first registers it leaves the node's
+/// transform in the outputs, in each lane, in exactly the operations that the tree costs where it is a kernel, and names
+/// its own registers alone.
 pub fn kernel(alloc: Global, c: &Ctx, t: &Tree) -> Result<Kernel, NoMemory>
     requires tree { IsWellFormed c.now.kind (breakdown_of t.now) }
     requires divides { c.now.size % size_of (breakdown_of t.now) ≡ 0 }
     ensures inputs { IfOk result (λ k. k.inputs ≡ size_of (breakdown_of t.now)) }
     ensures code { IfOk result (λ k. made_of k ≡ node_kernel c.now (breakdown_of t.now)) }
+    ensures transforms { IfOk result (λ k. TransformsNode c.now (breakdown_of t.now) (made_of k)) }
+    ensures cost { IfOk result (λ k. CostsNode c.now (breakdown_of t.now) (made_of k)) }
+    ensures straight { IfOk result (λ k. IsStraight c.now.lanes k.inputs (made_of k)) }
 {
     let request = c.request();
     let modulus = Modulus::new(request.modulus).unwrap();

@@ -2,7 +2,6 @@
 #![tactic(auto)]
 
 mod generate;
-mod laws;
 mod matrix;
 mod nodes;
 mod places;
@@ -10,5 +9,4 @@ mod straight;
 mod writer;
 
 pub use generate::kernel;
-pub use laws::{kernels_transform, nodes_transform};
 pub use straight::Kernel;

@@ -14,12 +14,15 @@ use crate::draft::Draft;
 use crate::drafts::{Refusal, begun, with_line};
 use icode::program::Program;
 use std::alloc::Global;
+use thiserror::Error;
 
 /// Why a text is no listing.
-#[derive(Clone, Copy, PartialEq, Eq, Debug)]
+#[derive(Clone, Copy, PartialEq, Eq, Debug, Error)]
 pub enum ListingFault {
     /// Some listing begins with the lines before this one, counted from 1, and none with this line too.
+    #[error("no listing goes on with line {line}")]
     Syntax { line: u64 },
+    #[error("out of memory")]
     NoMemory,
 }
 

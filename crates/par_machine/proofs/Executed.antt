@@ -202,15 +202,6 @@ module _ (code : Code) (is : IsCode code) where
           let rest = fronts lens g (first + 1) phase n (λ k. ap (λ j. length (g j)) (s k) ∙ e (suc k)) (omega (arith, ap (λ j. length (g j)) (s phase))) in
           omega (arith, whole, here, rest, length-append (g first) (flat_map g (range_with_len (first + 1) phase)), ap (λ j. length (g j)) z)
 
-  pub executed_length : (s : State) (q : ℕ) (lens : List ℕ) → ((phase : ℕ) → length (acts code phase q) ≡ slice_index lens phase) → slice_index s.done q < length (acts code s.phase q) → length (executed code s q) + 1 ≤ total lens
-  executed_length s q lens e lt =
-      omega (
-        arith,
-        length-append (flat_map (all_of q) (range_with_len 0 s.phase)) (take (slice_index s.done q) (acts code s.phase q)),
-        length-take-le (slice_index s.done q) (acts code s.phase q) (omega arith),
-        length_flat q lens e s.phase (slice_index s.done q) lt,
-      )
-
   pub executed_room : (s : State) (q n : ℕ) (lens : List ℕ) → ((phase : ℕ) → length (acts code phase q) ≡ slice_index lens phase) → 0 < n → slice_index s.done q + n ≤ length (acts code s.phase q) → length (executed code s q) + n ≤ total lens
   executed_room s q n lens e some most =
       omega (

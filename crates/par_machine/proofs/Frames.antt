@@ -1,23 +1,17 @@
 -- What a machine's code has at a phase and a processor.
-use Rattle.std.proofs.Common.{◌≡◌, ℕ, zero, suc, ◌+◌, ◌*◌, ◌<◌, ◌≤◌, List, [], ◌∷◌, length, map, take, get_or, Option, Some, None, refl, sym, ap, ◌∙◌, subst, arith}
+use Rattle.std.proofs.Common.{◌≡◌, ℕ, zero, suc, ◌<◌, ◌≤◌, List, [], ◌∷◌, length, map, get_or, Option, Some, None, refl, sym, ap, ◌∙◌, subst, arith}
 use Rattle.std.specs.Prelude.{slice_get, slice_index, slice_index_or, option_map}
 use Rattle.std.specs.List.{range_with_len}
 use Rattle.std.proofs.lemmas.List.{get_or-map, length-map}
 use Rattle.std.proofs.lemmas.List.FromFn.{get_or-map-range_with_len, length-map-range_with_len}
 use Rattle.std.proofs.lemmas.Option.{slice_get-map, slice_get_within, slice_get_read}
 use Rattle.icode.specs.declared.action.Action.{Action}
-use Rattle.icode.specs.declared.program.Array.{Array}
-use Rattle.icode.specs.declared.program.Array.TheVariants.{X, Y, A, B}
-use Rattle.icode.specs.Plain.{PlainProgram, PlainOp, Load, Store, Zero, Add, Sub, Neg, MulConst, MulTable, Tile, plain_op}
-use Rattle.icode.specs.Actions.{Step, step_of, array_start, RegistersFit, FactorsFit}
-use Rattle.icode.specs.Machine.{IsCode, acts, next_action, whole_lines}
-use Rattle.icode.proofs.Lists.{All-slice_get}
+use Rattle.icode.specs.Plain.{PlainProgram}
+use Rattle.icode.specs.Machine.{IsCode, acts, next_action}
 use Rattle.par_machine.specs.declared.cursor.Instruction.{Instruction}
-use Rattle.par_machine.specs.declared.cursor.Instruction.TheVariants.{Act, Again}
 use Rattle.par_machine.specs.declared.phase.Routine.{Routine}
-use Rattle.icode.specs.Operation.{AddressFits}
 use Rattle.par_machine.specs.Position.{Position, next_position, positions, first_position}
-use Rattle.par_machine.specs.Hand.{step_with, step_at, action_of_step, HasPlace, Runs}
+use Rattle.par_machine.specs.Hand.{step_with, step_at, action_of_step, Runs}
 use Rattle.par_machine.specs.Lengths.{HasLengths}
 use Rattle.par_machine.specs.Frame.{Frame, Stand, code_of_frame, places_of, places_in, lens_of, IsReady, IsRoutine, IsRunning}
 
@@ -106,47 +100,10 @@ module _ (f : Frame) where
 
 -- What may be done
 
-pub has_place : (p : PlainProgram) (o : Option Step) → Runs p o → HasPlace o
-has_place p None h = h
-has_place p (Some s) h = (h.numbers, h.place)
-
-pub runs_registers : (p : PlainProgram) (o : Option Step) → Runs p o → RegistersFit p.regs p.lanes (action_of_step o)
-runs_registers p None h = absurd h
-runs_registers p (Some s) h = h.registers
-
-pub runs_factors : (p : PlainProgram) (o : Option Step) → Runs p o → FactorsFit p.modulus (action_of_step o)
-runs_factors p None h = absurd h
-runs_factors p (Some s) h = h.factors
-
-start_within : (room : ℕ) (array : Array) → array_start room array ≤ 3 * room
-start_within room X = omega arith
-start_within room Y = omega arith
-start_within room A = omega arith
-start_within room B = omega arith
-
-address_within : (room lanes value : ℕ) (array : Array) → value + lanes ≤ room → array_start room array + value + lanes ≤ 4 * room
-address_within room lanes value array le = omega (arith, start_within room array)
-
-op_address : (p : PlainProgram) (op : PlainOp) (vs : List ℕ) (q : ℕ) → (step_of p op vs q).reach ≤ (step_of p op vs q).room → AddressFits p.lanes (4 * whole_lines p.size p.line) (step_of p op vs q).action
-op_address p (Load register array place) vs q h = address_within (whole_lines p.size p.line) p.lanes _ array h
-op_address p (Store array place register) vs q h = address_within (whole_lines p.size p.line) p.lanes _ array h
-op_address p (Zero register) vs q h = tt
-op_address p (Add register left right) vs q h = tt
-op_address p (Sub register left right) vs q h = tt
-op_address p (Neg register source) vs q h = tt
-op_address p (MulConst register source factor) vs q h = tt
-op_address p (MulTable register source table place step) vs q h = tt
-op_address p (Tile register source) vs q h = tt
-
-pub runs_address : (p : PlainProgram) (vs : List ℕ) (q : ℕ) (o : Option Instruction) → HasPlace (step_with p vs q o) → AddressFits p.lanes (4 * whole_lines p.size p.line) (action_of_step (step_with p vs q o))
-runs_address p vs q None h = absurd h
-runs_address p vs q (Some (Again start last depth)) h = absurd h
-runs_address p vs q (Some (Act op depth)) h = op_address p (plain_op op) (take depth vs) q h.1
-
-pub place_inside : (g : PlainProgram) (code : List Instruction) (q : ℕ) (p : Position) → HasPlace (step_at g code q p) → p.at < length code
+pub place_inside : (g : PlainProgram) (code : List Instruction) (q : ℕ) (p : Position) → Runs g (step_at g code q p) → p.at < length code
 place_inside g code q p h = inside (slice_get code p.at) refl h
   where
-    inside : (o : Option Instruction) → slice_get code p.at ≡ o → HasPlace (step_with g p.values q o) → p.at < length code
+    inside : (o : Option Instruction) → slice_get code p.at ≡ o → Runs g (step_with g p.values q o) → p.at < length code
     inside None e h = absurd h
     inside (Some i) e h = slice_get_within code p.at i e
 
@@ -175,8 +132,3 @@ hand_action f t q r cursor run h =
     ap (λ xs. slice_get xs (slice_index t.state.done q)) (acts_at f t.state.phase q r h.phase h.proc h.routine)
     ∙ (slice_get-map (λ p. action_of_step (step_at f.header r.code.items q p)) (places_of r) (slice_index t.state.done q)
     ∙ ap (option_map (λ p. action_of_step (step_at f.header r.code.items q p))) (hand_place f t q r cursor run h))
-
-pub hand_runs : (f : Frame) (t : Stand) (q : ℕ) (r : Routine) (cursor : Position) → IsReady f → IsRunning f t → IsHere f t q r cursor → Runs f.header (step_at f.header r.code.items q cursor)
-hand_runs f t q r cursor ready run h =
-    All-slice_get (λ p. Runs f.header (step_at f.header r.code.items q p)) (places_of r) (slice_index t.state.done q) cursor
-    ((routine_is f t.state.phase r ready h.phase h.routine).runs q h.proc) (hand_place f t q r cursor run h)

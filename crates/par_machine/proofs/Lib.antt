@@ -1,6 +1,6 @@
 pub mod Cursors
 pub mod Phases
-pub mod Clears
+pub mod Each
 pub mod Frames
 pub mod Executed
 pub mod Steps
@@ -11,6 +11,7 @@ pub mod Compiles
 pub mod Translations
 pub mod Tables
 pub mod News
+pub mod Puts
 pub mod Schedules
 pub mod Remaining
 pub mod Playings

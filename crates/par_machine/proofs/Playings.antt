@@ -1,13 +1,20 @@
 -- Actions that are played one after another.
-use Rattle.std.proofs.Common.{◌≡◌, ℕ, zero, suc, ◌+◌, ◌-◌, ◌*◌, ◌<◌, ◌^◌, List, All, length, ap, ◌∙◌, subst, arith}
+use Rattle.std.specs.Prelude.{IsTrue, ◌≤◌}
+use Rattle.std.proofs.Common.{◌≡◌, ℕ, zero, suc, ◌-◌, ◌*◌, ◌<◌, List, All, Some, length, take, get_or, refl, sym, ap, ◌∙◌, subst, arith}
+use Rattle.std.proofs.lemmas.Option.{slice_get_read}
+use Rattle.icode.specs.declared.program.Op.{Op}
+use Rattle.icode.specs.Actions.{StepFits, step_of}
 use Rattle.icode.specs.declared.action.Counts.{Counts}
-use Rattle.icode.specs.Machine.{Local, value_put, register_put}
-use Rattle.icode.specs.Plain.{PlainProgram}
+use Rattle.icode.specs.Machine.{Local, counted, value_put, register_put}
+use Rattle.icode.specs.Plain.{PlainProgram, PlainOp, Load, Store, Zero, Add, Sub, Neg, MulConst, MulTable, Tile, plain_op}
 use Rattle.par_machine.specs.declared.cursor.Instruction.{Instruction}
-use Rattle.par_machine.specs.Hand.{step_at, action_of_step, Runs}
-use Rattle.par_machine.specs.Played.{Playing, played_one, played}
+use Rattle.par_machine.specs.declared.cursor.Instruction.TheVariants.{Act, Again}
+use Rattle.icode.specs.Limits.{is_op_within}
+use Rattle.par_machine.specs.Instruction.{IsClosed, IsWithin}
+use Rattle.par_machine.specs.OnRegisters.{counted_op}
+use Rattle.par_machine.specs.Hand.{step_with, step_at, action_of_step, Runs}
+use Rattle.par_machine.specs.Played.{Playing, CanPlay, played_one, played}
 use Rattle.par_machine.specs.Position.{Position, next_position, positions}
-use Rattle.icode.proofs.Residues.{AreBelow}
 use Rattle.icode.proofs.Below.{effect_memory_below, effect_registers_below}
 use Rattle.par_machine.proofs.Executed.{counted_at_most}
 use Rattle.par_machine.proofs.Steps.{length-with_words, length-memory_after}
@@ -22,24 +29,33 @@ playing_same m m' r r' p p' c c' em er ep ec =
 pub place_same : (i i' : ℕ) (vs vs' : List ℕ) → i ≡ i' → vs ≡ vs' → ◌≡◌ {A = Position} (record { at = i; values = vs }) (record { at = i'; values = vs' })
 place_same i i' vs vs' ei ev = ap (λ i. record { at = i; values = vs }) ei ∙ ap (λ vs. record { at = i'; values = vs }) ev
 
--- what may be played, with so many actions left
-pub record IsPlayable (g : PlainProgram) (code : List Instruction) (q memory file left : ℕ) (s : Playing) : Type 0 where
-  pub runs : All (λ place. Runs g (step_at g code q place)) (positions code left s.place)
-  pub memory_is : length s.memory ≡ memory
-  pub words : AreBelow g.modulus s.memory
-  pub file_is : length s.registers ≡ file
-  pub residues : AreBelow g.modulus s.registers
-  pub operations : s.counts.operations + left * g.lanes < 2 ^ 64
-  pub loads : s.counts.loads + left * g.lanes < 2 ^ 64
-  pub stores : s.counts.stores + left * g.lanes < 2 ^ 64
+pub counted_op_is : (p : PlainProgram) (op : PlainOp) (vs : List ℕ) (q : ℕ) (c : Counts) → counted_op p.lanes op c ≡ counted p.lanes (step_of p op vs q).action c
+counted_op_is p (Load register array place) vs q c = refl
+counted_op_is p (Store array place register) vs q c = refl
+counted_op_is p (Zero register) vs q c = refl
+counted_op_is p (Add register left right) vs q c = refl
+counted_op_is p (Sub register left right) vs q c = refl
+counted_op_is p (Neg register source) vs q c = refl
+counted_op_is p (MulConst register source factor) vs q c = refl
+counted_op_is p (MulTable register source table place step) vs q c = refl
+counted_op_is p (Tile register source) vs q c = refl
 
 module _ (g : PlainProgram) (code : List Instruction) (q : ℕ) where
   abbrev CanRun : Position → Type 0
   CanRun place = Runs g (step_at g code q place)
 
-  pub runs_first : (n : ℕ) (p : Position) → 0 < n → All CanRun (positions code n p) → CanRun p
-  runs_first zero p some h = absurd (omega arith)
-  runs_first (suc n) p some h = h 0 p (omega arith)
+  -- the step at a place where an action stands
+  pub act_at : (place : Position) (i : Instruction) (op : Op) (depth : ℕ) → place.at < length code → i ≡ get_or code place.at i → i ≡ Act op depth → step_at g code q place ≡ Some (step_of g (plain_op op) (take depth place.values) q)
+  act_at place i op depth lt e is =
+      ap (step_with g place.values q) (slice_get_read code (length code) place.at i refl lt e ∙ ap (λ (x : Instruction). Some x) is)
+
+  pub act_fits : (place : Position) (i : Instruction) (op : Op) (depth : ℕ) → place.at < length code → i ≡ get_or code place.at i → i ≡ Act op depth → CanRun place → StepFits g (step_of g (plain_op op) (take depth place.values) q)
+  act_fits place i op depth lt e is runs = subst (Runs g) (act_at place i op depth lt e is) runs
+
+  -- no loop ends there
+  pub not_again : (place : Position) (i : Instruction) (start last depth : ℕ) → place.at < length code → i ≡ get_or code place.at i → i ≡ Again start last depth → CanRun place → ⊥
+  not_again place i start last depth lt e is runs =
+      subst (Runs g) (ap (step_with g place.values q) (slice_get_read code (length code) place.at i refl lt e ∙ ap (λ (x : Instruction). Some x) is)) runs
 
   pub runs_rest : (n : ℕ) (p : Position) → All CanRun (positions code (suc n) p) → All CanRun (positions code n (next_position code p))
   runs_rest n p h = λ j d lt. h (suc j) d (omega (arith, lt))
@@ -50,24 +66,32 @@ module _ (g : PlainProgram) (code : List Instruction) (q : ℕ) where
       let e : n ≡ suc n - 1 = omega arith in
       ap (λ k. played g code q k (played_one g code q s)) e
 
-  -- one action's lanes are there
-  pub one_fits : (x n lanes : ℕ) → 0 < n → x + n * lanes < 2 ^ 64 → x + lanes < 2 ^ 64
-  one_fits x zero lanes some h = absurd (omega arith)
-  one_fits x (suc n) lanes some h = omega (arith, h)
+  pub runs_here : (n : ℕ) (s : Playing) → 0 < n → CanPlay g code q n s → CanRun s.place
+  runs_here zero s some h = absurd (omega arith)
+  runs_here (suc n) s some h = h.runs 0 s.place (omega arith)
 
-  pub playable_rest : (memory file n : ℕ) (s : Playing) → 0 < g.modulus → 0 < n → IsPlayable g code q memory file n s → IsPlayable g code q memory file (n - 1) (played_one g code q s)
-  playable_rest memory file zero s pos some h = absurd (omega arith)
-  playable_rest memory file (suc n) s pos some h =
+  pub closed_here : (n at : ℕ) (s : Playing) (i : Instruction) (op : Op) (depth : ℕ) → at < length code → i ≡ get_or code at i → i ≡ Act op depth → CanPlay g code q n s → depth ≤ 64
+  closed_here n at s i op depth lt e is h = subst IsClosed is (subst IsClosed (sym e) (h.closed at i lt))
+
+  pub within_here : (n at : ℕ) (s : Playing) (i : Instruction) (op : Op) (depth : ℕ) → at < length code → i ≡ get_or code at i → i ≡ Act op depth → CanPlay g code q n s → IsTrue (is_op_within g.modulus (plain_op op) depth)
+  within_here n at s i op depth lt e is h = subst (IsWithin g.modulus) is (subst (IsWithin g.modulus) (sym e) (h.within at i lt))
+
+  -- the actions that come after the first
+  pub can_play_rest : (n : ℕ) (s : Playing) → 0 < g.modulus → 0 < n → CanPlay g code q n s → CanPlay g code q (n - 1) (played_one g code q s)
+  can_play_rest zero s pos some h = absurd (omega arith)
+  can_play_rest (suc n) s pos some h =
       let e : n ≡ suc n - 1 = omega arith in
       let action = action_of_step (step_at g code q s.place) in
       let before : Local = record { memory = s.memory; registers = s.registers } in
       let more = counted_at_most g.lanes action s.counts in
-      subst (λ k. IsPlayable g code q memory file k (played_one g code q s)) e
+      subst (λ k. CanPlay g code q k (played_one g code q s)) e
       (record {
+        closed = h.closed;
+        within = h.within;
         runs = runs_rest n s.place h.runs;
-        memory_is = length-memory_after g.lanes action before ∙ h.memory_is;
+        memory = length-memory_after g.lanes action before ∙ h.memory;
         words = effect_memory_below g.modulus g.lanes pos before h.words h.residues action;
-        file_is = length-with_words (value_put g.modulus g.lanes action before) s.registers (register_put action * g.lanes) ∙ h.file_is;
+        file = length-with_words (value_put g.modulus g.lanes action before) s.registers (register_put action * g.lanes) ∙ h.file;
         residues = effect_registers_below g.modulus g.lanes pos before h.words h.residues action;
         operations = omega (arith, h.operations, more.0);
         loads = omega (arith, h.loads, more.1);

@@ -1,5 +1,5 @@
 -- What a step leaves.
-use Rattle.std.proofs.Common.{◌++◌, ◌^◌, take, flat_map, append_assoc, mul-le-mul_left, ◌≡◌, ◌≢◌, ℕ, zero, suc, ◌+◌, ◌-◌, ◌*◌, ◌<◌, ◌≤◌, List, [], ◌∷◌, Bool, true, false, cond, if◌then◌else◌, length, replicate, get_or, Some, refl, sym, ap, ap₂, ◌∙◌, subst, arith, ⊎_elim, length-set, get_or-set_same, get_or-set_other}
+use Rattle.std.proofs.Common.{◌++◌, take, flat_map, append_assoc, ◌≡◌, ◌≢◌, ℕ, zero, suc, ◌+◌, ◌-◌, ◌*◌, ◌<◌, ◌≤◌, List, [], ◌∷◌, Bool, true, false, cond, if◌then◌else◌, length, replicate, get_or, Some, refl, sym, ap, ap₂, ◌∙◌, subst, arith, ⊎_elim, length-set, get_or-set_same, get_or-set_other}
 use Rattle.std.specs.Prelude.{slice_get, slice_index, slice_index_or, slice_set}
 use Rattle.std.specs.List.{range_with_len}
 use Rattle.std.proofs.lemmas.Bool.{cases_eq}
@@ -14,11 +14,11 @@ use Rattle.icode.proofs.End.{none_done-zero}
 use Rattle.icode.proofs.Words.{slice_get-set_other, take-next}
 use Rattle.par_machine.specs.declared.phase.Routine.{Routine}
 use Rattle.par_machine.specs.Position.{Position, next_position, first_position}
-use Rattle.par_machine.specs.Frame.{Frame, Stand, code_of_frame, places_in, lens_of, IsReady, IsRunning}
+use Rattle.par_machine.specs.Frame.{Frame, Stand, code_of_frame, places_in, IsReady, IsRunning}
 use Rattle.icode.proofs.Residues.{AreBelow}
 use Rattle.icode.proofs.Below.{effect_memory_below, effect_registers_below}
-use Rattle.par_machine.proofs.Executed.{counts_more, counts_small, AreSmall, executed_moved, executed_length}
-use Rattle.par_machine.proofs.Frames.{length-positions, places_at, places_first, places_lens, place_after, is_code, count_lists, acts_places, IsHere, hand_place}
+use Rattle.par_machine.proofs.Executed.{counts_more, executed_moved}
+use Rattle.par_machine.proofs.Frames.{length-positions, places_at, places_first, place_after, is_code, count_lists, acts_places, IsHere, hand_place}
 
 pub state_same : (m m' : List ℕ) (r r' : List (List ℕ)) (p p' : ℕ) (d d' : List ℕ) → m ≡ m' → r ≡ r' → p ≡ p' → d ≡ d' → ◌≡◌ {A = State} (record { memory = m; registers = r; phase = p; done = d }) (record { memory = m'; registers = r'; phase = p'; done = d' })
 state_same m m' r r' p p' d d' em er ep ed =
@@ -98,22 +98,6 @@ module _ (f : Frame) (t : Stand) (q : ℕ) (action : Action) (r : Routine) (curs
   pub counted_here : IsRunning f t → IsHand → count ≡ counts_so_far code t.state q
   counted_here run h =
       h.count_is ∙ get_or_from_slice_get t.counts q (counts_so_far code t.state q) count (run.counted q h.here.proc)
-
-  pub count_small : IsReady f → IsRunning f t → IsHand → AreSmall (2 ^ 63 - f.header.lanes) count
-  count_small ready run h =
-      let xs : List Action = executed code t.state q in
-      let small = counts_small f.header.lanes xs in
-      let left : slice_index t.state.done q < length (acts code t.state.phase q) = slice_get_within (acts code t.state.phase q) (slice_index t.state.done q) action h.hand in
-      let few = executed_length code (is_code f) t.state q (lens_of f.phases) (λ phase. acts_places f phase q h.here.proc ∙ places_lens f.phases phase) left in
-      let lanes : f.header.lanes ≤ 16 = ready.limits.of_lanes.1 in
-      let bound : length xs * f.header.lanes + f.header.lanes ≤ 2 ^ 63 =
-      omega (arith, few, ready.few, mul-le-mul_left (length xs + 1) lanes) in
-      let same = counted_here run h in
-      record {
-        operations = omega (arith, small.operations, ap (λ (c : Counts). c.operations) same);
-        loads = omega (arith, small.loads, ap (λ (c : Counts). c.loads) same);
-        stores = omega (arith, small.stores, ap (λ (c : Counts). c.stores) same);
-      }
 
   -- what each processor has executed
   executed_acted : IsRunning f t → IsHand → executed code (acted code q action t.state) q ≡ executed code t.state q ++ action ∷ []

@@ -15,6 +15,7 @@ use Rattle.par_machine.specs.declared.cursor.Instruction.{Instruction}
 use Rattle.par_machine.specs.declared.cursor.Instruction.TheVariants.{Act, Again}
 use Rattle.par_machine.specs.declared.phase.Routine.{Routine}
 use Rattle.par_machine.specs.Position.{Position, positions, first_position}
+use Rattle.par_machine.specs.Header.{without_statements}
 use Rattle.par_machine.specs.Hand.{step_with, step_at, action_of_step, Runs}
 use Rattle.par_machine.specs.Frame.{code_of_frame, places_of, lens_of, total, IsRoutine}
 use Rattle.par_machine.specs.Plays.{seen, Plays, IsCompiled}
@@ -73,10 +74,7 @@ take_phases (x ∷ phases) (suc n) le = ap (λ ys. plain_body x.items ∷ ys) (t
 
 -- The header stands for the program
 
-abbrev pub bare : PlainProgram → PlainProgram
-bare p = record { size = p.size; modulus = p.modulus; procs = p.procs; line = p.line; lanes = p.lanes; regs = p.regs; tables = p.tables; phases = [] }
-
-bare_step : (p : PlainProgram) (op : PlainOp) (vs : List ℕ) (q : ℕ) → step_of (bare p) op vs q ≡ step_of p op vs q
+bare_step : (p : PlainProgram) (op : PlainOp) (vs : List ℕ) (q : ℕ) → step_of (without_statements p) op vs q ≡ step_of p op vs q
 bare_step p (Load register array place) vs q = refl
 bare_step p (Store array place register) vs q = refl
 bare_step p (Zero register) vs q = refl
@@ -87,19 +85,19 @@ bare_step p (MulConst register source factor) vs q = refl
 bare_step p (MulTable register source table place step) vs q = refl
 bare_step p (Tile register source) vs q = refl
 
-bare_with : (p : PlainProgram) (vs : List ℕ) (q : ℕ) (o : Option Instruction) → step_with (bare p) vs q o ≡ step_with p vs q o
+bare_with : (p : PlainProgram) (vs : List ℕ) (q : ℕ) (o : Option Instruction) → step_with (without_statements p) vs q o ≡ step_with p vs q o
 bare_with p vs q None = refl
 bare_with p vs q (Some (Act op depth)) = ap (λ (s : Step). Some s) (bare_step p (plain_op op) (take depth vs) q)
 bare_with p vs q (Some (Again start last depth)) = refl
 
-bare_at : (p : PlainProgram) (code : List Instruction) (q : ℕ) (place : Position) → step_at (bare p) code q place ≡ step_at p code q place
+bare_at : (p : PlainProgram) (code : List Instruction) (q : ℕ) (place : Position) → step_at (without_statements p) code q place ≡ step_at p code q place
 bare_at p code q place = bare_with p place.values q (slice_get code place.at)
 
-bare_steps : (p : PlainProgram) (code : List Instruction) (q : ℕ) (places : List Position) → map (λ (place : Position). step_at (bare p) code q place) places ≡ map (λ (place : Position). step_at p code q place) places
+bare_steps : (p : PlainProgram) (code : List Instruction) (q : ℕ) (places : List Position) → map (λ (place : Position). step_at (without_statements p) code q place) places ≡ map (λ (place : Position). step_at p code q place) places
 bare_steps p code q [] = refl
 bare_steps p code q (place ∷ places) = ap₂ (λ o os. o ∷ os) (bare_at p code q place) (bare_steps p code q places)
 
-fits_bare : (p : PlainProgram) (s : Step) → StepFits p s → StepFits (bare p) s
+fits_bare : (p : PlainProgram) (s : Step) → StepFits p s → StepFits (without_statements p) s
 fits_bare p s h = record { numbers = h.numbers; place = h.place; registers = h.registers; factors = h.factors }
 
 -- Lists of actions
@@ -112,9 +110,9 @@ actions_to : (xs : List Step) → map action_of_step (map (λ (s : Step). Some s
 actions_to [] = refl
 actions_to (x ∷ xs) = ap (λ ys. x.action ∷ ys) (actions_to xs)
 
-same_list : (p : PlainProgram) (r : Routine) (body : PlainBody) (q : ℕ) → IsTranslated p r body → map (λ place. action_of_step (step_at (bare p) r.code.items q place)) (places_of r) ≡ actions_of (steps_of_body p body [] q)
+same_list : (p : PlainProgram) (r : Routine) (body : PlainBody) (q : ℕ) → IsTranslated p r body → map (λ place. action_of_step (step_at (without_statements p) r.code.items q place)) (places_of r) ≡ actions_of (steps_of_body p body [] q)
 same_list p r body q t =
-    actions_from (λ place. step_at (bare p) r.code.items q place) (places_of r)
+    actions_from (λ place. step_at (without_statements p) r.code.items q place) (places_of r)
     ∙ (ap (map action_of_step) (bare_steps p r.code.items q (places_of r) ∙ t.plays q)
     ∙ actions_to (steps_of_body p body [] q))
 
@@ -122,29 +120,29 @@ same_map : {X : Type 0} (f g : ℕ → X) → ((q : ℕ) → f q ≡ g q) → (n
 same_map f g e zero first = refl
 same_map f g e (suc n) first = ap₂ (λ x xs. x ∷ xs) (e first) (same_map f g e n (first + 1))
 
-same_lists : (p : PlainProgram) (rs : List Routine) (bodies : List PlainBody) → AreTranslated p rs bodies → map (λ (r : Routine). map (λ q. map (λ place. action_of_step (step_at (bare p) r.code.items q place)) (places_of r)) (range_with_len 0 p.procs)) rs ≡ map (λ body. map (λ q. actions_of (steps_of_body p body [] q)) (range_with_len 0 p.procs)) bodies
+same_lists : (p : PlainProgram) (rs : List Routine) (bodies : List PlainBody) → AreTranslated p rs bodies → map (λ (r : Routine). map (λ q. map (λ place. action_of_step (step_at (without_statements p) r.code.items q place)) (places_of r)) (range_with_len 0 p.procs)) rs ≡ map (λ body. map (λ q. actions_of (steps_of_body p body [] q)) (range_with_len 0 p.procs)) bodies
 same_lists p [] [] h = refl
 same_lists p [] (b ∷ bodies) h = absurd h
 same_lists p (r ∷ rs) [] h = absurd h
 same_lists p (r ∷ rs) (b ∷ bodies) h =
     ap₂ (λ (x : List (List Action)) xs. x ∷ xs)
-    (same_map (λ q. map (λ place. action_of_step (step_at (bare p) r.code.items q place)) (places_of r)) (λ q. actions_of (steps_of_body p b [] q)) (λ q. same_list p r b q h.0) p.procs 0)
+    (same_map (λ q. map (λ place. action_of_step (step_at (without_statements p) r.code.items q place)) (places_of r)) (λ q. actions_of (steps_of_body p b [] q)) (λ q. same_list p r b q h.0) p.procs 0)
     (same_lists p rs bodies h.1)
 
-pub same_code : (p : PlainProgram) (rs : List Routine) → AreTranslated p rs p.phases → code_of_frame (record { header = bare p; phases = rs }) ≡ plain_code p
+pub same_code : (p : PlainProgram) (rs : List Routine) → AreTranslated p rs p.phases → code_of_frame (record { header = without_statements p; phases = rs }) ≡ plain_code p
 same_code p rs h =
     ap (λ (lists : List (List (List Action))). record { size = p.size; modulus = p.modulus; procs = p.procs; line = p.line; lanes = p.lanes; regs = p.regs; lists = lists }) (same_lists p rs p.phases h)
 
 -- What fits may be done
 
-all_run : (p : PlainProgram) (f : Position → Option Step) (places : List Position) (xs : List Step) → map f places ≡ map (λ (s : Step). Some s) xs → All (StepFits p) xs → All (λ place. Runs (bare p) (f place)) places
+all_run : (p : PlainProgram) (f : Position → Option Step) (places : List Position) (xs : List Step) → map f places ≡ map (λ (s : Step). Some s) xs → All (StepFits p) xs → All (λ place. Runs (without_statements p) (f place)) places
 all_run p f [] xs e all k d lt = absurd (omega arith)
 all_run p f (place ∷ places) [] e all k d lt = absurd (cons_nil (f place) (map f places) e)
   where
     cons_nil : (o : Option Step) (os : List (Option Step)) → o ∷ os ≡ [] → ⊥
     cons_nil o os e = cc
 all_run p f (place ∷ places) (x ∷ xs) e all zero d lt =
-    subst (Runs (bare p)) (sym (head_same (f place) (Some x) (map f places) _ e)) (fits_bare p x (all 0 x (omega arith)))
+    subst (Runs (without_statements p)) (sym (head_same (f place) (Some x) (map f places) _ e)) (fits_bare p x (all 0 x (omega arith)))
   where
     head_same : (a b : Option Step) (as' bs : List (Option Step)) → a ∷ as' ≡ b ∷ bs → a ≡ b
     head_same a b as' bs e = cc
@@ -154,21 +152,21 @@ all_run p f (place ∷ places) (x ∷ xs) e all (suc k) d lt =
     tail_same : (a b : Option Step) (as' bs : List (Option Step)) → a ∷ as' ≡ b ∷ bs → as' ≡ bs
     tail_same a b as' bs e = cc
 
-routine_runs : (p : PlainProgram) (all_phases : List Routine) (r : Routine) (body : PlainBody) → IsTranslated p r body → ((q : ℕ) → q < p.procs → All (StepFits p) (steps_of_body p body [] q)) → IsRoutine (record { header = bare p; phases = all_phases }) r
+routine_runs : (p : PlainProgram) (all_phases : List Routine) (r : Routine) (body : PlainBody) → IsTranslated p r body → ((q : ℕ) → q < p.procs → All (StepFits p) (steps_of_body p body [] q)) → IsRoutine (record { header = without_statements p; phases = all_phases }) r
 routine_runs p all_phases r body t fits =
     record {
       closed = t.closed;
       within = t.within;
-      runs = λ q lt. all_run p (λ place. step_at (bare p) r.code.items q place) (places_of r) (steps_of_body p body [] q) (bare_steps p r.code.items q (places_of r) ∙ t.plays q) (fits q lt);
+      runs = λ q lt. all_run p (λ place. step_at (without_statements p) r.code.items q place) (places_of r) (steps_of_body p body [] q) (bare_steps p r.code.items q (places_of r) ∙ t.plays q) (fits q lt);
     }
 
-all_routines : (p : PlainProgram) (all_phases rs : List Routine) (bodies : List PlainBody) → AreTranslated p rs bodies → ((phase q : ℕ) → q < p.procs → All (StepFits p) (steps_of_body p (slice_index_or bodies phase NoStmts) [] q)) → All (IsRoutine (record { header = bare p; phases = all_phases })) rs
+all_routines : (p : PlainProgram) (all_phases rs : List Routine) (bodies : List PlainBody) → AreTranslated p rs bodies → ((phase q : ℕ) → q < p.procs → All (StepFits p) (steps_of_body p (slice_index_or bodies phase NoStmts) [] q)) → All (IsRoutine (record { header = without_statements p; phases = all_phases })) rs
 all_routines p all_phases [] bodies h fits k d lt = absurd (omega arith)
 all_routines p all_phases (r ∷ rs) [] h fits k d lt = absurd h
 all_routines p all_phases (r ∷ rs) (b ∷ bodies) h fits zero d lt = routine_runs p all_phases r b h.0 (fits 0)
 all_routines p all_phases (r ∷ rs) (b ∷ bodies) h fits (suc k) d lt = all_routines p all_phases rs bodies h.1 (λ phase. fits (suc phase)) k d (omega arith)
 
-pub routines_run : (p : PlainProgram) (rs : List Routine) → AreTranslated p rs p.phases → PlainFits p → All (IsRoutine (record { header = bare p; phases = rs })) rs
+pub routines_run : (p : PlainProgram) (rs : List Routine) → AreTranslated p rs p.phases → PlainFits p → All (IsRoutine (record { header = without_statements p; phases = rs })) rs
 routines_run p rs h fits = all_routines p rs rs p.phases h fits.each
 
 first_of_sum : (n : ℕ) (f : ℕ → ℕ) → 0 < n → f 0 ≤ sum_below n f

@@ -1,5 +1,5 @@
 -- The action at a place.
-use Rattle.std.specs.Prelude.{ℕ, ◌<◌, ◌≤◌, ◌^◌, List, Option, Some, None, take, slice_get}
+use Rattle.std.specs.Prelude.{ℕ, List, Option, Some, None, take, slice_get}
 use Rattle.icode.specs.declared.action.Action.{Action}
 use Rattle.icode.specs.declared.action.Action.TheVariants.{Zero}
 use Rattle.icode.specs.Plain.{PlainProgram, plain_op}
@@ -25,8 +25,3 @@ action_of_step (Some s) = s.action
 abbrev pub Runs : PlainProgram → Option Step → Type 0
 Runs p None = ⊥
 Runs p (Some s) = StepFits p s
-
--- there is a step, and its place may be computed
-abbrev pub HasPlace : Option Step → Type 0
-HasPlace None = ⊥
-HasPlace (Some s) = (s.peak < 2 ^ 64) × (s.reach ≤ s.room)

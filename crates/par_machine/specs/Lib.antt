@@ -2,7 +2,11 @@ pub mod Header
 pub mod Position
 pub mod Instruction
 pub mod OnRegisters
+pub mod Scaled
 pub mod Hand
+pub mod Context
+pub mod Performed
+pub mod Processors
 pub mod Lengths
 pub mod Frame
 pub mod Plays

@@ -1,10 +1,11 @@
 -- Operations on registers.
-use Rattle.std.specs.Prelude.{ℕ, []}
+use Rattle.std.specs.Prelude.{ℕ, ◌+◌, []}
 use Rattle.icode.specs.declared.action.Action.{Action}
+use Rattle.icode.specs.declared.action.Counts.{Counts}
 use Rattle.icode.specs.Actions.{step_of}
 use Rattle.icode.specs.Plain.{PlainOp, Load, Store, Zero, MulTable, Tile}
 use Rattle.icode.specs.declared.shape.Shape.{Shape}
-use Rattle.par_machine.specs.Header.{header_of}
+use Rattle.par_machine.specs.Header.{header_with}
 
 -- the operation loads and stores nothing
 abbrev pub IsOnRegisters : PlainOp → Type 0
@@ -20,6 +21,14 @@ operations_of lanes (Zero register) = 0
 operations_of lanes (Tile register source) = 0
 operations_of lanes _ = lanes
 
+-- what it leaves of the counts
+abbrev pub counted_op : ℕ → PlainOp → Counts → Counts
+counted_op lanes (Load register array place) c = record c { loads = c.loads + lanes }
+counted_op lanes (Store array place register) c = record c { stores = c.stores + lanes }
+counted_op lanes (Zero register) c = c
+counted_op lanes (Tile register source) c = c
+counted_op lanes _ c = record c { operations = c.operations + lanes }
+
 -- the operation names no place of an array or of a table
 abbrev pub HasNoPlace : PlainOp → Type 0
 HasNoPlace (MulTable register source table place step) = ⊥
@@ -27,4 +36,4 @@ HasNoPlace op = IsOnRegisters op
 
 -- the action of such an operation, to which tables, loops and processors do not matter
 abbrev pub placeless_action : Shape → PlainOp → Action
-placeless_action shape op = (step_of (header_of shape []) op [] 0).action
+placeless_action shape op = (step_of (header_with shape []) op [] 0).action

@@ -1,11 +1,16 @@
 -- What a processor changes as it does its actions.
-use Rattle.std.specs.Prelude.{ℕ, zero, suc, List}
+use Rattle.std.specs.Prelude.{◌≡◌, ℕ, zero, suc, ◌+◌, ◌*◌, ◌<◌, ◌^◌, List, Option, length, slice_index, All}
 use Rattle.icode.specs.declared.action.Counts.{Counts}
-use Rattle.icode.specs.Machine.{Local, effect, counted}
+use Rattle.icode.specs.Actions.{Step}
+use Rattle.icode.specs.Machine.{Local, effect, counted, whole_lines}
 use Rattle.icode.specs.Plain.{PlainProgram}
 use Rattle.par_machine.specs.declared.cursor.Instruction.{Instruction}
-use Rattle.par_machine.specs.Hand.{step_at, action_of_step}
-use Rattle.par_machine.specs.Position.{Position, next_position}
+use Rattle.par_machine.specs.Context.{Context}
+use Rattle.par_machine.specs.declared.engine.Engine.{Engine}
+use Rattle.par_machine.specs.Header.{header_of}
+use Rattle.par_machine.specs.Hand.{step_at, action_of_step, Runs}
+use Rattle.par_machine.specs.Instruction.{IsClosed, IsWithin}
+use Rattle.par_machine.specs.Position.{Position, next_position, positions}
 
 -- the memory, its registers, its place, and what it has executed
 pub record Playing : Type 0 where
@@ -13,6 +18,10 @@ pub record Playing : Type 0 where
   pub registers : List ℕ
   pub place : Position
   pub counts : Counts
+
+abbrev pub playing : List ℕ → Context → Playing
+playing memory p =
+    record { memory = memory; registers = p.registers; place = p.place; counts = p.counts }
 
 -- the action at its place, after which it goes on to the next
 abbrev pub played_one : PlainProgram → List Instruction → ℕ → Playing → Playing
@@ -30,3 +39,21 @@ played_one p code q s =
 abbrev pub played : PlainProgram → List Instruction → ℕ → ℕ → Playing → Playing
 played p code q zero s = s
 played p code q (suc n) s = played p code q n (played_one p code q s)
+
+-- the step at its place
+abbrev pub step_here : Engine → List Instruction → ℕ → Context → Option Step
+step_here engine code proc context = step_at (header_of engine) code proc context.place
+
+-- what processor q needs to do n actions: they fit, all words are there and below the modulus, and the actions can be
+-- counted
+pub record CanPlay (p : PlainProgram) (code : List Instruction) (q n : ℕ) (s : Playing) : Type 0 where
+  pub closed : All IsClosed code
+  pub within : All (IsWithin p.modulus) code
+  pub runs : All (λ place. Runs p (step_at p code q place)) (positions code n s.place)
+  pub memory : length s.memory ≡ 4 * whole_lines p.size p.line
+  pub words : (k : ℕ) → slice_index s.memory k < p.modulus
+  pub file : length s.registers ≡ p.regs * p.lanes
+  pub residues : (k : ℕ) → slice_index s.registers k < p.modulus
+  pub operations : s.counts.operations + n * p.lanes < 2 ^ 64
+  pub loads : s.counts.loads + n * p.lanes < 2 ^ 64
+  pub stores : s.counts.stores + n * p.lanes < 2 ^ 64

@@ -1,19 +1,30 @@
 -- How a machine's fields are seen.
+use Rattle.std.specs.Prelude.{List}
+use Rattle.icode.specs.Machine.{State}
 use Rattle.par_machine.specs.Running.{Running}
 use Rattle.par_machine.specs.declared.machine.Machine.TheInside.{Inside}
+use Rattle.par_machine.specs.Context.{Context}
 use Rattle.par_machine.specs.Header.{header_of}
 use Rattle.par_machine.specs.Frame.{Frame, Stand, code_of_frame, IsReady, IsRunning}
+use Rattle.par_machine.specs.Processors.{registers_of, cursors_of, counts_of_all}
 
 abbrev pub frame_of : Inside → Frame
-frame_of a = record { header = header_of a.shape a.tables.items; phases = a.phases.items }
+frame_of a = record { header = header_of a.engine; phases = a.phases.items }
+
+abbrev pub stand_with : State → List Context → Stand
+stand_with state processors =
+    record { state = state; places = cursors_of processors; counts = counts_of_all processors }
 
 abbrev pub stand_of : Inside → Stand
 stand_of a =
-    record {
-      state = record { memory = a.memory; registers = a.registers.items; phase = a.phase; done = a.done.items };
-      places = a.cursors.items;
-      counts = a.counts.items;
-    }
+    stand_with
+    (record {
+      memory = a.memory.items;
+      registers = registers_of a.processors.items;
+      phase = a.phase;
+      done = a.done.items;
+    })
+    a.processors.items
 
 abbrev pub running_of : Inside → Running
 running_of a = record { code = code_of_frame (frame_of a); state = (stand_of a).state }

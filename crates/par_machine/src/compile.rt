@@ -153,7 +153,8 @@ fn copy_op(alloc: Global, op: &Op) -> Result<Op, NoMemory>
     }
 }
 
-/// Appends the straight code of a statement, where so many loops are open. A loop whose body holds no action has none.
+/// Appends the straight code of a statement, where so many loops are open. A loop whose body holds
+/// no action has none.
 pub(crate) fn compile(
     alloc: Global,
     modulus: u64,
@@ -163,7 +164,9 @@ pub(crate) fn compile(
 ) -> Result<(), NoMemory>
     requires depth { depth ≤ 64 }
     requires within { IsTrue (is_stmt_within modulus (plain_stmt stmt.now) depth) }
-    ensures { OnOk result (IsCompiled modulus depth (len_of_stmt (plain_stmt stmt.now)) (λ p. steps_of_stmt p (plain_stmt stmt.now)) code.old.items code.new.items) }
+    ensures { OnOk result
+        (IsCompiled modulus depth (len_of_stmt (plain_stmt stmt.now))
+        (λ p. steps_of_stmt p (plain_stmt stmt.now)) code.old.items code.new.items) }
 {
     match stmt {
         Stmt::Loop { count, body } => {
@@ -194,7 +197,9 @@ pub(crate) fn compile_phase(
     body: &[Stmt],
 ) -> Result<Vec<Instruction>, NoMemory>
     requires within { IsTrue (is_body_within modulus (plain_body body.now) 0) }
-    ensures { IfOk result (λ code. IsCompiled modulus 0 (len_of_body (plain_body body.now)) (λ p. steps_of_body p (plain_body body.now)) [] code.items) }
+    ensures { IfOk result
+        (λ code. IsCompiled modulus 0 (len_of_body (plain_body body.now))
+        (λ p. steps_of_body p (plain_body body.now)) [] code.items) }
 {
     let mut code = Vec::new(alloc);
     for stmt in body {

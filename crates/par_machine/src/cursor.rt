@@ -1,22 +1,13 @@
-// A processor's place in its code.
+// Straight code.
 
-ghost use Rattle.std.specs.Prelude.{◌≡◌, ℕ, ◌+◌, ◌*◌, ◌^◌, ◌<◌, ◌≤◌, length, drop, slice_index, IfOk, All};
-ghost use Rattle.par_machine.specs.Hand.{step_at, Runs};
-ghost use Rattle.par_machine.specs.Header.{header_of};
-ghost use Rattle.par_machine.specs.Instruction.{IsClosed, IsWithin};
-ghost use Rattle.par_machine.specs.Played.{played};
-ghost use Rattle.par_machine.specs.Position.{Position, positions, resting, first_position};
+ghost use Rattle.std.specs.Prelude.{◌≡◌, ◌<◌, ◌≤◌, length, drop, All};
+ghost use Rattle.par_machine.specs.Instruction.{IsClosed};
+ghost use Rattle.par_machine.specs.Position.{resting};
 
-use crate::play::play;
-use icode::action::Counts;
 use icode::program::Op;
-use icode::shape::Shape;
-use memory::NoMemory;
-use std::alloc::Global;
-use std::marker::Model;
 
 /// How many loops may be open at once.
-pub(crate) const OPEN_LOOPS: usize = 64;
+pub(crate) const OPEN_LOOPS: u64 = 64;
 
 /// Straight code, whose loops are jumps back.
 #[derive(Drop)]
@@ -25,25 +16,6 @@ pub(crate) enum Instruction {
     Act { op: Op, depth: u64 },
     /// The end of a loop's body that begins at `start`. The loop's variable runs up to `last`.
     Again { start: u64, last: u64, depth: u64 },
-}
-
-/// A place in straight code, and the values of the open loops, the outermost first. Loops that are not open have the
-/// value 0.
-#[derive(Drop)]
-pub(crate) struct Cursor {
-    at: u64,
-    values: Vec<u64>,
-}
-
-impl Model for Cursor {
-    ghost use Rattle.std.specs.Prelude.{◌≡◌, length};
-    ghost use Rattle.par_machine.specs.Position.{Position};
-
-    ghost Value = { Position };
-
-    ghost view = { λ c. record { at = c.at; values = c.values.items } };
-
-    ghost invariant = { λ c. length c.values.items ≡ 64 };
 }
 
 /// Where a cursor comes to rest that goes on from this place: at the next action.
@@ -71,77 +43,4 @@ pub(crate) fn rest(code: &[Instruction], from: u64, values: &mut [u64]) -> u64
         at += 1;
     }
     at
-}
-
-impl Cursor {
-    /// At the beginning.
-    pub(crate) fn new(alloc: Global) -> Result<Self, NoMemory>
-        ensures { IfOk result (λ c. c ≡ first_position) }
-    {
-        let values = vec![in alloc; 0; OPEN_LOOPS]?;
-        Ok(Cursor { at: 0, values })
-    }
-
-    /// Goes back to the beginning.
-    pub(crate) fn rewind(&mut self)
-        ensures { self.new ≡ first_position }
-    {
-        self.at = 0;
-        self.values.fill(0);
-    }
-
-    /// Does so many actions, from here on.
-    #[inline]
-    pub(crate) fn play(
-        &mut self,
-        shape: &Shape,
-        tables: &[Vec<u64>],
-        code: &[Instruction],
-        proc: u64,
-        count: u64,
-        memory: &mut [u64],
-        registers: &mut [u64],
-        counts: &mut Counts,
-    )
-        requires closed { All IsClosed code.now }
-        requires within { All (IsWithin shape.now.modulus) code.now }
-        requires runs { All (λ place. Runs (header_of shape.now tables.now) (step_at (header_of shape.now tables.now) code.now proc place)) (positions code.now count self.old) }
-        requires memory { length memory.old ≡ 4 * shape.now.room }
-        requires words { (k : ℕ) → slice_index memory.old k < shape.now.modulus }
-        requires file { length registers.old ≡ shape.now.regs * shape.now.lanes }
-        requires residues { (k : ℕ) → slice_index registers.old k < shape.now.modulus }
-        requires operations { counts.old.operations + count * shape.now.lanes < 2 ^ 64 }
-        requires loads { counts.old.loads + count * shape.now.lanes < 2 ^ 64 }
-        requires stores { counts.old.stores + count * shape.now.lanes < 2 ^ 64 }
-        ensures memory { memory.new ≡ (played (header_of shape.now tables.now) code.now proc count (record { memory = memory.old; registers = registers.old; place = self.old; counts = counts.old })).memory }
-        ensures registers { registers.new ≡ (played (header_of shape.now tables.now) code.now proc count (record { memory = memory.old; registers = registers.old; place = self.old; counts = counts.old })).registers }
-        ensures counts { counts.new ≡ (played (header_of shape.now tables.now) code.now proc count (record { memory = memory.old; registers = registers.old; place = self.old; counts = counts.old })).counts }
-        ensures cursor { self.new ≡ (played (header_of shape.now tables.now) code.now proc count (record { memory = memory.old; registers = registers.old; place = self.old; counts = counts.old })).place }
-    {
-        self.at = play(
-            shape,
-            tables,
-            code,
-            self.at,
-            &mut self.values,
-            proc,
-            count,
-            memory,
-            registers,
-            counts,
-        );
-    }
-
-    pub(crate) fn at(&self) -> u64
-        ensures { result ≡ self.now.at }
-    {
-        self.at
-    }
-
-    pub(crate) fn values(&self) -> &[u64]
-        ensures values { result.now ≡ self.now.values }
-        ensures len { length result.now ≡ 64 }
-    {
-        &self.values
-    }
 }

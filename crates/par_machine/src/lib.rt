@@ -1,16 +1,17 @@
 //! The machine that runs loop code: several processors over one memory, one action of one processor at a time.
 #![tactic(auto)]
 
+mod action;
 mod compile;
 mod cursor;
-mod hand;
+mod engine;
+mod initial;
 mod machine;
-mod make;
+mod perform;
 mod phase;
 mod place;
-mod play;
+mod processor;
 mod scale;
-mod words;
 
 pub use icode::event::Turned;
 pub use machine::Machine;

@@ -5,40 +5,32 @@ ghost use Rattle.std.specs.List.{find};
 ghost use Rattle.icode.specs.Machine.{acts, next_action, turn, run, answer, completion, finished, start, counts_so_far, padded};
 ghost use Rattle.icode.specs.Program.{code_of, Fits};
 ghost use Rattle.request_text.specs.Turns.{named, turns_of};
-ghost use Rattle.par_machine.specs.Unfinished.{IsUnfinished};
+ghost use Rattle.par_machine.specs.Unfinished.{IsUnfinished, left_of};
 
-use crate::cursor::Cursor;
-use crate::hand::at_hand;
-use crate::make::{
-    NO_COUNTS, compile_phases, copy_tables, make_counts, make_cursors, make_done, make_registers,
-};
-use crate::phase::{Routine, first_busy, first_left, rewind_all, settle};
-use crate::words::{Words, clear_all, play_on};
+use crate::engine::Engine;
+use crate::initial::{compile_phases, make_processors, put_input, zeros};
+use crate::phase::{Routine, first_busy, first_left, settle};
+use crate::processor::{Processor, reset_all};
 use icode::action::{Action, Counts};
 use icode::event::Turned;
-use icode::header::shape_of;
 use icode::program::Program;
-use icode::shape::Shape;
 use memory::NoMemory;
 use request_text::Schedule;
 use ring_mod::Modulus;
 use std::alloc::Global;
 use std::marker::Model;
 
-/// A machine of several processors over one memory. It keeps for each processor a place in the program's code and the
-/// counters of its open loops, and no list of actions.
+/// A machine of several processors over one memory. It keeps for each processor a place in the
+/// program's code and the counters of its open loops, and no list of actions.
 #[derive(Drop)]
 pub struct Machine {
-    shape: Shape,
-    tables: Vec<Vec<u64>>,
+    engine: Engine,
     phases: Vec<Routine>,
-    memory: Words,
-    registers: Vec<Words>,
+    memory: Vec<u64>,
     phase: u64,
     /// How many actions of the phase each processor has done.
     done: Vec<u64>,
-    cursors: Vec<Cursor>,
-    counts: Vec<Counts>,
+    processors: Vec<Processor>,
 }
 
 impl Model for Machine {
@@ -60,32 +52,27 @@ impl Machine {
         ensures code { IfOk result (λ machine. machine.code ≡ code_of program.now) }
         ensures state { IfOk result (λ machine. machine.state ≡ start (code_of program.now) (replicate program.now.size 0)) }
     {
-        let shape = shape_of(program);
-        let tables = copy_tables(alloc, &program.tables)?;
+        let engine = Engine::new(alloc, program)?;
         let phases = compile_phases(alloc, program)?;
-        let memory = Words::new(alloc, 4 * shape.room)?;
-        let registers = make_registers(alloc, shape.procs, shape.regs * shape.lanes)?;
-        let done = make_done(alloc, shape.procs)?;
-        let cursors = make_cursors(alloc, shape.procs)?;
-        let counts = make_counts(alloc, shape.procs)?;
+        let memory = zeros(alloc, 4 * engine.shape.room)?;
         let phase = first_busy(&phases, 0);
+        let done = zeros(alloc, engine.shape.procs)?;
+        let words = engine.shape.regs * engine.shape.lanes;
+        let processors = make_processors(alloc, engine.shape.procs, words)?;
         Ok(Machine {
-            shape,
-            tables,
+            engine,
             phases,
             memory,
-            registers,
             phase,
             done,
-            cursors,
-            counts,
+            processors,
         })
     }
 
     /// How many actions the processor has left in this phase.
     fn left(&self, proc: u64) -> u64
         requires proc { proc < self.now.code.procs }
-        ensures { result ≡ length (acts self.now.code self.now.state.phase proc) - slice_index self.now.state.done proc }
+        ensures { result ≡ left_of self.now.code self.now.state proc }
     {
         if self.phase == self.phases.len() as u64 {
             return 0;
@@ -96,42 +83,33 @@ impl Machine {
     /// The action that the processor has left.
     fn action(&self, proc: u64) -> Action
         requires proc { proc < self.now.code.procs }
-        requires left { slice_index self.now.state.done proc < length (acts self.now.code self.now.state.phase proc) }
+        requires left { slice_index self.now.state.done proc
+            < length (acts self.now.code self.now.state.phase proc) }
         ensures { next_action self.now.code self.now.state proc ≡ Some result }
     {
         let routine = &self.phases[self.phase as usize];
-        let cursor = &self.cursors[proc as usize];
-        at_hand(&self.shape, &self.tables, &routine.code, cursor, proc)
+        let processor = &self.processors[proc as usize];
+        processor.action(&self.engine, &routine.code, proc)
     }
 
     /// The processor does so many of the actions that it has left.
     fn advance(&mut self, proc: u64, count: u64)
         requires proc { proc < self.old.code.procs }
         requires some { 0 < count }
-        requires left { slice_index self.old.state.done proc + count ≤ length (acts self.old.code self.old.state.phase proc) }
+        requires left { slice_index self.old.state.done proc + count
+            ≤ length (acts self.old.code self.old.state.phase proc) }
         ensures state { self.new.state ≡ run self.old.code self.old.state (replicate count proc) }
         ensures code { self.new.code ≡ self.old.code }
     {
         let routine = &self.phases[self.phase as usize];
-        let cursor = &mut self.cursors[proc as usize];
-        let counts = &mut self.counts[proc as usize];
-        play_on(
-            &self.shape,
-            &self.tables,
-            &routine.code,
-            cursor,
-            proc,
-            count,
-            &mut self.memory,
-            &mut self.registers,
-            counts,
-        );
+        let processor = &mut self.processors[proc as usize];
+        processor.play(&self.engine, &routine.code, proc, count, &mut self.memory);
         self.done[proc as usize] += count;
         self.phase = settle(
             &self.phases,
             self.phase,
             &mut self.done,
-            &mut self.cursors,
+            &mut self.processors,
             proc,
         );
     }
@@ -143,11 +121,9 @@ impl Machine {
         ensures state { self.new.state ≡ start self.old.code input.now }
         ensures code { self.new.code ≡ self.old.code }
     {
-        self.memory.put(input);
-        clear_all(&mut self.registers, self.shape.regs * self.shape.lanes);
+        put_input(&mut self.memory, input);
+        reset_all(&mut self.processors);
         self.done.fill(0);
-        rewind_all(&mut self.cursors);
-        self.counts.fill(NO_COUNTS);
         self.phase = first_busy(&self.phases, 0);
     }
 
@@ -242,7 +218,7 @@ impl Machine {
         ensures value { result ≡ slice_index self.now.state.memory place }
         ensures residue { result < self.now.code.modulus }
     {
-        self.memory.at(place)
+        self.memory[place as usize]
     }
 
     /// What the processor has executed so far.
@@ -250,7 +226,7 @@ impl Machine {
         requires proc { proc < self.now.code.procs }
         ensures { result ≡ counts_so_far self.now.code self.now.state proc }
     {
-        self.counts[proc as usize]
+        self.processors[proc as usize].counts()
     }
 
     /// The number of phases that are over.
@@ -264,7 +240,7 @@ impl Machine {
     pub fn modulus(&self) -> Modulus
         ensures { result ≡ self.now.code.modulus }
     {
-        self.shape.modulus.modulus()
+        self.engine.shape.modulus.modulus()
     }
 
     /// The number of processors.
@@ -272,7 +248,7 @@ impl Machine {
         ensures value { result ≡ self.now.code.procs }
         ensures limits { (1 ≤ result) × (result ≤ 16) }
     {
-        self.shape.procs
+        self.engine.shape.procs
     }
 
     /// The number of lanes.
@@ -280,7 +256,15 @@ impl Machine {
         ensures value { result ≡ self.now.code.lanes }
         ensures limits { (1 ≤ result) × (result ≤ 16) }
     {
-        self.shape.lanes
+        self.engine.shape.lanes
+    }
+
+    /// The number of words of a vector.
+    pub fn size(&self) -> u64
+        ensures value { result ≡ self.now.code.size }
+        ensures some { 0 < result }
+    {
+        self.engine.shape.size
     }
 
     /// The number of words of memory.
@@ -289,6 +273,6 @@ impl Machine {
         ensures memory { result ≡ length self.now.state.memory }
         ensures room { (0 < self.now.code.size) × (self.now.code.size ≤ padded self.now.code) }
     {
-        4 * self.shape.room
+        4 * self.engine.shape.room
     }
 }

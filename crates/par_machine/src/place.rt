@@ -7,7 +7,8 @@ ghost use Rattle.icode.specs.Plain.{plain_expr, plain_part};
 
 use icode::program::{Expr, Part};
 
-/// The value of the place, where these are the values of the open loops, the outermost first, on this processor.
+/// The value of the place, where these are the values of the open loops, the outermost first, on
+/// this processor.
 #[inline]
 pub(crate) fn place_value(place: &Expr, values: &[u64], proc: u64) -> u64
     requires within { IsTrue (is_sum_within (plain_expr place.now) (length values.now)) }

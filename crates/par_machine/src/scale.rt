@@ -2,11 +2,9 @@
 
 ghost use Rattle.std.specs.Prelude.{◌≡◌, ℕ, ◌+◌, ◌-◌, ◌*◌, ◌<◌, All, length, slice_index};
 ghost use Rattle.icode.specs.Actions.{lane_factors};
-ghost use Rattle.icode.specs.Machine.{lane_by_lane, register_of, with_words};
-ghost use Rattle.icode.specs.Operation.{operated};
-ghost use Rattle.icode.specs.declared.arithmetic.Operation.TheVariants.{Product};
+ghost use Rattle.par_machine.specs.Scaled.{scaled, table_factors};
 
-use crate::hand::{same_factors, table_factors};
+use crate::action::{same_factors, table_factors};
 use icode::effect::scale_register;
 use icode::shape::Shape;
 
@@ -22,8 +20,10 @@ pub(crate) fn scale_by_constant(
     requires named { (register < shape.now.regs) × (source < shape.now.regs) }
     requires file { length registers.old ≡ shape.now.regs * shape.now.lanes }
     requires residues { (k : ℕ) → slice_index registers.old k < shape.now.modulus }
-    requires factors { All (λ c. c < shape.now.modulus) (lane_factors shape.now.lanes (λ _. factor)) }
-    ensures { registers.new ≡ with_words registers.old (register * shape.now.lanes) (lane_by_lane (operated Product shape.now.modulus) (register_of shape.now.lanes registers.old source) (lane_factors shape.now.lanes (λ _. factor))) }
+    requires factors { All (λ c. c < shape.now.modulus)
+        (lane_factors shape.now.lanes (λ _. factor)) }
+    ensures { registers.new ≡ scaled shape.now register source
+        (lane_factors shape.now.lanes (λ _. factor)) registers.old }
 {
     let lanes = shape.lanes;
     if lanes == 1 {
@@ -35,24 +35,26 @@ pub(crate) fn scale_by_constant(
     scale_register(shape, registers, register, source, &factors);
 }
 
-/// Multiplies a register by the entries of each lane, from `at` on.
+/// Multiplies a register, the first operand, by the entries of each lane, from `at` on.
 #[inline]
 pub(crate) fn scale_by_entries(
     shape: &Shape,
     registers: &mut [u64],
-    register: u64,
-    source: u64,
+    operands: (u64, u64),
     entries: &[u64],
     at: u64,
     step: u64,
 )
-    requires named { (register < shape.now.regs) × (source < shape.now.regs) }
+    requires named { (operands.0 < shape.now.regs) × (operands.1 < shape.now.regs) }
     requires file { length registers.old ≡ shape.now.regs * shape.now.lanes }
     requires residues { (k : ℕ) → slice_index registers.old k < shape.now.modulus }
     requires inside { at + step * (shape.now.lanes - 1) < length entries.now }
-    requires factors { All (λ c. c < shape.now.modulus) (lane_factors shape.now.lanes (λ lane. slice_index entries.now (at + step * lane))) }
-    ensures { registers.new ≡ with_words registers.old (register * shape.now.lanes) (lane_by_lane (operated Product shape.now.modulus) (register_of shape.now.lanes registers.old source) (lane_factors shape.now.lanes (λ lane. slice_index entries.now (at + step * lane)))) }
+    requires factors { All (λ c. c < shape.now.modulus)
+        (table_factors shape.now.lanes entries.now at step) }
+    ensures { registers.new ≡ scaled shape.now operands.0 operands.1
+        (table_factors shape.now.lanes entries.now at step) registers.old }
 {
+    let (register, source) = operands;
     let lanes = shape.lanes;
     if lanes == 1 {
         let (to, from) = (register * lanes, source * lanes);

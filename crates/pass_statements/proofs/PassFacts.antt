@@ -7,8 +7,7 @@ use Rattle.std.proofs.lemmas.Bool.{cases_lt}
 use Rattle.std.proofs.lemmas.Bool.Decides.{nat_tests}
 use Rattle.std.proofs.lemmas.List.FromFn.{length-range_with_len}
 use Rattle.code_laws.specs.Lanes.{AreArithmetic, AreConstant}
-use Rattle.kernel_gen.specs.Kernel.{node_kernel, kernel_cost}
-use Rattle.kernel_gen.specs.Laws.{IsRoot}
+use Rattle.kernel_gen.specs.Kernel.{IsRoot, node_kernel, kernel_cost}
 use Rattle.kernel_gen.proofs.Below.{AllBelow}
 use Rattle.kernel_gen.proofs.Kernels.{firsts, kernel-does}
 use Rattle.kernel_gen.proofs.Pieces.{DoesAt}

@@ -1,3 +1,8 @@
+// Why a line is no request.
+
+use std::fmt;
+use thiserror::Error;
+
 /// A field of a request, by its word in the request line.
 #[derive(Clone, Copy, PartialEq, Eq, Debug)]
 pub enum Field {
@@ -12,15 +17,35 @@ pub enum Field {
     Weight,
 }
 
+impl fmt::Display for Field {
+    fn fmt<W: fmt::Write>(&self, f: &mut fmt::Formatter<W>) -> fmt::Result {
+        f.write_str(match self {
+            Field::Size => "size",
+            Field::Mod => "mod",
+            Field::Root => "root",
+            Field::Procs => "procs",
+            Field::Line => "line",
+            Field::Lanes => "lanes",
+            Field::Unroll => "unroll",
+            Field::Budget => "budget",
+            Field::Weight => "weight",
+        })
+    }
+}
+
 /// Why a line is no request that can be served.
-#[derive(Clone, Copy, PartialEq, Eq, Debug)]
+#[derive(Clone, Copy, PartialEq, Eq, Debug, Error)]
 pub enum RequestFault {
     /// No request's line begins with more bytes of this one than the first `at`.
+    #[error("no request's line goes on at byte {at}")]
     Syntax { at: u64 },
     /// The first field that is out of its limits.
+    #[error("{field} {value} is out of its limits")]
     Range { field: Field, value: u64 },
     /// The size of a Walsh-Hadamard transform is no power of two.
+    #[error("size {size} is no power of two")]
     Shape { size: u64 },
     /// There are several processors, and the lanes do not divide the line.
+    #[error("{lanes} lanes do not divide a line of {line} words")]
     LanesLine { lanes: u64, line: u64 },
 }

@@ -2,7 +2,7 @@
 
 ghost use Rattle.std.specs.Prelude.{◌≡◌, ℕ};
 ghost use Rattle.request_text.specs.Stride.{moved, Makes};
-ghost use Rattle.request_text.specs.Turns.{state_after};
+ghost use Rattle.request_text.specs.Turns.{next_state, state_after};
 
 /// Steps of the generator as one: a state v becomes v * multiplier + increment, modulo 2^64.
 #[derive(Clone, Copy)]
@@ -60,6 +60,13 @@ fn stride_of(count: u64) -> Stride
     } else {
         double.then(ONE)
     }
+}
+
+/// The generator's next state.
+pub fn next_state(state: u64) -> u64
+    ensures { result ≡ next_state state }
+{
+    ONE.from(state)
 }
 
 /// The state after so many steps.

@@ -8,6 +8,7 @@ mod request;
 mod schedule;
 
 pub use fault::{Field, RequestFault};
+pub use generator::next_state;
 pub use icode::event::Event;
 pub use mix::{Mix, MixFault, read_mix};
 pub use request::read_request;

@@ -13,6 +13,7 @@ use grammar::{Cursor, ReadError, Stuck};
 use icode::event::Event;
 use std::alloc::Global;
 use std::marker::Model;
+use thiserror::Error;
 
 /// Turns and drains, as they are named. After them each run is completed.
 #[derive(Debug, Drop)]
@@ -32,10 +33,12 @@ impl Model for Mix {
 }
 
 /// Why a word names no turns and drains.
-#[derive(Clone, Copy, Debug, PartialEq, Eq)]
+#[derive(Clone, Copy, Debug, PartialEq, Eq, Error)]
 pub enum MixFault {
     /// No spelling goes on at this place.
+    #[error("no list of turns and drains goes on at byte {at}")]
     Syntax { at: u64 },
+    #[error("out of memory")]
     NoMemory,
 }
 

@@ -10,6 +10,7 @@ use crate::generator::state_after;
 use grammar::{Cursor, ReadError};
 use std::alloc::Global;
 use std::marker::Model;
+use thiserror::Error;
 
 /// Turns of processors, as they are named. After them each schedule is completed.
 #[derive(Debug, Drop)]
@@ -40,10 +41,12 @@ enum Turns {
 }
 
 /// Why a word is no schedule.
-#[derive(Clone, Copy, Debug, PartialEq, Eq)]
+#[derive(Clone, Copy, Debug, PartialEq, Eq, Error)]
 pub enum ScheduleFault {
     /// No spelling goes on at this place.
+    #[error("no schedule goes on at byte {at}")]
     Syntax { at: u64 },
+    #[error("out of memory")]
     NoMemory,
 }
 
@@ -160,12 +163,7 @@ impl Schedule {
 fn first_from(turns: &[u64], p: u64) -> Option<u64>
     ensures { result ≡ find (λ q. nat_le p q) turns.now }
 {
-    for q in turns {
-        if p <= *q {
-            return Some(*q);
-        }
-    }
-    None
+    turns.iter().find(|q| p <= **q).copied()
 }
 
 /// What the generator gives at place `i`, before it is reduced.

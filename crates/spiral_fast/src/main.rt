@@ -1,42 +1,33 @@
-//! Reads the listing of a program on standard input and writes fast C.
+//! The program: its words, its standard streams, and the exit code of its status.
 #![tactic(auto)]
 
-use icode::program::Program;
-use listing_text::read_listing;
-use memory::NoMemory;
-use std::alloc::Global;
-use std::io::{self, Read, Write};
+use fast_main::{Status, fast_run};
+use io_edge::{ReadSource, WriteSink, write_all};
 use std::process::ExitCode;
-use word_code::choose::{slack_of, slack_of_half};
-use word_code::quicken::quicken;
-use word_print::print_words;
+use std::{env, io};
 
-/// The bound of the words of A and B.
-const KEEP: u64 = 4;
-
-fn text_of(alloc: Global, program: &Program) -> Result<Vec<u8>, NoMemory> {
-    let slack = if program.modulus < 0x8000_0000 {
-        slack_of_half(program.modulus, KEEP)
-    } else {
-        slack_of(program.modulus, program.lanes, KEEP)
-    };
-    let words = quicken(alloc, slack, program)?;
-    print_words(alloc, &words, program.array_size())
+// The program's name and what stands behind it.
+fn words(rt: &HostRuntime) -> io::Result<Vec<String>> {
+    let mut words = Vec::new(rt.alloc());
+    for word in env::args(rt)? {
+        words.push(word)?;
+    }
+    Ok(words)
 }
 
 fn main(rt: HostRuntime) -> ExitCode {
-    let mut listing = Vec::new(rt.alloc());
-    if rt.stdin().read_to_end(&mut listing).is_err() {
-        return ExitCode::from(10);
-    }
-    let Ok(program) = read_listing(rt.alloc(), &listing) else {
-        return ExitCode::from(2);
+    let mut input = ReadSource::new(rt.stdin());
+    let mut output = WriteSink::new(rt.stdout());
+    let mut note = WriteSink::new(rt.stderr());
+    let words = match words(&rt) {
+        Ok(words) => words,
+        Err(error) if error.kind() == io::ErrorKind::OutOfMemory => {
+            let _ = write_all(&mut note, b"spiral_fast: out of memory\n");
+            return ExitCode::from(Status::NoMemory.code());
+        }
+        // Words that are no text are more than the program's name, and so are no words.
+        Err(_) => Vec::new(rt.alloc()),
     };
-    let Ok(text) = text_of(rt.alloc(), &program) else {
-        return ExitCode::from(12);
-    };
-    match rt.stdout().write_all(&text) {
-        Ok(()) => ExitCode::from(0),
-        Err(_) => ExitCode::from(10),
-    }
+    let status = fast_run(rt.alloc(), &words, &mut input, &mut output, &mut note);
+    ExitCode::from(status.code())
 }

@@ -1,4 +1,4 @@
--- From the words and the first line to a request.
+-- From the first line to a request.
 use Rattle.std.proofs.Common.{◌≡◌, ◌≢◌, ◌<◌, ◌≤◌, ℕ, zero, suc, Bool, true, false, List, [], ◌∷◌, ◌++◌, take, None, Some, Ok, Err, Result, nat_le, length, cond, refl, sym, ap, ◌∙◌, arith, inl, inr}
 use Rattle.std.proofs.lemmas.Grind.{common_steps}
 use Rattle.std.specs.declared.option.Option.{Option}
@@ -14,8 +14,8 @@ use Rattle.spiral_words.specs.Named.{NamedTexts, named_of}
 use Rattle.spiral_words.specs.Named as named
 use Rattle.spiral_words.specs.Asked.{Means, IsAsked}
 use Rattle.spiral_main.specs.declared.status.Status.{Status}
-use Rattle.spiral_main.specs.declared.status.Status.TheVariants.{Success, Turn, ReadFault, WriteFault, TooLong}
-use Rattle.spiral_main.specs.Commands.{reads_rest, commanded, AreJudged, schedule_of, stranger, admitted}
+use Rattle.spiral_main.specs.declared.status.Status.TheVariants.{Success, Usage, Turn, ReadFault, WriteFault, TooLong}
+use Rattle.spiral_main.specs.Commands.{reads_rest, first_stranger, procs_named, admitted}
 use Rattle.spiral_main.specs.Fault.{status_of_line, status_of_request}
 use Rattle.spiral_main.specs.Line.{first_line, line_of, IsWholeLine, GivesLine}
 use Rattle.spiral_main.specs.Status.{IsDefined}
@@ -33,28 +33,20 @@ line_long bytes long =
     let test : nat_le (length (first_line bytes)) 256 ≡ false = grind (arith, common_steps) in
     ap (λ b. cond {A = Result (List ℕ) Status} b (Ok (first_line bytes)) (Err (TooLong 256))) test
 
--- the words ask for no command
-pub asked_nothing : (words : List (List ℕ)) (a : Option (List ℕ)) (taken : ℕ) (status : Status) → (IsDefined status → commanded words (Err status)) → status ≢ ReadFault → Asks words a a taken (Err status)
-asked_nothing words None taken status refused other = tt
-asked_nothing words (Some bytes) taken status refused other = ([], refl, (λ d. inl (refused d), λ e. absurd (other e)))
-
 -- the first line can't be read
-pub asked_line_fault : (words : List (List ℕ)) (before after : Option (List ℕ)) (taken : ℕ) (command : Command) (read buffer : List ℕ) (ended : Type 0) (fault : FeedFault)
-    → commanded words (Ok command) → Consumes before after read → GivesLine read ended taken buffer (Err fault) → Asks words before after taken (Err (status_of_line fault))
-asked_line_fault words None after taken command read buffer ended fault named consumed given = tt
-asked_line_fault words (Some bytes) None taken command read buffer ended fault named consumed given = consumed
-asked_line_fault words (Some bytes) (Some rest) taken command read buffer ended feed.ReadFault named consumed given = (
+pub asked_line_fault : (command : Command) (before after : Option (List ℕ)) (taken : ℕ) (read buffer : List ℕ) (ended : Type 0) (fault : FeedFault)
+    → Consumes before after read → GivesLine read ended taken buffer (Err fault) → Asks command before after taken (Err (status_of_line fault))
+asked_line_fault command None after taken read buffer ended fault consumed given = tt
+asked_line_fault command (Some bytes) None taken read buffer ended fault consumed given = consumed
+asked_line_fault command (Some bytes) (Some rest) taken read buffer ended feed.ReadFault consumed given = (
   read,
   consumed,
   (λ d. absurd (d.read refl), λ _. given),
 )
-asked_line_fault words (Some bytes) (Some rest) taken command read buffer ended feed.TooLong named consumed given = (
+asked_line_fault command (Some bytes) (Some rest) taken read buffer ended feed.TooLong consumed given = (
   read,
   consumed,
-  (
-    λ _. inr (record { value = command; before = named; behind = inl (sym (line_long (read ++ rest) (given rest))) }),
-    λ e. absurd (cc),
-  ),
+  (λ _. inl (sym (line_long (read ++ rest) (given rest))), λ e. absurd (cc)),
 )
 
 request_fault_other : (fault : RequestFault) → status_of_request fault ≡ ReadFault → ⊥
@@ -64,56 +56,45 @@ request_fault_other (request.Shape size) e = absurd (cc)
 request_fault_other (request.LanesLine lanes line) e = absurd (cc)
 
 -- the line spells no request that can be served
-pub asked_request_fault : (words : List (List ℕ)) (before after : Option (List ℕ)) (taken : ℕ) (command : Command) (read line : List ℕ) (fault : RequestFault)
-    → commanded words (Ok command) → Consumes before after read → IsWholeLine read (IsAtEnd after) line → length line ≤ 256 → Answers line (Err fault)
-    → Asks words before after taken (Err (status_of_request fault))
-asked_request_fault words None after taken command read line fault named consumed whole short answer = tt
-asked_request_fault words (Some bytes) None taken command read line fault named consumed whole short answer = consumed
-asked_request_fault words (Some bytes) (Some rest) taken command read line fault named consumed whole short answer =
+pub asked_request_fault : (command : Command) (before after : Option (List ℕ)) (taken : ℕ) (read line : List ℕ) (fault : RequestFault)
+    → Consumes before after read → IsWholeLine read (IsAtEnd after) line → length line ≤ 256 → Answers line (Err fault)
+    → Asks command before after taken (Err (status_of_request fault))
+asked_request_fault command None after taken read line fault consumed whole short answer = tt
+asked_request_fault command (Some bytes) None taken read line fault consumed whole short answer = consumed
+asked_request_fault command (Some bytes) (Some rest) taken read line fault consumed whole short answer =
     let there = line_short (read ++ rest) line (whole rest (λ e. e)).0 short in (
       read,
       consumed,
-      (
-        λ _. inr (record {
-          value = command;
-          before = named;
-          behind = inr (record { value = line; before = sym there; behind = inl (fault, answer, refl) });
-        }),
-        λ e. absurd (request_fault_other fault e),
-      ),
+      (λ _. inr (record { value = line; before = sym there; behind = inl (fault, answer, refl) }), λ e. absurd (request_fault_other fault e)),
     )
 
 -- a turn is of a processor that is not there
-pub asked_turn_fault : (words : List (List ℕ)) (before after : Option (List ℕ)) (taken : ℕ) (command : Command) (read line : List ℕ) (wanted : Request) (q : ℕ)
-    → commanded words (Ok command) → Consumes before after read → IsWholeLine read (IsAtEnd after) line → length line ≤ 256 → Answers line (Ok wanted)
-    → stranger (schedule_of command) wanted.procs ≡ Some q → Asks words before after taken (Err (Turn q wanted.procs))
-asked_turn_fault words None after taken command read line wanted q named consumed whole short answer found = tt
-asked_turn_fault words (Some bytes) None taken command read line wanted q named consumed whole short answer found = consumed
-asked_turn_fault words (Some bytes) (Some rest) taken command read line wanted q named consumed whole short answer found =
+pub asked_turn_fault : (command : Command) (before after : Option (List ℕ)) (taken : ℕ) (read line : List ℕ) (wanted : Request) (q : ℕ)
+    → Consumes before after read → IsWholeLine read (IsAtEnd after) line → length line ≤ 256 → Answers line (Ok wanted)
+    → first_stranger (procs_named command) wanted.procs ≡ Some q → Asks command before after taken (Err (Turn q wanted.procs))
+asked_turn_fault command None after taken read line wanted q consumed whole short answer found = tt
+asked_turn_fault command (Some bytes) None taken read line wanted q consumed whole short answer found = consumed
+asked_turn_fault command (Some bytes) (Some rest) taken read line wanted q consumed whole short answer found =
     let there = line_short (read ++ rest) line (whole rest (λ e. e)).0 short in (
       read,
       consumed,
       (
         λ _. inr (record {
-          value = command;
-          before = named;
-          behind = inr (record {
-            value = line;
-            before = sym there;
-            behind = inr (record { value = wanted; before = answer; behind = inl (sym (ap (λ o. admitted o wanted) found)) });
-          });
+          value = line;
+          before = sym there;
+          behind = inr (record { value = wanted; before = answer; behind = sym (ap (λ o. admitted o wanted.procs wanted) found) });
         }),
         λ e. absurd (cc),
       ),
     )
 
--- the command and the request
-pub asked_request : (words : List (List ℕ)) (before after : Option (List ℕ)) (taken : ℕ) (command : Command) (read line : List ℕ) (wanted : Request)
-    → commanded words (Ok command) → Consumes before after read → taken ≡ length read → IsWholeLine read (IsAtEnd after) line → length line ≤ 256 → Answers line (Ok wanted)
-    → stranger (schedule_of command) wanted.procs ≡ None → Asks words before after taken (Ok (command, wanted))
-asked_request words None after taken command read line wanted named consumed count whole short answer none_found = tt
-asked_request words (Some bytes) None taken command read line wanted named consumed count whole short answer none_found = consumed
-asked_request words (Some bytes) (Some rest) taken command read line wanted named consumed count whole short answer none_found = (
+-- the request
+pub asked_request : (command : Command) (before after : Option (List ℕ)) (taken : ℕ) (read line : List ℕ) (wanted : Request)
+    → Consumes before after read → taken ≡ length read → IsWholeLine read (IsAtEnd after) line → length line ≤ 256 → Answers line (Ok wanted)
+    → first_stranger (procs_named command) wanted.procs ≡ None → Asks command before after taken (Ok wanted)
+asked_request command None after taken read line wanted consumed count whole short answer none_found = tt
+asked_request command (Some bytes) None taken read line wanted consumed count whole short answer none_found = consumed
+asked_request command (Some bytes) (Some rest) taken read line wanted consumed count whole short answer none_found = (
   read,
   consumed,
   (
@@ -121,17 +102,9 @@ asked_request words (Some bytes) (Some rest) taken command read line wanted name
     λ more none.
         let parts = whole more none in (
           record {
-            value = command;
-            before = named;
-            behind = record {
-              value = line;
-              before = sym (line_short (read ++ more) line parts.0 short);
-              behind = record {
-                value = wanted;
-                before = answer;
-                behind = record { value = wanted; before = sym (ap (λ o. admitted o wanted) none_found); behind = refl };
-              };
-            };
+            value = line;
+            before = sym (line_short (read ++ more) line parts.0 short);
+            behind = record { value = wanted; before = answer; behind = sym (ap (λ o. admitted o wanted.procs wanted) none_found) };
           },
           parts.1,
         ),
@@ -140,9 +113,10 @@ asked_request words (Some bytes) (Some rest) taken command read line wanted name
 
 -- whether the input is read to its end depends on the command's name alone
 abbrev named_reads : NamedTexts → Bool
-named_reads (named.run word) = true
-named_reads (named.trace word) = true
+named_reads (named.run buffers word) = true
+named_reads (named.trace buffers word) = true
 named_reads named.check = true
+named_reads (named.exec word) = true
 named_reads _ = false
 
 means_reads : (texts : NamedTexts) (command : Command) → Means texts command → reads_rest command ≡ named_reads texts
@@ -150,11 +124,12 @@ means_reads named.plan command means = ap reads_rest means
 means_reads named.formula command means = ap reads_rest means
 means_reads named.code command means = ap reads_rest means
 means_reads named.c command means = ap reads_rest means
-means_reads (named.run word) command means = ap reads_rest means.2
-means_reads (named.trace word) command means = ap reads_rest means.2
+means_reads (named.run buffers word) command means = ap reads_rest means.2
+means_reads (named.trace buffers word) command means = ap reads_rest means.2
 means_reads named.cert command means = ap reads_rest means
 means_reads named.check command means = ap reads_rest means
 means_reads (named.sample number word) command means = ap reads_rest means.4
+means_reads (named.exec word) command means = ap reads_rest means.2
 
 same_texts : (a b : NamedTexts) → Some a ≡ Some b → a ≡ b
 same_texts a b e = cc
@@ -163,31 +138,6 @@ pub reads_same : (words : List (List ℕ)) (a b : Command) → IsAsked words a �
 reads_same words a b asked other =
     let same : asked.0 ≡ other.0 = same_texts asked.0 other.0 (sym asked.1 ∙ other.1) in
     means_reads asked.0 a asked.2 ∙ ap named_reads same ∙ sym (means_reads other.0 b other.2)
-
--- a line's and a request's fault end a run before the output
-pub line_fault_others : (fault : FeedFault) → (status_of_line fault ≢ Success) × (status_of_line fault ≢ WriteFault)
-line_fault_others feed.ReadFault = (λ e. cc, λ e. cc)
-line_fault_others feed.TooLong = (λ e. cc, λ e. cc)
-
-pub request_fault_others : (fault : RequestFault) → (status_of_request fault ≢ Success) × (status_of_request fault ≢ WriteFault)
-request_fault_others (request.Syntax at) = (λ e. cc, λ e. cc)
-request_fault_others (request.Range field value) = (λ e. cc, λ e. cc)
-request_fault_others (request.Shape size) = (λ e. cc, λ e. cc)
-request_fault_others (request.LanesLine lanes line) = (λ e. cc, λ e. cc)
-
--- a line's and a request's fault come behind a command line
-pub line_judged : (words : List (List ℕ)) (fault : FeedFault) (command : Command) → IsAsked words command → AreJudged words (status_of_line fault)
-line_judged words feed.ReadFault command asked = inr (inr (λ e. cc, (command, asked)))
-line_judged words feed.TooLong command asked = inr (inr (λ e. cc, (command, asked)))
-
-pub request_judged : (words : List (List ℕ)) (fault : RequestFault) (command : Command) → IsAsked words command → AreJudged words (status_of_request fault)
-request_judged words (request.Syntax at) command asked = inr (inr (λ e. cc, (command, asked)))
-request_judged words (request.Range field value) command asked = inr (inr (λ e. cc, (command, asked)))
-request_judged words (request.Shape size) command asked = inr (inr (λ e. cc, (command, asked)))
-request_judged words (request.LanesLine lanes line) command asked = inr (inr (λ e. cc, (command, asked)))
-
-pub turn_judged : (words : List (List ℕ)) (q p : ℕ) (command : Command) → IsAsked words command → AreJudged words (Turn q p)
-turn_judged words q p command asked = inr (inr (λ e. cc, (command, asked)))
 
 pub take_short : (n : ℕ) (xs : List ℕ) → length (take n xs) ≤ n
 take_short zero xs = omega arith

@@ -12,3 +12,11 @@ pub mod SampleLemmas
 pub mod StreamLemmas
 pub mod PlanLemmas
 pub mod RightCalls
+pub mod Accounts
+pub mod DataLemmas
+pub mod ListedLemmas
+pub mod OneExecution
+pub mod Notes
+pub mod Stages
+pub mod BufferedLemmas
+pub mod BufferedOutcome

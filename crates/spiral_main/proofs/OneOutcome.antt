@@ -1,6 +1,8 @@
 -- The words and the bytes of a call determine its status.
 use Rattle.std.proofs.Common.{◌≡◌, ◌≤◌, ℕ, Bool, true, false, List, Ok, Err, Result, refl, sym, ap, ap₂, subst, ◌∙◌, arith, inl, inr}
 use Rattle.matrix_meaning.specs.declared.Request.{Request}
+use Rattle.request_text.specs.Schedule.{Plan}
+use Rattle.spiral_words.specs.Asked.{IsAsked}
 use Rattle.spiral_words.specs.declared.Command.{Command}
 use Rattle.spiral_words.specs.declared.Command.TheVariants as command
 use Rattle.spiral_words.proofs.Usage.{usage_nothing}
@@ -15,62 +17,22 @@ use Rattle.spiral_main.specs.Checked.{IsChecked, status_of_verdict}
 use Rattle.spiral_main.specs.Commands.{reads_certificate, commanded, scheduled}
 use Rattle.spiral_main.specs.Fault.{status_of_request, status_of_generate}
 use Rattle.spiral_main.specs.Line.{line_of}
-use Rattle.spiral_main.specs.Outcome.{spelt, IsRefused, IsShutOut, IsAccepted, IsDeclined, requested, Job, accepted, ordered, IsTextOf, IsTextOfData, Settles, IsOutcome, room_behind}
+use Rattle.spiral_main.specs.Outcome.{spelt, IsRefused, IsShutOut, IsAccepted, IsDeclined, requested, Job, accepted, ordered, IsTextOf, IsTextOfData, Settles, IsAnswerToRequest, IsOutcome, room_behind}
 use Rattle.spiral_main.specs.Line.{data_of}
-use Rattle.spiral_main.specs.Stage.{Stage, given, GoesOn, ◌>>=◌}
+use Rattle.spiral_main.specs.Listed.{IsExecution}
+use Rattle.spiral_main.specs.Stage.{given}
+use Rattle.spiral_main.proofs.OneExecution.{execution_status_once}
 use Rattle.spiral_main.proofs.PlanLemmas.{candidate_divides}
-use Rattle.spiral_main.proofs.OneRequest.{request_once, asked_once, answer_clash, fault_once}
-
--- Stages
-
--- at most one answer is right
-abbrev pub IsDecided : {A : Type 0} → Stage A → Type 0
-IsDecided {A} stage = (x y : Result A Status) → stage x → stage y → x ≡ y
-
-abbrev pub done : {A : Type 0} → A → Result A Status
-done value = Ok value
-
-abbrev pub ended : {A : Type 0} → Status → Result A Status
-ended status = Err status
-
-pub done_same : {A : Type 0} (a b : A) → done a ≡ done b → a ≡ b
-done_same a b e = cc
-
-ended_same : {A : Type 0} (s t : Status) → ended {A = A} s ≡ ended t → s ≡ t
-ended_same s t e = cc
-
-pub done_ended : {A : Type 0} (a : A) (s : Status) → done a ≡ ended s → ⊥
-done_ended a s e = absurd (cc)
-
-given_decided : {A : Type 0} (answer : Result A Status) → IsDecided (given answer)
-given_decided answer x y p q = p ∙ sym q
-
-behind_same : {A B : Type 0} (first : Stage A) (next : A → Stage B) → IsDecided first → ((a : A) → IsDecided (next a)) → (x y : Result B Status)
-    → GoesOn first next x → GoesOn first next y → x ≡ y
-behind_same {A} {B} first next d n x y p q =
-    let same : p.value ≡ q.value = done_same p.value q.value (d (Ok p.value) (Ok q.value) p.before q.before) in
-    n q.value x y (subst (λ (a : A). next a x) same p.behind) q.behind
-
-stage_clash : {A B : Type 0} (first : Stage A) (next : A → Stage B) (s : Status) (y : Result B Status) → IsDecided first → first (Err s) → GoesOn first next y → ⊥
-stage_clash first next s y d p q = done_ended q.value s (d (Ok q.value) (Err s) q.before p)
-
-bind_decided : {A B : Type 0} (first : Stage A) (next : A → Stage B) → IsDecided first → ((a : A) → IsDecided (next a)) → IsDecided (first >>= next)
-bind_decided first next d n (Ok a) (Ok b) p q = behind_same first next d n (Ok a) (Ok b) p q
-bind_decided first next d n (Ok a) (Err t) p (inl q) = absurd (stage_clash first next t (Ok a) d q p)
-bind_decided first next d n (Ok a) (Err t) p (inr q) = behind_same first next d n (Ok a) (Err t) p q
-bind_decided first next d n (Err s) (Ok b) (inl p) q = absurd (stage_clash first next s (Ok b) d p q)
-bind_decided first next d n (Err s) (Ok b) (inr p) q = behind_same first next d n (Err s) (Ok b) p q
-bind_decided first next d n (Err s) (Err t) (inl p) (inl q) = ap ended (ended_same s t (d (Err s) (Err t) p q))
-bind_decided first next d n (Err s) (Err t) (inl p) (inr q) = absurd (stage_clash first next s (Err t) d p q)
-bind_decided first next d n (Err s) (Err t) (inr p) (inl q) = absurd (stage_clash first next t (Err s) d q p)
-bind_decided first next d n (Err s) (Err t) (inr p) (inr q) = behind_same first next d n (Err s) (Err t) p q
+use Rattle.spiral_main.proofs.Stages.{IsDecided, done, ended, done_same, ended_same, done_ended, given_decided, bind_decided}
+use Rattle.spiral_words.proofs.OneCommand.{asked_once}
+use Rattle.spiral_main.proofs.OneRequest.{request_once, answer_clash, fault_once}
 
 -- The words and the line
 
 commanded_decided : (words : List (List ℕ)) → IsDecided (commanded words)
-commanded_decided words (Ok a) (Ok b) p q = ap done (asked_once words a b p q)
-commanded_decided words (Ok a) (Err t) p q = absurd (usage_nothing words a q.1 p)
-commanded_decided words (Err s) (Ok b) p q = absurd (usage_nothing words b p.1 q)
+commanded_decided words (Ok a) (Ok b) p q = ap done (asked_once words a b p.0 q.0)
+commanded_decided words (Ok a) (Err t) p q = absurd (usage_nothing words a q.1 p.0)
+commanded_decided words (Err s) (Ok b) p q = absurd (usage_nothing words b p.1 q.0)
 commanded_decided words (Err s) (Err t) p q = ap ended (p.0 ∙ sym q.0)
 
 spelt_decided : (line : List ℕ) → IsDecided (spelt line)
@@ -79,12 +41,10 @@ spelt_decided line (Ok a) (Err t) p q = absurd (answer_clash line a q.0 p q.1)
 spelt_decided line (Err s) (Ok b) p q = absurd (answer_clash line b p.0 q p.1)
 spelt_decided line (Err s) (Err t) p q = ap ended (p.2 ∙ ap status_of_request (fault_once line p.0 q.0 p.1 q.1) ∙ sym q.2)
 
-requested_decided : (words : List (List ℕ)) (bytes : List ℕ) → IsDecided (requested words bytes)
-requested_decided words bytes =
-    bind_decided (commanded words) _ (commanded_decided words) (λ command.
+requested_decided : (command : Command) (bytes : List ℕ) → IsDecided (requested command bytes)
+requested_decided command bytes =
     bind_decided (given (line_of bytes)) _ (given_decided (line_of bytes)) (λ line.
-    bind_decided (spelt line) _ (spelt_decided line) (λ request.
-    bind_decided (given (scheduled command request)) _ (given_decided (scheduled command request)) (λ served. given_decided (Ok (command, served))))))
+    bind_decided (spelt line) _ (spelt_decided line) (λ request. given_decided (scheduled command request)))
 
 -- The request for the command
 
@@ -147,22 +107,24 @@ accepted_clash command.Plan r s p q = plan_clash r p.0 q.0 p.1 q.1
 accepted_clash command.Formula r s p q = plan_clash r p.0 q.0 p.1 q.1
 accepted_clash command.Code r s p q = plan_clash r p.0 q.0 p.1 q.1
 accepted_clash command.C r s p q = plan_clash r p.0 q.0 p.1 q.1
-accepted_clash (command.Run schedule) r s p q = plan_clash r p.0 q.0 p.1 q.1
-accepted_clash (command.Trace schedule) r s p q = plan_clash r p.0 q.0 p.1 q.1
+accepted_clash (command.Run order) r s p q = plan_clash r p.0 q.0 p.1 q.1
+accepted_clash (command.Trace order) r s p q = plan_clash r p.0 q.0 p.1 q.1
 accepted_clash command.Cert r s p q = plan_clash r p.0 q.0 p.1 q.1
 accepted_clash command.Check r s p q = bar_clash r q.0 p q.1
 accepted_clash (command.Sample seed schedule) r s p q = plan_clash r p.0 q.0 p.1 q.1
+accepted_clash (command.Exec schedule) r s p q = plan_clash r p.0 q.0 p.1 q.1
 
 declined_once : (wanted : Command) (r : Request) (s t : Status) → IsDeclined wanted r s → IsDeclined wanted r t → s ≡ t
 declined_once command.Plan r s t p q = refused_once r s t p q
 declined_once command.Formula r s t p q = refused_once r s t p q
 declined_once command.Code r s t p q = refused_once r s t p q
 declined_once command.C r s t p q = refused_once r s t p q
-declined_once (command.Run schedule) r s t p q = refused_once r s t p q
-declined_once (command.Trace schedule) r s t p q = refused_once r s t p q
+declined_once (command.Run order) r s t p q = refused_once r s t p q
+declined_once (command.Trace order) r s t p q = refused_once r s t p q
 declined_once command.Cert r s t p q = refused_once r s t p q
 declined_once command.Check r s t p q = shut_out_once r s t p q
 declined_once (command.Sample seed schedule) r s t p q = refused_once r s t p q
+declined_once (command.Exec schedule) r s t p q = refused_once r s t p q
 
 accepted_decided : (wanted : Command) (r : Request) → IsDecided (accepted wanted r)
 accepted_decided wanted r (Ok a) (Ok b) p q = ap done (p.1 ∙ sym q.1)
@@ -171,7 +133,9 @@ accepted_decided wanted r (Err s) (Ok b) p q = absurd (accepted_clash wanted r s
 accepted_decided wanted r (Err s) (Err t) p q = ap ended (declined_once wanted r s t p q)
 
 pub ordered_decided : (words : List (List ℕ)) (bytes : List ℕ) → IsDecided (ordered words bytes)
-ordered_decided words bytes = bind_decided (requested words bytes) _ (requested_decided words bytes) (λ wanted. accepted_decided wanted.0 wanted.1)
+ordered_decided words bytes =
+    bind_decided (commanded words) _ (commanded_decided words) (λ command.
+    bind_decided (requested command bytes) _ (requested_decided command bytes) (λ request. accepted_decided command request))
 
 -- The job
 
@@ -180,15 +144,16 @@ data_or_text command.Plan r vectors s t p q = p
 data_or_text command.Formula r vectors s t p q = p
 data_or_text command.Code r vectors s t p q = p
 data_or_text command.C r vectors s t p q = p
-data_or_text (command.Run schedule) r vectors s t p q = q
-data_or_text (command.Trace schedule) r vectors s t p q = q
+data_or_text (command.Run order) r vectors s t p q = q
+data_or_text (command.Trace order) r vectors s t p q = q
 data_or_text command.Cert r vectors s t p q = p
 data_or_text command.Check r vectors s t p q = p
 data_or_text (command.Sample seed schedule) r vectors s t p q = p
+data_or_text (command.Exec schedule) r vectors s t p q = p
 
 pub data_or_check : (wanted : Command) (r : Request) (vectors : List (List ℕ)) (s : List ℕ) → IsTextOfData wanted r vectors s → reads_certificate wanted ≡ true → ⊥
-data_or_check (command.Run schedule) r vectors s p q = absurd (cc)
-data_or_check (command.Trace schedule) r vectors s p q = absurd (cc)
+data_or_check (command.Run order) r vectors s p q = absurd (cc)
+data_or_check (command.Trace order) r vectors s p q = absurd (cc)
 data_or_check command.Plan r vectors s p q = p
 data_or_check command.Formula r vectors s p q = p
 data_or_check command.Code r vectors s p q = p
@@ -196,6 +161,7 @@ data_or_check command.C r vectors s p q = p
 data_or_check command.Cert r vectors s p q = p
 data_or_check command.Check r vectors s p q = p
 data_or_check (command.Sample seed schedule) r vectors s p q = p
+data_or_check (command.Exec schedule) r vectors s p q = p
 
 pub text_or_check : (wanted : Command) (r : Request) (s : List ℕ) → IsTextOf wanted r s → reads_certificate wanted ≡ true → ⊥
 text_or_check command.Plan r s p q = absurd (cc)
@@ -204,9 +170,10 @@ text_or_check command.Code r s p q = absurd (cc)
 text_or_check command.C r s p q = absurd (cc)
 text_or_check command.Cert r s p q = absurd (cc)
 text_or_check (command.Sample seed schedule) r s p q = absurd (cc)
-text_or_check (command.Run schedule) r s p q = p
-text_or_check (command.Trace schedule) r s p q = p
+text_or_check (command.Run order) r s p q = p
+text_or_check (command.Trace order) r s p q = p
 text_or_check command.Check r s p q = p
+text_or_check (command.Exec schedule) r s p q = p
 
 checked_once : (r : Request) (bytes : List ℕ) (a b : Status) (s t : List ℕ) → IsChecked r bytes a s → IsChecked r bytes b t → a ≡ b
 checked_once r bytes a b s t (inl p) (inl q) = p.1 ∙ sym q.1
@@ -226,11 +193,42 @@ settled_once wanted r room bytes a b s t (inr (inr p)) (inl q) = absurd (data_or
 settled_once wanted r room bytes a b s t (inr (inr p)) (inr (inl q)) = absurd (text_or_check wanted r t q.1 p.0)
 settled_once wanted r room bytes a b s t (inr (inr p)) (inr (inr q)) = checked_once r bytes a b s t p.1 q.1
 
-pub one_status : (words : List (List ℕ)) (bytes : List ℕ) (a b : Status) (s t : List ℕ) → IsOutcome words bytes a s → IsOutcome words bytes b t → a ≡ b
-one_status words bytes a b s t (inl p) (inl q) = ended_same a b (ordered_decided words bytes (Err a) (Err b) p.0 q.0)
-one_status words bytes a b s t (inl p) (inr q) = absurd (done_ended q.0 a (ordered_decided words bytes (Ok q.0) (Err a) q.1 p.0))
-one_status words bytes a b s t (inr p) (inl q) = absurd (done_ended p.0 b (ordered_decided words bytes (Ok p.0) (Err b) p.1 q.0))
-one_status words bytes a b s t (inr p) (inr q) =
+answer_once : (words : List (List ℕ)) (bytes : List ℕ) (a b : Status) (s t : List ℕ) → IsAnswerToRequest words bytes a s → IsAnswerToRequest words bytes b t → a ≡ b
+answer_once words bytes a b s t (inl p) (inl q) = ended_same a b (ordered_decided words bytes (Err a) (Err b) p.0 q.0)
+answer_once words bytes a b s t (inl p) (inr q) = absurd (done_ended q.0 a (ordered_decided words bytes (Ok q.0) (Err a) q.1 p.0))
+answer_once words bytes a b s t (inr p) (inl q) = absurd (done_ended p.0 b (ordered_decided words bytes (Ok p.0) (Err b) p.1 q.0))
+answer_once words bytes a b s t (inr p) (inr q) =
     let same : p.0 ≡ q.0 = done_same p.0 q.0 (ordered_decided words bytes (Ok p.0) (Ok q.0) p.1 q.1) in
     settled_once q.0.command q.0.request (room_behind bytes) (data_of bytes) a b s t
     (subst (λ (job : Job). Settles job.command job.request (room_behind bytes) (data_of bytes) a s) same p.2) q.2
+
+-- By a request or by a listing
+
+-- words that ask for `exec` order no request
+pub no_order : (words : List (List ℕ)) (schedule : Plan) (bytes : List ℕ) (r : Result Job Status) → IsAsked words (command.Exec schedule) → ordered words bytes r → ⊥
+no_order words schedule bytes (Ok job) asked p =
+    let same : p.value ≡ command.Exec schedule = asked_once words p.value (command.Exec schedule) p.before.0 asked in
+    absurd (let taken = rw same at p.before.1 in cc)
+no_order words schedule bytes (Err status) asked (inl p) = usage_nothing words (command.Exec schedule) p.1 asked
+no_order words schedule bytes (Err status) asked (inr p) =
+    let same : p.value ≡ command.Exec schedule = asked_once words p.value (command.Exec schedule) p.before.0 asked in
+    absurd (let taken = rw same at p.before.1 in cc)
+
+pub no_answer : (words : List (List ℕ)) (schedule : Plan) (bytes : List ℕ) (s : Status) (t : List ℕ) → IsAsked words (command.Exec schedule) → IsAnswerToRequest words bytes s t → ⊥
+no_answer words schedule bytes s t asked (inl p) = no_order words schedule bytes (Err s) asked p.0
+no_answer words schedule bytes s t asked (inr p) = no_order words schedule bytes (Ok p.0) asked p.1
+
+exec_same : (s t : Plan) → command.Exec s ≡ command.Exec t → s ≡ t
+exec_same s t e = cc
+
+-- words ask for one schedule
+pub schedule_asked_once : (words : List (List ℕ)) (s t : Plan) → IsAsked words (command.Exec s) → IsAsked words (command.Exec t) → s ≡ t
+schedule_asked_once words s t p q = exec_same s t (asked_once words (command.Exec s) (command.Exec t) p q)
+
+pub one_status : (words : List (List ℕ)) (bytes : List ℕ) (a b : Status) (s t : List ℕ) → IsOutcome words bytes a s → IsOutcome words bytes b t → a ≡ b
+one_status words bytes a b s t (inl p) (inl q) = answer_once words bytes a b s t p q
+one_status words bytes a b s t (inl p) (inr q) = absurd (no_answer words q.0 bytes a s q.1 p)
+one_status words bytes a b s t (inr p) (inl q) = absurd (no_answer words p.0 bytes b t p.1 q)
+one_status words bytes a b s t (inr p) (inr q) =
+    let same : p.0 ≡ q.0 = schedule_asked_once words p.0 q.0 p.1 q.1 in
+    execution_status_once q.0 bytes a b s t (subst (λ (k : Plan). IsExecution k bytes a s) same p.2) q.2

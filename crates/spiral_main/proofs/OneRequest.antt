@@ -1,4 +1,4 @@
--- A command line asks for one command, and a request line spells one request or has one fault.
+-- A request line spells one request or has one fault.
 use Rattle.std.proofs.Common.{◌≡◌, ◌<◌, ◌≤◌, ◌-◌, ◌^◌, ◌%◌, ◌==◌, ◌&&◌, ℕ, Bool, true, false, List, Ok, Err, Result, Some, cond, nat_le, nat_lt, refl, sym, ap, ap₂, subst, ◌∙◌, arith, ◌⊎◌, inl, inr}
 use Rattle.std.proofs.lemmas.Grind.{common_steps}
 use Rattle.matrix_meaning.specs.declared.Kind.{Kind}
@@ -13,46 +13,15 @@ use Rattle.request_text.specs.declared.fault.RequestFault.TheVariants.{Syntax, R
 use Rattle.request_text.specs.Line.{request_line}
 use Rattle.request_text.specs.Limits.{◌>>◌, within, below, shaped, divided, judged}
 use Rattle.request_text.specs.Answer.{IsFaultOf, Answers}
-use Rattle.request_text.specs.Schedule.{Plan, schedule_word}
 use Rattle.request_text.proofs.Line.{line_judges}
-use Rattle.request_text.proofs.ScheduleWord.{word_judges}
-use Rattle.spiral_words.specs.declared.Command.{Command}
-use Rattle.spiral_words.specs.declared.Command.TheVariants as command
-use Rattle.spiral_words.specs.Named.{NamedTexts}
-use Rattle.spiral_words.specs.Named as named
-use Rattle.spiral_words.specs.Asked.{Means, IsAsked}
 
 -- a text spells one value
 spelt_once : {S A : Type 0} (L : List S → A → Type 0) (text : List S) (r : Result A ℕ) (a b : A) → Judges L text r → L text a → L text b → a ≡ b
 spelt_once L text (Ok value) a b j p q = j.1 a p ∙ sym (j.1 b q)
 spelt_once L text (Err left) a b j p q = absurd (j.1.nothing a p)
 
-schedule_once : (word : List ℕ) (s t : Plan) → schedule_word word s → schedule_word word t → s ≡ t
-schedule_once word s t p q = spelt_once schedule_word word _ s t (word_judges word _ refl) p q
-
 pub request_once : (line : List ℕ) (r s : Request) → request_line line r → request_line line s → r ≡ s
 request_once line r s p q = spelt_once request_line line _ r s (line_judges line _ refl) p q
-
--- ---- commands
-
-some_same : {A : Type 0} (a b : A) → Some a ≡ Some b → a ≡ b
-some_same a b e = cc
-
-means_once : (texts : NamedTexts) (a b : Command) → Means texts a → Means texts b → a ≡ b
-means_once named.plan a b p q = p ∙ sym q
-means_once named.formula a b p q = p ∙ sym q
-means_once named.code a b p q = p ∙ sym q
-means_once named.c a b p q = p ∙ sym q
-means_once (named.run word) a b p q = p.2 ∙ ap command.Run (schedule_once word p.0 q.0 p.1 q.1) ∙ sym q.2
-means_once (named.trace word) a b p q = p.2 ∙ ap command.Trace (schedule_once word p.0 q.0 p.1 q.1) ∙ sym q.2
-means_once named.cert a b p q = p ∙ sym q
-means_once named.check a b p q = p ∙ sym q
-means_once (named.sample number word) a b p q = p.4 ∙ ap₂ command.Sample (some_same p.0 q.0 (sym p.2 ∙ q.2)) (schedule_once word p.1 q.1 p.3 q.3) ∙ sym q.4
-
-pub asked_once : (words : List (List ℕ)) (a b : Command) → IsAsked words a → IsAsked words b → a ≡ b
-asked_once words a b p q =
-    let same : p.0 ≡ q.0 = some_same p.0 q.0 (sym p.1 ∙ q.1) in
-    means_once q.0 a b (subst (λ (t : NamedTexts). Means t a) same p.2) q.2
 
 -- ---- the limits of a request
 

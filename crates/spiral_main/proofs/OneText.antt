@@ -1,6 +1,7 @@
 -- The words and the bytes of a call determine its text, but for the commands that print a program.
 use Rattle.std.proofs.Common.{◌≡◌, ℕ, true, List, [], ◌∷◌, ◌++◌, Ok, Err, sym, ap, subst, ◌∙◌, arith, inl, inr}
 use Rattle.matrix_meaning.specs.declared.Request.{Request}
+use Rattle.request_text.specs.Schedule.{Plan}
 use Rattle.spiral_words.specs.declared.Command.{Command}
 use Rattle.spiral_words.specs.declared.Command.TheVariants as command
 use Rattle.spiral_words.specs.Asked.{IsAsked}
@@ -18,12 +19,15 @@ use Rattle.spiral_main.specs.declared.status.Status.{Status}
 use Rattle.spiral_main.specs.Checked.{IsChecked, verdict_text}
 use Rattle.spiral_main.specs.Commands.{prints_one_text}
 use Rattle.spiral_main.specs.Line.{data_of}
-use Rattle.spiral_main.specs.Outcome.{Job, ordered, product, IsTextOf, IsTextOfData, Settles, IsOutcome, room_behind}
+use Rattle.spiral_main.specs.Listed.{IsExecution}
+use Rattle.spiral_main.specs.Outcome.{Job, ordered, product, IsTextOf, IsTextOfData, Settles, IsAnswerToRequest, IsOutcome, room_behind}
 use Rattle.spiral_main.specs.Sample.{sample_vector, weighted_sum, sample_text}
-use Rattle.spiral_main.proofs.OneRequest.{asked_once}
+use Rattle.spiral_words.proofs.OneCommand.{asked_once}
 use Rattle.spiral_main.proofs.OneTable.{table_once}
 use Rattle.spiral_main.proofs.OneTree.{chosen_once}
-use Rattle.spiral_main.proofs.OneOutcome.{done_same, done_ended, ordered_decided, data_or_text, data_or_check, text_or_check}
+use Rattle.spiral_main.proofs.OneExecution.{execution_text_once}
+use Rattle.spiral_main.proofs.OneOutcome.{ordered_decided, data_or_text, data_or_check, text_or_check, no_answer, schedule_asked_once}
+use Rattle.spiral_main.proofs.Stages.{done_same, done_ended}
 
 planned_once : (r : Request) (t u : Breakdown) → IsPlanned r (Ok t) → IsPlanned r (Ok u) → t ≡ u
 planned_once r t u p q = chosen_once r r.size t u p.1 q.1
@@ -33,12 +37,13 @@ text_once command.Plan r s t h p q = p.2 ∙ ap (plan_text r) (planned_once r p.
 text_once command.Formula r s t h p q = p.2 ∙ ap (λ (tree : Breakdown). spelling (expansion r tree) ++ 10 ∷ []) (planned_once r p.0 q.0 p.1 q.1) ∙ sym q.2
 text_once command.Code r s t h p q = absurd (cc)
 text_once command.C r s t h p q = absurd (cc)
-text_once (command.Run schedule) r s t h p q = absurd p
-text_once (command.Trace schedule) r s t h p q = absurd p
+text_once (command.Run order) r s t h p q = absurd p
+text_once (command.Trace order) r s t h p q = absurd p
 text_once command.Cert r s t h p q =
     let one : IsTableText r s q.0 = subst (λ (rows : List Row). IsTableText r s rows) (table_once r p.0 q.0 p.1.table q.1.table) p.1 in
     one.spelled ∙ sym q.1.spelled
 text_once command.Check r s t h p q = absurd p
+text_once (command.Exec schedule) r s t h p q = absurd p
 text_once (command.Sample seed schedule) r s t h p q =
     p.2
     ∙ ap (λ (tree : Breakdown). sample_text (weighted_sum r.modulus (product r (sample_vector r.modulus r.size seed))) (cost_of r tree) (loads_of r tree) (stores_of r tree)) (planned_once r p.0 q.0 p.1 q.1)
@@ -46,8 +51,8 @@ text_once (command.Sample seed schedule) r s t h p q =
 
 data_text_once : (wanted : Command) (r : Request) (vectors : List (List ℕ)) (s t : List ℕ) → prints_one_text wanted ≡ true
     → IsTextOfData wanted r vectors s → IsTextOfData wanted r vectors t → s ≡ t
-data_text_once (command.Run schedule) r vectors s t h p q = p ∙ sym q
-data_text_once (command.Trace schedule) r vectors s t h p q = absurd (cc)
+data_text_once (command.Run order) r vectors s t h p q = p ∙ sym q
+data_text_once (command.Trace order) r vectors s t h p q = absurd (cc)
 data_text_once command.Plan r vectors s t h p q = absurd p
 data_text_once command.Formula r vectors s t h p q = absurd p
 data_text_once command.Code r vectors s t h p q = absurd p
@@ -55,6 +60,7 @@ data_text_once command.C r vectors s t h p q = absurd p
 data_text_once command.Cert r vectors s t h p q = absurd p
 data_text_once command.Check r vectors s t h p q = absurd p
 data_text_once (command.Sample seed schedule) r vectors s t h p q = absurd p
+data_text_once (command.Exec schedule) r vectors s t h p q = absurd p
 
 checked_text_once : (r : Request) (bytes : List ℕ) (a b : Status) (s t : List ℕ) → IsChecked r bytes a s → IsChecked r bytes b t → s ≡ t
 checked_text_once r bytes a b s t (inl p) (inl q) = p.2 ∙ sym q.2
@@ -76,19 +82,24 @@ settled_text_once wanted r room bytes a b s t h (inr (inr p)) (inr (inr q)) = ch
 
 -- the command of a job is the one that the words ask for
 job_asked : (words : List (List ℕ)) (bytes : List ℕ) (job : Job) → ordered words bytes (Ok job) → IsAsked words job.command
-job_asked words bytes job p =
-    let first = p.before in
-    let end = first.behind.behind.behind in
-    let pair : p.value ≡ (first.value, end.value) = done_same p.value (first.value, end.value) end.behind in
-    subst (λ (j : Job). IsAsked words j.command) (sym p.behind.1) (subst (λ (w : Command × Request). IsAsked words w.0) (sym pair) first.before)
+job_asked words bytes job p = subst (λ (j : Job). IsAsked words j.command) (sym p.behind.behind.1) p.before.0
 
-pub one_text : (words : List (List ℕ)) (bytes : List ℕ) (wanted : Command) (a b : Status) (s t : List ℕ) → IsAsked words wanted → prints_one_text wanted ≡ true
-    → IsOutcome words bytes a s → IsOutcome words bytes b t → s ≡ t
-one_text words bytes wanted a b s t asked h (inl p) (inl q) = p.1 ∙ sym q.1
-one_text words bytes wanted a b s t asked h (inl p) (inr q) = absurd (done_ended q.0 a (ordered_decided words bytes (Ok q.0) (Err a) q.1 p.0))
-one_text words bytes wanted a b s t asked h (inr p) (inl q) = absurd (done_ended p.0 b (ordered_decided words bytes (Ok p.0) (Err b) p.1 q.0))
-one_text words bytes wanted a b s t asked h (inr p) (inr q) =
+answer_text_once : (words : List (List ℕ)) (bytes : List ℕ) (wanted : Command) (a b : Status) (s t : List ℕ) → IsAsked words wanted → prints_one_text wanted ≡ true
+    → IsAnswerToRequest words bytes a s → IsAnswerToRequest words bytes b t → s ≡ t
+answer_text_once words bytes wanted a b s t asked h (inl p) (inl q) = p.1 ∙ sym q.1
+answer_text_once words bytes wanted a b s t asked h (inl p) (inr q) = absurd (done_ended q.0 a (ordered_decided words bytes (Ok q.0) (Err a) q.1 p.0))
+answer_text_once words bytes wanted a b s t asked h (inr p) (inl q) = absurd (done_ended p.0 b (ordered_decided words bytes (Ok p.0) (Err b) p.1 q.0))
+answer_text_once words bytes wanted a b s t asked h (inr p) (inr q) =
     let same : p.0 ≡ q.0 = done_same p.0 q.0 (ordered_decided words bytes (Ok p.0) (Ok q.0) p.1 q.1) in
     let own : wanted ≡ q.0.command = asked_once words wanted q.0.command asked (job_asked words bytes q.0 q.1) in
     settled_text_once q.0.command q.0.request (room_behind bytes) (data_of bytes) a b s t (subst (λ (k : Command). prints_one_text k ≡ true) own h)
     (subst (λ (job : Job). Settles job.command job.request (room_behind bytes) (data_of bytes) a s) same p.2) q.2
+
+pub one_text : (words : List (List ℕ)) (bytes : List ℕ) (wanted : Command) (a b : Status) (s t : List ℕ) → IsAsked words wanted → prints_one_text wanted ≡ true
+    → IsOutcome words bytes a s → IsOutcome words bytes b t → s ≡ t
+one_text words bytes wanted a b s t asked h (inl p) (inl q) = answer_text_once words bytes wanted a b s t asked h p q
+one_text words bytes wanted a b s t asked h (inl p) (inr q) = absurd (no_answer words q.0 bytes a s q.1 p)
+one_text words bytes wanted a b s t asked h (inr p) (inl q) = absurd (no_answer words p.0 bytes b t p.1 q)
+one_text words bytes wanted a b s t asked h (inr p) (inr q) =
+    let same : p.0 ≡ q.0 = schedule_asked_once words p.0 q.0 p.1 q.1 in
+    execution_text_once q.0 bytes a b s t (subst (λ (k : Plan). IsExecution k bytes a s) same p.2) q.2

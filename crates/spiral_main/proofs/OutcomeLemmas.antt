@@ -1,4 +1,4 @@
--- From the parts of a run to its whole account.
+-- What the commands for a request perform.
 use Rattle.std.proofs.Common.{◌≡◌, ◌≢◌, ◌<◌, ◌≤◌, ◌+◌, ◌-◌, ◌*◌, ◌/◌, ◌||◌, ℕ, zero, suc, true, false, List, [], ◌∷◌, ◌++◌, None, Some, Ok, Err, Result, IfSome, length, take, drop, refl, sym, ap, subst, ◌∙◌, arith, append_assoc, append-nil, length-append, inl, inr}
 use Rattle.std.proofs.Math.Nat.{div-mul-le_self}
 use Rattle.std.proofs.lemmas.List.{length-take-le, length-drop, length-map}
@@ -34,18 +34,20 @@ use Rattle.plan_cert.specs.declared.verdict.Verdict.TheVariants as verdict
 use Rattle.plan_cert.specs.Verdict.{IsVerdict}
 use Rattle.spiral_words.specs.declared.Command.{Command}
 use Rattle.spiral_words.specs.declared.Command.TheVariants as command
+use Rattle.spiral_words.specs.declared.Order.{Order}
 use Rattle.spiral_main.specs.declared.status.Status.{Status}
 use Rattle.spiral_main.specs.declared.status.Status.TheVariants.{Success, Usage, ReadFault, WriteFault, NoMemory}
 use Rattle.spiral_main.specs.declared.stream.StreamFault.{StreamFault}
 use Rattle.spiral_main.specs.declared.stream.StreamFault.TheVariants as stream
 use Rattle.spiral_main.specs.Checked.{certificate_limit, status_of_verdict, least_line, verdict_text}
-use Rattle.spiral_main.specs.Commands.{reads_certificate, has_text, AskForCommand}
+use Rattle.spiral_main.specs.Commands.{reads_certificate, first_stranger, has_text, AskForCommand}
 use Rattle.spiral_main.specs.Fault.{status_of_generate, status_of_rest, status_of_fault, status_of_stream}
 use Rattle.spiral_main.specs.Line.{data_of, is_line_end, HasEnded}
+use Rattle.spiral_main.specs.Orders.{traced_text}
 use Rattle.spiral_main.specs.Status.{IsDefined}
 use Rattle.spiral_main.specs.Stream.{group_vectors, vectors_of, texts, lines, run_text, data_answer, data_vectors, Reads, Streams, HasNoStranger}
 use Rattle.spiral_main.specs.Outcome.{IsRefused, IsShutOut, IsAffordable, IsAccepted, IsDeclined, requested, Job, IsOrder, product, IsProgramFor, IsTextOf, IsTextOfData, Settles, BreaksOff, ComesTo, room_behind, Accounts, Notes}
-use Rattle.spiral_main.proofs.LineLemmas.{line_there}
+use Rattle.spiral_main.proofs.DataLemmas.{RunsOver, runs_over}
 use Rattle.spiral_main.proofs.StreamLemmas.{vectors_few}
 use Rattle.spiral_main.specs.Steps.{IsRefusal, AsksBy, Asks, IsGoodCode, Ends, Performs, ToldPerforms, ToldAccounts}
 
@@ -73,22 +75,24 @@ plan_accepted command.Plan request other p = p
 plan_accepted command.Formula request other p = p
 plan_accepted command.Code request other p = p
 plan_accepted command.C request other p = p
-plan_accepted (command.Run schedule) request other p = p
-plan_accepted (command.Trace schedule) request other p = p
+plan_accepted (command.Run order) request other p = p
+plan_accepted (command.Trace order) request other p = p
 plan_accepted command.Cert request other p = p
 plan_accepted command.Check request other p = absurd (cc)
 plan_accepted (command.Sample seed schedule) request other p = p
+plan_accepted (command.Exec schedule) request other p = p
 
 pub plan_declined : (wanted : Command) (request : Request) (status : Status) → reads_certificate wanted ≡ false → IsRefused request status → IsDeclined wanted request status
 plan_declined command.Plan request status other p = p
 plan_declined command.Formula request status other p = p
 plan_declined command.Code request status other p = p
 plan_declined command.C request status other p = p
-plan_declined (command.Run schedule) request status other p = p
-plan_declined (command.Trace schedule) request status other p = p
+plan_declined (command.Run order) request status other p = p
+plan_declined (command.Trace order) request status other p = p
 plan_declined command.Cert request status other p = p
 plan_declined command.Check request status other p = absurd (cc)
 plan_declined (command.Sample seed schedule) request status other p = p
+plan_declined (command.Exec schedule) request status other p = p
 
 -- a command has a text of the request alone, or reads its input to its end
 pub text_alone : (wanted : Command) → has_text wanted ≡ true → reads_certificate wanted ≡ false
@@ -96,11 +100,12 @@ text_alone command.Plan h = refl
 text_alone command.Formula h = refl
 text_alone command.Code h = refl
 text_alone command.C h = refl
-text_alone (command.Run schedule) h = refl
-text_alone (command.Trace schedule) h = refl
+text_alone (command.Run order) h = refl
+text_alone (command.Trace order) h = refl
 text_alone command.Cert h = refl
 text_alone command.Check h = absurd (cc)
 text_alone (command.Sample seed schedule) h = refl
+text_alone (command.Exec schedule) h = refl
 
 -- a command that a refusal ends before its output
 pub performs_refused : (wanted : Command) (request : Request) (room : ℕ) (bytes : List ℕ) (left out : Option (List ℕ)) (status : Status)
@@ -148,17 +153,8 @@ lines_equal size modulus f h same some (suc count) ts fits =
     ap (λ y. line_of y ++ lines f (group_vectors size modulus count (drop size ts))) (same (residues modulus us) full (residues_below modulus us some))
     ∙ ap (λ l. line_of (h (residues modulus us)) ++ l) (lines_equal size modulus f h same some count (drop size ts) (omega arith))
 
-reads_vectors : (size modulus : ℕ) (old new : Fed) (read : List ℕ) (ended : Type 0) (vectors : List (List ℕ)) (result : Result (Unit {0}) StreamFault)
-    → Reads size modulus old new read ended vectors result → (ts : List (List ℕ)) × (vectors_of size modulus ts ≡ vectors)
-reads_vectors size modulus old new read ended vectors (Ok u) s = (tokens read, s.4)
-reads_vectors size modulus old new read ended vectors (Err (stream.Truncated have need)) s = (tokens read, s.6)
-reads_vectors size modulus old new read ended vectors (Err (stream.BadNumber token)) s = (s.1.0, s.1.2)
-reads_vectors size modulus old new read ended vectors (Err stream.TooLong) s = (tokens (closed_part s.0), s.3)
-reads_vectors size modulus old new read ended vectors (Err stream.ReadFault) s = (tokens (closed_part read), s.2)
-reads_vectors size modulus old new read ended vectors (Err stream.WriteFault) s = (tokens read, s.3)
-
 -- the machine's lines are those of the matrix
-good_lines : (request : Request) (code : Code) (turns : List ℕ) (vectors : List (List ℕ)) → IsGoodCode request code → 0 < request.modulus → All (λ q. q < request.procs) turns
+pub good_lines : (request : Request) (code : Code) (turns : List ℕ) (vectors : List (List ℕ)) → IsGoodCode request code → 0 < request.modulus → All (λ q. q < request.procs) turns
     → (ts : List (List ℕ)) × (vectors_of request.size request.modulus ts ≡ vectors) → lines (λ x. results code x turns) vectors ≡ lines (product request) vectors
 good_lines request code turns vectors good some there made =
     let apart = good.3.product in
@@ -174,70 +170,17 @@ good_lines request code turns vectors good some there made =
 abbrev pub IsTextFor : Command → Request → List ℕ → (List ℕ → List ℕ) → Type 0
 IsTextFor wanted request front text = (ts : List (List ℕ)) → IsTextOfData wanted request (vectors_of request.size request.modulus ts) (front ++ texts text (vectors_of request.size request.modulus ts))
 
--- the text is known by what the data call for
-stream_answer : (wanted : Command) (request : Request) (room : ℕ) (bytes text : List ℕ) (vectors : List (List ℕ)) (out out' : Option (List ℕ)) (result : Result (Unit {0}) StreamFault)
-    → IsAccepted wanted request → IsTextOfData wanted request vectors text
-    → data_answer request.size room bytes ≡ result → data_vectors request.size request.modulus room bytes ≡ vectors → Appends out out' text
-    → (text : List ℕ) × Ends wanted request room bytes (status_of_stream result) text × Appends out out' text
-stream_answer wanted request room bytes text vectors out out' result there told answer seen w = (
-  text,
-  inr (there, inl (ap status_of_stream (sym answer), subst (λ (v : List (List ℕ)). IsTextOfData wanted request v text) (sym seen) told)),
-  w,
-)
-
--- by each way in which it may end
-performed : {S : Type 0} (wanted : Command) (request : Request) (front : List ℕ) (text : List ℕ → List ℕ) (leaves : List ℕ → S) (old new : Fed) (bytes rest : List ℕ) (start out out' : Option (List ℕ)) (first last : S)
-    (result : Result (Unit {0}) StreamFault)
-    → IsAccepted wanted request → (s : Streams text leaves request.size request.modulus old new (Some bytes) (Some rest) out out' first last result)
-    → IsTextOfData wanted request s.vectors (front ++ texts text s.vectors) → Appends start out front → old.taken ≤ limit
-    → Performs wanted request (limit - old.taken) bytes (Some rest) start out' (status_of_stream result)
-performed wanted request front text leaves old new bytes rest start out out' first last (Ok u) there s told begun within = record {
-  answer = λ d. stream_answer wanted request _ bytes (front ++ texts text s.vectors) s.vectors start out' (Ok u) there told (s.told within).0 (s.told within).1 (Appends-trans start out out' front (texts text s.vectors) begun s.wrote);
-  read_fault = λ e. absurd (cc);
-  write_fault = λ e. absurd (cc);
-}
-performed wanted request front text leaves old new bytes rest start out out' first last (Err (stream.Truncated have need)) there s told begun within = record {
-  answer = λ d. stream_answer wanted request _ bytes (front ++ texts text s.vectors) s.vectors start out' (Err (stream.Truncated have need)) there told (s.told within).0 (s.told within).1 (Appends-trans start out out' front (texts text s.vectors) begun s.wrote);
-  read_fault = λ e. absurd (cc);
-  write_fault = λ e. absurd (cc);
-}
-performed wanted request front text leaves old new bytes rest start out out' first last (Err (stream.BadNumber token)) there s told begun within = record {
-  answer = λ d. stream_answer wanted request _ bytes (front ++ texts text s.vectors) s.vectors start out' (Err (stream.BadNumber token)) there told (s.told within).0 (s.told within).1 (Appends-trans start out out' front (texts text s.vectors) begun s.wrote);
-  read_fault = λ e. absurd (cc);
-  write_fault = λ e. absurd (cc);
-}
-performed wanted request front text leaves old new bytes rest start out out' first last (Err stream.TooLong) there s told begun within = record {
-  answer = λ d. stream_answer wanted request _ bytes (front ++ texts text s.vectors) s.vectors start out' (Err stream.TooLong) there told (s.told within).0 (s.told within).1 (Appends-trans start out out' front (texts text s.vectors) begun s.wrote);
-  read_fault = λ e. absurd (cc);
-  write_fault = λ e. absurd (cc);
-}
-performed wanted request front text leaves old new bytes rest start out out' first last (Err stream.ReadFault) there s told begun within = record {
-  answer = λ d. absurd (d.read refl);
-  read_fault = λ _. (
-    s.read,
-    front ++ texts text s.vectors,
-    s.consumed,
-    there,
-    inl (s.answer.1, subst (λ (v : List (List ℕ)). IsTextOfData wanted request v (front ++ texts text s.vectors)) (sym s.answer.2) told),
-    Appends-trans start out out' front (texts text s.vectors) begun s.wrote,
-  );
-  write_fault = λ e. absurd (cc);
-}
-performed wanted request front text leaves old new bytes rest start out out' first last (Err stream.WriteFault) there s told begun within = record {
-  answer = λ d. absurd (d.write refl);
-  read_fault = λ e. absurd (cc);
-  write_fault = λ _. (
-    s.read,
-    rest,
-    front ++ texts text s.vectors,
-    s.consumed,
-    there,
-    inl (s.answer.1, s.answer.2, subst (λ (v : List (List ℕ)). IsTextOfData wanted request v (front ++ texts text s.vectors)) (sym s.answer.3) told),
-    prefix_after start out out' front (texts text s.vectors) begun s.wrote,
-  );
+-- a run over the data is what the command for the request performs
+data_performed : (wanted : Command) (request : Request) (room : ℕ) (bytes : List ℕ) (left out out' : Option (List ℕ)) (status : Status)
+    → IsAccepted wanted request → RunsOver (IsTextOfData wanted request) request.size request.modulus room bytes left out out' status
+    → Performs wanted request room bytes left out out' status
+data_performed wanted request room bytes left out out' status there r = record {
+  answer = λ d. let found = r.answer d in (found.0, inr (there, inl (found.1, found.2)), found.3);
+  read_fault = λ e. let found = r.read_fault e in (found.0, found.1, found.2, there, inl (found.3, found.4), found.5);
+  write_fault = λ e. let found = r.write_fault e in (found.0, found.1, found.2, found.3, there, inl (found.4, found.5, found.6), found.7);
 }
 
-performs_stream : {S : Type 0} (wanted : Command) (request : Request) (front : List ℕ) (text : List ℕ → List ℕ) (leaves : List ℕ → S) (old new : Fed) (before after start out out' : Option (List ℕ)) (first last : S)
+pub performs_stream : {S : Type 0} (wanted : Command) (request : Request) (front : List ℕ) (text : List ℕ → List ℕ) (leaves : List ℕ → S) (old new : Fed) (before after start out out' : Option (List ℕ)) (first last : S)
     (result : Result (Unit {0}) StreamFault)
     → IsAccepted wanted request → IsTextFor wanted request front text → Appends start out front → old.taken ≤ limit
     → Streams text leaves request.size request.modulus old new before after out out' first last result
@@ -245,30 +188,28 @@ performs_stream : {S : Type 0} (wanted : Command) (request : Request) (front : L
 performs_stream wanted request front text leaves old new None after start out out' first last result there writes begun within s = tt
 performs_stream wanted request front text leaves old new (Some bytes) None start out out' first last result there writes begun within s = absurd s.consumed
 performs_stream wanted request front text leaves old new (Some bytes) (Some rest) start out out' first last result there writes begun within s =
-    let whole = front ++ texts text s.vectors in
-    let made = reads_vectors request.size request.modulus old new s.read (rest ≡ []) s.vectors result s.answer in
-    let told : IsTextOfData wanted request s.vectors whole = subst (λ (v : List (List ℕ)). IsTextOfData wanted request v (front ++ texts text v)) made.1 (writes made.0) in
-    performed wanted request front text leaves old new bytes rest start out out' first last result there s told begun within
+    data_performed wanted request (limit - old.taken) bytes (Some rest) start out' (status_of_stream result) there
+    (runs_over (IsTextOfData wanted request) request.size request.modulus front text leaves old new bytes rest start out out' first last result writes begun within s)
 
 -- the stream of a good program is one of the request
-stream_of_request : {S : Type 0} (request : Request) (code : Code) (text : List ℕ → List ℕ) (leaves : List ℕ → S) (old new : Fed) (before after out out' : Option (List ℕ)) (first last : S) (result : Result (Unit {0}) StreamFault)
+pub stream_of_request : {S : Type 0} (request : Request) (code : Code) (text : List ℕ → List ℕ) (leaves : List ℕ → S) (old new : Fed) (before after out out' : Option (List ℕ)) (first last : S) (result : Result (Unit {0}) StreamFault)
     → code.size ≡ request.size → code.modulus ≡ request.modulus
     → Streams text leaves code.size code.modulus old new before after out out' first last result → Streams text leaves request.size request.modulus old new before after out out' first last result
 stream_of_request request code text leaves old new before after out out' first last result size modulus s =
     subst (λ n. Streams text leaves request.size n old new before after out out' first last result) modulus
     (subst (λ n. Streams text leaves n code.modulus old new before after out out' first last result) size s)
 
-pub performs_run : (plan : Plan) (request : Request) (code : Code) (turns : List ℕ) (old new : Fed) (before after out out' : Option (List ℕ)) (first last : State) (result : Result (Unit {0}) StreamFault)
+pub performs_run : (order : Order) (request : Request) (code : Code) (turns : List ℕ) (old new : Fed) (before after out out' : Option (List ℕ)) (first last : State) (result : Result (Unit {0}) StreamFault)
     → IsGoodCode request code → IsInRange request → All (λ q. q < request.procs) turns → old.taken ≤ limit
     → Streams (run_text false code turns) (λ x. runs code x turns) code.size code.modulus old new before after out out' first last result
-    → ToldPerforms (command.Run plan) request (limit - old.taken) before after out out' (status_of_stream result)
-performs_run plan request code turns old new before after out out' first last result good in_range there within s =
+    → ToldPerforms (command.Run order) request (limit - old.taken) before after out out' (status_of_stream result)
+performs_run order request code turns old new before after out out' first last result good in_range there within s =
     let size : code.size ≡ request.size = ap (λ (k : Code). k.size) good.4 ∙ good.3.header.size in
     let modulus : code.modulus ≡ request.modulus = ap (λ (k : Code). k.modulus) good.4 ∙ good.3.header.modulus in
     let sized = stream_of_request request code (run_text false code turns) (λ x. runs code x turns) old new before after out out' first last result size modulus s in
-    let writes : IsTextFor (command.Run plan) request [] (run_text false code turns) =
+    let writes : IsTextFor (command.Run order) request [] (run_text false code turns) =
     λ ts. good_lines request code turns (vectors_of request.size request.modulus ts) good (omega (arith, in_range.modulus.0)) there (ts, refl) in
-    performs_stream (command.Run plan) request [] (run_text false code turns) (λ x. runs code x turns) old new before after out out out' first last result (good.0, good.2) writes (Appends-nil out) within sized
+    performs_stream (command.Run order) request [] (run_text false code turns) (λ x. runs code x turns) old new before after out out out' first last result (good.0, good.2) writes (Appends-nil out) within sized
 
 -- what a traced run stands on: the listing of a program for the request, and its code
 abbrev pub IsTraced : Request → List ℕ → Code → Type 0
@@ -280,35 +221,34 @@ traced_affordable request listing code made = (made.1.0, made.1.1)
 traced_procs : (request : Request) (listing : List ℕ) (code : Code) → IsTraced request listing code → code.procs ≡ request.procs
 traced_procs request listing code made = ap (λ (k : Code). k.procs) made.3 ∙ made.1.2.0.header.procs
 
-pub traced_stranger : (plan : Plan) (request : Request) (listing : List ℕ) (code : Code) → IsTraced request listing code → HasNoStranger plan request.procs → HasNoStranger plan code.procs
-traced_stranger plan request listing code made none = subst (HasNoStranger plan) (sym (traced_procs request listing code made)) none
+pub traced_stranger : (names : List ℕ) (request : Request) (listing : List ℕ) (code : Code) → IsTraced request listing code → first_stranger names request.procs ≡ None → first_stranger names code.procs ≡ None
+traced_stranger names request listing code made none = subst (λ p. first_stranger names p ≡ None) (sym (traced_procs request listing code made)) none
 
-traced_writes : (plan : Plan) (request : Request) (listing : List ℕ) (code : Code) → IsTraced request listing code
-    → IsTextFor (command.Trace plan) request listing (run_text true code (turns_of plan code.procs))
-traced_writes plan request listing code made ts =
+traced_writes : (order : Order) (request : Request) (listing : List ℕ) (code : Code) → IsTraced request listing code
+    → IsTextFor (command.Trace order) request listing (traced_text order code.procs code)
+traced_writes order request listing code made ts =
     let vectors = vectors_of request.size request.modulus ts in
-    let same : run_text true code (turns_of plan code.procs) ≡ run_text true (code_of made.0) (turns_of plan request.procs) =
-    ap (λ n. run_text true code (turns_of plan n)) (traced_procs request listing code made) ∙ ap (λ (k : Code). run_text true k (turns_of plan request.procs)) made.3 in
-    (made.0, made.1, ap (λ l. l ++ texts (run_text true code (turns_of plan code.procs)) vectors) made.2 ∙ ap (λ (f : List ℕ → List ℕ). listing_of (plain_program made.0) ++ texts f vectors) same)
+    let same : traced_text order code.procs code ≡ traced_text order request.procs (code_of made.0) =
+    ap (λ n. traced_text order n code) (traced_procs request listing code made) ∙ ap (λ (k : Code). traced_text order request.procs k) made.3 in
+    (made.0, made.1, ap (λ l. l ++ texts (traced_text order code.procs code) vectors) made.2 ∙ ap (λ (f : List ℕ → List ℕ). listing_of (plain_program made.0) ++ texts f vectors) same)
 
-pub performs_trace : (plan : Plan) (request : Request) (listing : List ℕ) (code : Code) (old new : Fed) (before after start out out' : Option (List ℕ)) (first last : State) (result : Result (Unit {0}) StreamFault)
+pub performs_trace : {S : Type 0} (order : Order) (request : Request) (listing : List ℕ) (code : Code) (leaves : List ℕ → S) (old new : Fed) (before after start out out' : Option (List ℕ)) (first last : S) (result : Result (Unit {0}) StreamFault)
     → IsTraced request listing code → Appends start out listing → old.taken ≤ limit
-    → Streams (run_text true code (turns_of plan code.procs)) (λ x. runs code x (turns_of plan code.procs)) code.size code.modulus old new before after out out' first last result
-    → ToldPerforms (command.Trace plan) request (limit - old.taken) before after start out' (status_of_stream result)
-performs_trace plan request listing code old new before after start out out' first last result made begun within s =
+    → Streams (traced_text order code.procs code) leaves code.size code.modulus old new before after out out' first last result
+    → ToldPerforms (command.Trace order) request (limit - old.taken) before after start out' (status_of_stream result)
+performs_trace order request listing code leaves old new before after start out out' first last result made begun within s =
     let size : code.size ≡ request.size = ap (λ (k : Code). k.size) made.3 ∙ made.1.2.0.header.size in
     let modulus : code.modulus ≡ request.modulus = ap (λ (k : Code). k.modulus) made.3 ∙ made.1.2.0.header.modulus in
-    let text = run_text true code (turns_of plan code.procs) in
-    let leaves : List ℕ → State = λ x. runs code x (turns_of plan code.procs) in
+    let text = traced_text order code.procs code in
     let sized = stream_of_request request code text leaves old new before after out out' first last result size modulus s in
-    performs_stream (command.Trace plan) request listing text leaves old new before after start out out' first last result (traced_affordable request listing code made) (traced_writes plan request listing code made) begun within sized
+    performs_stream (command.Trace order) request listing text leaves old new before after start out out' first last result (traced_affordable request listing code made) (traced_writes order request listing code made) begun within sized
 
 -- a trace whose listing is not written whole
-pub listing_cut : (plan : Plan) (request : Request) (listing : List ℕ) (code : Code) (room : ℕ) (before left out out' : Option (List ℕ))
-    → IsTraced request listing code → IsInRange request → AppendsPrefix out out' listing → ToldPerforms (command.Trace plan) request room before left out out' WriteFault
-listing_cut plan request listing code room None left out out' made in_range w = tt
-listing_cut plan request listing code room (Some bytes) left out out' made in_range w =
-    let text = run_text true code (turns_of plan code.procs) in
+pub listing_cut : (order : Order) (request : Request) (listing : List ℕ) (code : Code) (room : ℕ) (before left out out' : Option (List ℕ))
+    → IsTraced request listing code → IsInRange request → AppendsPrefix out out' listing → ToldPerforms (command.Trace order) request room before left out out' WriteFault
+listing_cut order request listing code room None left out out' made in_range w = tt
+listing_cut order request listing code room (Some bytes) left out out' made in_range w =
+    let text = traced_text order code.procs code in
     let none : vectors_of request.size request.modulus [] ≡ [] = vectors_few request.size request.modulus [] (omega (arith, in_range.size.0)) in
     let alone : listing ++ texts text (vectors_of request.size request.modulus []) ≡ listing = ap (λ (v : List (List ℕ)). listing ++ texts text v) none ∙ append-nil listing in
     record {
@@ -320,7 +260,7 @@ listing_cut plan request listing code room (Some bytes) left out out' made in_ra
         listing,
         refl,
         traced_affordable request listing code made,
-        inl (refl, inl refl, subst (IsTextOfData (command.Trace plan) request (vectors_of request.size request.modulus [])) alone (traced_writes plan request listing code made [])),
+        inl (refl, inl refl, subst (IsTextOfData (command.Trace order) request (vectors_of request.size request.modulus [])) alone (traced_writes order request listing code made [])),
         w,
       );
     }
@@ -486,143 +426,8 @@ fault_success stream.TooLong e = absurd (cc)
 fault_success stream.ReadFault e = absurd (cc)
 fault_success stream.WriteFault e = absurd (cc)
 
--- The whole account
-
-nothing_before : (xs ys : List ℕ) → xs ++ ys ≡ [] → xs ≡ []
-nothing_before [] ys e = refl
-nothing_before (x ∷ xs) ys e = absurd (cc)
-
-nothing_behind : (xs ys : List ℕ) → xs ++ ys ≡ [] → ys ≡ []
-nothing_behind [] ys e = e
-nothing_behind (x ∷ xs) ys e = absurd (cc)
-
--- of a source that has nothing left no bytes are read, and nothing is left then
-none_read : (rest read : List ℕ) (left : Option (List ℕ)) → Consumes (Some rest) left read → rest ≡ [] → read ≡ []
-none_read rest read None r e = absurd r
-none_read rest read (Some more) r e = nothing_before read more (sym r ∙ e)
-
-none_left : (rest read : List ℕ) (left : Option (List ℕ)) → Consumes (Some rest) left read → rest ≡ [] → IsAtEnd left
-none_left rest read None r e = absurd r
-none_left rest read (Some more) r e = nothing_behind read more (sym r ∙ e)
-
--- a line that has ended has ended behind further bytes too
-still_ended : (read more : List ℕ) (now later : Type 0) → HasEnded read now → (now → later) → HasEnded (read ++ more) later
-still_ended read more now later (inl there) goes = inl (list_any-append is_line_end read more ∙ ap (λ b. b || list_any is_line_end more) there)
-still_ended read more now later (inr e) goes = inr (goes e)
-
--- what a command does after the first line accounts for the whole run
-accounts_after : (words : List (List ℕ)) (bytes read rest : List ℕ) (taken : ℕ) (wanted : Command × Request) (left out out' : Option (List ℕ)) (status : Status)
-    → bytes ≡ read ++ rest → AsksBy words read rest taken (Ok wanted) → Performs wanted.0 wanted.1 (limit - taken) rest left out out' status → Accounts words bytes left out out' status
-accounts_after words bytes read rest taken wanted left out out' status whole asked p =
-    let here = asked.1 rest (λ e. e) in
-    let requested_here : requested words bytes (Ok wanted) = subst (λ b. requested words b (Ok wanted)) (sym whole) here.0 in
-    let data_here : data_of bytes ≡ rest = ap data_of whole ∙ here.1 in
-    let count : length bytes ≡ length read + length rest = ap length whole ∙ length-append read rest in
-    let same : length (data_of bytes) ≡ length rest = ap length data_here in
-    let room : limit - taken ≡ room_behind bytes = ap (λ n. limit - n) (let first = asked.0 in omega arith) in
-    let line : HasEnded read (rest ≡ []) = line_there read rest (λ more none. (asked.1 more none).1) in
-    let job : Job = record { command = wanted.0; request = wanted.1 } in
-    let order : (more : List ℕ) (ended : Type 0) → (rest ≡ [] → more ≡ []) → (rest ≡ [] → ended) → IsAccepted wanted.0 wanted.1 → IsOrder words (read ++ more) ended job =
-    λ more ended none goes there. record {
-      line = still_ended read more (rest ≡ []) ended line goes;
-      asks = record { value = wanted; before = (asked.1 more none).0; behind = (there, refl) };
-    } in
-    record {
-      answer = λ d.
-          let found = p.answer d in (
-            found.0,
-            (elim found.1 [
-              | inl refused ↦ inl (inr (record { value = wanted; before = requested_here; behind = refused.0 }), refused.1)
-              | inr settled ↦ inr (
-                job,
-                record { value = wanted; before = requested_here; behind = (settled.0, refl) },
-                subst (λ n. Settles wanted.0 wanted.1 n (data_of bytes) status found.0) room
-                    (subst (λ b. Settles wanted.0 wanted.1 (limit - taken) b status found.0) (sym data_here) settled.1),
-              )
-            ]),
-            found.2,
-          );
-      read_fault = λ e.
-          let found = p.read_fault e in
-          let none : rest ≡ [] → found.0 ≡ [] = none_read rest found.0 left found.2 in (
-            read ++ found.0,
-            found.1,
-            Consumes-trans (Some bytes) (Some rest) left read found.0 whole found.2,
-            inr (
-              job,
-              order found.0 (IsAtEnd left) none (none_left rest found.0 left found.2) found.3,
-              subst (λ b. BreaksOff wanted.0 wanted.1 b found.1) (sym (asked.1 found.0 none).1) found.4,
-            ),
-            found.5,
-          );
-      write_fault = λ e.
-          let found = p.write_fault e in
-          let none : rest ≡ [] → found.0 ≡ [] = λ end. nothing_before found.0 found.1 (sym found.3 ∙ end) in (
-            read ++ found.0,
-            found.1,
-            found.2,
-            whole ∙ ap (λ l. read ++ l) found.3 ∙ sym (append_assoc read found.0 found.1),
-            (
-              job,
-              order found.0 (found.1 ≡ []) none (λ end. nothing_behind found.0 found.1 (sym found.3 ∙ end)) found.4,
-              subst (λ b. ComesTo wanted.0 wanted.1 b found.1 found.2) (sym (asked.1 found.0 none).1) found.5,
-            ),
-            found.6,
-          );
-    }
-
-pub accounted : (words : List (List ℕ)) (before mid left : Option (List ℕ)) (taken : ℕ) (wanted : Command × Request) (out out' : Option (List ℕ)) (status : Status)
-    → Asks words before mid taken (Ok wanted) → ToldPerforms wanted.0 wanted.1 (limit - taken) mid left out out' status → ToldAccounts words before left out out' status
-accounted words None mid left taken wanted out out' status a p = tt
-accounted words (Some bytes) None left taken wanted out out' status a p = absurd a
-accounted words (Some bytes) (Some rest) left taken wanted out out' status a p = accounts_after words bytes a.0 rest taken wanted left out out' status a.1 a.2 p
-
-pub prepend_nothing : (left : Option (List ℕ)) → prepend_known [] left ≡ left
-prepend_nothing None = refl
-prepend_nothing (Some bytes) = refl
-
--- what is left for a feed that holds nothing is left in the source
-pub nothing_held : (feed : Fed) (left : Option (List ℕ)) → feed.held ≡ [] → to_come feed left ≡ left
-nothing_held feed left e = ap (λ h. prepend_known h left) e ∙ prepend_nothing left
-
--- where a read failed, the feed holds nothing
-pub told_by_source : (wanted : Command) (request : Request) (room : ℕ) (before : Option (List ℕ)) (feed : Fed) (left out out' : Option (List ℕ)) (status : Status)
-    → (status ≡ ReadFault → feed.held ≡ []) → ToldPerforms wanted request room before (to_come feed left) out out' status → ToldPerforms wanted request room before left out out' status
-told_by_source wanted request room None feed left out out' status empty p = tt
-told_by_source wanted request room (Some bytes) feed left out out' status empty p = record {
-  answer = p.answer;
-  read_fault = λ e. (subst (λ (o : Option (List ℕ)). Performs wanted request room bytes o out out' status) (nothing_held feed left (empty e)) p).read_fault e;
-  write_fault = p.write_fault;
-}
-
--- a run that ends with the first line
-pub accounted_early : (words : List (List ℕ)) (before after left : Option (List ℕ)) (taken : ℕ) (out : Option (List ℕ)) (status : Status)
-    → Asks words before after taken (Err status) → status ≢ WriteFault → (status ≡ ReadFault → AskForCommand words) → (status ≡ ReadFault → after ≡ left) → ToldAccounts words before left out out status
-accounted_early words None after left taken out status a w c same = tt
-accounted_early words (Some bytes) None left taken out status a w c same = absurd a
-accounted_early words (Some bytes) (Some rest) left taken out status a w c same = record {
-  answer = λ d. ([], inl (inl (subst (λ b. requested words b (Err status)) (sym a.1) (a.2.0 d)), refl), Appends-nil out);
-  read_fault = λ e. (a.0, [], subst (λ (o : Option (List ℕ)). Consumes (Some bytes) o a.0) (same e) a.1, inl (c e, a.2.1 e, refl), Appends-nil out);
-  write_fault = λ e. absurd (w e);
-}
-
--- a run that has no memory for its first line
-pub accounted_nothing : (words : List (List ℕ)) (before left out : Option (List ℕ)) → ToldAccounts words before left out out NoMemory
-accounted_nothing words None left out = tt
-accounted_nothing words (Some bytes) left out = record { answer = λ d. absurd (d.memory refl); read_fault = λ e. absurd (cc); write_fault = λ e. absurd (cc) }
-
 -- the performance of a command that needs no data
 pub told_any : (wanted : Command) (request : Request) (room : ℕ) (before left out out' : Option (List ℕ)) (status : Status)
     → ((room : ℕ) (bytes : List ℕ) (left : Option (List ℕ)) → Performs wanted request room bytes left out out' status) → ToldPerforms wanted request room before left out out' status
 told_any wanted request room None left out out' status p = tt
 told_any wanted request room (Some bytes) left out out' status p = p room bytes left
-
-pub accounts_told : (words : List (List ℕ)) (before left out out' : Option (List ℕ)) (status : Status) → ToldAccounts words before left out out' status → IfSome before (λ bytes. Accounts words bytes left out out' status)
-accounts_told words None left out out' status a = tt
-accounts_told words (Some bytes) left out out' status a = a
-
--- what a write of the line leaves, whatever it answers
-pub noted : {T E : Type 0} (result : Result T E) (old new : Option (List ℕ)) (before now : ℕ) (line : List ℕ)
-    → WritesAll old new result line → HasCause before now result → Notes old new before now line
-noted (Ok x) old new before now line w h = inl w
-noted (Err e) old new before now line w h = inr (h.err, w)

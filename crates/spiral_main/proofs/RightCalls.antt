@@ -4,25 +4,31 @@ use Rattle.std.specs.declared.option.Option.{Option}
 use Rattle.matrix_meaning.specs.declared.Request.{Request}
 use Rattle.plan_cert.proofs.OneVerdict.{one_verdict}
 use Rattle.plan_cert.specs.declared.verdict.Verdict.TheVariants.{Least}
+use Rattle.icode.specs.Plain.{PlainProgram}
+use Rattle.input_rest.specs.Part.{second_part}
+use Rattle.request_text.specs.Schedule.{Plan}
 use Rattle.spiral_words.specs.declared.Command.{Command}
 use Rattle.spiral_words.specs.declared.Command.TheVariants as command
 use Rattle.spiral_main.specs.declared.status.Status.{Status}
-use Rattle.spiral_main.specs.declared.status.Status.TheVariants.{Success, Usage, Syntax, Range, Shape, LanesLine, Turn, NoDivide, OverBudget, BadNumber, Truncated, ReadFault, WriteFault, NoMemory, TooLong, Unread, Wrong}
+use Rattle.spiral_main.specs.declared.status.Status.TheVariants.{Success, Usage, Syntax, Range, Shape, LanesLine, Turn, NoDivide, OverBudget, BadNumber, Truncated, ReadFault, WriteFault, NoMemory, TooLong, Unread, Wrong, ListingSyntax, Address, Register, LineShared, OverSteps}
 use Rattle.spiral_main.specs.declared.status.Status.TheVariants as status
 use Rattle.spiral_main.specs.Checked.{IsChecked, status_of_verdict}
 use Rattle.spiral_main.specs.Commands.{reads_certificate}
 use Rattle.spiral_main.specs.Fault.{status_of_stream}
 use Rattle.spiral_main.specs.Line.{data_of}
-use Rattle.spiral_main.specs.Outcome.{Job, IsTextOfData, Settles, IsOutcome, room_behind, Accounts}
-use Rattle.spiral_main.specs.Right.{IsRightRest, IsRightCall, Succeeds}
+use Rattle.spiral_main.specs.Listed.{runnable, room_behind_listing, IsAnswerOfProgram, IsExecution}
+use Rattle.spiral_main.specs.Outcome.{Job, IsTextOfData, Settles, IsAnswerToRequest, IsOutcome, room_behind, Accounts}
+use Rattle.spiral_main.specs.Right.{AreWholeVectors, IsRightRest, IsRightRequest, IsRightCall, Succeeds}
 use Rattle.spiral_main.specs.Stream.{data_answer}
-use Rattle.spiral_main.proofs.OneOutcome.{done_same, done_ended, ordered_decided}
+use Rattle.spiral_main.proofs.OneExecution.{runnable_decided}
+use Rattle.spiral_main.proofs.OneOutcome.{ordered_decided, no_order, no_answer, schedule_asked_once}
+use Rattle.spiral_main.proofs.Stages.{done_same, done_ended}
 use Rattle.spiral_main.proofs.StreamLemmas.{right_answer}
 
 data_right : (wanted : Command) (r : Request) (room : ℕ) (bytes : List ℕ) (vectors : List (List ℕ)) (text : List ℕ) → IsRightRest wanted r room bytes → IsTextOfData wanted r vectors text
     → data_answer r.size room bytes ≡ Ok tt
-data_right (command.Run schedule) r room bytes vectors text right p = right_answer r.size room bytes right.few right.good right.whole
-data_right (command.Trace schedule) r room bytes vectors text right p = right_answer r.size room bytes right.few right.good right.whole
+data_right (command.Run order) r room bytes vectors text right p = right_answer r.size room bytes right.few right.good right.whole
+data_right (command.Trace order) r room bytes vectors text right p = right_answer r.size room bytes right.few right.good right.whole
 data_right command.Plan r room bytes vectors text right p = absurd p
 data_right command.Formula r room bytes vectors text right p = absurd p
 data_right command.Code r room bytes vectors text right p = absurd p
@@ -30,30 +36,49 @@ data_right command.C r room bytes vectors text right p = absurd p
 data_right command.Cert r room bytes vectors text right p = absurd p
 data_right command.Check r room bytes vectors text right p = absurd p
 data_right (command.Sample seed schedule) r room bytes vectors text right p = absurd p
+data_right (command.Exec schedule) r room bytes vectors text right p = absurd p
 
 check_right : (wanted : Command) (r : Request) (room : ℕ) (bytes : List ℕ) (s : Status) (text : List ℕ) → IsRightRest wanted r room bytes → reads_certificate wanted ≡ true → IsChecked r bytes s text → s ≡ Success
 check_right command.Check r room bytes s text right h (inl p) = absurd (omega (arith, p.0, right.few))
 check_right command.Check r room bytes s text right h (inr p) = p.1.2 ∙ ap status_of_verdict (one_verdict r bytes p.1.0 (Least right.cost) p.1.1 right.judged)
-check_right (command.Run schedule) r room bytes s text right h p = absurd (cc)
-check_right (command.Trace schedule) r room bytes s text right h p = absurd (cc)
+check_right (command.Run order) r room bytes s text right h p = absurd (cc)
+check_right (command.Trace order) r room bytes s text right h p = absurd (cc)
 check_right command.Plan r room bytes s text right h p = absurd (cc)
 check_right command.Formula r room bytes s text right h p = absurd (cc)
 check_right command.Code r room bytes s text right h p = absurd (cc)
 check_right command.C r room bytes s text right h p = absurd (cc)
 check_right command.Cert r room bytes s text right h p = absurd (cc)
 check_right (command.Sample seed schedule) r room bytes s text right h p = absurd (cc)
+check_right (command.Exec schedule) r room bytes s text right h p = absurd (cc)
 
 settled_right : (wanted : Command) (r : Request) (room : ℕ) (bytes : List ℕ) (s : Status) (text : List ℕ) → IsRightRest wanted r room bytes → Settles wanted r room bytes s text → s ≡ Success
 settled_right wanted r room bytes s text right (inl p) = p.0 ∙ ap status_of_stream (data_right wanted r room bytes _ text right p.1)
 settled_right wanted r room bytes s text right (inr (inl p)) = p.0
 settled_right wanted r room bytes s text right (inr (inr p)) = check_right wanted r room bytes s text right p.0 p.1
 
-right_success : (words : List (List ℕ)) (bytes : List ℕ) (s : Status) (text : List ℕ) → IsRightCall words bytes → IsOutcome words bytes s text → s ≡ Success
-right_success words bytes s text right (inl p) = absurd (done_ended right.job s (ordered_decided words bytes (Ok right.job) (Err s) right.asks p.0))
-right_success words bytes s text right (inr p) =
+answer_success : (words : List (List ℕ)) (bytes : List ℕ) (s : Status) (text : List ℕ) → IsRightRequest words bytes → IsAnswerToRequest words bytes s text → s ≡ Success
+answer_success words bytes s text right (inl p) = absurd (done_ended right.job s (ordered_decided words bytes (Ok right.job) (Err s) right.asks p.0))
+answer_success words bytes s text right (inr p) =
     let same : p.0 ≡ right.job = done_same p.0 right.job (ordered_decided words bytes (Ok p.0) (Ok right.job) p.1 right.asks) in
     settled_right right.job.command right.job.request (room_behind bytes) (data_of bytes) s text right.rest
     (subst (λ (job : Job). Settles job.command job.request (room_behind bytes) (data_of bytes) s text) same p.2)
+
+execution_success : (schedule : Plan) (bytes : List ℕ) (program : PlainProgram) (s : Status) (text : List ℕ) → runnable schedule bytes (Ok program)
+    → AreWholeVectors program.size (room_behind_listing bytes) (second_part bytes) → IsExecution schedule bytes s text → s ≡ Success
+execution_success schedule bytes program s text runs right (inl p) = absurd (done_ended program s (runnable_decided schedule bytes (Ok program) (Err s) runs p.0))
+execution_success schedule bytes program s text runs right (inr p) =
+    let same : p.0 ≡ program = done_same p.0 program (runnable_decided schedule bytes (Ok p.0) (Ok program) p.1 runs) in
+    let answer : IsAnswerOfProgram program (room_behind_listing bytes) (second_part bytes) s text =
+    subst (λ (q : PlainProgram). IsAnswerOfProgram q (room_behind_listing bytes) (second_part bytes) s text) same p.2 in
+    answer.0 ∙ ap status_of_stream (right_answer program.size (room_behind_listing bytes) (second_part bytes) right.few right.good right.whole)
+
+right_success : (words : List (List ℕ)) (bytes : List ℕ) (s : Status) (text : List ℕ) → IsRightCall words bytes → IsOutcome words bytes s text → s ≡ Success
+right_success words bytes s text (inl right) (inl p) = answer_success words bytes s text right p
+right_success words bytes s text (inl right) (inr p) = absurd (no_order words p.0 bytes (Ok right.job) p.1 right.asks)
+right_success words bytes s text (inr right) (inl p) = absurd (no_answer words right.schedule bytes s text right.asked p)
+right_success words bytes s text (inr right) (inr p) =
+    let same : p.0 ≡ right.schedule = schedule_asked_once words p.0 right.schedule p.1 right.asked in
+    execution_success right.schedule bytes right.program s text right.runs right.rest (subst (λ (k : Plan). IsExecution k bytes s text) same p.2)
 
 memory_or : (s : Status) → (s ≡ NoMemory) ⊎ (s ≢ NoMemory)
 memory_or NoMemory = inl refl
@@ -74,6 +99,11 @@ memory_or WriteFault = inr (λ e. cc)
 memory_or (TooLong limit) = inr (λ e. cc)
 memory_or Unread = inr (λ e. cc)
 memory_or (Wrong size given found) = inr (λ e. cc)
+memory_or (ListingSyntax line) = inr (λ e. cc)
+memory_or (Address phase proc action) = inr (λ e. cc)
+memory_or (Register phase proc action) = inr (λ e. cc)
+memory_or (LineShared phase line a b) = inr (λ e. cc)
+memory_or (OverSteps limit) = inr (λ e. cc)
 
 pub right_calls : (words : List (List ℕ)) (bytes : List ℕ) (left before after : Option (List ℕ)) (s : Status) → IsRightCall words bytes → Accounts words bytes left before after s
     → s ≢ ReadFault → s ≢ WriteFault → (s ≡ NoMemory) ⊎ Succeeds words bytes before after s

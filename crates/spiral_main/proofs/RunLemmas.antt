@@ -1,4 +1,4 @@
--- The ends of an input, the turns of a run, and the parts of a note.
+-- The ends of an input, and the turns of a run.
 use Rattle.std.proofs.Common.{◌≡◌, ◌<◌, ℕ, subst, arith, All, List, [], ◌∷◌, ◌++◌, None, Some, sym, ap, ◌∙◌, append_assoc, append-nil}
 use Rattle.std.proofs.lemmas.List.Elements.{All-from_get_or}
 use Rattle.std.specs.List.{concat}
@@ -19,16 +19,8 @@ left_ended held None h = tt
 left_ended [] (Some bytes) h = h
 left_ended (x ∷ xs) (Some bytes) h = absurd (cc)
 
--- five texts as three, and then two
-pub five_parts : (a b c d e : List ℕ) → concat (a ∷ b ∷ c ∷ d ∷ e ∷ []) ≡ concat (a ∷ b ∷ c ∷ []) ++ concat ([] ∷ d ∷ e ∷ [])
-five_parts a b c d e =
-    let rest = concat (d ∷ e ∷ []) in
-    ap (λ l. a ++ (b ++ (l ++ rest))) (sym (append-nil c))
-    ∙ ap (λ l. a ++ l) (sym (append_assoc b (c ++ []) rest))
-    ∙ sym (append_assoc a (b ++ (c ++ [])) rest)
-
 -- a good program has the request's processors
-good_procs : (request : Request) (code : Code) → IsGoodCode request code → code.procs ≡ request.procs
+pub good_procs : (request : Request) (code : Code) → IsGoodCode request code → code.procs ≡ request.procs
 good_procs request code good = ap (λ (k : Code). k.procs) good.4 ∙ good.3.header.procs
 
 -- the turns of a schedule are of these processors

@@ -1,21 +1,28 @@
 -- The commands that the words ask for, and what they read.
-use Rattle.std.specs.Prelude.{◌≡◌, ◌≢◌, ◌⊎◌, ℕ, ◌||◌, Bool, true, false, List, None, Some, Ok, Err, Result, find, nat_le}
+use Rattle.std.specs.Prelude.{◌≡◌, ◌≢◌, ◌⊎◌, ℕ, ◌||◌, Bool, true, false, List, [], None, Some, Ok, Err, Result, find, nat_le}
 use Rattle.std.specs.declared.option.Option.{Option}
 use Rattle.matrix_meaning.specs.declared.Request.{Request}
-use Rattle.request_text.specs.Schedule.{Plan as Turns, Sequential}
+use Rattle.request_text.specs.Schedule.{Plan as Turns}
 use Rattle.request_text.specs.Turns.{named}
 use Rattle.spiral_words.specs.Asked.{IsAsked, IsUsage}
 use Rattle.spiral_words.specs.declared.Command.{Command}
-use Rattle.spiral_words.specs.declared.Command.TheVariants.{Plan, Formula, Cert, Check, Code, C, Run, Trace, Sample}
+use Rattle.spiral_words.specs.declared.Command.TheVariants.{Plan, Formula, Cert, Check, Code, C, Run, Trace, Sample, Exec}
+use Rattle.spiral_main.specs.Orders.{procs_of}
 use Rattle.spiral_main.specs.Stage.{Stage}
 use Rattle.spiral_main.specs.declared.status.Status.{Status}
 use Rattle.spiral_main.specs.declared.status.Status.TheVariants.{Usage, Turn, NoMemory}
 
 -- the commands that go over the data
 abbrev pub reads_data : Command → Bool
-reads_data (Run schedule) = true
-reads_data (Trace schedule) = true
+reads_data (Run order) = true
+reads_data (Trace order) = true
+reads_data (Exec schedule) = true
 reads_data _ = false
+
+-- the commands that go by a request, which the first line of the input spells
+abbrev pub takes_request : Command → Bool
+takes_request (Exec schedule) = false
+takes_request _ = true
 
 -- the command that judges a certificate
 abbrev pub reads_certificate : Command → Bool
@@ -40,17 +47,21 @@ has_text _ = false
 abbrev pub prints_one_text : Command → Bool
 prints_one_text Code = false
 prints_one_text C = false
-prints_one_text (Trace schedule) = false
+prints_one_text (Trace order) = false
 prints_one_text _ = true
 
--- the command that the words ask for
+-- the command that the words ask for, if it goes by a request
 abbrev pub commanded : List (List ℕ) → Stage Command
-commanded words (Ok command) = IsAsked words command
+commanded words (Ok command) = IsAsked words command × (takes_request command ≡ true)
 commanded words (Err status) = (status ≡ Usage) × IsUsage words
 
 -- the words ask for a command
 abbrev pub AskForCommand : List (List ℕ) → Type 0
 AskForCommand words = (command : Command) × IsAsked words command
+
+-- the words ask for a command that goes by a request
+abbrev pub AskForRequest : List (List ℕ) → Type 0
+AskForRequest words = (command : Command) × commanded words (Ok command)
 
 -- The words are judged first and alone: they are no command line, and the status is Usage, or they ask for a command, and it is another; or memory runs out
 abbrev pub AreJudged : List (List ℕ) → Status → Type 0
@@ -60,21 +71,30 @@ AreJudged words status = (status ≡ NoMemory) ⊎ (((status ≡ Usage) × IsUsa
 abbrev pub AskForRest : List (List ℕ) → Type 0
 AskForRest words = (command : Command) × IsAsked words command × (reads_rest command ≡ true)
 
--- the schedule that a command takes
-abbrev pub schedule_of : Command → Turns
-schedule_of (Run schedule) = schedule
-schedule_of (Trace schedule) = schedule
-schedule_of (Sample seed schedule) = schedule
-schedule_of _ = Sequential
+-- the processors that the words of a command name
+abbrev pub procs_named : Command → List ℕ
+procs_named (Run order) = procs_of order
+procs_named (Trace order) = procs_of order
+procs_named (Sample seed schedule) = named schedule
+procs_named (Exec schedule) = named schedule
+procs_named _ = []
 
--- the first turn that the schedule names of a processor that is not there
+-- the first of them that is not there
+abbrev pub first_stranger : List ℕ → ℕ → Option ℕ
+first_stranger procs_named procs = find (λ q. nat_le procs q) procs_named
+
 abbrev pub stranger : Turns → ℕ → Option ℕ
-stranger schedule procs = find (λ q. nat_le procs q) (named schedule)
+stranger schedule procs = first_stranger (named schedule) procs
 
-abbrev pub admitted : Option ℕ → Request → Result Request Status
-admitted None request = Ok request
-admitted (Some q) request = Err (Turn q request.procs)
+-- each processor that the command names is one of so many
+abbrev pub NamesNoStranger : Command → ℕ → Type 0
+NamesNoStranger command procs = first_stranger (procs_named command) procs ≡ None
 
--- the request, if each turn is of one of its processors
+-- what goes on, if there is no stranger to so many processors
+abbrev pub admitted : {A : Type 0} → Option ℕ → ℕ → A → Result A Status
+admitted None procs value = Ok value
+admitted (Some q) procs value = Err (Turn q procs)
+
+-- the request, if each turn and drain is of one of its processors
 abbrev pub scheduled : Command → Request → Result Request Status
-scheduled command request = admitted (stranger (schedule_of command) request.procs) request
+scheduled command request = admitted (first_stranger (procs_named command) request.procs) request.procs request

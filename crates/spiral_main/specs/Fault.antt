@@ -6,12 +6,16 @@ use Rattle.input_rest.specs.declared.RestFault.{RestFault}
 use Rattle.input_rest.specs.declared.RestFault.TheVariants as rest
 use Rattle.request_text.specs.declared.RequestFault.{RequestFault}
 use Rattle.request_text.specs.declared.RequestFault.TheVariants as request
+use Rattle.listing_text.specs.declared.listing.ListingFault.{ListingFault}
+use Rattle.listing_text.specs.declared.listing.ListingFault.TheVariants as listing
+use Rattle.code_check.specs.declared.fault.CheckFault.{CheckFault}
+use Rattle.code_check.specs.declared.fault.CheckFault.TheVariants as check
 use Rattle.generate.specs.declared.GenerateFault.{GenerateFault}
 use Rattle.generate.specs.declared.GenerateFault.TheVariants as generate
 use Rattle.spiral_main.specs.declared.stream.StreamFault.{StreamFault}
 use Rattle.spiral_main.specs.declared.stream.StreamFault.TheVariants as stream
 use Rattle.spiral_main.specs.declared.status.Status.{Status}
-use Rattle.spiral_main.specs.declared.status.Status.TheVariants.{Success, Syntax, Range, Shape, LanesLine, Root, NoDivide, OverBudget, BadNumber, Truncated, ReadFault, WriteFault, NoMemory, TooLong}
+use Rattle.spiral_main.specs.declared.status.Status.TheVariants.{Success, Syntax, Range, Shape, LanesLine, Root, NoDivide, OverBudget, BadNumber, Truncated, ReadFault, WriteFault, NoMemory, TooLong, ListingSyntax, Address, Register, LineShared, OverSteps}
 
 -- of the first line
 abbrev pub status_of_line : FeedFault → Status
@@ -42,6 +46,23 @@ status_of_fault (stream.Truncated have need) = Truncated have need
 status_of_fault stream.TooLong = TooLong (2 ^ 30)
 status_of_fault stream.ReadFault = ReadFault
 status_of_fault stream.WriteFault = WriteFault
+
+abbrev pub status_of_listing : ListingFault → Status
+status_of_listing (listing.Syntax line) = ListingSyntax line
+status_of_listing listing.NoMemory = NoMemory
+
+abbrev pub status_of_check : CheckFault → Status
+status_of_check (check.OverSteps limit) = OverSteps limit
+status_of_check (check.Address phase proc action) = Address phase proc action
+status_of_check (check.Register phase proc action) = Register phase proc action
+status_of_check (check.LineShared phase line a b) = LineShared phase line a b
+status_of_check check.NoMemory = NoMemory
+
+-- of the part of the input that is a listing
+abbrev pub status_of_part : RestFault → Status
+status_of_part rest.ReadFault = ReadFault
+status_of_part rest.TooLong = TooLong 1048576
+status_of_part rest.NoMemory = NoMemory
 
 -- of a run over the data
 abbrev pub status_of_stream : Result (Unit {0}) StreamFault → Status

@@ -2,6 +2,7 @@ pub mod Checked
 pub mod Commands
 pub mod Fault
 pub mod Line
+pub mod Listed
 pub mod Outcome
 pub mod Right
 pub mod Sample
@@ -9,4 +10,6 @@ pub mod Stage
 pub mod Status
 pub mod Steps
 pub mod Stream
+pub mod BufferedText
+pub mod Orders
 pub mod StreamFault

@@ -13,7 +13,6 @@ use Rattle.generate.specs.Good.{IsGood, IsLean}
 use Rattle.generate.specs.Planned.{IsPlanned, IsAdmitted, IsBarred}
 use Rattle.icode.specs.Program.{plain_program, code_of}
 use Rattle.request_text.specs.Schedule.{Plan as Turns}
-use Rattle.request_text.specs.Turns.{turns_of}
 use Rattle.tree_model.specs.Breakdown.{Breakdown}
 use Rattle.tree_model.specs.Cost.{cost_of}
 use Rattle.tree_model.specs.Passes.{loads_of, stores_of}
@@ -28,18 +27,22 @@ use Rattle.io_edge.specs.Faults.{Rose}
 use Rattle.io_edge.specs.Feed.{limit}
 use Rattle.io_edge.specs.Taken.{AppendsPrefix}
 use Rattle.data_stream.specs.Data.{tokens, closed_part, is_good}
+use Rattle.spiral_words.specs.Asked.{IsAsked}
 use Rattle.spiral_words.specs.declared.Command.{Command}
+use Rattle.spiral_words.specs.declared.Order.{Order}
 use Rattle.spiral_words.specs.declared.Command.TheVariants as command
 use Rattle.spiral_main.specs.declared.status.Status.{Status}
 use Rattle.spiral_main.specs.declared.status.Status.TheVariants.{Success, ReadFault, WriteFault}
 use Rattle.spiral_main.specs.Checked.{certificate_limit, IsJudged, IsChecked}
-use Rattle.spiral_main.specs.Commands.{reads_certificate, commanded, AskForCommand, scheduled}
+use Rattle.spiral_main.specs.Commands.{reads_certificate, commanded, AskForRequest, scheduled}
 use Rattle.spiral_main.specs.Fault.{status_of_request, status_of_generate, status_of_stream}
 use Rattle.spiral_main.specs.Line.{line_of, data_of, IsPartOfLine, HasEnded}
+use Rattle.spiral_main.specs.Listed.{IsExecution, IsBrokenExecution, IsCutExecution}
+use Rattle.spiral_main.specs.Orders.{traced_text}
 use Rattle.spiral_main.specs.Sample.{sample_vector, weighted_sum, sample_text}
 use Rattle.spiral_main.specs.Stage.{Stage, given, ◌>>=◌}
 use Rattle.spiral_main.specs.Status.{IsDefined}
-use Rattle.spiral_main.specs.Stream.{texts, lines, run_text, vectors_of, data_answer, data_vectors}
+use Rattle.spiral_main.specs.Stream.{texts, lines, vectors_of, data_answer, data_vectors}
 
 -- The stages
 
@@ -70,14 +73,12 @@ abbrev pub IsDeclined : Command → Request → Status → Type 0
 IsDeclined command.Check request status = IsShutOut request status
 IsDeclined _ request status = IsRefused request status
 
--- the command and the request
-abbrev pub requested : List (List ℕ) → List ℕ → Stage (Command × Request)
-requested words bytes = do
-  command ← commanded words
+-- the request for the command, of which each turn is of one of its processors
+abbrev pub requested : Command → List ℕ → Stage Request
+requested command bytes = do
   line ← given (line_of bytes)
   request ← spelt line
-  served ← given (scheduled command request)
-  given (Ok (command, served))
+  given (scheduled command request)
 
 -- what is to be done
 pub record Job : Type 0 where
@@ -90,8 +91,9 @@ accepted wanted request (Err status) = IsDeclined wanted request status
 
 abbrev pub ordered : List (List ℕ) → List ℕ → Stage Job
 ordered words bytes = do
-  wanted ← requested words bytes
-  accepted wanted.0 wanted.1
+  command ← commanded words
+  request ← requested command bytes
+  accepted command request
 
 -- What is written
 
@@ -142,15 +144,15 @@ IsTextOf command.C request text = IsCText request text
 IsTextOf (command.Sample seed schedule) request text = IsSampleText request seed text
 IsTextOf _ request text = ⊥
 
--- the listing of a good program, and for each vector the lines of its run under the schedule and the line of its results
-abbrev pub IsTrace : Turns → Request → List (List ℕ) → List ℕ → Type 0
-IsTrace schedule request vectors text = (program : Program) × IsProgramFor request program
-    × (text ≡ listing_of (plain_program program) ++ texts (run_text true (code_of program) (turns_of schedule request.procs)) vectors)
+-- the listing of a good program, and for each vector the lines of its run in the order and the line of its results
+abbrev pub IsTrace : Order → Request → List (List ℕ) → List ℕ → Type 0
+IsTrace order request vectors text = (program : Program) × IsProgramFor request program
+    × (text ≡ listing_of (plain_program program) ++ texts (traced_text order request.procs (code_of program)) vectors)
 
 -- the text of a command that goes over the data, of which these vectors are whole
 abbrev pub IsTextOfData : Command → Request → List (List ℕ) → List ℕ → Type 0
-IsTextOfData (command.Run schedule) request vectors text = text ≡ lines (product request) vectors
-IsTextOfData (command.Trace schedule) request vectors text = IsTrace schedule request vectors text
+IsTextOfData (command.Run order) request vectors text = text ≡ lines (product request) vectors
+IsTextOfData (command.Trace order) request vectors text = IsTrace order request vectors text
 IsTextOfData _ request vectors text = ⊥
 
 -- the status and the text of a command that goes over the data, of which so many bytes may come
@@ -169,11 +171,17 @@ Settles wanted request room bytes status text =
 abbrev pub room_behind : List ℕ → ℕ
 room_behind bytes = limit - (length bytes - length (data_of bytes))
 
--- The status and the text: a stage ends the run, and nothing is written, or they are those of the job
-abbrev pub IsOutcome : List (List ℕ) → List ℕ → Status → List ℕ → Type 0
-IsOutcome words bytes status text =
+-- by a request: a stage ends the run, and nothing is written, or the status and the text are those of the job
+abbrev pub IsAnswerToRequest : List (List ℕ) → List ℕ → Status → List ℕ → Type 0
+IsAnswerToRequest words bytes status text =
     (ordered words bytes (Err status) × (text ≡ []))
     ⊎ ((job : Job) × ordered words bytes (Ok job) × Settles job.command job.request (room_behind bytes) (data_of bytes) status text)
+
+-- The status and the text, by a request or by a listing
+abbrev pub IsOutcome : List (List ℕ) → List ℕ → Status → List ℕ → Type 0
+IsOutcome words bytes status text =
+    IsAnswerToRequest words bytes status text
+    ⊎ ((schedule : Turns) × IsAsked words (command.Exec schedule) × IsExecution schedule bytes status text)
 
 -- What a fault of the outside leaves
 
@@ -188,11 +196,12 @@ pub record IsOrder (words : List (List ℕ)) (read : List ℕ) (ended : Type 0) 
   pub line : HasEnded read ended
   pub asks : ordered words read (Ok job)
 
--- The bytes that were read show no fault: they are a part of the first line, and nothing is written, or a job and a part of what stands behind it
+-- The bytes that were read show no fault: they are a part of the first line, and nothing is written, or a job and a part of what stands behind it, or as much of what is executed
 abbrev pub IsBrokenOff : List (List ℕ) → List ℕ → Type 0 → List ℕ → Type 0
 IsBrokenOff words read ended text =
-    (AskForCommand words × IsPartOfLine read × (text ≡ []))
-    ⊎ ((job : Job) × IsOrder words read ended job × BreaksOff job.command job.request (data_of read) text)
+    (AskForRequest words × IsPartOfLine read × (text ≡ []))
+    ⊎ (((job : Job) × IsOrder words read ended job × BreaksOff job.command job.request (data_of read) text)
+    ⊎ ((schedule : Turns) × IsAsked words (command.Exec schedule) × IsBrokenExecution schedule read ended text))
 
 -- The text to which a command has come by the bytes that it read behind the first line, where this is left. Of data no token counts that what is left may go on
 abbrev pub ComesTo : Command → Request → List ℕ → List ℕ → List ℕ → Type 0
@@ -202,15 +211,21 @@ ComesTo wanted request bytes left text =
     ⊎ (IsTextOf wanted request text
     ⊎ ((reads_certificate wanted ≡ true) × (left ≡ []) × (length bytes ≤ certificate_limit) × IsJudged request bytes Success text))
 
+-- The text to which a call has come by the bytes that were read, where this is left
+abbrev pub IsCutOff : List (List ℕ) → List ℕ → List ℕ → List ℕ → Type 0
+IsCutOff words read left text =
+    ((job : Job) × IsOrder words read (left ≡ []) job × ComesTo job.command job.request (data_of read) left text)
+    ⊎ ((schedule : Turns) × IsAsked words (command.Exec schedule) × IsCutExecution schedule read left text)
+
 -- Status and output of a run, by all the bytes of its input and by what the source has left of them
 pub record Accounts (words : List (List ℕ)) (bytes : List ℕ) (left before after : Option (List ℕ)) (status : Status) : Type 0 where
   -- where nothing failed, they are the outcome
   pub answer : IsDefined status → (text : List ℕ) × IsOutcome words bytes status text × Appends before after text
   -- a read failed: the bytes that the source gave show no fault, and the output took the whole text up to there
   pub read_fault : status ≡ ReadFault → (read : List ℕ) × (text : List ℕ) × Consumes (Some bytes) left read × IsBrokenOff words read (IsAtEnd left) text × Appends before after text
-  -- a write failed at a job's text, of which the output took a front
+  -- a write failed at a text, of which the output took a front
   pub write_fault : status ≡ WriteFault → (read : List ℕ) × (rest : List ℕ) × (text : List ℕ) × (bytes ≡ read ++ rest)
-      × ((job : Job) × IsOrder words read (rest ≡ []) job × ComesTo job.command job.request (data_of read) rest text) × AppendsPrefix before after text
+      × IsCutOff words read rest text × AppendsPrefix before after text
 
 -- the line went to the note whole, or a prefix of it where the note failed
 abbrev pub Notes : Option (List ℕ) → Option (List ℕ) → ℕ → ℕ → List ℕ → Type 0

@@ -7,12 +7,17 @@ use Rattle.matrix_meaning.specs.declared.Request.{Request}
 use Rattle.plan_cert.specs.declared.verdict.Verdict.TheVariants.{Least}
 use Rattle.plan_cert.specs.Verdict.{IsVerdict}
 use Rattle.data_stream.specs.Data.{tokens, is_good}
+use Rattle.icode.specs.Plain.{PlainProgram}
+use Rattle.input_rest.specs.Part.{second_part}
+use Rattle.request_text.specs.Schedule.{Plan as Turns}
+use Rattle.spiral_words.specs.Asked.{IsAsked}
 use Rattle.spiral_words.specs.declared.Command.{Command}
 use Rattle.spiral_words.specs.declared.Command.TheVariants as command
 use Rattle.spiral_main.specs.declared.status.Status.{Status}
 use Rattle.spiral_main.specs.declared.status.Status.TheVariants.{Success}
 use Rattle.spiral_main.specs.Checked.{certificate_limit}
 use Rattle.spiral_main.specs.Line.{data_of}
+use Rattle.spiral_main.specs.Listed.{runnable, room_behind_listing}
 use Rattle.spiral_main.specs.Outcome.{Job, ordered, room_behind, IsOutcome}
 
 -- good tokens in whole vectors, and no more bytes than may come
@@ -29,16 +34,27 @@ pub record IsRightCertificate (request : Request) (bytes : List ℕ) : Type 0 wh
 
 -- what stands behind the first line is right for the command, of which so many bytes may come
 abbrev pub IsRightRest : Command → Request → ℕ → List ℕ → Type 0
-IsRightRest (command.Run schedule) request room bytes = AreWholeVectors request.size room bytes
-IsRightRest (command.Trace schedule) request room bytes = AreWholeVectors request.size room bytes
+IsRightRest (command.Run order) request room bytes = AreWholeVectors request.size room bytes
+IsRightRest (command.Trace order) request room bytes = AreWholeVectors request.size room bytes
 IsRightRest command.Check request room bytes = IsRightCertificate request bytes
 IsRightRest _ request room bytes = Unit {0}
 
--- The words are a command line, the first line spells a valid request, each turn that they name is of one of its processors, some tree fits, and the least cost is within the budget, which `check` does not ask. What stands behind the line is right
-pub record IsRightCall (words : List (List ℕ)) (bytes : List ℕ) : Type 0 where
+-- The words are a command line that goes by a request, the first line spells a valid request, each turn that they name is of one of its processors, some tree fits, and the least cost is within the budget, which `check` does not ask. What stands behind the line is right
+pub record IsRightRequest (words : List (List ℕ)) (bytes : List ℕ) : Type 0 where
   pub job : Job
   pub asks : ordered words bytes (Ok job)
   pub rest : IsRightRest job.command job.request (room_behind bytes) (data_of bytes)
+
+-- The words ask for `exec`, the listing's program passes the check and has the processors that the schedule names, and what stands behind the listing is right
+pub record IsRightExecution (words : List (List ℕ)) (bytes : List ℕ) : Type 0 where
+  pub schedule : Turns
+  pub asked : IsAsked words (command.Exec schedule)
+  pub program : PlainProgram
+  pub runs : runnable schedule bytes (Ok program)
+  pub rest : AreWholeVectors program.size (room_behind_listing bytes) (second_part bytes)
+
+abbrev pub IsRightCall : List (List ℕ) → List ℕ → Type 0
+IsRightCall words bytes = IsRightRequest words bytes ⊎ IsRightExecution words bytes
 
 -- the status is Success, and the output took the whole text
 pub record Succeeds (words : List (List ℕ)) (bytes : List ℕ) (before after : Option (List ℕ)) (status : Status) : Type 0 where

@@ -4,7 +4,7 @@ use Rattle.std.specs.List.{concat}
 use Rattle.request_text.specs.declared.fault.Field.{Field}
 use Rattle.request_text.specs.declared.fault.Field.TheVariants.{Size, Mod, Root, Procs, Line, Lanes, Unroll, Budget, Weight}
 use Rattle.spiral_main.specs.declared.status.Status.{Status}
-use Rattle.spiral_main.specs.declared.status.Status.TheVariants.{Success, Usage, Syntax, Range, Shape, LanesLine, Turn, NoDivide, OverBudget, BadNumber, Truncated, ReadFault, WriteFault, NoMemory, TooLong, Unread, Wrong}
+use Rattle.spiral_main.specs.declared.status.Status.TheVariants.{Success, Usage, Syntax, Range, Shape, LanesLine, Turn, NoDivide, OverBudget, BadNumber, Truncated, ReadFault, WriteFault, NoMemory, TooLong, Unread, Wrong, ListingSyntax, Address, Register, LineShared, OverSteps}
 use Rattle.spiral_main.specs.declared.status.Status.TheVariants as status
 
 abbrev pub code_of : Status → ℕ
@@ -26,6 +26,11 @@ code_of NoMemory = 12
 code_of (TooLong limit) = 13
 code_of Unread = 14
 code_of (Wrong size given found) = 14
+code_of (ListingSyntax line) = 18
+code_of (Address phase proc action) = 19
+code_of (Register phase proc action) = 20
+code_of (LineShared phase line a b) = 21
+code_of (OverSteps limit) = 22
 
 -- a field's word in a request line
 abbrev pub field_word : Field → List ℕ
@@ -39,9 +44,14 @@ field_word Unroll = codes "unroll"
 field_word Budget = codes "budget"
 field_word Weight = codes "weight"
 
+-- which action of a listing is wrong, behind the front of the line
+abbrev pub action_line : List ℕ → ℕ → ℕ → ℕ → List ℕ
+action_line front phase proc action =
+    concat (front ∷ decimal phase ∷ codes ", processor " ∷ decimal proc ∷ codes ", action " ∷ decimal action ∷ codes "\n" ∷ [])
+
 abbrev pub note_line : Status → List ℕ
 note_line Success = []
-note_line Usage = codes "spiral: usage: spiral plan|formula|code|c|run|trace|cert|check|sample [--schedule WORD] [--seed NUMBER]\n"
+note_line Usage = codes "spiral: usage: spiral plan|formula|code|c|run|trace|cert|check|sample|compile|apply|exec|convolve [--schedule WORD] [--seed NUMBER] [--mod NUMBER] [--buffers] [--code]\n"
 note_line (Syntax at) = concat (codes "spiral: syntax at byte " ∷ decimal at ∷ codes "\n" ∷ [])
 note_line (Range field value) = concat (codes "spiral: " ∷ field_word field ∷ codes " " ∷ decimal value ∷ codes " is out of range\n" ∷ [])
 note_line (Shape size) = concat (codes "spiral: wht size " ∷ decimal size ∷ codes " is not a power of two\n" ∷ [])
@@ -59,6 +69,12 @@ note_line (TooLong limit) = concat (codes "spiral: more than " ∷ decimal limit
 note_line Unread = codes "spiral: certificate unreadable\n"
 note_line (Wrong size given found) =
     concat (codes "spiral: certificate row " ∷ decimal size ∷ codes " gives " ∷ decimal given ∷ codes ", found " ∷ decimal found ∷ codes "\n" ∷ [])
+note_line (ListingSyntax line) = concat (codes "spiral: listing syntax at line " ∷ decimal line ∷ codes "\n" ∷ [])
+note_line (Address phase proc action) = action_line (codes "spiral: bad place in phase ") phase proc action
+note_line (Register phase proc action) = action_line (codes "spiral: bad register in phase ") phase proc action
+note_line (LineShared phase line a b) =
+    concat (codes "spiral: phase " ∷ decimal phase ∷ codes " line " ∷ decimal line ∷ codes " is shared by " ∷ decimal a ∷ codes " and " ∷ decimal b ∷ codes "\n" ∷ [])
+note_line (OverSteps limit) = concat (codes "spiral: more than " ∷ decimal limit ∷ codes " actions\n" ∷ [])
 
 -- the words and the bytes call for the status: it is neither a fault of the outside nor want of memory
 pub record IsDefined (status : Status) : Type 0 where

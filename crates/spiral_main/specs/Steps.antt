@@ -1,20 +1,28 @@
 -- What the parts of the top call answer.
-use Rattle.std.specs.Prelude.{◌≡◌, ◌≢◌, ◌⊎◌, ℕ, List, [], ◌++◌, length, None, Some, Ok, Err, Result}
+use Rattle.std.specs.Prelude.{◌≡◌, ◌≢◌, ◌⊎◌, ℕ, List, [], ◌++◌, length, None, Some, Ok, Err, Result, Vec}
+use Rattle.std.proofs.Common.{Global}
 use Rattle.std.specs.declared.option.Option.{Option}
-use Rattle.std.specs.Io.KnownBytes.{Appends, Consumes}
+use Rattle.std.specs.Io.KnownBytes.{Appends, Consumes, IsAtEnd}
 use Rattle.matrix_meaning.specs.declared.Request.{Request}
 use Rattle.icode.specs.declared.program.Program.{Program}
+use Rattle.icode.specs.Actions.{plain_code}
 use Rattle.icode.specs.Machine.{Code}
+use Rattle.icode.specs.Plain.{PlainProgram}
 use Rattle.icode.specs.Program.{code_of}
 use Rattle.generate.specs.Good.{IsGood, IsLean}
 use Rattle.generate.specs.Planned.{IsPlanned}
 use Rattle.tree_model.specs.Breakdown.{Breakdown}
 use Rattle.tree_model.specs.Cost.{cost_of}
 use Rattle.io_edge.specs.Taken.{AppendsPrefix}
+use Rattle.input_rest.specs.declared.RestFault.{RestFault}
+use Rattle.input_rest.specs.Part.{GivesPart}
+use Rattle.request_text.specs.Schedule.{Plan as Turns}
 use Rattle.spiral_words.specs.declared.Command.{Command}
 use Rattle.spiral_main.specs.declared.status.Status.{Status}
 use Rattle.spiral_main.specs.declared.status.Status.TheVariants.{Success, Usage, ReadFault, WriteFault}
+use Rattle.spiral_main.specs.Fault.{status_of_part}
 use Rattle.spiral_main.specs.Line.{data_of, IsPartOfLine}
+use Rattle.spiral_main.specs.Listed.{listing_limit, loaded, IsExecution, IsBrokenExecution, IsCutExecution}
 use Rattle.spiral_main.specs.Status.{IsDefined}
 use Rattle.spiral_main.specs.Outcome.{requested, IsAccepted, IsDeclined, Settles, BreaksOff, ComesTo, Accounts}
 
@@ -31,17 +39,17 @@ pub record IsRefusal (status : Status) : Type 0 where
   pub write : status ≢ WriteFault
   pub usage : status ≢ Usage
 
--- the command and the request, by the bytes that were read and those that are left; or why there are none
-abbrev pub AsksBy : List (List ℕ) → List ℕ → List ℕ → ℕ → Result (Command × Request) Status → Type 0
-AsksBy words read rest taken (Ok wanted) = (taken ≡ length read)
-    × ((more : List ℕ) → (rest ≡ [] → more ≡ []) → requested words (read ++ more) (Ok wanted) × (data_of (read ++ more) ≡ more))
-AsksBy words read rest taken (Err status) = (IsDefined status → requested words (read ++ rest) (Err status)) × (status ≡ ReadFault → IsPartOfLine read)
+-- the request for the command, by the bytes that were read and those that are left; or why there is none
+abbrev pub AsksBy : Command → List ℕ → List ℕ → ℕ → Result Request Status → Type 0
+AsksBy command read rest taken (Ok request) = (taken ≡ length read)
+    × ((more : List ℕ) → (rest ≡ [] → more ≡ []) → requested command (read ++ more) (Ok request) × (data_of (read ++ more) ≡ more))
+AsksBy command read rest taken (Err status) = (IsDefined status → requested command (read ++ rest) (Err status)) × (status ≡ ReadFault → IsPartOfLine read)
 
 -- the same over a source that tells its bytes
-abbrev pub Asks : List (List ℕ) → Option (List ℕ) → Option (List ℕ) → ℕ → Result (Command × Request) Status → Type 0
-Asks words None after taken result = Unit {0}
-Asks words (Some bytes) None taken result = ⊥
-Asks words (Some bytes) (Some rest) taken result = (read : List ℕ) × (bytes ≡ read ++ rest) × AsksBy words read rest taken result
+abbrev pub Asks : Command → Option (List ℕ) → Option (List ℕ) → ℕ → Result Request Status → Type 0
+Asks command None after taken result = Unit {0}
+Asks command (Some bytes) None taken result = ⊥
+Asks command (Some bytes) (Some rest) taken result = (read : List ℕ) × (bytes ≡ read ++ rest) × AsksBy command read rest taken result
 
 -- the code of a program that is good for the request
 abbrev pub IsGoodCode : Request → Code → Type 0
@@ -65,6 +73,27 @@ pub record Performs (command : Command) (request : Request) (room : ℕ) (bytes 
 abbrev pub ToldPerforms : Command → Request → ℕ → Option (List ℕ) → Option (List ℕ) → Option (List ℕ) → Option (List ℕ) → Status → Type 0
 ToldPerforms command request room None left before after status = Unit {0}
 ToldPerforms command request room (Some bytes) left before after status = Performs command request room bytes left before after status
+
+-- the listing's text, by the bytes that were read; or why it is not read
+abbrev pub GivesListing : List ℕ → Type 0 → ℕ → Result (Vec ℕ Global) Status → Type 0
+GivesListing read ended taken (Ok text) = GivesPart listing_limit read ended 0 taken (Ok text)
+GivesListing read ended taken (Err status) = (fault : RestFault) × (status ≡ status_of_part fault) × GivesPart listing_limit read ended 0 taken (Err fault)
+
+-- the code of the program that a listing orders to run
+abbrev pub IsLoadedCode : Turns → List ℕ → Code → Type 0
+IsLoadedCode schedule text code = (program : PlainProgram) × loaded schedule text (Ok program) × (code ≡ plain_code program)
+
+-- status and output of `exec`, by all the bytes of its input and by what is left of them
+pub record Executes (schedule : Turns) (bytes : List ℕ) (left before after : Option (List ℕ)) (status : Status) : Type 0 where
+  pub answer : IsDefined status → (text : List ℕ) × IsExecution schedule bytes status text × Appends before after text
+  pub read_fault : status ≡ ReadFault → (read : List ℕ) × (text : List ℕ) × Consumes (Some bytes) left read
+      × IsBrokenExecution schedule read (IsAtEnd left) text × Appends before after text
+  pub write_fault : status ≡ WriteFault → (read : List ℕ) × (rest : List ℕ) × (text : List ℕ) × (bytes ≡ read ++ rest)
+      × IsCutExecution schedule read rest text × AppendsPrefix before after text
+
+abbrev pub ToldExecutes : Turns → Option (List ℕ) → Option (List ℕ) → Option (List ℕ) → Option (List ℕ) → Status → Type 0
+ToldExecutes schedule None left before after status = Unit {0}
+ToldExecutes schedule (Some bytes) left before after status = Executes schedule bytes left before after status
 
 abbrev pub ToldAccounts : List (List ℕ) → Option (List ℕ) → Option (List ℕ) → Option (List ℕ) → Option (List ℕ) → Status → Type 0
 ToldAccounts words None left before after status = Unit {0}

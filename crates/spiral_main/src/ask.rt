@@ -1,51 +1,47 @@
 // What the words and the first line ask for.
-ghost use Rattle.std.specs.Prelude.{◌≡◌, ◌≢◌, ◌≤◌, ℕ, [], Some, Ok, Err, IfOk, IfErr, OnOk, IsErrOf, map, string_bytes};
+ghost use Rattle.std.specs.Prelude.{◌≡◌, ◌≢◌, ◌≤◌, ℕ, [], Some, None, Err, IfOk, IfErr, OnOk, IsErrOf, map, string_bytes};
 ghost use Rattle.matrix_meaning.specs.Valid.{IsInRange};
 ghost use Rattle.io_edge.specs.Faults.{Reports};
 ghost use Rattle.io_edge.specs.Feed.{to_come};
-ghost use Rattle.spiral_main.specs.Commands.{commanded, AskForCommand, AreJudged, schedule_of, stranger};
+ghost use Rattle.spiral_words.specs.Asked.{IsAsked};
+ghost use Rattle.spiral_main.specs.Commands.{commanded, AreJudged, NamesNoStranger, first_stranger, procs_named};
+ghost use Rattle.spiral_main.specs.Orders.{procs_of};
 ghost use Rattle.spiral_main.specs.Status.{IsDefined};
 ghost use Rattle.spiral_main.specs.Steps.{IsEarly, Asks};
-ghost use Rattle.spiral_main.specs.Stream.{HasNoStranger};
 
 use crate::Status;
 use crate::line::{LINE_LIMIT, read_line};
 use io_edge::{Feed, Source};
 use matrix_meaning::Request;
 use request_text::read_request;
-use spiral_words::{Command, Refusal, command_of};
+use spiral_words::{Command, Order, Refusal, command_of};
 use std::alloc::Global;
 
-/// The command that the words ask for, and the request that the first line of the input spells.
+/// The request that the first line of the input spells, for the command.
 pub(crate) fn ask<I: Source>(
-    alloc: Global,
-    words: &Vec<String>,
+    command: &Command,
     feed: &mut Feed,
     input: &mut I,
-) -> Result<(Command, Request), Status>
+) -> Result<Request, Status>
     requires fresh { feed.old.taken ≡ 0 }
-    ensures told { Asks (map string_bytes words.now.items) (to_come feed.old (I.left input.old)) (to_come feed.new (I.left input.new)) feed.new.taken result }
+    ensures told { Asks command.now (to_come feed.old (I.left input.old)) (to_come feed.new (I.left input.new)) feed.new.taken result }
     ensures within { OnOk result (feed.new.taken ≤ 257) }
-    ensures command { IfOk result (λ wanted. commanded (map string_bytes words.now.items) (Ok wanted.0)) }
-    ensures request { IfOk result (λ wanted. IsInRange wanted.1 × (wanted.1.weight ≡ 1)) }
-    ensures turns { IfOk result (λ wanted. HasNoStranger (schedule_of wanted.0) wanted.1.procs) }
+    ensures request { IfOk result (λ request. IsInRange request × (request.weight ≡ 1)) }
+    ensures turns { IfOk result (λ request. NamesNoStranger command.now request.procs) }
     ensures empty { IsErrOf result Status.ReadFault → feed.new.held ≡ [] }
     ensures read { Reports (I.faults input.old) (I.faults input.new) (IsErrOf result Status.ReadFault) }
-    ensures after { IsErrOf result Status.ReadFault → AskForCommand (map string_bytes words.now.items) }
-    ensures words { IfErr result (AreJudged (map string_bytes words.now.items)) }
-    ensures others { IfErr result (λ status. (status ≢ Status.Success) × (status ≢ Status.WriteFault)) }
+    ensures others { IfErr result (λ status. (status ≢ Status.Success) × (status ≢ Status.Usage) × (status ≢ Status.WriteFault)) }
 {
-    let command = asked(alloc, words)?;
     let mut line = [0; LINE_LIMIT];
     let count = read_line(feed, input, &mut line)?;
     let request = read_request(&line[..count])?;
-    check_turns(&command, request.procs)?;
-    Ok((command, request))
+    check_turns(stranger(command, request.procs), request.procs)?;
+    Ok(request)
 }
 
-// The command that the words ask for.
-fn asked(alloc: Global, words: &Vec<String>) -> Result<Command, Status>
-    ensures command { IfOk result (λ command. commanded (map string_bytes words.now.items) (Ok command)) }
+/// The command that the words ask for.
+pub(crate) fn asked(alloc: Global, words: &Vec<String>) -> Result<Command, Status>
+    ensures command { IfOk result (λ command. IsAsked (map string_bytes words.now.items) command) }
     ensures refused { IfErr result (λ status. IsDefined status → commanded (map string_bytes words.now.items) (Err status)) }
     ensures refusal { IfErr result IsEarly }
     ensures words { IfErr result (AreJudged (map string_bytes words.now.items)) }
@@ -57,24 +53,37 @@ fn asked(alloc: Global, words: &Vec<String>) -> Result<Command, Status>
     }
 }
 
-// Each turn that the command's schedule names is of one of so many processors.
-fn check_turns(command: &Command, p: u64) -> Result<(), Status>
-    ensures none { OnOk result (HasNoStranger (schedule_of command.now) p) }
-    ensures first { IfErr result (λ status. (q : ℕ) × (stranger (schedule_of command.now) p ≡ Some q) × (status ≡ Status.Turn q p)) }
+/// No turn is of a stranger to so many processors.
+pub(crate) fn check_turns(stranger: Option<u64>, p: u64) -> Result<(), Status>
+    ensures none { OnOk result (stranger ≡ None) }
+    ensures first { IfErr result (λ status. (q : ℕ) × (stranger ≡ Some q) × (status ≡ Status.Turn q p)) }
 {
-    match stranger(command, p) {
+    match stranger {
         Some(q) => Err(Status::Turn { q, p }),
         None => Ok(()),
     }
 }
 
+// The first stranger to so many processors that the order names.
+fn stranger_in(order: &Order, p: u64) -> Option<u64>
+    ensures { result ≡ first_stranger (procs_of order.now) p }
+{
+    match order {
+        Order::Turns(schedule) => schedule.stranger(p),
+        Order::Buffered(schedule) => schedule.stranger(p),
+        Order::Mixed(mix) => mix.stranger(p),
+    }
+}
+
+// The first stranger to so many processors that the words of the command name.
 fn stranger(command: &Command, p: u64) -> Option<u64>
-    ensures { result ≡ stranger (schedule_of command.now) p }
+    ensures { result ≡ first_stranger (procs_named command.now) p }
 {
     match command {
-        Command::Run { schedule } => schedule.stranger(p),
-        Command::Trace { schedule } => schedule.stranger(p),
+        Command::Run { order } => stranger_in(order, p),
+        Command::Trace { order } => stranger_in(order, p),
         Command::Sample { schedule, .. } => schedule.stranger(p),
+        Command::Exec { schedule } => schedule.stranger(p),
         _ => None,
     }
 }

@@ -4,21 +4,55 @@ ghost use Rattle.std.specs.Io.KnownBytes.{Appends, IsAtEnd};
 ghost use Rattle.matrix_meaning.specs.Valid.{IsInRange};
 ghost use Rattle.io_edge.specs.Faults.{Reports};
 ghost use Rattle.io_edge.specs.Feed.{to_come, limit};
+ghost use Rattle.spiral_main.specs.Commands.{NamesNoStranger};
 ghost use Rattle.spiral_main.specs.Stage.{status_of};
 ghost use Rattle.spiral_main.specs.Steps.{ToldPerforms};
 ghost use Rattle.spiral_main.specs.Stream.{HasNoStranger};
 
 use crate::Status;
+use crate::events::{run_events, trace_events};
 use crate::stream::run_stream;
 use crate::texts::{engine, traced_engine};
+use buffer_machine::Events;
 use io_edge::{Feed, Sink, Source, write_all};
 use matrix_meaning::Request;
 use request_text::Schedule;
-use spiral_words::Command;
+use spiral_words::{Command, Order};
 use std::alloc::Global;
 
 /// Writes the line of each vector's transform.
 pub(crate) fn run<I: Source, O: Sink>(
+    alloc: Global,
+    request: &Request,
+    order: &Order,
+    feed: &mut Feed,
+    input: &mut I,
+    output: &mut O,
+) -> Result<(), Status>
+    requires in_range { IsInRange request.now }
+    requires weight { request.now.weight ≡ 1 }
+    requires turns { NamesNoStranger (Command.Run order.now) request.now.procs }
+    requires within { feed.old.taken ≤ limit }
+    ensures told { ToldPerforms (Command.Run order.now) request.now (limit - feed.old.taken) (to_come feed.old (I.left input.old))
+        (to_come feed.new (I.left input.new)) (O.taken output.old) (O.taken output.new) (status_of result) }
+    ensures end { status_of result ≡ Status.Success → IsAtEnd (to_come feed.new (I.left input.new)) }
+    ensures empty { status_of result ≡ Status.ReadFault → feed.new.held ≡ [] }
+    ensures usage { status_of result ≢ Status.Usage }
+    ensures read { Reports (I.faults input.old) (I.faults input.new) (status_of result ≡ Status.ReadFault) }
+    ensures write { Reports (O.faults output.old) (O.faults output.new) (status_of result ≡ Status.WriteFault) }
+    ensures memory { status_of result ≡ Status.NoMemory → Appends (O.taken output.old) (O.taken output.new) [] }
+{
+    match order {
+        Order::Turns(schedule) => run_turns(alloc, request, schedule, feed, input, output),
+        Order::Buffered(schedule) => {
+            run_events(alloc, request, Events::Turns(schedule), feed, input, output)
+        }
+        Order::Mixed(mix) => run_events(alloc, request, Events::Mixed(mix), feed, input, output),
+    }
+}
+
+// Runs the machine without store buffers.
+fn run_turns<I: Source, O: Sink>(
     alloc: Global,
     request: &Request,
     schedule: &Schedule,
@@ -30,7 +64,7 @@ pub(crate) fn run<I: Source, O: Sink>(
     requires weight { request.now.weight ≡ 1 }
     requires turns { HasNoStranger schedule.now request.now.procs }
     requires within { feed.old.taken ≤ limit }
-    ensures told { ToldPerforms (Command.Run schedule.now) request.now (limit - feed.old.taken) (to_come feed.old (I.left input.old))
+    ensures told { ToldPerforms (Command.Run (Order.Turns schedule.now)) request.now (limit - feed.old.taken) (to_come feed.old (I.left input.old))
         (to_come feed.new (I.left input.new)) (O.taken output.old) (O.taken output.new) (status_of result) }
     ensures end { status_of result ≡ Status.Success → IsAtEnd (to_come feed.new (I.left input.new)) }
     ensures empty { status_of result ≡ Status.ReadFault → feed.new.held ≡ [] }
@@ -52,8 +86,39 @@ pub(crate) fn run<I: Source, O: Sink>(
     Ok(())
 }
 
-/// Writes the listing, and then for each vector the lines of its turns and the line of its transform.
+/// Writes the listing, and then for each vector the lines of its turns and drains and the line of its transform.
 pub(crate) fn trace<I: Source, O: Sink>(
+    alloc: Global,
+    request: &Request,
+    order: &Order,
+    feed: &mut Feed,
+    input: &mut I,
+    output: &mut O,
+) -> Result<(), Status>
+    requires in_range { IsInRange request.now }
+    requires weight { request.now.weight ≡ 1 }
+    requires turns { NamesNoStranger (Command.Trace order.now) request.now.procs }
+    requires within { feed.old.taken ≤ limit }
+    ensures told { ToldPerforms (Command.Trace order.now) request.now (limit - feed.old.taken) (to_come feed.old (I.left input.old))
+        (to_come feed.new (I.left input.new)) (O.taken output.old) (O.taken output.new) (status_of result) }
+    ensures end { status_of result ≡ Status.Success → IsAtEnd (to_come feed.new (I.left input.new)) }
+    ensures empty { status_of result ≡ Status.ReadFault → feed.new.held ≡ [] }
+    ensures usage { status_of result ≢ Status.Usage }
+    ensures read { Reports (I.faults input.old) (I.faults input.new) (status_of result ≡ Status.ReadFault) }
+    ensures write { Reports (O.faults output.old) (O.faults output.new) (status_of result ≡ Status.WriteFault) }
+    ensures memory { status_of result ≡ Status.NoMemory → Appends (O.taken output.old) (O.taken output.new) [] }
+{
+    match order {
+        Order::Turns(schedule) => trace_turns(alloc, request, schedule, feed, input, output),
+        Order::Buffered(schedule) => {
+            trace_events(alloc, request, Events::Turns(schedule), feed, input, output)
+        }
+        Order::Mixed(mix) => trace_events(alloc, request, Events::Mixed(mix), feed, input, output),
+    }
+}
+
+// Traces the machine without store buffers.
+fn trace_turns<I: Source, O: Sink>(
     alloc: Global,
     request: &Request,
     schedule: &Schedule,
@@ -65,7 +130,7 @@ pub(crate) fn trace<I: Source, O: Sink>(
     requires weight { request.now.weight ≡ 1 }
     requires turns { HasNoStranger schedule.now request.now.procs }
     requires within { feed.old.taken ≤ limit }
-    ensures told { ToldPerforms (Command.Trace schedule.now) request.now (limit - feed.old.taken) (to_come feed.old (I.left input.old))
+    ensures told { ToldPerforms (Command.Trace (Order.Turns schedule.now)) request.now (limit - feed.old.taken) (to_come feed.old (I.left input.old))
         (to_come feed.new (I.left input.new)) (O.taken output.old) (O.taken output.new) (status_of result) }
     ensures end { status_of result ≡ Status.Success → IsAtEnd (to_come feed.new (I.left input.new)) }
     ensures empty { status_of result ≡ Status.ReadFault → feed.new.held ≡ [] }

@@ -12,9 +12,13 @@ ghost use Rattle.spiral_main.specs.Outcome.{Accounts, IsOutcome};
 ghost use Rattle.spiral_main.specs.Right.{IsRightCall, Succeeds};
 
 mod ask;
+mod buffered;
 mod check;
 mod data;
+mod events;
+mod exec;
 mod line;
+mod note;
 mod plans;
 mod run;
 mod sample;

@@ -1,24 +1,26 @@
 // The top call.
-ghost use Rattle.std.specs.Prelude.{◌≡◌, ◌≢◌, ◌-◌, ◌≤◌, ℕ, List, [], IfSome, IfNone, Ok, map, string_bytes, true, false};
+ghost use Rattle.std.specs.Prelude.{◌≡◌, ◌≢◌, ◌-◌, ◌≤◌, ℕ, List, [], IfSome, IfNone, MatchOption, Ok, map, string_bytes, true, false};
 ghost use Rattle.std.specs.declared.option.Option.{Option};
 ghost use Rattle.std.specs.Io.KnownBytes.{Appends, IsAtEnd};
 ghost use Rattle.matrix_meaning.specs.Valid.{IsInRange};
 ghost use Rattle.io_edge.specs.Faults.{Reports};
 ghost use Rattle.io_edge.specs.Feed.{to_come, limit};
-ghost use Rattle.spiral_main.specs.Commands.{reads_rest, has_text, AskForRest, AskForCommand, AreJudged, schedule_of};
+ghost use Rattle.spiral_main.specs.Commands.{reads_rest, takes_request, has_text, AskForRest, AskForCommand, AreJudged, NamesNoStranger};
 ghost use Rattle.spiral_main.specs.Outcome.{Accounts, Notes};
 ghost use Rattle.spiral_main.specs.Stage.{status_of};
 ghost use Rattle.spiral_main.specs.Status.{note_line};
 ghost use Rattle.spiral_main.specs.Steps.{Performs, ToldPerforms, ToldAccounts};
-ghost use Rattle.spiral_main.specs.Stream.{HasNoStranger};
 
-use crate::ask::ask;
+use crate::ask::{ask, asked};
 use crate::check::check;
 use crate::data::{run, trace};
-use crate::status::{Status, write_note};
+use crate::exec::exec;
+use crate::note::write_note;
+use crate::status::Status;
 use crate::texts::text_of;
 use io_edge::{Feed, Sink, Source, write_all};
 use matrix_meaning::Request;
+use request_text::Schedule;
 use spiral_words::Command;
 use std::alloc::Global;
 
@@ -31,7 +33,7 @@ fn write_text<O: Sink>(
 ) -> Result<(), Status>
     requires in_range { IsInRange request.now }
     requires weight { request.now.weight ≡ 1 }
-    requires turns { HasNoStranger (schedule_of command.now) request.now.procs }
+    requires turns { NamesNoStranger command.now request.now.procs }
     requires textual { has_text command.now ≡ true }
     ensures told { (room : ℕ) (bytes : List ℕ) (left : Option (List ℕ)) → Performs command.now request.now room bytes left
         (O.taken output.old) (O.taken output.new) (status_of result) }
@@ -56,8 +58,9 @@ fn perform<I: Source, O: Sink>(
 ) -> Result<(), Status>
     requires in_range { IsInRange request.now }
     requires weight { request.now.weight ≡ 1 }
-    requires turns { HasNoStranger (schedule_of command.now) request.now.procs }
+    requires turns { NamesNoStranger command.now request.now.procs }
     requires line { feed.old.taken ≤ 257 }
+    requires request { takes_request command.now ≡ true }
     ensures told { ToldPerforms command.now request.now (limit - feed.old.taken) (to_come feed.old (I.left input.old))
         (to_come feed.new (I.left input.new)) (O.taken output.old) (O.taken output.new) (status_of result) }
     ensures end { status_of result ≡ Status.Success → reads_rest command.now ≡ true → IsAtEnd (to_come feed.new (I.left input.new)) }
@@ -68,10 +71,20 @@ fn perform<I: Source, O: Sink>(
     ensures memory { status_of result ≡ Status.NoMemory → Appends (O.taken output.old) (O.taken output.new) [] }
 {
     match command {
-        Command::Run { schedule } => run(alloc, request, schedule, feed, input, output),
-        Command::Trace { schedule } => trace(alloc, request, schedule, feed, input, output),
+        Command::Run { order } => run(alloc, request, order, feed, input, output),
+        Command::Trace { order } => trace(alloc, request, order, feed, input, output),
         Command::Check => check(alloc, request, feed, input, output),
         _ => write_text(alloc, command, request, output),
+    }
+}
+
+// The schedule of `exec`, if that is the command.
+fn schedule_of_exec(command: &Command) -> Option<&Schedule>
+    ensures { MatchOption result (takes_request command.now ≡ true) (λ schedule. command.now ≡ Command.Exec schedule.now) }
+{
+    match command {
+        Command::Exec { schedule } => Some(schedule),
+        _ => None,
     }
 }
 
@@ -91,7 +104,11 @@ fn work<I: Source, O: Sink>(
     ensures memory { status_of result ≡ Status.NoMemory → Appends (O.taken output.old) (O.taken output.new) [] }
 {
     let mut feed = Feed::new(alloc)?;
-    let (command, request) = ask(alloc, words, &mut feed, input)?;
+    let command = asked(alloc, words)?;
+    if let Some(schedule) = schedule_of_exec(&command) {
+        return exec(alloc, schedule, &mut feed, input, output);
+    }
+    let request = ask(&command, &mut feed, input)?;
     perform(alloc, &command, &request, &mut feed, input, output)
 }
 
@@ -109,7 +126,8 @@ fn ending(ended: Result<(), Status>) -> Status
 ///
 /// The words are the program's name, a command and its options. The first line of the input is the request. What stands
 /// behind it are the data of `run` and `trace`, numbers in tokens, of which every vector has as many as the request's size,
-/// or the certificate that `check` judges.
+/// or the certificate that `check` judges. `exec` has no request: the lines before the first empty line of its input are a
+/// listing, and what stands behind that line are the data of its program.
 pub fn spiral_run<I: Source, O: Sink, E: Sink>(
     alloc: Global,
     words: &Vec<String>,
@@ -120,7 +138,7 @@ pub fn spiral_run<I: Source, O: Sink, E: Sink>(
     // Where the input tells its bytes, they and the words account for the status and for what the output took. Where a
     // read failed, that is the whole text of what the input gave.
     ensures told { IfSome (I.left input.old) (λ bytes. Accounts (map string_bytes words.now.items) bytes (I.left input.new) (O.taken output.old) (O.taken output.new) result) }
-    // `run`, `trace` and `check` have read their input to its end where they succeed.
+    // `run`, `trace`, `check` and `exec` have read their input to its end where they succeed.
     ensures end { result ≡ Status.Success → AskForRest (map string_bytes words.now.items) → IsAtEnd (I.left input.new) }
 
     // A fault has its cause and is not swallowed, also where nothing is told.

@@ -3,7 +3,6 @@ ghost use Rattle.std.specs.Prelude.{◌≡◌, ◌++◌, length, Ok, Err, IfOk, 
 ghost use Rattle.operators.specs.Sum.{sum_below};
 ghost use Rattle.matrix_meaning.specs.Valid.{IsInRange};
 ghost use Rattle.icode.specs.Machine.{counts_so_far};
-ghost use Rattle.request_text.specs.Turns.{next_state};
 ghost use Rattle.spiral_main.specs.Outcome.{IsRefused, IsAffordable, IsSampleText};
 ghost use Rattle.spiral_main.specs.Sample.{sample_vector, weighted_sum, sample_text, AreCountable};
 ghost use Rattle.spiral_main.specs.Status.{IsDefined};
@@ -18,18 +17,9 @@ use listing_text::put;
 use matrix_meaning::Request;
 use memory::NoMemory;
 use par_machine::Machine;
-use request_text::Schedule;
+use request_text::{Schedule, next_state};
 use ring_mod::Modulus;
 use std::alloc::Global;
-
-// The generator's next state.
-fn next_state(state: u64) -> u64
-    ensures { result ≡ next_state state }
-{
-    state
-        .wrapping_mul(6_364_136_223_846_793_005)
-        .wrapping_add(1_442_695_040_888_963_407)
-}
 
 // Puts the vector of the seed into the slice.
 fn fill(vector: &mut [u64], modulus: Modulus, seed: u64)

@@ -1,17 +1,15 @@
 // What the program answers with.
-ghost use Rattle.std.specs.Prelude.{◌≡◌, ◌∷◌, [], decimal};
-ghost use Rattle.std.specs.List.{concat};
-ghost use Rattle.io_edge.specs.Faults.{HasCause};
-ghost use Rattle.io_edge.specs.Taken.{WritesAll};
-ghost use Rattle.spiral_main.specs.Status.{code_of, field_word, note_line};
+ghost use Rattle.std.specs.Prelude.{◌≡◌};
+ghost use Rattle.spiral_main.specs.Status.{code_of};
 
 use crate::check::CERTIFICATE_LIMIT;
 use crate::line::LINE_LIMIT;
 use crate::stream::StreamFault;
+use code_check::CheckFault;
 use generate::GenerateFault;
 use input_rest::RestFault;
-use io_edge::{Feed, FeedFault, Sink, WriteFault, write_all, write_parts};
-use itoa::Buffer;
+use io_edge::{Feed, FeedFault, WriteFault};
+use listing_text::ListingFault;
 use memory::NoMemory;
 use request_text::{Field, RequestFault};
 use std::alloc::AllocError;
@@ -23,36 +21,92 @@ pub enum Status {
     /// The words are no command line.
     Usage,
     /// No request's line begins with more bytes of the first line than these.
-    Syntax { at: u64 },
+    Syntax {
+        at: u64,
+    },
     /// The first field of the request that is out of its limits.
-    Range { field: Field, value: u64 },
+    Range {
+        field: Field,
+        value: u64,
+    },
     /// The size of a Walsh-Hadamard transform is no power of two.
-    Shape { size: u64 },
+    Shape {
+        size: u64,
+    },
     /// There are several processors, and the lanes do not divide the line.
-    LanesLine { lanes: u64, line: u64 },
+    LanesLine {
+        lanes: u64,
+        line: u64,
+    },
     /// The schedule's first turn of a processor that is none of so many.
-    Turn { q: u64, p: u64 },
+    Turn {
+        q: u64,
+        p: u64,
+    },
     /// The root to the power of the size, which is not 1.
-    Root { power: u64 },
+    Root {
+        power: u64,
+    },
     /// No tree fits the request's processors, line and lanes.
     NoDivide,
     /// The least cost of a program exceeds the budget.
-    OverBudget { cost: u64, budget: u64 },
+    OverBudget {
+        cost: u64,
+        budget: u64,
+    },
     /// The first token of the data that is no number. Tokens are counted from 1.
-    BadNumber { token: u64 },
+    BadNumber {
+        token: u64,
+    },
     /// The data end inside a vector.
-    Truncated { have: u64, need: u64 },
+    Truncated {
+        have: u64,
+        need: u64,
+    },
     /// The input failed.
     ReadFault,
     /// The output failed.
     WriteFault,
     NoMemory,
     /// The line, the input or the certificate has more bytes than this.
-    TooLong { limit: u64 },
+    TooLong {
+        limit: u64,
+    },
     /// What stands behind the request line is no certificate for the request.
     Unread,
     /// The certificate's first wrong row: its size, its cost, and the cost that was found in its place.
-    Wrong { size: u64, given: u64, found: u64 },
+    Wrong {
+        size: u64,
+        given: u64,
+        found: u64,
+    },
+    /// The first line of a listing after which no listing goes on.
+    ListingSyntax {
+        line: u64,
+    },
+    /// The first action of a listing whose place is not there.
+    Address {
+        phase: u64,
+        proc: u64,
+        action: u64,
+    },
+    /// The first action of a listing with a register that is not there, or with tiles that meet.
+    Register {
+        phase: u64,
+        proc: u64,
+        action: u64,
+    },
+    /// In the phase a writes the line and b touches it.
+    LineShared {
+        phase: u64,
+        line: u64,
+        a: u64,
+        b: u64,
+    },
+    /// The listing has more actions than this.
+    OverSteps {
+        limit: u64,
+    },
 }
 
 impl Status {
@@ -75,6 +129,11 @@ impl Status {
             Status::NoMemory => 12,
             Status::TooLong { .. } => 13,
             Status::Unread | Status::Wrong { .. } => 14,
+            Status::ListingSyntax { .. } => 18,
+            Status::Address { .. } => 19,
+            Status::Register { .. } => 20,
+            Status::LineShared { .. } => 21,
+            Status::OverSteps { .. } => 22,
         }
     }
 }
@@ -162,6 +221,58 @@ impl From<RestFault> for Status {
     }
 }
 
+impl From<ListingFault> for Status {
+    ghost use Rattle.std.specs.Prelude.{◌≡◌};
+    ghost use Rattle.spiral_main.specs.Fault.{status_of_listing};
+
+    ghost from_gives = { λ fault status. status ≡ status_of_listing fault };
+
+    fn from(fault: ListingFault) -> Self {
+        match fault {
+            ListingFault::Syntax { line } => Status::ListingSyntax { line },
+            ListingFault::NoMemory => Status::NoMemory,
+        }
+    }
+}
+
+impl From<CheckFault> for Status {
+    ghost use Rattle.std.specs.Prelude.{◌≡◌};
+    ghost use Rattle.spiral_main.specs.Fault.{status_of_check};
+
+    ghost from_gives = { λ fault status. status ≡ status_of_check fault };
+
+    fn from(fault: CheckFault) -> Self {
+        match fault {
+            CheckFault::OverSteps { limit } => Status::OverSteps { limit },
+            CheckFault::Address {
+                phase,
+                proc,
+                action,
+            } => Status::Address {
+                phase,
+                proc,
+                action,
+            },
+            CheckFault::Register {
+                phase,
+                proc,
+                action,
+            } => Status::Register {
+                phase,
+                proc,
+                action,
+            },
+            CheckFault::LineShared { phase, line, a, b } => Status::LineShared {
+                phase,
+                line,
+                a,
+                b,
+            },
+            CheckFault::NoMemory => Status::NoMemory,
+        }
+    }
+}
+
 impl From<WriteFault> for Status {
     ghost use Rattle.std.specs.Prelude.{◌≡◌};
     ghost use Rattle.spiral_main.specs.declared.status.Status.TheVariants.{WriteFault};
@@ -192,213 +303,5 @@ impl From<AllocError> for Status {
 
     fn from(_: AllocError) -> Self {
         Status::NoMemory
-    }
-}
-
-// A field's word in a request line.
-fn word(field: Field) -> &'static [u8]
-    ensures word { result.now ≡ field_word field }
-{
-    match field {
-        Field::Size => b"size",
-        Field::Mod => b"mod",
-        Field::Root => b"root",
-        Field::Procs => b"procs",
-        Field::Line => b"line",
-        Field::Lanes => b"lanes",
-        Field::Unroll => b"unroll",
-        Field::Budget => b"budget",
-        Field::Weight => b"weight",
-    }
-}
-
-// Writes a number between two texts.
-fn note_number<E: Sink>(
-    note: &mut E,
-    front: &[u8],
-    number: u64,
-    end: &[u8],
-) -> Result<(), WriteFault>
-    ensures bytes { WritesAll (E.taken note.old) (E.taken note.new) result (concat (front.now ∷ decimal number ∷ end.now ∷ [])) }
-    ensures cause { HasCause (E.faults note.old) (E.faults note.new) result }
-{
-    let mut buffer = Buffer::new();
-    write_parts(note, &[front, buffer.format(number).as_bytes(), end])
-}
-
-// Writes two numbers, each behind a text.
-fn note_numbers<E: Sink>(
-    note: &mut E,
-    front: &[u8],
-    first: u64,
-    middle: &[u8],
-    second: u64,
-    end: &[u8],
-) -> Result<(), WriteFault>
-    ensures bytes { WritesAll (E.taken note.old) (E.taken note.new) result
-        (concat (front.now ∷ decimal first ∷ middle.now ∷ decimal second ∷ end.now ∷ [])) }
-    ensures cause { HasCause (E.faults note.old) (E.faults note.new) result }
-{
-    note_number(note, front, first, middle)?;
-    note_number(note, b"", second, end)
-}
-
-// Writes a number behind a field's word.
-fn note_range<E: Sink>(note: &mut E, field: Field, value: u64) -> Result<(), WriteFault>
-    ensures bytes { WritesAll (E.taken note.old) (E.taken note.new) result (note_line (Status.Range field value)) }
-    ensures cause { HasCause (E.faults note.old) (E.faults note.new) result }
-{
-    let mut buffer = Buffer::new();
-    write_parts(
-        note,
-        &[
-            b"spiral: ",
-            word(field),
-            b" ",
-            buffer.format(value).as_bytes(),
-            b" is out of range\n",
-        ],
-    )
-}
-
-// Writes what is wrong with a certificate's row.
-fn note_row<E: Sink>(note: &mut E, size: u64, given: u64, found: u64) -> Result<(), WriteFault>
-    ensures bytes { WritesAll (E.taken note.old) (E.taken note.new) result (note_line (Status.Wrong size given found)) }
-    ensures cause { HasCause (E.faults note.old) (E.faults note.new) result }
-{
-    let mut sizes = Buffer::new();
-    let mut costs = Buffer::new();
-    let mut found_costs = Buffer::new();
-    write_parts(
-        note,
-        &[
-            b"spiral: certificate row ",
-            sizes.format(size).as_bytes(),
-            b" gives ",
-            costs.format(given).as_bytes(),
-            b", found ",
-            found_costs.format(found).as_bytes(),
-            b"\n",
-        ],
-    )
-}
-
-// Writes that a size is no power of two.
-fn note_shape<E: Sink>(note: &mut E, size: u64) -> Result<(), WriteFault>
-    ensures bytes { WritesAll (E.taken note.old) (E.taken note.new) result (note_line (Status.Shape size)) }
-    ensures cause { HasCause (E.faults note.old) (E.faults note.new) result }
-{
-    note_number(
-        note,
-        b"spiral: wht size ",
-        size,
-        b" is not a power of two\n",
-    )
-}
-
-// Writes that the lanes do not divide the line.
-fn note_lanes_line<E: Sink>(note: &mut E, lanes: u64, line: u64) -> Result<(), WriteFault>
-    ensures bytes { WritesAll (E.taken note.old) (E.taken note.new) result (note_line (Status.LanesLine lanes line)) }
-    ensures cause { HasCause (E.faults note.old) (E.faults note.new) result }
-{
-    note_numbers(
-        note,
-        b"spiral: lanes ",
-        lanes,
-        b" do not divide line ",
-        line,
-        b"\n",
-    )
-}
-
-// Writes which processor of a schedule is none of so many.
-fn note_turn<E: Sink>(note: &mut E, q: u64, p: u64) -> Result<(), WriteFault>
-    ensures bytes { WritesAll (E.taken note.old) (E.taken note.new) result (note_line (Status.Turn q p)) }
-    ensures cause { HasCause (E.faults note.old) (E.faults note.new) result }
-{
-    note_numbers(note, b"spiral: turn names processor ", q, b" of ", p, b"\n")
-}
-
-// Writes what a root to the power of the size is.
-fn note_root<E: Sink>(note: &mut E, power: u64) -> Result<(), WriteFault>
-    ensures bytes { WritesAll (E.taken note.old) (E.taken note.new) result (note_line (Status.Root power)) }
-    ensures cause { HasCause (E.faults note.old) (E.faults note.new) result }
-{
-    note_number(note, b"spiral: root to the size is ", power, b", not 1\n")
-}
-
-// Writes that the least cost is over the budget.
-fn note_budget<E: Sink>(note: &mut E, cost: u64, budget: u64) -> Result<(), WriteFault>
-    ensures bytes { WritesAll (E.taken note.old) (E.taken note.new) result (note_line (Status.OverBudget cost budget)) }
-    ensures cause { HasCause (E.faults note.old) (E.faults note.new) result }
-{
-    note_numbers(
-        note,
-        b"spiral: least cost ",
-        cost,
-        b" is over budget ",
-        budget,
-        b"\n",
-    )
-}
-
-// Writes which token is no number.
-fn note_token<E: Sink>(note: &mut E, token: u64) -> Result<(), WriteFault>
-    ensures bytes { WritesAll (E.taken note.old) (E.taken note.new) result (note_line (Status.BadNumber token)) }
-    ensures cause { HasCause (E.faults note.old) (E.faults note.new) result }
-{
-    note_number(note, b"spiral: token ", token, b" is not a number\n")
-}
-
-// Writes how much of a vector the data hold.
-fn note_truncated<E: Sink>(note: &mut E, have: u64, need: u64) -> Result<(), WriteFault>
-    ensures bytes { WritesAll (E.taken note.old) (E.taken note.new) result (note_line (Status.Truncated have need)) }
-    ensures cause { HasCause (E.faults note.old) (E.faults note.new) result }
-{
-    note_numbers(
-        note,
-        b"spiral: input ends with ",
-        have,
-        b" of ",
-        need,
-        b" numbers\n",
-    )
-}
-
-// Writes how many bytes are too many.
-fn note_too_long<E: Sink>(note: &mut E, limit: u64) -> Result<(), WriteFault>
-    ensures bytes { WritesAll (E.taken note.old) (E.taken note.new) result (note_line (Status.TooLong limit)) }
-    ensures cause { HasCause (E.faults note.old) (E.faults note.new) result }
-{
-    note_number(note, b"spiral: more than ", limit, b" bytes\n")
-}
-
-/// Writes the line of a status.
-pub(crate) fn write_note<E: Sink>(note: &mut E, status: Status) -> Result<(), WriteFault>
-    ensures bytes { WritesAll (E.taken note.old) (E.taken note.new) result (note_line status) }
-    ensures cause { HasCause (E.faults note.old) (E.faults note.new) result }
-{
-    match status {
-        Status::Success => Ok(()),
-        Status::Usage => write_all(
-            note,
-            b"spiral: usage: spiral plan|formula|code|c|run|trace|cert|check|sample [--schedule WORD] [--seed NUMBER]\n",
-        ),
-        Status::Syntax { at } => note_number(note, b"spiral: syntax at byte ", at, b"\n"),
-        Status::Range { field, value } => note_range(note, field, value),
-        Status::Shape { size } => note_shape(note, size),
-        Status::LanesLine { lanes, line } => note_lanes_line(note, lanes, line),
-        Status::Turn { q, p } => note_turn(note, q, p),
-        Status::Root { power } => note_root(note, power),
-        Status::NoDivide => write_all(note, b"spiral: no split fits procs, line and lanes\n"),
-        Status::OverBudget { cost, budget } => note_budget(note, cost, budget),
-        Status::BadNumber { token } => note_token(note, token),
-        Status::Truncated { have, need } => note_truncated(note, have, need),
-        Status::ReadFault => write_all(note, b"spiral: read failed\n"),
-        Status::WriteFault => write_all(note, b"spiral: write failed\n"),
-        Status::NoMemory => write_all(note, b"spiral: out of memory\n"),
-        Status::TooLong { limit } => note_too_long(note, limit),
-        Status::Unread => write_all(note, b"spiral: certificate unreadable\n"),
-        Status::Wrong { size, given, found } => note_row(note, size, given, found),
     }
 }

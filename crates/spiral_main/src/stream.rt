@@ -11,20 +11,26 @@ use data_stream::{DataFault, Next, Vectors, write_vector};
 use io_edge::{Feed, Sink, Source, WriteFault};
 use par_machine::Machine;
 use request_text::Schedule;
+use thiserror::Error;
 use trace_text::write_turns;
 
 /// Why a run over a stream ended before the stream.
-#[derive(Clone, Copy, Debug, PartialEq, Eq)]
+#[derive(Clone, Copy, Debug, PartialEq, Eq, Error)]
 pub enum StreamFault {
     /// The first token that is no number. Tokens are counted from 1.
+    #[error("token {token} is not a number")]
     BadNumber { token: u64 },
     /// The data end inside a vector.
+    #[error("input ends with {have} of {need} numbers")]
     Truncated { have: u64, need: u64 },
     /// The input has more bytes than a feed gives.
+    #[error("the input is too long")]
     TooLong,
     /// The source failed.
+    #[error("read failed")]
     ReadFault,
     /// The sink failed.
+    #[error("write failed")]
     WriteFault,
 }
 
@@ -131,8 +137,7 @@ fn write_run<O: Sink>(
 /// Runs the machine on each vector of the data, by the turns of the schedule and those that complete them, and writes
 /// the line of its results before it reads the next. Where lines are asked for, one for each turn comes before it.
 ///
-/// The data go on where the feed stands. One that has gone over its limit gives `TooLong`. The slice is room for a vector,
-/// which has at least one number.
+/// The data go on where the feed stands. One that has gone over its limit gives `TooLong`. The slice is room for a vector.
 pub fn run_stream<I: Source, O: Sink>(
     machine: &mut Machine,
     schedule: &Schedule,
@@ -142,7 +147,6 @@ pub fn run_stream<I: Source, O: Sink>(
     output: &mut O,
     vector: &mut [u64],
 ) -> Result<(), StreamFault>
-    requires some { 0 < length vector.old }
     requires size { length vector.old ≡ machine.old.code.size }
     requires no_stranger { HasNoStranger schedule.now machine.old.code.procs }
 
@@ -161,7 +165,8 @@ pub fn run_stream<I: Source, O: Sink>(
     ensures write { Reports (O.faults output.old) (O.faults output.new) (IsErrOf result StreamFault.WriteFault) }
 {
     let modulus = machine.modulus();
-    let mut vectors = Vectors::new(vector.len() as u64);
+    let size = machine.size();
+    let mut vectors = Vectors::new(size);
     while let Next::Vector = vectors.next(&modulus, feed, input, vector)? {
         write_run(machine, schedule, lines, output, vector)?;
     }

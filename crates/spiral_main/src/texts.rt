@@ -8,11 +8,10 @@ ghost use Rattle.generate.specs.Good.{IsGood, IsLean};
 ghost use Rattle.generate.specs.Planned.{IsPlanned};
 ghost use Rattle.tree_model.specs.Breakdown.{breakdown_of};
 ghost use Rattle.tree_model.specs.Cost.{cost_of};
-ghost use Rattle.spiral_main.specs.Commands.{has_text, schedule_of};
+ghost use Rattle.spiral_main.specs.Commands.{has_text, NamesNoStranger};
 ghost use Rattle.spiral_main.specs.Outcome.{IsRefused, IsAffordable, IsProgramFor, IsListing, IsCText, IsTextOf};
 ghost use Rattle.spiral_main.specs.Status.{IsDefined};
 ghost use Rattle.spiral_main.specs.Steps.{IsRefusal, IsGoodCode};
-ghost use Rattle.spiral_main.specs.Stream.{HasNoStranger};
 
 use crate::Status;
 use crate::plans::{certificate, formula, plan_lines};
@@ -25,8 +24,8 @@ use par_machine::Machine;
 use spiral_words::Command;
 use std::alloc::Global;
 
-// A good program for the request.
-fn good_product(alloc: Global, request: &Request) -> Result<Product, Status>
+/// A good program for the request.
+pub(crate) fn good_product(alloc: Global, request: &Request) -> Result<Product, Status>
     requires in_range { IsInRange request.now }
     requires weight { request.now.weight ≡ 1 }
     ensures planned { IfOk result (λ product. IsPlanned request.now (Ok (breakdown_of product.plan.tree))) }
@@ -115,7 +114,7 @@ pub(crate) fn text_of(
 ) -> Result<Vec<u8>, Status>
     requires in_range { IsInRange request.now }
     requires weight { request.now.weight ≡ 1 }
-    requires turns { HasNoStranger (schedule_of command.now) request.now.procs }
+    requires turns { NamesNoStranger command.now request.now.procs }
     requires textual { has_text command.now ≡ true }
     ensures affordable { OnOk result (IsAffordable request.now) }
     ensures text { IfOk result (λ text. IsTextOf command.now request.now text.items) }

@@ -19,19 +19,24 @@ use grammar::{Cursor, ReadError, Stuck};
 use memory::NoMemory;
 use spl_ast::Spl;
 use std::alloc::Global;
+use thiserror::Error;
 
 /// Why a text is no formula. Places count bytes from 0.
-#[derive(Clone, Copy, Debug, PartialEq, Eq)]
+#[derive(Clone, Copy, Debug, PartialEq, Eq, Error)]
 pub enum SplFault {
     /// No spelling goes on at this place.
+    #[error("no formula goes on at byte {at}")]
     Syntax { at: u64 },
     /// The opening parenthesis at this place would be the 129th open one.
+    #[error("the parenthesis at byte {at} would be the 129th open one")]
     TooDeep { at: u64 },
     /// The part that begins at this place does not fit, for these two numbers: the columns and rows of a product's
     /// factors; a size and what does not divide it; factors of a Good-Thomas step that are not coprime, or one of them
     /// 1; a size of `WHT` that is no power of two, and 2; the length of a `PERM` and its first entry that is too large
     /// or stood before; a size over 65,536, and 65,536.
+    #[error("the part at byte {at} does not fit: {left} and {right}")]
     Shape { at: u64, left: u64, right: u64 },
+    #[error("out of memory")]
     NoMemory,
 }
 

@@ -1,3 +1,5 @@
 pub mod Trace
 pub mod From
 pub mod Course
+pub mod EventLines
+pub mod EventCourse

@@ -1,12 +1,14 @@
-// The line of a turn.
+// The line of a turn or a drain.
 
 ghost use Rattle.std.specs.Prelude.{◌≡◌, ◌+◌, ◌*◌, ◌<◌, ◌≤◌, ◌++◌, length, take, codes, decimal, flat_map};
 ghost use Rattle.std.specs.List.{join_by};
 ghost use Rattle.arrayvec.specs.ArrayString.{array_string_len};
+ghost use Rattle.trace_text.specs.EventLines.{drain_line, drained_text};
 ghost use Rattle.trace_text.specs.Trace.{action_text, answer_text, turn_line};
 
 use arrayvec::ArrayString;
 use icode::action::Action;
+use icode::event::Drained;
 use itoa::Buffer;
 use par_machine::Turned;
 
@@ -136,6 +138,31 @@ pub(crate) fn line_of(number: u64, proc: u64, lanes: u64, turned: &Turned) -> Li
     put(&mut line, " ", proc);
     line.push_str(" ");
     put_answer(&mut line, lanes, turned);
+    line.push_str("\n");
+    line
+}
+
+/// Appends the text of what a drain did.
+fn put_drained(line: &mut Line, drained: &Drained)
+    requires room { array_string_len line.old ≤ 42 }
+    ensures text { line.new.bytes ≡ line.old.bytes ++ drained_text drained.now }
+    ensures len { array_string_len line.new ≤ 500 }
+{
+    match drained {
+        Drained::Wrote(address) => put(line, "drain ", *address),
+        Drained::Empty => line.push_str("empty"),
+    }
+}
+
+/// The line of a drain.
+pub(crate) fn drain_line(number: u64, proc: u64, drained: &Drained) -> Line
+    ensures { result.bytes ≡ drain_line number proc drained.now }
+{
+    let mut line = Line::new();
+    put(&mut line, "", number);
+    put(&mut line, " ", proc);
+    line.push_str(" ");
+    put_drained(&mut line, drained);
     line.push_str("\n");
     line
 }

@@ -1,11 +1,11 @@
 -- Lazy residues: words below a multiple of m that stand for residues.
-use Rattle.std.proofs.Common.{◌≡◌, ℕ, ◌+◌, ◌-◌, ◌*◌, ◌/◌, ◌%◌, ◌<◌, ◌≤◌, arith, refl, sym, ap, ◌∙◌, subst, mul-le-mul_left, ⊎_elim, min, cond, Bool, true, false, ap₂}
+use Rattle.std.proofs.Common.{◌≡◌, ℕ, ◌+◌, ◌-◌, ◌*◌, ◌/◌, ◌%◌, ◌<◌, ◌≤◌, arith, refl, sym, ap, ◌∙◌, subst, mul-le-mul_left, ⊎_elim, min, cond, true, false, ap₂}
 use Rattle.std.proofs.Math.Nat.{add-mod, add-mul-mod_self_left, mul-add-mod_self_right, mod-eq_of_lt, mod-mod, min-eq_left, min-eq_right}
 use Rattle.std.proofs.lemmas.Nat.{div-add-mod', mul-lt, mul-mod_first, mod_below, div_below, le-div}
 use Rattle.std.proofs.lemmas.Bool.{cases_lt}
 use Rattle.ring_mod.specs.Residue.{sum_mod, difference_mod, negation_mod, product_mod}
 use Rattle.ring_mod.proofs.Congruence.{same-add}
-use Rattle.word_code.specs.Words.{Width, base_of, wrapped_sum, wrapped_difference, wrapped_product, high, rough_high, high_of, quotient_of, lazy_product, product_bound, biased_difference, reduced}
+use Rattle.word_code.specs.Words.{Width, base_of, wrapped_sum, wrapped_difference, high, rough_high, high_of, quotient_of, lazy_product, product_bound, biased_difference, reduced}
 
 div_under : (n k : ℕ) → n / k * k ≤ n
 div_under n k = omega (arith, div-add-mod' n k)
@@ -137,9 +137,10 @@ product_word w m a c q pos positive room small is =
     let over : a * c < (h + product_bound w) * m = product_over (base_of w) m a c h (product_bound w) whole positive small near.1 in
     let e : a * c ≡ h * m + (a * c - h * m) = omega arith in
     let below : a * c - h * m < product_bound w * m = omega (arith, under, over) in
-    let value : lazy_product w m a c q ≡ a * c - h * m = ap (lazy_product w m a c) is ∙ wraps_back (base_of w) (a * c) (h * m) (a * c - h * m) e (omega (arith, below, room)) in
-    (mul-mod_first a c m ∙ ap (λ n. n % m) e ∙ mul-add-mod_self_right h m (a * c - h * m) ∙ sym (ap (λ n. n % m) value),
-     subst (λ n. n < product_bound w * m) (sym value) below)
+    let value : lazy_product w m a c q ≡ a * c - h * m = ap (lazy_product w m a c) is ∙ wraps_back (base_of w) (a * c) (h * m) (a * c - h * m) e (omega (arith, below, room)) in (
+      mul-mod_first a c m ∙ ap (λ n. n % m) e ∙ mul-add-mod_self_right h m (a * c - h * m) ∙ sym (ap (λ n. n % m) value),
+      subst (λ n. n < product_bound w * m) (sym value) below,
+    )
 
 -- Sums and differences
 
@@ -169,9 +170,10 @@ pub difference_word : (base m p k a b : ℕ) → 0 < m → p + k * m ≤ base �
 difference_word base m p k a b positive room lp lq =
     let small : a + k * m < base = omega arith in
     let value : biased_difference base (k * m) a b ≡ a + (k * m - b) =
-        ap (λ n. wrapped_difference base n b) (mod-eq_of_lt small) ∙ plain_difference base (a + k * m) b (omega arith) small ∙ omega arith in
-    (same-add m (a % m) a (m - b % m) (k * m - b) (mod-mod a m) (turned m k b positive lq) ∙ sym (ap (λ n. n % m) value),
-     subst (λ n. n < p + k * m) (sym value) (omega arith))
+    ap (λ n. wrapped_difference base n b) (mod-eq_of_lt small) ∙ plain_difference base (a + k * m) b (omega arith) small ∙ omega arith in (
+      same-add m (a % m) a (m - b % m) (k * m - b) (mod-mod a m) (turned m k b positive lq) ∙ sym (ap (λ n. n % m) value),
+      subst (λ n. n < p + k * m) (sym value) (omega arith),
+    )
 
 pub negation_word : (base m k b : ℕ) → 0 < m → (k + 1) * m ≤ base → b < k * m →
     (negation_mod m (b % m) ≡ wrapped_difference base (k * m) b % m) × (wrapped_difference base (k * m) b < (k + 1) * m)
@@ -187,14 +189,14 @@ pub reduced_word : (base m h p a : ℕ) → 0 < m → p ≤ 2 * (h * m) → h * 
 reduced_word base m h p a positive enough room small lp =
     ⊎_elim
     (λ (lt : a < h * m).
-        let fits : a + (base - h * m) < base = omega arith in
-        let other : wrapped_difference base a (h * m) ≡ a + (base - h * m) = mod-eq_of_lt fits in
-        let value : reduced base (h * m) a ≡ a = ap (min a) other ∙ min-eq_left (omega arith) in
-        let both : (a % m ≡ reduced base (h * m) a % m) × (reduced base (h * m) a < h * m) = (ap (λ n. n % m) (sym value), subst (λ n. n < h * m) (sym value) lt) in both)
+    let fits : a + (base - h * m) < base = omega arith in
+    let other : wrapped_difference base a (h * m) ≡ a + (base - h * m) = mod-eq_of_lt fits in
+    let value : reduced base (h * m) a ≡ a = ap (min a) other ∙ min-eq_left (omega arith) in
+    let both : (a % m ≡ reduced base (h * m) a % m) × (reduced base (h * m) a < h * m) = (ap (λ n. n % m) (sym value), subst (λ n. n < h * m) (sym value) lt) in both)
     (λ (le : h * m ≤ a).
-        let other : wrapped_difference base a (h * m) ≡ a - h * m = plain_difference base a (h * m) le small in
-        let value : reduced base (h * m) a ≡ a - h * m = ap (min a) other ∙ min-eq_right (omega arith) in
-        let e : a ≡ h * m + (a - h * m) = omega arith in
-        let both : (a % m ≡ reduced base (h * m) a % m) × (reduced base (h * m) a < h * m) =
-            (ap (λ n. n % m) e ∙ mul-add-mod_self_right h m (a - h * m) ∙ sym (ap (λ n. n % m) value), subst (λ n. n < h * m) (sym value) (omega arith)) in both)
+    let other : wrapped_difference base a (h * m) ≡ a - h * m = plain_difference base a (h * m) le small in
+    let value : reduced base (h * m) a ≡ a - h * m = ap (min a) other ∙ min-eq_right (omega arith) in
+    let e : a ≡ h * m + (a - h * m) = omega arith in
+    let both : (a % m ≡ reduced base (h * m) a % m) × (reduced base (h * m) a < h * m) =
+    (ap (λ n. n % m) e ∙ mul-add-mod_self_right h m (a - h * m) ∙ sym (ap (λ n. n % m) value), subst (λ n. n < h * m) (sym value) (omega arith)) in both)
     (cases_lt a (h * m))

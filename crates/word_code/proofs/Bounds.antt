@@ -2,7 +2,7 @@
 use Rattle.std.proofs.Common.{◌≡◌, ℕ, zero, suc, ◌+◌, ◌-◌, ◌*◌, ◌<◌, ◌≤◌, ◌⊎◌, inl, inr, List, [], ◌∷◌, length, sym, ap, ◌∙◌, subst, arith, mul-le-mul_left, ⊎_elim}
 use Rattle.std.specs.Prelude.{slice_index, slice_set}
 use Rattle.std.proofs.lemmas.Bool.{cases_lt}
-use Rattle.icode.specs.Machine.{words_at, with_words, register_of}
+use Rattle.icode.specs.Machine.{with_words, register_of}
 use Rattle.code_laws.proofs.Placing.{with_words_elsewhere}
 use Rattle.word_code.proofs.Residues.{AllBelow, below-words_at}
 
@@ -17,8 +17,8 @@ written_below [] xs i l bound lt low = absurd (omega arith)
 written_below (v ∷ vs) xs i zero bound lt low =
     let same : i + 0 ≡ i = omega arith in
     let value : slice_index (with_words xs i (v ∷ vs)) (i + 0) ≡ slice_index (slice_set xs i v) i =
-        ap (slice_index (with_words (slice_set xs i v) (i + 1) vs)) same
-        ∙ with_words_elsewhere vs (slice_set xs i v) (i + 1) i (λ a b. omega arith) in
+    ap (slice_index (with_words (slice_set xs i v) (i + 1) vs)) same
+    ∙ with_words_elsewhere vs (slice_set xs i v) (i + 1) i (λ a b. omega arith) in
     subst (λ n. n < bound) (sym value) (set_here xs i v bound low.0)
 written_below (v ∷ vs) xs i (suc l) bound lt low =
     let place : i + suc l ≡ i + 1 + l = omega arith in
@@ -35,13 +35,13 @@ write_below vs xs i k low bound are fits lt =
     ⊎_elim
     (λ (before : k < i). left_below vs xs i k bound (λ a b. omega arith) lt)
     (λ (from : i ≤ k). ⊎_elim
-        (λ (inside : k < i + length vs).
-            let l : i + (k - i) ≡ k = omega arith in
-            let here : slice_index (with_words xs i vs) k < low = subst (λ n. slice_index (with_words xs i vs) n < low) l (written_below vs xs i (k - i) low (omega arith) are) in
-            let le : low ≤ bound = fits from inside in
-            let done : slice_index (with_words xs i vs) k < bound = omega (arith, here, le) in done)
-        (λ (after : i + length vs ≤ k). left_below vs xs i k bound (λ a b. omega arith) lt)
-        (cases_lt k (i + length vs)))
+    (λ (inside : k < i + length vs).
+    let l : i + (k - i) ≡ k = omega arith in
+    let here : slice_index (with_words xs i vs) k < low = subst (λ n. slice_index (with_words xs i vs) n < low) l (written_below vs xs i (k - i) low (omega arith) are) in
+    let le : low ≤ bound = fits from inside in
+    let done : slice_index (with_words xs i vs) k < bound = omega (arith, here, le) in done)
+    (λ (after : i + length vs ≤ k). left_below vs xs i k bound (λ a b. omega arith) lt)
+    (cases_lt k (i + length vs)))
     (cases_lt k i)
 
 -- the bound of each register, in multiples of m
@@ -82,7 +82,7 @@ put_below m lanes n r v b c words vs are low long new old = record { each = at }
         let row : suc (q - r) ≤ n = omega arith in
         let within : (q - r) * lanes + l < length vs = let a = mul-le-mul_left lanes row in let e : lanes * suc (q - r) ≡ (q - r) * lanes + lanes = omega arith in omega (arith, a, e, lt, long) in
         let here : slice_index (with_words words (r * lanes) vs) (q * lanes + l) < v * m =
-            subst (λ k. slice_index (with_words words (r * lanes) vs) k < v * m) place (written_below vs words (r * lanes) ((q - r) * lanes + l) (v * m) within low) in
+        subst (λ k. slice_index (with_words words (r * lanes) vs) k < v * m) place (written_below vs words (r * lanes) ((q - r) * lanes + l) (v * m) within low) in
         let up = mul-le-mul_left m (new q from to) in
         omega (arith, here, up)
       where
@@ -94,7 +94,7 @@ put_below m lanes n r v b c words vs are low long new old = record { each = at }
         ⊎_elim
         (λ (lower : q < r). kept q l lt (inl lower))
         (λ (from : r ≤ q). ⊎_elim
-            (λ (to : q < r + n). inside q l lt from to)
-            (λ (higher : r + n ≤ q). kept q l lt (inr higher))
-            (cases_lt q (r + n)))
+        (λ (to : q < r + n). inside q l lt from to)
+        (λ (higher : r + n ≤ q). kept q l lt (inr higher))
+        (cases_lt q (r + n)))
         (cases_lt q r)

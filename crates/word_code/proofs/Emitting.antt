@@ -1,13 +1,11 @@
 -- Statements that are quickened one after another.
-use Rattle.std.proofs.Common.{◌≡◌, ℕ, zero, suc, ◌+◌, ◌-◌, ◌*◌, ◌<◌, ◌≤◌, List, [], ◌∷◌, ◌++◌, true, Vec, Global, length, take, map, replicate, get_or, min, ltb-true, refl, sym, ap, ap₂, ◌∙◌, subst, arith}
+use Rattle.std.proofs.Common.{◌≡◌, ℕ, zero, suc, ◌+◌, ◌-◌, ◌*◌, ◌<◌, ◌≤◌, List, [], ◌∷◌, ◌++◌, true, Vec, Global, length, take, map, replicate, get_or, ltb-true, refl, sym, ap, ap₂, ◌∙◌, arith}
 use Rattle.std.proofs.lemmas.List.{take_more}
 use Rattle.icode.specs.declared.program.Stmt.{Stmt}
 use Rattle.icode.specs.Plain.{PlainOp, PlainStmt, PlainBody, Load, Store, Zero, Add, Sub, Neg, MulConst, MulTable, Tile, plain_stmt, plain_body, body_of}
 use Rattle.icode.specs.Plain as plain
 use Rattle.icode.specs.declared.program.Array.{Array}
 use Rattle.icode.specs.declared.program.Array.TheVariants as arrays
-use Rattle.icode.specs.Machine.{with_words}
-use Rattle.icode.proofs.Views.{plain_stmt-Loop, plain_stmt-Do}
 use Rattle.word_code.specs.declared.program.WordStmt.{WordStmt}
 use Rattle.word_code.specs.declared.program.WordStmt.TheVariants as words
 use Rattle.word_code.specs.declared.program.WordStmt.TheOpen.{WordStmt-F}
@@ -84,11 +82,11 @@ quick_more z h i stmts stmt before made new word bounds after lt e is same ends 
     record {
       is =
           ap (λ ss. quick_body z h (body_of ss) before)
-            (ap (map plain_stmt) (take_more stmts i stmt lt ∙ ap (λ (s : Stmt). take i stmts ++ s ∷ []) (sym e)) ∙ map-append plain_stmt (take i stmts) (stmt ∷ []))
+          (ap (map plain_stmt) (take_more stmts i stmt lt ∙ ap (λ (s : Stmt). take i stmts ++ s ∷ []) (sym e)) ∙ map-append plain_stmt (take i stmts) (stmt ∷ []))
           ∙ quick_last z h (map plain_stmt (take i stmts)) (plain_stmt stmt) before (map plain_word_stmt made) bounds is.is
           ∙ ap₂ (λ ws bs. let r : QuickBody = record { body = word_body_of ws; bounds = bs } in r)
-            (ap (λ w. map plain_word_stmt made ++ w ∷ []) (sym same) ∙ sym (map-append plain_word_stmt made (word ∷ [])) ∙ ap (map plain_word_stmt) (sym appended))
-            (sym ends);
+          (ap (λ w. map plain_word_stmt made ++ w ∷ []) (sym same) ∙ sym (map-append plain_word_stmt made (word ∷ [])) ∙ ap (map plain_word_stmt) (sym appended))
+          (sym ends);
     }
 
 -- No bound passes the limit

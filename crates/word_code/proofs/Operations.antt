@@ -1,5 +1,5 @@
 -- Each operation on words does what the operation does.
-use Rattle.std.proofs.Common.{◌≡◌, ℕ, zero, suc, ◌+◌, ◌-◌, ◌*◌, ◌/◌, ◌<◌, ◌≤◌, ◌⊎◌, inl, inr, List, [], ◌∷◌, ◌++◌, length, map, replicate, max, min, refl, sym, ap, ap₂, ◌∙◌, subst, arith, ⊎_elim, length-append, mul-le-mul_left}
+use Rattle.std.proofs.Common.{◌≡◌, ℕ, zero, suc, ◌+◌, ◌-◌, ◌*◌, ◌/◌, ◌<◌, ◌≤◌, ◌⊎◌, inl, inr, List, [], ◌∷◌, ◌++◌, length, map, replicate, min, refl, sym, ap, ◌∙◌, subst, arith, ⊎_elim, length-append}
 use Rattle.std.specs.Prelude.{slice_index, slice_index_or, slice_set}
 use Rattle.std.specs.List.{range_with_len}
 use Rattle.std.proofs.Math.Nat.{zero-div, min-eq_right, le-max_left, le-max_right, max-le}
@@ -9,15 +9,15 @@ use Rattle.icode.specs.declared.program.Array.TheVariants as arrays
 use Rattle.icode.specs.Actions.{step_of, StepFits, lane_factors, array_start}
 use Rattle.icode.specs.Expression.{sum_numbers}
 use Rattle.icode.specs.Machine.{whole_lines, with_words}
-use Rattle.icode.specs.Plain.{PlainOp, PlainExpr, PlainProgram, Load, Store, Zero, Add, Sub, Neg, MulConst, MulTable, Tile}
-use Rattle.word_code.specs.Words.{Width, base_of, quotient_of, product_bound}
+use Rattle.icode.specs.Plain.{PlainOp, PlainProgram, Load, Store, Zero, Add, Sub, Neg, MulConst, MulTable, Tile}
+use Rattle.word_code.specs.Words.{base_of, quotient_of, product_bound}
 use Rattle.word_code.specs.WordProgram.{word_action_of}
 use Rattle.word_code.specs.Quicken.{Laziness, bound_at, settled, array_bound, greatest_bound, noted, quickened}
 use Rattle.word_code.proofs.Arithmetic.{two_at_least}
 use Rattle.word_code.proofs.Residues.{AreQuotients}
 use Rattle.word_code.proofs.Quick.{Scale, IsMemoryBelow, IsQuick}
-use Rattle.word_code.proofs.Reduce.{AreReductions, no_reductions, IsSettled, settled_is, set_bound_here, kept_bound, length-set}
-use Rattle.word_code.proofs.Puts.{IsSound, IsPut, quick_put, quick_store, zero_put, load_put, add_put, sub_put, neg_put, mul_put, tile_put}
+use Rattle.word_code.proofs.Reduce.{no_reductions, IsSettled, settled_is, set_bound_here, kept_bound, length-set}
+use Rattle.word_code.proofs.Puts.{IsSound, quick_put, quick_store, zero_put, load_put, add_put, sub_put, neg_put, mul_put, tile_put}
 
 abbrev pub scale : Laziness → PlainProgram → Scale
 scale z p =
@@ -53,9 +53,9 @@ tile_new limit zero bounds r v q le from to = absurd (omega arith)
 tile_new limit (suc n) bounds r v q le from to =
     ⊎_elim
     (λ (here : q < r + 1).
-        let a = set_bound_here limit bounds r v q le from here in
-        let b = tile_old limit n (slice_set bounds r v) (r + 1) v q (inl here) in
-        let done : v ≤ bound_at limit (with_words bounds r (replicate (suc n) v)) q = omega (arith, a, b) in done)
+    let a = set_bound_here limit bounds r v q le from here in
+    let b = tile_old limit n (slice_set bounds r v) (r + 1) v q (inl here) in
+    let done : v ≤ bound_at limit (with_words bounds r (replicate (suc n) v)) q = omega (arith, a, b) in done)
     (λ (later : r + 1 ≤ q). tile_new limit n (slice_set bounds r v) (r + 1) v q le later (omega arith))
     (cases_lt q (r + 1))
 
@@ -242,7 +242,7 @@ module _ (z : Laziness) (p : PlainProgram) (sound : IsSound (scale z p)) where
             quick_put s (bound_at z.limit bounds) (bound_at z.limit bounds) (bound_at z.limit (slice_set bounds r v)) [] _ 0 _ 1 v
             (no_reductions (base_of z.width) p.modulus p.lanes (bound_at z.limit bounds)) (λ t. refl)
             (mul_put s (bound_at z.limit bounds) r x 0 (lane_factors p.lanes (λ lane. factor)) (lane_factors p.lanes (λ lane. quotient_of (base_of z.width) p.modulus factor)) sound (sane x) (enough_factors p.lanes (λ lane. factor))
-              (quotients_of_lanes (base_of z.width) p.modulus (λ lane. factor) (λ lane. quotient_of (base_of z.width) p.modulus factor) (λ l. refl) p.lanes 0 (16 - p.lanes)))
+            (quotients_of_lanes (base_of z.width) p.modulus (λ lane. factor) (λ lane. quotient_of (base_of z.width) p.modulus factor) (λ l. refl) p.lanes 0 (16 - p.lanes)))
             (set_sane z.limit bounds r v sound.product sane) (λ k from to. set_bound_here z.limit bounds r v k sound.product from to) (λ k apart. kept_bound z.limit bounds r v k apart);
         long = length-set bounds r v ∙ long;
       }
@@ -252,13 +252,13 @@ module _ (z : Laziness) (p : PlainProgram) (sound : IsSound (scale z p)) where
       let entry : ℕ → ℕ = λ lane. slice_index (slice_index_or p.tables table []) (at + step * lane) in
       let quotient : ℕ → ℕ = λ lane. slice_index (slice_index_or (quickened z p).quotients table []) (at + step * lane) in
       let are : (l : ℕ) → quotient l ≡ quotient_of (base_of z.width) p.modulus (entry l) =
-          λ l. ap (λ entries. slice_index entries (at + step * l)) (quotient_table (base_of z.width) p.modulus p.tables table) ∙ quotient_entry (base_of z.width) p.modulus (slice_index_or p.tables table []) (at + step * l) in
+      λ l. ap (λ entries. slice_index entries (at + step * l)) (quotient_table (base_of z.width) p.modulus p.tables table) ∙ quotient_entry (base_of z.width) p.modulus (slice_index_or p.tables table []) (at + step * l) in
       record {
         quick =
             quick_put s (bound_at z.limit bounds) (bound_at z.limit bounds) (bound_at z.limit (slice_set bounds r v)) [] _ 0 _ 1 v
             (no_reductions (base_of z.width) p.modulus p.lanes (bound_at z.limit bounds)) (λ t. refl)
             (mul_put s (bound_at z.limit bounds) r x 0 (lane_factors p.lanes entry) (lane_factors p.lanes quotient) sound (sane x) (enough_factors p.lanes entry)
-              (quotients_of_lanes (base_of z.width) p.modulus entry quotient are p.lanes 0 (16 - p.lanes)))
+            (quotients_of_lanes (base_of z.width) p.modulus entry quotient are p.lanes 0 (16 - p.lanes)))
             (set_sane z.limit bounds r v sound.product sane) (λ k from to. set_bound_here z.limit bounds r v k sound.product from to) (λ k apart. kept_bound z.limit bounds r v k apart);
         long = length-set bounds r v ∙ long;
       }

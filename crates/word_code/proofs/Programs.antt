@@ -1,24 +1,24 @@
 -- Programs on words do what programs do.
-use Rattle.std.proofs.Common.{◌≡◌, ℕ, zero, suc, ◌+◌, ◌-◌, ◌*◌, ◌<◌, ◌≤◌, List, [], ◌∷◌, ◌++◌, All, length, map, flat_map, replicate, get_or, refl, sym, ap, ap₂, ◌∙◌, subst, arith, ⊎_elim}
+use Rattle.std.proofs.Common.{◌≡◌, ℕ, zero, suc, ◌<◌, ◌≤◌, List, [], ◌∷◌, ◌++◌, All, length, map, flat_map, replicate, refl, sym, ap, ap₂, ◌∙◌, subst, arith, ⊎_elim}
 use Rattle.std.specs.Prelude.{slice_index_or}
 use Rattle.std.specs.List.{range_with_len}
 use Rattle.std.proofs.lemmas.Bool.{cases_lt}
-use Rattle.std.proofs.lemmas.List.{get_or_past, length-map, get_or-map}
+use Rattle.std.proofs.lemmas.List.{get_or_past}
 use Rattle.std.proofs.lemmas.List.FromFn.{get_or-map-range_with_len, length-map-range_with_len}
 use Rattle.icode.specs.declared.action.Action.{Action}
 use Rattle.icode.specs.Actions.{Step, StepFits, PlainFits, step_of, steps_of_stmt, steps_of_body, steps_of_phase, actions_of, plain_code}
 use Rattle.icode.specs.Machine.{Code, results}
 use Rattle.icode.specs.Plain.{PlainOp, PlainStmt, PlainBody, PlainProgram, Load, Store, Zero, Add, Sub, Neg, MulConst, MulTable, Tile}
 use Rattle.icode.specs.Plain as plain
-use Rattle.word_code.specs.WordMachine.{WordAction, WordCode, under, actions_under, word_acts, word_results}
-use Rattle.word_code.specs.WordProgram.{WordStmt, WordBody, Note, NoStmts, AndStmts, Loop, Do, word_action_of, word_actions_of_stmt, word_actions_of_body, word_code}
+use Rattle.word_code.specs.WordMachine.{WordAction, WordCode, under, actions_under}
+use Rattle.word_code.specs.WordProgram.{WordBody, word_actions_of_stmt, word_actions_of_body, word_code}
 use Rattle.word_code.specs.Quicken.{Laziness, bound_at, loosest, header_of, noted, quick_stmt, quick_body, quickened}
-use Rattle.word_code.specs.Laws.{IsLazyWithin, QuickenedIsSame}
+use Rattle.word_code.specs.Laws.{QuickenedIsSame}
 use Rattle.word_code.proofs.Residues.{AllBelow}
-use Rattle.word_code.proofs.Quick.{Scale, IsQuick, AreQuick, from_weaker, quick-append}
+use Rattle.word_code.proofs.Quick.{Scale, AreQuick, from_weaker, quick-append}
 use Rattle.word_code.proofs.Simulation.{IsQuickCode, scale_of, results_are}
 use Rattle.word_code.proofs.Puts.{IsSound}
-use Rattle.word_code.proofs.Operations.{scale, IsDone, do_is_quick}
+use Rattle.word_code.proofs.Operations.{scale, do_is_quick}
 
 -- facts on each item, by recursion
 abbrev Each : {X : Type 0} → (X → Type 0) → List X → Type 0
@@ -103,7 +103,7 @@ module _ (z : Laziness) (p : PlainProgram) where
 
   lists_under : (bodies : List PlainBody) (qs : List ℕ) →
       map (λ (lists : List (List WordAction)). map actions_under lists)
-        (map (λ body. map (λ q. word_actions_of_body (quickened z p) body [] q) qs) (map (λ body. (quick_body z (header_of p) body (loosest z (header_of p))).body) bodies))
+      (map (λ body. map (λ q. word_actions_of_body (quickened z p) body [] q) qs) (map (λ body. (quick_body z (header_of p) body (loosest z (header_of p))).body) bodies))
       ≡ map (λ body. map (λ q. actions_of (steps_of_body p body [] q)) qs) bodies
   lists_under [] qs = refl
   lists_under (body ∷ bodies) qs = ap₂ (λ x xs. x ∷ xs) (row_under body qs) (lists_under bodies qs)

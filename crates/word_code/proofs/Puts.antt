@@ -1,17 +1,16 @@
 -- What actions on words put into registers and memory.
-use Rattle.std.proofs.Common.{◌≡◌, ℕ, zero, suc, ◌+◌, ◌-◌, ◌*◌, ◌<◌, ◌≤◌, ◌⊎◌, List, [], ◌∷◌, ◌++◌, length, map, flat_map, replicate, refl, sym, ap, ap₂, ◌∙◌, subst, arith, mul-le-mul_left, length-append}
+use Rattle.std.proofs.Common.{◌≡◌, ℕ, zero, suc, ◌+◌, ◌*◌, ◌<◌, ◌≤◌, ◌⊎◌, List, [], length, map, flat_map, replicate, refl, sym, ap, ap₂, ◌∙◌, subst, arith, mul-le-mul_left, length-append}
 use Rattle.std.specs.Prelude.{slice_index}
 use Rattle.std.specs.List.{range_with_len}
-use Rattle.std.proofs.lemmas.List.FromFn.{length-range_with_len}
 use Rattle.ring_mod.specs.Residue.{sum_mod, difference_mod, negation_mod, product_mod}
 use Rattle.icode.specs.declared.action.Action.{Action}
 use Rattle.icode.specs.declared.action.Action.TheVariants.{Load, Store, Zero, Add, Sub, Neg, Mul, Tile}
-use Rattle.icode.specs.Machine.{Local, effect, value_put, memory_after, register_put, register_of, words_at, with_words, lane_by_lane, transposed}
+use Rattle.icode.specs.Machine.{Local, effect, value_put, memory_after, register_put, register_of, with_words, lane_by_lane}
 use Rattle.icode.proofs.Words.{length-words_at}
 use Rattle.code_laws.proofs.Placing.{length-lane_by_lane, length-mapped}
-use Rattle.word_code.specs.Words.{Width, base_of, product_bound, wrapped_sum, wrapped_difference, biased_difference, lazy_product}
+use Rattle.word_code.specs.Words.{base_of, product_bound, wrapped_sum, wrapped_difference, biased_difference, lazy_product}
 use Rattle.word_code.specs.declared.program.Reduction.{Reduction}
-use Rattle.word_code.specs.WordMachine.{WordAction, word_put, word_effect, bare_effect, reduce_registers, lane_by_three}
+use Rattle.word_code.specs.WordMachine.{word_put, bare_effect, reduce_registers, lane_by_three}
 use Rattle.word_code.proofs.Arithmetic.{sum_word, difference_word, negation_word}
 use Rattle.word_code.proofs.Residues.{residues, residues-words_at, residues-with_words, residues-zeros, residues-transposed, AllBelow, below-words_at, below-zeros, below-transposed, lazy_map, lazy_lanes, lazy_products, AreQuotients, length-three}
 use Rattle.word_code.proofs.Bounds.{Bounds, AreRegistersBelow, register_below, put_below, write_below}
@@ -60,9 +59,9 @@ quick_put s b d c rs action bias quotients n v reductions stays put sane new old
         let made : List ℕ → List ℕ → Local = λ memory registers. record { memory = memory; registers = registers } in
         ap (λ registers. effect s.modulus s.lanes action (made (residues s.modulus t.memory) registers)) (sym (reductions.same t.registers low))
         ∙ ap₂ made
-          (stays (residue_local s.modulus (settled t)) ∙ ap (residues s.modulus) (sym (stays (settled t))))
-          (ap (with_words (residues s.modulus words) (register_put action * s.lanes)) (put.same (settled t) (reductions.below t.registers low))
-          ∙ residues-with_words s.modulus (word_put s.width s.modulus s.lanes bias quotients action (settled t)) words (register_put action * s.lanes))
+        (stays (residue_local s.modulus (settled t)) ∙ ap (residues s.modulus) (sym (stays (settled t))))
+        (ap (with_words (residues s.modulus words) (register_put action * s.lanes)) (put.same (settled t) (reductions.below t.registers low))
+        ∙ residues-with_words s.modulus (word_put s.width s.modulus s.lanes bias quotients action (settled t)) words (register_put action * s.lanes))
 
 -- a store
 pub quick_store : (s : Scale) (b d : Bounds) (rs : List Reduction) (address r bias : ℕ) (quotients : List ℕ) →
@@ -101,8 +100,8 @@ quick_store s b d rs address r bias quotients reductions sane small outer =
         let made : List ℕ → List ℕ → Local = λ memory registers. record { memory = memory; registers = registers } in
         ap (λ registers. effect s.modulus s.lanes (Store address r) (made (residues s.modulus t.memory) registers)) (sym (reductions.same t.registers low))
         ∙ ap (λ memory. made memory (residues s.modulus (reduced t)))
-          (ap (with_words (residues s.modulus t.memory) address) (residues-words_at s.modulus s.lanes (reduced t) (r * s.lanes))
-          ∙ residues-with_words s.modulus (words t) t.memory address)
+        (ap (with_words (residues s.modulus t.memory) address) (residues-words_at s.modulus s.lanes (reduced t) (r * s.lanes))
+        ∙ residues-with_words s.modulus (words t) t.memory address)
 
 one_lane : (lanes : ℕ) → lanes ≡ 1 * lanes
 one_lane lanes = omega arith

@@ -40,15 +40,16 @@ AreQuick s b (f ∷ fs) c = (d : Bounds) × IsQuick s b f d × AreQuick s d fs c
 
 pub from_weaker : (s : Scale) (a b : Bounds) (fs : List WordAction) (c : Bounds) → ((r : ℕ) → a r ≤ b r) → AreQuick s b fs c → AreQuick s a fs c
 from_weaker s a b [] c le are = λ r. let x = le r in let y = are r in omega (arith, x, y)
-from_weaker s a b (f ∷ fs) c le are =
-    (are.0,
-     record {
-       sane = are.1.sane;
-       same = λ t kept low. are.1.same t kept (weaker s.modulus s.lanes a b t.registers le low);
-       memory = λ t kept low. are.1.memory t kept (weaker s.modulus s.lanes a b t.registers le low);
-       registers = λ t kept low. are.1.registers t kept (weaker s.modulus s.lanes a b t.registers le low);
-     },
-     are.2)
+from_weaker s a b (f ∷ fs) c le are = (
+  are.0,
+  record {
+    sane = are.1.sane;
+    same = λ t kept low. are.1.same t kept (weaker s.modulus s.lanes a b t.registers le low);
+    memory = λ t kept low. are.1.memory t kept (weaker s.modulus s.lanes a b t.registers le low);
+    registers = λ t kept low. are.1.registers t kept (weaker s.modulus s.lanes a b t.registers le low);
+  },
+  are.2,
+)
 
 pub quick-append : (s : Scale) (b c d : Bounds) (fs gs : List WordAction) → AreQuick s b fs c → AreQuick s c gs d → AreQuick s b (fs ++ gs) d
 quick-append s b c d [] gs le are = from_weaker s b c gs d le are

@@ -1,13 +1,13 @@
 -- Reductions of registers until bounds are small enough.
-use Rattle.std.proofs.Common.{◌≡◌, ℕ, zero, suc, ◌+◌, ◌-◌, ◌*◌, ◌/◌, ◌%◌, ◌<◌, ◌≤◌, ◌≢◌, ◌⊎◌, inl, inr, List, [], ◌∷◌, Bool, true, false, cond, length, map, refl, sym, ap, ap₂, ◌∙◌, subst, arith, ⊎_elim, mul-le-mul_left, get_or-set_same, get_or-set_other}
-use Rattle.std.specs.Prelude.{nat_le, slice_index, slice_index_or, slice_set}
-use Rattle.std.proofs.lemmas.Bool.{cases_eq, cases_lt}
+use Rattle.std.proofs.Common.{◌≡◌, ℕ, zero, suc, ◌+◌, ◌*◌, ◌<◌, ◌≤◌, ◌≢◌, ◌⊎◌, inl, inr, List, [], ◌∷◌, true, false, cond, length, map, refl, sym, ap, ◌∙◌, subst, arith, ⊎_elim, mul-le-mul_left, get_or-set_same, get_or-set_other}
+use Rattle.std.specs.Prelude.{nat_le, slice_index, slice_set}
+use Rattle.std.proofs.lemmas.Bool.{cases_lt}
 use Rattle.std.proofs.lemmas.Bool.Decides.{nat_tests}
 use Rattle.std.proofs.lemmas.Nat.{div-add-mod', mod_below}
 use Rattle.icode.specs.Machine.{words_at, with_words, register_of}
 use Rattle.icode.proofs.Words.{length-words_at}
 use Rattle.code_laws.proofs.Placing.{length-mapped}
-use Rattle.word_code.specs.Words.{Width, base_of, reduced, product_bound}
+use Rattle.word_code.specs.Words.{reduced}
 use Rattle.word_code.specs.declared.program.Reduction.{Reduction}
 use Rattle.word_code.specs.WordMachine.{reduce_register, reduce_registers}
 use Rattle.word_code.specs.Quicken.{bound_at, half_up, greater, Settled, then_settled, settled}
@@ -162,13 +162,13 @@ greater_is : (limit x y target : ℕ) (bounds : List ℕ) → 2 ≤ target → t
 greater_is limit x y target bounds two over =
     ⊎_elim
     (λ (lt : bound_at limit bounds x < bound_at limit bounds y).
-        let e : greater limit x y bounds ≡ y = grind (arith, nat_tests) in
-        let both : ((greater limit x y bounds ≡ x) ⊎ (greater limit x y bounds ≡ y)) × (2 ≤ bound_at limit bounds (greater limit x y bounds)) =
-            (inr e, subst (λ r. 2 ≤ bound_at limit bounds r) (sym e) (omega arith)) in both)
+    let e : greater limit x y bounds ≡ y = grind (arith, nat_tests) in
+    let both : ((greater limit x y bounds ≡ x) ⊎ (greater limit x y bounds ≡ y)) × (2 ≤ bound_at limit bounds (greater limit x y bounds)) =
+    (inr e, subst (λ r. 2 ≤ bound_at limit bounds r) (sym e) (omega arith)) in both)
     (λ (ge : bound_at limit bounds y ≤ bound_at limit bounds x).
-        let e : greater limit x y bounds ≡ x = grind (arith, nat_tests) in
-        let both : ((greater limit x y bounds ≡ x) ⊎ (greater limit x y bounds ≡ y)) × (2 ≤ bound_at limit bounds (greater limit x y bounds)) =
-            (inl e, subst (λ r. 2 ≤ bound_at limit bounds r) (sym e) (omega arith)) in both)
+    let e : greater limit x y bounds ≡ x = grind (arith, nat_tests) in
+    let both : ((greater limit x y bounds ≡ x) ⊎ (greater limit x y bounds ≡ y)) × (2 ≤ bound_at limit bounds (greater limit x y bounds)) =
+    (inl e, subst (λ r. 2 ≤ bound_at limit bounds r) (sym e) (omega arith)) in both)
     (cases_lt (bound_at limit bounds x) (bound_at limit bounds y))
 
 and_settled : (base m lanes limit x y target r : ℕ) (bounds : List ℕ) (rest : Settled) → 0 < m → limit * m < base → ((q : ℕ) → bound_at limit bounds q ≤ limit) →
@@ -198,17 +198,17 @@ settled_is base m lanes limit (suc n) x y target bounds pos room two in_x in_y s
     let stay : Settled = record { reductions = []; bounds = bounds } in
     ⊎_elim
     (λ (over : target < bound_at limit bounds x + bound_at limit bounds y).
-        let no : nat_le (bound_at limit bounds x + bound_at limit bounds y) target ≡ false = grind (arith, nat_tests) in
-        let which = greater_is limit x y target bounds two over in
-        let under = half_under (bound_at limit bounds r) in
-        let long = length-set bounds r h in
-        let next_sane : (q : ℕ) → bound_at limit next q ≤ limit = λ q. let a = set_lower limit bounds r h q under in let b = sane q in omega (arith, a, b) in
-        let is = settled_is base m lanes limit n x y target next pos room two (omega (arith, long, in_x)) (omega (arith, long, in_y)) next_sane
-            (falls limit x y target n bounds two in_x in_y over fuel r which.0 which.1) in
-        subst (λ b. IsSettled base m lanes limit x y target bounds (cond b stay go)) (sym no)
-        (and_settled base m lanes limit x y target r bounds rest pos room sane is))
+    let no : nat_le (bound_at limit bounds x + bound_at limit bounds y) target ≡ false = grind (arith, nat_tests) in
+    let which = greater_is limit x y target bounds two over in
+    let under = half_under (bound_at limit bounds r) in
+    let long = length-set bounds r h in
+    let next_sane : (q : ℕ) → bound_at limit next q ≤ limit = λ q. let a = set_lower limit bounds r h q under in let b = sane q in omega (arith, a, b) in
+    let is = settled_is base m lanes limit n x y target next pos room two (omega (arith, long, in_x)) (omega (arith, long, in_y)) next_sane
+    (falls limit x y target n bounds two in_x in_y over fuel r which.0 which.1) in
+    subst (λ b. IsSettled base m lanes limit x y target bounds (cond b stay go)) (sym no)
+    (and_settled base m lanes limit x y target r bounds rest pos room sane is))
     (λ (under : bound_at limit bounds x + bound_at limit bounds y ≤ target).
-        let yes : nat_le (bound_at limit bounds x + bound_at limit bounds y) target ≡ true = grind (arith, nat_tests) in
-        subst (λ b. IsSettled base m lanes limit x y target bounds (cond b stay go)) (sym yes)
-        (record { reductions = no_reductions base m lanes (bound_at limit bounds); low = λ r. omega arith; long = refl; small = under }))
+    let yes : nat_le (bound_at limit bounds x + bound_at limit bounds y) target ≡ true = grind (arith, nat_tests) in
+    subst (λ b. IsSettled base m lanes limit x y target bounds (cond b stay go)) (sym yes)
+    (record { reductions = no_reductions base m lanes (bound_at limit bounds); low = λ r. omega arith; long = refl; small = under }))
     (cases_lt target (bound_at limit bounds x + bound_at limit bounds y))

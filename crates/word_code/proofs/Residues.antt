@@ -1,5 +1,5 @@
 -- Lists of words, and the residues that they stand for.
-use Rattle.std.proofs.Common.{◌≡◌, ℕ, zero, suc, ◌+◌, ◌-◌, ◌*◌, ◌%◌, ◌<◌, ◌≤◌, List, [], ◌∷◌, ◌++◌, length, map, flat_map, replicate, refl, sym, ap, ap₂, ◌∙◌, arith}
+use Rattle.std.proofs.Common.{◌≡◌, ℕ, zero, suc, ◌+◌, ◌*◌, ◌%◌, ◌<◌, ◌≤◌, List, [], ◌∷◌, ◌++◌, length, map, flat_map, replicate, refl, sym, ap, ap₂, ◌∙◌, arith}
 use Rattle.std.specs.Prelude.{slice_index, slice_set}
 use Rattle.std.specs.List.{range_with_len}
 use Rattle.std.proofs.Math.Nat.{zero-mod}
@@ -71,12 +71,13 @@ pub below-words_at : (bound n : ℕ) (xs : List ℕ) (i : ℕ) → ((l : ℕ) �
 below-words_at bound zero xs i h = tt
 below-words_at bound (suc n) xs i h =
     let first : slice_index xs (i + 0) < bound = h 0 (omega arith) in
-    let same : i + 0 ≡ i = omega arith in
-    (rw same at first,
-     below-words_at bound n xs (i + 1) (λ l lt.
-        let next : slice_index xs (i + suc l) < bound = h (suc l) (omega arith) in
-        let place : i + suc l ≡ i + 1 + l = omega arith in
-        rw place at next))
+    let same : i + 0 ≡ i = omega arith in (
+      rw same at first,
+      below-words_at bound n xs (i + 1) (λ l lt.
+          let next : slice_index xs (i + suc l) < bound = h (suc l) (omega arith) in
+          let place : i + suc l ≡ i + 1 + l = omega arith in
+          rw place at next),
+    )
 
 pub below-zeros : (bound n : ℕ) → 0 < bound → AllBelow bound (replicate n 0)
 below-zeros bound zero pos = tt

@@ -1,5 +1,5 @@
 -- One step of settling, as the code does it.
-use Rattle.std.proofs.Common.{◌≡◌, ℕ, zero, suc, ◌+◌, ◌-◌, ◌*◌, ◌<◌, ◌≤◌, List, [], ◌∷◌, ◌++◌, Bool, true, false, cond, Result, Ok, Err, OnOk, refl, sym, ap, ap₂, ◌∙◌, ◌/◌, arith, append_assoc, replicate}
+use Rattle.std.proofs.Common.{◌≡◌, ℕ, zero, suc, ◌+◌, ◌-◌, ◌*◌, ◌<◌, ◌≤◌, List, [], ◌∷◌, ◌++◌, Bool, true, false, cond, Result, Ok, Err, OnOk, sym, ap, ap₂, ◌∙◌, ◌/◌, arith, append_assoc, replicate}
 use Rattle.std.specs.Prelude.{nat_le, slice_set}
 use Rattle.std.proofs.lemmas.Bool.Decides.{nat_tests}
 use Rattle.word_code.specs.declared.program.Reduction.{Reduction}
@@ -9,7 +9,7 @@ use Rattle.word_code.specs.Quicken.{bound_at, half_up, greater, Settled, then_se
 pub settled_goes : (m limit times x y target : ℕ) (bounds : List ℕ) → 0 < times → target < bound_at limit bounds x + bound_at limit bounds y →
     settled m limit times x y target bounds
     ≡ then_settled (record { register = greater limit x y bounds; amount = half_up (bound_at limit bounds (greater limit x y bounds)) * m })
-      (settled m limit (times - 1) x y target (slice_set bounds (greater limit x y bounds) (half_up (bound_at limit bounds (greater limit x y bounds)))))
+    (settled m limit (times - 1) x y target (slice_set bounds (greater limit x y bounds) (half_up (bound_at limit bounds (greater limit x y bounds)))))
 settled_goes m limit zero x y target bounds some over = absurd (omega arith)
 settled_goes m limit (suc n) x y target bounds some over =
     let no : nat_le (bound_at limit bounds x + bound_at limit bounds y) target ≡ false = grind (arith, nat_tests) in

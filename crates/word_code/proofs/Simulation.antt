@@ -1,14 +1,12 @@
 -- Runs on words go with runs on residues, turn by turn.
-use Rattle.std.proofs.Common.{◌≡◌, ℕ, zero, suc, ◌+◌, ◌-◌, ◌*◌, ◌/◌, ◌%◌, ◌<◌, ◌≤◌, ◌≢◌, List, [], ◌∷◌, ◌++◌, Bool, true, false, cond, Option, Some, None, length, map, drop, replicate, get_or, refl, sym, ap, ap₂, ◌∙◌, subst, arith, ⊎_elim, get_or-set_same, get_or-set_other, mul-le-mul_left}
+use Rattle.std.proofs.Common.{◌≡◌, ℕ, zero, suc, ◌+◌, ◌-◌, ◌*◌, ◌<◌, ◌≤◌, ◌≢◌, List, [], ◌∷◌, ◌++◌, Bool, true, false, cond, Option, Some, None, length, map, drop, replicate, refl, sym, ap, ap₂, ◌∙◌, subst, arith, ⊎_elim, get_or-set_same, get_or-set_other, mul-le-mul_left}
 use Rattle.std.specs.Prelude.{slice_get, slice_index, slice_index_or, slice_set, option_map}
 use Rattle.std.proofs.Math.ListN.{get_or-map}
 use Rattle.std.proofs.Math.Nat.{mod-eq_of_lt}
 use Rattle.std.proofs.lemmas.Bool.{cases_eq, cases_lt}
-use Rattle.std.proofs.lemmas.Option.{slice_get-map, slice_get_within}
+use Rattle.std.proofs.lemmas.Option.{slice_get-map}
 use Rattle.std.proofs.lemmas.Nat.{div-add-mod', mod_below}
-use Rattle.icode.specs.Machine.{Code, State, Local, acts, effect, is_open, none_done, first_open, phases_after, moved_on, acted, turn_with, turn, run, completion, start, runs, results, padded, words_at, whole_lines}
-use Rattle.icode.specs.declared.action.Action.{Action}
-use Rattle.word_code.specs.Words.{Width}
+use Rattle.icode.specs.Machine.{State, Local, acts, effect, is_open, none_done, first_open, phases_after, moved_on, acted, turn_with, turn, run, completion, start, runs, results, padded, words_at, whole_lines}
 use Rattle.word_code.specs.WordMachine.{WordAction, WordCode, under, actions_under, word_acts, word_effect, word_acted, word_turn_with, word_turn, word_run, word_runs, word_results}
 use Rattle.word_code.proofs.Residues.{residues, residues-append, residues-zeros, residues-words_at, AllBelow, below-words_at}
 use Rattle.word_code.proofs.Bounds.{Bounds, AreRegistersBelow, weaker}
@@ -204,7 +202,7 @@ module _ (code : WordCode) (keep limit : ℕ) (quick : IsQuickCode (scale_of cod
           same =
               ap (made t q) effects_go
               ∙ ap (λ files. let s : State = record { memory = residues code.modulus (after t q f).memory; registers = files; phase = t.phase; done = slice_set t.done q (suc (slice_index t.done q)) } in s)
-                (sym (map-set (residues code.modulus) t.registers q ((after t q f).registers)))
+              (sym (map-set (residues code.modulus) t.registers q ((after t q f).registers)))
 
   -- a turn
 
@@ -213,7 +211,7 @@ module _ (code : WordCode) (keep limit : ℕ) (quick : IsQuickCode (scale_of cod
       let fs = word_acts code t.phase q in
       let i = slice_index t.done q in
       let next : slice_get (acts (under code) t.phase q) i ≡ option_map (λ (f : WordAction). f.action) (slice_get fs i) =
-          ap (λ xs. slice_get xs i) (acts_under code t.phase q) ∙ slice_get-map (λ (f : WordAction). f.action) fs i in
+      ap (λ xs. slice_get xs i) (acts_under code t.phase q) ∙ slice_get-map (λ (f : WordAction). f.action) fs i in
       subst (λ o. Goes s code (turn_with (under code) q (residue_state code.modulus t) o) (word_turn code t q)) (sym next)
       (cases (slice_get fs i) refl)
     where
@@ -222,10 +220,10 @@ module _ (code : WordCode) (keep limit : ℕ) (quick : IsQuickCode (scale_of cod
       cases None e = record { same = refl; steady = steady }
       cases (Some f) e =
           let lt : q < code.procs =
-              ⊎_elim
-              (λ (lt : q < code.procs). lt)
-              (λ (ge : code.procs ≤ q). let none = quick.past t.phase q ge in let e2 = ap (λ xs. slice_get xs (slice_index t.done q)) none in absurd (cc))
-              (cases_lt q code.procs) in
+          ⊎_elim
+          (λ (lt : q < code.procs). lt)
+          (λ (ge : code.procs ≤ q). let none = quick.past t.phase q ge in let e2 = ap (λ xs. slice_get xs (slice_index t.done q)) none in absurd (cc))
+          (cases_lt q code.procs) in
           let act = actions_go t q f lt e steady in
           let on = moves_on (word_acted code q f t) act.steady in
           record { same = ap (moved_on (under code)) act.same ∙ on.same; steady = on.steady }
@@ -267,7 +265,7 @@ module _ (code : WordCode) (keep limit : ℕ) (quick : IsQuickCode (scale_of cod
         same =
             let n = 4 * padded (under code) - code.size in
             let words : residues code.modulus (x ++ replicate n 0) ≡ x ++ replicate n 0 =
-                residues-append code.modulus x (replicate n 0) ∙ ap₂ (λ a b. a ++ b) (residues-of_residues code.modulus x low) (residues-zeros code.modulus n) in
+            residues-append code.modulus x (replicate n 0) ∙ ap₂ (λ a b. a ++ b) (residues-of_residues code.modulus x low) (residues-zeros code.modulus n) in
             ap₂ (λ memory files. let t : State = record { memory = memory; registers = files; phase = first_open (under code) (length (under code).lists) 0; done = none_done (under code) } in t)
             (sym words) (sym (empty_files code.modulus code.procs (code.regs * code.lanes)));
         steady = record {
@@ -291,7 +289,7 @@ module _ (code : WordCode) (keep limit : ℕ) (quick : IsQuickCode (scale_of cod
       let begin = start_goes x pos kept some low in
       let middle = run_goes turns (start (under code) x) begin.steady in
       let between : run (under code) (start (under code) x) turns ≡ residue_state code.modulus (word_run code (start (under code) x) turns) =
-          ap (λ r. run (under code) r turns) begin.same ∙ middle.same in
+      ap (λ r. run (under code) r turns) begin.same ∙ middle.same in
       let t = word_run code (start (under code) x) turns in
       let last = run_goes (completion (under code) t) t middle.steady in
       record { same = ap (λ r. run (under code) r (completion (under code) r)) between ∙ last.same; steady = last.steady }
@@ -312,7 +310,7 @@ module _ (code : WordCode) (keep limit : ℕ) (quick : IsQuickCode (scale_of cod
       let outer = go.steady.memory.outer in
       let words : AllBelow code.modulus (words_at code.size t.memory n) = below-words_at code.modulus code.size t.memory n (λ l lt. outer (n + l) (omega arith)) in
       sym (
-        ap (λ (r : State). words_at code.size r.memory n) go.same
-        ∙ residues-words_at code.modulus code.size t.memory n
-        ∙ residues-of_residues code.modulus (words_at code.size t.memory n) words
+      ap (λ (r : State). words_at code.size r.memory n) go.same
+      ∙ residues-words_at code.modulus code.size t.memory n
+      ∙ residues-of_residues code.modulus (words_at code.size t.memory n) words
       )

@@ -1,6 +1,5 @@
 -- Tables that are copied one after another.
-use Rattle.std.proofs.Common.{◌≡◌, ℕ, zero, suc, arith, ◌+◌, ◌<◌, List, [], ◌∷◌, ◌++◌, length, take, get_or, Vec, Global, refl, sym, ap, ap₂, ◌∙◌}
-use Rattle.std.specs.Prelude.{slice_index_or}
+use Rattle.std.proofs.Common.{◌≡◌, ℕ, ◌+◌, ◌<◌, List, [], ◌∷◌, ◌++◌, length, take, get_or, Vec, Global, refl, sym, ap, ap₂, ◌∙◌}
 use Rattle.std.proofs.lemmas.List.{take_more}
 use Rattle.icode.specs.Plain.{plain_tables}
 
@@ -15,4 +14,3 @@ table_more tables copy after i t new lt e same h ea =
     ∙ (ap₂ (λ xs (x : List ℕ). xs ++ x ∷ []) h same
     ∙ (sym (tables_more (take i tables) t)
     ∙ ap plain_tables (ap (λ (x : Vec ℕ Global). take i tables ++ x ∷ []) e ∙ sym (take_more tables i t lt)))))
-

@@ -1,13 +1,13 @@
 -- Whole programs: tables, phases, and what they leave.
-use Rattle.std.proofs.Common.{◌≡◌, ℕ, zero, suc, ◌+◌, ◌*◌, ◌<◌, ◌≤◌, List, [], ◌∷◌, true, ◌&&◌, Vec, Global, All, length, get_or, refl, sym, ap, ◌∙◌, subst, arith, ltb-true}
+use Rattle.std.proofs.Common.{◌≡◌, ℕ, zero, suc, ◌<◌, List, [], ◌∷◌, true, ◌&&◌, Vec, Global, All, length, get_or, sym, ap, ◌∙◌, subst, arith, ltb-true}
 use Rattle.std.specs.Prelude.{nat_lt}
 use Rattle.std.specs.List.{list_all}
 use Rattle.icode.specs.declared.program.Stmt.{Stmt}
 use Rattle.icode.specs.declared.program.Program.{Program}
 use Rattle.icode.specs.Limits.{are_tables_within, are_phases_within, is_body_within}
-use Rattle.icode.specs.Machine.{IsApart, results, runs, words_at, padded}
+use Rattle.icode.specs.Machine.{words_at, padded}
 use Rattle.icode.specs.Plain.{plain_tables, plain_phases, plain_body}
-use Rattle.icode.specs.Program.{plain_program, code_of, Fits}
+use Rattle.icode.specs.Program.{plain_program, code_of}
 use Rattle.icode.proofs.Bools.{both_true, item_passes}
 use Rattle.icode.proofs.Lists.{code_is}
 use Rattle.icode.proofs.Runs.{memory_of_runs}

@@ -3,7 +3,7 @@ use Rattle.std.specs.Prelude.{◌≡◌, ℕ, ◌*◌, ◌<◌, ◌≤◌, List,
 use Rattle.icode.specs.Actions.{PlainFits, plain_code}
 use Rattle.icode.specs.Machine.{results}
 use Rattle.icode.specs.Plain.{PlainProgram}
-use Rattle.word_code.specs.Words.{Width, base_of, product_bound}
+use Rattle.word_code.specs.Words.{base_of, product_bound}
 use Rattle.word_code.specs.WordMachine.{word_results}
 use Rattle.word_code.specs.WordProgram.{word_code}
 use Rattle.word_code.specs.Quicken.{Laziness, quickened}

@@ -6,3 +6,4 @@ pub mod Laws
 pub mod View
 pub mod Setting
 pub mod Same
+pub mod Choice

@@ -1,5 +1,5 @@
 -- Programs on words by their views as plain data.
-use Rattle.std.specs.Prelude.{ℕ, List, [], ◌∷◌, map, Vec}
+use Rattle.std.specs.Prelude.{List, [], ◌∷◌, map, Vec}
 use Rattle.std.proofs.Common.{Global}
 use Rattle.icode.specs.Plain.{plain_op, plain_tables}
 use Rattle.word_code.specs.declared.program.Note as declared_note

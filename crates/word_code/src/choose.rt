@@ -1,44 +1,83 @@
 // How lazy a program may be.
 
-ghost use Rattle.std.specs.Prelude.{◌≡◌, ◌^◌, ◌<◌, ◌≤◌};
+ghost use Rattle.std.specs.Prelude.{◌≡◌, ◌^◌, ◌<◌, ◌≤◌, IfOk};
+ghost use Rattle.icode.specs.Program.{plain_program};
+ghost use Rattle.word_code.specs.Choice.{limit_within, narrow, wide, laziness_for, fast_words};
 ghost use Rattle.word_code.specs.Laws.{IsLazyWithin};
-ghost use Rattle.word_code.specs.View.{lazy_of};
+ghost use Rattle.word_code.specs.Same.{LeavesTheSame, OrderIsFreeOf};
+ghost use Rattle.word_code.specs.View.{lazy_of, plain_word_program};
 
-use crate::program::Slack;
+use crate::program::{Slack, WordProgram};
+use crate::quicken::quicken;
+use icode::program::Program;
+use memory::NoMemory;
+use std::alloc::Global;
 
-/// The greatest bound that is of use.
+/// The greatest bound of registers that is of use.
 const ENOUGH: u64 = 8;
 
-/// For words of 64 bits. With several lanes the high half of a product is made of three partial products.
-pub fn slack_of(modulus: u64, lanes: u64, keep: u64) -> Slack
-    requires modulus { (2 ≤ modulus) × (modulus < 2 ^ 62) }
-    requires keep { 1 ≤ keep }
-    ensures lazy { IsLazyWithin (lazy_of result) modulus }
-    ensures small { result.limit < 2 ^ 32 }
-    ensures half { result.half ≤ 2 ^ 32 }
+/// The greatest bound of the words of A and B that is of use.
+const KEEP: u64 = 4;
+
+fn limit_within(greatest: u64, modulus: u64) -> u64
+    requires { 2 ≤ modulus }
+    ensures { result ≡ limit_within greatest modulus }
 {
-    let limit = ENOUGH.min(u64::MAX / modulus);
+    ENOUGH.min(greatest / modulus)
+}
+
+// For words of 32 bits.
+fn narrow(modulus: u64) -> Slack
+    requires { 2 ≤ modulus }
+    ensures { lazy_of result ≡ narrow modulus }
+{
+    let limit = limit_within(0xffff_ffff, modulus);
     Slack {
-        half: 0x1_0000_0000,
-        rough: lanes > 1,
-        keep: keep.min(limit),
+        half: 0x1_0000,
+        rough: false,
+        keep: KEEP.min(limit),
         limit,
     }
 }
 
-/// For words of 32 bits.
-pub fn slack_of_half(modulus: u64, keep: u64) -> Slack
-    requires modulus { (2 ≤ modulus) × (modulus < 2 ^ 31) }
-    requires keep { 1 ≤ keep }
+// For words of 64 bits.
+fn wide(modulus: u64, lanes: u64) -> Slack
+    requires { 2 ≤ modulus }
+    ensures { lazy_of result ≡ wide modulus lanes }
+{
+    let limit = limit_within(u64::MAX, modulus);
+    Slack {
+        half: 0x1_0000_0000,
+        rough: lanes > 1,
+        keep: KEEP.min(limit),
+        limit,
+    }
+}
+
+/// How lazy the words of a program with this modulus and so many lanes are.
+pub fn slack_for(modulus: u64, lanes: u64) -> Slack
+    requires modulus { (2 ≤ modulus) × (modulus < 2 ^ 62) }
+    ensures choice { lazy_of result ≡ laziness_for modulus lanes }
     ensures lazy { IsLazyWithin (lazy_of result) modulus }
     ensures small { result.limit < 2 ^ 32 }
     ensures half { result.half ≤ 2 ^ 32 }
 {
-    let limit = ENOUGH.min(0xffff_ffff / modulus);
-    Slack {
-        half: 0x1_0000,
-        rough: false,
-        keep: keep.min(limit),
-        limit,
+    if modulus < 0x8000_0000 {
+        narrow(modulus)
+    } else {
+        wide(modulus, lanes)
     }
+}
+
+/// The program on words that is chosen for a program. Where the program fits it leaves the residues that the
+/// program leaves, for every vector of residues and every order of turns; where no processor touches a line that
+/// another writes, that order is free.
+pub fn make_fast(alloc: Global, program: &Program) -> Result<WordProgram, NoMemory>
+    ensures made { IfOk result (λ words. plain_word_program words ≡ fast_words (plain_program program.now)) }
+    ensures same { IfOk result (λ words. LeavesTheSame words program.now) }
+    ensures order { IfOk result (λ words. OrderIsFreeOf words program.now) }
+{
+    let slack = slack_for(program.modulus, program.lanes);
+    let words = quicken(alloc, slack, program)?;
+    Ok(words)
 }

@@ -79,7 +79,16 @@ fn reductions(
     ensures sane { OnOk result ((r : ℕ) → bound_at limit bounds.new r ≤ limit) }
 {
     let mut before = Vec::new(alloc);
-    settle(modulus, limit, 2 * limit, left, right, target, &mut before, bounds)?;
+    settle(
+        modulus,
+        limit,
+        2 * limit,
+        left,
+        right,
+        target,
+        &mut before,
+        bounds,
+    )?;
     Ok(before)
 }
 

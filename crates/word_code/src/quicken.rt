@@ -90,11 +90,7 @@ fn quicken_stmt(
 }
 
 /// The statements of a phase on words.
-fn quicken_phase(
-    alloc: Global,
-    setting: Setting,
-    body: &[Stmt],
-) -> Result<Vec<WordStmt>, NoMemory>
+fn quicken_phase(alloc: Global, setting: Setting, body: &[Stmt]) -> Result<Vec<WordStmt>, NoMemory>
     requires within { IsTrue (is_body_within setting.modulus (plain_body body.now) 0) }
     requires room { setting.slack.limit * setting.modulus < 2 ^ 64 }
     requires small { setting.slack.limit < 2 ^ 32 }
@@ -115,12 +111,7 @@ fn quicken_phase(
     Ok(made)
 }
 
-fn quotients(
-    alloc: Global,
-    half: u64,
-    modulus: u64,
-    entries: &[u64],
-) -> Result<Vec<u64>, NoMemory>
+fn quotients(alloc: Global, half: u64, modulus: u64, entries: &[u64]) -> Result<Vec<u64>, NoMemory>
     requires half { half ≤ 2 ^ 32 }
     requires below { All (λ c. c < modulus) entries.now }
     ensures { IfOk result (λ made. made.items ≡ map (quotient_of (half * half) modulus) entries.now) }

@@ -67,7 +67,16 @@ pub(crate) fn settle(
         amount: half * modulus,
     })?;
     put_bound(bounds, register, half);
-    settle(modulus, limit, times - 1, left, right, target, before, bounds)
+    settle(
+        modulus,
+        limit,
+        times - 1,
+        left,
+        right,
+        target,
+        before,
+        bounds,
+    )
 }
 
 /// The greatest bound of so many registers.

@@ -1,0 +1,3 @@
+pub mod WordFront
+pub mod WordText
+pub mod WordNests

@@ -2,6 +2,8 @@
 #![tactic(auto)]
 
 #[cfg(test)]
+mod buffers;
+#[cfg(test)]
 mod call;
 #[cfg(test)]
 mod checks;
@@ -19,6 +21,8 @@ mod rows;
 mod runs;
 #[cfg(test)]
 mod samples;
+#[cfg(test)]
+mod strangers;
 #[cfg(test)]
 mod streams;
 #[cfg(test)]

@@ -8,8 +8,10 @@ use std::test::Fail;
 // A row has the words behind the program's name, the input, the status' code, the output and the note behind the program's
 // name, with `; ` between them. A stroke stands for a line end, and a dash for nothing.
 
-const USAGE: &str =
-    "usage: spiral plan|formula|code|c|run|trace|cert|check|sample [--schedule WORD] [--seed NUMBER]";
+/// What the note says of words that are no command line.
+pub(crate) const USAGE: &str =
+    "usage: spiral plan|formula|code|c|run|trace|cert|check|sample|compile|apply|exec|convolve \
+[--schedule WORD] [--seed NUMBER] [--mod NUMBER] [--buffers] [--code]";
 
 // A square root of 1 that is not -1, a tie of two rules, twiddles that are -1, and a size that is no unit.
 const RESULTS: &str = "\
@@ -196,7 +198,8 @@ fn command_line(alloc: Global, words: &str) -> Result<String, Fail> {
     })
 }
 
-fn answers_as(rt: &impl Abort, alloc: Global, row: &str) -> Result<(), Fail> {
+/// The call answers as the row has it.
+pub(crate) fn answers_as(rt: &impl Abort, alloc: Global, row: &str) -> Result<(), Fail> {
     let mut fields = row.split("; ");
     let words = fields.next().ok_or("words")?;
     let input = lines_of(alloc, fields.next().ok_or("an input")?)?;

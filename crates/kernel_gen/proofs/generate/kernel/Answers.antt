@@ -1,8 +1,11 @@
-use Rattle.std.proofs.Common.{ap, ◌∙◌}
+use Rattle.std.proofs.Common.{ap, ◌∙◌, sym, subst}
 use Rattle.operators.specs.Sum.{list_below}
 use Rattle.tree_model.specs.Breakdown.{breakdown_of}
+use Rattle.kernel_gen.specs.Kernel.{node_kernel}
+use Rattle.kernel_gen.specs.Kernels.{TransformsNode, CostsNode, IsStraight}
+use Rattle.kernel_gen.specs.Making.{Made}
 use Rattle.kernel_gen.proofs.Parts.{kernel_written}
-use Rattle.kernel_gen.proofs.RequestNodes.{written_for}
+use Rattle.kernel_gen.proofs.RequestNodes.{written_for, nodes_transform, nodes_cost, nodes_straight}
 use Rattle.kernel_gen.proofs.Sizes.{node_words}
 use Rattle.kernel_gen.proofs.generate.kernel.Goals as goal
 
@@ -20,3 +23,21 @@ size-inputs-requires c = node_words c.args.c.now (breakdown_of c.args.t.now) c.r
 
 pub put_tree-requires-clause-words : goal.put_tree-requires-clause-words
 put_tree-requires-clause-words c = node_words c.args.c.now (breakdown_of c.args.t.now) c.request-request.ensures.valid c.requires.tree c.requires.divides
+
+-- what holds of the node's code holds of the code that was written
+
+pub returns-clause-transforms : goal.returns-clause-transforms
+returns-clause-transforms c =
+    let t = breakdown_of c.args.t.now in
+    subst (λ (made : Made). TransformsNode c.args.c.now t made) (sym (returns-clause-code c)) (nodes_transform c.args.c.now t c.request-request.ensures.valid c.requires.tree c.requires.divides)
+
+pub returns-clause-cost : goal.returns-clause-cost
+returns-clause-cost c =
+    let t = breakdown_of c.args.t.now in
+    subst (λ (made : Made). CostsNode c.args.c.now t made) (sym (returns-clause-code c)) (nodes_cost c.args.c.now t c.request-request.ensures.valid c.requires.tree c.requires.divides)
+
+pub returns-clause-straight : goal.returns-clause-straight
+returns-clause-straight c =
+    let t = breakdown_of c.args.t.now in
+    subst (λ (made : Made). IsStraight c.args.c.now.lanes c.size-inputs.result made) (sym (returns-clause-code c))
+    (subst (λ inputs. IsStraight c.args.c.now.lanes inputs (node_kernel c.args.c.now t)) (sym c.size-inputs.ensures) (nodes_straight c.args.c.now t c.request-request.ensures.valid c.requires.tree c.requires.divides))

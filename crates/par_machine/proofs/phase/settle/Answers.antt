@@ -1,6 +1,6 @@
-use Rattle.std.proofs.Common.{arith, ◌+◌, ◌-◌, ℕ, cond, length, replicate, sym, ap, ◌∙◌}
+use Rattle.std.proofs.Common.{arith, ◌+◌, ◌-◌, ℕ, cond, length, map, replicate, sym, ap, ◌∙◌}
 use Rattle.icode.specs.Machine.{first_open}
-use Rattle.par_machine.specs.Position.{first_position}
+use Rattle.par_machine.specs.Processors.{rewound}
 use Rattle.par_machine.specs.declared.phase.Routine.{Routine}
 use Rattle.par_machine.proofs.Phases.{opens, len_at, open_now, over_now, found_of, none_of}
 use Rattle.par_machine.proofs.phase.settle.Goals as goal
@@ -15,9 +15,9 @@ returns-in-Some-clause-done c = λ code h procs same.
     sym (ap (λ b. cond b c.args.done.now (replicate {A = ℕ} (length c.args.done.now) 0))
     (open_now code c.args.phases.now c.args.phase c.in-Some.field-0 c.index-phases-phase.result c.args.done.now h c.requires.phase c.index-phases-phase.is same (found_of c.index-phases-phase.result c.args.phases.now c.args.phase c.args.done.now c.in-Some.field-0 c.index-phases-phase.is c.in-Some.ensures.found)))
 
-pub returns-in-Some-clause-cursors : goal.returns-in-Some-clause-cursors
-returns-in-Some-clause-cursors c = λ code h procs same.
-    sym (ap (λ b. cond b c.args.cursors.now (replicate (length c.args.cursors.now) first_position))
+pub returns-in-Some-clause-processors : goal.returns-in-Some-clause-processors
+returns-in-Some-clause-processors c = λ code h procs same.
+    sym (ap (λ b. cond b c.args.processors.now (map rewound c.args.processors.now))
     (open_now code c.args.phases.now c.args.phase c.in-Some.field-0 c.index-phases-phase.result c.args.done.now h c.requires.phase c.index-phases-phase.is same (found_of c.index-phases-phase.result c.args.phases.now c.args.phase c.args.done.now c.in-Some.field-0 c.index-phases-phase.is c.in-Some.ensures.found)))
 
 pub returns-in-None-clause-phase : goal.returns-in-None-clause-phase
@@ -32,10 +32,10 @@ returns-in-None-clause-done c = λ code h procs same.
     ∙ sym (ap (λ b. cond b c.args.done.now (replicate {A = ℕ} (length c.args.done.now) 0))
     (over_now code c.args.phases.now c.args.phase c.index-phases-phase.result c.args.done.now h c.requires.phase c.index-phases-phase.is same (none_of c.index-phases-phase.result c.args.phases.now c.args.phase c.args.done.now c.index-phases-phase.is c.in-None.ensures.none)))
 
-pub returns-in-None-clause-cursors : goal.returns-in-None-clause-cursors
-returns-in-None-clause-cursors c = λ code h procs same.
+pub returns-in-None-clause-processors : goal.returns-in-None-clause-processors
+returns-in-None-clause-processors c = λ code h procs same.
     c.rewind_all.ensures
-    ∙ sym (ap (λ b. cond b c.args.cursors.now (replicate (length c.args.cursors.now) first_position))
+    ∙ sym (ap (λ b. cond b c.args.processors.now (map rewound c.args.processors.now))
     (over_now code c.args.phases.now c.args.phase c.index-phases-phase.result c.args.done.now h c.requires.phase c.index-phases-phase.is same (none_of c.index-phases-phase.result c.args.phases.now c.args.phase c.args.done.now c.index-phases-phase.is c.in-None.ensures.none)))
 
 pub returns-then-done-proc-clause-phase : goal.returns-then-done-proc-clause-phase
@@ -50,8 +50,8 @@ returns-then-done-proc-clause-done c = λ code h procs same.
     sym (ap (λ b. cond b c.args.done.now (replicate {A = ℕ} (length c.args.done.now) 0))
     (opens code c.args.phases.now c.args.phase c.args.proc r.len c.args.done.now h (len_at c.args.phases.now c.args.phase r c.requires.phase c.index-phases-phase.is) (omega (arith, same, c.requires.proc)) (omega (arith, c.if-done-proc.true, ap (λ (x : Routine). x.len) c.index-phases-phase.is))))
 
-pub returns-then-done-proc-clause-cursors : goal.returns-then-done-proc-clause-cursors
-returns-then-done-proc-clause-cursors c = λ code h procs same.
+pub returns-then-done-proc-clause-processors : goal.returns-then-done-proc-clause-processors
+returns-then-done-proc-clause-processors c = λ code h procs same.
     let r = c.index-phases-phase.result in
-    sym (ap (λ b. cond b c.args.cursors.now (replicate (length c.args.cursors.now) first_position))
+    sym (ap (λ b. cond b c.args.processors.now (map rewound c.args.processors.now))
     (opens code c.args.phases.now c.args.phase c.args.proc r.len c.args.done.now h (len_at c.args.phases.now c.args.phase r c.requires.phase c.index-phases-phase.is) (omega (arith, same, c.requires.proc)) (omega (arith, c.if-done-proc.true, ap (λ (x : Routine). x.len) c.index-phases-phase.is))))

@@ -30,7 +30,7 @@ loop-machine-init g c =
       ready = subst (λ v. IsReady v c.args.feed.now start) (sym c.new-vectors.ensures)
           (record { few = omega arith; counted = omega arith; within = λ e. absurd (not_ended false refl e); end = λ e. absurd (not_ended false refl e) });
       begun = λ _. refl;
-      size = ap (λ (v : Cut). v.size) c.new-vectors.ensures ∙ c.requires.size;
+      size = ap (λ (v : Cut). v.size) c.new-vectors.ensures ∙ c.size-size.ensures.value;
       code = refl;
       reads = refl;
       writes = refl;
@@ -39,7 +39,7 @@ loop-machine-init g c =
 pub loop-machine-smaller : goal.loop-machine-smaller
 loop-machine-smaller g c =
     let before = c.loop-machine in
-    let some : 0 < c.args.machine.now.code.size = omega (arith, c.requires.some, c.requires.size) in
+    let some : 0 < c.args.machine.now.code.size = omega (arith, c.size-size.ensures.some, c.size-size.ensures.value) in
     let code = c.args.machine.now.code in
     let turns = turns_of c.args.schedule.now code.procs in
     let answer = rw (c.in-Vector.is, before.invariant.size, c.modulus-modulus.ensures) at c.in_ok-next.ensures.answer in
@@ -49,7 +49,7 @@ loop-machine-smaller g c =
 pub loop-machine-preserved : goal.loop-machine-preserved
 loop-machine-preserved g c =
     let before = c.loop-machine in
-    let some : 0 < c.args.machine.now.code.size = omega (arith, c.requires.some, c.requires.size) in
+    let some : 0 < c.args.machine.now.code.size = omega (arith, c.size-size.ensures.some, c.size-size.ensures.value) in
     let inv = before.invariant in
     let code = c.args.machine.now.code in
     let turns = turns_of c.args.schedule.now code.procs in
@@ -76,7 +76,7 @@ loop-machine-preserved g c =
 pub returns-in_err-next-clause-streams : goal.returns-in_err-next-clause-streams
 returns-in_err-next-clause-streams g c =
     let before = c.loop-machine in
-    let some : 0 < c.args.machine.now.code.size = omega (arith, c.requires.some, c.requires.size) in
+    let some : 0 < c.args.machine.now.code.size = omega (arith, c.size-size.ensures.some, c.size-size.ensures.value) in
     let inv = before.invariant in
     let code = c.args.machine.now.code in
     let turns = turns_of c.args.schedule.now code.procs in
@@ -98,7 +98,7 @@ returns-in_err-next-clause-streams g c =
 pub returns-in_err-write_run-clause-streams : goal.returns-in_err-write_run-clause-streams
 returns-in_err-write_run-clause-streams g c =
     let before = c.loop-machine in
-    let some : 0 < c.args.machine.now.code.size = omega (arith, c.requires.some, c.requires.size) in
+    let some : 0 < c.args.machine.now.code.size = omega (arith, c.size-size.ensures.some, c.size-size.ensures.value) in
     let inv = before.invariant in
     let code = c.args.machine.now.code in
     let turns = turns_of c.args.schedule.now code.procs in
@@ -121,7 +121,7 @@ returns-in_err-write_run-clause-streams g c =
 pub returns-clause-streams : goal.returns-clause-streams
 returns-clause-streams g c =
     let before = c.loop-machine in
-    let some : 0 < c.args.machine.now.code.size = omega (arith, c.requires.some, c.requires.size) in
+    let some : 0 < c.args.machine.now.code.size = omega (arith, c.size-size.ensures.some, c.size-size.ensures.value) in
     let inv = before.invariant in
     let code = c.args.machine.now.code in
     let turns = turns_of c.args.schedule.now code.procs in

@@ -1,10 +1,10 @@
-use Rattle.std.proofs.Common.{◌≡◌, ◌≤◌, ◌+◌, ℕ, List, ap, sym, ◌∙◌, subst, arith, length, take, rules, true}
+use Rattle.std.proofs.Common.{◌≡◌, ◌≤◌, ◌+◌, ℕ, List, ap, sym, ◌∙◌, subst, arith, rules, true}
 use Rattle.std.proofs.lemmas.Grind.{common_steps}
 use Rattle.icode.specs.declared.program.Stmt.{Stmt, the_lemmas}
 use Rattle.icode.specs.Plain.{Loop, plain_stmt, plain_body}
 use Rattle.icode.specs.Limits.{is_body_within}
 use Rattle.icode.proofs.Views.{plain_stmt-Loop}
-use Rattle.word_code.specs.Quicken.{bound_at, loosest, quick_stmt}
+use Rattle.word_code.specs.Quicken.{bound_at, loosest}
 use Rattle.word_code.specs.Setting.{header_in}
 use Rattle.word_code.specs.View.{lazy_of}
 use Rattle.word_code.proofs.Emitting.{IsQuickBody, quick_more, loop_parts, item_within, take_whole, loop_made, stmt_sane}
@@ -21,7 +21,7 @@ quicken_stmt-requires t c =
       (
         item_within c.args.setting.modulus (c.args.depth + 1) c.loop-inner.inner-index c.deref-inner-items.result.now c.inner-item.result
             (subst (λ (xs : List Stmt). is_body_within c.args.setting.modulus (plain_body xs) (c.args.depth + 1) ≡ true) (sym items) parts.1) (omega arith) c.inner-item.is,
-        (c.requires.room, (c.requires.small, (c.requires.some, (c.requires.half, (c.requires.keep, (c.requires.product, (c.requires.lanes, (search rules, (omega (arith, parts.0), c.loop-inner.invariant.sane)))))))))
+        (c.requires.room, (c.requires.small, (c.requires.some, (c.requires.half, (c.requires.keep, (c.requires.product, (c.requires.lanes, (search rules, (omega (arith, parts.0), c.loop-inner.invariant.sane))))))))),
       ),
     )
 

@@ -1,4 +1,4 @@
-use Rattle.std.proofs.Common.{ℕ, ◌≤◌, take, length, ◌≡◌}
+use Rattle.std.proofs.Common.{ℕ, ◌≤◌, take}
 use Rattle.word_code.specs.Quicken.{bound_at, loosest}
 use Rattle.word_code.specs.Setting.{header_in}
 use Rattle.word_code.specs.View.{lazy_of}

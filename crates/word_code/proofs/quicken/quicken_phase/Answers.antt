@@ -1,6 +1,6 @@
-use Rattle.std.proofs.Common.{◌≡◌, ◌≤◌, ℕ, List, ap, length, subst, sym, ◌∙◌, arith}
+use Rattle.std.proofs.Common.{◌≤◌, ℕ, List, subst, sym, ◌∙◌, arith}
 use Rattle.icode.specs.Plain.{plain_stmt}
-use Rattle.word_code.specs.Quicken.{bound_at, loosest, quick_stmt}
+use Rattle.word_code.specs.Quicken.{bound_at, loosest}
 use Rattle.word_code.specs.Setting.{header_in}
 use Rattle.word_code.specs.View.{lazy_of}
 use Rattle.word_code.proofs.Emitting.{item_within, quick_more, stmt_sane}

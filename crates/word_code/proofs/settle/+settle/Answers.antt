@@ -1,4 +1,4 @@
-use Rattle.std.proofs.Common.{◌<◌, ◌+◌, arith}
+use Rattle.std.proofs.Common.{arith}
 use Rattle.word_code.proofs.Settling.{step_reductions, step_bounds}
 use Rattle.word_code.proofs.settle.+settle.Goals as goal
 

@@ -1,4 +1,4 @@
-use Rattle.std.proofs.Common.{◌≡◌, ◌<◌, ◌≤◌, ◌∷◌, [], ap, sym, subst, ◌∙◌, arith, length}
+use Rattle.std.proofs.Common.{◌≡◌, ◌<◌, ◌≤◌, ◌^◌, ◌∷◌, [], ap, sym, subst, ◌∙◌, arith, length}
 use Rattle.std.specs.Prelude.{slice_index}
 use Rattle.std.proofs.lemmas.List.{get_or_read}
 use Rattle.icode.specs.declared.event.Event.TheVariants.{Turn, Drain}
@@ -51,3 +51,15 @@ returns-clause-none c =
     let w = c.self.invariant in
     let phase : a.values.phase < length a.lens.items = omega (arith, w.busy.within, w.lens.count, c.if-phase-len.false, c.phase-phase.ensures, c.len.ensures, a.lens.ok.0) in
     absurd (omega (arith, phase, all_idle a w (λ q lt. c.loop-proc.invariant q (omega (arith, w.procs, c.loop-proc-test.false)))))
+
+pub returns-then-phase-len-clause-few : goal.returns-then-phase-len-clause-few
+returns-then-phase-len-clause-few c = subst (λ (r : Running). length (buffered_completion r.code r.state) < 2 ^ 60) c.self.view_is c.self.invariant.few
+
+pub returns-then-done-len-clause-few : goal.returns-then-done-len-clause-few
+returns-then-done-len-clause-few c = subst (λ (r : Running). length (buffered_completion r.code r.state) < 2 ^ 60) c.self.view_is c.self.invariant.few
+
+pub returns-then-is_waiting-clause-few : goal.returns-then-is_waiting-clause-few
+returns-then-is_waiting-clause-few c = subst (λ (r : Running). length (buffered_completion r.code r.state) < 2 ^ 60) c.self.view_is c.self.invariant.few
+
+pub returns-clause-few : goal.returns-clause-few
+returns-clause-few c = subst (λ (r : Running). length (buffered_completion r.code r.state) < 2 ^ 60) c.self.view_is c.self.invariant.few

@@ -1,166 +1,80 @@
-use Rattle.std.proofs.Common.{◌<◌, ◌≤◌, ◌+◌, ◌∙◌, ap, ap₂, sym, subst, refl, arith, length, length-set, replicate, List, ℕ}
+use Rattle.std.proofs.Common.{◌≡◌, ◌+◌, ◌∙◌, List, ℕ, ap, sym, arith, refl, length, length-set, replicate}
 use Rattle.std.specs.Prelude.{slice_index, slice_set}
-use Rattle.std.specs.Vec.{with_item}
+use Rattle.std.specs.Vec.{with_item, with_items}
 use Rattle.std.proofs.lemmas.List.{with_items_is}
-use Rattle.icode.specs.Machine.{acts, run}
-use Rattle.par_machine.specs.Position.{Position}
-use Rattle.par_machine.specs.Frame.{Stand, IsRunning}
+use Rattle.icode.specs.Machine.{State, run}
+use Rattle.par_machine.specs.Context.{Context}
+use Rattle.par_machine.specs.Played.{playing}
+use Rattle.par_machine.specs.Processors.{registers_of}
 use Rattle.par_machine.specs.Running.{Running}
-use Rattle.par_machine.specs.View.{running_of, frame_of, stand_of}
-use Rattle.par_machine.proofs.Advances.{advanced_runs}
-use Rattle.par_machine.proofs.Starting.{start_is, advanced_is}
+use Rattle.par_machine.proofs.Starting.{IsLeft, IsMoved, left_is, can_play, done_fits, moved_runs}
+use Rattle.par_machine.proofs.Wholes.{done_is}
 use Rattle.par_machine.proofs.machine.Machine.advance.Goals as goal
 
-pub play_on-requires-clause-closed : goal.play_on-requires-clause-closed
-play_on-requires-clause-closed c =
-    let a = c.self.inside in
-    let w = c.self.invariant in
-    let q = c.args.proc in
-    let n = c.args.count in
-    let r = c.index-routine.result.now in
-    let cursor = c.index_mut-cursor.result.now in
-    let count = c.index_mut-counts.result.now in
-    let lt : q < a.shape.procs = omega (arith, c.requires.proc, ap (λ (r : Running). r.code.procs) c.self.view_is) in
-    let most : slice_index a.done.items q + n ≤ length (acts (running_of a).code a.phase q) = subst (λ (r : Running). slice_index r.state.done q + n ≤ length (acts r.code r.state.phase q)) (sym c.self.view_is) c.requires.left in
-    let start = start_is a q n r cursor count c.deref.result.now c.deref-2.result.now w lt c.requires.some most c.index-routine.ensures c.index_mut-cursor.ensures.value c.index_mut-counts.ensures.value c.deref.ensures.value c.deref-2.ensures.value in
-    start.closed
-
-pub play_on-requires-clause-within : goal.play_on-requires-clause-within
-play_on-requires-clause-within c =
-    let a = c.self.inside in
-    let w = c.self.invariant in
-    let q = c.args.proc in
-    let n = c.args.count in
-    let r = c.index-routine.result.now in
-    let cursor = c.index_mut-cursor.result.now in
-    let count = c.index_mut-counts.result.now in
-    let lt : q < a.shape.procs = omega (arith, c.requires.proc, ap (λ (r : Running). r.code.procs) c.self.view_is) in
-    let most : slice_index a.done.items q + n ≤ length (acts (running_of a).code a.phase q) = subst (λ (r : Running). slice_index r.state.done q + n ≤ length (acts r.code r.state.phase q)) (sym c.self.view_is) c.requires.left in
-    let start = start_is a q n r cursor count c.deref.result.now c.deref-2.result.now w lt c.requires.some most c.index-routine.ensures c.index_mut-cursor.ensures.value c.index_mut-counts.ensures.value c.deref.ensures.value c.deref-2.ensures.value in
-    start.within
-
-pub play_on-requires-clause-runs : goal.play_on-requires-clause-runs
-play_on-requires-clause-runs c =
-    let a = c.self.inside in
-    let w = c.self.invariant in
-    let q = c.args.proc in
-    let n = c.args.count in
-    let r = c.index-routine.result.now in
-    let cursor = c.index_mut-cursor.result.now in
-    let count = c.index_mut-counts.result.now in
-    let lt : q < a.shape.procs = omega (arith, c.requires.proc, ap (λ (r : Running). r.code.procs) c.self.view_is) in
-    let most : slice_index a.done.items q + n ≤ length (acts (running_of a).code a.phase q) = subst (λ (r : Running). slice_index r.state.done q + n ≤ length (acts r.code r.state.phase q)) (sym c.self.view_is) c.requires.left in
-    let start = start_is a q n r cursor count c.deref.result.now c.deref-2.result.now w lt c.requires.some most c.index-routine.ensures c.index_mut-cursor.ensures.value c.index_mut-counts.ensures.value c.deref.ensures.value c.deref-2.ensures.value in
-    start.playable.runs
-
-pub play_on-requires-clause-operations : goal.play_on-requires-clause-operations
-play_on-requires-clause-operations c =
-    let a = c.self.inside in
-    let w = c.self.invariant in
-    let q = c.args.proc in
-    let n = c.args.count in
-    let r = c.index-routine.result.now in
-    let cursor = c.index_mut-cursor.result.now in
-    let count = c.index_mut-counts.result.now in
-    let lt : q < a.shape.procs = omega (arith, c.requires.proc, ap (λ (r : Running). r.code.procs) c.self.view_is) in
-    let most : slice_index a.done.items q + n ≤ length (acts (running_of a).code a.phase q) = subst (λ (r : Running). slice_index r.state.done q + n ≤ length (acts r.code r.state.phase q)) (sym c.self.view_is) c.requires.left in
-    let start = start_is a q n r cursor count c.deref.result.now c.deref-2.result.now w lt c.requires.some most c.index-routine.ensures c.index_mut-cursor.ensures.value c.index_mut-counts.ensures.value c.deref.ensures.value c.deref-2.ensures.value in
-    start.playable.operations
-
-pub play_on-requires-clause-loads : goal.play_on-requires-clause-loads
-play_on-requires-clause-loads c =
-    let a = c.self.inside in
-    let w = c.self.invariant in
-    let q = c.args.proc in
-    let n = c.args.count in
-    let r = c.index-routine.result.now in
-    let cursor = c.index_mut-cursor.result.now in
-    let count = c.index_mut-counts.result.now in
-    let lt : q < a.shape.procs = omega (arith, c.requires.proc, ap (λ (r : Running). r.code.procs) c.self.view_is) in
-    let most : slice_index a.done.items q + n ≤ length (acts (running_of a).code a.phase q) = subst (λ (r : Running). slice_index r.state.done q + n ≤ length (acts r.code r.state.phase q)) (sym c.self.view_is) c.requires.left in
-    let start = start_is a q n r cursor count c.deref.result.now c.deref-2.result.now w lt c.requires.some most c.index-routine.ensures c.index_mut-cursor.ensures.value c.index_mut-counts.ensures.value c.deref.ensures.value c.deref-2.ensures.value in
-    start.playable.loads
-
-pub play_on-requires-clause-stores : goal.play_on-requires-clause-stores
-play_on-requires-clause-stores c =
-    let a = c.self.inside in
-    let w = c.self.invariant in
-    let q = c.args.proc in
-    let n = c.args.count in
-    let r = c.index-routine.result.now in
-    let cursor = c.index_mut-cursor.result.now in
-    let count = c.index_mut-counts.result.now in
-    let lt : q < a.shape.procs = omega (arith, c.requires.proc, ap (λ (r : Running). r.code.procs) c.self.view_is) in
-    let most : slice_index a.done.items q + n ≤ length (acts (running_of a).code a.phase q) = subst (λ (r : Running). slice_index r.state.done q + n ≤ length (acts r.code r.state.phase q)) (sym c.self.view_is) c.requires.left in
-    let start = start_is a q n r cursor count c.deref.result.now c.deref-2.result.now w lt c.requires.some most c.index-routine.ensures c.index_mut-cursor.ensures.value c.index_mut-counts.ensures.value c.deref.ensures.value c.deref-2.ensures.value in
-    start.playable.stores
+pub play-requires : goal.play-requires
+play-requires c =
+    let left = left_is c.self.inside c.args.self.now c.args.proc c.args.count c.index-routine.result.now c.index_mut-processor.result.now c.self.view_is c.self.invariant c.requires.proc c.requires.some c.requires.left c.index-routine.ensures c.index_mut-processor.ensures.value in
+    can_play c.self.inside c.args.proc c.args.count c.index-routine.result.now c.index_mut-processor.result.now c.deref.result.now c.deref_mut.result.now left c.deref.ensures.value c.deref_mut.ensures.value
 
 pub overflow_add-index_mut : goal.overflow_add-index_mut
 overflow_add-index_mut c =
+    let left = left_is c.self.inside c.args.self.now c.args.proc c.args.count c.index-routine.result.now c.index_mut-processor.result.now c.self.view_is c.self.invariant c.requires.proc c.requires.some c.requires.left c.index-routine.ensures c.index_mut-processor.ensures.value in
+    omega (arith, done_fits c.self.inside c.args.proc c.args.count c.index_mut.result.now c.index-routine.result.now c.index_mut-processor.result.now left c.index_mut.ensures.value)
+
+left_before : (c : goal.After-self-6-1) → IsLeft c.self.inside c.args.proc c.args.count c.index-routine.result.now c.index_mut-processor.result.now
+left_before c =
+    left_is c.self.inside c.args.self.now c.args.proc c.args.count c.index-routine.result.now c.index_mut-processor.result.now c.self.view_is c.self.invariant c.requires.proc c.requires.some c.requires.left c.index-routine.ensures c.index_mut-processor.ensures.value
+
+abbrev memory_after : goal.After-self-6-1 → List ℕ
+memory_after c = (with_items c.self.inside.memory c.play.new.memory).items
+
+abbrev done_after : goal.After-self-6-1 → List ℕ
+done_after c = (with_items (with_item c.self.inside.done c.args.proc (c.index_mut.result.now + c.args.count)) c.settle-self-inside.new.done).items
+
+abbrev processors_after : goal.After-self-6-1 → List Context
+processors_after c = (with_items (with_item c.self.inside.processors c.args.proc c.play.new.self) c.settle-self-inside.new.processors).items
+
+abbrev state_after : goal.After-self-6-1 → State
+state_after c = record { memory = memory_after c; registers = registers_of (processors_after c); phase = c.settle-self-inside.result; done = done_after c }
+
+moved : (c : goal.After-self-6-1) → IsMoved c.self.inside c.args.proc c.args.count c.index-routine.result.now c.index_mut-processor.result.now (state_after c) (processors_after c)
+moved c =
     let a = c.self.inside in
-    let w = c.self.invariant in
     let q = c.args.proc in
     let n = c.args.count in
-    let r = c.index-routine.result.now in
-    let cursor = c.index_mut-cursor.result.now in
-    let count = c.index_mut-counts.result.now in
-    let lt : q < a.shape.procs = omega (arith, c.requires.proc, ap (λ (r : Running). r.code.procs) c.self.view_is) in
-    let most : slice_index a.done.items q + n ≤ length (acts (running_of a).code a.phase q) = subst (λ (r : Running). slice_index r.state.done q + n ≤ length (acts r.code r.state.phase q)) (sym c.self.view_is) c.requires.left in
-    let start = start_is a q n r cursor count c.deref.result.now c.deref-2.result.now w lt c.requires.some most c.index-routine.ensures c.index_mut-cursor.ensures.value c.index_mut-counts.ensures.value c.deref.ensures.value c.deref-2.ensures.value in
-    omega (arith, start.done_fits c.index_mut.result.now c.index_mut.ensures.value)
+    let d = c.index_mut.result.now in
+    let memory = with_items_is a.memory c.play.new.memory (c.play.auto.memory ∙ (ap length c.deref_mut.ensures.value ∙ sym a.memory.ok.0)) in
+    let done = with_items_is (with_item a.done q (d + n)) c.settle-self-inside.new.done (c.settle-self-inside.auto.done ∙ (ap length c.deref_mut-2.ensures.value ∙ (length-set a.done.items q (d + n) ∙ sym a.done.ok.0))) in
+    let processors = with_items_is (with_item a.processors q c.play.new.self) c.settle-self-inside.new.processors (c.settle-self-inside.auto.processors ∙ (ap length c.deref_mut-3.ensures.value ∙ (length-set a.processors.items q c.play.new.self ∙ sym a.processors.ok.0))) in
+    let before : d ≡ slice_index a.done.items q = sym (done_is a q d c.self.invariant (left_before c).proc c.index_mut.ensures.value) in
+    record {
+      code = c.deref.result.now;
+      code_is = c.deref.ensures.value;
+      before = c.deref_mut.result.now;
+      before_is = c.deref_mut.ensures.value;
+      after = c.play.new.self;
+      played = ap (λ m. playing m c.play.new.self) memory ∙ c.play.ensures;
+      phases = c.deref-2.result.now;
+      phases_are = c.deref-2.ensures.value;
+      done = c.deref_mut-2.result.now;
+      done_is = c.deref_mut-2.ensures.value ∙ ap (λ k. slice_set a.done.items q (k + n)) before;
+      moved = c.deref_mut-3.result.now;
+      moved_is = c.deref_mut-3.ensures.value;
+      registers = refl;
+      phase_after = c.settle-self-inside.ensures.phase;
+      done_after = λ code lengths pos same. done ∙ c.settle-self-inside.ensures.done code lengths pos same;
+      processors_after = λ code lengths pos same. processors ∙ c.settle-self-inside.ensures.processors code lengths pos same;
+      within = c.settle-self-inside.ensures.within;
+    }
 
 pub invariant_of-self : goal.invariant_of-self
 invariant_of-self c =
-    let a = c.self.inside in
-    let w = c.self.invariant in
-    let q = c.args.proc in
-    let n = c.args.count in
-    let r = c.index-routine.result.now in
-    let cursor = c.index_mut-cursor.result.now in
-    let count = c.index_mut-counts.result.now in
-    let lt : q < a.shape.procs = omega (arith, c.requires.proc, ap (λ (r : Running). r.code.procs) c.self.view_is) in
-    let most : slice_index a.done.items q + n ≤ length (acts (running_of a).code a.phase q) = subst (λ (r : Running). slice_index r.state.done q + n ≤ length (acts r.code r.state.phase q)) (sym c.self.view_is) c.requires.left in
-    let start = start_is a q n r cursor count c.deref.result.now c.deref-2.result.now w lt c.requires.some most c.index-routine.ensures c.index_mut-cursor.ensures.value c.index_mut-counts.ensures.value c.deref.ensures.value c.deref-2.ensures.value in
-    let d = c.index_mut.result.now in
-    let D = c.deref_mut.result.now in
-    let C = c.deref_mut-2.result.now in
-    let done = with_items_is (with_item a.done q (d + n)) c.settle-self-inside.new.done (c.settle-self-inside.auto.done ∙ (ap length c.deref_mut.ensures.value ∙ (length-set a.done.items q (d + n) ∙ sym a.done.ok.0))) in
-    let places = with_items_is (with_item a.cursors q c.play_on.new.cursor) c.settle-self-inside.new.cursors (c.settle-self-inside.auto.cursors ∙ (ap length c.deref_mut-2.ensures.value ∙ (length-set a.cursors.items q c.play_on.new.cursor ∙ sym a.cursors.ok.0))) in
-    let u : Stand = record { state = record { memory = c.play_on.new.memory; registers = c.play_on.new.registers.items; phase = c.settle-self-inside.result; done = c.settle-self-inside.new.done }; places = c.settle-self-inside.new.cursors; counts = slice_set a.counts.items q c.play_on.new.counts } in
-    let advanced = advanced_is a q n r cursor count c.deref.result.now c.deref-2.result.now u c.deref-3.result.now D C d c.play_on.new.cursor c.play_on.new.counts w lt c.deref.ensures.value c.deref-2.ensures.value c.deref-3.ensures.value c.index_mut.ensures.value
-    c.deref_mut.ensures.value c.deref_mut-2.ensures.value refl
-    c.play_on.ensures.memory c.play_on.ensures.registers c.play_on.ensures.cursor c.play_on.ensures.counts
-    c.settle-self-inside.ensures.phase c.settle-self-inside.ensures.done c.settle-self-inside.ensures.cursors c.settle-self-inside.ensures.within in
-    let after = advanced_runs (frame_of a) q r n (stand_of a) cursor count u w.ready w.running start.set c.requires.some start.most advanced in
     record {
-      ready = w.ready;
-      running = subst (λ (v : Stand). IsRunning (frame_of a) v)
-          (ap₂ (λ (dn : List ℕ) (ps : List Position). record { state = record { memory = c.play_on.new.memory; registers = c.play_on.new.registers.items; phase = c.settle-self-inside.result; done = dn }; places = ps; counts = slice_set a.counts.items q c.play_on.new.counts }) (sym done) (sym places))
-          after.runs;
+      ready = c.self.invariant.ready;
+      running = (moved_runs c.self.inside c.args.proc c.args.count c.index-routine.result.now c.index_mut-processor.result.now (state_after c) (processors_after c) (left_before c) (moved c)).runs;
     }
 
 pub returns-clause-state : goal.returns-clause-state
 returns-clause-state c =
-    let a = c.self.inside in
-    let w = c.self.invariant in
-    let q = c.args.proc in
-    let n = c.args.count in
-    let r = c.index-routine.result.now in
-    let cursor = c.index_mut-cursor.result.now in
-    let count = c.index_mut-counts.result.now in
-    let lt : q < a.shape.procs = omega (arith, c.requires.proc, ap (λ (r : Running). r.code.procs) c.self.view_is) in
-    let most : slice_index a.done.items q + n ≤ length (acts (running_of a).code a.phase q) = subst (λ (r : Running). slice_index r.state.done q + n ≤ length (acts r.code r.state.phase q)) (sym c.self.view_is) c.requires.left in
-    let start = start_is a q n r cursor count c.deref.result.now c.deref-2.result.now w lt c.requires.some most c.index-routine.ensures c.index_mut-cursor.ensures.value c.index_mut-counts.ensures.value c.deref.ensures.value c.deref-2.ensures.value in
-    let d = c.index_mut.result.now in
-    let D = c.deref_mut.result.now in
-    let C = c.deref_mut-2.result.now in
-    let done = with_items_is (with_item a.done q (d + n)) c.settle-self-inside.new.done (c.settle-self-inside.auto.done ∙ (ap length c.deref_mut.ensures.value ∙ (length-set a.done.items q (d + n) ∙ sym a.done.ok.0))) in
-    let places = with_items_is (with_item a.cursors q c.play_on.new.cursor) c.settle-self-inside.new.cursors (c.settle-self-inside.auto.cursors ∙ (ap length c.deref_mut-2.ensures.value ∙ (length-set a.cursors.items q c.play_on.new.cursor ∙ sym a.cursors.ok.0))) in
-    let u : Stand = record { state = record { memory = c.play_on.new.memory; registers = c.play_on.new.registers.items; phase = c.settle-self-inside.result; done = c.settle-self-inside.new.done }; places = c.settle-self-inside.new.cursors; counts = slice_set a.counts.items q c.play_on.new.counts } in
-    let advanced = advanced_is a q n r cursor count c.deref.result.now c.deref-2.result.now u c.deref-3.result.now D C d c.play_on.new.cursor c.play_on.new.counts w lt c.deref.ensures.value c.deref-2.ensures.value c.deref-3.ensures.value c.index_mut.ensures.value
-    c.deref_mut.ensures.value c.deref_mut-2.ensures.value refl
-    c.play_on.ensures.memory c.play_on.ensures.registers c.play_on.ensures.cursor c.play_on.ensures.counts
-    c.settle-self-inside.ensures.phase c.settle-self-inside.ensures.done c.settle-self-inside.ensures.cursors c.settle-self-inside.ensures.within in
-    let after = advanced_runs (frame_of a) q r n (stand_of a) cursor count u w.ready w.running start.set c.requires.some start.most advanced in
-    ap (λ (dn : List ℕ). record { memory = c.play_on.new.memory; registers = c.play_on.new.registers.items; phase = c.settle-self-inside.result; done = dn }) done
-    ∙ (after.state ∙ ap (λ (r : Running). run r.code r.state (replicate n q)) c.self.view_is)
+    (moved_runs c.self.inside c.args.proc c.args.count c.index-routine.result.now c.index_mut-processor.result.now (state_after c) (processors_after c) (left_before c) (moved c)).state
+    ∙ ap (λ (r : Running). run r.code r.state (replicate c.args.count c.args.proc)) c.self.view_is

@@ -1,0 +1,137 @@
+"""Nanoseconds of transforms as fast C text, as specified C text and by peers, in one run, and their ratios.
+
+The first two arguments are the built programs; further ones are sizes. A peer that is not installed is skipped with a
+word. Each time is the least of some rounds in which all programs of a row run in turn.
+"""
+import os
+import re
+import shutil
+import subprocess
+import sys
+import tempfile
+
+HERE = os.path.dirname(os.path.abspath(__file__))
+SPIRAL, FAST, *SIZES = sys.argv[1:]
+SIZES = [int(size) for size in SIZES] or [64, 1024, 4096, 65536]
+ROUNDS = 5
+
+# Each with its primes, or none where it has no peers, and with the lanes and unroll of its fast text.
+MODULI = [
+    ("60-bit prime", (958938426232078337,), 8, 16),
+    ("31-bit prime", (1570570241,), 16, 16),
+    ("composite", (65537, 786433), 8, 16),
+]
+
+
+def prime_factors(n):
+    return {d for d in range(2, n + 1) if n % d == 0 and all(d % e for e in range(2, d))}
+
+
+def root_of_prime(size, prime):
+    """A root of unity whose order is the size."""
+    for base in range(2, prime):
+        root = pow(base, (prime - 1) // size, prime)
+        if all(pow(root, size // q, prime) != 1 for q in prime_factors(size)):
+            return root
+
+
+def modulus_and_root(size, primes):
+    """Roots of several primes are joined by the Chinese remainder theorem."""
+    modulus, root = primes[0], root_of_prime(size, primes[0])
+    for prime in primes[1:]:
+        other = root_of_prime(size, prime)
+        root += modulus * ((other - root) * pow(modulus, -1, prime) % prime)
+        modulus *= prime
+    return modulus, root
+
+
+def output(words, text=""):
+    done = subprocess.run(words, input=text, capture_output=True, text=True)
+    if done.returncode != 0:
+        raise SystemExit(f"{' '.join(words)}: {done.stderr.strip()}")
+    return done.stdout
+
+
+class Race:
+    def __init__(self, folder):
+        self.folder, self.entries, self.skipped = folder, [], set()
+
+    def skip(self, word):
+        if word not in self.skipped:
+            self.skipped.add(word)
+            print(f"skipped: {word}")
+
+    def compiled(self, compiler, source, *flags):
+        """The program, or none where compiler, headers or library are not there."""
+        if not shutil.which(compiler):
+            self.skip(f"{compiler} is not here")
+            return None
+        program = os.path.join(self.folder, f"program{len(self.entries)}{os.path.basename(source)}")
+        done = subprocess.run([compiler, "-w", source, "-o", program, f"-I{HERE}", *flags], capture_output=True)
+        return program if done.returncode == 0 else None
+
+    def text(self, name, compiler, text, *flags):
+        source = os.path.join(self.folder, f"text{len(self.entries)}.c")
+        with open(source, "w") as file:
+            file.write(text)
+        size, procs = (re.search(rf" {word} (\d+) ", text).group(1) for word in ("size", "procs"))
+        phases = ",".join(re.findall(r"^void (phase\d+)", text, re.M))
+        program = self.compiled(compiler, os.path.join(HERE, "race_text.c"), f'-DTEXT="{source}"', f"-DSIZE={size}",
+                                f"-DPROCS={procs}", f"-DPHASES={phases}", *flags)
+        if program:
+            self.entries.append((name, [program]))
+
+    def peer(self, name, compiler, source, flags, words):
+        program = self.compiled(compiler, os.path.join(HERE, source), *flags)
+        if not program:
+            self.skip(f"{name} is not here")
+        elif subprocess.run([program, *words], capture_output=True).returncode == 0:
+            self.entries.append((name, [program, *words]))
+
+    def run(self, title):
+        least = {}
+        for _ in range(ROUNDS):
+            for name, words in self.entries:
+                least[name] = min(least.get(name, 1e300), float(output(words)))
+        first = next((name for name, _ in self.entries if name in ("NTL", "textbook")), self.entries[0][0])
+        print(f"{title}, as many times {first}'s {least[first]:.0f} ns:")
+        for name, time in least.items():
+            print(f"  {name}: {time:.0f} ns, {time / least[first]:.2f}")
+        sys.stdout.flush()
+        self.entries = []
+
+
+def fast_text(request):
+    return output([FAST], output([SPIRAL, "code"], request + "\n"))
+
+
+def raced(race, size, title, primes, lanes, unroll):
+    modulus, root = modulus_and_root(size, primes)
+    request = f"dft {size} mod {modulus} root {root}"
+    words = [str(size), str(modulus), str(root)]
+    if len(primes) == 1:
+        race.peer("NTL", "g++", "race_ntl.cpp", ["-O2", "-lntl", "-lgmp", "-pthread"], words)
+        race.peer("FLINT fft_small", "gcc", "race_flint.c", ["-O2", "-march=native", "-lflint"], words)
+    race.peer("textbook", "gcc", "race_textbook.c", ["-O3", "-march=native"], words)
+    with_lanes = fast_text(f"{request} lanes {min(lanes, int(size ** 0.5))} unroll {unroll}")
+    native = ["-O3", "-march=native"]
+    race.text("fast, lanes, clang", "clang", with_lanes, *native)
+    race.text("fast, lanes, gcc", "gcc", with_lanes, *native)
+    race.text("fast, lanes, clang, AVX2", "clang", with_lanes, "-O3", "-mavx2")
+    one = fast_text(f"{request} unroll 4")
+    race.text("fast, one lane, clang", "clang", one, *native)
+    race.text("fast, one lane, gcc", "gcc", one, *native)
+    race.text("specified, gcc", "gcc", output([SPIRAL, "c"], request + "\n"), "-O2")
+    race.run(f"{size}, {title}")
+
+
+def main():
+    with tempfile.TemporaryDirectory() as folder:
+        race = Race(folder)
+        for size in SIZES:
+            for title, primes, lanes, unroll in MODULI:
+                raced(race, size, title, primes, lanes, unroll)
+
+
+if __name__ == "__main__":
+    main()

@@ -1,0 +1,54 @@
+#!/usr/bin/env bash
+# Refuses each allocation of some calls in turn: each run has to end with `spiral: out of memory`, status 12 and no
+# output, and the first run that is refused nothing has to write what the call writes. Prints how many were refused.
+# The program is $1, or else the built one. Where spiral_fast is built, it is tried on the listings.
+set -euo pipefail
+top=$(cd "$(dirname "$0")/.." && pwd)
+program=$(readlink -f "${1:-$top/crates/spiral/out/spiral}")
+[ -x "$program" ] || "$top/bin/build"
+work=$(mktemp -d)
+trap 'rm -rf "$work"' EXIT
+cc -O1 -shared -fPIC -Wall -Wextra -o "$work/refuse.so" "$top/bench/refuse.c" -ldl
+fast=$top/crates/spiral_fast/out/spiral_fast
+
+# refused_in_turn REQUEST PROGRAM WORD ..: the call with these words on $work/input
+refused_in_turn() {
+  local request=$1 program=$2 number=1 status
+  shift 2
+  "$program" "$@" <"$work/input" >"$work/wanted"
+  echo "$(basename "$program"): out of memory" >"$work/no_memory"
+  while true; do
+    status=0
+    REFUSED=$number LD_PRELOAD=$work/refuse.so "$program" "$@" <"$work/input" >"$work/got" 2>"$work/note" || status=$?
+    [ "$status" -eq 12 ] && [ ! -s "$work/got" ] && cmp -s "$work/note" "$work/no_memory" || break
+    number=$((number + 1))
+  done
+  if [ "$status" -ne 0 ] || [ -s "$work/note" ] || ! cmp -s "$work/got" "$work/wanted" || [ "$number" -eq 1 ]; then
+    echo "wrong: $request: $(basename "$program") $*: allocation $number refused, status $status: $(head -c 200 "$work/note")"
+    exit 1
+  fi
+  echo "$request: $(basename "$program") $*: $((number - 1)) refused"
+}
+
+# of_request REQUEST VECTOR
+of_request() {
+  local request=$1 vector=$2 command
+  printf '%s\n%s\n' "$request" "$vector" >"$work/input"
+  for command in plan formula cert code c run sample; do
+    refused_in_turn "$request" "$program" "$command"
+  done
+  refused_in_turn "$request" "$program" trace --schedule rr:3
+  refused_in_turn "$request" "$program" run --buffers
+  { echo "$request" && echo "$request" | "$program" cert; } >"$work/input"
+  refused_in_turn "$request" "$program" check
+  { echo "$request" | "$program" code && echo && echo "$vector"; } >"$work/input"
+  refused_in_turn "$request" "$program" exec
+  if [ -x "$fast" ]; then
+    echo "$request" | "$program" code >"$work/input"
+    refused_in_turn "$request" "$fast"
+  fi
+}
+
+of_request 'dft 4 mod 17 root 4' '1 2 3 4'
+of_request 'dft 4 mod 17 root 4 procs 2 line 1' '1 2 3 4'
+of_request 'dft 16 mod 17 root 3 procs 2 line 2 lanes 2' '0 1 0 0 0 0 0 0 0 0 0 0 0 0 0 0'

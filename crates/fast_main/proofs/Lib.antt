@@ -1,0 +1,4 @@
+pub mod Refusals
+pub mod Faithful
+pub mod Once
+pub mod Told

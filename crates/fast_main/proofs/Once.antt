@@ -1,0 +1,100 @@
+-- The words and the bytes of a call determine its status and its text.
+use Rattle.std.proofs.Common.{◌≡◌, ℕ, zero, suc, ◌-◌, ◌<◌, ◌≤◌, Bool, true, false, cond, eqb, List, [], ◌∷◌, ◌++◌, None, Ok, Err, Result, inl, inr, refl, sym, ap, subst, ◌∙◌, append_assoc, arith}
+use Rattle.icode.specs.Plain.{PlainProgram}
+use Rattle.code_check.specs.Refusals.{PassesCheck, IsCause}
+use Rattle.code_check.proofs.Causes.{one_cause, none_if_passed}
+use Rattle.grammar.specs.Grammar.{Begins, IsLost, first_lines}
+use Rattle.listing_text.specs.Lines.{read_lines}
+use Rattle.listing_text.specs.Drafts.{step, finish}
+use Rattle.listing_text.specs.Texts.{is_listing}
+use Rattle.listing_text.proofs.DraftReads.{listing_judges}
+use Rattle.fast_main.specs.declared.status.Status.{Status}
+use Rattle.fast_main.specs.declared.status.Status.TheVariants.{ListingSyntax}
+use Rattle.fast_main.specs.Outcome.{action_limit, status_of_check, IsTranslated, IsRefused, IsAnswer, IsOutcomeOfInput, IsOutcome}
+use Rattle.fast_main.specs.Translation.{fast_text}
+
+-- The first lines are a front of the first lines and one more
+
+record Front (text whole : List ℕ) : Type 0 where
+  pub rest : List ℕ
+  pub is : whole ≡ text ++ rest
+
+one_more : (x : ℕ) (text whole : List ℕ) → Front text whole → Front (x ∷ text) (x ∷ whole)
+one_more x text whole f = record { rest = f.rest; is = ap (λ l. x ∷ l) f.is }
+
+by_end : (x a b : ℕ) (text : List ℕ) (k : Bool) → Front (first_lines a text) (first_lines b text) → Front (first_lines (suc a) text) (first_lines (suc b) text)
+    → Front (x ∷ first_lines (cond k a (suc a)) text) (x ∷ first_lines (cond k b (suc b)) text)
+by_end x a b text true here on = one_more x (first_lines a text) (first_lines b text) here
+by_end x a b text false here on = one_more x (first_lines (suc a) text) (first_lines (suc b) text) on
+
+fewer_lines : (text : List ℕ) (a b : ℕ) → a ≤ b → Front (first_lines a text) (first_lines b text)
+fewer_lines text zero b le = record { rest = first_lines b text; is = refl }
+fewer_lines text (suc a) zero le = absurd (omega (arith, le))
+fewer_lines [] (suc a) (suc b) le = record { rest = []; is = refl }
+fewer_lines (x ∷ text) (suc a) (suc b) le =
+    by_end x a b text (eqb x 10) (fewer_lines text a b (omega (arith, le))) (fewer_lines text (suc a) (suc b) le)
+
+begins_before : {A : Type 0} (spells : List ℕ → A → Type 0) (text whole : List ℕ) → Front text whole → Begins spells whole → Begins spells text
+begins_before spells text whole f b = (f.rest ++ b.0, b.1, subst (λ l. spells l b.1) (ap (λ l. l ++ b.0) f.is ∙ append_assoc text f.rest b.0) b.2)
+
+not_before : {A : Type 0} (spells : List ℕ → A → Type 0) (text : List ℕ) (a b : ℕ) → IsLost spells text a → IsLost spells text b → a < b → ⊥
+not_before spells text a b p q lt =
+    let le : a ≤ b - 1 = omega (arith, lt) in
+    p.here (let most = q.counted.1 in omega (arith, most, lt)) (begins_before spells (first_lines a text) (first_lines (b - 1) text) (fewer_lines text a (b - 1) le) q.before)
+
+-- a text is lost in one line
+lost_once : {A : Type 0} (spells : List ℕ → A → Type 0) (text : List ℕ) (a b : ℕ) → IsLost spells text a → IsLost spells text b → a ≡ b
+lost_once spells text a b p q = by_order (not_before spells text a b p q) (not_before spells text b a q p)
+  where
+    by_order : (a < b → ⊥) → (b < a → ⊥) → a ≡ b
+    by_order f g = grind (arith, f, g)
+
+-- The program of a listing
+
+read_once : (bytes : List ℕ) (r : Result PlainProgram ℕ) → read_lines step finish None [] bytes ≡ r → (p q : PlainProgram) → is_listing bytes p → is_listing bytes q → p ≡ q
+read_once bytes (Ok read) e p q a b = let judged = listing_judges bytes (Ok read) e in judged.1 p a ∙ sym (judged.1 q b)
+read_once bytes (Err lines) e p q a b = absurd ((listing_judges bytes (Err lines) e).nothing p a)
+
+one_program : (bytes : List ℕ) (p q : PlainProgram) → is_listing bytes p → is_listing bytes q → p ≡ q
+one_program bytes p q a b = read_once bytes (read_lines step finish None [] bytes) refl p q a b
+
+-- Answers
+
+refused_once : (bytes : List ℕ) (a b : Status) → IsRefused bytes a → IsRefused bytes b → a ≡ b
+refused_once bytes a b (inl p) (inl q) = p.says ∙ ap (λ n. ListingSyntax n) (lost_once is_listing bytes p.line q.line p.lost q.lost) ∙ sym q.says
+refused_once bytes a b (inl p) (inr q) = absurd (p.lost.nothing q.program q.listing)
+refused_once bytes a b (inr p) (inl q) = absurd (q.lost.nothing p.program p.listing)
+refused_once bytes a b (inr p) (inr q) =
+    let same = one_program bytes q.program p.program q.listing p.listing in
+    let cause = subst (λ x. IsCause action_limit x q.fault) same q.cause in
+    p.says ∙ ap status_of_check (one_cause action_limit p.program p.fault q.fault p.told q.told p.cause cause) ∙ sym q.says
+
+refused_or_translated : (bytes text : List ℕ) (a : Status) → IsRefused bytes a → IsTranslated bytes text → ⊥
+refused_or_translated bytes text a (inl p) q = p.lost.nothing q.program q.listing
+refused_or_translated bytes text a (inr p) q =
+    let same = one_program bytes q.program p.program q.listing p.listing in
+    none_if_passed action_limit p.program p.fault p.told (subst (λ x. PassesCheck action_limit x) same q.passes) p.cause
+
+translated_once : (bytes s t : List ℕ) → IsTranslated bytes s → IsTranslated bytes t → s ≡ t
+translated_once bytes s t p q = p.says ∙ ap fast_text (one_program bytes p.program q.program p.listing q.listing) ∙ sym q.says
+
+abbrev Same : Status → Status → List ℕ → List ℕ → Type 0
+Same a b s t = (a ≡ b) × (s ≡ t)
+
+answer_once : (bytes : List ℕ) (a b : Status) (s t : List ℕ) → IsAnswer bytes a s → IsAnswer bytes b t → Same a b s t
+answer_once bytes a b s t (inl p) (inl q) = (refused_once bytes a b p.0 q.0, p.1 ∙ sym q.1)
+answer_once bytes a b s t (inl p) (inr q) = absurd (refused_or_translated bytes t a p.0 q.1)
+answer_once bytes a b s t (inr p) (inl q) = absurd (refused_or_translated bytes s b q.0 p.1)
+answer_once bytes a b s t (inr p) (inr q) = (p.0 ∙ sym q.0, translated_once bytes s t p.1 q.1)
+
+input_once : (bytes : List ℕ) (a b : Status) (s t : List ℕ) → IsOutcomeOfInput bytes a s → IsOutcomeOfInput bytes b t → Same a b s t
+input_once bytes a b s t (inl p) (inl q) = (p.1 ∙ sym q.1, p.2 ∙ sym q.2)
+input_once bytes a b s t (inl p) (inr q) = let x = p.0 in let y = q.0 in absurd (omega (arith, x, y))
+input_once bytes a b s t (inr p) (inl q) = let x = p.0 in let y = q.0 in absurd (omega (arith, x, y))
+input_once bytes a b s t (inr p) (inr q) = answer_once bytes a b s t p.1 q.1
+
+pub outcome_once : (words : List (List ℕ)) (bytes : List ℕ) (a b : Status) (s t : List ℕ) → IsOutcome words bytes a s → IsOutcome words bytes b t → (a ≡ b) × (s ≡ t)
+outcome_once words bytes a b s t (inl p) (inl q) = (p.1 ∙ sym q.1, p.2 ∙ sym q.2)
+outcome_once words bytes a b s t (inl p) (inr q) = absurd (p.0 q.0)
+outcome_once words bytes a b s t (inr p) (inl q) = absurd (q.0 p.0)
+outcome_once words bytes a b s t (inr p) (inr q) = input_once bytes a b s t p.1 q.1

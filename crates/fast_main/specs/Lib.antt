@@ -1,0 +1,3 @@
+pub mod Translation
+pub mod Status
+pub mod Outcome

@@ -1,0 +1,97 @@
+-- What a call answers for its words and the bytes of its input, and what it writes.
+use Rattle.std.specs.Prelude.{◌≡◌, ◌≢◌, ◌⊎◌, ℕ, ◌^◌, ◌<◌, ◌≤◌, List, [], length, Some}
+use Rattle.std.specs.declared.option.Option.{Option}
+use Rattle.std.specs.Io.KnownBytes.{Appends, Consumes}
+use Rattle.icode.specs.Plain.{PlainProgram}
+use Rattle.grammar.specs.Grammar.{IsLost}
+use Rattle.listing_text.specs.Texts.{is_listing}
+use Rattle.code_check.specs.declared.CheckFault.{CheckFault}
+use Rattle.code_check.specs.declared.CheckFault.TheVariants as faults
+use Rattle.code_check.specs.Refusals.{PassesCheck, IsCause}
+use Rattle.io_edge.specs.Faults.{Rose}
+use Rattle.io_edge.specs.Taken.{AppendsPrefix}
+use Rattle.fast_main.specs.declared.status.Status.{Status}
+use Rattle.fast_main.specs.declared.status.Status.TheVariants.{Success, Usage, ListingSyntax, OverSteps, Address, Register, LineShared, ReadFault, WriteFault, NoMemory, TooLong}
+use Rattle.fast_main.specs.Translation.{fast_text, IsFaithful}
+
+-- how many bytes a listing has at most
+abbrev pub listing_limit : ℕ
+listing_limit = 2 ^ 26
+
+-- how many actions a program has at most
+abbrev pub action_limit : ℕ
+action_limit = 100000000
+
+abbrev pub status_of_check : CheckFault → Status
+status_of_check (faults.OverSteps limit) = OverSteps limit
+status_of_check (faults.Address phase q i) = Address phase q i
+status_of_check (faults.Register phase q i) = Register phase q i
+status_of_check (faults.LineShared phase line a b) = LineShared phase line a b
+status_of_check faults.NoMemory = NoMemory
+
+-- the bytes are the listing of no program, and lost in a line
+pub record IsUnread (bytes : List ℕ) (status : Status) : Type 0 where
+  pub line : ℕ
+  pub lost : IsLost is_listing bytes line
+  pub says : status ≡ ListingSyntax line
+
+-- they are that of a program that is too long, does not fit or whose processors share a line
+pub record IsUnsound (bytes : List ℕ) (status : Status) : Type 0 where
+  pub program : PlainProgram
+  pub fault : CheckFault
+  pub listing : is_listing bytes program
+  pub told : fault ≢ faults.NoMemory
+  pub cause : IsCause action_limit program fault
+  pub says : status ≡ status_of_check fault
+
+-- they are that of a program that passes the check, and the text is its own, of words that leave what it leaves
+pub record IsTranslated (bytes text : List ℕ) : Type 0 where
+  pub program : PlainProgram
+  pub listing : is_listing bytes program
+  pub passes : PassesCheck action_limit program
+  pub faithful : IsFaithful program
+  pub says : text ≡ fast_text program
+
+-- why the bytes of a listing have no text
+abbrev pub IsRefused : List ℕ → Status → Type 0
+IsRefused bytes status = IsUnread bytes status ⊎ IsUnsound bytes status
+
+-- status and text for bytes that are no more than may be
+abbrev pub IsAnswer : List ℕ → Status → List ℕ → Type 0
+IsAnswer bytes status text = (IsRefused bytes status × (text ≡ [])) ⊎ ((status ≡ Success) × IsTranslated bytes text)
+
+-- for all bytes
+abbrev pub IsOutcomeOfInput : List ℕ → Status → List ℕ → Type 0
+IsOutcomeOfInput bytes status text =
+    ((listing_limit < length bytes) × (status ≡ TooLong listing_limit) × (text ≡ [])) ⊎ ((length bytes ≤ listing_limit) × IsAnswer bytes status text)
+
+-- The words are the program's name alone, or nothing is read
+abbrev pub IsOutcome : List (List ℕ) → List ℕ → Status → List ℕ → Type 0
+IsOutcome words bytes status text =
+    ((length words ≢ 1) × (status ≡ Usage) × (text ≡ [])) ⊎ ((length words ≡ 1) × IsOutcomeOfInput bytes status text)
+
+-- the words and the bytes call for the status: it is neither a fault of the outside nor want of memory
+pub record IsDefined (status : Status) : Type 0 where
+  pub read : status ≢ ReadFault
+  pub write : status ≢ WriteFault
+  pub memory : status ≢ NoMemory
+
+-- neither success nor a fault of the outside
+pub record IsInside (status : Status) : Type 0 where
+  pub success : status ≢ Success
+  pub read : status ≢ ReadFault
+  pub write : status ≢ WriteFault
+  pub usage : status ≢ Usage
+
+-- Status and output of a call, by all the bytes of its input and by what the source has left of them
+pub record Accounts (words : List (List ℕ)) (bytes : List ℕ) (left before after : Option (List ℕ)) (status : Status) : Type 0 where
+  -- where nothing failed, they are the outcome
+  pub answer : IsDefined status → (text : List ℕ) × IsOutcome words bytes status text × Appends before after text
+  -- a read failed, behind bytes that may be the front of a listing's, and nothing was written
+  pub read_fault : status ≡ ReadFault → (length words ≡ 1) × ((read : List ℕ) × Consumes (Some bytes) left read × (length read ≤ listing_limit)) × Appends before after []
+  -- a write failed at the text that the bytes call for, of which the output took a front
+  pub write_fault : status ≡ WriteFault → (text : List ℕ) × IsOutcome words bytes Success text × AppendsPrefix before after text
+
+-- the line went to the note whole, or a prefix of it where the note failed
+abbrev pub Notes : Option (List ℕ) → Option (List ℕ) → ℕ → ℕ → List ℕ → Type 0
+Notes old new before now line = Appends old new line ⊎ (Rose before now × AppendsPrefix old new line)

@@ -1,0 +1,18 @@
+//! Fast C from a listing: a listing on an input to a C text on an output, a note and a status.
+#![tactic(auto)]
+
+ghost use Rattle.std.specs.Prelude.{◌≡◌, ℕ, List};
+ghost use Rattle.fast_main.specs.declared.status.Status.{Status as SpecStatus};
+ghost use Rattle.fast_main.specs.Outcome.{IsOutcome};
+
+mod run;
+mod status;
+
+pub use run::{LISTING_LIMIT, fast_run};
+pub use status::Status;
+
+/// The words and the bytes of a call determine its status and its text.
+pub fn calls_have_one_outcome()
+    ensures status { (words : List (List ℕ)) (bytes : List ℕ) (a b : SpecStatus) (s t : List ℕ) → IsOutcome words bytes a s → IsOutcome words bytes b t → a ≡ b }
+    ensures text { (words : List (List ℕ)) (bytes : List ℕ) (a b : SpecStatus) (s t : List ℕ) → IsOutcome words bytes a s → IsOutcome words bytes b t → s ≡ t }
+{}

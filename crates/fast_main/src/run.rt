@@ -1,0 +1,110 @@
+// The top call.
+ghost use Rattle.std.specs.Prelude.{◌≡◌, ◌≢◌, ℕ, List, [], length, map, string_bytes, IfOk, IfErr, IfSome};
+ghost use Rattle.std.specs.declared.option.Option.{Option};
+ghost use Rattle.std.specs.Io.KnownBytes.{Appends, IsAtEnd};
+ghost use Rattle.icode.specs.Machine.{IsApart};
+ghost use Rattle.icode.specs.Program.{plain_program, code_of, Fits};
+ghost use Rattle.io_edge.specs.Faults.{Reports};
+ghost use Rattle.word_code.specs.Choice.{fast_words};
+ghost use Rattle.word_code.specs.View.{plain_word_program};
+ghost use Rattle.fast_main.specs.Outcome.{IsRefused, IsTranslated, IsInside, IsDefined, Accounts, Notes};
+ghost use Rattle.fast_main.specs.Status.{note_line, status_of};
+ghost use Rattle.fast_main.specs.Translation.{fast_text, IsFaithful};
+
+use crate::status::{Status, write_note};
+use code_check::verify;
+use icode::program::Program;
+use input_rest::read_rest;
+use io_edge::{Feed, Sink, Source, write_all};
+use listing_text::read_listing;
+use memory::NoMemory;
+use std::alloc::Global;
+use word_code::choose::make_fast;
+use word_print::print_words;
+
+/// How many bytes a listing has at most.
+pub const LISTING_LIMIT: u64 = 1 << 26;
+
+// The C text of a program.
+fn fast_text_of(alloc: Global, program: &Program) -> Result<Vec<u8>, NoMemory>
+    ensures text { IfOk result (λ text. text.items ≡ fast_text (plain_program program.now)) }
+    ensures faithful { IfOk result (λ text. Fits program.now → ((phase : ℕ) → IsApart (code_of program.now) phase) → IsFaithful (plain_program program.now)) }
+{
+    let words = make_fast(alloc, program)?;
+    let text = print_words(alloc, &words)?;
+    Ok(text)
+}
+
+// The C text that the bytes of a listing call for.
+fn text_of(alloc: Global, listing: &[u8]) -> Result<Vec<u8>, Status>
+    ensures text { IfOk result (λ text. IsTranslated listing.now text.items) }
+    ensures refused { IfErr result (λ status. IsDefined status → IsRefused listing.now status) }
+    ensures inside { IfErr result (λ status. IsInside status) }
+{
+    let program = read_listing(alloc, listing)?;
+    let verified = verify(alloc, &program)?;
+    let text = fast_text_of(alloc, verified.program())?;
+    Ok(text)
+}
+
+// Does what the words and the input ask for.
+fn work<I: Source, O: Sink>(
+    alloc: Global,
+    words: &Vec<String>,
+    input: &mut I,
+    output: &mut O,
+) -> Result<(), Status>
+    ensures told { IfSome (I.left input.old) (λ bytes. Accounts (map string_bytes words.now.items) bytes (I.left input.new) (O.taken output.old) (O.taken output.new) (status_of result)) }
+    ensures end { status_of result ≡ Status.Success → IsAtEnd (I.left input.new) }
+    ensures read { Reports (I.faults input.old) (I.faults input.new) (status_of result ≡ Status.ReadFault) }
+    ensures write { Reports (O.faults output.old) (O.faults output.new) (status_of result ≡ Status.WriteFault) }
+    ensures nothing { status_of result ≢ Status.Success → status_of result ≢ Status.WriteFault → Appends (O.taken output.old) (O.taken output.new) [] }
+{
+    if words.len() != 1 {
+        return Err(Status::Usage);
+    }
+    let mut feed = Feed::new(alloc)?;
+    let listing = read_rest(alloc, &mut feed, input, LISTING_LIMIT)?;
+    let text = text_of(alloc, &listing)?;
+    write_all(output, &text)?;
+    Ok(())
+}
+
+// The status that a call ends with.
+fn ending(ended: Result<(), Status>) -> Status
+    ensures { result ≡ status_of ended }
+{
+    match ended {
+        Ok(()) => Status::Success,
+        Err(status) => status,
+    }
+}
+
+/// Writes the fast C text of the listing on the input, and says in the note why not if it doesn't.
+///
+/// The words are the program's name alone. The input is a listing, as `spiral code` writes it, of at most
+/// [`LISTING_LIMIT`] bytes, and is verified first.
+pub fn fast_run<I: Source, O: Sink, E: Sink>(
+    alloc: Global,
+    words: &Vec<String>,
+    input: &mut I,
+    output: &mut O,
+    note: &mut E,
+) -> Status
+    // Where the input tells its bytes, they and the words account for the status and for what the output took.
+    ensures told { IfSome (I.left input.old) (λ bytes. Accounts (map string_bytes words.now.items) bytes (I.left input.new) (O.taken output.old) (O.taken output.new) result) }
+    // A call that succeeds has read its input to its end.
+    ensures end { result ≡ Status.Success → IsAtEnd (I.left input.new) }
+
+    // A fault has its cause and is not swallowed, also where nothing is told.
+    ensures read { Reports (I.faults input.old) (I.faults input.new) (result ≡ Status.ReadFault) }
+    ensures write { Reports (O.faults output.old) (O.faults output.new) (result ≡ Status.WriteFault) }
+
+    // Nothing is written on a refusal.
+    ensures nothing { result ≢ Status.Success → result ≢ Status.WriteFault → Appends (O.taken output.old) (O.taken output.new) [] }
+    ensures note { Notes (E.taken note.old) (E.taken note.new) (E.faults note.old) (E.faults note.new) (note_line result) }
+{
+    let status = ending(work(alloc, words, input, output));
+    let _ = write_note(note, status);
+    status
+}

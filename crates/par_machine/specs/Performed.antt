@@ -1,0 +1,33 @@
+-- What an operation needs, and what it leaves.
+use Rattle.std.specs.Prelude.{ℕ, ◌+◌, ◌<◌, ◌^◌, List, IsTrue}
+use Rattle.icode.specs.declared.action.Action.{Action}
+use Rattle.icode.specs.declared.action.Counts.{Counts}
+use Rattle.icode.specs.declared.program.Op.{Op}
+use Rattle.icode.specs.Actions.{Step, step_of}
+use Rattle.icode.specs.Limits.{is_op_within}
+use Rattle.icode.specs.Machine.{Local, effect}
+use Rattle.icode.specs.Plain.{plain_op}
+use Rattle.par_machine.specs.declared.engine.Engine.{Engine}
+use Rattle.par_machine.specs.Header.{header_of}
+
+-- the operation's step, where these are the values of the open loops on this processor
+abbrev pub step_by : Engine → Op → List ℕ → ℕ → Step
+step_by engine op values proc = step_of (header_of engine) (plain_op op) values proc
+
+abbrev pub action_by : Engine → Op → List ℕ → ℕ → Action
+action_by engine op values proc = (step_by engine op values proc).action
+
+-- it is within the limits, where so many loops are open
+abbrev pub OpIsWithin : Engine → Op → ℕ → Type 0
+OpIsWithin engine op depth = IsTrue (is_op_within engine.shape.modulus (plain_op op) depth)
+
+-- the memory and the registers after it
+abbrev pub performed : Engine → Op → List ℕ → ℕ → List ℕ → List ℕ → Local
+performed engine op values proc memory registers =
+    effect engine.shape.modulus engine.shape.lanes (action_by engine op values proc) (record { memory = memory; registers = registers })
+
+-- one more action on all lanes can be counted
+pub record HasRoom (lanes : ℕ) (counts : Counts) : Type 0 where
+  pub operations : counts.operations + lanes < 2 ^ 64
+  pub loads : counts.loads + lanes < 2 ^ 64
+  pub stores : counts.stores + lanes < 2 ^ 64

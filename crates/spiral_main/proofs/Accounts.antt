@@ -1,0 +1,184 @@
+-- From what a command does to the account of the whole call.
+use Rattle.std.proofs.Common.{◌≡◌, ◌≢◌, ◌⊎◌, ◌≤◌, ◌+◌, ◌-◌, ◌||◌, ℕ, true, List, [], ◌∷◌, ◌++◌, None, Some, Ok, Err, Result, IfSome, length, refl, sym, ap, subst, ◌∙◌, arith, append_assoc, length-append, inl, inr}
+use Rattle.std.proofs.KnownBytes.{Appends-nil, Consumes-trans}
+use Rattle.std.proofs.lemmas.List.Folds.{list_any-append}
+use Rattle.std.specs.List.{list_any}
+use Rattle.std.specs.declared.option.Option.{Option}
+use Rattle.std.specs.Io.KnownBytes.{Appends, Consumes, IsAtEnd, prepend_known}
+use Rattle.matrix_meaning.specs.declared.Request.{Request}
+use Rattle.request_text.specs.Schedule.{Plan}
+use Rattle.io_edge.specs.Faults.{HasCause}
+use Rattle.io_edge.specs.Feed.{Fed, limit, to_come}
+use Rattle.io_edge.specs.Taken.{WritesAll}
+use Rattle.spiral_words.specs.Asked.{IsAsked}
+use Rattle.spiral_words.specs.declared.Command.{Command}
+use Rattle.spiral_words.specs.declared.Command.TheVariants as command
+use Rattle.spiral_main.specs.declared.status.Status.{Status}
+use Rattle.spiral_main.specs.declared.status.Status.TheVariants.{ReadFault, WriteFault, NoMemory}
+use Rattle.spiral_main.specs.Commands.{commanded}
+use Rattle.spiral_main.specs.Line.{data_of, is_line_end, HasEnded}
+use Rattle.spiral_main.specs.Status.{IsDefined}
+use Rattle.spiral_main.specs.Outcome.{IsAccepted, requested, Job, ordered, IsOrder, Settles, BreaksOff, ComesTo, room_behind, Accounts, Notes}
+use Rattle.spiral_main.specs.Steps.{IsEarly, AsksBy, Asks, Performs, ToldPerforms, Executes, ToldExecutes, ToldAccounts}
+use Rattle.spiral_main.proofs.LineLemmas.{line_there}
+
+nothing_before : (xs ys : List ℕ) → xs ++ ys ≡ [] → xs ≡ []
+nothing_before [] ys e = refl
+nothing_before (x ∷ xs) ys e = absurd (cc)
+
+nothing_behind : (xs ys : List ℕ) → xs ++ ys ≡ [] → ys ≡ []
+nothing_behind [] ys e = e
+nothing_behind (x ∷ xs) ys e = absurd (cc)
+
+-- of a source that has nothing left no bytes are read, and nothing is left then
+pub none_read : (rest read : List ℕ) (left : Option (List ℕ)) → Consumes (Some rest) left read → rest ≡ [] → read ≡ []
+none_read rest read None r e = absurd r
+none_read rest read (Some more) r e = nothing_before read more (sym r ∙ e)
+
+pub none_left : (rest read : List ℕ) (left : Option (List ℕ)) → Consumes (Some rest) left read → rest ≡ [] → IsAtEnd left
+none_left rest read None r e = absurd r
+none_left rest read (Some more) r e = nothing_behind read more (sym r ∙ e)
+
+-- the same of bytes that are cut in two
+pub none_cut : (rest read left : List ℕ) → rest ≡ read ++ left → rest ≡ [] → (read ≡ []) × (left ≡ [])
+none_cut rest read left whole end = (nothing_before read left (sym whole ∙ end), nothing_behind read left (sym whole ∙ end))
+
+-- a line that has ended has ended behind further bytes too
+still_ended : (read more : List ℕ) (now later : Type 0) → HasEnded read now → (now → later) → HasEnded (read ++ more) later
+still_ended read more now later (inl there) goes = inl (list_any-append is_line_end read more ∙ ap (λ b. b || list_any is_line_end more) there)
+still_ended read more now later (inr e) goes = inr (goes e)
+
+-- By a request
+
+-- what a command does after the first line accounts for the whole call
+accounts_after : (words : List (List ℕ)) (bytes read rest : List ℕ) (taken : ℕ) (wanted : Command) (request : Request) (left out out' : Option (List ℕ)) (status : Status)
+    → commanded words (Ok wanted) → bytes ≡ read ++ rest → AsksBy wanted read rest taken (Ok request) → Performs wanted request (limit - taken) rest left out out' status
+    → Accounts words bytes left out out' status
+accounts_after words bytes read rest taken wanted request left out out' status named whole asked p =
+    let here = asked.1 rest (λ e. e) in
+    let requested_here : requested wanted bytes (Ok request) = subst (λ b. requested wanted b (Ok request)) (sym whole) here.0 in
+    let data_here : data_of bytes ≡ rest = ap data_of whole ∙ here.1 in
+    let count : length bytes ≡ length read + length rest = ap length whole ∙ length-append read rest in
+    let same : length (data_of bytes) ≡ length rest = ap length data_here in
+    let room : limit - taken ≡ room_behind bytes = ap (λ n. limit - n) (let first = asked.0 in omega arith) in
+    let line : HasEnded read (rest ≡ []) = line_there read rest (λ more none. (asked.1 more none).1) in
+    let job : Job = record { command = wanted; request = request } in
+    let order : (more : List ℕ) (ended : Type 0) → (rest ≡ [] → more ≡ []) → (rest ≡ [] → ended) → IsAccepted wanted request → IsOrder words (read ++ more) ended job =
+    λ more ended none goes there. record {
+      line = still_ended read more (rest ≡ []) ended line goes;
+      asks = record { value = wanted; before = named; behind = record { value = request; before = (asked.1 more none).0; behind = (there, refl) } };
+    } in
+    record {
+      answer = λ d.
+          let found = p.answer d in (
+            found.0,
+            inl (elim found.1 [
+              | inl refused ↦ inl (inr (record { value = wanted; before = named; behind = inr (record { value = request; before = requested_here; behind = refused.0 }) }), refused.1)
+              | inr settled ↦ inr (
+                job,
+                record { value = wanted; before = named; behind = record { value = request; before = requested_here; behind = (settled.0, refl) } },
+                subst (λ n. Settles wanted request n (data_of bytes) status found.0) room
+                    (subst (λ b. Settles wanted request (limit - taken) b status found.0) (sym data_here) settled.1),
+              )
+            ]),
+            found.2,
+          );
+      read_fault = λ e.
+          let found = p.read_fault e in
+          let none : rest ≡ [] → found.0 ≡ [] = none_read rest found.0 left found.2 in (
+            read ++ found.0,
+            found.1,
+            Consumes-trans (Some bytes) (Some rest) left read found.0 whole found.2,
+            inr (inl (
+              job,
+              order found.0 (IsAtEnd left) none (none_left rest found.0 left found.2) found.3,
+              subst (λ b. BreaksOff wanted request b found.1) (sym (asked.1 found.0 none).1) found.4,
+            )),
+            found.5,
+          );
+      write_fault = λ e.
+          let found = p.write_fault e in
+          let none : rest ≡ [] → found.0 ≡ [] = λ end. (none_cut rest found.0 found.1 found.3 end).0 in (
+            read ++ found.0,
+            found.1,
+            found.2,
+            whole ∙ ap (λ l. read ++ l) found.3 ∙ sym (append_assoc read found.0 found.1),
+            inl (
+              job,
+              order found.0 (found.1 ≡ []) none (λ end. (none_cut rest found.0 found.1 found.3 end).1) found.4,
+              subst (λ b. ComesTo wanted request b found.1 found.2) (sym (asked.1 found.0 none).1) found.5,
+            ),
+            found.6,
+          );
+    }
+
+pub accounted : (words : List (List ℕ)) (before mid left : Option (List ℕ)) (taken : ℕ) (wanted : Command) (request : Request) (out out' : Option (List ℕ)) (status : Status)
+    → commanded words (Ok wanted) → Asks wanted before mid taken (Ok request) → ToldPerforms wanted request (limit - taken) mid left out out' status → ToldAccounts words before left out out' status
+accounted words None mid left taken wanted request out out' status named a p = tt
+accounted words (Some bytes) None left taken wanted request out out' status named a p = absurd a
+accounted words (Some bytes) (Some rest) left taken wanted request out out' status named a p = accounts_after words bytes a.0 rest taken wanted request left out out' status named a.1 a.2 p
+
+-- a call that ends with the words
+pub accounted_words : (words : List (List ℕ)) (before left out : Option (List ℕ)) (status : Status)
+    → (IsDefined status → commanded words (Err status)) → IsEarly status → ToldAccounts words before left out out status
+accounted_words words None left out status refused early = tt
+accounted_words words (Some bytes) left out status refused early = record {
+  answer = λ d. ([], inl (inl (inl (refused d), refl)), Appends-nil out);
+  read_fault = λ e. absurd (early.read e);
+  write_fault = λ e. absurd (early.write e);
+}
+
+-- a call that ends with the first line
+pub accounted_line : (words : List (List ℕ)) (before after left : Option (List ℕ)) (taken : ℕ) (wanted : Command) (out : Option (List ℕ)) (status : Status)
+    → commanded words (Ok wanted) → Asks wanted before after taken (Err status) → status ≢ WriteFault → (status ≡ ReadFault → after ≡ left) → ToldAccounts words before left out out status
+accounted_line words None after left taken wanted out status named a w same = tt
+accounted_line words (Some bytes) None left taken wanted out status named a w same = absurd a
+accounted_line words (Some bytes) (Some rest) left taken wanted out status named a w same = record {
+  answer = λ d. (
+    [],
+    inl (inl (inr (record { value = wanted; before = named; behind = inl (subst (λ b. requested wanted b (Err status)) (sym a.1) (a.2.0 d)) }), refl)),
+    Appends-nil out,
+  );
+  read_fault = λ e. (a.0, [], subst (λ (o : Option (List ℕ)). Consumes (Some bytes) o a.0) (same e) a.1, inl ((wanted, named), a.2.1 e, refl), Appends-nil out);
+  write_fault = λ e. absurd (w e);
+}
+
+-- By a listing
+
+pub executed_accounts : (words : List (List ℕ)) (schedule : Plan) (before left out out' : Option (List ℕ)) (status : Status)
+    → IsAsked words (command.Exec schedule) → ToldExecutes schedule before left out out' status → ToldAccounts words before left out out' status
+executed_accounts words schedule None left out out' status asked p = tt
+executed_accounts words schedule (Some bytes) left out out' status asked p = record {
+  answer = λ d. let found = p.answer d in (found.0, inr (schedule, asked, found.1), found.2);
+  read_fault = λ e. let found = p.read_fault e in (found.0, found.1, found.2, inr (inr (schedule, asked, found.3)), found.4);
+  write_fault = λ e. let found = p.write_fault e in (found.0, found.1, found.2, found.3, inr (schedule, asked, found.4), found.5);
+}
+
+-- What the feed holds
+
+pub prepend_nothing : (left : Option (List ℕ)) → prepend_known [] left ≡ left
+prepend_nothing None = refl
+prepend_nothing (Some bytes) = refl
+
+-- what is left for a feed that holds nothing is left in the source
+pub nothing_held : (feed : Fed) (left : Option (List ℕ)) → feed.held ≡ [] → to_come feed left ≡ left
+nothing_held feed left e = ap (λ h. prepend_known h left) e ∙ prepend_nothing left
+
+-- where a read failed, the feed holds nothing
+pub performs_by_source : (wanted : Command) (request : Request) (room : ℕ) (before : Option (List ℕ)) (feed : Fed) (left out out' : Option (List ℕ)) (status : Status)
+    → (status ≡ ReadFault → feed.held ≡ []) → ToldPerforms wanted request room before (to_come feed left) out out' status → ToldPerforms wanted request room before left out out' status
+performs_by_source wanted request room None feed left out out' status empty p = tt
+performs_by_source wanted request room (Some bytes) feed left out out' status empty p = record {
+  answer = p.answer;
+  read_fault = λ e. (subst (λ (o : Option (List ℕ)). Performs wanted request room bytes o out out' status) (nothing_held feed left (empty e)) p).read_fault e;
+  write_fault = p.write_fault;
+}
+
+pub executes_by_source : (schedule : Plan) (before : Option (List ℕ)) (feed : Fed) (left out out' : Option (List ℕ)) (status : Status)
+    → (status ≡ ReadFault → feed.held ≡ []) → ToldExecutes schedule before (to_come feed left) out out' status → ToldExecutes schedule before left out out' status
+executes_by_source schedule None feed left out out' status empty p = tt
+executes_by_source schedule (Some bytes) feed left out out' status empty p = record {
+  answer = p.answer;
+  read_fault = λ e. (subst (λ (o : Option (List ℕ)). Executes schedule bytes o out out' status) (nothing_held feed left (empty e)) p).read_fault e;
+  write_fault = p.write_fault;
+}

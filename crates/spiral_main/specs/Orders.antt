@@ -1,0 +1,30 @@
+-- The orders in which the processors of a program go on.
+use Rattle.std.specs.Prelude.{ℕ, true, List, map}
+use Rattle.icode.specs.Buffers.{proc_of}
+use Rattle.icode.specs.declared.event.Event.TheVariants.{Turn}
+use Rattle.icode.specs.Machine.{Code}
+use Rattle.request_text.specs.Turns.{named, turns_of}
+use Rattle.buffer_machine.specs.declared.Events.{Events}
+use Rattle.buffer_machine.specs.declared.Events.TheVariants as events
+use Rattle.spiral_words.specs.declared.Order.{Order}
+use Rattle.spiral_words.specs.declared.Order.TheVariants as order
+use Rattle.spiral_main.specs.BufferedText.{buffered_text}
+use Rattle.spiral_main.specs.Stream.{run_text}
+
+-- the processors that an order names
+abbrev pub procs_of : Order → List ℕ
+procs_of (order.Turns schedule) = named schedule
+procs_of (order.Buffered schedule) = named schedule
+procs_of (order.Mixed mix) = map proc_of mix
+
+-- The text of a vector's run on so many processors: a line for each turn and drain, and the line of its results. Turns
+-- alone are those of the machine without buffers
+abbrev pub traced_text : Order → ℕ → Code → List ℕ → List ℕ
+traced_text (order.Turns schedule) procs code = run_text true code (turns_of schedule procs)
+traced_text (order.Buffered schedule) procs code = buffered_text true code (map Turn (turns_of schedule procs))
+traced_text (order.Mixed mix) procs code = buffered_text true code mix
+
+-- the order whose events these are
+abbrev pub order_of : Events → Order
+order_of (events.Turns schedule) = order.Buffered schedule.now
+order_of (events.Mixed mix) = order.Mixed mix.now

@@ -1,0 +1,29 @@
+-- How lazy the words of a program are: words of 32 bits where the modulus allows them, else of 64. A greater limit of
+-- registers than 8 times the modulus, or of A and B than 4 times, is of no use.
+use Rattle.std.specs.Prelude.{ℕ, ◌/◌, min, nat_lt, false, if◌then◌else◌}
+use Rattle.icode.specs.Plain.{PlainProgram}
+use Rattle.word_code.specs.WordProgram.{PlainWordProgram}
+use Rattle.word_code.specs.Words.{Width}
+use Rattle.word_code.specs.Quicken.{Laziness, quickened}
+
+-- where this is the greatest word
+abbrev pub limit_within : ℕ → ℕ → ℕ
+limit_within greatest modulus = min 8 (greatest / modulus)
+
+abbrev pub lazy_within : Width → ℕ → Laziness
+lazy_within width limit = record { width = width; keep = min 4 limit; limit = limit }
+
+-- in words of 32 bits
+abbrev pub narrow : ℕ → Laziness
+narrow modulus = lazy_within (record { half = 65536; rough = false }) (limit_within 4294967295 modulus)
+
+-- in words of 64 bits. With several lanes the high half of a product is made of three partial products
+abbrev pub wide : ℕ → ℕ → Laziness
+wide modulus lanes = lazy_within (record { half = 4294967296; rough = nat_lt 1 lanes }) (limit_within 18446744073709551615 modulus)
+
+abbrev pub laziness_for : ℕ → ℕ → Laziness
+laziness_for modulus lanes = if nat_lt modulus 2147483648 then narrow modulus else wide modulus lanes
+
+-- the program on words
+abbrev pub fast_words : PlainProgram → PlainWordProgram
+fast_words p = quickened (laziness_for p.modulus p.lanes) p

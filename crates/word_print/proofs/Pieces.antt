@@ -1,0 +1,48 @@
+-- How pieces of text are put together, one behind the other.
+use Rattle.std.proofs.Common.{◌≡◌, ℕ, suc, ◌+◌, ◌-◌, ◌<◌, ◌≢◌, List, ◌++◌, append_assoc, codes, ap, sym, ◌∙◌, arith}
+use Rattle.word_print.specs.WordFront.{numbered_text}
+use Rattle.word_print.specs.WordText.{becomes_text, sources_text, targets_text, declared_text, registers_text}
+
+pub two_pieces : (old a b : List ℕ) → (old ++ a) ++ b ≡ old ++ (a ++ b)
+two_pieces old a b = append_assoc old a b
+
+pub three_pieces : (old a b c : List ℕ) → ((old ++ a) ++ b) ++ c ≡ old ++ (a ++ b ++ c)
+three_pieces old a b c = simp append_assoc
+
+pub four_pieces : (old a b c d : List ℕ) → (((old ++ a) ++ b) ++ c) ++ d ≡ old ++ (a ++ b ++ c ++ d)
+four_pieces old a b c d = simp append_assoc
+
+pub five_pieces : (old a b c d e : List ℕ) → ((((old ++ a) ++ b) ++ c) ++ d) ++ e ≡ old ++ (a ++ b ++ c ++ d ++ e)
+five_pieces old a b c d e = simp append_assoc
+
+next_register : (count register : ℕ) → register < count → registers_text (count - register) register ≡ declared_text register ++ registers_text (count - (register + 1)) (register + 1)
+next_register count register lt =
+    let k : count - register ≡ suc (count - (register + 1)) = omega (arith, lt) in
+    ap (λ n. registers_text n register) k
+
+-- one register more
+pub registers_on : (out out' start : List ℕ) (count register : ℕ) → register < count → out ++ registers_text (count - register) register ≡ start
+    → out' ≡ out ++ declared_text register → out' ++ registers_text (count - (register + 1)) (register + 1) ≡ start
+registers_on out out' start count register lt so_far more =
+    let rest = registers_text (count - (register + 1)) (register + 1) in
+    ap (λ o. o ++ rest) more ∙ append_assoc out (declared_text register) rest ∙ ap (λ l. out ++ l) (sym (next_register count register lt)) ∙ so_far
+
+counted : (count : ℕ) → count ≢ 0 → count ≡ suc (count - 1)
+counted count some = omega (arith, some)
+
+-- one register more of those that a tile takes
+pub sources_on : (out out' : List ℕ) (count register : ℕ) → count ≢ 0 → out' ≡ out ++ numbered_text (codes "r") register (codes ",")
+    → out' ++ sources_text (count - 1) (register + 1) ≡ out ++ sources_text count register
+sources_on out out' count register some more =
+    let one = numbered_text (codes "r") register (codes ",") in
+    let rest = sources_text (count - 1) (register + 1) in
+    ap (λ o. o ++ rest) more ∙ append_assoc out one rest ∙ ap (λ n. out ++ sources_text n register) (sym (counted count some))
+
+-- and of those that it gives
+pub targets_on : (out out' out'' : List ℕ) (count register k : ℕ) → count ≢ 0 → out' ≡ out ++ becomes_text register → out'' ≡ out' ++ numbered_text (codes "b[") k (codes "]; ")
+    → out'' ++ targets_text (count - 1) (register + 1) (k + 1) ≡ out ++ targets_text count register k
+targets_on out out' out'' count register k some first second =
+    let one = becomes_text register in
+    let two = numbered_text (codes "b[") k (codes "]; ") in
+    let rest = targets_text (count - 1) (register + 1) (k + 1) in
+    ap (λ o. o ++ rest) (second ∙ ap (λ o. o ++ two) first) ∙ three_pieces out one two rest ∙ ap (λ n. out ++ targets_text n register k) (sym (counted count some))

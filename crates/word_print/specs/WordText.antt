@@ -1,0 +1,110 @@
+-- The C text of a program on words. Its functions and vectors are those of the first lines, its registers variables, which
+-- are 0 where a phase begins. It is meant for words of 32 bits, and for those of 64 bits.
+use Rattle.std.specs.Prelude.{ℕ, zero, suc, ◌+◌, ◌==◌, List, [], ◌∷◌, ◌++◌, codes, decimal, flat_map, if◌then◌else◌}
+use Rattle.icode.specs.Machine.{whole_lines}
+use Rattle.icode.specs.Plain.{PlainExpr, PlainOp, Load, Store, Zero, Add, Sub, Neg, MulConst, MulTable, Tile}
+use Rattle.listing_text.specs.Listing.{sum_text, array_text, header_text}
+use Rattle.word_code.specs.declared.program.Reduction.{Reduction}
+use Rattle.word_code.specs.WordProgram.{Note, WordStmt, WordBody, PlainWordProgram, Loop, Do, NoStmts, AndStmts}
+use Rattle.word_print.specs.WordFront.{functions_text, numbered_text, sizes_text, arrays_text}
+
+abbrev pub register_text : ℕ → List ℕ
+register_text register = codes "r" ++ decimal register
+
+-- a register becomes what the text behind it says
+abbrev pub becomes_text : ℕ → List ℕ
+becomes_text register = register_text register ++ codes " = "
+
+unfoldable pub reduction_text : Reduction → List ℕ
+reduction_text r = becomes_text r.register ++ codes "reduced(" ++ register_text r.register ++ numbered_text (codes ", ") r.amount (codes "ULL);\n")
+
+-- the entries of a table, or of its quotients: one for all lanes, or those from the place on
+abbrev pub entries_text : List ℕ → ℕ → PlainExpr → ℕ → List ℕ
+entries_text name table place step =
+    if step == 0 then codes "splat(" ++ name ++ decimal table ++ codes "[" ++ sum_text place ++ codes "])"
+    else codes "load(" ++ name ++ decimal table ++ codes " + " ++ sum_text place ++ codes ")"
+
+-- so many registers from this one on
+abbrev pub sources_text : ℕ → ℕ → List ℕ
+sources_text zero register = []
+sources_text (suc n) register = numbered_text (codes "r") register (codes ",") ++ sources_text n (register + 1)
+
+-- so many registers from this one on become the vectors from number k on
+abbrev pub targets_text : ℕ → ℕ → ℕ → List ℕ
+targets_text zero register k = []
+targets_text (suc n) register k = becomes_text register ++ numbered_text (codes "b[") k (codes "]; ") ++ targets_text n (register + 1) (k + 1)
+
+unfoldable pub tile_text : ℕ → ℕ → ℕ → List ℕ
+tile_text lanes register source =
+    codes "{ vec b[] = {" ++ sources_text lanes source ++ codes "}; tile(b); " ++ targets_text lanes register 0 ++ codes "}\n"
+
+-- an operation, for so many lanes
+unfoldable pub word_op_text : ℕ → Note → PlainOp → List ℕ
+word_op_text lanes note (Load register array place) = becomes_text register ++ codes "load(" ++ array_text array ++ codes " + " ++ sum_text place ++ codes ");\n"
+word_op_text lanes note (Store array place register) =
+    codes "store(" ++ array_text array ++ codes " + " ++ sum_text place ++ codes ", " ++ register_text register ++ codes ");\n"
+word_op_text lanes note (Zero register) = becomes_text register ++ codes "splat(0);\n"
+word_op_text lanes note (Add register left right) = becomes_text register ++ codes "add(" ++ register_text left ++ codes ", " ++ register_text right ++ codes ");\n"
+word_op_text lanes note (Sub register left right) =
+    becomes_text register ++ codes "sub(" ++ register_text left ++ codes ", " ++ register_text right ++ numbered_text (codes ", ") note.bias (codes "ULL);\n")
+word_op_text lanes note (Neg register source) = becomes_text register ++ codes "neg(" ++ register_text source ++ numbered_text (codes ", ") note.bias (codes "ULL);\n")
+word_op_text lanes note (MulConst register source factor) =
+    becomes_text register ++ codes "mul(" ++ register_text source ++ numbered_text (codes ", splat(") factor (codes "ULL)")
+    ++ numbered_text (codes ", splat(") note.quotient (codes "ULL));\n")
+word_op_text lanes note (MulTable register source table place step) =
+    becomes_text register ++ codes "mul(" ++ register_text source ++ codes ", " ++ entries_text (codes "t") table place step ++ codes ", "
+    ++ entries_text (codes "u") table place step ++ codes ");\n"
+word_op_text lanes note (Tile register source) = tile_text lanes register source
+
+-- the loop inside so many others begins
+unfoldable pub loop_text : ℕ → ℕ → List ℕ
+loop_text depth count =
+    numbered_text (codes "for (uint64_t v") depth (codes " = 0; v") ++ numbered_text [] depth (codes " < ") ++ numbered_text [] count (codes "; v")
+    ++ numbered_text [] depth (codes "++) {\n")
+
+-- statements inside so many loops
+abbrev mutual
+  pub word_stmt_text : ℕ → ℕ → WordStmt → List ℕ
+  word_stmt_text lanes depth (Loop count body) = loop_text depth count ++ word_body_text lanes (depth + 1) body ++ codes "}\n"
+  word_stmt_text lanes depth (Do note op) = flat_map reduction_text note.before ++ word_op_text lanes note op
+
+  pub word_body_text : ℕ → ℕ → WordBody → List ℕ
+  word_body_text lanes depth NoStmts = []
+  word_body_text lanes depth (AndStmts stmt rest) = word_stmt_text lanes depth stmt ++ word_body_text lanes depth rest
+
+-- the first line: the header of the listing, in a comment
+abbrev pub word_header_text : PlainWordProgram → List ℕ
+word_header_text p = codes "/* " ++ header_text p.frame ++ codes " */\n"
+
+unfoldable pub word_table_text : List ℕ → ℕ → List ℕ → List ℕ
+word_table_text name number entries =
+    codes "static const word " ++ name ++ decimal number ++ codes "[] = {" ++ flat_map (λ c. decimal c ++ codes "ULL,") entries ++ codes "};\n"
+
+-- the tables from this number on
+abbrev pub word_tables_text : List ℕ → ℕ → List (List ℕ) → List ℕ
+word_tables_text name number [] = []
+word_tables_text name number (entries ∷ tables) = word_table_text name number entries ++ word_tables_text name (number + 1) tables
+
+-- a register, which need not be used
+abbrev pub declared_text : ℕ → List ℕ
+declared_text register = numbered_text (codes "vec r") register (codes " = splat(0); ") ++ numbered_text (codes "(void)r") register (codes ";\n")
+
+-- so many registers from this one on
+abbrev pub registers_text : ℕ → ℕ → List ℕ
+registers_text zero register = []
+registers_text (suc n) register = declared_text register ++ registers_text n (register + 1)
+
+-- a phase, of a program with so many lanes and registers
+abbrev pub word_phase_text : ℕ → ℕ → ℕ → WordBody → List ℕ
+word_phase_text lanes regs number body =
+    numbered_text (codes "void phase") number (codes "(uint64_t q) {\n(void)q;\n") ++ registers_text regs 0 ++ word_body_text lanes 0 body ++ codes "}\n"
+
+-- the phases from this number on
+abbrev pub word_phases_text : ℕ → ℕ → ℕ → List WordBody → List ℕ
+word_phases_text lanes regs number [] = []
+word_phases_text lanes regs number (body ∷ phases) = word_phase_text lanes regs number body ++ word_phases_text lanes regs (number + 1) phases
+
+abbrev pub words_text : PlainWordProgram → List ℕ
+words_text p =
+    word_header_text p ++ sizes_text p.width p.frame.modulus p.frame.lanes ++ functions_text ++ word_tables_text (codes "t") 0 p.frame.tables
+    ++ word_tables_text (codes "u") 0 p.quotients ++ arrays_text (whole_lines p.frame.size p.frame.line) ++ word_phases_text p.frame.lanes p.frame.regs 0 p.phases

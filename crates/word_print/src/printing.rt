@@ -1,0 +1,181 @@
+// The C text of a program on words.
+
+ghost use Rattle.std.specs.Prelude.{◌≡◌, ◌++◌, ◌+◌, ◌^◌, ◌<◌, ◌≤◌, IsTrue, IfOk, OnOk, codes, decimal, flat_map};
+ghost use Rattle.icode.specs.Limits.{IsHeaderWithin};
+ghost use Rattle.icode.specs.Machine.{whole_lines};
+ghost use Rattle.icode.specs.Plain.{plain_tables};
+ghost use Rattle.listing_text.specs.Listing.{header_text};
+ghost use Rattle.word_code.specs.View.{plain_word_stmt, plain_word_body, plain_word_phases, plain_word_program};
+ghost use Rattle.word_print.specs.WordText.{loop_text, word_stmt_text, word_body_text, word_header_text, word_table_text, word_tables_text, declared_text, registers_text, word_phase_text, word_phases_text, words_text};
+ghost use Rattle.word_print.specs.WordNests.{is_word_nest_within, are_word_nests_within, are_word_phases_within};
+
+use crate::front::{put_arrays, put_functions, put_numbered, put_sizes, put_word};
+use crate::operations::{put_op, put_reductions};
+use listing_text::put;
+use memory::NoMemory;
+use std::alloc::{AllocError, Global};
+use word_code::program::{WordProgram, WordStmt};
+
+#[tactic(auto, unfolding(crate::specs::WordText::loop_text))]
+fn put_loop(out: &mut Vec<u8>, depth: u64, count: u64) -> Result<(), AllocError>
+    ensures { OnOk result (out.new.items ≡ out.old.items ++ loop_text depth count) }
+{
+    put_numbered(out, b"for (uint64_t v", depth, b" = 0; v")?;
+    put_numbered(out, b"", depth, b" < ")?;
+    put_numbered(out, b"", count, b"; v")?;
+    put_numbered(out, b"", depth, b"++) {\n")
+}
+
+// A statement inside so many loops.
+fn put_stmt(out: &mut Vec<u8>, lanes: u64, stmt: &WordStmt, depth: u64) -> Result<(), AllocError>
+    requires lanes { lanes ≤ 16 }
+    requires nests { IsTrue (is_word_nest_within (plain_word_stmt stmt.now) depth) }
+    ensures { OnOk result (out.new.items ≡ out.old.items ++ word_stmt_text lanes depth (plain_word_stmt stmt.now)) }
+{
+    match stmt {
+        WordStmt::Loop { count, body } => {
+            put_loop(out, depth, *count)?;
+            for inner in body {
+                put_stmt(out, lanes, inner, depth + 1)?;
+            }
+            put_word(out, b"}\n")
+        }
+        WordStmt::Do { note, op } => {
+            put_reductions(out, &note.before)?;
+            put_op(out, lanes, note, op)
+        }
+    }
+}
+
+fn put_body(out: &mut Vec<u8>, lanes: u64, body: &[WordStmt]) -> Result<(), AllocError>
+    requires lanes { lanes ≤ 16 }
+    requires nests { IsTrue (are_word_nests_within (plain_word_body body.now) 0) }
+    ensures { OnOk result (out.new.items ≡ out.old.items ++ word_body_text lanes 0 (plain_word_body body.now)) }
+{
+    for stmt in body {
+        put_stmt(out, lanes, stmt, 0)?;
+    }
+    Ok(())
+}
+
+// Writes the header of the listing.
+fn put_numbers(out: &mut Vec<u8>, program: &WordProgram) -> Result<(), AllocError>
+    ensures { OnOk result (out.new.items ≡ out.old.items ++ header_text (plain_word_program program.now).frame) }
+{
+    put(out, b"program size ", program.size)?;
+    put(out, b" mod ", program.modulus)?;
+    put(out, b" procs ", program.procs)?;
+    put(out, b" line ", program.line)?;
+    put(out, b" lanes ", program.lanes)?;
+    put(out, b" regs ", program.regs)
+}
+
+fn put_header(out: &mut Vec<u8>, program: &WordProgram) -> Result<(), AllocError>
+    ensures { OnOk result (out.new.items ≡ out.old.items ++ word_header_text (plain_word_program program.now)) }
+{
+    put_word(out, b"/* ")?;
+    put_numbers(out, program)?;
+    put_word(out, b" */\n")
+}
+
+#[tactic(auto, unfolding(crate::specs::WordText::word_table_text))]
+fn put_table(out: &mut Vec<u8>, name: &[u8], number: u64, entries: &[u64]) -> Result<(), AllocError>
+    ensures { OnOk result (out.new.items ≡ out.old.items ++ word_table_text name.now number entries.now) }
+{
+    put_word(out, b"static const word ")?;
+    put_numbered(out, name, number, b"[] = {")?;
+    for entry in entries {
+        put_numbered(out, b"", *entry, b"ULL,")?;
+    }
+    put_word(out, b"};\n")
+}
+
+fn put_tables(out: &mut Vec<u8>, name: &[u8], tables: &[Vec<u64>]) -> Result<(), AllocError>
+    ensures { OnOk result (out.new.items ≡ out.old.items ++ word_tables_text name.now 0 (plain_tables tables.now)) }
+{
+    for (number, entries) in tables.iter().enumerate() {
+        put_table(out, name, number as u64, entries)?;
+    }
+    Ok(())
+}
+
+fn put_register(out: &mut Vec<u8>, register: u64) -> Result<(), AllocError>
+    ensures { OnOk result (out.new.items ≡ out.old.items ++ declared_text register) }
+{
+    put_numbered(out, b"vec r", register, b" = splat(0); ")?;
+    put_numbered(out, b"(void)r", register, b";\n")
+}
+
+fn put_registers(out: &mut Vec<u8>, count: u64) -> Result<(), AllocError>
+    ensures { OnOk result (out.new.items ≡ out.old.items ++ registers_text count 0) }
+{
+    for register in 0..count {
+        put_register(out, register)?;
+    }
+    Ok(())
+}
+
+fn put_phase(
+    out: &mut Vec<u8>,
+    lanes: u64,
+    regs: u64,
+    number: u64,
+    body: &[WordStmt],
+) -> Result<(), AllocError>
+    requires lanes { lanes ≤ 16 }
+    requires nests { IsTrue (are_word_nests_within (plain_word_body body.now) 0) }
+    ensures { OnOk result (out.new.items ≡ out.old.items ++ word_phase_text lanes regs number (plain_word_body body.now)) }
+{
+    put_numbered(out, b"void phase", number, b"(uint64_t q) {\n(void)q;\n")?;
+    put_registers(out, regs)?;
+    put_body(out, lanes, body)?;
+    put_word(out, b"}\n")
+}
+
+fn put_phases(
+    out: &mut Vec<u8>,
+    lanes: u64,
+    regs: u64,
+    phases: &[Vec<WordStmt>],
+) -> Result<(), AllocError>
+    requires lanes { lanes ≤ 16 }
+    requires nests { IsTrue (are_word_phases_within (plain_word_phases phases.now)) }
+    ensures { OnOk result (out.new.items ≡ out.old.items ++ word_phases_text lanes regs 0 (plain_word_phases phases.now)) }
+{
+    for (number, body) in phases.iter().enumerate() {
+        put_phase(out, lanes, regs, number as u64, body)?;
+    }
+    Ok(())
+}
+
+// The number of words of an array.
+fn array_words(size: u64, line: u64) -> u64
+    requires size { size ≤ 65536 }
+    requires line { (1 ≤ line) × (line ≤ 64) }
+    ensures { result ≡ whole_lines size line }
+{
+    (size + (line - 1)) / line * line
+}
+
+/// The C text of a program on words, within the limits of programs on residues.
+pub fn print_words(alloc: Global, program: &WordProgram) -> Result<Vec<u8>, NoMemory>
+    requires header { IsHeaderWithin program.now.size program.now.modulus program.now.procs program.now.line program.now.lanes program.now.regs }
+    requires nests { IsTrue (are_word_phases_within (plain_word_phases program.now.phases.items)) }
+    ensures { IfOk result (λ text. text.items ≡ words_text (plain_word_program program.now)) }
+{
+    let mut out = Vec::new(alloc);
+    put_header(&mut out, program)?;
+    put_sizes(
+        &mut out,
+        program.half,
+        program.rough,
+        program.modulus,
+        program.lanes,
+    )?;
+    put_functions(&mut out)?;
+    put_tables(&mut out, b"t", &program.tables)?;
+    put_tables(&mut out, b"u", &program.quotients)?;
+    put_arrays(&mut out, array_words(program.size, program.line))?;
+    put_phases(&mut out, program.lanes, program.regs, &program.phases)?;
+    Ok(out)
+}
