@@ -2,7 +2,7 @@
 
 use crate::rows::{halves, spelled};
 use ring_mod::Modulus;
-use spl_ast::{Distribute, Spl, rewrite};
+use spl_ast::{Distribute, Node, Spl, rewrite};
 use spl_text::{print_spl, read_spl};
 use std::alloc::Global;
 use std::test::Fail;
@@ -133,7 +133,6 @@ fn tensors_distribute(rt: HostRuntime) -> Result<(), Fail> {
     let text = b"RIGHT(3,LEFT(TIMES(DFT(2,11),L(2,1)),2))";
     let formula = read_spl(alloc, text).ok().ok_or("a formula")?;
     let product = rewrite(alloc, &Distribute::new(m), formula)?;
-    let printed = print_spl(alloc, &product)?;
-    assert!(rt; printed.starts_with(b"TIMES("));
+    assert!(rt; matches!(&product.node, Node::Compose(_, _)));
     Ok(())
 }
