@@ -1,5 +1,5 @@
 -- Where the first part of an input ends.
-use Rattle.std.proofs.Common.{◌≡◌, ◌<◌, ◌≤◌, ◌+◌, ◌==◌, ◌&&◌, ◌||◌, ℕ, Bool, true, false, List, [], ◌∷◌, ◌++◌, Err, length, cond, refl, sym, ap, ◌∙◌, arith, append_assoc, append-nil, length-append, inl, inr}
+use Rattle.std.proofs.Common.{◌≡◌, ◌<◌, ◌≤◌, ◌+◌, ◌&&◌, ◌||◌, ℕ, Bool, true, false, List, [], ◌∷◌, ◌++◌, Err, length, cond, refl, sym, ap, ◌∙◌, arith, append_assoc, append-nil, length-append, inl, inr}
 use Rattle.std.proofs.KnownBytes.{Consumes-kept}
 use Rattle.std.specs.declared.option.Option.{Option}
 use Rattle.std.specs.Io.KnownBytes.{Consumes, IsAtEnd}
@@ -7,7 +7,7 @@ use Rattle.io_edge.specs.Feed.{Fed, Feeds, limit}
 use Rattle.io_edge.specs.declared.feed.FeedFault.{FeedFault}
 use Rattle.io_edge.specs.declared.feed.FeedFault.TheVariants.{ReadFault, TooLong}
 use Rattle.input_rest.specs.FeedFaults.{rest_fault}
-use Rattle.input_rest.specs.Part.{ends_line, has_empty_line, before_empty_line, behind_empty_line, first_part, second_part, HasPartEnded, IsInPart, IsWholePart, GivesPart}
+use Rattle.input_rest.specs.Part.{ends_line, has_empty_line, before_empty_line, behind_empty_line, first_part, second_part, HasPartEnded, IsWholePart, GivesPart}
 
 -- The text is a front of a first part that has not ended: what follows it goes on with that part, where a line begins or not
 pub record IsFront (text : List ℕ) (begins : Bool) : Type 0 where

@@ -1,24 +1,22 @@
 -- From what a command does to the account of the whole call.
-use Rattle.std.proofs.Common.{◌≡◌, ◌≢◌, ◌⊎◌, ◌≤◌, ◌+◌, ◌-◌, ◌||◌, ℕ, true, List, [], ◌∷◌, ◌++◌, None, Some, Ok, Err, Result, IfSome, length, refl, sym, ap, subst, ◌∙◌, arith, append_assoc, length-append, inl, inr}
+use Rattle.std.proofs.Common.{◌≡◌, ◌≢◌, ◌+◌, ◌-◌, ◌||◌, ℕ, List, [], ◌∷◌, ◌++◌, None, Some, Ok, Err, length, refl, sym, ap, subst, ◌∙◌, arith, append_assoc, length-append, inl, inr}
 use Rattle.std.proofs.KnownBytes.{Appends-nil, Consumes-trans}
 use Rattle.std.proofs.lemmas.List.Folds.{list_any-append}
 use Rattle.std.specs.List.{list_any}
 use Rattle.std.specs.declared.option.Option.{Option}
-use Rattle.std.specs.Io.KnownBytes.{Appends, Consumes, IsAtEnd, prepend_known}
+use Rattle.std.specs.Io.KnownBytes.{Consumes, IsAtEnd, prepend_known}
 use Rattle.matrix_meaning.specs.declared.Request.{Request}
 use Rattle.request_text.specs.Schedule.{Plan}
-use Rattle.io_edge.specs.Faults.{HasCause}
 use Rattle.io_edge.specs.Feed.{Fed, limit, to_come}
-use Rattle.io_edge.specs.Taken.{WritesAll}
 use Rattle.spiral_words.specs.Asked.{IsAsked}
 use Rattle.spiral_words.specs.declared.Command.{Command}
 use Rattle.spiral_words.specs.declared.Command.TheVariants as command
 use Rattle.spiral_main.specs.declared.status.Status.{Status}
-use Rattle.spiral_main.specs.declared.status.Status.TheVariants.{ReadFault, WriteFault, NoMemory}
+use Rattle.spiral_main.specs.declared.status.Status.TheVariants.{ReadFault, WriteFault}
 use Rattle.spiral_main.specs.Commands.{commanded}
 use Rattle.spiral_main.specs.Line.{data_of, is_line_end, HasEnded}
 use Rattle.spiral_main.specs.Status.{IsDefined}
-use Rattle.spiral_main.specs.Outcome.{IsAccepted, requested, Job, ordered, IsOrder, Settles, BreaksOff, ComesTo, room_behind, Accounts, Notes}
+use Rattle.spiral_main.specs.Outcome.{IsAccepted, requested, Job, IsOrder, Settles, BreaksOff, ComesTo, room_behind, Accounts}
 use Rattle.spiral_main.specs.Steps.{IsEarly, AsksBy, Asks, Performs, ToldPerforms, Executes, ToldExecutes, ToldAccounts}
 use Rattle.spiral_main.proofs.LineLemmas.{line_there}
 

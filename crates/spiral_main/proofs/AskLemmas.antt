@@ -1,5 +1,5 @@
 -- From the first line to a request.
-use Rattle.std.proofs.Common.{◌≡◌, ◌≢◌, ◌<◌, ◌≤◌, ℕ, zero, suc, Bool, true, false, List, [], ◌∷◌, ◌++◌, take, None, Some, Ok, Err, Result, nat_le, length, cond, refl, sym, ap, ◌∙◌, arith, inl, inr}
+use Rattle.std.proofs.Common.{◌≡◌, ◌<◌, ◌≤◌, ℕ, zero, suc, Bool, true, false, List, [], ◌∷◌, ◌++◌, take, None, Some, Ok, Err, Result, nat_le, length, cond, refl, sym, ap, ◌∙◌, arith, inl, inr}
 use Rattle.std.proofs.lemmas.Grind.{common_steps}
 use Rattle.std.specs.declared.option.Option.{Option}
 use Rattle.std.specs.Io.KnownBytes.{Consumes, IsAtEnd}
@@ -10,15 +10,14 @@ use Rattle.request_text.specs.Answer.{Answers}
 use Rattle.io_edge.specs.declared.FeedFault.{FeedFault}
 use Rattle.io_edge.specs.declared.FeedFault.TheVariants as feed
 use Rattle.spiral_words.specs.declared.Command.{Command}
-use Rattle.spiral_words.specs.Named.{NamedTexts, named_of}
+use Rattle.spiral_words.specs.Named.{NamedTexts}
 use Rattle.spiral_words.specs.Named as named
 use Rattle.spiral_words.specs.Asked.{Means, IsAsked}
 use Rattle.spiral_main.specs.declared.status.Status.{Status}
-use Rattle.spiral_main.specs.declared.status.Status.TheVariants.{Success, Usage, Turn, ReadFault, WriteFault, TooLong}
+use Rattle.spiral_main.specs.declared.status.Status.TheVariants.{Turn, ReadFault, TooLong}
 use Rattle.spiral_main.specs.Commands.{reads_rest, first_stranger, procs_named, admitted}
 use Rattle.spiral_main.specs.Fault.{status_of_line, status_of_request}
 use Rattle.spiral_main.specs.Line.{first_line, line_of, IsWholeLine, GivesLine}
-use Rattle.spiral_main.specs.Status.{IsDefined}
 use Rattle.spiral_main.specs.Steps.{Asks}
 
 -- a line of at most 256 bytes, and a longer one

@@ -2,9 +2,9 @@
 use Rattle.std.proofs.Common.{◌≡◌, ◌≢◌, ◌⊎◌, ◌<◌, ◌≤◌, ◌+◌, ◌-◌, ℕ, true, false, List, [], ◌∷◌, ◌++◌, None, Some, Ok, Err, Result, nat_le, length, cond, refl, sym, ap, subst, ◌∙◌, arith, append_assoc, length-append, inl, inr}
 use Rattle.std.proofs.lemmas.Grind.{common_steps}
 use Rattle.std.proofs.KnownBytes.{Appends-nil, Consumes-trans}
-use Rattle.std.specs.List.{list_all, flat_map}
+use Rattle.std.specs.List.{list_all}
 use Rattle.std.specs.declared.option.Option.{Option}
-use Rattle.std.specs.Io.KnownBytes.{Appends, Consumes, IsAtEnd}
+use Rattle.std.specs.Io.KnownBytes.{Consumes, IsAtEnd}
 use Rattle.icode.specs.Actions.{plain_code}
 use Rattle.icode.specs.Machine.{Code, State, results, runs, words_at, padded}
 use Rattle.icode.specs.Plain.{PlainProgram}
@@ -19,17 +19,17 @@ use Rattle.code_check.specs.Refusals.{PassesCheck, IsCause}
 use Rattle.io_edge.specs.Feed.{Fed, limit}
 use Rattle.input_rest.specs.declared.RestFault.{RestFault}
 use Rattle.input_rest.specs.declared.RestFault.TheVariants as rest_fault
-use Rattle.input_rest.specs.Part.{first_part, second_part, HasPartEnded, IsWholePart, GivesPart}
+use Rattle.input_rest.specs.Part.{first_part, second_part, IsWholePart, GivesPart}
 use Rattle.input_rest.proofs.PartLemmas.{still_ended}
 use Rattle.data_stream.specs.Data.{tokens, closed_part, is_good}
 use Rattle.data_stream.specs.Line.{line_of}
 use Rattle.request_text.specs.Schedule.{Plan}
 use Rattle.spiral_main.specs.declared.status.Status.{Status}
-use Rattle.spiral_main.specs.declared.status.Status.TheVariants.{Usage, Turn, ReadFault, WriteFault, NoMemory, TooLong}
+use Rattle.spiral_main.specs.declared.status.Status.TheVariants.{Turn, ReadFault, WriteFault, NoMemory, TooLong}
 use Rattle.spiral_main.specs.declared.stream.StreamFault.{StreamFault}
 use Rattle.spiral_main.specs.Commands.{stranger, admitted}
 use Rattle.spiral_main.specs.Fault.{status_of_listing, status_of_check, status_of_part, status_of_stream}
-use Rattle.spiral_main.specs.Listed.{listing_limit, action_limit, listing_in, loaded, runnable, result_of, IsResultText, room_behind_listing, IsAnswerOfProgram, IsProgramOver, IsExecution}
+use Rattle.spiral_main.specs.Listed.{listing_limit, action_limit, listing_in, loaded, runnable, result_of, IsResultText, room_behind_listing, IsAnswerOfProgram}
 use Rattle.spiral_main.specs.Status.{IsDefined}
 use Rattle.spiral_main.specs.Steps.{IsRefusal, Executes, ToldExecutes}
 use Rattle.spiral_main.specs.Stream.{run_text, texts, lines, vectors_of, Streams}

@@ -1,20 +1,19 @@
 -- The schedule and the bytes of a call of `exec` determine its status and its text.
-use Rattle.std.proofs.Common.{◌≡◌, ◌≢◌, ◌<◌, ◌≤◌, ◌-◌, ◌==◌, ◌⊎◌, ℕ, zero, suc, Bool, true, false, List, [], ◌∷◌, ◌++◌, None, Ok, Err, Result, nat_lt, cond, refl, sym, ap, ap₂, subst, ◌∙◌, arith, append_assoc, inl, inr}
+use Rattle.std.proofs.Common.{◌≡◌, ◌<◌, ◌≤◌, ◌-◌, ◌==◌, ℕ, zero, suc, Bool, true, false, List, [], ◌∷◌, ◌++◌, None, Ok, Err, Result, nat_lt, cond, refl, sym, ap, subst, ◌∙◌, arith, append_assoc, inl, inr}
 use Rattle.std.proofs.lemmas.Grind.{common_steps}
 use Rattle.icode.specs.Plain.{PlainProgram}
-use Rattle.grammar.specs.Grammar.{Begins, IsLost, first_lines, line_ends}
+use Rattle.grammar.specs.Grammar.{Begins, IsLost, first_lines}
 use Rattle.listing_text.specs.Drafts.{step, finish}
 use Rattle.listing_text.specs.Lines.{Judges, read_lines}
 use Rattle.listing_text.specs.Texts.{is_listing}
 use Rattle.listing_text.proofs.DraftReads.{listing_judges}
-use Rattle.code_check.specs.declared.fault.CheckFault.{CheckFault}
 use Rattle.code_check.proofs.Causes.{one_cause, none_if_passed}
 use Rattle.request_text.specs.Schedule.{Plan}
 use Rattle.spiral_main.specs.declared.status.Status.{Status}
 use Rattle.spiral_main.specs.declared.status.Status.TheVariants.{ListingSyntax}
 use Rattle.spiral_main.specs.Commands.{stranger, admitted}
 use Rattle.spiral_main.specs.Fault.{status_of_check}
-use Rattle.spiral_main.specs.Listed.{action_limit, listing_in, listed, verified, loaded, runnable, IsAnswerOfProgram, room_behind_listing, IsExecution}
+use Rattle.spiral_main.specs.Listed.{action_limit, listing_in, listed, verified, runnable, IsAnswerOfProgram, room_behind_listing, IsExecution}
 use Rattle.spiral_main.specs.Stage.{given}
 use Rattle.input_rest.specs.Part.{second_part}
 use Rattle.spiral_main.proofs.Stages.{IsDecided, done, ended, done_same, ended_same, done_ended, given_decided, bind_decided}

@@ -1,22 +1,17 @@
 -- What the commands for a request perform.
-use Rattle.std.proofs.Common.{◌≡◌, ◌≢◌, ◌<◌, ◌≤◌, ◌+◌, ◌-◌, ◌*◌, ◌/◌, ◌||◌, ℕ, zero, suc, true, false, List, [], ◌∷◌, ◌++◌, None, Some, Ok, Err, Result, IfSome, length, take, drop, refl, sym, ap, subst, ◌∙◌, arith, append_assoc, append-nil, length-append, inl, inr}
+use Rattle.std.proofs.Common.{◌≡◌, ◌≢◌, ◌<◌, ◌≤◌, ◌+◌, ◌-◌, ◌*◌, ◌/◌, ℕ, zero, suc, true, false, List, [], ◌++◌, None, Some, Err, Result, length, take, drop, refl, sym, ap, subst, ◌∙◌, arith, append-nil, length-append, inl, inr}
 use Rattle.std.proofs.Math.Nat.{div-mul-le_self}
 use Rattle.std.proofs.lemmas.List.{length-take-le, length-drop, length-map}
-use Rattle.std.proofs.KnownBytes.{Appends-nil, Appends-trans, Consumes-trans}
-use Rattle.std.proofs.lemmas.List.Folds.{list_any-append}
-use Rattle.std.specs.List.{All, list_any}
+use Rattle.std.proofs.KnownBytes.{Appends-nil}
+use Rattle.std.specs.List.{All}
 use Rattle.std.specs.declared.option.Option.{Option}
-use Rattle.std.specs.Io.KnownBytes.{Appends, Consumes, IsAtEnd, prepend_known}
+use Rattle.std.specs.Io.KnownBytes.{Appends, Consumes, IsAtEnd}
 use Rattle.matrix_meaning.specs.declared.Request.{Request}
 use Rattle.matrix_meaning.specs.Valid.{IsInRange}
-use Rattle.request_text.specs.Schedule.{Plan}
-use Rattle.request_text.specs.Turns.{turns_of}
 use Rattle.icode.specs.Machine.{Code, State, results, runs}
-use Rattle.io_edge.specs.Faults.{HasCause, Reports, Rose}
-use Rattle.io_edge.specs.Feed.{Fed, limit, to_come}
-use Rattle.io_edge.specs.Taken.{AppendsPrefix, WritesAll}
-use Rattle.io_edge.proofs.TakenLemmas.{prefix_after}
-use Rattle.data_stream.specs.Data.{tokens, closed_part}
+use Rattle.io_edge.specs.Faults.{Reports, Rose}
+use Rattle.io_edge.specs.Feed.{Fed, limit}
+use Rattle.io_edge.specs.Taken.{AppendsPrefix}
 use Rattle.data_stream.specs.Line.{line_of}
 use Rattle.data_stream.specs.Reading.{residues}
 use Rattle.data_stream.proofs.VectorLemmas.{residues_below}
@@ -40,16 +35,15 @@ use Rattle.spiral_main.specs.declared.status.Status.TheVariants.{Success, Usage,
 use Rattle.spiral_main.specs.declared.stream.StreamFault.{StreamFault}
 use Rattle.spiral_main.specs.declared.stream.StreamFault.TheVariants as stream
 use Rattle.spiral_main.specs.Checked.{certificate_limit, status_of_verdict, least_line, verdict_text}
-use Rattle.spiral_main.specs.Commands.{reads_certificate, first_stranger, has_text, AskForCommand}
+use Rattle.spiral_main.specs.Commands.{reads_certificate, first_stranger, has_text}
 use Rattle.spiral_main.specs.Fault.{status_of_generate, status_of_rest, status_of_fault, status_of_stream}
-use Rattle.spiral_main.specs.Line.{data_of, is_line_end, HasEnded}
 use Rattle.spiral_main.specs.Orders.{traced_text}
 use Rattle.spiral_main.specs.Status.{IsDefined}
-use Rattle.spiral_main.specs.Stream.{group_vectors, vectors_of, texts, lines, run_text, data_answer, data_vectors, Reads, Streams, HasNoStranger}
-use Rattle.spiral_main.specs.Outcome.{IsRefused, IsShutOut, IsAffordable, IsAccepted, IsDeclined, requested, Job, IsOrder, product, IsProgramFor, IsTextOf, IsTextOfData, Settles, BreaksOff, ComesTo, room_behind, Accounts, Notes}
+use Rattle.spiral_main.specs.Stream.{group_vectors, vectors_of, texts, lines, run_text, Streams}
+use Rattle.spiral_main.specs.Outcome.{IsRefused, IsShutOut, IsAffordable, IsAccepted, IsDeclined, product, IsProgramFor, IsTextOf, IsTextOfData}
 use Rattle.spiral_main.proofs.DataLemmas.{RunsOver, runs_over}
 use Rattle.spiral_main.proofs.StreamLemmas.{vectors_few}
-use Rattle.spiral_main.specs.Steps.{IsRefusal, AsksBy, Asks, IsGoodCode, Ends, Performs, ToldPerforms, ToldAccounts}
+use Rattle.spiral_main.specs.Steps.{IsRefusal, IsGoodCode, Performs, ToldPerforms}
 
 -- Refusals
 

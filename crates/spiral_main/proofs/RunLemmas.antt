@@ -1,7 +1,6 @@
 -- The ends of an input, and the turns of a run.
-use Rattle.std.proofs.Common.{◌≡◌, ◌<◌, ℕ, subst, arith, All, List, [], ◌∷◌, ◌++◌, None, Some, sym, ap, ◌∙◌, append_assoc, append-nil}
+use Rattle.std.proofs.Common.{◌≡◌, ◌<◌, ℕ, subst, arith, All, List, [], ◌∷◌, None, Some, sym, ap, ◌∙◌}
 use Rattle.std.proofs.lemmas.List.Elements.{All-from_get_or}
-use Rattle.std.specs.List.{concat}
 use Rattle.std.specs.declared.option.Option.{Option}
 use Rattle.std.specs.Io.KnownBytes.{IsAtEnd, prepend_known}
 use Rattle.matrix_meaning.specs.declared.Request.{Request}

@@ -1,5 +1,5 @@
 -- What `exec` answers, which runs a listing only where its program passes the check.
-use Rattle.std.specs.Prelude.{◌≡◌, ◌≢◌, ◌⊎◌, ℕ, ◌-◌, List, [], ◌++◌, length, nat_le, true, Ok, Err, Result, if◌then◌else◌}
+use Rattle.std.specs.Prelude.{◌≡◌, ◌≢◌, ◌⊎◌, ℕ, ◌-◌, List, [], length, nat_le, true, Ok, Err, Result, if◌then◌else◌}
 use Rattle.std.specs.List.{list_all}
 use Rattle.icode.specs.Actions.{plain_code}
 use Rattle.icode.specs.Machine.{results}

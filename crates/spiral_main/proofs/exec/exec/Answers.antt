@@ -1,6 +1,5 @@
-use Rattle.std.proofs.Common.{◌≡◌, ◌≤◌, Ok, Err, zero-add, sym, ap, ◌∙◌, arith, length}
+use Rattle.std.proofs.Common.{Ok, Err, zero-add, ◌∙◌, length}
 use Rattle.std.proofs.lemmas.Result.{err_from_is_err_and}
-use Rattle.std.specs.Io.KnownBytes.{IsAtEnd}
 use Rattle.request_text.specs.Turns.{turns_of}
 use Rattle.io_edge.specs.Feed.{to_come}
 use Rattle.data_stream.proofs.TokensLemmas.{reports_none}
