@@ -113,11 +113,11 @@ def raced(race, size, title, primes, lanes, unroll):
         race.peer("NTL", "g++", "race_ntl.cpp", ["-O2", "-lntl", "-lgmp", "-pthread"], words)
         race.peer("FLINT fft_small", "gcc", "race_flint.c", ["-O2", "-march=native", "-lflint"], words)
     race.peer("textbook", "gcc", "race_textbook.c", ["-O3", "-march=native"], words)
-    with_lanes = fast_text(f"{request} lanes {min(lanes, int(size ** 0.5))} unroll {unroll}")
+    with_lanes, with_half = (fast_text(f"{request} lanes {min(n, int(size ** 0.5))} unroll {unroll}") for n in (lanes, lanes // 2))
     native = ["-O3", "-march=native"]
     race.text("fast, lanes, clang", "clang", with_lanes, *native)
     race.text("fast, lanes, gcc", "gcc", with_lanes, *native)
-    race.text("fast, lanes, clang, AVX2", "clang", with_lanes, "-O3", "-mavx2")
+    race.text("fast, half the lanes, clang, AVX2", "clang", with_half, "-O3", "-mavx2")
     one = fast_text(f"{request} unroll 4")
     race.text("fast, one lane, clang", "clang", one, *native)
     race.text("fast, one lane, gcc", "gcc", one, *native)

@@ -47,7 +47,7 @@ vector_text =
     ++ codes "INLINE vec add(vec a, vec b) { return a + b; }\n"
     ++ codes "INLINE vec sub(vec a, vec b, word k) { return a + k - b; }\n"
     ++ codes "INLINE vec neg(vec a, word k) { return k - a; }\n"
-    ++ codes "INLINE vec reduced(vec a, word k) { vec d = a - k, m = (vec)(a < d); return (a & m) | (d & ~m); }\n"
+    ++ codes "INLINE vec reduced(vec a, word k) { return a - ((vec)(a >= k) & k); }\n"
 
 -- the products of such registers
 unfoldable pub vector_product_text : List ℕ

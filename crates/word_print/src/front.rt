@@ -85,7 +85,7 @@ INLINE void store(word *p, vec a) { *(unaligned *)p = a; }
 INLINE vec add(vec a, vec b) { return a + b; }
 INLINE vec sub(vec a, vec b, word k) { return a + k - b; }
 INLINE vec neg(vec a, word k) { return k - a; }
-INLINE vec reduced(vec a, word k) { vec d = a - k, m = (vec)(a < d); return (a & m) | (d & ~m); }
+INLINE vec reduced(vec a, word k) { return a - ((vec)(a >= k) & k); }
 ",
     )
 }
