@@ -94,6 +94,9 @@ fn shown(alloc: Global, name: &str, schedule: &Schedule) -> Result<String, Fail>
 
 fn mixed(alloc: Global, name: &str, mix: &Mix) -> Result<String, Fail> {
     let len = mix.len();
+    if len == 0 {
+        Err("an event")?
+    }
     let last = match mix.event_at(len - 1) {
         Event::Turn(q) => format!(in alloc; "t{q}")?,
         Event::Drain(q) => format!(in alloc; "d{q}")?,
