@@ -1,4 +1,4 @@
-use Rattle.std.proofs.Common.{ap, arith, sym, ◌∙◌, subst, ℕ, List, ◌∷◌}
+use Rattle.std.proofs.Common.{ap, arith, sym, subst, ℕ, List}
 use Rattle.std.specs.Prelude.{All, map}
 use Rattle.std.proofs.lemmas.List.Elements.{All-head, All-tail}
 use Rattle.sigma_lower.specs.Lowered.{IsWhole}
