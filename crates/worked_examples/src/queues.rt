@@ -24,10 +24,8 @@ fn machine_with(alloc: Global, program: &Program, input: &[u64]) -> Result<BufMa
 }
 
 // What the machine answers to an event.
-fn answer(alloc: Global, machine: &mut BufMachine, event: Event, procs: u64) -> Result<String, Fail>
-    requires { procs ≡ machine.old.code.procs }
-    ensures { machine.new.code ≡ machine.old.code }
-{
+fn answer(alloc: Global, machine: &mut BufMachine, event: Event) -> Result<String, Fail> {
+    let procs = machine.procs();
     match event {
         Event::Turn(proc) if proc < procs => Ok(match machine.turn(proc) {
             Turned::Did(_) => "did ".to_string(alloc)?,
@@ -43,26 +41,21 @@ fn answer(alloc: Global, machine: &mut BufMachine, event: Event, procs: u64) -> 
 }
 
 // What the machine answers to the events.
-fn play(alloc: Global, machine: &mut BufMachine, mix: &Mix, procs: u64) -> Result<String, Fail>
-    requires { procs ≡ machine.old.code.procs }
-    ensures { machine.new.code ≡ machine.old.code }
-{
+fn play(alloc: Global, machine: &mut BufMachine, mix: &Mix) -> Result<String, Fail> {
     let mut text = String::new(alloc);
     for place in 0..mix.len() {
         let event = mix.event_at(place);
-        text.push_str(&answer(alloc, machine, event, procs)?)?;
+        text.push_str(&answer(alloc, machine, event)?)?;
     }
     Ok(text)
 }
 
 // The words of the second array, where the machine's memory has no gaps between its arrays.
-fn results(alloc: Global, program: &Program, machine: &BufMachine) -> Result<String, Fail>
-    requires fits { Fits program.now }
-    requires code { machine.now.code ≡ code_of program.now }
-{
+fn results(alloc: Global, machine: &BufMachine) -> Result<String, Fail> {
     let mut words = Vec::new(alloc);
-    for place in 0..program.size {
-        words.push(machine.word(program.array_size() + place))?;
+    let size = machine.span() / 4;
+    for place in size..2 * size {
+        words.push(machine.word(place))?;
     }
     joined(alloc, &words)
 }
@@ -83,11 +76,11 @@ fn mix_answer(alloc: Global, name: &str, input: &str, word: &str) -> Result<Stri
     let program = program(alloc, name)?;
     let mut machine = machine_with(alloc, &program, &numbers(alloc, input)?)?;
     let mix = read_mix(alloc, word.as_bytes()).ok().ok_or("a mix")?;
-    let answers = play(alloc, &mut machine, &mix, program.procs)?;
+    let answers = play(alloc, &mut machine, &mix)?;
     let (phase, next) = (machine.phase(), machine.next_event());
-    let early = results(alloc, &program, &machine)?;
+    let early = results(alloc, &machine)?;
     machine.finish();
-    let late = results(alloc, &program, &machine)?;
+    let late = results(alloc, &machine)?;
     Ok(format!(in alloc; "{answers}{phase} {next:?}: {early}, {late}")?)
 }
 
