@@ -77,21 +77,23 @@ fn streamed(alloc: Global, name: &str, data: &str, lines: bool) -> Result<MemSin
     let mut output = MemSink::new(alloc, 1000, Vec::new(alloc))?;
     let mut feed = Feed::new(alloc)?;
     let schedule = schedule(alloc, "seq")?;
-    if schedule.stranger(machine.procs()).is_some() || vector.is_empty() {
-        return Err(Fail::from("a stranger"));
-    }
-    let result = run_stream(
-        &mut machine,
-        &schedule,
-        lines,
-        &mut feed,
-        &mut source,
-        &mut output,
-        &mut vector,
-    );
-    match result {
-        Ok(()) => Ok(output),
-        Err(_) => Err(Fail::from("a fault")),
+    match schedule.stranger(machine.procs()) {
+        None => {
+            let result = run_stream(
+                &mut machine,
+                &schedule,
+                lines,
+                &mut feed,
+                &mut source,
+                &mut output,
+                &mut vector,
+            );
+            match result {
+                Ok(()) => Ok(output),
+                Err(_) => Err(Fail::from("a fault")),
+            }
+        }
+        Some(_) => Err(Fail::from("a stranger")),
     }
 }
 
