@@ -36,7 +36,7 @@ fn some_left(len: u64, done: &[u64]) -> bool
 pub(crate) fn is_held(len: u64, done: &[u64], queues: &[Queue]) -> bool
     ensures { result ≡ is_held len done.now queues.now }
 {
-    some_wait(queues) || some_left(len, done)
+    some_left(len, done) || some_wait(queues)
 }
 
 /// The first phase from this one on that has an action, or what comes after them.
