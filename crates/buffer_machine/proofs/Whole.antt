@@ -111,6 +111,11 @@ walker_next a q w lt left =
     let at = w.walking.here (open_here a q w lt left) in
     ap₂ (λ (phase : ℕ) (done : List ℕ). slice_get (acts (code_in a) phase q) (slice_index done q)) at.0 at.1
 
+pub walker_left : (a : Inside) (q : ℕ) → IsWhole a → q < (code_in a).procs → slice_index a.values.done q < slice_index a.lens.items a.values.phase → slice_index a.walker.state.done q < length (acts (code_in a) a.walker.state.phase q)
+walker_left a q w lt left =
+    let at = w.walking.here (open_here a q w lt left) in
+    omega (arith, w.lens.each a.values.phase q lt, left, ap (λ (phase : ℕ). length (acts (code_in a) phase q)) at.0, ap (λ (done : List ℕ). slice_index done q) at.1)
+
 pub walker_answers : (a : Inside) (q : ℕ) (turned : Turned) → IsWhole a → q < (code_in a).procs → slice_index a.values.done q < slice_index a.lens.items a.values.phase → turned ≡ answer (code_in a) a.walker.state q → (action : Action) × (turned ≡ Did action) × (next_action (code_in a) (buffered_of a.values).state q ≡ Some action)
 walker_answers a q turned w lt left e =
     let xs : List Action = acts (code_in a) a.values.phase q in

@@ -9,6 +9,7 @@ use crate::queue::Queue;
 use crate::registers::Registers;
 
 /// Whether a store waits.
+#[inline]
 fn some_wait(queues: &[Queue]) -> bool
     ensures { result ≡ some_wait (waits_of queues.now) }
 {
@@ -21,6 +22,7 @@ fn some_wait(queues: &[Queue]) -> bool
 }
 
 /// Whether a processor has done fewer than so many actions.
+#[inline]
 fn some_left(len: u64, done: &[u64]) -> bool
     ensures { result ≡ list_any (λ d. nat_lt d len) done.now }
 {
@@ -33,10 +35,11 @@ fn some_left(len: u64, done: &[u64]) -> bool
 }
 
 /// Whether something holds a phase of so many actions.
+#[inline]
 pub(crate) fn is_held(len: u64, done: &[u64], queues: &[Queue]) -> bool
     ensures { result ≡ is_held len done.now queues.now }
 {
-    some_wait(queues) || some_left(len, done)
+    some_left(len, done) || some_wait(queues)
 }
 
 /// The first phase from this one on that has an action, or what comes after them.

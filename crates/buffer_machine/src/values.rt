@@ -88,6 +88,7 @@ impl Values {
     }
 
     /// The phase moves on where nothing holds it.
+    #[inline]
     pub(crate) fn settle(&mut self, lens: &[u64])
         requires { self.old.phase < length lens.now }
         ensures { self.new ≡ settled_stand lens.now self.old }

@@ -8,6 +8,7 @@ ghost use Rattle.par_machine.specs.OnRegisters.{HasNoPlace, placeless_action};
 ghost use Rattle.par_machine.specs.Performed.{OpIsWithin, step_by, action_by};
 
 use crate::engine::Engine;
+use crate::place::place_value;
 use icode::action::Action;
 use icode::address::{address_at, same_factors, table_factors};
 use icode::program::Op;
@@ -67,14 +68,14 @@ pub(crate) fn action_of(engine: &Engine, op: &Op, values: &[u64], proc: u64) -> 
             place,
         } => Action::Load {
             register: *register,
-            address: address_at(shape.room, *array, place.value(values, proc)),
+            address: address_at(shape.room, *array, place_value(place, values, proc)),
         },
         Op::Store {
             array,
             place,
             register,
         } => Action::Store {
-            address: address_at(shape.room, *array, place.value(values, proc)),
+            address: address_at(shape.room, *array, place_value(place, values, proc)),
             register: *register,
         },
         Op::MulTable {
@@ -85,7 +86,7 @@ pub(crate) fn action_of(engine: &Engine, op: &Op, values: &[u64], proc: u64) -> 
             step,
         } => {
             let entries = &engine.tables[*table as usize];
-            let at = place.value(values, proc);
+            let at = place_value(place, values, proc);
             Action::Mul {
                 register: *register,
                 source: *source,

@@ -80,8 +80,9 @@ impl Machine {
         self.phases[self.phase as usize].len - self.done[proc as usize]
     }
 
-    /// The action that the processor has left.
-    fn action(&self, proc: u64) -> Action
+    /// The action that the processor does at its next turn.
+    #[inline]
+    pub fn action(&self, proc: u64) -> Action
         requires proc { proc < self.now.code.procs }
         requires left { slice_index self.now.state.done proc
             < length (acts self.now.code self.now.state.phase proc) }
@@ -148,7 +149,7 @@ impl Machine {
 
     /// The turn of a processor, whose answer nobody asks for.
     #[inline]
-    fn pass(&mut self, proc: u64)
+    pub fn pass(&mut self, proc: u64)
         requires proc { proc < self.old.code.procs }
         ensures state { self.new.state ≡ turn self.old.code self.old.state proc }
         ensures code { self.new.code ≡ self.old.code }
