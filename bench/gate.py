@@ -1,90 +1,96 @@
 #!/usr/bin/env python3
-"""What the gate costs, crate by crate: processor seconds of the proof, of the tests' proof and of the edits.
+"""What the gate costs, crate by crate: processor seconds of each crate's proof, of its tests' proof and of its edits.
 
-    bench/gate.py [CRATE..]
+    bench/gate.py [FILE]
 
-Works in a copy of the repository in a temporary folder, from nothing and one crate at a time, lowest crates first; a crate
-whose figures are wanted needs those below it, so all of these are proved too. Takes some hours for all crates.
+Runs `rt ci` at the top of the repository, from nothing as it always does, and looks twice a second at the prover's
+processes in /proc. Prints a table when the run has ended, and the longest chain of crates that wait for one another, in
+minutes as they were. What `rt ci` says goes to the file, if one is named.
 """
 
-import resource
-import shutil
+import os
 import subprocess
 import sys
-import tempfile
+import time
+from collections import defaultdict
 from pathlib import Path
 
 TOP = Path(__file__).resolve().parent.parent
+TICKS = os.sysconf("SC_CLK_TCK")
+KINDS = ("proof", "tests", "edits")
 
 
-def crates():
-    """The crates and those that each stands on, by crates.txt."""
+class Provers:
+    """The prover's processes that were seen: crate, kind, processor seconds, first and last time."""
+
+    def __init__(self):
+        self.seen = {}
+
+    def look(self):
+        for folder in Path("/proc").glob("[0-9]*"):
+            try:
+                self.note(folder)
+            except (OSError, ValueError, IndexError):
+                pass  # a process that has ended meanwhile
+
+    def note(self, folder):
+        words = (folder / "cmdline").read_text(errors="replace").split("\0")
+        if not words[0].endswith("/rattle") or "--crate-name" not in words:
+            return
+        fields = (folder / "stat").read_text().rpartition(")")[2].split()
+        place = os.readlink(folder / "cwd")
+        kind = "edits" if "rt-edit" in place else "tests" if "--test" in words else "proof"
+        if kind != "edits" and not place.startswith(str(TOP)):
+            return
+        crate = words[words.index("--crate-name") + 1]
+        seconds = sum(int(ticks) for ticks in fields[11:15]) / TICKS
+        known = self.seen.setdefault((folder.name, fields[19]), [crate, kind, 0, time.time(), 0])
+        known[2], known[4] = seconds, time.time()
+
+    def sums(self):
+        """For each crate the seconds by kind, and the seconds that its proof took as they went by."""
+        spent, took = defaultdict(lambda: dict.fromkeys(KINDS, 0)), defaultdict(float)
+        for crate, kind, seconds, first, last in self.seen.values():
+            spent[crate][kind] += seconds
+            if kind == "proof":
+                took[crate] += last - first
+        return spent, took
+
+
+def longest_chain(took):
+    """The crates of the chain whose proofs took longest, one behind the other."""
     graph = {}
     for line in (TOP / "crates.txt").read_text().splitlines():
-        line = line.split("#")[0]
-        if ":" in line:
-            name, below = line.split(":")
+        name, colon, below = line.partition("#")[0].partition(":")
+        if colon:
             graph[name.split()[0]] = below.split()
-    return graph
+    ways = {}
 
+    def way(name):
+        if name not in ways:
+            below = max((way(it) for it in graph[name] if it in graph), default=(0, []))
+            ways[name] = (below[0] + took[name], [*below[1], name])
+        return ways[name]
 
-def in_order(graph, wanted):
-    """The wanted crates and all below them, each behind what it stands on."""
-    order = []
-
-    def add(name):
-        if name in graph and name not in order:
-            for below in graph[name]:
-                add(below)
-            order.append(name)
-
-    for name in wanted:
-        add(name)
-    return order
-
-
-def seconds(folder, *command):
-    """Processor seconds of a command, and whether it succeeded."""
-    before = resource.getrusage(resource.RUSAGE_CHILDREN)
-    run = subprocess.run(command, cwd=folder, stdout=subprocess.DEVNULL, stderr=subprocess.DEVNULL)
-    after = resource.getrusage(resource.RUSAGE_CHILDREN)
-    spent = after.ru_utime - before.ru_utime + after.ru_stime - before.ru_stime
-    return spent, run.returncode == 0
-
-
-def measured(top, name):
-    """The seconds of a crate's proof, tests and edits; None for what it has not."""
-    folder = top / "crates" / name
-    source = "".join(path.read_text() for path in (folder / "src").rglob("*.rt"))
-    is_library = (folder / "src" / "lib.rt").exists()
-    proof = seconds(folder, "rt", "lib" if is_library else "check")
-    tests = seconds(folder, "rt", "check", "--test") if "#[test]" in source else None
-    has_edits = (folder / "must-fail").is_dir()
-    edits = seconds(top, "rt", "must-fail", name) if has_edits else None
-    return proof, tests, edits
-
-
-def shown(figure):
-    if figure is None:
-        return "-"
-    spent, succeeded = figure
-    return f"{spent:.0f}" + ("" if succeeded else "!")
+    return max(way(name) for name in graph)
 
 
 def main():
-    graph = crates()
-    order = in_order(graph, sys.argv[1:] or sorted(graph))
-    totals = [0.0, 0.0, 0.0]
-    with tempfile.TemporaryDirectory() as place:
-        top = Path(place) / "spiral"
-        shutil.copytree(TOP, top, ignore=shutil.ignore_patterns("out", ".git"))
-        print(f"{'crate':20}{'proof':>8}{'tests':>8}{'edits':>8}", flush=True)
-        for name in order:
-            figures = measured(top, name)
-            print(f"{name:20}" + "".join(f"{shown(f):>8}" for f in figures), flush=True)
-            totals = [t + (f[0] if f else 0) for t, f in zip(totals, figures)]
-    print(f"{'all':20}" + "".join(f"{t:8.0f}" for t in totals))
-    print(f"{sum(totals) / 60:.0f} processor minutes; ! marks what failed")
+    provers = Provers()
+    with open(sys.argv[1] if len(sys.argv) > 1 else os.devnull, "w") as said:
+        run = subprocess.Popen(["rt", "ci"], cwd=TOP, stdin=subprocess.DEVNULL, stdout=said, stderr=said)
+        while run.poll() is None:
+            provers.look()
+            time.sleep(0.5)
+    spent, took = provers.sums()
+    print("| crate | proof | tests | edits |\n|---|---|---|---|")
+    for crate, kinds in sorted(spent.items(), key=lambda it: -sum(it[1].values())):
+        print(f"| {crate} |", " | ".join(f"{kinds[kind]:.0f}" for kind in KINDS), "|")
+    minutes = {kind: sum(kinds[kind] for kinds in spent.values()) / 60 for kind in KINDS}
+    print("| processor minutes |", " | ".join(f"{minutes[kind]:.0f}" for kind in KINDS), "|")
+    seconds, chain = longest_chain(took)
+    print(f"\nThe longest chain took {seconds / 60:.0f} minutes: {', '.join(chain)}.")
+    sys.exit(run.returncode)
 
 
 if __name__ == "__main__":

@@ -26,7 +26,7 @@ def run(command, text):
         source.write(text.encode())
         source.seek(0)
         begin = time.perf_counter()
-        status = subprocess.run([PROGRAM, command], stdin=source, stdout=target).returncode
+        status = subprocess.run([PROGRAM, *command.split()], stdin=source, stdout=target).returncode
         seconds = time.perf_counter() - begin
         if status != 0:
             raise SystemExit(f"{command} ended with {status}")
@@ -60,6 +60,12 @@ def listing(text):
     return subprocess.run([PROGRAM, "code"], input=text.encode(), capture_output=True, check=True).stdout.decode()
 
 
+def loop_of(actions):
+    """A listing of so many actions: a load, an addition and a store in each turn of its loop."""
+    body = "ld r0 X[0]\nadd r1 r0 r0\nst Y[0] r1\n"
+    return f"program size 4 mod 17 procs 1 line 1 lanes 1 regs 2\nphase\nfor v0 {actions // 3}\n{body}end\nend\n\n"
+
+
 def main():
     start_up = best("run", request(4), 20)
     print(f"start-up: {start_up * 1000:.1f} ms")
@@ -80,6 +86,12 @@ def main():
     for count in (10, 1000, 100_000):
         kilobytes = peak("run", request(4) + vectors(4, count))
         print(f"peak memory of dft 4 over {count} vectors: {kilobytes} KB")
+    for count in (10**7, 99 * 10**6):
+        seconds = best("exec", loop_of(count)) - start_up
+        print(f"exec: {count // 10**6} million actions of a listing verified in {seconds:.2f} s")
+    text = "wht 1024 mod 1024\n" + vectors(1024, 100)
+    plain, buffered = best("run", text), best("run --buffers", text)
+    print(f"run --buffers of wht 1024: {buffered / plain:.1f} times the time of run")
 
 
 main()
