@@ -1,0 +1,27 @@
+-- The passes of a formula do what it does, in its operations.
+use Rattle.std.proofs.Common.{◌≡◌, ◌*◌, arith, refl, ◌∙◌, []}
+use Rattle.passes.proofs.Counting.{merge_counts}
+use Rattle.passes.proofs.Limited.{merge_limits}
+use Rattle.passes.specs.Merge.{most}
+use Rattle.passes.proofs.Keeps.{merge_keeps}
+use Rattle.formula_lower.specs.Compiled.{FormulasCompile}
+use Rattle.formula_lower.specs.Operations.{work_cost, operations}
+use Rattle.formula_lower.specs.Terms.{term_of}
+use Rattle.formula_lower.proofs.Counted.{lower_counts}
+use Rattle.formula_lower.proofs.Lowers.{lowers}
+use Rattle.formula_lower.proofs.Several.{term-several}
+use Rattle.spl_ast.specs.Formula.{size_of}
+use Rattle.spl_ast.proofs.Vectors.{shaped_size, size_is_size}
+
+pub formulas_compile : FormulasCompile
+formulas_compile m f positive shaped =
+    let some = shaped_size f shaped in
+    let lowered = lowers m [] f positive some shaped in
+    let merged = merge_keeps 0 m (size_of f) (most 64) (term_of [] f) positive some lowered.good in
+    let one : 1 * operations m f ≡ operations m f = omega arith in
+    record {
+      good = merged.good;
+      limits = merge_limits 0 (size_of f) (term_of [] f) some (omega (arith, (size_is_size f shaped).1)) lowered.good (term-several [] f tt shaped);
+      on = λ x v. merged.on x v ∙ lowered.on x v;
+      cost = merge_counts 0 m (size_of f) (most 64) (term_of [] f) (work_cost m) positive some (λ d. refl) lowered.good ∙ lower_counts m [] f positive shaped ∙ one;
+    }

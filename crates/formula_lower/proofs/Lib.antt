@@ -1,0 +1,11 @@
+pub mod Moves
+pub mod Parts
+pub mod Lowers
+pub mod Counted
+pub mod Several
+pub mod Compiling
+pub mod Trees
+pub mod Vectors
+pub mod Embedded
+pub mod SharedTrees
+pub mod Ordered

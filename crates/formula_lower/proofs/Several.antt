@@ -1,0 +1,53 @@
+-- The tensors in the term of a formula have several copies.
+use Rattle.std.proofs.Common.{◌≡◌, ℕ, zero, suc, ◌^◌, ◌≤◌, arith, sym, [], ◌∷◌, ◌++◌, inl, inr, subst, pow_pos}
+use Rattle.std.proofs.lemmas.Bool.{cases_eq, cases_lt}
+use Rattle.std.proofs.lemmas.Bool.Decides.{nat_tests}
+use Rattle.matrix_meaning.specs.declared.Kind.TheVariants.{Dft}
+use Rattle.passes.specs.Limits.{AreSeveral, HasSeveral}
+use Rattle.passes.specs.Term.{nest}
+use Rattle.passes.specs.Work.{kernel, horner}
+use Rattle.formula_lower.specs.Terms.{one_more, halvings, hadamard_term, fourier_term, term_of}
+use Rattle.spl_ast.specs.Formula.{Formula, Identity, Fourier, Hadamard, Twiddles, Diagonal, Stride, Permutation, GoodThomasIn, GoodThomasOut, Product, TensorLeft, TensorRight, DirectSum, Pending}
+use Rattle.spl_ast.specs.Shape.{IsShaped}
+use Rattle.tensor_paths.specs.declared.Tensor.{Tensor}
+use Rattle.tensor_paths.specs.declared.Tensor.TheVariants.{Blocks, Columns}
+use Rattle.tensor_paths.specs.Path.{Path, count_of}
+use Rattle.tree_model.specs.Breakdown.{leaf}
+
+several-append : (path : Path) (t : Tensor) → AreSeveral path → 2 ≤ count_of t → AreSeveral (path ++ t ∷ [])
+several-append [] t h two = (two, tt)
+several-append (u ∷ path) t h two = (h.0, several-append path t h.1 two)
+
+several-more : (path : Path) (t : Tensor) → AreSeveral path → 1 ≤ count_of t → AreSeveral (one_more path t)
+several-more path t h some =
+    elim (cases_eq (count_of t) 1) [
+      | inl one ↦ let is : one_more path t ≡ path = grind (arith, nat_tests) in subst AreSeveral (sym is) h
+      | inr other ↦ let is : one_more path t ≡ path ++ t ∷ [] = grind (arith, nat_tests) in subst AreSeveral (sym is) (several-append path t h (omega (arith, some, other)))
+    ]
+
+hadamard-several : (path : Path) (k : ℕ) → AreSeveral path → HasSeveral (hadamard_term path k)
+hadamard-several path zero h = tt
+hadamard-several path (suc k) h = (hadamard-several (path ++ Blocks 2 ∷ []) k (several-append path (Blocks 2) h (omega arith)), (several-more path (Columns (2 ^ k)) h (omega (arith, pow_pos k)), tt))
+
+fourier-several : (path : Path) (n w : ℕ) → AreSeveral path → HasSeveral (fourier_term path n w)
+fourier-several path n w h =
+    elim (cases_lt 8 n) [
+      | inl long ↦ let is : fourier_term path n w ≡ nest path (horner w n) = grind (arith, nat_tests) in subst HasSeveral (sym is) (h, omega (arith, long))
+      | inr short ↦ let is : fourier_term path n w ≡ nest path (kernel Dft w (leaf n)) = grind (arith, nat_tests) in subst HasSeveral (sym is) (h, tt)
+    ]
+
+pub term-several : (path : Path) (f : Formula) → AreSeveral path → IsShaped f → HasSeveral (term_of path f)
+term-several path (Identity n) h shaped = tt
+term-several path (Fourier n w) h shaped = fourier-several path n w h
+term-several path (Hadamard n) h shaped = hadamard-several path (halvings n n) h
+term-several path (Twiddles n s w) h shaped = tt
+term-several path (Diagonal c) h shaped = tt
+term-several path (Stride n r) h shaped = tt
+term-several path (Permutation k) h shaped = h
+term-several path (GoodThomasIn r s) h shaped = tt
+term-several path (GoodThomasOut r s) h shaped = tt
+term-several path (Product a b) h shaped = (term-several path b h shaped.1, term-several path a h shaped.0)
+term-several path (TensorLeft a k) h shaped = term-several (one_more path (Columns k)) a (several-more path (Columns k) h shaped.1.0) shaped.0
+term-several path (TensorRight k a) h shaped = term-several (one_more path (Blocks k)) a (several-more path (Blocks k) h shaped.0.0) shaped.1
+term-several path (DirectSum a b) h shaped = (h, term-several [] a tt shaped.0, term-several [] b tt shaped.1)
+term-several path (Pending a) h shaped = term-several path a h shaped

@@ -1,0 +1,6 @@
+pub mod Terms
+pub mod Operations
+pub mod Compiled
+pub mod Trees
+pub mod Shared
+pub mod Order

@@ -1,0 +1,54 @@
+//! Formulas as terms: the same meaning, in as many operations.
+#![tactic(auto)]
+
+ghost use Rattle.formula_lower.specs.Compiled.{FormulasCompile};
+ghost use Rattle.formula_lower.specs.Operations.{LowerCounts};
+ghost use Rattle.formula_lower.specs.Terms.{LowerKeeps};
+ghost use Rattle.formula_lower.specs.Order.{TreesAreLoops, TreesOrdered};
+ghost use Rattle.formula_lower.specs.Shared.{FactorsEmbed, SharedTreesMerge, TreesEmbed};
+ghost use Rattle.formula_lower.specs.Trees.{TreesMerge};
+
+/// The term of a formula does what the formula does: a law of the definitions.
+pub fn lower_keeps()
+    ensures { LowerKeeps }
+{}
+
+/// The term of a formula has its operations: a law of the definitions.
+pub fn lower_counts()
+    ensures { LowerCounts }
+{}
+
+/// The passes of any formula do what it does, in its operations: a law of the definitions.
+pub fn formulas_compile()
+    ensures { FormulasCompile }
+{}
+
+/// Trees on one processor and one lane are merged by the same law: a law of the definitions.
+pub fn trees_merge()
+    ensures { TreesMerge }
+{}
+
+/// The terms of trees for any processors and lanes are good terms, which do what they did: a law of the definitions.
+pub fn factors_embed()
+    ensures { FactorsEmbed }
+{}
+
+/// So are those of the phases of whole trees: a law of the definitions.
+pub fn trees_embed()
+    ensures { TreesEmbed }
+{}
+
+/// The passes of trees for any processors and lanes do their transforms, by the law of all terms: a law of the definitions.
+pub fn shared_trees_merge()
+    ensures { SharedTreesMerge }
+{}
+
+/// The terms of trees are in order, so their passes are their loops, one by one: a law of the definitions.
+pub fn trees_ordered()
+    ensures { TreesOrdered }
+{}
+
+/// So the passes of each phase are its loops, one by one: a law of the definitions.
+pub fn trees_are_loops()
+    ensures { TreesAreLoops }
+{}

@@ -1,0 +1,10 @@
+pub mod Machine
+pub mod Acts
+pub mod Merged
+pub mod Laws
+pub mod Expressions
+pub mod Statements
+pub mod Conditions
+pub mod Program
+pub mod Contract
+pub mod Small

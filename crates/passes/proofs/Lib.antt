@@ -1,0 +1,15 @@
+pub mod CopiesMerge
+pub mod Nests
+pub mod Natural
+pub mod Moved
+pub mod Walk
+pub mod Sides
+pub mod Keeps
+pub mod Counting
+pub mod Within
+pub mod Small
+pub mod Limited
+pub mod HornerRows
+pub mod PassPlaces
+pub mod Listed
+pub mod GoodLoops

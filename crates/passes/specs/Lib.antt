@@ -1,0 +1,12 @@
+pub mod Copies
+pub mod CopiesLaws
+pub mod Work
+pub mod Nest
+pub mod Term
+pub mod Merge
+pub mod Good
+pub mod Counts
+pub mod Limits
+pub mod Horner
+pub mod Places
+pub mod Loops

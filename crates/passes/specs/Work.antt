@@ -1,0 +1,42 @@
+-- What a loop does to each of its copies.
+use Rattle.std.specs.Prelude.{ℕ, ◌*◌, Bool, true, false, slice_index}
+use Rattle.matrix_meaning.specs.declared.Kind.{Kind}
+use Rattle.matrix_meaning.specs.declared.Kind.TheVariants.{Dft}
+use Rattle.matrix_meaning.specs.Kind.{transform}
+use Rattle.operators.specs.Identities.{turn}
+use Rattle.operators.specs.Operator.{Operator}
+use Rattle.operators.specs.Sum.{list_below}
+use Rattle.tree_model.specs.Breakdown.{Breakdown, size_of}
+
+pub data PlainWork : Type 0 where
+  -- the transform of a tree's size by this root, in straight-line code
+  kernel : (kind : Kind) (root : ℕ) (tree : Breakdown) → PlainWork
+  -- a longer leaf by its rows: the sum of the items' products with powers of a root of this size
+  rows : (root size : ℕ) → PlainWork
+  -- the same transform for any root, each row by Horner's rule
+  horner : (root size : ℕ) → PlainWork
+  -- the stride permutation L(lanes * lanes, lanes), in registers
+  tile : (lanes : ℕ) → PlainWork
+  -- the items as they are
+  copy : (size : ℕ) → PlainWork
+
+abbrev pub work_size : PlainWork → ℕ
+work_size (kernel kind root tree) = size_of tree
+work_size (rows root size) = size
+work_size (horner root size) = size
+work_size (tile lanes) = lanes * lanes
+work_size (copy size) = size
+
+-- what it makes of the items of a copy, modulo m
+abbrev pub work_on : ℕ → PlainWork → Operator
+work_on m (kernel kind root tree) x = transform kind m (size_of tree) root x
+work_on m (rows root size) x = transform Dft m size root x
+work_on m (horner root size) x = transform Dft m size root x
+work_on m (tile lanes) x = turn lanes lanes x
+work_on m (copy size) x = list_below size (slice_index x)
+
+-- whether the code of a copy names its items one by one; the others have a loop over their rows, and in it one over their items
+abbrev pub is_straight : PlainWork → Bool
+is_straight (rows root size) = false
+is_straight (horner root size) = false
+is_straight work = true

@@ -1,0 +1,60 @@
+//! Passes: loops that write one array together, and the laws by which permutations and diagonals go into them.
+#![tactic(auto)]
+
+ghost use Rattle.passes.specs.Counts.{MergeCounts};
+ghost use Rattle.passes.specs.Good.{MergeKeeps};
+ghost use Rattle.passes.specs.Horner.{HornerRow};
+ghost use Rattle.passes.specs.Limits.{MergeLimits};
+ghost use Rattle.passes.specs.Loops.{LoopsAreGood, LoopsHavePlaces, MergeListed};
+ghost use Rattle.passes.specs.Places.{PassStores};
+ghost use Rattle.passes.specs.CopiesLaws.{KeepsOnce, LoadsGather, LoopsScale, StandSideBySide, StandUnder, StoresScatter};
+
+/// What is merged into a pass, and how passes stand side by side and under tensors: laws of the definitions.
+pub fn copies_merge()
+    ensures loads { LoadsGather }
+    ensures stores { StoresScatter }
+    ensures scales { LoopsScale }
+    ensures sides { StandSideBySide }
+    ensures tensors { StandUnder }
+    ensures once { KeepsOnce }
+{}
+
+/// The passes of a term do what it does, and each writes each word of its array once: a law of the definitions.
+pub fn merge_keeps()
+    ensures { MergeKeeps }
+{}
+
+/// The passes of a term have its operations: a law of the definitions.
+pub fn merge_counts()
+    ensures { MergeCounts }
+{}
+
+/// The places of a term's passes are within the limits of programs: a law of the definitions.
+pub fn merge_limits()
+    ensures { MergeLimits }
+{}
+
+/// Horner's rule gives the rows of a Fourier transform, for any root: a law of the definitions.
+pub fn horner_row()
+    ensures { HornerRow }
+{}
+
+/// A pass that stores each word once leaves at each place what the one copy stores there: a law of the definitions.
+pub fn pass_stores()
+    ensures { PassStores }
+{}
+
+/// Terms in order are merged into their loops, one by one, where no place is over a limit: a law of the definitions.
+pub fn merge_listed()
+    ensures { MergeListed }
+{}
+
+/// The sums of a loop's nest have the values of its places: a law of the definitions.
+pub fn loops_have_places()
+    ensures { LoopsHavePlaces }
+{}
+
+/// The loops of a good term in order can be named by sums: a law of the definitions.
+pub fn loops_are_good()
+    ensures { LoopsAreGood }
+{}

@@ -1,0 +1,17 @@
+mod Known
+mod Arrays
+mod Stored
+mod Processor
+mod Phases
+mod Every
+mod Apart
+mod Emitted
+mod Lists
+mod Tables
+mod Registers
+mod Fits
+mod Parts
+mod Performs
+mod Plain
+mod Example
+mod Found
