@@ -2,23 +2,22 @@
 use Rattle.std.proofs.Common.{◌≡◌, ℕ, ◌*◌, ◌==◌, Bool, true, false, List, [], ◌∷◌, ◌++◌, refl, sym, subst, if◌then◌else◌}
 use Rattle.std.specs.Prelude.{map}
 use Rattle.matrix_meaning.specs.declared.Request.{Request}
-use Rattle.matrix_meaning.specs.Valid.{IsValid}
 use Rattle.passes.specs.Nest as nests
 use Rattle.passes.specs.Nest.{PlainFactors}
-use Rattle.passes.specs.Loops.{PlainLoop, Looping, begun, looped, HasLoop, loops_in, stored_last, scaled_last}
+use Rattle.passes.specs.Loops.{PlainLoop, Looping, begun, looped, HasLoop, stored_last, scaled_last}
 use Rattle.formula_lower.specs.Merged.{AllHaveLoops, PhasesHaveLoops}
 use Rattle.formula_lower.specs.Shared.{embed, phase_term}
-use Rattle.sigma_lower.specs.Root.{left_core, left_terms, right_path, turned_in, tiled_before, tiled_after, right_terms, in_phases, root_terms}
+use Rattle.sigma_lower.specs.Root.{left_core, left_terms, right_path, turned_in, tiled_before, right_terms, root_terms}
 use Rattle.sigma_lower.specs.Term.{PlainTerm, gath, scat, diag, nest, lowered, lowered_core, lowered_of}
 use Rattle.sigma_lower.specs.Work.{transforming, tiling}
 use Rattle.sigma_lower.proofs.Both.{plain_terms}
 use Rattle.sigma_lower.proofs.RootTerms.{shared_terms}
-use Rattle.steps.specs.Step.{PlainCore, piece, turns, twiddles, thomas_in, thomas_out, PlainStep, step, rule_steps, steps_of}
+use Rattle.steps.specs.Step.{PlainCore, piece, turns, twiddles, thomas_in, thomas_out, PlainStep, rule_steps, steps_of}
 use Rattle.tensor_paths.specs.declared.Tensor.TheVariants.{Blocks}
 use Rattle.tensor_paths.specs.Path.{Path}
 use Rattle.tree_model.specs.declared.tree.Rule.{Rule}
 use Rattle.tree_model.specs.declared.tree.Rule.TheVariants.{Gt, Ct, Split}
-use Rattle.tree_model.specs.Admissible.{IsAdmissible, RootFits}
+use Rattle.tree_model.specs.Admissible.{RootFits}
 use Rattle.tree_model.specs.Breakdown.{Breakdown, leaf, node, size_of}
 use Rattle.tree_model.specs.Cost.{is_kernel, is_plain, node_root}
 
