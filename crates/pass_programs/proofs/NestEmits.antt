@@ -8,17 +8,17 @@ use Rattle.code_laws.specs.Nests.{AreInRange}
 use Rattle.kernel_gen.specs.Kernel.{kernel_of}
 use Rattle.operators.proofs.Lists.{row-of, column-of}
 use Rattle.perm_algebra.specs.Affine.{Sum, constant, value}
-use Rattle.pass_programs.specs.Acts.{load_at, store_at, copy_acts, nest_acts, term_acts, horner_acts}
+use Rattle.pass_actions.specs.Acts.{load_at, store_at, copy_acts, nest_acts, term_acts, horner_acts}
 use Rattle.pass_programs.specs.Conditions.{AreWithin, CanWriteNest}
-use Rattle.pass_programs.specs.Laws.{CanRunNest}
-use Rattle.pass_programs.specs.Machine.{PlainMachine, frame_of, item_of, vectors_of, values_of, loop_counts, lane_step}
+use Rattle.pass_actions.specs.Laws.{CanRunNest}
+use Rattle.pass_actions.specs.Machine.{PlainMachine, frame_of, item_of, vectors_of, values_of, loop_counts, lane_step}
 use Rattle.pass_programs.specs.Statements.{diagonal_of, powers_of, multiplier_number, nest_body, nested, place_at, powers_number, table_number, tables_of_multiplier, tables_of_nest, tables_of_work, term_body, horner_body, with_table, work_body}
 use Rattle.pass_programs.proofs.Coded.{IsCoded, coded}
 use Rattle.pass_programs.proofs.Emits.{Emits, emits-nested}
 use Rattle.pass_programs.proofs.Emitted.{IsLoadedAt, IsStoredAt, emits-made, emits-tile, emits-rows, emits-items, emits-term, emits-horner}
-use Rattle.pass_programs.proofs.Fillings.{working}
-use Rattle.pass_programs.proofs.Framed.{copy-framed, in_counts, item-below, loops-are, of_code}
-use Rattle.pass_programs.proofs.Kernels.{kernel-runs}
+use Rattle.pass_actions.proofs.Fillings.{working}
+use Rattle.pass_actions.proofs.Framed.{copy-framed, in_counts, item-below, loops-are, of_code}
+use Rattle.pass_actions.proofs.Kernels.{kernel-runs}
 use Rattle.pass_programs.proofs.Places.{IsFor, start_of}
 use Rattle.pass_programs.proofs.SharedTables.{Extends, number-stays, number-there, with_table-extends}
 use Rattle.pass_programs.proofs.Variables.{below-limits, length-range, values-append}

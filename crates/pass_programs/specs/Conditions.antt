@@ -5,10 +5,10 @@ use Rattle.icode.specs.Limits.{is_body_within, is_expr_within}
 use Rattle.icode.specs.Machine.{whole_lines}
 use Rattle.icode.specs.Plain.{PlainProgram}
 use Rattle.icode.specs.declared.program.Array.{Array}
-use Rattle.pass_programs.specs.Acts.{pass_acts, pass_registers}
+use Rattle.pass_actions.specs.Acts.{pass_acts, pass_registers}
 use Rattle.pass_programs.specs.Expressions.{factor_at, expr_of}
-use Rattle.pass_programs.specs.Laws.{CanRun}
-use Rattle.pass_programs.specs.Machine.{PlainMachine, PlainFrame, frame_of, loop_counts}
+use Rattle.pass_actions.specs.Laws.{CanRun}
+use Rattle.pass_actions.specs.Machine.{PlainMachine, PlainFrame, frame_of, loop_counts}
 use Rattle.pass_programs.specs.Statements.{pass_body, tables_after}
 use Rattle.passes.specs.Copies.{loops_of}
 use Rattle.passes.specs.Good.{NamesItems}

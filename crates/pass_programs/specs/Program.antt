@@ -3,9 +3,9 @@ use Rattle.std.specs.Prelude.{ℕ, zero, suc, ◌+◌, ◌%◌, ◌==◌, if◌t
 use Rattle.icode.specs.Plain.{PlainBody, PlainProgram, NoStmts}
 use Rattle.icode.specs.declared.program.Array.{Array}
 use Rattle.icode.specs.declared.program.Array.TheVariants.{X, Y, A, B}
-use Rattle.pass_programs.specs.Acts.{pass_registers}
-use Rattle.pass_programs.specs.Machine.{PlainMachine}
-use Rattle.pass_programs.specs.Merged.{PlainMerged}
+use Rattle.pass_actions.specs.Acts.{pass_registers}
+use Rattle.pass_actions.specs.Machine.{PlainMachine}
+use Rattle.pass_actions.specs.Merged.{PlainMerged}
 use Rattle.pass_programs.specs.Statements.{followed_by, pass_body, tables_after}
 use Rattle.passes.specs.Nest.{PlainNest}
 

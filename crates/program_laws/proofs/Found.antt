@@ -5,8 +5,8 @@ use Rattle.std.specs.List.{list_all}
 use Rattle.std.proofs.lemmas.Bool.Decides.{nat_tests}
 use Rattle.perm_algebra.specs.Affine.{Sum, constant, IsSound, levels, parts, peak, top}
 use Rattle.perm_algebra.proofs.AffineLaws.{value-le-top}
-use Rattle.pass_programs.specs.Laws.{FindsFactors}
-use Rattle.pass_programs.proofs.Framed.{in_counts}
+use Rattle.pass_actions.specs.Laws.{FindsFactors}
+use Rattle.pass_actions.proofs.Framed.{in_counts}
 use Rattle.pass_programs.proofs.Variables.{below-limits}
 use Rattle.passes.specs.Copies.{loops_of}
 use Rattle.passes.specs.Good.{AreSound, IsLoose, NamesItems}

@@ -9,11 +9,11 @@ use Rattle.code_laws.specs.Nests.{bodies, loads}
 use Rattle.code_laws.proofs.ByLane.{effect_by_lane, other_register, lists_follow}
 use Rattle.code_laws.proofs.Fills.{Fills, fills-loop, fills-after}
 use Rattle.code_laws.proofs.Stores.{Stored, loads-memory, loads-registers}
-use Rattle.pass_programs.specs.Machine.{PlainMachine}
+use Rattle.pass_actions.specs.Machine.{PlainMachine}
 use Rattle.passes.specs.Nest.{PlainMultiplier, PlainNest}
-use Rattle.pass_programs.specs.Acts.{store_at, finish_acts, with_multiplier}
-use Rattle.pass_programs.proofs.Tasks.{register, Task, IsReady, AreInputs, AreOutputs, ready-after_store, ready-kept}
-use Rattle.pass_programs.proofs.Finish.{finished_lane, finish-fills}
+use Rattle.pass_actions.specs.Acts.{store_at, finish_acts, with_multiplier}
+use Rattle.pass_actions.proofs.Tasks.{register, Task, IsReady, AreInputs, AreOutputs, ready-after_store, ready-kept}
+use Rattle.pass_actions.proofs.Finish.{finished_lane, finish-fills}
 
 -- what is in use before the ends of the items is there
 pub finish-few : (o : Option PlainMultiplier) (used more regs : ℕ) → with_multiplier o used more ≤ regs → used ≤ regs

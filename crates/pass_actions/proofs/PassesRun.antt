@@ -1,9 +1,9 @@
 -- Passes run.
-use Rattle.pass_programs.specs.Laws.{PassesRun}
-use Rattle.pass_programs.proofs.Fitting.{pass-fits}
-use Rattle.pass_programs.proofs.Leaves.{pass-leaves}
-use Rattle.pass_programs.proofs.PassCounts.{counts-are, stores-are}
-use Rattle.pass_programs.proofs.Short.{pass-short}
+use Rattle.pass_actions.specs.Laws.{PassesRun}
+use Rattle.pass_actions.proofs.Fitting.{pass-fits}
+use Rattle.pass_actions.proofs.Leaves.{pass-leaves}
+use Rattle.pass_actions.proofs.PassCounts.{counts-are, stores-are}
+use Rattle.pass_actions.proofs.Short.{pass-short}
 
 pub passes_run : PassesRun
 passes_run c zs can =

@@ -4,11 +4,11 @@ use Rattle.icode.specs.Machine.{Local}
 use Rattle.code_laws.specs.Nests.{loads}
 use Rattle.code_laws.proofs.Fills.{Fills, fills-loop, fills-after}
 use Rattle.code_laws.proofs.Stores.{Stored, loads-memory}
-use Rattle.pass_programs.specs.Acts.{store_at, finish_acts, items_acts, load_at, with_multiplier}
-use Rattle.pass_programs.specs.Machine.{PlainMachine}
-use Rattle.pass_programs.proofs.Finish.{finished_lane, finish-fills}
-use Rattle.pass_programs.proofs.StraightCopies.{CopyWords, IsLoaded, loads-load, holds-after_product, finish-few}
-use Rattle.pass_programs.proofs.Tasks.{Task, IsReady, AreInputs, AreOutputs, ready-after_store}
+use Rattle.pass_actions.specs.Acts.{store_at, finish_acts, items_acts, load_at, with_multiplier}
+use Rattle.pass_actions.specs.Machine.{PlainMachine}
+use Rattle.pass_actions.proofs.Finish.{finished_lane, finish-fills}
+use Rattle.pass_actions.proofs.StraightCopies.{CopyWords, IsLoaded, loads-load, holds-after_product, finish-few}
+use Rattle.pass_actions.proofs.Tasks.{Task, IsReady, AreInputs, AreOutputs, ready-after_store}
 use Rattle.passes.specs.Nest.{PlainNest}
 
 module _ (c : PlainMachine) (p : PlainNest) (n regs source target q : ℕ) (t : Task) (vs : List ℕ) (some : 0 < c.lanes) (few : with_multiplier p.multiplier 1 1 ≤ regs)

@@ -13,18 +13,18 @@ use Rattle.operators.proofs.Lists.{at-list_below, list_below-same, place_below}
 use Rattle.operators.proofs.Places.{turn_at}
 use Rattle.operators.proofs.Sums.{sum_below-same}
 use Rattle.ring_mod.specs.Residue.{power_mod}
-use Rattle.pass_programs.specs.Acts.{load_at, copy_acts, with_multiplier, nest_registers, pass_registers}
-use Rattle.pass_programs.specs.Laws.{AreApart, CanRun}
-use Rattle.pass_programs.specs.Machine.{PlainMachine, vectors_of}
-use Rattle.pass_programs.proofs.Copies.{facts, task_of, items, on, input-word, output-word, input-is, input-below, output-is}
-use Rattle.pass_programs.proofs.Horner.{scaled-sum}
-use Rattle.pass_programs.proofs.Items.{items-fill}
-use Rattle.pass_programs.proofs.KernelCopies.{value_of, kernel-computes}
-use Rattle.pass_programs.proofs.Kernels.{kernel-runs}
-use Rattle.pass_programs.proofs.Rows.{rows-fill, row_sum, scaled_sum, entry_acts, scaled_acts, terms-turn, scaled-turn}
-use Rattle.pass_programs.proofs.StraightCopies.{CopyWords, body-fills, finish-few}
-use Rattle.pass_programs.proofs.Tasks.{Task, IsReady}
-use Rattle.pass_programs.proofs.TileCopies.{turned, tile-computes}
+use Rattle.pass_actions.specs.Acts.{load_at, copy_acts, with_multiplier, nest_registers, pass_registers}
+use Rattle.pass_actions.specs.Laws.{AreApart, CanRun}
+use Rattle.pass_actions.specs.Machine.{PlainMachine, vectors_of}
+use Rattle.pass_actions.proofs.Copies.{facts, task_of, items, on, input-word, output-word, input-is, input-below, output-is}
+use Rattle.pass_actions.proofs.Horner.{scaled-sum}
+use Rattle.pass_actions.proofs.Items.{items-fill}
+use Rattle.pass_actions.proofs.KernelCopies.{value_of, kernel-computes}
+use Rattle.pass_actions.proofs.Kernels.{kernel-runs}
+use Rattle.pass_actions.proofs.Rows.{rows-fill, row_sum, scaled_sum, entry_acts, scaled_acts, terms-turn, scaled-turn}
+use Rattle.pass_actions.proofs.StraightCopies.{CopyWords, body-fills, finish-few}
+use Rattle.pass_actions.proofs.Tasks.{Task, IsReady}
+use Rattle.pass_actions.proofs.TileCopies.{turned, tile-computes}
 use Rattle.passes.specs.Nest.{PlainNest, load_place}
 use Rattle.passes.specs.Work.{PlainWork, kernel, rows, horner, tile, copy}
 use Rattle.tree_model.specs.Breakdown.{Breakdown, size_of}

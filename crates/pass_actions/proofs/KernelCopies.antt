@@ -9,12 +9,12 @@ use Rattle.kernel_gen.specs.Making.{Made}
 use Rattle.kernel_gen.proofs.Below.{AllBelow, AllBelow-at, at-AllBelow}
 use Rattle.kernel_gen.proofs.Kernels.{firsts, map-firsts}
 use Rattle.kernel_gen.proofs.Pieces.{DoesAt, AreArithmetic-more}
-use Rattle.pass_programs.specs.Machine.{PlainMachine}
+use Rattle.pass_actions.specs.Machine.{PlainMachine}
 use Rattle.operators.specs.Operator.{Operator}
 use Rattle.operators.specs.Sum.{list_below}
 use Rattle.operators.proofs.Lists.{length-list_below, at-list_below, list_below-same}
-use Rattle.pass_programs.proofs.Tasks.{Task, ready-kept}
-use Rattle.pass_programs.proofs.StraightCopies.{Holds, IsLoaded, Computes}
+use Rattle.pass_actions.proofs.Tasks.{Task, ready-kept}
+use Rattle.pass_actions.proofs.StraightCopies.{Holds, IsLoaded, Computes}
 
 -- the output number k on a lane, where the code does f
 abbrev pub value_of : Task → ℕ → (ℕ → ℕ) → Operator → ℕ → ℕ → ℕ

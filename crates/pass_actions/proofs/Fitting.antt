@@ -12,15 +12,15 @@ use Rattle.kernel_gen.specs.Kernel.{kernel_of}
 use Rattle.kernel_gen.proofs.Below.{at-AllBelow}
 use Rattle.operators.specs.Sum.{list_below}
 use Rattle.ring_mod.specs.Residue.{power_mod}
-use Rattle.pass_programs.specs.Acts.{load_at, store_at, factors_at, finish_acts, rows_acts, items_acts, term_acts, horner_acts, copy_acts, nest_acts, pass_acts, with_multiplier, nest_registers, pass_registers}
-use Rattle.pass_programs.specs.Laws.{CanRun, CanRunNest, IsFit}
-use Rattle.pass_programs.specs.Machine.{PlainMachine, loop_counts}
-use Rattle.pass_programs.proofs.Copies.{nest-can}
-use Rattle.pass_programs.proofs.Fillings.{working, registers-le}
-use Rattle.pass_programs.proofs.KernelActions.{AreOperations, tree-operates, lane_residues, power_below}
-use Rattle.pass_programs.proofs.Kernels.{kernel-runs}
-use Rattle.pass_programs.proofs.Rows.{row_acts}
-use Rattle.pass_programs.proofs.StraightCopies.{ends_of, copy_body, finish-few}
+use Rattle.pass_actions.specs.Acts.{load_at, store_at, factors_at, finish_acts, rows_acts, items_acts, term_acts, horner_acts, copy_acts, nest_acts, pass_acts, with_multiplier, nest_registers, pass_registers}
+use Rattle.pass_actions.specs.Laws.{CanRun, CanRunNest, IsFit}
+use Rattle.pass_actions.specs.Machine.{PlainMachine, loop_counts}
+use Rattle.pass_actions.proofs.Copies.{nest-can}
+use Rattle.pass_actions.proofs.Fillings.{working, registers-le}
+use Rattle.pass_actions.proofs.KernelActions.{AreOperations, tree-operates, lane_residues, power_below}
+use Rattle.pass_actions.proofs.Kernels.{kernel-runs}
+use Rattle.pass_actions.proofs.Rows.{row_acts}
+use Rattle.pass_actions.proofs.StraightCopies.{ends_of, copy_body, finish-few}
 use Rattle.passes.specs.Nest.{PlainMultiplier, PlainNest, factor_at}
 use Rattle.passes.specs.Work.{PlainWork, kernel, rows, horner, tile, copy}
 use Rattle.tree_model.specs.Breakdown.{size_of}

@@ -9,13 +9,13 @@ use Rattle.icode.specs.Machine.{Local}
 use Rattle.operators.specs.Sum.{list_below}
 use Rattle.operators.proofs.Lists.{at-list_below, factor_positive, place_below}
 use Rattle.operators.proofs.Places.{turn_at}
-use Rattle.pass_programs.specs.Acts.{load_at, store_at, pass_registers}
-use Rattle.pass_programs.specs.Laws.{AreApart, CanBegin, CanRun, CanRunNest, IsLoadedBy, IsStoredBy}
-use Rattle.pass_programs.specs.Machine.{PlainMachine, vectors_of, item_of, values_of}
-use Rattle.pass_programs.proofs.Finish.{finished, finished_lane}
-use Rattle.pass_programs.proofs.Framed.{copy-framed, item-below}
-use Rattle.pass_programs.proofs.Once.{stored-once}
-use Rattle.pass_programs.proofs.Tasks.{Task, IsReady}
+use Rattle.pass_actions.specs.Acts.{load_at, store_at, pass_registers}
+use Rattle.pass_actions.specs.Laws.{AreApart, CanBegin, CanRun, CanRunNest, IsLoadedBy, IsStoredBy}
+use Rattle.pass_actions.specs.Machine.{PlainMachine, vectors_of, item_of, values_of}
+use Rattle.pass_actions.proofs.Finish.{finished, finished_lane}
+use Rattle.pass_actions.proofs.Framed.{copy-framed, item-below}
+use Rattle.pass_actions.proofs.Once.{stored-once}
+use Rattle.pass_actions.proofs.Tasks.{Task, IsReady}
 use Rattle.passes.specs.Copies.{loops_of, all_stored}
 use Rattle.passes.specs.Nest.{PlainMultiplier, PlainNest, load_place, store_place, copies_of, multiplied_on, nests_on}
 use Rattle.passes.specs.Work.{PlainWork, kernel, rows, horner, tile, copy, work_size, work_on}

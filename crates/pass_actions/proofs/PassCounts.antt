@@ -9,15 +9,15 @@ use Rattle.icode.specs.Machine.{counts_of}
 use Rattle.code_laws.specs.Nests.{nest}
 use Rattle.kernel_gen.specs.Kernel.{kernel_of, kernel_cost}
 use Rattle.operators.specs.Sum.{list_below}
-use Rattle.pass_programs.specs.Acts.{load_at, copy_acts, nest_acts, pass_acts, term_acts, horner_acts}
-use Rattle.pass_programs.specs.Laws.{CanRun, CanRunNest, CanWork, IsFramed}
-use Rattle.pass_programs.specs.Machine.{PlainMachine}
-use Rattle.pass_programs.specs.Merged.{work_cost, work_loads, pass_cost, pass_loads}
-use Rattle.pass_programs.proofs.Counting.{counts, counts-same, products_of, counts-append, counts-nest, counts-body, counts-rows, counts-items}
-use Rattle.pass_programs.proofs.Fillings.{working}
-use Rattle.pass_programs.proofs.Framed.{loops-are, copies_beside, copies-framed}
-use Rattle.pass_programs.proofs.KernelActions.{tree-operates, counts-operations}
-use Rattle.pass_programs.proofs.Kernels.{kernel-runs}
+use Rattle.pass_actions.specs.Acts.{load_at, copy_acts, nest_acts, pass_acts, term_acts, horner_acts}
+use Rattle.pass_actions.specs.Laws.{CanRun, CanRunNest, CanWork, IsFramed}
+use Rattle.pass_actions.specs.Machine.{PlainMachine}
+use Rattle.pass_actions.specs.Merged.{work_cost, work_loads, pass_cost, pass_loads}
+use Rattle.pass_actions.proofs.Counting.{counts, counts-same, products_of, counts-append, counts-nest, counts-body, counts-rows, counts-items}
+use Rattle.pass_actions.proofs.Fillings.{working}
+use Rattle.pass_actions.proofs.Framed.{loops-are, copies_beside, copies-framed}
+use Rattle.pass_actions.proofs.KernelActions.{tree-operates, counts-operations}
+use Rattle.pass_actions.proofs.Kernels.{kernel-runs}
 use Rattle.passes.specs.Copies.{AreInside}
 use Rattle.passes.specs.Counts.{copies_in, multiplier_cost, nest_cost}
 use Rattle.passes.specs.Nest.{PlainMultiplier, PlainNest, copies_of}

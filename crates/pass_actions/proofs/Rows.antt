@@ -11,15 +11,15 @@ use Rattle.code_laws.specs.Nests.{bodies}
 use Rattle.code_laws.proofs.ByLane.{effect_by_lane, lists_follow}
 use Rattle.code_laws.proofs.Fills.{Fills, fills-after, fills-loop}
 use Rattle.code_laws.proofs.Stores.{Stored, load_by_lane, length-registers}
-use Rattle.pass_programs.specs.Machine.{PlainMachine}
+use Rattle.pass_actions.specs.Machine.{PlainMachine}
 use Rattle.operators.specs.Sum.{sum_below}
 use Rattle.ring_mod.proofs.Congruence.{same-add}
 use Rattle.passes.specs.Nest.{PlainNest}
-use Rattle.pass_programs.specs.Acts.{store_at, finish_acts, rows_acts, with_multiplier}
-use Rattle.pass_programs.proofs.Factors.{factor_of, factor_each}
-use Rattle.pass_programs.proofs.Tasks.{register, Task, IsReady, AreInputs, AreOutputs, ready-after_store, ready-kept}
-use Rattle.pass_programs.proofs.Finish.{finished_lane, finish-fills}
-use Rattle.pass_programs.proofs.StraightCopies.{CopyWords}
+use Rattle.pass_actions.specs.Acts.{store_at, finish_acts, rows_acts, with_multiplier}
+use Rattle.pass_actions.proofs.Factors.{factor_of, factor_each}
+use Rattle.pass_actions.proofs.Tasks.{register, Task, IsReady, AreInputs, AreOutputs, ready-after_store, ready-kept}
+use Rattle.pass_actions.proofs.Finish.{finished_lane, finish-fills}
+use Rattle.pass_actions.proofs.StraightCopies.{CopyWords}
 
 -- an item, times an entry on each lane, is added to register 0
 abbrev pub entry_acts : ℕ → (ℕ → ℕ) → (ℕ → ℕ) → ℕ → List Action

@@ -5,8 +5,8 @@ use Rattle.std.specs.Prelude.{◌==◌, slice_index}
 use Rattle.std.proofs.lemmas.Bool.Decides.{nat_tests}
 use Rattle.code_laws.specs.Nests.{AreInRange}
 use Rattle.operators.proofs.Lists.{factor_positive, place_below}
-use Rattle.pass_programs.specs.Laws.{CanWork, IsFramed, IsCopyOf}
-use Rattle.pass_programs.specs.Machine.{PlainMachine, one_if_several, if_several, first_loop, framed_lanes, loop_counts, vectors_of, item_of, values_of}
+use Rattle.pass_actions.specs.Laws.{CanWork, IsFramed, IsCopyOf}
+use Rattle.pass_actions.specs.Machine.{PlainMachine, one_if_several, if_several, first_loop, framed_lanes, loop_counts, vectors_of, item_of, values_of}
 use Rattle.passes.specs.Copies.{loops_of}
 use Rattle.passes.specs.Counts.{copies_in}
 use Rattle.passes.specs.Nest.{PlainNest}

@@ -6,10 +6,10 @@ use Rattle.icode.specs.declared.action.Action.TheVariants.{Load, Store, Zero, Ad
 use Rattle.icode.specs.declared.action.Counts.{Counts}
 use Rattle.icode.specs.Machine.{counted, counts_of}
 use Rattle.code_laws.specs.Nests.{bodies, nest, loads}
-use Rattle.pass_programs.specs.Acts.{finish_acts, items_acts, load_at, rows_acts}
-use Rattle.pass_programs.specs.Machine.{PlainMachine}
-use Rattle.pass_programs.proofs.Rows.{row_acts}
-use Rattle.pass_programs.proofs.StraightCopies.{ends_of, copy_body}
+use Rattle.pass_actions.specs.Acts.{finish_acts, items_acts, load_at, rows_acts}
+use Rattle.pass_actions.specs.Machine.{PlainMachine}
+use Rattle.pass_actions.proofs.Rows.{row_acts}
+use Rattle.pass_actions.proofs.StraightCopies.{ends_of, copy_body}
 use Rattle.passes.specs.Counts.{copies_in}
 use Rattle.passes.specs.Nest.{PlainMultiplier, PlainNest}
 

@@ -10,17 +10,17 @@ use Rattle.code_laws.specs.Lanes.{operations}
 use Rattle.code_laws.specs.Nests.{bodies, nest, loads}
 use Rattle.kernel_gen.specs.Kernel.{kernel_of}
 use Rattle.operators.specs.Sum.{list_below}
-use Rattle.pass_programs.specs.Acts.{load_at, finish_acts, rows_acts, items_acts, term_acts, horner_acts, copy_acts, nest_acts, pass_acts}
-use Rattle.pass_programs.specs.Laws.{CanRun, CanRunNest, CanWork}
-use Rattle.pass_programs.specs.Machine.{PlainMachine, loop_counts}
-use Rattle.pass_programs.specs.Merged.{pass_cost, pass_loads}
-use Rattle.pass_programs.proofs.Copies.{nest-can}
-use Rattle.pass_programs.proofs.Counting.{counts-append}
-use Rattle.pass_programs.proofs.Fillings.{working}
-use Rattle.pass_programs.proofs.KernelActions.{AreOperations, tree-operates, counts-operations, length-operations}
-use Rattle.pass_programs.proofs.PassCounts.{counts-are, stores-are}
-use Rattle.pass_programs.proofs.Rows.{row_acts}
-use Rattle.pass_programs.proofs.StraightCopies.{ends_of, copy_body}
+use Rattle.pass_actions.specs.Acts.{load_at, finish_acts, rows_acts, items_acts, term_acts, horner_acts, copy_acts, nest_acts, pass_acts}
+use Rattle.pass_actions.specs.Laws.{CanRun, CanRunNest, CanWork}
+use Rattle.pass_actions.specs.Machine.{PlainMachine, loop_counts}
+use Rattle.pass_actions.specs.Merged.{pass_cost, pass_loads}
+use Rattle.pass_actions.proofs.Copies.{nest-can}
+use Rattle.pass_actions.proofs.Counting.{counts-append}
+use Rattle.pass_actions.proofs.Fillings.{working}
+use Rattle.pass_actions.proofs.KernelActions.{AreOperations, tree-operates, counts-operations, length-operations}
+use Rattle.pass_actions.proofs.PassCounts.{counts-are, stores-are}
+use Rattle.pass_actions.proofs.Rows.{row_acts}
+use Rattle.pass_actions.proofs.StraightCopies.{ends_of, copy_body}
 use Rattle.passes.specs.Nest.{PlainMultiplier, PlainNest}
 use Rattle.passes.specs.Work.{PlainWork, kernel, rows, horner, tile, copy}
 use Rattle.tree_model.specs.Breakdown.{size_of}

@@ -5,14 +5,14 @@ use Rattle.icode.proofs.Lines.{Contains-head, Contains-tail, Contains-nil}
 use Rattle.icode.specs.Machine.{Local}
 use Rattle.code_laws.specs.Nests.{AreInRange}
 use Rattle.code_laws.proofs.Fills.{Fills, fills-none, fills-append, fills-fewer, fills-nest}
-use Rattle.pass_programs.specs.Acts.{store_at, copy_acts, nest_acts, pass_acts}
-use Rattle.pass_programs.specs.Laws.{AreApart, CanBegin, CanRun, IsStoredBy, Leaves}
-use Rattle.pass_programs.specs.Machine.{PlainMachine, loop_counts, vectors_of, values_of}
-use Rattle.pass_programs.proofs.Copies.{nest-can, ready-at}
-use Rattle.pass_programs.proofs.Fillings.{regs, whole, copies-fill}
-use Rattle.pass_programs.proofs.Framed.{IsOnLane, copy-on_lane, in_code, of_code}
-use Rattle.pass_programs.proofs.StraightCopies.{CopyWords}
-use Rattle.pass_programs.proofs.Tasks.{IsReady}
+use Rattle.pass_actions.specs.Acts.{store_at, copy_acts, nest_acts, pass_acts}
+use Rattle.pass_actions.specs.Laws.{AreApart, CanBegin, CanRun, IsStoredBy, Leaves}
+use Rattle.pass_actions.specs.Machine.{PlainMachine, loop_counts, vectors_of, values_of}
+use Rattle.pass_actions.proofs.Copies.{nest-can, ready-at}
+use Rattle.pass_actions.proofs.Fillings.{regs, whole, copies-fill}
+use Rattle.pass_actions.proofs.Framed.{IsOnLane, copy-on_lane, in_code, of_code}
+use Rattle.pass_actions.proofs.StraightCopies.{CopyWords}
+use Rattle.pass_actions.proofs.Tasks.{IsReady}
 use Rattle.passes.specs.Copies.{loops_of}
 use Rattle.passes.specs.Nest.{PlainNest, store_place, nests_on}
 use Rattle.tensor_paths.specs.Path as paths

@@ -6,7 +6,7 @@ use Rattle.operators.proofs.Sums.{sum_below-same, sum_below-append, mul-sum_belo
 use Rattle.ring_mod.specs.Residue.{power_mod}
 use Rattle.ring_mod.proofs.Congruence.{same-add, same-mul}
 use Rattle.ring_mod.proofs.Powers.{power_mod-zero, power_mod-add}
-use Rattle.pass_programs.proofs.Rows.{scaled_sum}
+use Rattle.pass_actions.proofs.Rows.{scaled_sum}
 
 -- ---- sums backwards
 

@@ -9,9 +9,9 @@ use Rattle.matrix_meaning.specs.declared.Kind.{Kind}
 use Rattle.matrix_meaning.specs.declared.Kind.TheVariants.{Dft, Wht}
 use Rattle.matrix_meaning.specs.Kind.{entry_of, transform}
 use Rattle.operators.proofs.Lists.{length-list_below, at-list_below}
-use Rattle.pass_programs.specs.Laws.{IsRootOf}
-use Rattle.pass_programs.proofs.KernelCopies.{DoesOnLanes}
-use Rattle.pass_programs.specs.Machine.{PlainMachine}
+use Rattle.pass_actions.specs.Laws.{IsRootOf}
+use Rattle.pass_actions.proofs.KernelCopies.{DoesOnLanes}
+use Rattle.pass_actions.specs.Machine.{PlainMachine}
 use Rattle.ring_mod.specs.Residue.{power_mod}
 use Rattle.ring_mod.proofs.Powers.{power_mod-zero}
 use Rattle.tree_model.specs.Breakdown.{Breakdown, leaf, node, size_of, IsWellFormed}

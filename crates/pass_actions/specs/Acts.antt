@@ -6,7 +6,7 @@ use Rattle.icode.specs.declared.action.Action.TheVariants.{Load, Store, Zero, Ad
 use Rattle.code_laws.specs.Nests.{bodies, nest, loads}
 use Rattle.kernel_gen.specs.Kernel.{kernel_of}
 use Rattle.kernel_gen.specs.Making.{Made}
-use Rattle.pass_programs.specs.Machine.{PlainMachine, values_of, loop_counts, item_of}
+use Rattle.pass_actions.specs.Machine.{PlainMachine, values_of, loop_counts, item_of}
 use Rattle.passes.specs.Nest.{PlainMultiplier, PlainNest, factor_at, load_place, store_place}
 use Rattle.passes.specs.Work.{PlainWork, kernel, rows, horner, tile, copy, work_size}
 use Rattle.ring_mod.specs.Residue.{power_mod}

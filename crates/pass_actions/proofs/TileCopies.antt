@@ -2,9 +2,9 @@
 use Rattle.std.proofs.Common.{◌≡◌, ℕ, ◌+◌, ◌<◌, ◌≤◌, arith, refl, ap, ◌∙◌, [], ◌∷◌}
 use Rattle.icode.specs.declared.action.Action.TheVariants.{Tile}
 use Rattle.code_laws.proofs.Tiles.{tile_by_lane}
-use Rattle.pass_programs.specs.Machine.{PlainMachine}
-use Rattle.pass_programs.proofs.Tasks.{Task, register, ready-kept}
-use Rattle.pass_programs.proofs.StraightCopies.{Computes}
+use Rattle.pass_actions.specs.Machine.{PlainMachine}
+use Rattle.pass_actions.proofs.Tasks.{Task, register, ready-kept}
+use Rattle.pass_actions.proofs.StraightCopies.{Computes}
 
 module _ (c : PlainMachine) (regs : ℕ) (t : Task) (from : ℕ → ℕ) (some : 0 < c.lanes) (room : c.lanes + c.lanes ≤ regs) where
   -- lane l of output k is lane k of input l

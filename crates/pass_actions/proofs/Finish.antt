@@ -8,12 +8,12 @@ use Rattle.code_laws.specs.Lanes.{Registers, lane_of}
 use Rattle.code_laws.proofs.ByLane.{effect_by_lane, this_register}
 use Rattle.code_laws.proofs.Fills.{Fills, fills-after}
 use Rattle.code_laws.proofs.Stores.{Stored, store_fills}
-use Rattle.pass_programs.specs.Machine.{PlainMachine, item_of, values_of}
+use Rattle.pass_actions.specs.Machine.{PlainMachine, item_of, values_of}
 use Rattle.ring_mod.specs.Residue.{product_mod}
 use Rattle.passes.specs.Nest.{PlainMultiplier, PlainNest, factor_at, store_place}
-use Rattle.pass_programs.specs.Acts.{store_at, finish_acts, with_multiplier}
-use Rattle.pass_programs.proofs.Factors.{factor_of, factor_each}
-use Rattle.pass_programs.proofs.Tasks.{register, Task, IsReady, AreOutputs}
+use Rattle.pass_actions.specs.Acts.{store_at, finish_acts, with_multiplier}
+use Rattle.pass_actions.proofs.Factors.{factor_of, factor_each}
+use Rattle.pass_actions.proofs.Tasks.{register, Task, IsReady, AreOutputs}
 
 -- what an item of a copy becomes
 abbrev pub finished : PlainMachine → PlainNest → Option PlainMultiplier → List ℕ → ℕ → ℕ → ℕ
