@@ -11,14 +11,14 @@ use Rattle.operators.proofs.Lists.{at-list_below, factor_positive, place_below}
 use Rattle.operators.proofs.Places.{turn_at}
 use Rattle.pass_actions.specs.Acts.{load_at, store_at, pass_registers}
 use Rattle.pass_actions.specs.Laws.{AreApart, CanBegin, CanRun, CanRunNest, IsLoadedBy, IsStoredBy}
-use Rattle.pass_actions.specs.Machine.{PlainMachine, vectors_of, item_of, values_of}
+use Rattle.pass_actions.specs.Machine.{PlainMachine, item_of, values_of}
 use Rattle.pass_actions.proofs.Finish.{finished, finished_lane}
 use Rattle.pass_actions.proofs.Framed.{copy-framed, item-below}
 use Rattle.pass_actions.proofs.Once.{stored-once}
 use Rattle.pass_actions.proofs.Tasks.{Task, IsReady}
 use Rattle.passes.specs.Copies.{loops_of, all_stored}
 use Rattle.passes.specs.Nest.{PlainMultiplier, PlainNest, load_place, store_place, copies_of, multiplied_on, nests_on}
-use Rattle.passes.specs.Work.{PlainWork, kernel, rows, horner, tile, copy, work_size, work_on}
+use Rattle.passes.specs.Work.{PlainWork, kernel, rows, horner, tile, copy, work_size, work_on, vectors_of}
 use Rattle.tensor_paths.specs.Path as paths
 use Rattle.tree_model.specs.Breakdown.{size_of}
 

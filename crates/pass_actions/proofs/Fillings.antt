@@ -15,7 +15,7 @@ use Rattle.operators.proofs.Sums.{sum_below-same}
 use Rattle.ring_mod.specs.Residue.{power_mod}
 use Rattle.pass_actions.specs.Acts.{load_at, copy_acts, with_multiplier, nest_registers, pass_registers}
 use Rattle.pass_actions.specs.Laws.{AreApart, CanRun}
-use Rattle.pass_actions.specs.Machine.{PlainMachine, vectors_of}
+use Rattle.pass_actions.specs.Machine.{PlainMachine}
 use Rattle.pass_actions.proofs.Copies.{facts, task_of, items, on, input-word, output-word, input-is, input-below, output-is}
 use Rattle.pass_actions.proofs.Horner.{scaled-sum}
 use Rattle.pass_actions.proofs.Items.{items-fill}
@@ -26,7 +26,7 @@ use Rattle.pass_actions.proofs.StraightCopies.{CopyWords, body-fills, finish-few
 use Rattle.pass_actions.proofs.Tasks.{Task, IsReady}
 use Rattle.pass_actions.proofs.TileCopies.{turned, tile-computes}
 use Rattle.passes.specs.Nest.{PlainNest, load_place}
-use Rattle.passes.specs.Work.{PlainWork, kernel, rows, horner, tile, copy}
+use Rattle.passes.specs.Work.{PlainWork, kernel, rows, horner, tile, copy, vectors_of}
 use Rattle.tree_model.specs.Breakdown.{Breakdown, size_of}
 
 -- the same loops round other work

@@ -6,11 +6,11 @@ use Rattle.std.proofs.lemmas.Bool.Decides.{nat_tests}
 use Rattle.code_laws.specs.Nests.{AreInRange}
 use Rattle.operators.proofs.Lists.{factor_positive, place_below}
 use Rattle.pass_actions.specs.Laws.{CanWork, IsFramed, IsCopyOf}
-use Rattle.pass_actions.specs.Machine.{PlainMachine, one_if_several, if_several, first_loop, framed_lanes, loop_counts, vectors_of, item_of, values_of}
+use Rattle.pass_actions.specs.Machine.{PlainMachine, one_if_several, if_several, first_loop, framed_lanes, loop_counts, item_of, values_of}
 use Rattle.passes.specs.Copies.{loops_of}
 use Rattle.passes.specs.Counts.{copies_in}
 use Rattle.passes.specs.Nest.{PlainNest}
-use Rattle.passes.specs.Work.{PlainWork, kernel, rows, horner, tile, copy, work_size}
+use Rattle.passes.specs.Work.{PlainWork, kernel, rows, horner, tile, copy, work_size, vectors_of}
 use Rattle.tensor_paths.specs.Path as paths
 
 -- what holds of one and of several

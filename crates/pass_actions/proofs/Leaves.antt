@@ -7,7 +7,7 @@ use Rattle.code_laws.specs.Nests.{AreInRange}
 use Rattle.code_laws.proofs.Fills.{Fills, fills-none, fills-append, fills-fewer, fills-nest}
 use Rattle.pass_actions.specs.Acts.{store_at, copy_acts, nest_acts, pass_acts}
 use Rattle.pass_actions.specs.Laws.{AreApart, CanBegin, CanRun, IsStoredBy, Leaves}
-use Rattle.pass_actions.specs.Machine.{PlainMachine, loop_counts, vectors_of, values_of}
+use Rattle.pass_actions.specs.Machine.{PlainMachine, loop_counts, values_of}
 use Rattle.pass_actions.proofs.Copies.{nest-can, ready-at}
 use Rattle.pass_actions.proofs.Fillings.{regs, whole, copies-fill}
 use Rattle.pass_actions.proofs.Framed.{IsOnLane, copy-on_lane, in_code, of_code}
@@ -15,6 +15,7 @@ use Rattle.pass_actions.proofs.StraightCopies.{CopyWords}
 use Rattle.pass_actions.proofs.Tasks.{IsReady}
 use Rattle.passes.specs.Copies.{loops_of}
 use Rattle.passes.specs.Nest.{PlainNest, store_place, nests_on}
+use Rattle.passes.specs.Work.{vectors_of}
 use Rattle.tensor_paths.specs.Path as paths
 
 module _ (c : PlainMachine) (zs : List PlainNest) (can : CanRun c zs) (source target q : ℕ) (x : List ℕ) (apart : AreApart c.size source target) (part : q < c.procs) (small : (i : ℕ) → i < c.size → slice_index x i < c.modulus) where

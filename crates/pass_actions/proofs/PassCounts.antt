@@ -12,7 +12,7 @@ use Rattle.operators.specs.Sum.{list_below}
 use Rattle.pass_actions.specs.Acts.{load_at, copy_acts, nest_acts, pass_acts, term_acts, horner_acts}
 use Rattle.pass_actions.specs.Laws.{CanRun, CanRunNest, CanWork, IsFramed}
 use Rattle.pass_actions.specs.Machine.{PlainMachine}
-use Rattle.pass_actions.specs.Merged.{work_cost, work_loads, pass_cost, pass_loads}
+use Rattle.pass_actions.specs.Costs.{work_cost, work_loads, pass_cost, pass_loads}
 use Rattle.pass_actions.proofs.Counting.{counts, counts-same, products_of, counts-append, counts-nest, counts-body, counts-rows, counts-items}
 use Rattle.pass_actions.proofs.Fillings.{working}
 use Rattle.pass_actions.proofs.Framed.{loops-are, copies_beside, copies-framed}

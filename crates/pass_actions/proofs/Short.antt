@@ -13,7 +13,7 @@ use Rattle.operators.specs.Sum.{list_below}
 use Rattle.pass_actions.specs.Acts.{load_at, finish_acts, rows_acts, items_acts, term_acts, horner_acts, copy_acts, nest_acts, pass_acts}
 use Rattle.pass_actions.specs.Laws.{CanRun, CanRunNest, CanWork}
 use Rattle.pass_actions.specs.Machine.{PlainMachine, loop_counts}
-use Rattle.pass_actions.specs.Merged.{pass_cost, pass_loads}
+use Rattle.pass_actions.specs.Costs.{pass_cost, pass_loads}
 use Rattle.pass_actions.proofs.Copies.{nest-can}
 use Rattle.pass_actions.proofs.Counting.{counts-append}
 use Rattle.pass_actions.proofs.Fillings.{working}

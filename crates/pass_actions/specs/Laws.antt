@@ -7,11 +7,11 @@ use Rattle.matrix_meaning.specs.declared.Kind.{Kind}
 use Rattle.matrix_meaning.specs.declared.Kind.TheVariants.{Dft, Wht}
 use Rattle.ring_mod.specs.Residue.{power_mod}
 use Rattle.pass_actions.specs.Acts.{pass_acts, pass_registers}
-use Rattle.pass_actions.specs.Machine.{PlainMachine, if_several, values_of, vectors_of, item_of, lane_step, framed_lanes}
-use Rattle.pass_actions.specs.Merged.{pass_cost, pass_loads}
+use Rattle.pass_actions.specs.Machine.{PlainMachine, if_several, values_of, item_of, lane_step, framed_lanes}
+use Rattle.pass_actions.specs.Costs.{pass_cost, pass_loads}
 use Rattle.passes.specs.Copies.{loops_of, StoreOnce, IsInside}
 use Rattle.passes.specs.Nest.{PlainMultiplier, PlainNest, factor_at, factor_count, copies_of, load_place, store_place, nests_on}
-use Rattle.passes.specs.Work.{PlainWork, kernel, rows, horner, tile, copy, work_size}
+use Rattle.passes.specs.Work.{PlainWork, kernel, rows, horner, tile, copy, work_size, vectors_of}
 use Rattle.tensor_paths.specs.Path.{AreInRange}
 use Rattle.tree_model.specs.Breakdown.{Breakdown, leaf, node, size_of, IsWellFormed}
 

@@ -1,4 +1,4 @@
 pub mod Machine
 pub mod Acts
-pub mod Merged
+pub mod Costs
 pub mod Laws

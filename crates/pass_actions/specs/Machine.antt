@@ -1,7 +1,7 @@
 -- The machine that passes are made for, and how its processors and lanes share a nest.
 use Rattle.std.specs.Prelude.{ℕ, ◌+◌, ◌*◌, ◌==◌, Bool, not, List, [], ◌∷◌, ◌++◌, drop, if◌then◌else◌}
 use Rattle.passes.specs.Nest.{PlainNest}
-use Rattle.passes.specs.Work.{PlainWork, tile, work_size}
+use Rattle.passes.specs.Work.{PlainWork, tile}
 
 -- so many words in an array, residues of this modulus, so many processors, words of a line and lanes of a register
 pub record PlainMachine : Type 0 where
@@ -47,11 +47,6 @@ framed_lanes h w = if_several h.lanes h.lanes
 -- how often each loop runs on one processor, the outermost first
 abbrev pub loop_counts : PlainMachine → PlainNest → List ℕ
 loop_counts h z = drop (first_loop h z.work) z.counts
-
--- how many registers the items of a copy fill
-abbrev pub vectors_of : PlainWork → ℕ
-vectors_of (tile lanes) = lanes
-vectors_of w = work_size w
 
 -- which item of its copy stands on a lane of the register number k
 abbrev pub item_of : PlainWork → ℕ → ℕ → ℕ

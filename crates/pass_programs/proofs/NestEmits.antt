@@ -11,7 +11,7 @@ use Rattle.perm_algebra.specs.Affine.{Sum, constant, value}
 use Rattle.pass_actions.specs.Acts.{load_at, store_at, copy_acts, nest_acts, term_acts, horner_acts}
 use Rattle.pass_programs.specs.Conditions.{AreWithin, CanWriteNest}
 use Rattle.pass_actions.specs.Laws.{CanRunNest}
-use Rattle.pass_actions.specs.Machine.{PlainMachine, frame_of, item_of, vectors_of, values_of, loop_counts, lane_step}
+use Rattle.pass_actions.specs.Machine.{PlainMachine, frame_of, item_of, values_of, loop_counts, lane_step}
 use Rattle.pass_programs.specs.Statements.{diagonal_of, powers_of, multiplier_number, nest_body, nested, place_at, powers_number, table_number, tables_of_multiplier, tables_of_nest, tables_of_work, term_body, horner_body, with_table, work_body}
 use Rattle.pass_programs.proofs.Coded.{IsCoded, coded}
 use Rattle.pass_programs.proofs.Emits.{Emits, emits-nested}
@@ -26,7 +26,7 @@ use Rattle.passes.specs.Copies.{loops_of}
 use Rattle.passes.specs.Good.{AreSound}
 use Rattle.passes.specs.Merge.{limits_of}
 use Rattle.passes.specs.Nest.{PlainMultiplier, PlainNest, store_place, sum_value}
-use Rattle.passes.specs.Work.{PlainWork, kernel, rows, horner, tile, copy, work_size}
+use Rattle.passes.specs.Work.{PlainWork, kernel, rows, horner, tile, copy, work_size, vectors_of}
 use Rattle.tensor_paths.specs.Path as paths
 use Rattle.tree_model.specs.Breakdown.{size_of}
 

@@ -12,9 +12,10 @@ use Rattle.icode.specs.declared.program.Array.TheVariants.{X}
 use Rattle.pass_programs.specs.Conditions.{CanWritePass}
 use Rattle.pass_actions.specs.Laws.{IsLoadedBy, IsStoredBy}
 use Rattle.pass_actions.specs.Machine.{PlainMachine}
-use Rattle.pass_actions.specs.Merged.{PlainMerged, merged_on, pass_cost, pass_loads}
+use Rattle.pass_actions.specs.Costs.{pass_cost, pass_loads}
 use Rattle.pass_programs.specs.Program.{target_of, tables_of_phases, program_of}
 use Rattle.passes.specs.Good.{IsVector}
+use Rattle.passes.specs.Merged.{PlainMerged, merged_on}
 use Rattle.passes.specs.Nest.{PlainNest}
 
 -- ---- conditions

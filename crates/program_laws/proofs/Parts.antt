@@ -10,11 +10,12 @@ use Rattle.pass_actions.specs.Acts.{load_at, store_at, pass_acts}
 use Rattle.pass_programs.specs.Conditions.{CanWritePass}
 use Rattle.pass_programs.specs.Contract.{AreParts, IsPart, Stays, all_passes, joined}
 use Rattle.pass_actions.specs.Laws.{CanRunNest}
-use Rattle.pass_actions.specs.Machine.{PlainMachine, vectors_of, item_of, values_of}
+use Rattle.pass_actions.specs.Machine.{PlainMachine, item_of, values_of}
 use Rattle.pass_programs.specs.Program.{array_after, count_in, target_of}
 use Rattle.pass_actions.proofs.Copies.{nest-can}
 use Rattle.pass_actions.proofs.Framed.{copy-framed, item-below, of_code}
 use Rattle.passes.specs.Nest.{PlainNest}
+use Rattle.passes.specs.Work.{vectors_of}
 use Rattle.program_laws.proofs.Every.{IsFree, every}
 use Rattle.program_laws.proofs.Known.{Pass, AllKnown, PhasesKnown, passes_acts, runs-of}
 use Rattle.program_laws.proofs.Phases.{RunsPhases}

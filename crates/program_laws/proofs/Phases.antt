@@ -8,7 +8,7 @@ use Rattle.icode.specs.Machine.{Code, Local, Whole, acts, effects, processor_alo
 use Rattle.icode.specs.declared.action.Action.{Action}
 use Rattle.icode.specs.declared.program.Array.{Array}
 use Rattle.icode.specs.declared.program.Array.TheVariants.{X, Y}
-use Rattle.pass_actions.specs.Merged.{phase_on, phases_on}
+use Rattle.passes.specs.Merged.{phase_on, phases_on}
 use Rattle.passes.specs.Nest.{nests_on}
 use Rattle.pass_actions.specs.Machine.{PlainMachine}
 use Rattle.pass_programs.specs.Contract.{IsOwner, AllShared, ArePhasesShared}

@@ -8,7 +8,7 @@ use Rattle.icode.specs.Actions.{array_start}
 use Rattle.icode.specs.Machine.{Local, effects}
 use Rattle.icode.specs.declared.program.Array.{Array}
 use Rattle.icode.specs.declared.program.Array.TheVariants.{X, Y, A, B}
-use Rattle.pass_actions.specs.Merged.{phase_on}
+use Rattle.passes.specs.Merged.{phase_on}
 use Rattle.passes.specs.Nest.{nests_on}
 use Rattle.pass_actions.specs.Machine.{PlainMachine}
 use Rattle.pass_actions.specs.Acts.{pass_acts, pass_registers}

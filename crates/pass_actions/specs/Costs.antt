@@ -1,33 +1,10 @@
--- Merged passes, what they do to a list, and the counts that they name.
+-- What passes count.
 use Rattle.std.specs.Prelude.{ℕ, ◌+◌, ◌*◌, List, [], ◌∷◌}
 use Rattle.kernel_gen.specs.Kernel.{kernel_cost}
-use Rattle.operators.specs.Operator.{Operator}
 use Rattle.passes.specs.Counts.{copies_in}
 use Rattle.passes.specs.Counts as counts
-use Rattle.passes.specs.Nest.{PlainNest, nests_on}
+use Rattle.passes.specs.Nest.{PlainNest}
 use Rattle.passes.specs.Work.{PlainWork, kernel, rows, horner, tile, copy, work_size}
-
--- the passes of each phase, in order, on arrays of so many words, for so many processors and lanes
-pub record PlainMerged : Type 0 where
-  pub size : ℕ
-  pub procs : ℕ
-  pub lanes : ℕ
-  pub phases : List (List (List PlainNest))
-
--- ---- meaning
-
-abbrev pub phase_on : ℕ → ℕ → List (List PlainNest) → Operator
-phase_on m n [] x = x
-phase_on m n (zs ∷ ps) x = phase_on m n ps (nests_on m n zs x)
-
-abbrev pub phases_on : ℕ → ℕ → List (List (List PlainNest)) → Operator
-phases_on m n [] x = x
-phases_on m n (ps ∷ more) x = phases_on m n more (phase_on m n ps x)
-
-abbrev pub merged_on : ℕ → PlainMerged → Operator
-merged_on m g x = phases_on m g.size g.phases x
-
--- ---- counts
 
 -- the operations of one copy, where a product counts one
 abbrev pub work_cost : ℕ → PlainWork → ℕ
