@@ -1,5 +1,5 @@
 -- Arithmetic lane by lane.
-use Rattle.std.proofs.Common.{◌≡◌, ℕ, ◌+◌, ◌*◌, ◌<◌, ◌≤◌, ◌≢◌, inl, inr, List, [], ◌∷◌, length, map, replicate, refl, sym, ap, ap₂, ◌∙◌, arith, mul-le-mul_left}
+use Rattle.std.proofs.Common.{◌≡◌, ℕ, ◌+◌, ◌-◌, ◌*◌, ◌<◌, ◌≤◌, ◌≢◌, inl, inr, List, [], ◌∷◌, length, map, replicate, refl, sym, ap, ap₂, ◌∙◌, arith, mul-le-mul_left, mul_comm}
 use Rattle.std.proofs.lemmas.List.{length-replicate}
 use Rattle.std.specs.Prelude.{slice_index}
 use Rattle.std.proofs.Math.Path.{fun_ext}
@@ -8,10 +8,11 @@ use Rattle.std.proofs.lemmas.Bool.Decides.{nat_tests}
 use Rattle.ring_mod.specs.Residue.{sum_mod, difference_mod, negation_mod, product_mod}
 use Rattle.icode.specs.declared.action.Action.{Action}
 use Rattle.icode.specs.declared.action.Action.TheVariants.{Load, Store, Zero, Add, Sub, Neg, Mul, Tile}
-use Rattle.icode.specs.Machine.{Local, effect, value_put, register_put, register_of, with_words, lane_by_lane}
+use Rattle.icode.specs.declared.action.Counts.{Counts}
+use Rattle.icode.specs.Machine.{Local, effect, counted, counts_of, weighted, value_put, register_put, register_of, with_words, lane_by_lane}
 use Rattle.icode.proofs.Words.{length-words_at}
-use Rattle.code_laws.specs.Lanes.{Registers, lane_of, with_register, lane_effect, lane_effects, IsArithmetic}
-use Rattle.code_laws.specs.Laws.{ArithmeticIsByLane, ListsFollow, OperationsAreByLane}
+use Rattle.code_laws.specs.Lanes.{Registers, lane_of, with_register, lane_effect, lane_effects, IsArithmetic, operations, weighted_of, weighted_operations}
+use Rattle.code_laws.specs.Laws.{ArithmeticIsByLane, ListsFollow, MulsAreByLane, OperationsAreByLane, WeightedIsByLane}
 use Rattle.code_laws.proofs.Placing.{slice_index-words_at, slice_index-lane_by_lane, length-lane_by_lane, slice_index-map, length-mapped, slice_index-replicate, length-with_words, with_words_there, with_words_elsewhere}
 
 pub this_register : (g : Registers) (r v : ℕ) → with_register g r v r ≡ v
@@ -127,3 +128,54 @@ operations_are_by_lane lanes (Add r x y ∷ actions) = omega (arith, operations_
 operations_are_by_lane lanes (Sub r x y ∷ actions) = omega (arith, operations_are_by_lane lanes actions)
 operations_are_by_lane lanes (Neg r x ∷ actions) = omega (arith, operations_are_by_lane lanes actions)
 operations_are_by_lane lanes (Mul r x factors ∷ actions) = omega (arith, operations_are_by_lane lanes actions)
+
+pub muls_are_by_lane : MulsAreByLane
+muls_are_by_lane lanes [] = omega arith
+muls_are_by_lane lanes (Load r address ∷ actions) = omega (arith, muls_are_by_lane lanes actions)
+muls_are_by_lane lanes (Store address r ∷ actions) = omega (arith, muls_are_by_lane lanes actions)
+muls_are_by_lane lanes (Zero r ∷ actions) = omega (arith, muls_are_by_lane lanes actions)
+muls_are_by_lane lanes (Tile r x ∷ actions) = omega (arith, muls_are_by_lane lanes actions)
+muls_are_by_lane lanes (Add r x y ∷ actions) = omega (arith, muls_are_by_lane lanes actions)
+muls_are_by_lane lanes (Sub r x y ∷ actions) = omega (arith, muls_are_by_lane lanes actions)
+muls_are_by_lane lanes (Neg r x ∷ actions) = omega (arith, muls_are_by_lane lanes actions)
+muls_are_by_lane lanes (Mul r x factors ∷ actions) = omega (arith, muls_are_by_lane lanes actions)
+
+-- one more multiplication in each lane
+more_muls : (more lanes o m : ℕ) → o + lanes + more * (m + lanes) ≡ lanes * (more + 1) + (o + more * m)
+more_muls more lanes o m =
+    let a : more * (m + lanes) ≡ more * m + more * lanes = omega arith in
+    let b : lanes * (more + 1) ≡ lanes * more + lanes = omega arith in
+    let c : lanes * more ≡ more * lanes = mul_comm lanes more in
+    omega arith
+
+weighted-counted : (weight lanes : ℕ) (action : Action) (c : Counts) → 0 < weight → weighted weight (counted lanes action c) ≡ lanes * weighted_of weight action + weighted weight c
+weighted-counted weight lanes (Load r address) c some = omega arith
+weighted-counted weight lanes (Store address r) c some = omega arith
+weighted-counted weight lanes (Zero r) c some = omega arith
+weighted-counted weight lanes (Tile r x) c some = omega arith
+weighted-counted weight lanes (Add r x y) c some = omega arith
+weighted-counted weight lanes (Sub r x y) c some = omega arith
+weighted-counted weight lanes (Neg r x) c some = omega arith
+weighted-counted weight lanes (Mul r x factors) c some =
+    let whole : weight ≡ weight - 1 + 1 = omega arith in
+    more_muls (weight - 1) lanes c.operations c.muls ∙ ap (λ w. lanes * w + weighted weight c) (sym whole)
+
+pub weighted_is_by_lane : WeightedIsByLane
+weighted_is_by_lane weight lanes [] some = omega arith
+weighted_is_by_lane weight lanes (action ∷ actions) some =
+    let one = weighted-counted weight lanes action (counts_of lanes actions) some in
+    let rest = weighted_is_by_lane weight lanes actions some in
+    let spread : lanes * (weighted_of weight action + weighted_operations weight actions) ≡ lanes * weighted_of weight action + lanes * weighted_operations weight actions = omega arith in
+    one ∙ ap (λ n. lanes * weighted_of weight action + n) rest ∙ sym spread
+
+-- where a multiplication counts once, all operations do
+pub weight_of_one : (actions : List Action) → weighted_operations 1 actions ≡ operations actions
+weight_of_one [] = refl
+weight_of_one (Load r address ∷ actions) = omega (arith, weight_of_one actions)
+weight_of_one (Store address r ∷ actions) = omega (arith, weight_of_one actions)
+weight_of_one (Zero r ∷ actions) = omega (arith, weight_of_one actions)
+weight_of_one (Tile r x ∷ actions) = omega (arith, weight_of_one actions)
+weight_of_one (Add r x y ∷ actions) = omega (arith, weight_of_one actions)
+weight_of_one (Sub r x y ∷ actions) = omega (arith, weight_of_one actions)
+weight_of_one (Neg r x ∷ actions) = omega (arith, weight_of_one actions)
+weight_of_one (Mul r x factors ∷ actions) = omega (arith, weight_of_one actions)

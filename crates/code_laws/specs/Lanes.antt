@@ -77,3 +77,21 @@ operations_of (Tile r x) = 0
 abbrev pub operations : List Action → ℕ
 operations [] = 0
 operations (action ∷ actions) = operations_of action + operations actions
+
+-- the multiplications among them
+abbrev pub muls_of : Action → ℕ
+muls_of (Mul r x factors) = 1
+muls_of _ = 0
+
+abbrev pub muls : List Action → ℕ
+muls [] = 0
+muls (action ∷ actions) = muls_of action + muls actions
+
+-- the operations in one lane, where a multiplication counts as `weight` of them
+abbrev pub weighted_of : ℕ → Action → ℕ
+weighted_of weight (Mul r x factors) = weight
+weighted_of weight action = operations_of action
+
+abbrev pub weighted_operations : ℕ → List Action → ℕ
+weighted_operations weight [] = 0
+weighted_operations weight (action ∷ actions) = weighted_of weight action + weighted_operations weight actions

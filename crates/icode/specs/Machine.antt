@@ -108,11 +108,15 @@ counted lanes (Zero r) c = c
 counted lanes (Add r x y) c = record c { operations = c.operations + lanes }
 counted lanes (Sub r x y) c = record c { operations = c.operations + lanes }
 counted lanes (Neg r x) c = record c { operations = c.operations + lanes }
-counted lanes (Mul r x factors) c = record c { operations = c.operations + lanes }
+counted lanes (Mul r x factors) c = record c { operations = c.operations + lanes; muls = c.muls + lanes }
 counted lanes (Tile r x) c = c
 
 abbrev pub no_counts : Counts
-no_counts = record { operations = 0; loads = 0; stores = 0 }
+no_counts = record { operations = 0; muls = 0; loads = 0; stores = 0 }
+
+-- the operations, where a multiplication counts as `weight` of them
+abbrev pub weighted : ℕ → Counts → ℕ
+weighted weight c = c.operations + (weight - 1) * c.muls
 
 -- what a list of actions counts
 abbrev pub counts_of : ℕ → List Action → Counts

@@ -21,8 +21,8 @@ use Rattle.kernel_gen.proofs.Sums.{lane_factor, enough_factors, constant_factors
 abbrev factor_on : ℕ → ℕ → Operator
 factor_on m c x = scale m 1 (λ _. c) x
 
-module _ (m lanes lane : ℕ) (positive : 1 ≤ m) (there : lane < lanes) where
-  factor-at : (c i next : ℕ) → i < next → DoesAt m lanes lane 1 (product_cost m 1 c) (i ∷ []) next (factor_make m lanes c (i ∷ []) next) (factor_on m c)
+module _ (m lanes lane weight : ℕ) (positive : 1 ≤ m) (there : lane < lanes) where
+  factor-at : (c i next : ℕ) → i < next → DoesAt m lanes lane weight 1 (product_cost weight m 1 c) (i ∷ []) next (factor_make m lanes c (i ∷ []) next) (factor_on m c)
   factor-at c i next low =
       elim (cases_eq c 1) [
         | inl one ↦
@@ -73,11 +73,11 @@ module _ (m lanes lane : ℕ) (positive : 1 ≤ m) (there : lane < lanes) where
             ]
       ]
 
-  does-factor : (c : ℕ) → Does m lanes lane 1 1 (product_cost m 1 c) (factor_make m lanes c) (factor_on m c)
+  does-factor : (c : ℕ) → Does m lanes lane weight 1 1 (product_cost weight m 1 c) (factor_make m lanes c) (factor_on m c)
   does-factor c =
       record { at = at; residues = λ x size small. (mod-lt _ (omega arith), tt); width = λ x size. refl }
     where
-      at : (ins : List ℕ) (next : ℕ) → length ins ≡ 1 → AllBelow next ins → DoesAt m lanes lane 1 (product_cost m 1 c) ins next (factor_make m lanes c ins next) (factor_on m c)
+      at : (ins : List ℕ) (next : ℕ) → length ins ≡ 1 → AllBelow next ins → DoesAt m lanes lane weight 1 (product_cost weight m 1 c) ins next (factor_make m lanes c ins next) (factor_on m c)
       at [] next size under = absurd (omega arith)
       at (i ∷ []) next size under = factor-at c i next under.0
       at (i ∷ j ∷ ins) next size under = absurd (omega arith)
@@ -92,10 +92,10 @@ module _ (m lanes lane : ℕ) (positive : 1 ≤ m) (there : lane < lanes) where
       ∙ sym (ap (λ p. (c p * slice_index x p) % m) place))
       ∙ ap (λ k. list_below k (λ p. (c p * slice_index x p) % m)) (mul-one n)
 
-  pub does-diagonal : (n : ℕ) (c : ℕ → ℕ) → Does m lanes lane n n (sum_below n (λ k. product_cost m 1 (c k))) (diagonal_make m lanes n c) (scale m n c)
+  pub does-diagonal : (n : ℕ) (c : ℕ → ℕ) → Does m lanes lane weight n n (sum_below n (λ k. product_cost weight m 1 (c k))) (diagonal_make m lanes n c) (scale m n c)
   does-diagonal n c =
-      does-size m lanes lane (n * 1) n (n * 1) n (sum_below n (λ k. product_cost m 1 (c k))) (diagonal_make m lanes n c) (scale m n c) (mul-one n) (mul-one n)
-      (does-same m lanes lane (n * 1) (n * 1) (sum_below n (λ k. product_cost m 1 (c k))) (diagonal_make m lanes n c) (on_each_block n 1 (λ k. factor_on m (c k))) (scale m n c)
+      does-size m lanes lane weight (n * 1) n (n * 1) n (sum_below n (λ k. product_cost weight m 1 (c k))) (diagonal_make m lanes n c) (scale m n c) (mul-one n) (mul-one n)
+      (does-same m lanes lane weight (n * 1) (n * 1) (sum_below n (λ k. product_cost weight m 1 (c k))) (diagonal_make m lanes n c) (on_each_block n 1 (λ k. factor_on m (c k))) (scale m n c)
       (λ x size small. factors-diagonal n c x)
       (λ x size. length-list_below n _ ∙ sym (mul-one n))
-      (does-rows m lanes lane n 1 (λ k. product_cost m 1 (c k)) (λ k. factor_make m lanes (c k)) (λ k. factor_on m (c k)) (λ i below. does-factor (c i))))
+      (does-rows m lanes lane weight n 1 (λ k. product_cost weight m 1 (c k)) (λ k. factor_make m lanes (c k)) (λ k. factor_on m (c k)) (λ i below. does-factor (c i))))

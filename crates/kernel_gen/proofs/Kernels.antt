@@ -2,8 +2,8 @@
 use Rattle.std.proofs.Common.{◌≡◌, ℕ, ◌*◌, ◌<◌, ◌≤◌, ap, ◌∙◌, List, length, map}
 use Rattle.std.proofs.lemmas.List.FromFn.{fill_by_all}
 use Rattle.code_laws.specs.Lanes.{Registers, lane_of, AreArithmetic}
-use Rattle.code_laws.proofs.ByLane.{arithmetic_is_by_lane}
-use Rattle.icode.specs.Machine.{Local, effects}
+use Rattle.code_laws.proofs.ByLane.{arithmetic_is_by_lane, weighted_is_by_lane}
+use Rattle.icode.specs.Machine.{Local, effects, counts_of, weighted}
 use Rattle.code_laws.proofs.Placing.{slice_index-map, length-mapped}
 use Rattle.matrix_meaning.specs.declared.Kind.{Kind}
 use Rattle.matrix_meaning.specs.Kind.{transform}
@@ -37,11 +37,11 @@ firsts-residues g m n small =
     rw (at-list_below n g i inside) (small i inside)))
 
 -- what the kernel of a tree does in a lane
-pub kernel-does : (m lanes lane : ℕ) (kind : Kind) (t : Breakdown) (w : ℕ) → 2 ≤ m → lane < lanes → IsWellFormed kind t → IsRoot kind m (size_of t) w →
-    DoesAt m lanes lane (size_of t) (kernel_cost m kind t w) (firsts (size_of t)) (size_of t) (kernel_of m lanes kind t w) (transform kind m (size_of t) w)
-kernel-does m lanes lane kind t w modulus there formed root =
-    let done : Does m lanes lane (size_of t) (size_of t) (kernel_cost m kind t w) (tree_make m lanes kind t w) (transform kind m (size_of t) w) =
-    does-tree m lanes lane modulus there kind t w formed root in
+pub kernel-does : (m lanes lane weight : ℕ) (kind : Kind) (t : Breakdown) (w : ℕ) → 2 ≤ m → lane < lanes → IsWellFormed kind t → IsRoot kind m (size_of t) w →
+    DoesAt m lanes lane weight (size_of t) (kernel_cost weight m kind t w) (firsts (size_of t)) (size_of t) (kernel_of m lanes kind t w) (transform kind m (size_of t) w)
+kernel-does m lanes lane weight kind t w modulus there formed root =
+    let done : Does m lanes lane weight (size_of t) (size_of t) (kernel_cost weight m kind t w) (tree_make m lanes kind t w) (transform kind m (size_of t) w) =
+    does-tree m lanes lane weight modulus there kind t w formed root in
     done.at (firsts (size_of t)) (size_of t) (length-list_below (size_of t) _) (firsts-below (size_of t))
 
 -- in each lane its outputs are its tree's transform of the first registers, and it leaves the memory
@@ -55,16 +55,25 @@ pub kernels_transform : (m lanes regs : ℕ) (kind : Kind) (t : Breakdown) (w : 
     ≡ transform kind m (size_of t) w (list_below (size_of t) (lane_of lanes s.registers lane)))
 kernels_transform m lanes regs kind t w s modulus some formed root room wide =
     let made = kernel_of m lanes kind t w in
-    let first : DoesAt m lanes 0 (size_of t) (kernel_cost m kind t w) (firsts (size_of t)) (size_of t) made (transform kind m (size_of t) w) =
-    kernel-does m lanes 0 kind t w modulus some formed root in
+    let first : DoesAt m lanes 0 1 (size_of t) (kernel_cost 1 m kind t w) (firsts (size_of t)) (size_of t) made (transform kind m (size_of t) w) =
+    kernel-does m lanes 0 1 kind t w modulus some formed root in
     let are : AreArithmetic lanes regs made.acts = AreArithmetic-more lanes made.next regs made.acts room first.arithmetic in
     let by_lane = arithmetic_is_by_lane m lanes regs made.acts s are wide in (
       by_lane.0,
       λ lane there small.
           let g : Registers = lane_of lanes s.registers lane in
-          let done : DoesAt m lanes lane (size_of t) (kernel_cost m kind t w) (firsts (size_of t)) (size_of t) made (transform kind m (size_of t) w) =
-          kernel-does m lanes lane kind t w modulus there formed root in
+          let done : DoesAt m lanes lane 1 (size_of t) (kernel_cost 1 m kind t w) (firsts (size_of t)) (size_of t) made (transform kind m (size_of t) w) =
+          kernel-does m lanes lane 1 kind t w modulus there formed root in
           ap (λ (h : Registers). map h made.outs) (by_lane.1 lane there)
           ∙ done.values g (firsts-residues g m (size_of t) small)
           ∙ ap (transform kind m (size_of t) w) (map-firsts g (size_of t)),
     )
+
+-- with exactly the operations that the tree costs, in each lane, where a multiplication counts as `weight` of them
+pub kernels_cost : (weight m lanes : ℕ) (kind : Kind) (t : Breakdown) (w : ℕ) → 0 < weight → 2 ≤ m → 0 < lanes → IsWellFormed kind t → IsRoot kind m (size_of t) w →
+    weighted weight (counts_of lanes (kernel_of m lanes kind t w).acts) ≡ lanes * kernel_cost weight m kind t w
+kernels_cost weight m lanes kind t w counted modulus some formed root =
+    let made = kernel_of m lanes kind t w in
+    let done : DoesAt m lanes 0 weight (size_of t) (kernel_cost weight m kind t w) (firsts (size_of t)) (size_of t) made (transform kind m (size_of t) w) =
+    kernel-does m lanes 0 weight kind t w modulus some formed root in
+    weighted_is_by_lane weight lanes made.acts counted ∙ ap (λ n. lanes * n) done.costs

@@ -27,21 +27,21 @@ dot-sum e l (x ∷ xs) =
     (dot-sum e (l + 1) xs ∙ sum_below-same (length xs) _ _ (λ i below. ap (λ k. e k * slice_index xs i) (omega arith)))
     ∙ sym (sum_below-first (length xs) (λ i. e (l + i) * slice_index (x ∷ xs) i))
 
-cost-sum : (m : ℕ) (e : ℕ → ℕ) (l : ℕ) (ins : List ℕ) → sum_cost m e l ins ≡ length ins + sum_below (length ins) (λ i. product_cost m 0 (e (l + i)))
-cost-sum m e l [] = refl
-cost-sum m e l (i ∷ ins) =
-    let rest : sum_cost m e (l + 1) ins ≡ length ins + sum_below (length ins) (λ j. product_cost m 0 (e (l + suc j))) =
-    cost-sum m e (l + 1) ins ∙ ap (λ z. length ins + z) (sum_below-same (length ins) _ _ (λ j below. ap (λ k. product_cost m 0 (e k)) (omega arith))) in
-    let first = sum_below-first (length ins) (λ j. product_cost m 0 (e (l + j))) in
-    let head : product_cost m 0 (e l) ≡ product_cost m 0 (e (l + 0)) = ap (λ k. product_cost m 0 (e k)) (omega arith) in
+cost-sum : (weight m : ℕ) (e : ℕ → ℕ) (l : ℕ) (ins : List ℕ) → sum_cost weight m e l ins ≡ length ins + sum_below (length ins) (λ i. product_cost weight m 0 (e (l + i)))
+cost-sum weight m e l [] = refl
+cost-sum weight m e l (i ∷ ins) =
+    let rest : sum_cost weight m e (l + 1) ins ≡ length ins + sum_below (length ins) (λ j. product_cost weight m 0 (e (l + suc j))) =
+    cost-sum weight m e (l + 1) ins ∙ ap (λ z. length ins + z) (sum_below-same (length ins) _ _ (λ j below. ap (λ k. product_cost weight m 0 (e k)) (omega arith))) in
+    let first = sum_below-first (length ins) (λ j. product_cost weight m 0 (e (l + j))) in
+    let head : product_cost weight m 0 (e l) ≡ product_cost weight m 0 (e (l + 0)) = ap (λ k. product_cost weight m 0 (e k)) (omega arith) in
     omega (arith, rest, first, head)
 
 -- one row
 abbrev row_on : ℕ → ℕ → (ℕ → ℕ) → Operator
 row_on m n e x = (sum_below n (λ l. e l * slice_index x l) % m) ∷ []
 
-abbrev row_cost : ℕ → ℕ → (ℕ → ℕ) → ℕ
-row_cost m n e = (n - 1) + sum_below n (λ l. product_cost m 0 (e l))
+abbrev row_cost : ℕ → ℕ → ℕ → (ℕ → ℕ) → ℕ
+row_cost weight m n e = (n - 1) + sum_below n (λ l. product_cost weight m 0 (e l))
 
 row-value : (m : ℕ) (e : ℕ → ℕ) (x : ℕ) (xs : List ℕ) → e 0 ≡ 1 → sum_on m e 1 (x ∷ xs) ≡ row_on m (suc (length xs)) e (x ∷ xs)
 row-value m e x xs one =
@@ -51,35 +51,35 @@ row-value m e x xs one =
     let head : e 0 * x ≡ x = ap (λ z. z * x) one ∙ one-mul x in
     ap (λ z. (z % m) ∷ []) (omega (arith, rest, first, head))
 
-row-cost : (m : ℕ) (e : ℕ → ℕ) (ins : List ℕ) → e 0 ≡ 1 → sum_cost m e 1 ins ≡ row_cost m (suc (length ins)) e
-row-cost m e ins one =
-    let rest : sum_cost m e 1 ins ≡ length ins + sum_below (length ins) (λ i. product_cost m 0 (e (suc i))) =
-    cost-sum m e 1 ins ∙ ap (λ z. length ins + z) (sum_below-same (length ins) _ _ (λ j below. ap (λ k. product_cost m 0 (e k)) (omega arith))) in
-    let first = sum_below-first (length ins) (λ l. product_cost m 0 (e l)) in
-    let head : product_cost m 0 (e 0) ≡ 0 = ap (product_cost m 0) one in
+row-cost : (weight m : ℕ) (e : ℕ → ℕ) (ins : List ℕ) → e 0 ≡ 1 → sum_cost weight m e 1 ins ≡ row_cost weight m (suc (length ins)) e
+row-cost weight m e ins one =
+    let rest : sum_cost weight m e 1 ins ≡ length ins + sum_below (length ins) (λ i. product_cost weight m 0 (e (suc i))) =
+    cost-sum weight m e 1 ins ∙ ap (λ z. length ins + z) (sum_below-same (length ins) _ _ (λ j below. ap (λ k. product_cost weight m 0 (e k)) (omega arith))) in
+    let first = sum_below-first (length ins) (λ l. product_cost weight m 0 (e l)) in
+    let head : product_cost weight m 0 (e 0) ≡ 0 = ap (product_cost weight m 0) one in
     omega (arith, rest, first, head)
 
 list_below-last : (n : ℕ) (f : ℕ → ℕ) → list_below (suc n) f ≡ list_below n f ++ f n ∷ []
 list_below-last n f = ap (λ k. list_below k f) (sym (add-one n)) ∙ map-range_with_len_more f 0 n n (omega arith)
 
-module _ (m lanes lane : ℕ) (positive : 1 ≤ m) (there : lane < lanes) where
-  does-row : (n : ℕ) (e : ℕ → ℕ) → 0 < n → e 0 ≡ 1 → Does m lanes lane n 1 (row_cost m n e) (row_make m lanes e) (row_on m n e)
+module _ (m lanes lane weight : ℕ) (positive : 1 ≤ m) (there : lane < lanes) where
+  does-row : (n : ℕ) (e : ℕ → ℕ) → 0 < n → e 0 ≡ 1 → Does m lanes lane weight n 1 (row_cost weight m n e) (row_make m lanes e) (row_on m n e)
   does-row n e some one =
       record { at = at; residues = λ x size small. (mod-lt _ (omega arith), tt); width = λ x size. refl }
     where
-      at : (ins : List ℕ) (next : ℕ) → length ins ≡ n → AllBelow next ins → DoesAt m lanes lane 1 (row_cost m n e) ins next (row_make m lanes e ins next) (row_on m n e)
+      at : (ins : List ℕ) (next : ℕ) → length ins ≡ n → AllBelow next ins → DoesAt m lanes lane weight 1 (row_cost weight m n e) ins next (row_make m lanes e ins next) (row_on m n e)
       at [] next size under = absurd (omega arith)
       at (i ∷ ins) next size under =
-          let done : DoesAt m lanes lane 1 (sum_cost m e 1 ins) (i ∷ ins) next (row_make m lanes e (i ∷ ins) next) (sum_on m e 1) = does-sum m lanes lane e 1 i ins next positive there under in
+          let done : DoesAt m lanes lane weight 1 (sum_cost weight m e 1 ins) (i ∷ ins) next (row_make m lanes e (i ∷ ins) next) (sum_on m e 1) = does-sum m lanes lane weight e 1 i ins next positive there under in
           record {
-            next_is = done.next_is ∙ ap (λ k. next + k) (row-cost m e ins one ∙ ap (λ k. row_cost m k e) size);
+            next_is = done.next_is;
             grows = done.grows;
             kept = done.kept;
             below = done.below;
             sized = done.sized;
             arithmetic = done.arithmetic;
             constant = done.constant;
-            costs = done.costs ∙ row-cost m e ins one ∙ ap (λ k. row_cost m k e) size;
+            costs = done.costs ∙ row-cost weight m e ins one ∙ ap (λ k. row_cost weight m k e) size;
             values = λ g small.
                 done.values g small ∙ row-value m e (g i) (map g ins) one
                 ∙ ap (λ k. row_on m (suc k) e (g i ∷ map g ins)) (length-mapped g ins)
@@ -87,20 +87,20 @@ module _ (m lanes lane : ℕ) (positive : 1 ≤ m) (there : lane < lanes) where
           }
 
   does-matrix_rows : (n : ℕ) (e : ℕ → ℕ → ℕ) (k : ℕ) → 0 < n → ((i : ℕ) → i < k → e i 0 ≡ 1) →
-      Does m lanes lane n k (sum_below k (λ i. row_cost m n (e i))) (matrix_make m lanes e k) (λ x. list_below k (λ i. sum_below n (λ l. e i l * slice_index x l) % m))
-  does-matrix_rows n e zero some ones = does-none m lanes lane n
+      Does m lanes lane weight n k (sum_below k (λ i. row_cost weight m n (e i))) (matrix_make m lanes e k) (λ x. list_below k (λ i. sum_below n (λ l. e i l * slice_index x l) % m))
+  does-matrix_rows n e zero some ones = does-none m lanes lane weight n
   does-matrix_rows n e (suc k) some ones =
-      does-same m lanes lane n (suc k) (sum_below (suc k) (λ i. row_cost m n (e i))) (matrix_make m lanes e (suc k)) (λ x. list_below k (λ i. sum_below n (λ l. e i l * slice_index x l) % m) ++ row_on m n (e k) x) _
+      does-same m lanes lane weight n (suc k) (sum_below (suc k) (λ i. row_cost weight m n (e i))) (matrix_make m lanes e (suc k)) (λ x. list_below k (λ i. sum_below n (λ l. e i l * slice_index x l) % m) ++ row_on m n (e k) x) _
       (λ x size small. sym (list_below-last k (λ i. sum_below n (λ l. e i l * slice_index x l) % m)))
       (λ x size. length-list_below (suc k) _)
-      (does-size m lanes lane n n (k + 1) (suc k) (sum_below (suc k) (λ i. row_cost m n (e i))) (matrix_make m lanes e (suc k)) _ refl (omega arith)
-      (does-beside m lanes lane n k 1 (sum_below k (λ i. row_cost m n (e i))) (row_cost m n (e k)) (matrix_make m lanes e k) (row_make m lanes (e k)) (λ x. list_below k (λ i. sum_below n (λ l. e i l * slice_index x l) % m)) (row_on m n (e k))
+      (does-size m lanes lane weight n n (k + 1) (suc k) (sum_below (suc k) (λ i. row_cost weight m n (e i))) (matrix_make m lanes e (suc k)) _ refl (omega arith)
+      (does-beside m lanes lane weight n k 1 (sum_below k (λ i. row_cost weight m n (e i))) (row_cost weight m n (e k)) (matrix_make m lanes e k) (row_make m lanes (e k)) (λ x. list_below k (λ i. sum_below n (λ l. e i l * slice_index x l) % m)) (row_on m n (e k))
       (does-matrix_rows n e k some (λ i below. ones i (omega arith)))
       (does-row n (e k) some (ones k (omega arith)))))
 
   pub does-matrix : (n : ℕ) (e : ℕ → ℕ → ℕ) → 0 < n → ((i : ℕ) → e i 0 ≡ 1) →
-      Does m lanes lane n n (n * (n - 1) + products_cost m 0 e n n) (matrix_make m lanes e n) (matrix_times m n e)
+      Does m lanes lane weight n n (n * (n - 1) + products_cost weight m 0 e n n) (matrix_make m lanes e n) (matrix_times m n e)
   does-matrix n e some ones =
-      does-price m lanes lane n n (sum_below n (λ i. row_cost m n (e i))) (n * (n - 1) + products_cost m 0 e n n) (matrix_make m lanes e n) (matrix_times m n e)
-      (sum_below-add n (λ _. n - 1) (λ i. sum_below n (λ l. product_cost m 0 (e i l))) ∙ ap (λ z. z + products_cost m 0 e n n) (sum_below-constant n (n - 1)))
+      does-price m lanes lane weight n n (sum_below n (λ i. row_cost weight m n (e i))) (n * (n - 1) + products_cost weight m 0 e n n) (matrix_make m lanes e n) (matrix_times m n e)
+      (sum_below-add n (λ _. n - 1) (λ i. sum_below n (λ l. product_cost weight m 0 (e i l))) ∙ ap (λ z. z + products_cost weight m 0 e n n) (sum_below-constant n (n - 1)))
       (does-matrix_rows n e n some (λ i below. ones i))

@@ -2,11 +2,8 @@
 use Rattle.std.proofs.Common.{◌≡◌, ℕ, ◌+◌, ◌*◌, ◌-◌, ◌<◌, ◌≤◌, Bool, true, false, refl, sym, ap, ap₂, ◌∙◌, arith, zero, suc, mul-le-mul_left}
 use Rattle.std.specs.Prelude.{◌==◌, nat_le, if◌then◌else◌}
 use Rattle.std.proofs.lemmas.Bool.Decides.{nat_tests}
-use Rattle.matrix_meaning.specs.declared.Kind.{Kind}
 use Rattle.matrix_meaning.specs.declared.Kind.TheVariants.{Dft}
 use Rattle.matrix_meaning.specs.declared.Request.{Request}
-use Rattle.matrix_meaning.specs.Kind.{entry_of}
-use Rattle.operators.proofs.Sums.{sum_below-same}
 use Rattle.ring_mod.specs.Residue.{power_mod}
 use Rattle.ring_mod.proofs.Powers.{power_mod_of_power}
 use Rattle.tree_model.specs.declared.tree.Rule.{Rule}
@@ -16,7 +13,7 @@ use Rattle.tree_model.specs.Cost.{is_plain, is_kernel, cost_of, leaf_cost, node_
 use Rattle.tree_model.specs.Cost as trees
 use Rattle.tree_model.proofs.Sizes.{one_le_size_of}
 use Rattle.tree_model.proofs.Splits.{div-product, below_product, other_below}
-use Rattle.kernel_gen.specs.Kernel.{products_cost, rule_cost, kernel_cost}
+use Rattle.kernel_gen.specs.Kernel.{rule_cost, kernel_cost}
 
 -- a kernel is short
 pub kernel-short : (c : Request) (d : ℕ) → is_kernel c d ≡ true → nat_le d c.unroll ≡ true
@@ -42,28 +39,22 @@ factor-le d (suc q) n whole some = let more : d * 1 ≤ d * suc q = mul-le-mul_l
 root-is : (c : Request) (d q : ℕ) → 0 < d → d * q ≡ c.size → node_root c d ≡ power_mod c.modulus c.root q
 root-is c d q some whole = ap (power_mod c.modulus c.root) (div-product c.size d q some whole)
 
-module _ (c : Request) (one : c.weight ≡ 1) where
-  products-same : (kind : Kind) (minus root rows columns : ℕ) → products_cost c.modulus minus (entry_of kind c.modulus root) rows columns ≡ trees.products_cost c kind minus root rows columns
-  products-same kind minus root rows columns =
-      sum_below-same rows _ _ (λ k _. sum_below-same columns _ _ (λ l _.
-      ap (λ price. if entry_of kind c.modulus root k l == 1 then 0 else (if entry_of kind c.modulus root k l == c.modulus - 1 then minus else price)) (sym one)))
-
-  leaf-same : (d q : ℕ) → 0 < d → d * q ≡ c.size → is_kernel c d ≡ true → kernel_cost c.modulus c.kind (leaf d) (power_mod c.modulus c.root q) ≡ leaf_cost c d
+module _ (c : Request) where
+  leaf-same : (d q : ℕ) → 0 < d → d * q ≡ c.size → is_kernel c d ≡ true → kernel_cost c.weight c.modulus c.kind (leaf d) (power_mod c.modulus c.root q) ≡ leaf_cost c d
   leaf-same d q some whole is =
       ap (λ n. d * (d - 1) + n)
-      (products-same c.kind 0 (power_mod c.modulus c.root q) d d ∙ ap (λ root. trees.products_cost c c.kind 0 root d d) (sym (root-is c d q some whole)))
+      (ap (λ root. trees.products_cost c c.kind 0 root d d) (sym (root-is c d q some whole)))
       ∙ sym (ap (λ b. if b then d * (d - 1) + trees.products_cost c c.kind 0 (node_root c d) d d else d * d * (1 + c.weight)) (kernel-short c d is))
 
-  rule-same : (rule : Rule) (r s q : ℕ) → 0 < r * s → r * s * q ≡ c.size → is_kernel c (r * s) ≡ true → rule_cost c.modulus rule r s (power_mod c.modulus c.root q) ≡ trees.rule_cost c rule r s
+  rule-same : (rule : Rule) (r s q : ℕ) → 0 < r * s → r * s * q ≡ c.size → is_kernel c (r * s) ≡ true → rule_cost c.weight c.modulus rule r s (power_mod c.modulus c.root q) ≡ trees.rule_cost c rule r s
   rule-same Gt r s q some whole is = refl
   rule-same Split r s q some whole is = refl
   rule-same Ct r s q some whole is =
-      products-same Dft 1 (power_mod c.modulus c.root q) r s
-      ∙ ap (λ root. trees.products_cost c Dft 1 root r s) (sym (root-is c (r * s) q some whole))
+      ap (λ root. trees.products_cost c Dft 1 root r s) (sym (root-is c (r * s) q some whole))
       ∙ sym (ap (λ b. if b then trees.products_cost c Dft 1 (node_root c (r * s)) r s else c.weight * (r * s)) is)
 
   -- the code of a tree costs what the tree costs
-  pub cost-same : (t : Breakdown) (q : ℕ) → 0 < c.size → IsWellFormed c.kind t → size_of t * q ≡ c.size → is_kernel c (size_of t) ≡ true → kernel_cost c.modulus c.kind t (power_mod c.modulus c.root q) ≡ cost_of c t
+  pub cost-same : (t : Breakdown) (q : ℕ) → 0 < c.size → IsWellFormed c.kind t → size_of t * q ≡ c.size → is_kernel c (size_of t) ≡ true → kernel_cost c.weight c.modulus c.kind t (power_mod c.modulus c.root q) ≡ cost_of c t
   cost-same (leaf d) q some formed whole is = leaf-same d q (one_le_size_of c.kind (leaf d) formed) whole is
   cost-same (node rule a b) q some formed whole is =
       let r = size_of a in
@@ -77,7 +68,7 @@ module _ (c : Request) (one : c.weight ≡ 1) where
       let s_less : s < r * s = other_below (r * s) r s left refl (omega arith) in
       let kernel_left = kernel-part c (r * s) r is r_less within in
       let kernel_right = kernel-part c (r * s) s is s_less within in
-      ap₂ (λ x y. s * x + r * y + rule_cost c.modulus rule r s (power_mod c.modulus c.root q))
-      (ap (kernel_cost c.modulus c.kind a) (power_mod_of_power c.modulus c.root q s) ∙ cost-same a (q * s) some formed.1 whole_left kernel_left)
-      (ap (kernel_cost c.modulus c.kind b) (power_mod_of_power c.modulus c.root q r) ∙ cost-same b (q * r) some formed.2 whole_right kernel_right)
+      ap₂ (λ x y. s * x + r * y + rule_cost c.weight c.modulus rule r s (power_mod c.modulus c.root q))
+      (ap (kernel_cost c.weight c.modulus c.kind a) (power_mod_of_power c.modulus c.root q s) ∙ cost-same a (q * s) some formed.1 whole_left kernel_left)
+      (ap (kernel_cost c.weight c.modulus c.kind b) (power_mod_of_power c.modulus c.root q r) ∙ cost-same b (q * r) some formed.2 whole_right kernel_right)
       ∙ ap (λ n. s * cost_of c a + r * cost_of c b + n) (rule-same rule r s q (omega arith) whole is)

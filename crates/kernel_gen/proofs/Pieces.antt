@@ -2,7 +2,7 @@
 use Rattle.std.proofs.Common.{◌≡◌, ℕ, ◌+◌, ◌<◌, ◌≤◌, arith, refl, ap, ap₂, ◌∙◌, List, [], ◌∷◌, ◌++◌, length, map, subst}
 use Rattle.icode.specs.declared.action.Action.{Action}
 use Rattle.icode.specs.declared.action.Action.TheVariants.{Load, Store, Zero, Add, Sub, Neg, Mul, Tile}
-use Rattle.code_laws.specs.Lanes.{Registers, lane_effect, lane_effects, IsArithmetic, AreArithmetic, AreConstant, operations}
+use Rattle.code_laws.specs.Lanes.{Registers, lane_effect, lane_effects, IsArithmetic, AreArithmetic, AreConstant, operations, weighted_operations}
 use Rattle.code_laws.proofs.Placing.{length-mapped}
 use Rattle.operators.specs.Operator.{Operator, gather}
 use Rattle.operators.proofs.Lists.{length-list_below}
@@ -18,6 +18,10 @@ lane_effects-append m lane (action ∷ xs) ys g = lane_effects-append m lane xs 
 pub operations-append : (xs ys : List Action) → operations (xs ++ ys) ≡ operations xs + operations ys
 operations-append [] ys = omega arith
 operations-append (action ∷ xs) ys = omega (arith, operations-append xs ys)
+
+pub weighted-append : (weight : ℕ) (xs ys : List Action) → weighted_operations weight (xs ++ ys) ≡ weighted_operations weight xs + weighted_operations weight ys
+weighted-append weight [] ys = omega arith
+weighted-append weight (action ∷ xs) ys = omega (arith, weighted-append weight xs ys)
 
 IsArithmetic-more : (lanes a b : ℕ) (action : Action) → a ≤ b → IsArithmetic lanes a action → IsArithmetic lanes b action
 IsArithmetic-more lanes a b (Load r address) h is = absurd is
@@ -44,28 +48,28 @@ AreConstant-append lanes (action ∷ xs) ys are more = (are.0, AreConstant-appen
 -- ---- what a piece does
 
 -- In one lane the code puts f of the inputs into its k outputs. It leaves the registers that are in use, uses none past
--- its own, and takes so many operations.
-pub record DoesAt (m lanes lane k price : ℕ) (ins : List ℕ) (next : ℕ) (made : Made) (f : Operator) : Type 0 where
-  pub next_is : made.next ≡ next + price
+-- its own, one for each operation, and costs so much where a multiplication counts as `weight` operations.
+pub record DoesAt (m lanes lane weight k price : ℕ) (ins : List ℕ) (next : ℕ) (made : Made) (f : Operator) : Type 0 where
+  pub next_is : made.next ≡ next + operations made.acts
   pub grows : next ≤ made.next
   pub kept : (g : Registers) (r : ℕ) → r < next → lane_effects m lane made.acts g r ≡ g r
   pub below : AllBelow made.next made.outs
   pub sized : length made.outs ≡ k
   pub arithmetic : AreArithmetic lanes made.next made.acts
-  pub costs : operations made.acts ≡ price
+  pub costs : weighted_operations weight made.acts ≡ price
   pub constant : AreConstant lanes made.acts
   pub values : (g : Registers) → AllBelow m (map g ins) → map (lane_effects m lane made.acts g) made.outs ≡ f (map g ins)
 
 -- a piece does so from any n inputs
-pub record Does (m lanes lane n k price : ℕ) (make : Maker) (f : Operator) : Type 0 where
-  pub at : (ins : List ℕ) (next : ℕ) → length ins ≡ n → AllBelow next ins → DoesAt m lanes lane k price ins next (make ins next) f
+pub record Does (m lanes lane weight n k price : ℕ) (make : Maker) (f : Operator) : Type 0 where
+  pub at : (ins : List ℕ) (next : ℕ) → length ins ≡ n → AllBelow next ins → DoesAt m lanes lane weight k price ins next (make ins next) f
   pub residues : (x : List ℕ) → length x ≡ n → AllBelow m x → AllBelow m (f x)
   pub width : (x : List ℕ) → length x ≡ n → length (f x) ≡ k
 
-module _ (m lanes lane : ℕ) where
+module _ (m lanes lane weight : ℕ) where
   -- operators that are equal on lists of n residues
   pub does-same : (n k price : ℕ) (make : Maker) (f h : Operator) → ((x : List ℕ) → length x ≡ n → AllBelow m x → f x ≡ h x) → ((x : List ℕ) → length x ≡ n → length (h x) ≡ k) →
-      Does m lanes lane n k price make f → Does m lanes lane n k price make h
+      Does m lanes lane weight n k price make f → Does m lanes lane weight n k price make h
   does-same n k price make f h same width p =
       record {
         at = λ ins next size under.
@@ -85,13 +89,13 @@ module _ (m lanes lane : ℕ) where
         width = width;
       }
 
-  pub does-price : (n k price other : ℕ) (make : Maker) (f : Operator) → price ≡ other → Does m lanes lane n k price make f → Does m lanes lane n k other make f
-  does-price n k price other make f same p = subst (λ c. Does m lanes lane n k c make f) same p
+  pub does-price : (n k price other : ℕ) (make : Maker) (f : Operator) → price ≡ other → Does m lanes lane weight n k price make f → Does m lanes lane weight n k other make f
+  does-price n k price other make f same p = subst (λ c. Does m lanes lane weight n k c make f) same p
 
-  pub does-size : (n n' k k' price : ℕ) (make : Maker) (f : Operator) → n ≡ n' → k ≡ k' → Does m lanes lane n k price make f → Does m lanes lane n' k' price make f
-  does-size n n' k k' price make f e d p = subst (λ j. Does m lanes lane n' j price make f) d (subst (λ j. Does m lanes lane j k price make f) e p)
+  pub does-size : (n n' k k' price : ℕ) (make : Maker) (f : Operator) → n ≡ n' → k ≡ k' → Does m lanes lane weight n k price make f → Does m lanes lane weight n' k' price make f
+  does-size n n' k k' price make f e d p = subst (λ j. Does m lanes lane weight n' j price make f) d (subst (λ j. Does m lanes lane weight j k price make f) e p)
 
-  pub does-none : (n : ℕ) → Does m lanes lane n 0 0 none_make (λ _. [])
+  pub does-none : (n : ℕ) → Does m lanes lane weight n 0 0 none_make (λ _. [])
   does-none n =
       record {
         at = λ ins next size under.
@@ -100,7 +104,7 @@ module _ (m lanes lane : ℕ) where
         width = λ x size. refl;
       }
 
-  pub does-pick : (n k : ℕ) (f : ℕ → ℕ) → ReadsBelow n k f → Does m lanes lane n k 0 (pick_make (gather k f)) (gather k f)
+  pub does-pick : (n k : ℕ) (f : ℕ → ℕ) → ReadsBelow n k f → Does m lanes lane weight n k 0 (pick_make (gather k f)) (gather k f)
   does-pick n k f reads =
       record {
         at = λ ins next size under.
@@ -119,15 +123,15 @@ module _ (m lanes lane : ℕ) where
         width = λ x size. length-list_below k _;
       }
 
-  pub does-then : (n j k cost price : ℕ) (first second : Maker) (f h : Operator) → Does m lanes lane n j cost first f → Does m lanes lane j k price second h → Does m lanes lane n k (cost + price) (then_make first second) (λ x. h (f x))
+  pub does-then : (n j k cost price : ℕ) (first second : Maker) (f h : Operator) → Does m lanes lane weight n j cost first f → Does m lanes lane weight j k price second h → Does m lanes lane weight n k (cost + price) (then_make first second) (λ x. h (f x))
   does-then n j k cost price first second f h p q =
       record {
         at = λ ins next size under.
             let made = first ins next in
-            let a : DoesAt m lanes lane j cost ins next made f = p.at ins next size under in
-            let b : DoesAt m lanes lane k price made.outs made.next (second made.outs made.next) h = q.at made.outs made.next a.sized a.below in
+            let a : DoesAt m lanes lane weight j cost ins next made f = p.at ins next size under in
+            let b : DoesAt m lanes lane weight k price made.outs made.next (second made.outs made.next) h = q.at made.outs made.next a.sized a.below in
             record {
-              next_is = let low = a.next_is in let high = b.next_is in omega arith;
+              next_is = let low = a.next_is in let high = b.next_is in let all = operations-append made.acts (second made.outs made.next).acts in omega arith;
               grows = let low = a.grows in let high = b.grows in omega arith;
               kept = λ g r low.
                   ap (λ (z : Registers). z r) (lane_effects-append m lane made.acts _ g)
@@ -136,7 +140,7 @@ module _ (m lanes lane : ℕ) where
               below = b.below;
               sized = b.sized;
               arithmetic = AreArithmetic-append lanes _ made.acts _ (AreArithmetic-more lanes made.next _ made.acts b.grows a.arithmetic) b.arithmetic;
-              costs = operations-append made.acts _ ∙ ap₂ (λ x y. x + y) a.costs b.costs;
+              costs = weighted-append weight made.acts _ ∙ ap₂ (λ x y. x + y) a.costs b.costs;
               constant = AreConstant-append lanes made.acts _ a.constant b.constant;
               values = λ g small.
                   ap (λ (z : Registers). map z (second made.outs made.next).outs) (lane_effects-append m lane made.acts _ g)
@@ -147,16 +151,16 @@ module _ (m lanes lane : ℕ) where
         width = λ x size. q.width (f x) (p.width x size);
       }
 
-  pub does-beside : (n j k cost price : ℕ) (first second : Maker) (f h : Operator) → Does m lanes lane n j cost first f → Does m lanes lane n k price second h → Does m lanes lane n (j + k) (cost + price) (beside_make first second) (λ x. f x ++ h x)
+  pub does-beside : (n j k cost price : ℕ) (first second : Maker) (f h : Operator) → Does m lanes lane weight n j cost first f → Does m lanes lane weight n k price second h → Does m lanes lane weight n (j + k) (cost + price) (beside_make first second) (λ x. f x ++ h x)
   does-beside n j k cost price first second f h p q =
       record {
         at = λ ins next size under.
             let made = first ins next in
             let more = second ins made.next in
-            let a : DoesAt m lanes lane j cost ins next made f = p.at ins next size under in
-            let b : DoesAt m lanes lane k price ins made.next more h = q.at ins made.next size (AllBelow-more next made.next ins a.grows under) in
+            let a : DoesAt m lanes lane weight j cost ins next made f = p.at ins next size under in
+            let b : DoesAt m lanes lane weight k price ins made.next more h = q.at ins made.next size (AllBelow-more next made.next ins a.grows under) in
             record {
-              next_is = let low = a.next_is in let high = b.next_is in omega arith;
+              next_is = let low = a.next_is in let high = b.next_is in let all = operations-append made.acts more.acts in omega arith;
               grows = let low = a.grows in let high = b.grows in omega arith;
               kept = λ g r low.
                   ap (λ (z : Registers). z r) (lane_effects-append m lane made.acts more.acts g)
@@ -165,7 +169,7 @@ module _ (m lanes lane : ℕ) where
               below = AllBelow-append _ made.outs _ (AllBelow-more _ _ made.outs b.grows a.below) b.below;
               sized = length-joined made.outs _ ∙ ap₂ (λ x y. x + y) a.sized b.sized;
               arithmetic = AreArithmetic-append lanes _ made.acts _ (AreArithmetic-more lanes made.next _ made.acts b.grows a.arithmetic) b.arithmetic;
-              costs = operations-append made.acts _ ∙ ap₂ (λ x y. x + y) a.costs b.costs;
+              costs = weighted-append weight made.acts _ ∙ ap₂ (λ x y. x + y) a.costs b.costs;
               constant = AreConstant-append lanes made.acts _ a.constant b.constant;
               values = λ g small.
                   let mid : Registers = lane_effects m lane made.acts g in

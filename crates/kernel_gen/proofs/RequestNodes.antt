@@ -1,11 +1,10 @@
 -- The kernels of the nodes of a request's transform.
-use Rattle.std.proofs.Common.{◌≡◌, ℕ, ◌+◌, ◌*◌, ◌%◌, ◌<◌, ◌≤◌, sym, ap, ap₂, ◌∙◌, arith, mul_comm}
+use Rattle.std.proofs.Common.{◌≡◌, ℕ, ◌*◌, ◌%◌, ◌<◌, ◌≤◌, sym, ap, ap₂, ◌∙◌, arith, mul_comm}
 use Rattle.std.proofs.Math.Nat.{mod-eq_of_lt}
 use Rattle.matrix_meaning.specs.declared.Kind.{Kind}
 use Rattle.matrix_meaning.specs.declared.Kind.TheVariants.{Dft, Wht}
 use Rattle.matrix_meaning.specs.declared.Request.{Request}
 use Rattle.matrix_meaning.specs.Kind.{transform}
-use Rattle.code_laws.proofs.ByLane.{operations_are_by_lane}
 use Rattle.matrix_meaning.specs.Valid.{IsValid, HasRoot}
 use Rattle.ring_mod.specs.Residue.{power_mod}
 use Rattle.ring_mod.proofs.Powers.{power_mod_of_power}
@@ -16,7 +15,7 @@ use Rattle.kernel_gen.specs.Kernel.{IsRoot, kernel_of, kernel_cost, node_kernel}
 use Rattle.kernel_gen.specs.Making.{Made}
 use Rattle.kernel_gen.specs.Kernels.{TransformsNode, CostsNode, IsStraight}
 use Rattle.kernel_gen.proofs.Below.{AllBelow-all}
-use Rattle.kernel_gen.proofs.Kernels.{firsts, kernel-does, kernels_transform}
+use Rattle.kernel_gen.proofs.Kernels.{firsts, kernel-does, kernels_transform, kernels_cost}
 use Rattle.kernel_gen.proofs.Pieces.{DoesAt}
 use Rattle.kernel_gen.proofs.NodeCosts.{cost-same}
 
@@ -38,27 +37,23 @@ pub nodes_transform : (c : Request) (t : Breakdown) → IsValid c → IsWellForm
 nodes_transform c t valid formed divides regs s room wide =
     kernels_transform c.modulus c.lanes regs c.kind t (node_root c (size_of t)) s valid.in_range.modulus.0 (some_lanes c valid) formed (root-of c t valid divides) room wide
 
--- what the code for a node does in a lane
-node-does : (c : Request) (t : Breakdown) → IsValid c → IsWellFormed c.kind t → c.size % size_of t ≡ 0 →
-    DoesAt c.modulus c.lanes 0 (size_of t) (kernel_cost c.modulus c.kind t (node_root c (size_of t))) (firsts (size_of t)) (size_of t) (node_kernel c t) (transform c.kind c.modulus (size_of t) (node_root c (size_of t)))
-node-does c t valid formed divides =
-    kernel-does c.modulus c.lanes 0 c.kind t (node_root c (size_of t)) valid.in_range.modulus.0 (some_lanes c valid) formed (root-of c t valid divides)
-
 pub nodes_cost : (c : Request) (t : Breakdown) → IsValid c → IsWellFormed c.kind t → c.size % size_of t ≡ 0 → CostsNode c t (node_kernel c t)
-nodes_cost c t valid formed divides one is =
+nodes_cost c t valid formed divides is =
     let size = valid.in_range.size in
-    let done = node-does c t valid formed divides in
-    operations_are_by_lane c.lanes (node_kernel c t).acts
-    ∙ ap (λ n. c.lanes * n) (done.costs ∙ cost-same c one t _ (omega arith) formed (product_div c.size (size_of t) divides) is)
+    let weight = valid.in_range.weight in
+    kernels_cost c.weight c.modulus c.lanes c.kind t (node_root c (size_of t)) (omega arith) valid.in_range.modulus.0 (some_lanes c valid) formed (root-of c t valid divides)
+    ∙ ap (λ n. c.lanes * n) (cost-same c t _ (omega arith) formed (product_div c.size (size_of t) divides) is)
 
 pub nodes_straight : (c : Request) (t : Breakdown) → IsValid c → IsWellFormed c.kind t → c.size % size_of t ≡ 0 → IsStraight c.lanes (size_of t) (node_kernel c t)
 nodes_straight c t valid formed divides =
-    let done = node-does c t valid formed divides in
+    let node = node_kernel c t in
+    let done : DoesAt c.modulus c.lanes 0 1 (size_of t) (kernel_cost 1 c.modulus c.kind t (node_root c (size_of t))) (firsts (size_of t)) (size_of t) node (transform c.kind c.modulus (size_of t) (node_root c (size_of t))) =
+    kernel-does c.modulus c.lanes 0 1 c.kind t (node_root c (size_of t)) valid.in_range.modulus.0 (some_lanes c valid) formed (root-of c t valid divides) in
     record {
       arithmetic = done.arithmetic;
       constant = done.constant;
-      outputs = AllBelow-all (node_kernel c t).next (node_kernel c t).outs done.below;
-      registers = done.next_is ∙ ap (λ n. size_of t + n) (sym done.costs);
+      outputs = AllBelow-all node.next node.outs done.below;
+      registers = done.next_is;
     }
 
 -- code that was written for the fields of a request

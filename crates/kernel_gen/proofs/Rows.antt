@@ -38,46 +38,46 @@ pub sum_below-constant : (n c : ℕ) → sum_below n (λ _. c) ≡ n * c
 sum_below-constant zero c = sym (zero-mul c)
 sum_below-constant (suc n) c = omega (arith, sum_below-constant n c)
 
-module _ (m lanes lane : ℕ) where
-  does-rows_on : (n r s : ℕ) (price : ℕ → ℕ) (piece : ℕ → Maker) (f : ℕ → Operator) → r * s ≤ n → ((i : ℕ) → i < r → Does m lanes lane s s (price i) (piece i) (f i)) →
-      Does m lanes lane n (r * s) (sum_below r price) (rows_make r s piece) (rows_on r s f)
+module _ (m lanes lane weight : ℕ) where
+  does-rows_on : (n r s : ℕ) (price : ℕ → ℕ) (piece : ℕ → Maker) (f : ℕ → Operator) → r * s ≤ n → ((i : ℕ) → i < r → Does m lanes lane weight s s (price i) (piece i) (f i)) →
+      Does m lanes lane weight n (r * s) (sum_below r price) (rows_make r s piece) (rows_on r s f)
   does-rows_on n zero s price piece f room h =
-      does-size m lanes lane n n 0 (0 * s) 0 none_make (rows_on zero s f) refl (sym (zero-mul s)) (does-none m lanes lane n)
+      does-size m lanes lane weight n n 0 (0 * s) 0 none_make (rows_on zero s f) refl (sym (zero-mul s)) (does-none m lanes lane weight n)
   does-rows_on n (suc r) s price piece f room h =
-      does-size m lanes lane n n (r * s + s) (suc r * s) (sum_below (suc r) price) (rows_make (suc r) s piece) (rows_on (suc r) s f) refl (omega arith)
-      (does-price m lanes lane n (r * s + s) (sum_below r price + (0 + price r)) (sum_below r price + price r) (rows_make (suc r) s piece) (rows_on (suc r) s f) (omega arith)
-      (does-beside m lanes lane n (r * s) s (sum_below r price) (0 + price r) (rows_make r s piece) (then_make (pick_make (block s r)) (piece r)) (rows_on r s f) (λ x. f r (block s r x))
+      does-size m lanes lane weight n n (r * s + s) (suc r * s) (sum_below (suc r) price) (rows_make (suc r) s piece) (rows_on (suc r) s f) refl (omega arith)
+      (does-price m lanes lane weight n (r * s + s) (sum_below r price + (0 + price r)) (sum_below r price + price r) (rows_make (suc r) s piece) (rows_on (suc r) s f) (omega arith)
+      (does-beside m lanes lane weight n (r * s) s (sum_below r price) (0 + price r) (rows_make r s piece) (then_make (pick_make (block s r)) (piece r)) (rows_on r s f) (λ x. f r (block s r x))
       (does-rows_on n r s price piece f (omega arith) (λ i below. h i (omega arith)))
-      (does-then m lanes lane n s s 0 (price r) (pick_make (block s r)) (piece r) (block s r) (f r)
-      (does-pick m lanes lane n s (λ j. r * s + j) (λ j below. omega arith))
+      (does-then m lanes lane weight n s s 0 (price r) (pick_make (block s r)) (piece r) (block s r) (f r)
+      (does-pick m lanes lane weight n s (λ j. r * s + j) (λ j below. omega arith))
       (h r (omega arith)))))
 
-  pub does-rows : (r s : ℕ) (price : ℕ → ℕ) (piece : ℕ → Maker) (f : ℕ → Operator) → ((i : ℕ) → i < r → Does m lanes lane s s (price i) (piece i) (f i)) →
-      Does m lanes lane (r * s) (r * s) (sum_below r price) (rows_make r s piece) (on_each_block r s f)
+  pub does-rows : (r s : ℕ) (price : ℕ → ℕ) (piece : ℕ → Maker) (f : ℕ → Operator) → ((i : ℕ) → i < r → Does m lanes lane weight s s (price i) (piece i) (f i)) →
+      Does m lanes lane weight (r * s) (r * s) (sum_below r price) (rows_make r s piece) (on_each_block r s f)
   does-rows r s price piece f h =
-      does-same m lanes lane (r * s) (r * s) (sum_below r price) (rows_make r s piece) (rows_on r s f) (on_each_block r s f)
+      does-same m lanes lane weight (r * s) (r * s) (sum_below r price) (rows_make r s piece) (rows_on r s f) (on_each_block r s f)
       (λ x size small. rows_on-each r s f x (λ i y below. (h i below).width y))
       (λ x size. length-list_below (r * s) _)
       (does-rows_on (r * s) r s price piece f (omega arith) h)
 
   -- a piece on each block
-  pub does-blocks : (r s price : ℕ) (piece : Maker) (f : Operator) → Does m lanes lane s s price piece f →
-      Does m lanes lane (r * s) (r * s) (r * price) (rows_make r s (λ _. piece)) (on_blocks r s f)
+  pub does-blocks : (r s price : ℕ) (piece : Maker) (f : Operator) → Does m lanes lane weight s s price piece f →
+      Does m lanes lane weight (r * s) (r * s) (r * price) (rows_make r s (λ _. piece)) (on_blocks r s f)
   does-blocks r s price piece f h =
-      does-price m lanes lane (r * s) (r * s) (sum_below r (λ _. price)) (r * price) (rows_make r s (λ _. piece)) (on_blocks r s f) (sum_below-constant r price)
+      does-price m lanes lane weight (r * s) (r * s) (sum_below r (λ _. price)) (r * price) (rows_make r s (λ _. piece)) (on_blocks r s f) (sum_below-constant r price)
       (does-rows r s (λ _. price) (λ _. piece) (λ _. f) (λ i below. h))
 
   -- a piece on each column
-  pub does-columns : (r s price : ℕ) (piece : Maker) (f : Operator) → Does m lanes lane r r price piece f →
-      Does m lanes lane (r * s) (r * s) (s * price) (columns_make r s piece) (on_columns r s f)
+  pub does-columns : (r s price : ℕ) (piece : Maker) (f : Operator) → Does m lanes lane weight r r price piece f →
+      Does m lanes lane weight (r * s) (r * s) (s * price) (columns_make r s piece) (on_columns r s f)
   does-columns r s price piece f h =
-      does-same m lanes lane (r * s) (r * s) (s * price) (columns_make r s piece) (λ x. turn r s (on_blocks s r f (turn s r x))) (on_columns r s f)
+      does-same m lanes lane weight (r * s) (r * s) (s * price) (columns_make r s piece) (λ x. turn r s (on_blocks s r f (turn s r x))) (on_columns r s f)
       (λ x size small. sym (on_columns-turned r s f x))
       (λ x size. length-list_below (r * s) _)
-      (does-size m lanes lane (s * r) (r * s) (r * s) (r * s) (s * price) (columns_make r s piece) (λ x. turn r s (on_blocks s r f (turn s r x))) (mul_comm s r) refl
-      (does-price m lanes lane (s * r) (r * s) (0 + (s * price + 0)) (s * price) (columns_make r s piece) (λ x. turn r s (on_blocks s r f (turn s r x))) (omega arith)
-      (does-then m lanes lane (s * r) (s * r) (r * s) 0 (s * price + 0) (pick_make (turn s r)) (then_make (rows_make s r (λ _. piece)) (pick_make (turn r s))) (turn s r) (λ x. turn r s (on_blocks s r f x))
-      (does-pick m lanes lane (s * r) (s * r) (stride s r) (λ i below. (stride_below s r i below).1))
-      (does-then m lanes lane (s * r) (s * r) (r * s) (s * price) 0 (rows_make s r (λ _. piece)) (pick_make (turn r s)) (on_blocks s r f) (turn r s)
+      (does-size m lanes lane weight (s * r) (r * s) (r * s) (r * s) (s * price) (columns_make r s piece) (λ x. turn r s (on_blocks s r f (turn s r x))) (mul_comm s r) refl
+      (does-price m lanes lane weight (s * r) (r * s) (0 + (s * price + 0)) (s * price) (columns_make r s piece) (λ x. turn r s (on_blocks s r f (turn s r x))) (omega arith)
+      (does-then m lanes lane weight (s * r) (s * r) (r * s) 0 (s * price + 0) (pick_make (turn s r)) (then_make (rows_make s r (λ _. piece)) (pick_make (turn r s))) (turn s r) (λ x. turn r s (on_blocks s r f x))
+      (does-pick m lanes lane weight (s * r) (s * r) (stride s r) (λ i below. (stride_below s r i below).1))
+      (does-then m lanes lane weight (s * r) (s * r) (r * s) (s * price) 0 (rows_make s r (λ _. piece)) (pick_make (turn r s)) (on_blocks s r f) (turn r s)
       (does-blocks s r price piece f h)
-      (does-pick m lanes lane (s * r) (r * s) (stride r s) (λ i below. subst (λ n. stride r s i < n) (mul_comm r s) (stride_below r s i below).1))))))
+      (does-pick m lanes lane weight (s * r) (r * s) (stride r s) (λ i below. subst (λ n. stride r s i < n) (mul_comm r s) (stride_below r s i below).1))))))

@@ -7,7 +7,7 @@ use Rattle.std.proofs.lemmas.Bool.Decides.{nat_tests}
 use Rattle.icode.specs.declared.action.Action.{Action}
 use Rattle.icode.specs.declared.action.Action.TheVariants.{Add, Sub}
 use Rattle.icode.specs.Actions.{lane_factors}
-use Rattle.code_laws.specs.Lanes.{Registers, lane_effect, lane_effects, AreArithmetic, AreConstant, operations}
+use Rattle.code_laws.specs.Lanes.{Registers, lane_effect, lane_effects, AreArithmetic, AreConstant, operations, weighted_operations}
 use Rattle.code_laws.proofs.ByLane.{this_register, other_register}
 use Rattle.operators.specs.Operator.{Operator}
 use Rattle.operators.specs.Sum.{list_below}
@@ -17,7 +17,7 @@ use Rattle.ring_mod.proofs.LastResidue.{add_last_times}
 use Rattle.kernel_gen.specs.Making.{Made, Term, times, after_acts, term_make, sum_make}
 use Rattle.kernel_gen.specs.Kernel.{product_cost}
 use Rattle.kernel_gen.proofs.Below.{AllBelow, AllBelow-more, map-agree, length-joined}
-use Rattle.kernel_gen.proofs.Pieces.{lane_effects-append, operations-append, AreArithmetic-append, AreArithmetic-more, AreConstant-append, DoesAt}
+use Rattle.kernel_gen.proofs.Pieces.{lane_effects-append, operations-append, weighted-append, AreArithmetic-append, AreArithmetic-more, AreConstant-append, DoesAt}
 
 -- ---- constant factors
 
@@ -54,27 +54,27 @@ abbrev pub sum_on : ℕ → (ℕ → ℕ) → ℕ → Operator
 sum_on m e l [] = []
 sum_on m e l (a ∷ xs) = ((a + dot e l xs) % m) ∷ []
 
-abbrev pub sum_cost : ℕ → (ℕ → ℕ) → ℕ → List ℕ → ℕ
-sum_cost m e l [] = 0
-sum_cost m e l (i ∷ ins) = 1 + product_cost m 0 (e l) + sum_cost m e (l + 1) ins
+abbrev pub sum_cost : ℕ → ℕ → (ℕ → ℕ) → ℕ → List ℕ → ℕ
+sum_cost weight m e l [] = 0
+sum_cost weight m e l (i ∷ ins) = 1 + product_cost weight m 0 (e l) + sum_cost weight m e (l + 1) ins
 
 -- one step, and the sum from its result on
-sum-step : (m lanes lane : ℕ) (e : ℕ → ℕ) (l acc i : ℕ) (ins : List ℕ) (next to free : ℕ) (acts : List Action) (made : Made) →
+sum-step : (m lanes lane weight : ℕ) (e : ℕ → ℕ) (l acc i : ℕ) (ins : List ℕ) (next to free : ℕ) (acts : List Action) (made : Made) →
     next ≤ to → to < free → AllBelow next ins → 0 < m →
     ((g : Registers) (r : ℕ) → r < next → lane_effects m lane acts g r ≡ g r) →
     ((g : Registers) → g acc < m → g i < m → lane_effects m lane acts g to ≡ (g acc + e l * g i) % m) →
-    AreArithmetic lanes free acts → operations acts ≡ 1 + product_cost m 0 (e l) → free ≡ next + operations acts → AreConstant lanes acts →
-    DoesAt m lanes lane 1 (sum_cost m e (l + 1) ins) (to ∷ ins) free made (sum_on m e (l + 1)) →
-    DoesAt m lanes lane 1 (sum_cost m e l (i ∷ ins)) (acc ∷ i ∷ ins) next (after_acts acts made) (sum_on m e l)
-sum-step m lanes lane e l acc i ins next to free acts made from above under positive kept stepped are costs free_is constant rest =
+    AreArithmetic lanes free acts → weighted_operations weight acts ≡ 1 + product_cost weight m 0 (e l) → free ≡ next + operations acts → AreConstant lanes acts →
+    DoesAt m lanes lane weight 1 (sum_cost weight m e (l + 1) ins) (to ∷ ins) free made (sum_on m e (l + 1)) →
+    DoesAt m lanes lane weight 1 (sum_cost weight m e l (i ∷ ins)) (acc ∷ i ∷ ins) next (after_acts acts made) (sum_on m e l)
+sum-step m lanes lane weight e l acc i ins next to free acts made from above under positive kept stepped are costs free_is constant rest =
     record {
-      next_is = let a = rest.next_is in omega arith;
+      next_is = let a = rest.next_is in let all = operations-append acts made.acts in omega arith;
       grows = let a = rest.grows in omega arith;
       kept = λ g r low. ap (λ (z : Registers). z r) (lane_effects-append m lane acts made.acts g) ∙ rest.kept (lane_effects m lane acts g) r (omega arith) ∙ kept g r low;
       below = rest.below;
       sized = rest.sized;
       arithmetic = AreArithmetic-append lanes made.next acts made.acts (AreArithmetic-more lanes free made.next acts rest.grows are) rest.arithmetic;
-      costs = operations-append acts made.acts ∙ ap₂ (λ x y. x + y) costs rest.costs;
+      costs = weighted-append weight acts made.acts ∙ ap₂ (λ x y. x + y) costs rest.costs;
       constant = AreConstant-append lanes acts made.acts constant rest.constant;
       values = λ g small.
           let mid : Registers = lane_effects m lane acts g in
@@ -87,9 +87,9 @@ sum-step m lanes lane e l acc i ins next to free acts made from above under posi
           ∙ ap (λ z. z % m) (omega arith));
     }
 
-pub does-sum : (m lanes lane : ℕ) (e : ℕ → ℕ) (l acc : ℕ) (ins : List ℕ) (next : ℕ) → 1 ≤ m → lane < lanes → AllBelow next (acc ∷ ins) →
-    DoesAt m lanes lane 1 (sum_cost m e l ins) (acc ∷ ins) next (sum_make m lanes e l acc ins next) (sum_on m e l)
-does-sum m lanes lane e l acc [] next h there under =
+pub does-sum : (m lanes lane weight : ℕ) (e : ℕ → ℕ) (l acc : ℕ) (ins : List ℕ) (next : ℕ) → 1 ≤ m → lane < lanes → AllBelow next (acc ∷ ins) →
+    DoesAt m lanes lane weight 1 (sum_cost weight m e l ins) (acc ∷ ins) next (sum_make m lanes e l acc ins next) (sum_on m e l)
+does-sum m lanes lane weight e l acc [] next h there under =
     record {
       next_is = omega arith;
       grows = omega arith;
@@ -101,7 +101,7 @@ does-sum m lanes lane e l acc [] next h there under =
       constant = tt;
       values = λ g small. ap (λ z. z ∷ []) (sym (mod-eq_of_lt small.0) ∙ ap (λ z. z % m) (omega arith));
     }
-does-sum m lanes lane e l acc (i ∷ ins) next h there under =
+does-sum m lanes lane weight e l acc (i ∷ ins) next h there under =
     let shorter : AllBelow (next + 1) ins = AllBelow-more next (next + 1) ins (omega arith) under.1.1 in
     let shorter_2 : AllBelow (next + 2) ins = AllBelow-more next (next + 2) ins (omega arith) under.1.1 in
     let acc_in : acc < next = under.0 in
@@ -110,29 +110,29 @@ does-sum m lanes lane e l acc (i ∷ ins) next h there under =
     elim (cases_eq (e l) 1) [
       | inl one ↦
           let is : term_make m lanes (e l) acc i next ≡ record { acts = Add next acc i ∷ []; acc = next; next = next + 1 } = grind (arith, nat_tests) in
-          rw (ap code is) (sum-step m lanes lane e l acc i ins next next (next + 1) (Add next acc i ∷ []) (sum_make m lanes e (l + 1) next ins (next + 1)) (omega arith) (omega arith) under.1.1 (omega arith)
+          rw (ap code is) (sum-step m lanes lane weight e l acc i ins next next (next + 1) (Add next acc i ∷ []) (sum_make m lanes e (l + 1) next ins (next + 1)) (omega arith) (omega arith) under.1.1 (omega arith)
           (λ g r low. other_register g r next _ (omega arith))
           (λ g small residue. this_register g next ((g acc + g i) % m) ∙ ap (λ z. (g acc + z) % m) (sym (one-mul (g i))) ∙ ap (λ z. (g acc + z * g i) % m) (sym one))
           ((omega arith, omega arith, omega arith), tt)
           (grind (arith, nat_tests))
           (omega arith)
           (tt, tt)
-          (does-sum m lanes lane e (l + 1) next ins (next + 1) h there (omega arith, shorter)))
+          (does-sum m lanes lane weight e (l + 1) next ins (next + 1) h there (omega arith, shorter)))
       | inr not_one ↦
           elim (cases_eq (e l) (m - 1)) [
             | inl last ↦
                 let is : term_make m lanes (e l) acc i next ≡ record { acts = Sub next acc i ∷ []; acc = next; next = next + 1 } = grind (arith, nat_tests) in
-                rw (ap code is) (sum-step m lanes lane e l acc i ins next next (next + 1) (Sub next acc i ∷ []) (sum_make m lanes e (l + 1) next ins (next + 1)) (omega arith) (omega arith) under.1.1 (omega arith)
+                rw (ap code is) (sum-step m lanes lane weight e l acc i ins next next (next + 1) (Sub next acc i ∷ []) (sum_make m lanes e (l + 1) next ins (next + 1)) (omega arith) (omega arith) under.1.1 (omega arith)
                 (λ g r low. other_register g r next _ (omega arith))
                 (λ g small residue. this_register g next ((g acc + (m - g i)) % m) ∙ sym (add_last_times m (g acc) (g i) (omega arith) (omega arith)) ∙ ap (λ z. (g acc + z * g i) % m) (sym last))
                 ((omega arith, omega arith, omega arith), tt)
                 (grind (arith, nat_tests))
                 (omega arith)
                 (tt, tt)
-                (does-sum m lanes lane e (l + 1) next ins (next + 1) h there (omega arith, shorter)))
+                (does-sum m lanes lane weight e (l + 1) next ins (next + 1) h there (omega arith, shorter)))
             | inr other ↦
                 let is : term_make m lanes (e l) acc i next ≡ record { acts = times lanes next i (e l) ∷ Add (next + 1) acc next ∷ []; acc = next + 1; next = next + 2 } = grind (arith, nat_tests) in
-                rw (ap code is) (sum-step m lanes lane e l acc i ins next (next + 1) (next + 2) (times lanes next i (e l) ∷ Add (next + 1) acc next ∷ []) (sum_make m lanes e (l + 1) (next + 1) ins (next + 2)) (omega arith) (omega arith) under.1.1 (omega arith)
+                rw (ap code is) (sum-step m lanes lane weight e l acc i ins next (next + 1) (next + 2) (times lanes next i (e l) ∷ Add (next + 1) acc next ∷ []) (sum_make m lanes e (l + 1) (next + 1) ins (next + 2)) (omega arith) (omega arith) under.1.1 (omega arith)
                 (λ g r low.
                 other_register (lane_effect m lane (times lanes next i (e l)) g) r (next + 1) _ (omega arith) ∙ other_register g r next _ (omega arith))
                 (λ g small residue.
@@ -145,6 +145,6 @@ does-sum m lanes lane e l acc (i ∷ ins) next h there under =
                 (grind (arith, nat_tests))
                 (omega arith)
                 (constant_factors lanes (e l) (omega arith), (tt, tt))
-                (does-sum m lanes lane e (l + 1) (next + 1) ins (next + 2) h there (omega arith, shorter_2)))
+                (does-sum m lanes lane weight e (l + 1) (next + 1) ins (next + 2) h there (omega arith, shorter_2)))
           ]
     ]

@@ -50,22 +50,22 @@ kernel_of m lanes kind t w = tree_make m lanes kind t w (list_below (size_of t) 
 abbrev pub node_kernel : Request → Breakdown → Made
 node_kernel c t = kernel_of c.modulus c.lanes c.kind t (node_root c (size_of t))
 
--- a product by x: by 1 it is nothing, and by -1 it costs `minus`
-abbrev pub product_cost : ℕ → ℕ → ℕ → ℕ
-product_cost m minus x = if x == 1 then 0 else (if x == m - 1 then minus else 1)
+-- a product by x: by 1 it is nothing, by -1 it costs `minus`, and else `weight`
+abbrev pub product_cost : ℕ → ℕ → ℕ → ℕ → ℕ
+product_cost weight m minus x = if x == 1 then 0 else (if x == m - 1 then minus else weight)
 
 -- the products by the entries in the first rows and columns of a matrix
-abbrev pub products_cost : ℕ → ℕ → (ℕ → ℕ → ℕ) → ℕ → ℕ → ℕ
-products_cost m minus e rows columns = sum_below rows (λ k. sum_below columns (λ l. product_cost m minus (e k l)))
+abbrev pub products_cost : ℕ → ℕ → ℕ → (ℕ → ℕ → ℕ) → ℕ → ℕ → ℕ
+products_cost weight m minus e rows columns = sum_below rows (λ k. sum_below columns (λ l. product_cost weight m minus (e k l)))
 
 -- what a rule adds to its parts' costs: ct multiplies by its twiddles
-abbrev pub rule_cost : ℕ → Rule → ℕ → ℕ → ℕ → ℕ
-rule_cost m Gt r s w = 0
-rule_cost m Ct r s w = products_cost m 1 (entry_of Dft m w) r s
-rule_cost m Split r s w = 0
+abbrev pub rule_cost : ℕ → ℕ → Rule → ℕ → ℕ → ℕ → ℕ
+rule_cost weight m Gt r s w = 0
+rule_cost weight m Ct r s w = products_cost weight m 1 (entry_of Dft m w) r s
+rule_cost weight m Split r s w = 0
 
--- the cost of a tree's code for the root w
-abbrev pub kernel_cost : ℕ → Kind → Breakdown → ℕ → ℕ
-kernel_cost m kind (leaf d) w = d * (d - 1) + products_cost m 0 (entry_of kind m w) d d
-kernel_cost m kind (node rule a b) w =
-    size_of b * kernel_cost m kind a (power_mod m w (size_of b)) + size_of a * kernel_cost m kind b (power_mod m w (size_of a)) + rule_cost m rule (size_of a) (size_of b) w
+-- the cost of a tree's code for the root w, where a multiplication costs `weight`
+abbrev pub kernel_cost : ℕ → ℕ → Kind → Breakdown → ℕ → ℕ
+kernel_cost weight m kind (leaf d) w = d * (d - 1) + products_cost weight m 0 (entry_of kind m w) d d
+kernel_cost weight m kind (node rule a b) w =
+    size_of b * kernel_cost weight m kind a (power_mod m w (size_of b)) + size_of a * kernel_cost weight m kind b (power_mod m w (size_of a)) + rule_cost weight m rule (size_of a) (size_of b) w

@@ -21,8 +21,8 @@ fn first_registers(alloc: Global, n: u64) -> Result<Vec<u64>, NoMemory>
 }
 
 /// The code of a tree for a node of the request's transform: from its inputs in the first registers it leaves the node's
-/// transform in the outputs, in each lane, in exactly the operations that the tree costs where it is a kernel, and names
-/// its own registers alone.
+/// transform in the outputs, in each lane, in exactly the operations that the tree costs where it is a kernel, a
+/// multiplication counted as the request's weight, and names its own registers alone.
 pub fn kernel(alloc: Global, c: &Ctx, t: &Tree) -> Result<Kernel, NoMemory>
     requires tree { IsWellFormed c.now.kind (breakdown_of t.now) }
     requires divides { c.now.size % size_of (breakdown_of t.now) ≡ 0 }
