@@ -6,16 +6,17 @@ use Rattle.passes.specs.Counts as counts
 use Rattle.passes.specs.Nest.{PlainNest}
 use Rattle.passes.specs.Work.{PlainWork, kernel, rows, horner, tile, copy, work_size}
 
--- the operations of one copy, where a product counts one
-abbrev pub work_cost : ℕ → PlainWork → ℕ
-work_cost m (kernel kind root tree) = kernel_cost m kind tree root
-work_cost m (rows root size) = 2 * size * size
-work_cost m (horner root size) = 2 * size * size
-work_cost m (tile lanes) = 0
-work_cost m (copy size) = 0
+-- the operations of one copy, where a product counts as several
+abbrev pub work_cost : ℕ → ℕ → PlainWork → ℕ
+work_cost weight m (kernel kind root tree) = kernel_cost weight m kind tree root
+work_cost weight m (rows root size) = (1 + weight) * size * size
+work_cost weight m (horner root size) = (1 + weight) * size * size
+work_cost weight m (tile lanes) = 0
+work_cost weight m (copy size) = 0
 
-abbrev pub pass_cost : ℕ → List PlainNest → ℕ
-pass_cost m zs = counts.pass_cost (work_cost m) zs
+-- and of a pass, modulo m
+abbrev pub pass_cost : ℕ → ℕ → List PlainNest → ℕ
+pass_cost weight m zs = counts.pass_cost weight (work_cost weight m) zs
 
 abbrev pub work_loads : PlainWork → ℕ
 work_loads (rows root size) = size * size

@@ -2,7 +2,7 @@
 use Rattle.std.specs.Prelude.{◌≡◌, ◌≢◌, ℕ, ◌+◌, ◌*◌, ◌%◌, ◌<◌, ◌≤◌, ◌⊎◌, List, ◌++◌, length, map, slice_index, All, Contains, Some}
 use Rattle.icode.specs.Actions.{RegistersFit, FactorsFit}
 use Rattle.icode.specs.declared.action.Action.{Action}
-use Rattle.icode.specs.Machine.{Local, effects, counts_of}
+use Rattle.icode.specs.Machine.{Local, effects, counts_of, weighted}
 use Rattle.matrix_meaning.specs.declared.Kind.{Kind}
 use Rattle.matrix_meaning.specs.declared.Kind.TheVariants.{Dft, Wht}
 use Rattle.ring_mod.specs.Residue.{power_mod}
@@ -118,14 +118,14 @@ pub record IsFit (regs lanes modulus : ℕ) (action : Action) : Type 0 where
   pub registers : RegistersFit regs lanes action
   pub factors : FactorsFit modulus action
 
--- A processor's actions leave what the pass makes of its array, at an equal share of its counts
+-- A processor's actions leave what the pass makes of its array, at an equal share of its counts, whatever a product counts
 pub record Runs (h : PlainMachine) (zs : List PlainNest) : Type 0 where
   pub leaves : (source target q : ℕ) (x : List ℕ) (s : Local) → q < h.procs → AreApart h.size source target → CanBegin h zs source target q x s → Leaves h zs source target q x s
-  pub operations : (source target q : ℕ) → q < h.procs → h.procs * (counts_of h.lanes (pass_acts h zs source target q)).operations ≡ pass_cost h.modulus zs
+  pub operations : (weight source target q : ℕ) → 0 < weight → q < h.procs → h.procs * weighted weight (counts_of h.lanes (pass_acts h zs source target q)) ≡ pass_cost weight h.modulus zs
   pub loads : (source target q : ℕ) → q < h.procs → h.procs * (counts_of h.lanes (pass_acts h zs source target q)).loads ≡ pass_loads zs
   pub stores : (source target q : ℕ) → q < h.procs → h.procs * (counts_of h.lanes (pass_acts h zs source target q)).stores ≡ h.size
   pub fit : (source target q : ℕ) → q < h.procs → All (IsFit (pass_registers h zs) h.lanes h.modulus) (pass_acts h zs source target q)
-  pub short : (source target q : ℕ) → q < h.procs → h.procs * length (pass_acts h zs source target q) ≤ pass_cost h.modulus zs + pass_loads zs + 2 * h.size
+  pub short : (source target q : ℕ) → q < h.procs → h.procs * length (pass_acts h zs source target q) ≤ pass_cost 1 h.modulus zs + pass_loads zs + 2 * h.size
 
 -- every pass that can be run does
 abbrev pub PassesRun : Type 0
