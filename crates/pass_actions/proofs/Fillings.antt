@@ -65,8 +65,8 @@ module _ (c : PlainMachine) (zs : List PlainNest) (can : CanRun c zs) (source ta
         let few : with_multiplier p.multiplier made.next n ≤ regs = registers-le c zs z one in
         let work = (facts c zs can z one source target q x apart part small).work in
         body-fills c z p.multiplier regs target q whole n from made.acts (slice_index made.outs) made.next (value_of whole n from f) vs can.lanes few
-        (kernel-computes c regs whole n _ from made f can.lanes (finish-few p.multiplier made.next n regs few)
-        (kernel-runs c kind t root can.modulus work.0 work.1)
+        (kernel-computes c regs whole 1 n _ from made f can.lanes (finish-few p.multiplier made.next n regs few)
+        (kernel-runs c 1 kind t root can.modulus work.0 work.1)
         (λ k lane under there. input-below c zs can z one source target q x apart part small vs range k lane under there))
         (λ k under lane there. input-word c zs can z one source target q x apart part small vs range k lane under there)
         (λ k under lane there. output-word c zs can z one source target q x apart part small vs range k lane under there)

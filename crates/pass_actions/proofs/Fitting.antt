@@ -141,7 +141,7 @@ module _ (c : PlainMachine) (lanes : 0 < c.lanes) (modulus : 2 ≤ c.modulus) (r
       let z : PlainNest = working p (kernel kind root t) in
       let n = size_of t in
       let made = kernel_of c.modulus c.lanes kind t root in
-      let done = kernel-runs c kind t root modulus can.work.0 can.work.1 0 lanes in
+      let done = kernel-runs c 1 kind t root modulus can.work.0 can.work.1 0 lanes in
       fit-body c z target q regs vs some p.multiplier made.acts (slice_index made.outs) made.next n (λ k. source + load_at c z q vs k) can.residues done.grows few
       (fit-operations regs c.lanes c.modulus made.next made.acts (finish-few p.multiplier made.next n regs few) done.arithmetic (tree-operates c.modulus c.lanes modulus kind t root (list_below n (λ k. k)) n))
       (λ k below. at-AllBelow made.next made.outs k done.below (let sized = done.sized in omega arith))

@@ -6,8 +6,7 @@ use Rattle.std.proofs.lemmas.List.Elements.{All-nil, All-cons, All-append, All-r
 use Rattle.icode.specs.declared.action.Action.{Action}
 use Rattle.icode.specs.declared.action.Action.TheVariants.{Load, Store, Zero, Add, Sub, Neg, Mul, Tile}
 use Rattle.icode.specs.Actions.{lane_factors}
-use Rattle.icode.specs.declared.action.Counts.{Counts}
-use Rattle.icode.specs.Machine.{counted, counts_of}
+use Rattle.icode.specs.Machine.{counts_of}
 use Rattle.code_laws.specs.Lanes.{operations}
 use Rattle.matrix_meaning.specs.declared.Kind.{Kind}
 use Rattle.matrix_meaning.specs.declared.Kind.TheVariants.{Dft, Wht}
@@ -147,7 +146,7 @@ module _ (m lanes : ℕ) (large : 2 ≤ m) where
       node-operates rule (size_of a) (size_of b) w (tree_make m lanes kind a (power_mod m w (size_of b))) (tree_make m lanes kind b (power_mod m w (size_of a)))
       (tree-operates kind a (power_mod m w (size_of b))) (tree-operates kind b (power_mod m w (size_of a)))
 
--- ---- what operations count
+-- ---- counts
 
 pub length-operations : (m : ℕ) (actions : List Action) → AreOperations m actions → length actions ≡ operations actions
 length-operations m [] h = refl
@@ -160,17 +159,14 @@ length-operations m (Sub r x y ∷ actions) h = let rest = length-operations m a
 length-operations m (Neg r x ∷ actions) h = let rest = length-operations m actions h.1 in omega arith
 length-operations m (Mul r x factors ∷ actions) h = let rest = length-operations m actions h.1 in omega arith
 
-abbrev operations_counted : ℕ → Counts
-operations_counted n = record { operations = n; loads = 0; stores = 0 }
-
--- an operation on each lane
-pub counts-operations : (m lanes : ℕ) (actions : List Action) → AreOperations m actions → counts_of lanes actions ≡ record { operations = lanes * operations actions; loads = 0; stores = 0 }
-counts-operations m lanes [] h = ap operations_counted (omega arith)
-counts-operations m lanes (Load r address ∷ actions) h = absurd h.0
-counts-operations m lanes (Store address r ∷ actions) h = absurd h.0
-counts-operations m lanes (Zero r ∷ actions) h = absurd h.0
-counts-operations m lanes (Tile r x ∷ actions) h = absurd h.0
-counts-operations m lanes (Add r x y ∷ actions) h = ap (counted lanes (Add r x y)) (counts-operations m lanes actions h.1) ∙ ap operations_counted (omega arith)
-counts-operations m lanes (Sub r x y ∷ actions) h = ap (counted lanes (Sub r x y)) (counts-operations m lanes actions h.1) ∙ ap operations_counted (omega arith)
-counts-operations m lanes (Neg r x ∷ actions) h = ap (counted lanes (Neg r x)) (counts-operations m lanes actions h.1) ∙ ap operations_counted (omega arith)
-counts-operations m lanes (Mul r x factors ∷ actions) h = ap (counted lanes (Mul r x factors)) (counts-operations m lanes actions h.1) ∙ ap operations_counted (omega arith)
+-- they load and store nothing
+pub no-traffic : (m lanes : ℕ) (actions : List Action) → AreOperations m actions → ((counts_of lanes actions).loads ≡ 0) × ((counts_of lanes actions).stores ≡ 0)
+no-traffic m lanes [] h = (refl, refl)
+no-traffic m lanes (Load r address ∷ actions) h = absurd h.0
+no-traffic m lanes (Store address r ∷ actions) h = absurd h.0
+no-traffic m lanes (Zero r ∷ actions) h = absurd h.0
+no-traffic m lanes (Tile r x ∷ actions) h = absurd h.0
+no-traffic m lanes (Add r x y ∷ actions) h = no-traffic m lanes actions h.1
+no-traffic m lanes (Sub r x y ∷ actions) h = no-traffic m lanes actions h.1
+no-traffic m lanes (Neg r x ∷ actions) h = no-traffic m lanes actions h.1
+no-traffic m lanes (Mul r x factors ∷ actions) h = no-traffic m lanes actions h.1

@@ -20,11 +20,11 @@ use Rattle.pass_actions.proofs.StraightCopies.{Holds, IsLoaded, Computes}
 abbrev pub value_of : Task → ℕ → (ℕ → ℕ) → Operator → ℕ → ℕ → ℕ
 value_of t n from f k lane = slice_index (f (list_below n (λ j. t.input (from j + lane)))) k
 
--- the code does f on each lane
-abbrev pub DoesOnLanes : PlainMachine → ℕ → ℕ → Made → Operator → Type 0
-DoesOnLanes c n price made f = (lane : ℕ) → lane < c.lanes → DoesAt c.modulus c.lanes lane n price (firsts n) n made f
+-- the code does f on each lane, at this price where a product counts as several
+abbrev pub DoesOnLanes : PlainMachine → ℕ → ℕ → ℕ → Made → Operator → Type 0
+DoesOnLanes c weight n price made f = (lane : ℕ) → lane < c.lanes → DoesAt c.modulus c.lanes lane weight n price (firsts n) n made f
 
-module _ (c : PlainMachine) (regs : ℕ) (t : Task) (n price : ℕ) (from : ℕ → ℕ) (made : Made) (f : Operator) (some : 0 < c.lanes) (room : made.next ≤ regs) (done : DoesOnLanes c n price made f) where
+module _ (c : PlainMachine) (regs : ℕ) (t : Task) (weight n price : ℕ) (from : ℕ → ℕ) (made : Made) (f : Operator) (some : 0 < c.lanes) (room : made.next ≤ regs) (done : DoesOnLanes c weight n price made f) where
   code-arithmetic : AreArithmetic c.lanes regs made.acts
   code-arithmetic = AreArithmetic-more c.lanes made.next regs made.acts room (done 0 some).arithmetic
 

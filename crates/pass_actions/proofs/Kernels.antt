@@ -25,9 +25,9 @@ firsts-below n =
     let inside : i < n = rw (length-list_below n (λ k. k)) at within in
     rw (at-list_below n (λ k. k) i inside) inside)
 
-pub kernel-runs : (c : PlainMachine) (kind : Kind) (t : Breakdown) (w : ℕ) → 2 ≤ c.modulus → IsWellFormed kind t → IsRootOf c.modulus w kind t →
-    DoesOnLanes c (size_of t) (kernel_cost c.modulus kind t w) (kernel_of c.modulus c.lanes kind t w) (transform kind c.modulus (size_of t) w)
-kernel-runs c Wht t w large formed root lane there = kernel-does c.modulus c.lanes lane Wht t w large there formed tt
-kernel-runs c Dft (node rule a b) w large formed root lane there = kernel-does c.modulus c.lanes lane Dft (node rule a b) w large there formed root
-kernel-runs c Dft (leaf d) w large formed root lane there =
-    (does-matrix c.modulus c.lanes lane (omega arith) there d (entry_of Dft c.modulus w) formed (λ i. first_column c.modulus w i large)).at (firsts d) d (length-list_below d _) (firsts-below d)
+pub kernel-runs : (c : PlainMachine) (weight : ℕ) (kind : Kind) (t : Breakdown) (w : ℕ) → 2 ≤ c.modulus → IsWellFormed kind t → IsRootOf c.modulus w kind t →
+    DoesOnLanes c weight (size_of t) (kernel_cost weight c.modulus kind t w) (kernel_of c.modulus c.lanes kind t w) (transform kind c.modulus (size_of t) w)
+kernel-runs c weight Wht t w large formed root lane there = kernel-does c.modulus c.lanes lane weight Wht t w large there formed tt
+kernel-runs c weight Dft (node rule a b) w large formed root lane there = kernel-does c.modulus c.lanes lane weight Dft (node rule a b) w large there formed root
+kernel-runs c weight Dft (leaf d) w large formed root lane there =
+    (does-matrix c.modulus c.lanes lane weight (omega arith) there d (entry_of Dft c.modulus w) formed (λ i. first_column c.modulus w i large)).at (firsts d) d (length-list_below d _) (firsts-below d)

@@ -1,12 +1,11 @@
 -- A pass has no more actions than it counts, and a zero or a tile for some of its stores.
-use Rattle.std.proofs.Common.{◌≡◌, ℕ, zero, suc, ◌+◌, ◌*◌, ◌<◌, ◌≤◌, arith, ap, List, [], ◌∷◌, ◌++◌, length, length-append, Contains, mul-le-mul_left}
+use Rattle.std.proofs.Common.{◌≡◌, ℕ, zero, suc, ◌+◌, ◌*◌, ◌<◌, ◌≤◌, arith, ap, List, [], ◌∷◌, ◌++◌, length, length-append, Contains, mul_comm, mul-le-mul_left, ◌∙◌}
 use Rattle.std.specs.Prelude.{slice_index, Option, Some, None}
 use Rattle.icode.proofs.Lines.{Contains-head, Contains-tail}
 use Rattle.icode.specs.declared.action.Action.{Action}
 use Rattle.icode.specs.declared.action.Action.TheVariants.{Load, Tile}
-use Rattle.icode.specs.declared.action.Counts.{Counts}
-use Rattle.icode.specs.Machine.{counts_of}
-use Rattle.code_laws.specs.Lanes.{operations}
+use Rattle.code_laws.specs.Lanes.{operations, weighted_operations}
+use Rattle.code_laws.proofs.ByLane.{weight_of_one}
 use Rattle.code_laws.specs.Nests.{bodies, nest, loads}
 use Rattle.kernel_gen.specs.Kernel.{kernel_of}
 use Rattle.operators.specs.Sum.{list_below}
@@ -15,9 +14,9 @@ use Rattle.pass_actions.specs.Laws.{CanRun, CanRunNest, CanWork}
 use Rattle.pass_actions.specs.Machine.{PlainMachine, loop_counts}
 use Rattle.pass_actions.specs.Costs.{pass_cost, pass_loads}
 use Rattle.pass_actions.proofs.Copies.{nest-can}
-use Rattle.pass_actions.proofs.Counting.{counts-append}
+use Rattle.pass_actions.proofs.Counting.{Tally, counts-append, tally}
 use Rattle.pass_actions.proofs.Fillings.{working}
-use Rattle.pass_actions.proofs.KernelActions.{AreOperations, tree-operates, counts-operations, length-operations}
+use Rattle.pass_actions.proofs.KernelActions.{AreOperations, tree-operates, no-traffic, length-operations}
 use Rattle.pass_actions.proofs.PassCounts.{counts-are, stores-are}
 use Rattle.pass_actions.proofs.Rows.{row_acts}
 use Rattle.pass_actions.proofs.StraightCopies.{ends_of, copy_body}
@@ -28,7 +27,7 @@ use Rattle.tree_model.specs.Breakdown.{size_of}
 module _ (lanes : ℕ) (some : 0 < lanes) where
   -- the bound of a list
   abbrev bound : List Action → ℕ
-  bound actions = (counts_of lanes actions).operations + (counts_of lanes actions).loads + 2 * (counts_of lanes actions).stores
+  bound actions = (tally 1 lanes actions).operations + (tally 1 lanes actions).loads + 2 * (tally 1 lanes actions).stores
 
   -- so many more actions could be there
   abbrev pub HasRoom : ℕ → List Action → Type 0
@@ -36,10 +35,10 @@ module _ (lanes : ℕ) (some : 0 < lanes) where
 
   bound-append : (xs ys : List Action) → bound (xs ++ ys) ≡ bound xs + bound ys
   bound-append xs ys =
-      let all = counts-append lanes xs ys in
-      let o = ap (λ (k : Counts). k.operations) all in
-      let l = ap (λ (k : Counts). k.loads) all in
-      let s = ap (λ (k : Counts). k.stores) all in
+      let all = counts-append 1 lanes xs ys in
+      let o = ap (λ (k : Tally). k.operations) all in
+      let l = ap (λ (k : Tally). k.loads) all in
+      let s = ap (λ (k : Tally). k.stores) all in
       omega arith
 
   room-append : (a b : ℕ) (xs ys : List Action) → HasRoom a xs → HasRoom b ys → HasRoom (a + b) (xs ++ ys)
@@ -66,10 +65,10 @@ module _ (lanes : ℕ) (some : 0 < lanes) where
   room-operations : (m : ℕ) (actions : List Action) → AreOperations m actions → HasRoom 0 actions
   room-operations m actions are =
       let long = length-operations m actions are in
-      let all = counts-operations m lanes actions are in
-      let o = ap (λ (k : Counts). k.operations) all in
+      let none = no-traffic m lanes actions are in
+      let o : lanes * weighted_operations 1 actions ≡ operations actions * lanes = ap (λ n. lanes * n) (weight_of_one actions) ∙ mul_comm lanes (operations actions) in
       let several : operations actions * 1 ≤ operations actions * lanes = mul-le-mul_left (operations actions) some in
-      omega (arith, long, o, several)
+      omega (arith, long, none.0, none.1, o, several)
 
 module _ (c : PlainMachine) (p : PlainNest) (target q : ℕ) (vs : List ℕ) (some : 0 < c.lanes) where
   room-finish : (o : Option PlainMultiplier) (k from free : ℕ) → HasRoom c.lanes some 1 (finish_acts c p o target q vs k from free)
@@ -130,7 +129,7 @@ short_of procs o l s n cost loads size low co lo si =
     omega arith
 
 -- all processors together
-pub pass-short : (c : PlainMachine) (zs : List PlainNest) → CanRun c zs → (source target q : ℕ) → c.procs * length (pass_acts c zs source target q) ≤ pass_cost c.modulus zs + pass_loads zs + 2 * c.size
+pub pass-short : (c : PlainMachine) (zs : List PlainNest) → CanRun c zs → (source target q : ℕ) → c.procs * length (pass_acts c zs source target q) ≤ pass_cost 1 c.modulus zs + pass_loads zs + 2 * c.size
 pass-short c zs can source target q =
-    let are = counts-are c can.lanes can.modulus source target q zs can in
-    short_of c.procs _ _ _ (length (pass_acts c zs source target q)) _ _ _ (nests-room c can.lanes can.modulus source target q zs (nest-can c zs can)) are.operations are.loads (stores-are c can.lanes can.modulus source target q zs can)
+    let are = counts-are 1 c can.lanes can.modulus source target q zs can in
+    short_of c.procs _ _ _ (length (pass_acts c zs source target q)) _ _ _ (nests-room c can.lanes can.modulus source target q zs (nest-can c zs can)) are.operations are.loads (stores-are 1 c can.lanes can.modulus source target q zs can)

@@ -105,7 +105,7 @@ module _ (c : PlainMachine) (lanes : 0 < c.lanes) (modulus : 2 ≤ c.modulus) (s
       let deep = length (loop_counts c z) in
       let all : deep + 0 ≡ deep = omega arith in
       let made = kernel_of c.modulus c.lanes kind t root in
-      let done = kernel-runs c kind t root modulus can.work.0 can.work.1 0 lanes in
+      let done = kernel-runs c 1 kind t root modulus can.work.0 can.work.1 0 lanes in
       let grows = done.grows in
       let used : made.next < 2 ^ 20 = let least = finish-few p.multiplier made.next n (nest_registers c z z.work) (omega arith) in omega arith in
       let outputs : ℕ → PlainBody = λ k. finish_body f 0 z.multiplier z.scatters deep table target k (slice_index made.outs k) (made.next + k) in

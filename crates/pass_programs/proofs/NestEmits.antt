@@ -168,7 +168,7 @@ module _ (c : PlainMachine) (lanes : 0 < c.lanes) (modulus : 2 ≤ c.modulus) (p
   emits-copy p (kernel kind root t) can writes has vs range =
       let z : PlainNest = working p (kernel kind root t) in
       let deep = length (loop_counts c z) in
-      emits-made c z program here lanes q source target table vs has.diagonal (size_of t) (kernel_of c.modulus c.lanes kind t root) (kernel-runs c kind t root modulus can.work.0 can.work.1 0 lanes).constant
+      emits-made c z program here lanes q source target table vs has.diagonal (size_of t) (kernel_of c.modulus c.lanes kind t root) (kernel-runs c 1 kind t root modulus can.work.0 can.work.1 0 lanes).constant
       (λ k below. is-loaded c lanes z can writes q part vs range k below deep k vs (alone-coded c lanes z can writes q part vs range z.gathers k writes.gathers.1 writes.gathers.0.sound))
       (λ k below.
       is-stored c lanes z can writes q part vs range k below 0 deep k vs refl (alone-coded c lanes z can writes q part vs range z.scatters k writes.scatters.1 writes.scatters.0.sound)
