@@ -111,11 +111,11 @@ module _ (c : PlainMachine) (lanes : 0 < c.lanes) (z : PlainNest) (can : CanRunN
 
   -- the sum of a turn in a row, which does not hang on the row
   turn-coded : (k l : ℕ) → k < work_size z.work → l < work_size z.work → AreWithin (limits_of z) (frame_of c z.work) (deep + 2) z.gathers → AreSound z.gathers →
-      ((us : List ℕ) (row j : ℕ) → paths.AreInRange (loops_of z.counts) us → value (slice_index_or z.gathers 0 (constant 0)) (slice_index (us ++ row ∷ j ∷ [])) ≡ value (slice_index_or z.gathers 0 (constant 0)) (slice_index (us ++ 0 ∷ j ∷ []))) →
+      ((us : List ℕ) (row j : ℕ) → paths.AreInRange (loops_of z.counts) us → row < work_size z.work → j < work_size z.work → value (slice_index_or z.gathers 0 (constant 0)) (slice_index (us ++ row ∷ j ∷ [])) ≡ value (slice_index_or z.gathers 0 (constant 0)) (slice_index (us ++ 0 ∷ j ∷ []))) →
       IsCoded (frame_of c z.work) (deep + 2) z.gathers 0 ((vs ++ k ∷ []) ++ l ∷ []) q (sum_value z.gathers 0 (on 0 ++ 0 ∷ l ∷ []))
   turn-coded k l below under within sound alike =
       subst (λ (us : List ℕ). IsCoded (frame_of c z.work) (deep + 2) z.gathers 0 us q (sum_value z.gathers 0 (on 0 ++ 0 ∷ l ∷ []))) (sym (append_assoc vs (k ∷ []) (l ∷ [])))
-      (place-is c (deep + 2) 0 z z.gathers (vs ++ k ∷ l ∷ []) q _ _ (alike (on 0) k l (on-range 0 lanes))
+      (place-is c (deep + 2) 0 z z.gathers (vs ++ k ∷ l ∷ []) q _ _ (alike (on 0) k l (on-range 0 lanes) below under)
       (sum-coded z.gathers (deep + 2) 0 (k ∷ l ∷ []) within sound (length-two k l) (two-low k l below under)))
 
   -- ---- all lanes are inside

@@ -57,7 +57,7 @@ stores_inside (horner root size) = 1
 stores_inside w = 0
 
 abbrev pub LoadsEachRow : PlainNest → Type 0
-LoadsEachRow z = (vs : List ℕ) (row k : ℕ) → AreInRange (loops_of z.counts) vs →
+LoadsEachRow z = (vs : List ℕ) (row k : ℕ) → AreInRange (loops_of z.counts) vs → row < work_size z.work → k < work_size z.work →
     value (slice_index_or z.gathers 0 (constant 0)) (slice_index (vs ++ row ∷ k ∷ [])) ≡ value (slice_index_or z.gathers 0 (constant 0)) (slice_index (vs ++ 0 ∷ k ∷ []))
 
 -- what work by rows loads does not hang on the row: the first variable after those of the loops

@@ -48,8 +48,8 @@ stores-inside [] k range below = omega arith
 stores-inside (v ∷ vs) k range below = absurd range
 
 alike : LoadsEachRow nest
-alike [] row k range = refl
-alike (v ∷ vs) row k range = absurd range
+alike [] row k range first second = refl
+alike (v ∷ vs) row k range first second = absurd range
 
 nest-plain : IsPlainNest 2 5 nest
 nest-plain =

@@ -106,7 +106,7 @@ module _ (c : PlainMachine) (enough : c.size ≤ whole_lines c.size c.line) (cod
       let runs = runs-of c p known in
       record {
         stays = pass-stays c p known q low (array_start words source) (array_start words target);
-        operations = runs.operations (array_start words source) (array_start words target) q low;
+        operations = λ weight counted. runs.operations weight (array_start words source) (array_start words target) q counted low;
         loads = runs.loads (array_start words source) (array_start words target) q low;
         stores = runs.stores (array_start words source) (array_start words target) q low;
       }
