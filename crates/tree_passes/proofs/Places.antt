@@ -12,12 +12,13 @@ use Rattle.loop_merge.proofs.Shaped.{IsShaped}
 use Rattle.matrix_meaning.specs.declared.Request.{Request}
 use Rattle.matrix_meaning.specs.Valid.{IsValid}
 use Rattle.pass_actions.specs.Laws.{FindsFactors, HasResidues, MovesVectors}
-use Rattle.pass_actions.specs.Machine.{item_of, lane_step, values_of, vectors_of}
+use Rattle.pass_actions.specs.Machine.{item_of, lane_step, values_of}
 use Rattle.passes.specs.Copies.{loops_of}
 use Rattle.passes.specs.Loops.{PlainLoop, PlainTaken, nest_of, multiplier_of, places_by, IsGoodLoop}
 use Rattle.passes.specs.Merge.{items_in, items_out}
 use Rattle.passes.specs.Nest.{PlainMultiplier, inner_of, load_place, store_place, factor_at, factor_count}
 use Rattle.passes.specs.Work as works
+use Rattle.passes.specs.Work.{vectors_of}
 use Rattle.passes.proofs.Natural.{looped, ranged}
 use Rattle.passes.proofs.Listed.{loops_have_places}
 use Rattle.ring_mod.specs.Residue.{power_mod}

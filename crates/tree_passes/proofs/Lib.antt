@@ -1,0 +1,13 @@
+pub mod Works
+pub mod Frames
+pub mod Places
+pub mod Loops
+pub mod Bounded
+pub mod Sized
+pub mod Shares
+pub mod SizedTerms
+pub mod SizedPasses
+pub mod Sums
+pub mod Items
+pub mod KernelSizes
+pub mod Writes
