@@ -36,3 +36,4 @@ pub mod Counts
 pub mod Walks
 pub mod TreePlaces
 pub mod Listing
+pub mod LoopNests
