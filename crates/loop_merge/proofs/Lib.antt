@@ -37,3 +37,5 @@ pub mod Walks
 pub mod TreePlaces
 pub mod Listing
 pub mod LoopNests
+pub mod NestPlaces
+pub mod NestLists

@@ -1,23 +1,27 @@
 -- The loops of a phase's term are its passes, the latest first, so each pass of a tree is one nest.
-use Rattle.std.proofs.Common.{◌≡◌, refl, sym, ap, ap₂, ◌∙◌, List, [], ◌∷◌, ◌++◌, Some}
+use Rattle.std.proofs.Common.{◌≡◌, ◌*◌, refl, sym, ap, ap₂, ◌∙◌, List, [], ◌∷◌, ◌++◌, Some}
 use Rattle.std.specs.Prelude.{map, reverse}
 use Rattle.std.proofs.lemmas.List.{map-append, reverse-append, reverse-reverse}
+use Rattle.formula_lower.specs.Merged.{AllHaveLoops, phase_passes, tree_merged}
+use Rattle.formula_lower.specs.Order.{AllLoops}
 use Rattle.formula_lower.specs.Shared.{embed, phase_term}
-use Rattle.formula_lower.specs.Trees.{in_turn}
+use Rattle.formula_lower.proofs.HaveLoops.{phases_have_loops}
+use Rattle.formula_lower.proofs.Ordered.{trees_are_loops}
 use Rattle.index_fn.specs.Mapping.{Mapping}
 use Rattle.loop_merge.specs.Merge.{PlainPass, Merging, new_pass, scattered, multiplied, at_last, merge_term, merged, passes_of_terms}
-use Rattle.loop_merge.specs.Nests.{loop_of, LoopsListed}
+use Rattle.loop_merge.specs.Nests.{loop_of, LoopsListed, nests_of, TreeNests}
 use Rattle.matrix_meaning.specs.declared.Request.{Request}
-use Rattle.passes.specs.Loops.{PlainLoop, PlainTaken, Looping, begun, stored_last, scaled_last, looped, loops_in, one_nest}
+use Rattle.passes.specs.Loops.{PlainLoop, Looping, stored_last, scaled_last, looped, loops_in, one_nest}
+use Rattle.passes.specs.Merged.{PlainMerged}
 use Rattle.passes.specs.Nest.{PlainFactors, PlainNest, factor_count, twiddles, inner_of}
-use Rattle.sigma_lower.specs.Term.{PlainTerm, gath, scat, diag, nest}
+use Rattle.sigma_lower.specs.Term.{PlainTerm, gath, scat, diag, nest, lowered_of}
 use Rattle.sigma_lower.specs.Work.{transforming, tiling}
 use Rattle.tensor_paths.specs.Path.{Path}
 use Rattle.tree_model.specs.Cost.{node_root}
 
 -- ---- the first of a list from its end
 
-at_first : (PlainLoop → PlainLoop) → List PlainLoop → List PlainLoop
+abbrev at_first : (PlainLoop → PlainLoop) → List PlainLoop → List PlainLoop
 at_first g [] = []
 at_first g (p ∷ ps) = g p ∷ ps
 
@@ -109,3 +113,12 @@ phase-nests c ts =
     ∙ ap reverse (map-reverse loops)
     ∙ reverse-reverse (map one_nest loops)
     ∙ maps c (passes_of_terms ts)
+
+phases-nests : (c : Request) (phases : List (List PlainTerm)) → AllHaveLoops c phases → AllLoops c phases → map (phase_passes c) phases ≡ map (map (λ p. one_nest (loop_of c p))) (map passes_of_terms phases)
+phases-nests c [] have loops = refl
+phases-nests c (ts ∷ more) have loops = ap₂ (λ ps rest. ps ∷ rest) (ap reverse (loops.0 have.0) ∙ phase-nests c ts) (phases-nests c more have.1 loops.1)
+
+pub tree_nests : TreeNests
+tree_nests c t valid h =
+    ap (λ (phases : List (List (List PlainNest))). let g : PlainMerged = record { size = c.size; procs = c.procs; lanes = c.lanes; phases = phases } in g)
+    (phases-nests c (lowered_of c t) (phases_have_loops c t valid h) (trees_are_loops c t valid h))

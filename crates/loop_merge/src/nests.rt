@@ -1,9 +1,11 @@
 // The passes of a tree as nests, which know no request.
-ghost use Rattle.std.specs.Prelude.{◌≡◌, ◌+◌, ◌*◌, ◌^◌, ◌<◌, ◌≤◌, All, IfOk, map};
+ghost use Rattle.std.specs.Prelude.{◌≡◌, ◌*◌, ◌^◌, ◌<◌, All, IfOk, map};
 ghost use Rattle.formula_lower.specs.Merged.{tree_merged};
+ghost use Rattle.formula_lower.specs.Trees.{node_work};
 ghost use Rattle.index_fn.specs.Index.{mapping_of};
 ghost use Rattle.loop_merge.specs.Listed.{places_of};
 ghost use Rattle.loop_merge.specs.Nests.{loop_of, loop_work, taken_of};
+ghost use Rattle.loop_merge.specs.Placed.{diagonal_places};
 ghost use Rattle.loop_merge.specs.Reach.{AreNestable, CanReach, HasWords, IsNestable};
 ghost use Rattle.loop_merge.specs.Views.{plain_diagonal, plain_pass, plain_work};
 ghost use Rattle.loop_merge.specs.Walk.{AreOfTree, passes_in};
@@ -80,17 +82,18 @@ fn nest_all(alloc: Global, c: &Ctx, passes: &[Pass]) -> Result<Vec<Vec<Nest>>, N
 {
     let mut all = Vec::new(alloc);
     for pass in passes {
-        let nest = nest_one(alloc, c, pass)?;
-        all.push(alone(alloc, nest)?)?;
+        let nests = nest_alone(alloc, c, pass)?;
+        all.push(nests)?;
     }
     Ok(all)
 }
 
-fn alone(alloc: Global, nest: Nest) -> Result<Vec<Nest>, NoMemory>
-    ensures { IfOk result (λ nests. map plain_nest nests.items ≡ plain_nest nest ∷ []) }
+fn nest_alone(alloc: Global, c: &Ctx, pass: &Pass) -> Result<Vec<Nest>, NoMemory>
+    requires { IsNestable c.now (plain_pass pass.now) }
+    ensures { IfOk result (λ nests. map plain_nest nests.items ≡ one_nest (loop_of c.now (plain_pass pass.now))) }
 {
     let mut nests = Vec::new(alloc);
-    nests.push(nest)?;
+    nests.push(nest_one(alloc, c, pass)?)?;
     Ok(nests)
 }
 
@@ -99,7 +102,7 @@ fn nest_one(alloc: Global, c: &Ctx, pass: &Pass) -> Result<Nest, NoMemory>
     ensures { IfOk result (λ nest. plain_nest nest ≡ nest_of (loop_of c.now (plain_pass pass.now))) }
 {
     let work = loop_work(alloc, c, &pass.work)?;
-    let size = work.size();
+    let size = pass.work.size();
     let counts = counts(alloc, &pass.path)?;
     let limits = with_two(alloc, &counts, size)?;
     let depth = pass.path.len() as u64;
