@@ -2,14 +2,14 @@
 use Rattle.std.proofs.Common.{◌≡◌, ◌*◌, refl, sym, ap, ap₂, ◌∙◌, List, [], ◌∷◌, ◌++◌, Some}
 use Rattle.std.specs.Prelude.{map, reverse}
 use Rattle.std.proofs.lemmas.List.{map-append, reverse-append, reverse-reverse}
-use Rattle.formula_lower.specs.Merged.{AllHaveLoops, phase_passes, tree_merged}
+use Rattle.formula_lower.specs.Merged.{AllHaveLoops, phase_passes}
 use Rattle.formula_lower.specs.Order.{AllLoops}
 use Rattle.formula_lower.specs.Shared.{embed, phase_term}
 use Rattle.formula_lower.proofs.HaveLoops.{phases_have_loops}
 use Rattle.formula_lower.proofs.Ordered.{trees_are_loops}
 use Rattle.index_fn.specs.Mapping.{Mapping}
 use Rattle.loop_merge.specs.Merge.{PlainPass, Merging, new_pass, scattered, multiplied, at_last, merge_term, merged, passes_of_terms}
-use Rattle.loop_merge.specs.Nests.{loop_of, LoopsListed, nests_of, TreeNests}
+use Rattle.loop_merge.specs.Nests.{loop_of, LoopsListed, TreeNests}
 use Rattle.matrix_meaning.specs.declared.Request.{Request}
 use Rattle.passes.specs.Loops.{PlainLoop, Looping, stored_last, scaled_last, looped, loops_in, one_nest}
 use Rattle.passes.specs.Merged.{PlainMerged}

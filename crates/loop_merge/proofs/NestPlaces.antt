@@ -1,8 +1,7 @@
 -- The passes of a tree can become nests.
-use Rattle.std.proofs.Common.{◌≡◌, ℕ, ◌+◌, ◌*◌, ◌<◌, ◌≤◌, Bool, true, false, arith, refl, sym, ap, ap₂, ◌∙◌, List, [], ◌∷◌, ◌++◌, length, if◌then◌else◌, subst, inl, inr, Option}
-use Rattle.std.specs.Prelude.{All, map, slice_index}
+use Rattle.std.proofs.Common.{◌≡◌, ℕ, ◌+◌, ◌*◌, ◌≤◌, Bool, true, false, arith, refl, sym, ap, ap₂, ◌∙◌, List, [], ◌∷◌, ◌++◌, length, if◌then◌else◌, subst, inl, inr, Option}
+use Rattle.std.specs.Prelude.{All, map}
 use Rattle.std.specs.List.{range_with_len}
-use Rattle.std.specs.Option.{option_map}
 use Rattle.std.proofs.Math.Nat.{mul-le-mul}
 use Rattle.std.proofs.lemmas.Bool.{cases_eq, cases_lt}
 use Rattle.std.proofs.lemmas.Bool.Decides.{nat_tests}
@@ -10,7 +9,7 @@ use Rattle.std.proofs.lemmas.List.Elements.{All-nil, All-cons}
 use Rattle.formula_lower.specs.Trees.{long_work}
 use Rattle.index_fn.specs.Mapping.{Mapping, Always, Paired}
 use Rattle.loop_merge.specs.Listed.{item_of, counts_of, items_of, places_of}
-use Rattle.loop_merge.specs.Merge.{PlainDiagonal, PlainPass, merged_of, in_order}
+use Rattle.loop_merge.specs.Merge.{PlainDiagonal, PlainPass, merged_of}
 use Rattle.loop_merge.specs.Nests.{loop_work, loop_of, taken_of}
 use Rattle.loop_merge.specs.Placed.{diagonal_places}
 use Rattle.loop_merge.specs.Reach.{HasWords, ReachesAll, CanReach, IsReachable, AreReachable, IsNestable, AreNestable}
@@ -37,7 +36,6 @@ use Rattle.sigma_lower.specs.Wrapped as lowered
 use Rattle.tensor_paths.specs.declared.Tensor.TheVariants.{Blocks, Columns}
 use Rattle.tensor_paths.specs.Path.{Path, count_of, size_under, copies_of}
 use Rattle.tensor_paths.proofs.Under.{size_under-copies}
-use Rattle.tree_model.specs.declared.tree.Rule.{Rule}
 use Rattle.tree_model.specs.declared.tree.Rule.TheVariants.{Gt, Ct, Split}
 use Rattle.tree_model.specs.Admissible.{IsAdmissible}
 use Rattle.tree_model.specs.Breakdown.{Breakdown, leaf, node, size_of, AllowsLeaf, IsWellFormed}
@@ -51,6 +49,7 @@ size-same c (transforming t) = pick (is_kernel c (size_of t)) c.kind
   where
     root : ℕ
     root = node_root c (size_of t)
+
     pick : (b : Bool) (k : Kind) → works.work_size (if b then kernel c.kind root t else long_work k root t) ≡ size_of t
     pick true k = refl
     pick false Dft = refl
@@ -62,6 +61,7 @@ words-same c (transforming t) h = pick (is_kernel c (size_of t)) c.kind
   where
     root : ℕ
     root = node_root c (size_of t)
+
     pick : (b : Bool) (k : Kind) → works.HasWords (if b then kernel c.kind root t else long_work k root t)
     pick true k = h
     pick false Dft = tt
@@ -87,6 +87,7 @@ in-same c (transforming t) d h = pick (is_kernel c (size_of t)) c.kind h
   where
     root : ℕ
     root = node_root c (size_of t)
+
     pick : (b : Bool) (k : Kind) → (b ≡ false → k ≡ Dft) →
         items_in (if b then kernel c.kind root t else long_work k root t) d ≡ (if b then map (λ j. constant (item_of (transforming t) j 0)) (range_with_len 0 (size_of t)) else variable 1 (d + 1) (constant 0) ∷ [])
     pick true k g = refl
@@ -99,6 +100,7 @@ out-same c (transforming t) d h = pick (is_kernel c (size_of t)) c.kind h
   where
     root : ℕ
     root = node_root c (size_of t)
+
     pick : (b : Bool) (k : Kind) → (b ≡ false → k ≡ Dft) →
         items_out (if b then kernel c.kind root t else long_work k root t) d ≡ (if b then map (λ j. constant (item_of (transforming t) j 0)) (range_with_len 0 (size_of t)) else variable 1 d (constant 0) ∷ [])
     pick true k g = refl

@@ -1,6 +1,6 @@
 -- Passes: loops that gather, compute and scatter, into which the permutations and diagonals beside them have gone.
 use Rattle.std.specs.Prelude.{ℕ, List, [], ◌∷◌, ◌++◌, map, Option, Some, None}
-use Rattle.index_fn.specs.Mapping.{Mapping, at}
+use Rattle.index_fn.specs.Mapping.{Mapping}
 use Rattle.matrix_meaning.specs.declared.Request.{Request}
 use Rattle.operators.specs.Operator.{Operator, scale}
 pub use Rattle.passes.specs.Loops.{through}

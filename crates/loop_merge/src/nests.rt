@@ -1,5 +1,5 @@
 // The passes of a tree as nests, which know no request.
-ghost use Rattle.std.specs.Prelude.{◌≡◌, ◌*◌, ◌^◌, ◌<◌, All, IfOk, map};
+ghost use Rattle.std.specs.Prelude.{◌≡◌, ℕ, List, ◌*◌, ◌^◌, ◌<◌, All, IfOk, map};
 ghost use Rattle.formula_lower.specs.Merged.{tree_merged};
 ghost use Rattle.formula_lower.specs.Trees.{node_work};
 ghost use Rattle.index_fn.specs.Index.{mapping_of};
@@ -9,7 +9,9 @@ ghost use Rattle.loop_merge.specs.Placed.{diagonal_places};
 ghost use Rattle.loop_merge.specs.Reach.{AreNestable, CanReach, HasWords, IsNestable};
 ghost use Rattle.loop_merge.specs.Views.{plain_diagonal, plain_pass, plain_work};
 ghost use Rattle.loop_merge.specs.Walk.{AreOfTree, passes_in};
+ghost use Rattle.passes.specs.Good.{IsVector};
 ghost use Rattle.passes.specs.Loops.{nest_of, one_nest};
+ghost use Rattle.passes.specs.Merged.{merged_on};
 ghost use Rattle.passes.specs.Nest.{twiddles};
 ghost use Rattle.passes.specs.Views as nested;
 ghost use Rattle.passes.specs.Views.{plain_factors, plain_merged, plain_nest};
@@ -18,6 +20,7 @@ ghost use Rattle.sigma_lower.specs.Lowered.{sigma_of};
 ghost use Rattle.sigma_lower.specs.Room.{HasRoom};
 ghost use Rattle.sigma_lower.specs.Work.{work_size};
 ghost use Rattle.sigma_spl.specs.Views.{plain_sigma};
+ghost use Rattle.steps.specs.Meaning.{transform_of};
 ghost use Rattle.tree_model.specs.Admissible.{IsAdmissible};
 ghost use Rattle.tree_model.specs.Breakdown.{Breakdown, HasWordSizes, breakdown_of, size_of};
 ghost use Rattle.tree_model.specs.Cost.{node_root};
@@ -37,7 +40,8 @@ use tree_model::{Ctx, Tree, is_kernel, node_root};
 /// nest.
 pub fn merge_nests(alloc: Global, c: &Ctx, formulas: &[Sigma]) -> Result<Merged, NoMemory>
     requires { AreOfTree c.now (map plain_sigma formulas.now) }
-    ensures { IfOk result (λ m. (t : Breakdown) → IsAdmissible c.now t → map plain_sigma formulas.now ≡ sigma_of c.now t → plain_merged m ≡ tree_merged c.now t) }
+    ensures merged { IfOk result (λ m. (t : Breakdown) → IsAdmissible c.now t → map plain_sigma formulas.now ≡ sigma_of c.now t → plain_merged m ≡ tree_merged c.now t) }
+    ensures meaning { IfOk result (λ m. (x : List ℕ) → IsVector c.now.modulus c.now.size x → merged_on c.now.modulus (plain_merged m) x ≡ transform_of c.now c.now.size x) }
 {
     let request = c.request();
     let phases = nest_phases(alloc, c, formulas)?;
@@ -50,11 +54,7 @@ pub fn merge_nests(alloc: Global, c: &Ctx, formulas: &[Sigma]) -> Result<Merged,
 }
 
 // The nests of each formula.
-fn nest_phases(
-    alloc: Global,
-    c: &Ctx,
-    formulas: &[Sigma],
-) -> Result<Vec<Vec<Vec<Nest>>>, NoMemory>
+fn nest_phases(alloc: Global, c: &Ctx, formulas: &[Sigma]) -> Result<Vec<Vec<Vec<Nest>>>, NoMemory>
     requires { All (λ f. AreNestable c.now (passes_in (plain_sigma f))) formulas.now }
     ensures { IfOk result (λ phases. map (λ ps. map (λ zs. map plain_nest zs.items) ps.items) phases.items ≡ map (λ s. map (λ p. one_nest (loop_of c.now p)) (passes_in s)) (map plain_sigma formulas.now)) }
 {

@@ -1,4 +1,3 @@
-use Rattle.std.proofs.Common.{◌∙◌}
 use Rattle.std.specs.Prelude.{map}
 use Rattle.loop_merge.specs.Nests.{loop_of}
 use Rattle.loop_merge.specs.Views.{plain_pass}

@@ -1,4 +1,4 @@
-use Rattle.std.proofs.Common.{◌+◌, ap, ap₂, refl, sym, length, ◌∙◌, [], ◌∷◌, ◌++◌}
+use Rattle.std.proofs.Common.{ap, ap₂, refl, sym, length, ◌∙◌, [], ◌∷◌, ◌++◌}
 use Rattle.std.specs.Prelude.{List, map, Some}
 use Rattle.std.specs.Option.{option_map}
 use Rattle.index_fn.specs.Index.{mapping_of}
@@ -61,18 +61,18 @@ returns c =
     nest-same _ (nest_of (loop_of request pass)) counts c.in_ok-work.ensures
     (c.in_ok-gathers.ensures
     ∙ places-are request pass c.deref-3.result.now _ _ c.deref-5.result.now c.size-size.result _ _ (c.deref-3.ensures.value ∙ limits) (ap (map mapping_of) c.deref-4.ensures.value) c.deref-5.ensures.value c.size-size.ensures
-        (ap (map plain_sum) c.deref-6.ensures.value ∙ columns))
+    (ap (map plain_sum) c.deref-6.ensures.value ∙ columns))
     (elim c.match-pass.branch [
       | in-None w ↦ ap (option_map plain_multiplier) w.multiplier-is ∙ sym (ap (λ d. multiplier_of (loop_of request pass) (option_map (taken_of request) (option_map plain_diagonal d))) w.in-None.is)
       | in-Some+in_ok-places-in-Some w ↦
           let d = plain_diagonal w.in-Some.diagonal in
           ap (option_map plain_multiplier) w.multiplier-is
           ∙ ap₂ (λ (fs : PlainFactors) (es : List Sum). Some (let m : PlainMultiplier = record { factors = fs; places = es } in m)) w.factors.ensures
-              (w.in_ok-places-in-Some.ensures
-              ∙ places-are request pass w.deref-in-Some.result.now _ _ w.deref-in-Some-2.result.now c.size-size.result _ _ (w.deref-in-Some.ensures.value ∙ limits) (taken-places request d) w.deref-in-Some-2.ensures.value c.size-size.ensures
-                  (ap (map plain_sum) w.deref-in-Some-3.ensures.value ∙ rows))
+          (w.in_ok-places-in-Some.ensures
+          ∙ places-are request pass w.deref-in-Some.result.now _ _ w.deref-in-Some-2.result.now c.size-size.result _ _ (w.deref-in-Some.ensures.value ∙ limits) (taken-places request d) w.deref-in-Some-2.ensures.value c.size-size.ensures
+          (ap (map plain_sum) w.deref-in-Some-3.ensures.value ∙ rows))
           ∙ sym (ap (λ d. multiplier_of (loop_of request pass) (option_map (taken_of request) (option_map plain_diagonal d))) w.in-Some.is)
     ])
     (c.in_ok-scatters.ensures
     ∙ places-are request pass c.deref-7.result.now _ _ c.deref-9.result.now c.size-size.result _ _ (c.deref-7.ensures.value ∙ limits) (ap (map mapping_of) c.deref-8.ensures.value) c.deref-9.ensures.value c.size-size.ensures
-        (ap (map plain_sum) c.deref-10.ensures.value ∙ rows))
+    (ap (map plain_sum) c.deref-10.ensures.value ∙ rows))
