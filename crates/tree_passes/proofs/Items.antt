@@ -1,5 +1,5 @@
 -- The sums of a tree's nests can be written, and stand within the limits of programs.
-use Rattle.std.proofs.Common.{◌≡◌, ℕ, zero, suc, ◌+◌, ◌*◌, ◌<◌, ◌≤◌, Bool, true, false, List, [], ◌∷◌, ◌++◌, All, length, map, refl, sym, ap, ◌∙◌, arith, subst, if◌then◌else◌}
+use Rattle.std.proofs.Common.{◌≡◌, ℕ, zero, suc, ◌+◌, ◌*◌, ◌<◌, ◌≤◌, false, List, [], ◌∷◌, ◌++◌, All, length, map, refl, sym, ap, ◌∙◌, arith, subst}
 use Rattle.std.specs.Prelude.{Some, slice_index}
 use Rattle.std.specs.List.{range_with_len}
 use Rattle.std.proofs.lemmas.List.Elements.{All-nil, All-cons}
@@ -23,16 +23,16 @@ use Rattle.perm_algebra.specs.Affine.{Fits, Sum, constant, variable, levels, par
 use Rattle.shared_passes.specs.Shared.{IsFramed}
 use Rattle.sigma_lower.specs.Work as lowered
 use Rattle.sigma_lower.specs.Work.{transforming, tiling, work_size}
-use Rattle.tensor_paths.specs.Path.{Path, count_of, size_under}
+use Rattle.tensor_paths.specs.Path.{count_of, size_under}
 use Rattle.tree_model.specs.Breakdown.{Breakdown, size_of}
 use Rattle.tree_model.specs.Cost.{is_kernel, node_root}
 use Rattle.tree_passes.proofs.Bounded.{IsBounded}
 use Rattle.tree_passes.proofs.Frames.{loop-size}
 use Rattle.tree_passes.proofs.Loops.{at-column, at-row, counts-from, limits-low}
-use Rattle.tree_passes.proofs.Sized.{IsWide, AreSized, all-bounded, inner-bounded, place-bounded, under-least}
-use Rattle.tree_passes.proofs.SizedPasses.{IsSizedDiagonal, IsSizedPass}
+use Rattle.tree_passes.proofs.Sized.{AreSized, all-bounded, inner-bounded, place-bounded, under-least}
+use Rattle.tree_passes.proofs.SizedPasses.{IsSizedPass}
 use Rattle.tree_passes.proofs.Sums.{all-map, bounded-coded}
-use Rattle.tree_passes.proofs.Works.{by-work, long-of, node-of}
+use Rattle.tree_passes.proofs.Works.{by-work, long-of}
 
 -- ---- items
 

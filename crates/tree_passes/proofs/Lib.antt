@@ -11,3 +11,8 @@ pub mod Sums
 pub mod Items
 pub mod KernelSizes
 pub mod Writes
+pub mod Known
+pub mod Owned
+pub mod Bounds
+pub mod Few
+pub mod TreesCanProgram

@@ -1,8 +1,7 @@
 -- Each pass of a tree can be run and written.
-use Rattle.std.proofs.Common.{◌≡◌, ℕ, zero, suc, ◌+◌, ◌-◌, ◌*◌, ◌^◌, ◌<◌, ◌≤◌, Bool, true, false, List, [], ◌∷◌, ◌++◌, All, length, map, drop, refl, sym, ap, ap₂, ◌∙◌, arith, subst, Option, Some, None, if◌then◌else◌}
+use Rattle.std.proofs.Common.{◌≡◌, ℕ, zero, suc, ◌+◌, ◌-◌, ◌^◌, ◌<◌, ◌≤◌, Bool, true, false, List, [], ◌∷◌, ◌++◌, All, length, map, refl, sym, ap, ap₂, ◌∙◌, arith, subst, Option, Some, None, if◌then◌else◌}
 use Rattle.std.specs.Prelude.{◌==◌, max, not, nat_le, slice_index, slice_index_or}
 use Rattle.std.proofs.lemmas.Bool.Decides.{nat_tests}
-use Rattle.std.proofs.lemmas.List.{length-map}
 use Rattle.std.proofs.lemmas.List.Elements.{All-nil, All-cons, All-weaker}
 use Rattle.std.specs.Option.{option_map}
 use Rattle.index_fn.specs.Mapping.{Mapping}
@@ -197,7 +196,7 @@ module _ (c : Request) (p : PlainPass) (valid : IsValid c) (known : IsKnown c p)
       let few = few-loops in
       omega (arith, dropped, all, few)
 
-  n-small : works.work_size w ≤ 65536
+  pub n-small : works.work_size w ≤ 65536
   n-small = let least = under-least p.path (works.work_size w) known.sized.wide known.loop.some in omega (arith, least, fills, high)
 
   -- the nest with other work
