@@ -1,6 +1,6 @@
 -- Powers one after another.
-use Rattle.std.proofs.Common.{◌≡◌, ℕ, ◌+◌, ◌*◌, ◌%◌, ◌<◌, sym, ap, ◌∙◌, pow-suc}
-use Rattle.std.proofs.Math.Nat.{pow-zero, one-mul, mod-eq_of_lt}
+use Rattle.std.proofs.Common.{◌≡◌, ℕ, ◌+◌, ◌*◌, ◌%◌, ap, ◌∙◌, pow-suc}
+use Rattle.std.proofs.Math.Nat.{pow-zero, one-mul}
 use Rattle.ring_mod.specs.Residue.{power_mod}
 use Rattle.ring_mod.proofs.Powers.{power_mod-add}
 

@@ -1,9 +1,8 @@
-use Rattle.std.proofs.Common.{◌+◌, List, Vec, Global, length, map, sym, ap, ◌∙◌}
+use Rattle.std.proofs.Common.{◌+◌, List, Vec, Global, map, sym, ap, ◌∙◌}
 use Rattle.std.proofs.lemmas.List.{length-map}
 use Rattle.icode.specs.Plain.{plain_tables}
 use Rattle.pass_programs.specs.Program.{target_of}
 use Rattle.pass_programs.specs.Statements.{pass_body, tables_after}
-use Rattle.passes.specs.Nest.{PlainNest}
 use Rattle.passes.specs.Views.{plain_nest}
 use Rattle.passes.specs.declared.nest.Nest.{Nest}
 use Rattle.program_emit.specs.Views.{plain_host, plain_passes}

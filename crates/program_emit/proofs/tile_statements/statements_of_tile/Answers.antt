@@ -1,4 +1,4 @@
-use Rattle.std.proofs.Common.{ℕ, ◌+◌, List, ap, ap₂, ◌∙◌}
+use Rattle.std.proofs.Common.{◌+◌, List, ap, ap₂, ◌∙◌}
 use Rattle.icode.specs.declared.program.Stmt.{Stmt}
 use Rattle.icode.specs.Plain.{PlainBody, AndStmts, Do, Tile, plain_body}
 use Rattle.pass_programs.specs.Statements.{finish_body, followed_by, in_a_row}
