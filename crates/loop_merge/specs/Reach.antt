@@ -9,7 +9,7 @@ use Rattle.sigma_lower.specs.Room.{HasRoom}
 use Rattle.sigma_lower.specs.Work.{PlainWork, transforming, tiling, work_size}
 use Rattle.loop_merge.specs.Merge.{PlainDiagonal, PlainPass}
 use Rattle.loop_merge.specs.Placed.{AllRoom, place_sum, diagonal_places}
-use Rattle.loop_merge.specs.Listed.{counts_of, items_of}
+use Rattle.loop_merge.specs.Items.{counts_of, items_of}
 use Rattle.loop_merge.specs.Nests.{loop_work}
 use Rattle.passes.specs.Merge.{items_in, items_out}
 use Rattle.tensor_paths.specs.declared.Tensor.TheVariants.{Blocks, Columns}

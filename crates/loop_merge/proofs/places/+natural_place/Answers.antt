@@ -4,7 +4,7 @@ use Rattle.perm_algebra.specs.Views.{plain_sum}
 use Rattle.loop_merge.specs.Placed.{place_sum}
 use Rattle.loop_merge.proofs.Reaching.{blocks-value, columns-value}
 use Rattle.tensor_paths.specs.Path.{size_under}
-use Rattle.loop_merge.proofs.listed.+natural_place.Goals as goal
+use Rattle.loop_merge.proofs.places.+natural_place.Goals as goal
 
 pub join-requires-clause-fits : goal.join-requires-clause-fits
 join-requires-clause-fits t c vs range =

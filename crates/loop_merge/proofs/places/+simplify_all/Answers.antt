@@ -1,5 +1,5 @@
 use Rattle.std.proofs.Common.{arith}
-use Rattle.loop_merge.proofs.listed.+simplify_all.Goals as goal
+use Rattle.loop_merge.proofs.places.+simplify_all.Goals as goal
 
 pub simplify_all-requires : goal.simplify_all-requires
 simplify_all-requires t c =

@@ -17,7 +17,7 @@ use Rattle.sigma_spl.specs.Views.{plain_sigma}
 use Rattle.sigma_spl.specs.declared.Sigma.{Sigma}
 use Rattle.tree_model.specs.Admissible.{IsAdmissible}
 use Rattle.tree_model.specs.Breakdown.{Breakdown}
-use Rattle.loop_merge.proofs.nests.merge_nests.Goals as goal
+use Rattle.loop_merge.proofs.nests.merge.Goals as goal
 
 abbrev merged_by : Request → List (List (List PlainNest)) → PlainMerged
 merged_by r phases = record { size = r.size; procs = r.procs; lanes = r.lanes; phases = phases }
