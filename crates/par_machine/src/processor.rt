@@ -19,6 +19,7 @@ use std::marker::Model;
 
 const NO_COUNTS: Counts = Counts {
     operations: 0,
+    muls: 0,
     loads: 0,
     stores: 0,
 };
