@@ -29,10 +29,10 @@ copies-more path t =
 -- ---- WHT
 
 -- of two items: an addition and a subtraction
-two-cost : (m : ℕ) → kernel_cost m Wht (leaf 2) 0 ≡ 2
+two-cost : (m : ℕ) → kernel_cost 1 m Wht (leaf 2) 0 ≡ 2
 unfolding lib.Count.ones
 two-cost m = ap (λ c. 2 + (0 + (0 + 0 + 0) + (0 + 0 + c))) (minus m) ∙ omega arith where
-  minus : (m : ℕ) → product_cost m 0 (m - 1) ≡ 0
+  minus : (m : ℕ) → product_cost 1 m 0 (m - 1) ≡ 0
   minus m = grind (arith, nat_tests)
 
 hadamard-step : (c n k inner columns all : ℕ) → inner ≡ c * 2 * (n * k) → columns ≡ c * n * 2 → all ≡ 2 * n → inner + columns ≡ c * (all * suc k)

@@ -10,7 +10,7 @@ use Rattle.icode.proofs.Bools.{both_true}
 use Rattle.icode.specs.Limits.{is_small, is_small_positive, is_expr_within, is_op_within, is_body_within}
 use Rattle.icode.specs.Plain.{PlainBody, PlainExpr, PlainOp, NoStmts, AndStmts, Loop, Do, Load, Store, Add, MulTable}
 use Rattle.code_laws.specs.Lanes.{IsArithmetic, AreArithmetic}
-use Rattle.pass_programs.specs.Machine.{PlainFrame}
+use Rattle.pass_actions.specs.Machine.{PlainFrame}
 use Rattle.pass_programs.specs.Statements.{do_only, finish_body, followed_by, in_a_row, loads_body, loop_value, nested, op_of, place_at, product_place, straight_body}
 use Rattle.passes.specs.Nest.{PlainMultiplier, PlainNest}
 use Rattle.perm_algebra.specs.Affine.{Sum}

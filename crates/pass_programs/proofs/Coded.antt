@@ -7,7 +7,7 @@ use Rattle.perm_algebra.specs.Affine.{Sum, constant, variable, remainder, quotie
 use Rattle.perm_algebra.proofs.AffineLaws.{value-le-top}
 use Rattle.pass_programs.specs.Conditions.{DividesWords, FitsWord}
 use Rattle.pass_programs.specs.Expressions.{expr_of}
-use Rattle.pass_programs.specs.Machine.{PlainMachine, PlainFrame, frame_of, values_of}
+use Rattle.pass_actions.specs.Machine.{PlainMachine, PlainFrame, frame_of, values_of}
 use Rattle.pass_programs.proofs.Numbers.{DividesLow, expr-value, expr-peak}
 use Rattle.pass_programs.proofs.Variables.{framed-values, no-more}
 use Rattle.passes.specs.Good.{AreSound}

@@ -13,15 +13,15 @@ use Rattle.code_laws.specs.Lanes.{AreConstant}
 use Rattle.code_laws.specs.Nests.{bodies, loads}
 use Rattle.kernel_gen.specs.Making.{Made}
 use Rattle.operators.proofs.Lists.{length-list_below, at-list_below}
-use Rattle.pass_programs.specs.Acts.{load_at, store_at, factors_at, finish_acts, made_acts, tile_acts, rows_acts, items_acts, term_acts, horner_acts}
+use Rattle.pass_actions.specs.Acts.{load_at, store_at, factors_at, finish_acts, made_acts, tile_acts, rows_acts, items_acts, term_acts, horner_acts}
 use Rattle.pass_programs.specs.Conditions.{IsInside}
-use Rattle.pass_programs.specs.Machine.{PlainMachine, frame_of, item_of, values_of, loop_counts}
+use Rattle.pass_actions.specs.Machine.{PlainMachine, frame_of, item_of, values_of, loop_counts}
 use Rattle.pass_programs.specs.Statements.{diagonal_of, powers_of, do_only, in_a_row, followed_by, place_at, finish_body, straight_body, op_of, loads_body, made_body, tile_body, rows_body, items_body, loop_value, product_place, term_body, horner_body}
 use Rattle.pass_programs.proofs.Coded.{IsCoded}
 use Rattle.pass_programs.proofs.Emits.{Emits, emits-none, emits-one, emits-append, emits-followed, emits-in_a_row, emits-looped, emits-loop, emits-then}
 use Rattle.pass_programs.proofs.Places.{IsFor, start_of, emits-load, emits-store, emits-product}
 use Rattle.pass_programs.proofs.PlaceNumbers.{loop-value, loop-peak, product-value, product-peak}
-use Rattle.pass_programs.proofs.Rows.{row_acts}
+use Rattle.pass_actions.proofs.Rows.{row_acts}
 use Rattle.passes.specs.Nest.{PlainMultiplier, PlainNest, factor_at, factor_count, store_place}
 use Rattle.ring_mod.specs.Residue.{power_mod}
 use Rattle.ring_mod.proofs.Powers.{power_mod-exponent}

@@ -1,24 +1,3 @@
-mod Factors
-mod Tasks
-pub mod KernelActions
-mod Finish
-pub mod StraightCopies
-mod TileCopies
-mod KernelCopies
-pub mod Rows
-mod Horner
-mod Once
-pub mod Framed
-pub mod Copies
-pub mod Kernels
-mod Items
-pub mod Fillings
-mod Leaves
-mod Counting
-mod PassCounts
-mod Fitting
-mod Short
-pub mod PassesRun
 mod Writing
 mod Numbers
 pub mod Variables

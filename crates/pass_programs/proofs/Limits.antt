@@ -13,17 +13,17 @@ use Rattle.kernel_gen.specs.Kernel.{kernel_of}
 use Rattle.kernel_gen.proofs.Below.{at-AllBelow}
 use Rattle.operators.specs.Sum.{list_below}
 use Rattle.perm_algebra.specs.Affine.{Sum, constant}
-use Rattle.pass_programs.specs.Acts.{nest_registers}
+use Rattle.pass_actions.specs.Acts.{nest_registers}
 use Rattle.pass_programs.specs.Conditions.{AreWithin, CanWriteNest}
-use Rattle.pass_programs.specs.Laws.{CanRunNest}
-use Rattle.pass_programs.specs.Machine.{PlainMachine, PlainFrame, frame_of, loop_counts}
+use Rattle.pass_actions.specs.Laws.{CanRunNest}
+use Rattle.pass_actions.specs.Machine.{PlainMachine, PlainFrame, frame_of, loop_counts}
 use Rattle.pass_programs.specs.Statements.{diagonal_of, powers_of, finish_body, followed_by, horner_body, in_a_row, product_place, loads_body, multiplier_number, nest_body, place_at, powers_number, rows_body, straight_body, tables_of_multiplier, tables_of_nest, tables_of_work, term_body, work_body}
 use Rattle.pass_programs.proofs.BodyLimits.{ArePlaces, both, finish-within, horner-within, loads-within, product-within, small-is, straight-within, term-within, within-do, within-followed, within-in_a_row, within-loop, within-nested}
-use Rattle.pass_programs.proofs.Fillings.{working}
-use Rattle.pass_programs.proofs.KernelActions.{AreOperations, tree-operates}
-use Rattle.pass_programs.proofs.Kernels.{kernel-runs}
+use Rattle.pass_actions.proofs.Fillings.{working}
+use Rattle.pass_actions.proofs.KernelActions.{AreOperations, tree-operates}
+use Rattle.pass_actions.proofs.Kernels.{kernel-runs}
 use Rattle.pass_programs.proofs.SharedTables.{number-small, with_table-longer}
-use Rattle.pass_programs.proofs.StraightCopies.{finish-few}
+use Rattle.pass_actions.proofs.StraightCopies.{finish-few}
 use Rattle.passes.specs.Merge.{limits_of}
 use Rattle.passes.specs.Nest.{PlainMultiplier, PlainNest}
 use Rattle.passes.specs.Work.{PlainWork, kernel, rows, horner, tile, copy}
@@ -105,7 +105,7 @@ module _ (c : PlainMachine) (lanes : 0 < c.lanes) (modulus : 2 ≤ c.modulus) (s
       let deep = length (loop_counts c z) in
       let all : deep + 0 ≡ deep = omega arith in
       let made = kernel_of c.modulus c.lanes kind t root in
-      let done = kernel-runs c kind t root modulus can.work.0 can.work.1 0 lanes in
+      let done = kernel-runs c 1 kind t root modulus can.work.0 can.work.1 0 lanes in
       let grows = done.grows in
       let used : made.next < 2 ^ 20 = let least = finish-few p.multiplier made.next n (nest_registers c z z.work) (omega arith) in omega arith in
       let outputs : ℕ → PlainBody = λ k. finish_body f 0 z.multiplier z.scatters deep table target k (slice_index made.outs k) (made.next + k) in

@@ -8,17 +8,17 @@ use Rattle.code_laws.specs.Nests.{AreInRange}
 use Rattle.kernel_gen.specs.Kernel.{kernel_of}
 use Rattle.operators.proofs.Lists.{row-of, column-of}
 use Rattle.perm_algebra.specs.Affine.{Sum, constant, value}
-use Rattle.pass_programs.specs.Acts.{load_at, store_at, copy_acts, nest_acts, term_acts, horner_acts}
+use Rattle.pass_actions.specs.Acts.{load_at, store_at, copy_acts, nest_acts, term_acts, horner_acts}
 use Rattle.pass_programs.specs.Conditions.{AreWithin, CanWriteNest}
-use Rattle.pass_programs.specs.Laws.{CanRunNest}
-use Rattle.pass_programs.specs.Machine.{PlainMachine, frame_of, item_of, vectors_of, values_of, loop_counts, lane_step}
+use Rattle.pass_actions.specs.Laws.{CanRunNest}
+use Rattle.pass_actions.specs.Machine.{PlainMachine, frame_of, item_of, values_of, loop_counts, lane_step}
 use Rattle.pass_programs.specs.Statements.{diagonal_of, powers_of, multiplier_number, nest_body, nested, place_at, powers_number, table_number, tables_of_multiplier, tables_of_nest, tables_of_work, term_body, horner_body, with_table, work_body}
 use Rattle.pass_programs.proofs.Coded.{IsCoded, coded}
 use Rattle.pass_programs.proofs.Emits.{Emits, emits-nested}
 use Rattle.pass_programs.proofs.Emitted.{IsLoadedAt, IsStoredAt, emits-made, emits-tile, emits-rows, emits-items, emits-term, emits-horner}
-use Rattle.pass_programs.proofs.Fillings.{working}
-use Rattle.pass_programs.proofs.Framed.{copy-framed, in_counts, item-below, loops-are, of_code}
-use Rattle.pass_programs.proofs.Kernels.{kernel-runs}
+use Rattle.pass_actions.proofs.Fillings.{working}
+use Rattle.pass_actions.proofs.Framed.{copy-framed, in_counts, item-below, loops-are, of_code}
+use Rattle.pass_actions.proofs.Kernels.{kernel-runs}
 use Rattle.pass_programs.proofs.Places.{IsFor, start_of}
 use Rattle.pass_programs.proofs.SharedTables.{Extends, number-stays, number-there, with_table-extends}
 use Rattle.pass_programs.proofs.Variables.{below-limits, length-range, values-append}
@@ -26,7 +26,7 @@ use Rattle.passes.specs.Copies.{loops_of}
 use Rattle.passes.specs.Good.{AreSound}
 use Rattle.passes.specs.Merge.{limits_of}
 use Rattle.passes.specs.Nest.{PlainMultiplier, PlainNest, store_place, sum_value}
-use Rattle.passes.specs.Work.{PlainWork, kernel, rows, horner, tile, copy, work_size}
+use Rattle.passes.specs.Work.{PlainWork, kernel, rows, horner, tile, copy, work_size, vectors_of}
 use Rattle.tensor_paths.specs.Path as paths
 use Rattle.tree_model.specs.Breakdown.{size_of}
 
@@ -111,11 +111,11 @@ module _ (c : PlainMachine) (lanes : 0 < c.lanes) (z : PlainNest) (can : CanRunN
 
   -- the sum of a turn in a row, which does not hang on the row
   turn-coded : (k l : ℕ) → k < work_size z.work → l < work_size z.work → AreWithin (limits_of z) (frame_of c z.work) (deep + 2) z.gathers → AreSound z.gathers →
-      ((us : List ℕ) (row j : ℕ) → paths.AreInRange (loops_of z.counts) us → value (slice_index_or z.gathers 0 (constant 0)) (slice_index (us ++ row ∷ j ∷ [])) ≡ value (slice_index_or z.gathers 0 (constant 0)) (slice_index (us ++ 0 ∷ j ∷ []))) →
+      ((us : List ℕ) (row j : ℕ) → paths.AreInRange (loops_of z.counts) us → row < work_size z.work → j < work_size z.work → value (slice_index_or z.gathers 0 (constant 0)) (slice_index (us ++ row ∷ j ∷ [])) ≡ value (slice_index_or z.gathers 0 (constant 0)) (slice_index (us ++ 0 ∷ j ∷ []))) →
       IsCoded (frame_of c z.work) (deep + 2) z.gathers 0 ((vs ++ k ∷ []) ++ l ∷ []) q (sum_value z.gathers 0 (on 0 ++ 0 ∷ l ∷ []))
   turn-coded k l below under within sound alike =
       subst (λ (us : List ℕ). IsCoded (frame_of c z.work) (deep + 2) z.gathers 0 us q (sum_value z.gathers 0 (on 0 ++ 0 ∷ l ∷ []))) (sym (append_assoc vs (k ∷ []) (l ∷ [])))
-      (place-is c (deep + 2) 0 z z.gathers (vs ++ k ∷ l ∷ []) q _ _ (alike (on 0) k l (on-range 0 lanes))
+      (place-is c (deep + 2) 0 z z.gathers (vs ++ k ∷ l ∷ []) q _ _ (alike (on 0) k l (on-range 0 lanes) below under)
       (sum-coded z.gathers (deep + 2) 0 (k ∷ l ∷ []) within sound (length-two k l) (two-low k l below under)))
 
   -- ---- all lanes are inside
@@ -168,7 +168,7 @@ module _ (c : PlainMachine) (lanes : 0 < c.lanes) (modulus : 2 ≤ c.modulus) (p
   emits-copy p (kernel kind root t) can writes has vs range =
       let z : PlainNest = working p (kernel kind root t) in
       let deep = length (loop_counts c z) in
-      emits-made c z program here lanes q source target table vs has.diagonal (size_of t) (kernel_of c.modulus c.lanes kind t root) (kernel-runs c kind t root modulus can.work.0 can.work.1 0 lanes).constant
+      emits-made c z program here lanes q source target table vs has.diagonal (size_of t) (kernel_of c.modulus c.lanes kind t root) (kernel-runs c 1 kind t root modulus can.work.0 can.work.1 0 lanes).constant
       (λ k below. is-loaded c lanes z can writes q part vs range k below deep k vs (alone-coded c lanes z can writes q part vs range z.gathers k writes.gathers.1 writes.gathers.0.sound))
       (λ k below.
       is-stored c lanes z can writes q part vs range k below 0 deep k vs refl (alone-coded c lanes z can writes q part vs range z.scatters k writes.scatters.1 writes.scatters.0.sound)

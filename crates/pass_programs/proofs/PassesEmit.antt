@@ -6,15 +6,15 @@ use Rattle.icode.specs.declared.program.Array.{Array}
 use Rattle.icode.specs.Actions.{steps_of_body}
 use Rattle.icode.specs.Limits.{is_body_within}
 use Rattle.icode.specs.Plain.{PlainProgram}
-use Rattle.pass_programs.specs.Acts.{nest_acts, nest_registers, pass_acts}
+use Rattle.pass_actions.specs.Acts.{nest_acts, nest_registers, pass_acts}
 use Rattle.pass_programs.specs.Conditions.{CanWriteNest, HasTables, PassesAreEmitted}
-use Rattle.pass_programs.specs.Laws.{CanRunNest}
-use Rattle.pass_programs.specs.Machine.{PlainMachine}
+use Rattle.pass_actions.specs.Laws.{CanRunNest}
+use Rattle.pass_actions.specs.Machine.{PlainMachine}
 use Rattle.pass_programs.specs.Statements.{nest_body, pass_body, tables_after, tables_of_nest}
 use Rattle.pass_programs.proofs.BodyLimits.{within-followed}
-use Rattle.pass_programs.proofs.Copies.{nest-can}
+use Rattle.pass_actions.proofs.Copies.{nest-can}
 use Rattle.pass_programs.proofs.Emits.{Emits, emits-followed, emits-none}
-use Rattle.pass_programs.proofs.Fillings.{registers-le}
+use Rattle.pass_actions.proofs.Fillings.{registers-le}
 use Rattle.pass_programs.proofs.Limits.{nest-longer, nest-within}
 use Rattle.pass_programs.proofs.NestEmits.{emits-nest, extends-more, nest-extends}
 use Rattle.pass_programs.proofs.Places.{IsFor, start_of}

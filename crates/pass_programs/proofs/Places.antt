@@ -10,7 +10,7 @@ use Rattle.icode.specs.Machine.{whole_lines}
 use Rattle.icode.specs.Plain.{PlainExpr, PlainProgram, Load, Store, MulTable}
 use Rattle.pass_programs.specs.Statements.{do_only, place_at}
 use Rattle.pass_programs.proofs.Emits.{Emits, emits-do}
-use Rattle.pass_programs.specs.Machine.{PlainMachine, PlainFrame}
+use Rattle.pass_actions.specs.Machine.{PlainMachine, PlainFrame}
 use Rattle.pass_programs.proofs.Coded.{IsCoded}
 use Rattle.operators.proofs.Lists.{list_below-same}
 use Rattle.perm_algebra.specs.Affine.{Sum}

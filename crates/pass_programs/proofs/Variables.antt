@@ -2,7 +2,7 @@
 use Rattle.std.proofs.Common.{◌≡◌, ℕ, zero, suc, ◌+◌, ◌-◌, ◌<◌, ◌≤◌, Bool, true, false, arith, refl, ap, ◌∙◌, List, [], ◌∷◌, ◌++◌, length, if◌then◌else◌, append_assoc}
 use Rattle.std.specs.Prelude.{slice_index, not, ◌==◌}
 use Rattle.code_laws.specs.Nests.{AreInRange}
-use Rattle.pass_programs.specs.Machine.{PlainMachine, one_if_several, first_loop, frame_of, if_several, values_of}
+use Rattle.pass_actions.specs.Machine.{PlainMachine, one_if_several, first_loop, frame_of, if_several, values_of}
 use Rattle.pass_programs.proofs.Numbers.{IsFramedBy, AreNoMore}
 use Rattle.passes.specs.Work.{PlainWork, kernel, rows, horner, tile, copy}
 

@@ -8,7 +8,7 @@ use Rattle.icode.specs.Plain.{PlainParts, PlainPart, AndParts, Proc, Var}
 use Rattle.perm_algebra.specs.Affine.{Sum, constant, variable, remainder, quotient, levels, parts}
 use Rattle.perm_algebra.specs.Room.{constant_of}
 use Rattle.pass_programs.specs.Expressions.{factor_at, variables_of, processor_of, remainders_of, quotients_of, divisions_of, expr_of}
-use Rattle.pass_programs.specs.Machine.{PlainFrame}
+use Rattle.pass_actions.specs.Machine.{PlainFrame}
 use Rattle.pass_programs.specs.Small.{DividesSmall, ExpressionsAreWithin, HasSmall, IsFrame, IsSmallPositive}
 use Rattle.pass_programs.proofs.Numbers.{with_factor_of}
 use Rattle.pass_programs.proofs.Writing.{is-zero, not-zero, factor-other}

@@ -5,10 +5,10 @@ use Rattle.icode.specs.Limits.{is_body_within, is_expr_within}
 use Rattle.icode.specs.Machine.{whole_lines}
 use Rattle.icode.specs.Plain.{PlainProgram}
 use Rattle.icode.specs.declared.program.Array.{Array}
-use Rattle.pass_programs.specs.Acts.{pass_acts, pass_registers}
+use Rattle.pass_actions.specs.Acts.{pass_acts, pass_registers}
 use Rattle.pass_programs.specs.Expressions.{factor_at, expr_of}
-use Rattle.pass_programs.specs.Laws.{CanRun}
-use Rattle.pass_programs.specs.Machine.{PlainMachine, PlainFrame, frame_of, loop_counts}
+use Rattle.pass_actions.specs.Laws.{CanRun}
+use Rattle.pass_actions.specs.Machine.{PlainMachine, PlainFrame, frame_of, loop_counts}
 use Rattle.pass_programs.specs.Statements.{pass_body, tables_after}
 use Rattle.passes.specs.Copies.{loops_of}
 use Rattle.passes.specs.Good.{NamesItems}
@@ -57,7 +57,7 @@ stores_inside (horner root size) = 1
 stores_inside w = 0
 
 abbrev pub LoadsEachRow : PlainNest → Type 0
-LoadsEachRow z = (vs : List ℕ) (row k : ℕ) → AreInRange (loops_of z.counts) vs →
+LoadsEachRow z = (vs : List ℕ) (row k : ℕ) → AreInRange (loops_of z.counts) vs → row < work_size z.work → k < work_size z.work →
     value (slice_index_or z.gathers 0 (constant 0)) (slice_index (vs ++ row ∷ k ∷ [])) ≡ value (slice_index_or z.gathers 0 (constant 0)) (slice_index (vs ++ 0 ∷ k ∷ []))
 
 -- what work by rows loads does not hang on the row: the first variable after those of the loops

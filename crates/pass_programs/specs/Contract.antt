@@ -3,18 +3,19 @@ use Rattle.std.specs.Prelude.{◌≡◌, ℕ, suc, ◌+◌, ◌*◌, ◌/◌, �
 use Rattle.std.specs.List.{range_with_len}
 use Rattle.icode.specs.Actions.{PlainFits, array_start, plain_code}
 use Rattle.icode.specs.Limits.{IsWithinLimits}
-use Rattle.icode.specs.Machine.{IsApart, acts, counts_of, results, whole_lines}
+use Rattle.icode.specs.Machine.{IsApart, acts, counts_of, results, weighted, whole_lines}
 use Rattle.icode.specs.Plain.{PlainProgram}
 use Rattle.icode.specs.declared.action.Action.{Action}
 use Rattle.icode.specs.declared.action.Action.TheVariants.{Load, Store}
 use Rattle.icode.specs.declared.program.Array.{Array}
 use Rattle.icode.specs.declared.program.Array.TheVariants.{X}
 use Rattle.pass_programs.specs.Conditions.{CanWritePass}
-use Rattle.pass_programs.specs.Laws.{IsLoadedBy, IsStoredBy}
-use Rattle.pass_programs.specs.Machine.{PlainMachine}
-use Rattle.pass_programs.specs.Merged.{PlainMerged, merged_on, pass_cost, pass_loads}
+use Rattle.pass_actions.specs.Laws.{IsLoadedBy, IsStoredBy}
+use Rattle.pass_actions.specs.Machine.{PlainMachine}
+use Rattle.pass_actions.specs.Costs.{pass_cost, pass_loads}
 use Rattle.pass_programs.specs.Program.{target_of, tables_of_phases, program_of}
 use Rattle.passes.specs.Good.{IsVector}
+use Rattle.passes.specs.Merged.{PlainMerged, merged_on}
 use Rattle.passes.specs.Nest.{PlainNest}
 
 -- ---- conditions
@@ -60,7 +61,7 @@ all_passes (ps ∷ more) = ps ++ all_passes more
 -- no more actions than these: operations, loads, stores, and a zero for each row
 abbrev pub most_actions : PlainMachine → List (List PlainNest) → ℕ
 most_actions h [] = 0
-most_actions h (zs ∷ ps) = pass_cost h.modulus zs + pass_loads zs + 2 * h.size + most_actions h ps
+most_actions h (zs ∷ ps) = pass_cost 1 h.modulus zs + pass_loads zs + 2 * h.size + most_actions h ps
 
 -- a machine that programs may be for
 pub record IsHost (h : PlainMachine) : Type 0 where
@@ -91,10 +92,10 @@ Stays n lanes source target (Load r a) = (source ≤ a) × (a + lanes ≤ source
 Stays n lanes source target (Store a r) = (target ≤ a) × (a + lanes ≤ target + n)
 Stays n lanes source target _ = Unit {0}
 
--- a processor's part of a pass: an equal share of its counts, between its two arrays
+-- a processor's part of a pass: an equal share of its counts, whatever a product counts, between its two arrays
 pub record IsPart (h : PlainMachine) (zs : List PlainNest) (source target : ℕ) (actions : List Action) : Type 0 where
   pub stays : All (Stays h.size h.lanes source target) actions
-  pub operations : h.procs * (counts_of h.lanes actions).operations ≡ pass_cost h.modulus zs
+  pub operations : (weight : ℕ) → 0 < weight → h.procs * weighted weight (counts_of h.lanes actions) ≡ pass_cost weight h.modulus zs
   pub loads : h.procs * (counts_of h.lanes actions).loads ≡ pass_loads zs
   pub stores : h.procs * (counts_of h.lanes actions).stores ≡ h.size
 

@@ -1,7 +1,3 @@
-pub mod Machine
-pub mod Acts
-pub mod Merged
-pub mod Laws
 pub mod Expressions
 pub mod Statements
 pub mod Conditions

@@ -3,10 +3,10 @@ use Rattle.std.specs.Prelude.{ℕ, zero, suc, ◌+◌, ◌%◌, ◌==◌, if◌t
 use Rattle.icode.specs.Plain.{PlainBody, PlainProgram, NoStmts}
 use Rattle.icode.specs.declared.program.Array.{Array}
 use Rattle.icode.specs.declared.program.Array.TheVariants.{X, Y, A, B}
-use Rattle.pass_programs.specs.Acts.{pass_registers}
-use Rattle.pass_programs.specs.Machine.{PlainMachine}
-use Rattle.pass_programs.specs.Merged.{PlainMerged}
+use Rattle.pass_actions.specs.Acts.{pass_registers}
+use Rattle.pass_actions.specs.Machine.{PlainMachine}
 use Rattle.pass_programs.specs.Statements.{followed_by, pass_body, tables_after}
+use Rattle.passes.specs.Merged.{PlainMerged}
 use Rattle.passes.specs.Nest.{PlainNest}
 
 -- The array that the pass number t writes, where so many passes come after it: A, B, A, B and so on, and last Y

@@ -3,7 +3,7 @@ use Rattle.std.specs.Prelude.{◌≡◌, ℕ, ◌^◌, ◌<◌, ◌≤◌, true,
 use Rattle.icode.specs.Limits.{is_expr_within}
 use Rattle.pass_programs.specs.Conditions.{CanWrite, FitsWord}
 use Rattle.pass_programs.specs.Expressions.{expr_of, factor_at}
-use Rattle.pass_programs.specs.Machine.{PlainFrame}
+use Rattle.pass_actions.specs.Machine.{PlainFrame}
 use Rattle.perm_algebra.specs.Affine.{Sum, constant, variable, remainder, quotient, levels, parts, top}
 use Rattle.perm_algebra.specs.Room.{constant_of}
 

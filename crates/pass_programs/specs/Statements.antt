@@ -8,7 +8,7 @@ use Rattle.kernel_gen.specs.Kernel.{kernel_of}
 use Rattle.kernel_gen.specs.Making.{Made}
 use Rattle.operators.specs.Sum.{list_below}
 use Rattle.pass_programs.specs.Expressions.{expr_of}
-use Rattle.pass_programs.specs.Machine.{PlainMachine, PlainFrame, frame_of, loop_counts}
+use Rattle.pass_actions.specs.Machine.{PlainMachine, PlainFrame, frame_of, loop_counts}
 use Rattle.passes.specs.Nest.{PlainFactors, factor_count, factor_at, PlainMultiplier, PlainNest}
 use Rattle.passes.specs.Work.{PlainWork, kernel, rows, horner, tile, copy, work_size}
 use Rattle.perm_algebra.specs.Affine.{constant}

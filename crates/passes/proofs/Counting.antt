@@ -70,87 +70,90 @@ items-once n cs h once = sym (all-hit n cs h) ∙ sum_below-same n (hits cs) (λ
 
 -- ---- passes
 
-module _ (cost : PlainWork → ℕ) (free : CopiesAreFree cost) where
-  cost-gathered : (f : Mapping) (zs : List PlainNest) → pass_cost cost (gathered f zs) ≡ pass_cost cost zs
+module _ (weight : ℕ) (cost : PlainWork → ℕ) (free : CopiesAreFree cost) where
+  cost-gathered : (f : Mapping) (zs : List PlainNest) → pass_cost weight cost (gathered f zs) ≡ pass_cost weight cost zs
   cost-gathered f [] = refl
-  cost-gathered f (z ∷ zs) = ap (λ b. nest_cost cost z + b) (cost-gathered f zs)
+  cost-gathered f (z ∷ zs) = ap (λ b. nest_cost weight cost z + b) (cost-gathered f zs)
 
-  cost-scattered : (f : Mapping) (zs : List PlainNest) → pass_cost cost (scattered f zs) ≡ pass_cost cost zs
+  cost-scattered : (f : Mapping) (zs : List PlainNest) → pass_cost weight cost (scattered f zs) ≡ pass_cost weight cost zs
   cost-scattered f [] = refl
-  cost-scattered f (z ∷ zs) = ap (λ b. nest_cost cost z + b) (cost-scattered f zs)
+  cost-scattered f (z ∷ zs) = ap (λ b. nest_cost weight cost z + b) (cost-scattered f zs)
 
-  more-cost : (c a s x y i : ℕ) → x ≡ y + i → c * (a + s) + x ≡ c * (a + 0) + y + (c * s + i)
+  more-cost : (c a s x y i : ℕ) → x ≡ y + weight * i → c * (a + weight * s) + x ≡ c * (a + 0) + y + weight * (c * s + i)
   more-cost c a s x y i e =
-      let f : c * (a + s) ≡ c * (a + 0) + c * s = omega arith in omega (arith, e, f)
+      let f : c * (a + weight * s) ≡ c * (a + 0) + c * (weight * s) = omega arith in
+      let g : weight * (c * s + i) ≡ weight * (c * s) + weight * i = omega arith in
+      let k : c * (weight * s) ≡ weight * (c * s) = omega arith in
+      omega (arith, e, f, g, k)
 
-  cost-multiplied : (m : ℕ) (factors : PlainFactors) (fs : List Mapping) (zs : List PlainNest) → AreFree zs → pass_cost cost (multiplied factors fs zs) ≡ pass_cost cost zs + items_of (map (copies_of m) zs)
-  cost-multiplied m factors fs [] h = refl
+  cost-multiplied : (m : ℕ) (factors : PlainFactors) (fs : List Mapping) (zs : List PlainNest) → AreFree zs → pass_cost weight cost (multiplied factors fs zs) ≡ pass_cost weight cost zs + weight * items_of (map (copies_of m) zs)
+  cost-multiplied m factors fs [] h = omega arith
   cost-multiplied m factors fs (z ∷ zs) h =
       more-cost (copies_in z.counts) (cost z.work) (work_size z.work) _ _ _ (cost-multiplied m factors fs zs h.1)
-      ∙ ap (λ (o : Option PlainMultiplier). copies_in z.counts * (cost z.work + multiplier_cost o z.work) + pass_cost cost zs + (copies_in z.counts * work_size z.work + items_of (map (copies_of m) zs))) (sym h.0)
+      ∙ ap (λ (o : Option PlainMultiplier). copies_in z.counts * (cost z.work + multiplier_cost weight o z.work) + pass_cost weight cost zs + weight * (copies_in z.counts * work_size z.work + items_of (map (copies_of m) zs))) (sym h.0)
 
-  multiplied-more : (lanes : ℕ) (m n : ℕ) (factors : PlainFactors) (fs : List Mapping) (zs : List PlainNest) → IsGoodPass lanes m n zs → AreFree zs → pass_cost cost (multiplied factors fs zs) ≡ pass_cost cost zs + n
-  multiplied-more lanes m n factors fs zs good h = cost-multiplied m factors fs zs h ∙ ap (λ i. pass_cost cost zs + i) (items-once n (map (copies_of m) zs) (all-inside lanes m n zs good.nests) good.once)
+  multiplied-more : (lanes : ℕ) (m n : ℕ) (factors : PlainFactors) (fs : List Mapping) (zs : List PlainNest) → IsGoodPass lanes m n zs → AreFree zs → pass_cost weight cost (multiplied factors fs zs) ≡ pass_cost weight cost zs + weight * n
+  multiplied-more lanes m n factors fs zs good h = cost-multiplied m factors fs zs h ∙ ap (λ i. pass_cost weight cost zs + weight * i) (items-once n (map (copies_of m) zs) (all-inside lanes m n zs good.nests) good.once)
 
-  cost-copying : (n : ℕ) → pass_cost cost (copying n) ≡ 0
+  cost-copying : (n : ℕ) → pass_cost weight cost (copying n) ≡ 0
   cost-copying n = ap (λ a. copies_in (map count_of (one_loop n)) * (a + 0) + 0) (free 1) ∙ omega arith
 
-  cost-append : (ps qs : List (List PlainNest)) → passes_cost cost (ps ++ qs) ≡ passes_cost cost ps + passes_cost cost qs
+  cost-append : (ps qs : List (List PlainNest)) → passes_cost weight cost (ps ++ qs) ≡ passes_cost weight cost ps + passes_cost weight cost qs
   cost-append [] qs = omega arith
   cost-append (zs ∷ ps) qs = omega (arith, cost-append ps qs)
 
-  cost-take : (room : Room) (n : ℕ) (zs : List PlainNest) (fs : List Mapping) → pass_cost cost (take_gathers room n zs fs).pass ≡ pass_cost cost zs
+  cost-take : (room : Room) (n : ℕ) (zs : List PlainNest) (fs : List Mapping) → pass_cost weight cost (take_gathers room n zs fs).pass ≡ pass_cost weight cost zs
   cost-take room n zs [] = refl
   cost-take room n zs (f ∷ fs) =
-      chosen (λ (t : Taking). pass_cost cost t.pass ≡ pass_cost cost zs) (fits room n (gathered f zs)) _ _ (λ _. cost-take room n (gathered f zs) fs ∙ cost-gathered f zs) refl
+      chosen (λ (t : Taking). pass_cost weight cost t.pass ≡ pass_cost weight cost zs) (fits room n (gathered f zs)) _ _ (λ _. cost-take room n (gathered f zs) fs ∙ cost-gathered f zs) refl
 
-  cost-by : (room : Room) (n : ℕ) (f : Mapping) → pass_cost cost (copy_by room n f) ≡ 0
+  cost-by : (room : Room) (n : ℕ) (f : Mapping) → pass_cost weight cost (copy_by room n f) ≡ 0
   cost-by room n f =
-      chosen (λ zs. ◌≡◌ {A = ℕ} (pass_cost cost zs) 0) (fits room n (gathered f (copying n))) _ _
+      chosen (λ zs. ◌≡◌ {A = ℕ} (pass_cost weight cost zs) 0) (fits room n (gathered f (copying n))) _ _
       (λ _. cost-gathered f (copying n) ∙ cost-copying n)
       (ap (λ a. 1 * (a + 0) + 0) (free (length (list_below n (at f)))) ∙ omega arith)
 
-  cost-copies : (room : Room) (n : ℕ) (zs : List PlainNest) (fs : List Mapping) → passes_cost cost (copies_before room n zs fs) ≡ pass_cost cost zs
+  cost-copies : (room : Room) (n : ℕ) (zs : List PlainNest) (fs : List Mapping) → passes_cost weight cost (copies_before room n zs fs) ≡ pass_cost weight cost zs
   cost-copies room n zs [] = omega arith
   cost-copies room n zs (f ∷ fs) =
-      chosen (λ ps. passes_cost cost ps ≡ pass_cost cost zs) (fits room n (gathered f zs)) _ _
+      chosen (λ ps. passes_cost weight cost ps ≡ pass_cost weight cost zs) (fits room n (gathered f zs)) _ _
       (λ _. cost-copies room n (gathered f zs) fs ∙ cost-gathered f zs)
       (omega (arith, cost-copies room n (copy_by room n f) fs, cost-by room n f))
 
-  cost-settled : (room : Room) (n : ℕ) (fs : List Mapping) → passes_cost cost (settled room n fs) ≡ 0
+  cost-settled : (room : Room) (n : ℕ) (fs : List Mapping) → passes_cost weight cost (settled room n fs) ≡ 0
   cost-settled room n [] = refl
   cost-settled room n (f ∷ fs) = cost-copies room n (copy_by room n f) fs ∙ cost-by room n f
 
-  cost-pass : (room : Room) (n : ℕ) (st : Merging) (zs : List PlainNest) → passes_cost cost (with_pass room n st zs).passes ≡ pass_cost cost zs + passes_cost cost st.passes
+  cost-pass : (room : Room) (n : ℕ) (st : Merging) (zs : List PlainNest) → passes_cost weight cost (with_pass room n st zs).passes ≡ pass_cost weight cost zs + passes_cost weight cost st.passes
   cost-pass room n st zs =
       let left = (take_gathers room n zs st.waiting).left in
-      ap₂ (λ a b. a + b) (cost-take room n zs st.waiting) (cost-append (settled room n left) st.passes ∙ ap (λ a. a + passes_cost cost st.passes) (cost-settled room n left) ∙ omega arith)
+      ap₂ (λ a b. a + b) (cost-take room n zs st.waiting) (cost-append (settled room n left) st.passes ∙ ap (λ a. a + passes_cost weight cost st.passes) (cost-settled room n left) ∙ omega arith)
 
-  cost-copy : (lanes : ℕ) (m : ℕ) (room : Room) (n : ℕ) (st : Merging) (path : Path) (factors : PlainFactors) → passes_cost cost (with_copy room n st path factors).passes ≡ passes_cost cost st.passes + n
+  cost-copy : (lanes : ℕ) (m : ℕ) (room : Room) (n : ℕ) (st : Merging) (path : Path) (factors : PlainFactors) → passes_cost weight cost (with_copy room n st path factors).passes ≡ passes_cost weight cost st.passes + weight * n
   cost-copy lanes m room n st path factors =
-      chosen (λ (next : Merging). passes_cost cost next.passes ≡ passes_cost cost st.passes + n) (can_take room n factors (factor_places st.waiting path factors) (copying n)) _ _
+      chosen (λ (next : Merging). passes_cost weight cost next.passes ≡ passes_cost weight cost st.passes + weight * n) (can_take room n factors (factor_places st.waiting path factors) (copying n)) _ _
       (λ _. omega (arith, multiplied-more lanes m n factors (factor_places st.waiting path factors) (copying n) (copying-good lanes m n) (copying-free n), cost-copying n))
       (omega (arith, multiplied-more lanes m n (spread path factors) [] (copying n) (copying-good lanes m n) (copying-free n), cost-copying n, cost-append (settled room n st.waiting) st.passes, cost-settled room n st.waiting))
 
-  cost-diagonal : (lanes : ℕ) (m : ℕ) (room : Room) (n : ℕ) (waiting : List Mapping) (passes : List (List PlainNest)) (path : Path) (factors : PlainFactors) → AreGoodPasses lanes m n passes → passes_cost cost (with_diagonal room n waiting passes path factors).passes ≡ passes_cost cost passes + n
+  cost-diagonal : (lanes : ℕ) (m : ℕ) (room : Room) (n : ℕ) (waiting : List Mapping) (passes : List (List PlainNest)) (path : Path) (factors : PlainFactors) → AreGoodPasses lanes m n passes → passes_cost weight cost (with_diagonal room n waiting passes path factors).passes ≡ passes_cost weight cost passes + weight * n
   cost-diagonal lanes m room n waiting [] path factors good = cost-copy lanes m room n (record { waiting = waiting; passes = [] }) path factors
   cost-diagonal lanes m room n waiting (zs ∷ ps) path factors good =
-      chosen (λ (next : Merging). passes_cost cost next.passes ≡ passes_cost cost (zs ∷ ps) + n) (suits path zs && can_take room n factors (factor_places waiting path factors) zs) _ _
+      chosen (λ (next : Merging). passes_cost weight cost next.passes ≡ passes_cost weight cost (zs ∷ ps) + weight * n) (suits path zs && can_take room n factors (factor_places waiting path factors) zs) _ _
       (λ can. omega (arith, multiplied-more lanes m n factors (factor_places waiting path factors) zs good.0 (taken-free room n factors (factor_places waiting path factors) zs (and-right (suits path zs) _ can))))
       (cost-copy lanes m room n (record { waiting = waiting; passes = zs ∷ ps }) path factors)
 
-  cost-scatter : (room : Room) (n : ℕ) (waiting : List Mapping) (passes : List (List PlainNest)) (f : Mapping) → passes_cost cost (with_scatter room n waiting passes f).passes ≡ passes_cost cost passes
+  cost-scatter : (room : Room) (n : ℕ) (waiting : List Mapping) (passes : List (List PlainNest)) (f : Mapping) → passes_cost weight cost (with_scatter room n waiting passes f).passes ≡ passes_cost weight cost passes
   cost-scatter room n [] [] f = refl
   cost-scatter room n [] (zs ∷ ps) f =
-      chosen (λ (next : Merging). passes_cost cost next.passes ≡ passes_cost cost (zs ∷ ps)) (fits room n (scattered f zs)) _ _ (λ _. ap (λ a. a + passes_cost cost ps) (cost-scattered f zs)) refl
+      chosen (λ (next : Merging). passes_cost weight cost next.passes ≡ passes_cost weight cost (zs ∷ ps)) (fits room n (scattered f zs)) _ _ (λ _. ap (λ a. a + passes_cost weight cost ps) (cost-scattered f zs)) refl
   cost-scatter room n (g ∷ gs) passes f = refl
 
-  cost-ended : (room : Room) (n : ℕ) (fs : List Mapping) (passes : List (List PlainNest)) → passes_cost cost (ended room n fs passes) ≡ passes_cost cost passes
+  cost-ended : (room : Room) (n : ℕ) (fs : List Mapping) (passes : List (List PlainNest)) → passes_cost weight cost (ended room n fs passes) ≡ passes_cost weight cost passes
   cost-ended room n [] passes = refl
   cost-ended room n (f ∷ fs) [] = cost-settled room n (from_end (f ∷ fs))
   cost-ended room n (f ∷ fs) (zs ∷ ps) =
-      chosen (λ qs. passes_cost cost qs ≡ passes_cost cost (zs ∷ ps)) (fits room n (scattered (back_of f) zs)) _ _
-      (λ _. cost-ended room n fs (scattered (back_of f) zs ∷ ps) ∙ ap (λ a. a + passes_cost cost ps) (cost-scattered (back_of f) zs))
+      chosen (λ qs. passes_cost weight cost qs ≡ passes_cost weight cost (zs ∷ ps)) (fits room n (scattered (back_of f) zs)) _ _
+      (λ _. cost-ended room n fs (scattered (back_of f) zs ∷ ps) ∙ ap (λ a. a + passes_cost weight cost ps) (cost-scattered (back_of f) zs))
       (omega (arith, cost-append (settled room n (from_end (f ∷ fs))) (zs ∷ ps), cost-settled room n (from_end (f ∷ fs))))
 
   -- ---- side by side
@@ -161,41 +164,41 @@ module _ (cost : PlainWork → ℕ) (free : CopiesAreFree cost) where
     times : (a b c : ℕ) → a * (b * c) ≡ a * b * c
     times a b c = omega arith
 
-  renumbered-cost : (k : ℕ) (o : Option PlainMultiplier) (w : PlainWork) → multiplier_cost (renumbered_places k o) w ≡ multiplier_cost o w
+  renumbered-cost : (k : ℕ) (o : Option PlainMultiplier) (w : PlainWork) → multiplier_cost weight (renumbered_places k o) w ≡ multiplier_cost weight o w
   renumbered-cost k None w = refl
   renumbered-cost k (Some d) w = refl
 
-  cost-lifted : (path : Path) (n before : ℕ) (zs : List PlainNest) → pass_cost cost (map (lifted path n before) zs) ≡ paths.copies_of path * pass_cost cost zs
+  cost-lifted : (path : Path) (n before : ℕ) (zs : List PlainNest) → pass_cost weight cost (map (lifted path n before) zs) ≡ paths.copies_of path * pass_cost weight cost zs
   cost-lifted path n before [] = omega arith
   cost-lifted path n before (z ∷ zs) =
-      let one : nest_cost cost (lifted path n before z) ≡ paths.copies_of path * copies_in z.counts * (cost z.work + multiplier_cost z.multiplier z.work) =
+      let one : nest_cost weight cost (lifted path n before z) ≡ paths.copies_of path * copies_in z.counts * (cost z.work + multiplier_cost weight z.multiplier z.work) =
       ap₂ (λ a b. a * (cost z.work + b)) (copies-append path z.counts) (renumbered-cost (length path) z.multiplier z.work) in
-      ap₂ (λ a b. a + b) one (cost-lifted path n before zs) ∙ spread (paths.copies_of path) (copies_in z.counts) (cost z.work + multiplier_cost z.multiplier z.work) (pass_cost cost zs) where
+      ap₂ (λ a b. a + b) one (cost-lifted path n before zs) ∙ spread (paths.copies_of path) (copies_in z.counts) (cost z.work + multiplier_cost weight z.multiplier z.work) (pass_cost weight cost zs) where
         spread : (p c a b : ℕ) → p * c * a + p * b ≡ p * (c * a + b)
         spread p c a b = omega arith
 
-  cost-both : (zs ys : List PlainNest) → pass_cost cost (zs ++ ys) ≡ pass_cost cost zs + pass_cost cost ys
+  cost-both : (zs ys : List PlainNest) → pass_cost weight cost (zs ++ ys) ≡ pass_cost weight cost zs + pass_cost weight cost ys
   cost-both [] ys = omega arith
   cost-both (z ∷ zs) ys = omega (arith, cost-both zs ys)
 
-  cost-side : (path : Path) (k l : ℕ) (zs ys : List PlainNest) → pass_cost cost (side path k l zs ys) ≡ paths.copies_of path * (pass_cost cost zs + pass_cost cost ys)
+  cost-side : (path : Path) (k l : ℕ) (zs ys : List PlainNest) → pass_cost weight cost (side path k l zs ys) ≡ paths.copies_of path * (pass_cost weight cost zs + pass_cost weight cost ys)
   cost-side path k l zs ys =
-      cost-both (map (lifted path (k + l) 0) zs) (map (lifted path (k + l) k) ys) ∙ ap₂ (λ a b. a + b) (cost-lifted path (k + l) 0 zs) (cost-lifted path (k + l) k ys) ∙ together (paths.copies_of path) (pass_cost cost zs) (pass_cost cost ys) where
+      cost-both (map (lifted path (k + l) 0) zs) (map (lifted path (k + l) k) ys) ∙ ap₂ (λ a b. a + b) (cost-lifted path (k + l) 0 zs) (cost-lifted path (k + l) k ys) ∙ together (paths.copies_of path) (pass_cost weight cost zs) (pass_cost weight cost ys) where
         together : (p a b : ℕ) → p * a + p * b ≡ p * (a + b)
         together p a b = omega arith
 
   sides-step : (p a b c d x y : ℕ) → x ≡ p * (a + b) → y ≡ p * (c + d) → x + y ≡ p * (a + c + (b + d))
   sides-step p a b c d x y e f = ap₂ (λ u v. u + v) e f ∙ omega arith
 
-  cost-sides : (path : Path) (k l : ℕ) (ps qs : List (List PlainNest)) → passes_cost cost (sides path k l ps qs) ≡ paths.copies_of path * (passes_cost cost ps + passes_cost cost qs)
+  cost-sides : (path : Path) (k l : ℕ) (ps qs : List (List PlainNest)) → passes_cost weight cost (sides path k l ps qs) ≡ paths.copies_of path * (passes_cost weight cost ps + passes_cost weight cost qs)
   cost-sides path k l [] [] = omega arith
   cost-sides path k l (zs ∷ ps) [] =
-      sides-step (paths.copies_of path) (pass_cost cost zs) 0 (passes_cost cost ps) 0 _ _ (cost-side path k l zs (copying l) ∙ ap (λ c. paths.copies_of path * (pass_cost cost zs + c)) (cost-copying l)) (cost-sides path k l ps [])
+      sides-step (paths.copies_of path) (pass_cost weight cost zs) 0 (passes_cost weight cost ps) 0 _ _ (cost-side path k l zs (copying l) ∙ ap (λ c. paths.copies_of path * (pass_cost weight cost zs + c)) (cost-copying l)) (cost-sides path k l ps [])
   cost-sides path k l [] (ys ∷ qs) =
-      sides-step (paths.copies_of path) 0 (pass_cost cost ys) 0 (passes_cost cost qs) _ _ (cost-side path k l (copying k) ys ∙ ap (λ c. paths.copies_of path * (c + pass_cost cost ys)) (cost-copying k)) (cost-sides path k l [] qs)
-  cost-sides path k l (zs ∷ ps) (ys ∷ qs) = sides-step (paths.copies_of path) (pass_cost cost zs) (pass_cost cost ys) (passes_cost cost ps) (passes_cost cost qs) _ _ (cost-side path k l zs ys) (cost-sides path k l ps qs)
+      sides-step (paths.copies_of path) 0 (pass_cost weight cost ys) 0 (passes_cost weight cost qs) _ _ (cost-side path k l (copying k) ys ∙ ap (λ c. paths.copies_of path * (c + pass_cost weight cost ys)) (cost-copying k)) (cost-sides path k l [] qs)
+  cost-sides path k l (zs ∷ ps) (ys ∷ qs) = sides-step (paths.copies_of path) (pass_cost weight cost zs) (pass_cost weight cost ys) (passes_cost weight cost ps) (passes_cost weight cost qs) _ _ (cost-side path k l zs ys) (cost-sides path k l ps qs)
 
-  cost-passes : (room : Room) (n : ℕ) (st : Merging) (ps : List (List PlainNest)) → passes_cost cost (with_passes room n st ps).passes ≡ passes_cost cost ps + passes_cost cost st.passes
+  cost-passes : (room : Room) (n : ℕ) (st : Merging) (ps : List (List PlainNest)) → passes_cost weight cost (with_passes room n st ps).passes ≡ passes_cost weight cost ps + passes_cost weight cost st.passes
   cost-passes room n st [] = omega arith
   cost-passes room n st (zs ∷ []) = omega (arith, cost-pass room n st zs)
   cost-passes room n st (zs ∷ ys ∷ ps) = omega (arith, cost-passes room n st (ys ∷ ps))
@@ -206,17 +209,17 @@ module _ (cost : PlainWork → ℕ) (free : CopiesAreFree cost) where
   copies-counts [] = refl
   copies-counts (t ∷ path) = ap (λ a. count_of t * a) (copies-counts path)
 
-  cost-merged : (lanes : ℕ) (m n : ℕ) (room : Room) (st : Merging) (t : PlainTerm) → 0 < m → 0 < n → IsGoodTerm lanes n t → Stands lanes m n st → passes_cost cost (merged room n st t).passes ≡ term_cost cost n t + passes_cost cost st.passes
+  cost-merged : (lanes : ℕ) (m n : ℕ) (room : Room) (st : Merging) (t : PlainTerm) → 0 < m → 0 < n → IsGoodTerm lanes n t → Stands lanes m n st → passes_cost weight cost (merged room n st t).passes ≡ term_cost weight cost n t + passes_cost weight cost st.passes
   cost-merged lanes m n room st same positive some good stands = omega arith
   cost-merged lanes m n room st (gath f) positive some good stands = omega arith
   cost-merged lanes m n room st (scat f) positive some good stands = omega (arith, cost-scatter room n st.waiting st.passes f)
   cost-merged lanes m n room st (diag path factors) positive some good stands = omega (arith, cost-diagonal lanes m room n st.waiting st.passes path factors stands.good)
   cost-merged lanes m n room st (nest path w) positive some good stands =
-      cost-pass room n st (new_nest path w _ ∷ []) ∙ ap₂ (λ a b. a * (cost w + 0) + 0 + b) (copies-counts path) refl ∙ ap (λ a. a + passes_cost cost st.passes) (plain (paths.copies_of path) (cost w)) where
+      cost-pass room n st (new_nest path w _ ∷ []) ∙ ap₂ (λ a b. a * (cost w + 0) + 0 + b) (copies-counts path) refl ∙ ap (λ a. a + passes_cost weight cost st.passes) (plain (paths.copies_of path) (cost w)) where
         plain : (a b : ℕ) → a * (b + 0) + 0 ≡ a * b
         plain a b = let e : b + 0 ≡ b = omega arith in ap (λ z. a * z + 0) e ∙ omega arith
   cost-merged lanes m n room st (move path ks) positive some good stands =
-      cost-pass room n st (new_nest path (copy (length ks)) _ ∷ []) ∙ ap (λ a. copies_in (map count_of path) * (a + 0) + 0 + passes_cost cost st.passes) (free (length ks)) ∙ omega arith
+      cost-pass room n st (new_nest path (copy (length ks)) _ ∷ []) ∙ ap (λ a. copies_in (map count_of path) * (a + 0) + 0 + passes_cost weight cost st.passes) (free (length ks)) ∙ omega arith
   cost-merged lanes m n room st (product a b) positive some good stands =
       let first = merged-reaches lanes m n room st a positive some good.0 stands in
       omega (arith, cost-merged lanes m n room st a positive some good.0 stands, cost-merged lanes m n room (merged room n st a) b positive some good.1 first.stands)
@@ -226,18 +229,18 @@ module _ (cost : PlainWork → ℕ) (free : CopiesAreFree cost) where
       let second = merged inner l nothing b in
       let ps = ended inner k (from_end first.waiting) first.passes in
       let qs = ended inner l (from_end second.waiting) second.passes in
-      let x : passes_cost cost ps ≡ term_cost cost k a = cost-ended inner k (from_end first.waiting) first.passes ∙ cost-merged 0 m k inner nothing a positive good.0 good.3 (nothing-stands 0 m k) ∙ omega arith in
-      let y : passes_cost cost qs ≡ term_cost cost l b = cost-ended inner l (from_end second.waiting) second.passes ∙ cost-merged 0 m l inner nothing b positive good.1 good.4 (nothing-stands 0 m l) ∙ omega arith in
-      cost-passes room n st (sides path k l ps qs) ∙ ap (λ a. a + passes_cost cost st.passes) (cost-sides path k l ps qs ∙ ap₂ (λ u v. paths.copies_of path * (u + v)) x y)
+      let x : passes_cost weight cost ps ≡ term_cost weight cost k a = cost-ended inner k (from_end first.waiting) first.passes ∙ cost-merged 0 m k inner nothing a positive good.0 good.3 (nothing-stands 0 m k) ∙ omega arith in
+      let y : passes_cost weight cost qs ≡ term_cost weight cost l b = cost-ended inner l (from_end second.waiting) second.passes ∙ cost-merged 0 m l inner nothing b positive good.1 good.4 (nothing-stands 0 m l) ∙ omega arith in
+      cost-passes room n st (sides path k l ps qs) ∙ ap (λ a. a + passes_cost weight cost st.passes) (cost-sides path k l ps qs ∙ ap₂ (λ u v. paths.copies_of path * (u + v)) x y)
 
-  cost-any : (n : ℕ) (ps : List (List PlainNest)) → passes_cost cost (if_any n ps) ≡ passes_cost cost ps
+  cost-any : (n : ℕ) (ps : List (List PlainNest)) → passes_cost weight cost (if_any n ps) ≡ passes_cost weight cost ps
   cost-any n [] = omega (arith, cost-copying n)
   cost-any n (zs ∷ ps) = refl
 
 pub merge_counts : MergeCounts
-merge_counts lanes m n room t cost positive some free good =
+merge_counts lanes m n room t weight cost positive some free good =
     let all = merged room n nothing t in
-    cost-any cost free n (ended room n (from_end all.waiting) all.passes)
-    ∙ cost-ended cost free room n (from_end all.waiting) all.passes
-    ∙ cost-merged cost free lanes m n room nothing t positive some good (nothing-stands lanes m n)
+    cost-any weight cost free n (ended room n (from_end all.waiting) all.passes)
+    ∙ cost-ended weight cost free room n (from_end all.waiting) all.passes
+    ∙ cost-merged weight cost free lanes m n room nothing t positive some good (nothing-stands lanes m n)
     ∙ omega arith

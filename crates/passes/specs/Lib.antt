@@ -10,3 +10,5 @@ pub mod Limits
 pub mod Horner
 pub mod Places
 pub mod Loops
+pub mod Merged
+pub mod Views

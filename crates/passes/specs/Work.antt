@@ -1,12 +1,12 @@
 -- What a loop does to each of its copies.
-use Rattle.std.specs.Prelude.{ℕ, ◌*◌, Bool, true, false, slice_index}
+use Rattle.std.specs.Prelude.{ℕ, ◌*◌, ◌^◌, ◌<◌, Bool, true, false, slice_index}
 use Rattle.matrix_meaning.specs.declared.Kind.{Kind}
 use Rattle.matrix_meaning.specs.declared.Kind.TheVariants.{Dft}
 use Rattle.matrix_meaning.specs.Kind.{transform}
 use Rattle.operators.specs.Identities.{turn}
 use Rattle.operators.specs.Operator.{Operator}
 use Rattle.operators.specs.Sum.{list_below}
-use Rattle.tree_model.specs.Breakdown.{Breakdown, size_of}
+use Rattle.tree_model.specs.Breakdown.{Breakdown, size_of, HasWordSizes}
 
 pub data PlainWork : Type 0 where
   -- the transform of a tree's size by this root, in straight-line code
@@ -40,3 +40,14 @@ abbrev pub is_straight : PlainWork → Bool
 is_straight (rows root size) = false
 is_straight (horner root size) = false
 is_straight work = true
+
+-- how many registers the items of a copy of straight work fill: a tile has its items themselves on the lanes
+abbrev pub vectors_of : PlainWork → ℕ
+vectors_of (tile lanes) = lanes
+vectors_of work = work_size work
+
+-- the numbers of a copy are words
+abbrev pub HasWords : PlainWork → Type 0
+HasWords (kernel kind root tree) = HasWordSizes tree
+HasWords (tile lanes) = lanes * lanes < 2 ^ 64
+HasWords work = Unit {0}

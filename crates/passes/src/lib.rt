@@ -9,6 +9,14 @@ ghost use Rattle.passes.specs.Loops.{LoopsAreGood, LoopsHavePlaces, MergeListed}
 ghost use Rattle.passes.specs.Places.{PassStores};
 ghost use Rattle.passes.specs.CopiesLaws.{KeepsOnce, LoadsGather, LoopsScale, StandSideBySide, StandUnder, StoresScatter};
 
+mod items;
+mod nest;
+mod work;
+
+pub use items::{items_in, items_out};
+pub use nest::{Factors, Merged, Multiplier, Nest};
+pub use work::Work;
+
 /// What is merged into a pass, and how passes stand side by side and under tensors: laws of the definitions.
 pub fn copies_merge()
     ensures loads { LoadsGather }

@@ -16,15 +16,15 @@ use Rattle.icode.specs.declared.program.Array.TheVariants.{X, Y, A, B}
 use Rattle.icode.proofs.End.{acts_past}
 use Rattle.icode.proofs.Lines.{Contains-nil}
 use Rattle.code_laws.specs.Nests.{AreInRange}
-use Rattle.pass_programs.specs.Acts.{load_at, store_at, pass_acts}
+use Rattle.pass_actions.specs.Acts.{load_at, store_at, pass_acts}
 use Rattle.pass_programs.specs.Conditions.{CanWritePass}
 use Rattle.pass_programs.specs.Contract.{IsOwner}
-use Rattle.pass_programs.specs.Laws.{CanRunNest}
-use Rattle.pass_programs.specs.Machine.{PlainMachine, vectors_of, item_of, values_of}
-use Rattle.pass_programs.proofs.Copies.{nest-can}
-use Rattle.pass_programs.proofs.Framed.{copy-framed, item-below, of_code}
+use Rattle.pass_actions.specs.Laws.{CanRunNest}
+use Rattle.pass_actions.specs.Machine.{PlainMachine, item_of, values_of}
+use Rattle.pass_actions.proofs.Copies.{nest-can}
+use Rattle.pass_actions.proofs.Framed.{copy-framed, item-below, of_code}
 use Rattle.passes.specs.Nest.{PlainNest, load_place, store_place}
-use Rattle.passes.specs.Work.{work_size}
+use Rattle.passes.specs.Work.{work_size, vectors_of}
 use Rattle.pass_programs.specs.Program.{target_of, array_after, count_in}
 use Rattle.program_laws.proofs.Arrays.{number, IsOther, last-number, scratch-number}
 use Rattle.program_laws.proofs.Every.{IsFree, every}

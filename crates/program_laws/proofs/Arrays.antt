@@ -6,7 +6,7 @@ use Rattle.std.proofs.lemmas.Bool.Decides.{nat_tests}
 use Rattle.icode.specs.Actions.{array_start}
 use Rattle.icode.specs.declared.program.Array.{Array}
 use Rattle.icode.specs.declared.program.Array.TheVariants.{X, Y, A, B}
-use Rattle.pass_programs.specs.Laws.{AreApart}
+use Rattle.pass_actions.specs.Laws.{AreApart}
 use Rattle.pass_programs.specs.Program.{target_of}
 
 -- the arrays in their order

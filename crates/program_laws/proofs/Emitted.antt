@@ -8,7 +8,7 @@ use Rattle.icode.specs.Plain.{PlainProgram}
 use Rattle.icode.specs.declared.action.Action.{Action}
 use Rattle.icode.specs.declared.program.Array.{Array}
 use Rattle.pass_programs.specs.Conditions.{HasTables, IsInside}
-use Rattle.pass_programs.specs.Machine.{PlainMachine}
+use Rattle.pass_actions.specs.Machine.{PlainMachine}
 use Rattle.pass_programs.specs.Program.{target_of, phase_body, tables_through, tables_of_phases}
 use Rattle.pass_programs.specs.Statements.{pass_body, tables_after}
 use Rattle.pass_programs.proofs.BodyLimits.{within-followed}

@@ -11,13 +11,13 @@ use Rattle.kernel_gen.specs.Kernel.{kernel_of}
 use Rattle.kernel_gen.specs.Making.{Made}
 use Rattle.operators.specs.Sum.{list_below}
 use Rattle.ring_mod.specs.Residue.{power_mod}
-use Rattle.pass_programs.specs.Acts.{load_at, store_at, factors_at, finish_acts, made_acts, tile_acts, rows_acts, items_acts, term_acts, horner_acts, copy_acts, nest_acts, pass_acts}
-use Rattle.pass_programs.specs.Machine.{PlainMachine, loop_counts, vectors_of}
-use Rattle.pass_programs.proofs.Fillings.{working}
-use Rattle.pass_programs.proofs.KernelActions.{AreOperations, tree-operates}
-use Rattle.pass_programs.proofs.Rows.{row_acts}
+use Rattle.pass_actions.specs.Acts.{load_at, store_at, factors_at, finish_acts, made_acts, tile_acts, rows_acts, items_acts, term_acts, horner_acts, copy_acts, nest_acts, pass_acts}
+use Rattle.pass_actions.specs.Machine.{PlainMachine, loop_counts}
+use Rattle.pass_actions.proofs.Fillings.{working}
+use Rattle.pass_actions.proofs.KernelActions.{AreOperations, tree-operates}
+use Rattle.pass_actions.proofs.Rows.{row_acts}
 use Rattle.passes.specs.Nest.{PlainMultiplier, PlainNest}
-use Rattle.passes.specs.Work.{PlainWork, kernel, rows, horner, tile, copy}
+use Rattle.passes.specs.Work.{PlainWork, kernel, rows, horner, tile, copy, vectors_of}
 use Rattle.tree_model.specs.Breakdown.{size_of}
 
 -- a property of actions that the arithmetic has

@@ -15,7 +15,7 @@ use Rattle.perm_algebra.specs.Affine as sums
 use Rattle.tensor_paths.specs.Path.{AreInRange}
 use Rattle.pass_programs.specs.Conditions.{CanWrite, FitsWord, LoadsEachRow}
 use Rattle.pass_programs.specs.Expressions.{expr_of}
-use Rattle.pass_programs.specs.Machine.{PlainFrame, plain_machine}
+use Rattle.pass_actions.specs.Machine.{PlainFrame, plain_machine}
 use Rattle.pass_programs.specs.Program.{program_of}
 use Rattle.program_laws.proofs.Plain.{plain_programs_perform}
 use Rattle.program_laws.specs.Plain.{ArePlainPasses, IsPlainNest, IsPlainPass, PlainPerforms, plain_merged}
@@ -48,8 +48,8 @@ stores-inside [] k range below = omega arith
 stores-inside (v ∷ vs) k range below = absurd range
 
 alike : LoadsEachRow nest
-alike [] row k range = refl
-alike (v ∷ vs) row k range = absurd range
+alike [] row k range first second = refl
+alike (v ∷ vs) row k range first second = absurd range
 
 nest-plain : IsPlainNest 2 5 nest
 nest-plain =

@@ -8,12 +8,12 @@ use Rattle.icode.specs.Plain.{PlainProgram}
 use Rattle.icode.specs.declared.action.Action.{Action}
 use Rattle.icode.specs.declared.action.Action.TheVariants as actions
 use Rattle.icode.specs.declared.program.Array.{Array}
-use Rattle.pass_programs.specs.Machine.{PlainMachine}
+use Rattle.pass_actions.specs.Machine.{PlainMachine}
 use Rattle.operators.specs.Sum.{sum_below}
-use Rattle.pass_programs.specs.Acts.{pass_acts, pass_registers}
+use Rattle.pass_actions.specs.Acts.{pass_acts, pass_registers}
 use Rattle.pass_programs.specs.Conditions.{IsInside}
 use Rattle.pass_programs.specs.Contract.{most_actions}
-use Rattle.pass_programs.specs.Laws.{IsFit}
+use Rattle.pass_actions.specs.Laws.{IsFit}
 use Rattle.pass_programs.specs.Program.{target_of, most_of}
 use Rattle.program_laws.proofs.Known.{Pass, AllKnown, passes_acts, runs-of}
 

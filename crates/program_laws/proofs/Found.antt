@@ -5,16 +5,21 @@ use Rattle.std.specs.List.{list_all}
 use Rattle.std.proofs.lemmas.Bool.Decides.{nat_tests}
 use Rattle.perm_algebra.specs.Affine.{Sum, constant, IsSound, levels, parts, peak, top}
 use Rattle.perm_algebra.proofs.AffineLaws.{value-le-top}
-use Rattle.pass_programs.specs.Laws.{FindsFactors}
-use Rattle.pass_programs.proofs.Framed.{in_counts}
+use Rattle.pass_actions.specs.Laws.{FindsFactors}
+use Rattle.pass_actions.proofs.Framed.{in_counts}
 use Rattle.pass_programs.proofs.Variables.{below-limits}
 use Rattle.passes.specs.Copies.{loops_of}
-use Rattle.passes.specs.Good.{AreSound, IsLoose, NamesItems}
+use Rattle.passes.specs.Good.{AreSound, NamesItems}
 use Rattle.passes.specs.Merge.{are_small, is_limited, is_multiplier_within, limits_of}
 use Rattle.passes.specs.Nest.{PlainMultiplier, PlainNest, factor_count, store_place, sum_value}
 use Rattle.passes.specs.Work.{PlainWork, kernel, rows, horner, tile, copy, work_size}
 use Rattle.passes.proofs.Walk.{and-left, and-right}
 use Rattle.tensor_paths.specs.Path.{AreInRange}
+
+-- work that is no tile
+abbrev pub IsLoose : PlainWork → Type 0
+IsLoose (tile v) = ⊥
+IsLoose w = Unit {0}
 
 below : (a b : ℕ) → nat_lt a b ≡ true → a < b
 below a b h = grind (arith, nat_tests)

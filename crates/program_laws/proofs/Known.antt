@@ -4,13 +4,13 @@ use Rattle.std.proofs.lemmas.List.Elements.{All-head, All-tail}
 use Rattle.icode.specs.Actions.{array_start}
 use Rattle.icode.specs.declared.action.Action.{Action}
 use Rattle.icode.specs.declared.program.Array.{Array}
-use Rattle.pass_programs.specs.Acts.{pass_acts}
+use Rattle.pass_actions.specs.Acts.{pass_acts}
 use Rattle.pass_programs.specs.Conditions.{CanWritePass}
 use Rattle.pass_programs.specs.Contract.{all_passes}
-use Rattle.pass_programs.specs.Laws.{Runs}
-use Rattle.pass_programs.specs.Machine.{PlainMachine}
+use Rattle.pass_actions.specs.Laws.{Runs}
+use Rattle.pass_actions.specs.Machine.{PlainMachine}
 use Rattle.pass_programs.specs.Program.{target_of}
-use Rattle.pass_programs.proofs.PassesRun.{passes_run}
+use Rattle.pass_actions.proofs.PassesRun.{passes_run}
 use Rattle.passes.specs.Nest.{PlainNest}
 
 -- nests that write one array together

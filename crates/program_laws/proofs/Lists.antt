@@ -8,7 +8,7 @@ use Rattle.icode.specs.Plain.{PlainBody, PlainProgram, NoStmts}
 use Rattle.icode.specs.declared.action.Action.{Action}
 use Rattle.icode.specs.declared.program.Array.{Array}
 use Rattle.pass_programs.specs.Conditions.{HasTables, IsInside}
-use Rattle.pass_programs.specs.Machine.{PlainMachine}
+use Rattle.pass_actions.specs.Machine.{PlainMachine}
 use Rattle.pass_programs.specs.Program.{phase_body, phases_body, count_in, array_after, tables_through, tables_of_phases}
 use Rattle.program_laws.proofs.Emitted.{fewer-tables, passes-acts, passes-inside, phases-extend, phases-longer}
 use Rattle.program_laws.proofs.Known.{Pass, PhasesKnown}

@@ -6,15 +6,16 @@ use Rattle.icode.specs.Actions.{array_start}
 use Rattle.icode.specs.Machine.{Code, acts, whole_lines}
 use Rattle.icode.specs.declared.action.Action.{Action}
 use Rattle.icode.specs.declared.program.Array.{Array}
-use Rattle.pass_programs.specs.Acts.{load_at, store_at, pass_acts}
+use Rattle.pass_actions.specs.Acts.{load_at, store_at, pass_acts}
 use Rattle.pass_programs.specs.Conditions.{CanWritePass}
 use Rattle.pass_programs.specs.Contract.{AreParts, IsPart, Stays, all_passes, joined}
-use Rattle.pass_programs.specs.Laws.{CanRunNest}
-use Rattle.pass_programs.specs.Machine.{PlainMachine, vectors_of, item_of, values_of}
+use Rattle.pass_actions.specs.Laws.{CanRunNest}
+use Rattle.pass_actions.specs.Machine.{PlainMachine, item_of, values_of}
 use Rattle.pass_programs.specs.Program.{array_after, count_in, target_of}
-use Rattle.pass_programs.proofs.Copies.{nest-can}
-use Rattle.pass_programs.proofs.Framed.{copy-framed, item-below, of_code}
+use Rattle.pass_actions.proofs.Copies.{nest-can}
+use Rattle.pass_actions.proofs.Framed.{copy-framed, item-below, of_code}
 use Rattle.passes.specs.Nest.{PlainNest}
+use Rattle.passes.specs.Work.{vectors_of}
 use Rattle.program_laws.proofs.Every.{IsFree, every}
 use Rattle.program_laws.proofs.Known.{Pass, AllKnown, PhasesKnown, passes_acts, runs-of}
 use Rattle.program_laws.proofs.Phases.{RunsPhases}
@@ -105,7 +106,7 @@ module _ (c : PlainMachine) (enough : c.size ≤ whole_lines c.size c.line) (cod
       let runs = runs-of c p known in
       record {
         stays = pass-stays c p known q low (array_start words source) (array_start words target);
-        operations = runs.operations (array_start words source) (array_start words target) q low;
+        operations = λ weight counted. runs.operations weight (array_start words source) (array_start words target) q counted low;
         loads = runs.loads (array_start words source) (array_start words target) q low;
         stores = runs.stores (array_start words source) (array_start words target) q low;
       }

@@ -23,11 +23,11 @@ use Rattle.operators.proofs.Lists.{length-list_below}
 use Rattle.operators.proofs.Sums.{sum_below-append, sum_below-same}
 use Rattle.pass_programs.specs.Conditions.{HasTables}
 use Rattle.pass_programs.specs.Contract.{CanProgram, IsListed, Performs, ProgramsPerform, all_passes, most_actions}
-use Rattle.pass_programs.specs.Laws.{IsFit}
-use Rattle.pass_programs.specs.Machine.{PlainMachine}
-use Rattle.pass_programs.specs.Merged.{PlainMerged, merged_on, phase_on, phases_on}
+use Rattle.pass_actions.specs.Laws.{IsFit}
+use Rattle.pass_actions.specs.Machine.{PlainMachine}
 use Rattle.pass_programs.specs.Program.{array_after, count_in, phases_body, program_of, tables_of_phases, tables_through}
 use Rattle.passes.specs.Good.{IsVector}
+use Rattle.passes.specs.Merged.{PlainMerged, merged_on, phase_on, phases_on}
 use Rattle.passes.specs.Nest.{nests_on}
 use Rattle.program_laws.proofs.Apart.{all-apart, phases-apart}
 use Rattle.program_laws.proofs.Arrays.{first-other}

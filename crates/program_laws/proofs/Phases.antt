@@ -8,9 +8,9 @@ use Rattle.icode.specs.Machine.{Code, Local, Whole, acts, effects, processor_alo
 use Rattle.icode.specs.declared.action.Action.{Action}
 use Rattle.icode.specs.declared.program.Array.{Array}
 use Rattle.icode.specs.declared.program.Array.TheVariants.{X, Y}
-use Rattle.pass_programs.specs.Merged.{phase_on, phases_on}
+use Rattle.passes.specs.Merged.{phase_on, phases_on}
 use Rattle.passes.specs.Nest.{nests_on}
-use Rattle.pass_programs.specs.Machine.{PlainMachine}
+use Rattle.pass_actions.specs.Machine.{PlainMachine}
 use Rattle.pass_programs.specs.Contract.{IsOwner, AllShared, ArePhasesShared}
 use Rattle.pass_programs.specs.Program.{target_of, array_after, count_in, most_of}
 use Rattle.program_laws.proofs.Arrays.{IsOther, next-other}

@@ -1,13 +1,13 @@
 -- Passes for one processor and one lane.
 use Rattle.std.proofs.Common.{◌≡◌, ℕ, ◌+◌, ◌*◌, ◌^◌, ◌<◌, ◌≤◌, refl, sym, ap, ◌∙◌, arith, List, [], ◌∷◌, ◌++◌, length, length-append, append-nil, subst, All}
 use Rattle.std.proofs.lemmas.List.Elements.{All-nil, All-cons, All-weaker}
+use Rattle.passes.specs.Merged.{phase_on}
 use Rattle.passes.specs.Nest.{PlainNest, nests_on, passes_on, store_place}
 use Rattle.passes.specs.Work.{PlainWork, kernel, rows, horner, tile, copy}
 use Rattle.pass_programs.specs.Conditions.{CanWriteNest, CanWritePass}
 use Rattle.pass_programs.specs.Contract.{AllOwn, CanProgram, IsFirstShared, all_passes, most_actions}
-use Rattle.pass_programs.specs.Laws.{CanRunNest, MovesVectors}
-use Rattle.pass_programs.specs.Machine.{plain_machine, if_several, framed_lanes, item_of, lane_step, values_of}
-use Rattle.pass_programs.specs.Merged.{phase_on}
+use Rattle.pass_actions.specs.Laws.{CanRunNest, MovesVectors}
+use Rattle.pass_actions.specs.Machine.{plain_machine, if_several, framed_lanes, item_of, lane_step, values_of}
 use Rattle.program_laws.proofs.Performs.{programs_perform}
 use Rattle.program_laws.specs.Plain.{ArePlainPasses, IsPlainNest, IsPlainPass, PlainProgramsPerform, in_order, plain_merged}
 

@@ -8,14 +8,14 @@ use Rattle.icode.specs.Actions.{array_start}
 use Rattle.icode.specs.Machine.{Local, effects}
 use Rattle.icode.specs.declared.program.Array.{Array}
 use Rattle.icode.specs.declared.program.Array.TheVariants.{X, Y, A, B}
-use Rattle.pass_programs.specs.Merged.{phase_on}
+use Rattle.passes.specs.Merged.{phase_on}
 use Rattle.passes.specs.Nest.{nests_on}
-use Rattle.pass_programs.specs.Machine.{PlainMachine}
-use Rattle.pass_programs.specs.Acts.{pass_acts, pass_registers}
-use Rattle.pass_programs.specs.Laws.{AreApart, CanBegin, Leaves, IsLoadedBy, IsStoredBy}
+use Rattle.pass_actions.specs.Machine.{PlainMachine}
+use Rattle.pass_actions.specs.Acts.{pass_acts, pass_registers}
+use Rattle.pass_actions.specs.Laws.{AreApart, CanBegin, Leaves, IsLoadedBy, IsStoredBy}
 use Rattle.pass_programs.specs.Conditions.{CanWritePass}
 use Rattle.pass_programs.specs.Contract.{AllOwn, FirstOwns}
-use Rattle.pass_programs.proofs.Copies.{loaded-below, stored-below}
+use Rattle.pass_actions.proofs.Copies.{loaded-below, stored-below}
 use Rattle.pass_programs.specs.Program.{target_of, array_after, most_of}
 use Rattle.program_laws.proofs.Arrays.{IsOther, apart, inside-memory, last-number, scratch-number, next-other}
 use Rattle.program_laws.proofs.Known.{Pass, AllKnown, passes_acts, runs-of}

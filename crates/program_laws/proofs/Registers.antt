@@ -1,6 +1,6 @@
 -- The registers of a program are those of the pass that uses most.
 use Rattle.std.proofs.Common.{ℕ, ◌^◌, ◌<◌, ◌≤◌, List, [], ◌∷◌, arith}
-use Rattle.pass_programs.specs.Machine.{PlainMachine}
+use Rattle.pass_actions.specs.Machine.{PlainMachine}
 use Rattle.pass_programs.specs.Program.{most_of, most_of_phases}
 use Rattle.program_laws.proofs.Known.{Pass, AllKnown, PhasesKnown}
 

@@ -7,10 +7,10 @@ use Rattle.code_laws.specs.Nests as nests
 use Rattle.operators.specs.Sum.{sum_below}
 use Rattle.operators.proofs.Lists.{at-list_below}
 use Rattle.icode.proofs.Lines.{Contains-head, Contains-tail}
-use Rattle.pass_programs.specs.Laws.{CanRun, IsStoredBy}
-use Rattle.pass_programs.specs.Machine.{PlainMachine, framed_lanes, if_several}
-use Rattle.pass_programs.proofs.Copies.{nest-can}
-use Rattle.pass_programs.proofs.Framed.{in_counts}
+use Rattle.pass_actions.specs.Laws.{CanRun, IsStoredBy}
+use Rattle.pass_actions.specs.Machine.{PlainMachine, framed_lanes, if_several}
+use Rattle.pass_actions.proofs.Copies.{nest-can}
+use Rattle.pass_actions.proofs.Framed.{in_counts}
 use Rattle.passes.specs.Copies.{loops_of, hits, all_stored}
 use Rattle.passes.specs.Nest.{PlainNest, copies_of, store_place, nests_on}
 use Rattle.passes.specs.Work.{work_size}

@@ -9,12 +9,12 @@ use Rattle.icode.specs.Limits.{are_tables_within}
 use Rattle.operators.specs.Sum.{list_below}
 use Rattle.operators.proofs.Lists.{length-list_below}
 use Rattle.pass_programs.specs.Conditions.{CanWriteNest}
-use Rattle.pass_programs.specs.Laws.{CanRunNest, CanWork}
-use Rattle.pass_programs.specs.Machine.{PlainMachine}
+use Rattle.pass_actions.specs.Laws.{CanRunNest, CanWork}
+use Rattle.pass_actions.specs.Machine.{PlainMachine}
 use Rattle.pass_programs.specs.Program.{tables_through, tables_of_phases}
 use Rattle.pass_programs.specs.Statements.{with_table, is_table, tables_after, tables_of_nest, tables_of_work, tables_of_multiplier, powers_of, diagonal_of}
-use Rattle.pass_programs.proofs.Copies.{nest-can}
-use Rattle.pass_programs.proofs.KernelActions.{power_below}
+use Rattle.pass_actions.proofs.Copies.{nest-can}
+use Rattle.pass_actions.proofs.KernelActions.{power_below}
 use Rattle.passes.specs.Nest.{PlainMultiplier, PlainNest, factor_at, factor_count}
 use Rattle.passes.specs.Work.{PlainWork, kernel, rows, horner, tile, copy}
 use Rattle.program_laws.proofs.Known.{Pass, AllKnown, PhasesKnown}

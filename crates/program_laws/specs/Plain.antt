@@ -1,13 +1,13 @@
 -- Passes for one processor and one lane, such as those of a formula.
 use Rattle.std.specs.Prelude.{◌≡◌, ℕ, ◌^◌, ◌<◌, ◌≤◌, List, [], ◌∷◌, ◌++◌, length, map, All}
 use Rattle.passes.specs.Copies.{IsInside, StoreOnce}
+use Rattle.passes.specs.Merged.{PlainMerged, merged_on}
 use Rattle.passes.specs.Nest.{PlainNest, copies_of, passes_on}
-use Rattle.pass_programs.specs.Acts.{pass_registers}
+use Rattle.pass_actions.specs.Acts.{pass_registers}
 use Rattle.pass_programs.specs.Conditions.{CanWriteNest}
 use Rattle.pass_programs.specs.Contract.{Performs, most_actions}
-use Rattle.pass_programs.specs.Laws.{CanWork, FindsFactors, HasResidues}
-use Rattle.pass_programs.specs.Machine.{plain_machine}
-use Rattle.pass_programs.specs.Merged.{PlainMerged, merged_on}
+use Rattle.pass_actions.specs.Laws.{CanWork, FindsFactors, HasResidues}
+use Rattle.pass_actions.specs.Machine.{plain_machine}
 use Rattle.pass_programs.specs.Program.{program_of, tables_of_phases}
 
 -- passes, the latest first, in their order

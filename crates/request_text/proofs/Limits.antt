@@ -1,6 +1,5 @@
 -- What the tests of a request say.
 use Rattle.std.proofs.Common.{◌≡◌, ℕ, ◌-◌, ◌^◌, ◌<◌, ◌≤◌, ◌%◌, Bool, true, false, cond, eqb, ltb, leb, ◌&&◌, List, Result, Ok, Err, refl, sym, subst, arith}
-use Rattle.std.specs.Prelude.{IfOk}
 use Rattle.std.specs.Int.{is_power_of_two}
 use Rattle.std.proofs.lemmas.Bool.{leb-true, ltb-true, eqb-true, and_parts}
 use Rattle.matrix_meaning.specs.declared.Kind.{Kind}
@@ -128,8 +127,3 @@ judged_answers text r (Err (Syntax at)) l e = absurd (subst IsTest (sym e) (judg
 judged_answers text r (Err (Range field value)) l e = (r, l, sym e)
 judged_answers text r (Err (Shape size)) l e = (r, l, sym e)
 judged_answers text r (Err (LanesLine lanes line)) l e = (r, l, sym e)
-
--- what holds of a request holds of what the tests let through
-pub judged_keeps : (P : Request → Type 0) (r : Request) (out : Result Request RequestFault) → P r → out ≡ judged r → IfOk out P
-judged_keeps P r (Ok q) p e = subst P (in_range r q (sym e)).1 p
-judged_keeps P r (Err fault) p e = tt

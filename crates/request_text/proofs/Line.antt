@@ -1,5 +1,5 @@
 -- The reader of the request line reads by its grammar.
-use Rattle.std.proofs.Common.{◌≡◌, ℕ, ◌<◌, ◌≤◌, List, [], ◌∷◌, refl, ap, subst, codes, Result, arith}
+use Rattle.std.proofs.Common.{◌≡◌, ℕ, ◌<◌, ◌≤◌, List, [], ◌∷◌, refl, subst, codes, Result, arith}
 use Rattle.matrix_meaning.specs.declared.Kind.{Kind}
 use Rattle.matrix_meaning.specs.declared.Kind.TheVariants.{Dft, Wht}
 use Rattle.matrix_meaning.specs.declared.Request.{Request}
@@ -47,7 +47,3 @@ request_reader =
 -- what the reader gives of a whole line is what the grammar says
 pub line_judges : (text : List ℕ) (r : Result Request ℕ) → whole request_at text ≡ r → Judges request_line text r
 line_judges text r e = subst (Judges request_line text) e (whole_judges Nothing request_line request_at request_reader refl text)
-
--- the field that the line does not name
-pub line_weighs : (text : List ℕ) (r : Request) → request_line text r → r.weight ≡ 1
-line_weighs text r l = ap (λ (q : Request). q.weight) l.ends.ends.ends.ends.ends.1

@@ -19,7 +19,7 @@ root_of Wht = pure 0
 
 -- the optional parts in their order, each with its value when absent
 abbrev pub optional_parts : List (List ℕ × ℕ)
-optional_parts = (codes " procs ", 1) ∷ (codes " line ", 1) ∷ (codes " lanes ", 1) ∷ (codes " unroll ", 8) ∷ (codes " budget ", 100000000) ∷ []
+optional_parts = (codes " procs ", 1) ∷ (codes " line ", 1) ∷ (codes " lanes ", 1) ∷ (codes " unroll ", 8) ∷ (codes " budget ", 100000000) ∷ (codes " weight ", 1) ∷ []
 
 abbrev pub request_of : Kind → (size modulus root : ℕ) → List ℕ → Request
 request_of kind size modulus root options = record {
@@ -32,10 +32,10 @@ request_of kind size modulus root options = record {
   lanes = slice_index options 2;
   unroll = slice_index options 3;
   budget = slice_index options 4;
-  weight = 1;
+  weight = slice_index options 5;
 }
 
--- the request line, without its end; each operation counts the same
+-- the request line, without its end
 abbrev pub request_line : List ℕ → Request → Type 0
 request_line = do
   kind ← one_of kinds

@@ -1,4 +1,4 @@
-ghost use Rattle.std.specs.Prelude.{◌≡◌, ◌≤◌, IfOk};
+ghost use Rattle.std.specs.Prelude.{◌≡◌, ◌≤◌};
 ghost use Rattle.request_text.specs.Limits.{within, below, shaped, divided, judged};
 ghost use Rattle.request_text.specs.Line.{request_line};
 ghost use Rattle.request_text.specs.Answer.{Answers};
@@ -44,7 +44,7 @@ fn request_of(cursor: &mut Cursor) -> Result<Request, Stuck>
         lanes: cursor.optional_number(b" lanes ", u64::MAX, 1),
         unroll: cursor.optional_number(b" unroll ", u64::MAX, 8),
         budget: cursor.optional_number(b" budget ", u64::MAX, 100_000_000),
-        weight: 1,
+        weight: cursor.optional_number(b" weight ", u64::MAX, 1),
     })
 }
 
@@ -129,7 +129,6 @@ fn checked(request: Request) -> Result<Request, RequestFault>
 pub fn read_request(text: &[u8]) -> Result<Request, RequestFault>
     ensures answer { Answers text.now result }
     ensures only { (r : Request) → request_line text.now r → result ≡ judged r }
-    ensures weight { IfOk result (λ r. r.weight ≡ 1) }
 {
     match whole_request(text) {
         Ok(request) => checked(request),

@@ -1,8 +1,8 @@
 use Rattle.std.proofs.Common.{◌≡◌, Ok, Err, sym, ap, ◌∙◌}
 use Rattle.request_text.specs.Limits.{judged}
 use Rattle.matrix_meaning.specs.declared.Request.{Request}
-use Rattle.request_text.proofs.Line.{line_judges, line_weighs}
-use Rattle.request_text.proofs.Limits.{judged_answers, judged_keeps}
+use Rattle.request_text.proofs.Line.{line_judges}
+use Rattle.request_text.proofs.Limits.{judged_answers}
 use Rattle.request_text.proofs.request.read_request.Goals as goal
 
 pub overflow_sub-result : goal.overflow_sub-result
@@ -19,7 +19,3 @@ returns-in-Err-clause-answer c = (line_judges c.args.text.now (Err c.in-Err.stuc
 
 pub returns-in-Err-clause-only : goal.returns-in-Err-clause-only
 returns-in-Err-clause-only c = λ r l. absurd ((line_judges c.args.text.now (Err c.in-Err.stuck.left) c.in-Err.ensures).1.nothing r l)
-
-pub returns-in-Ok-clause-weight : goal.returns-in-Ok-clause-weight
-returns-in-Ok-clause-weight c =
-    judged_keeps (λ (r : Request). r.weight ≡ 1) c.in-Ok.request c.checked.result (line_weighs c.args.text.now c.in-Ok.request (line_judges c.args.text.now (Ok c.in-Ok.request) c.in-Ok.ensures).0) c.checked.ensures

@@ -1,0 +1,4 @@
+pub mod Machine
+pub mod Acts
+pub mod Costs
+pub mod Laws

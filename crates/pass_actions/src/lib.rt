@@ -1,0 +1,10 @@
+//! Passes as lists of actions of each processor that shares them, and what these do.
+#![tactic(auto)]
+
+ghost use Rattle.pass_actions.specs.Laws.{PassesRun};
+
+/// The actions of each pass that can be run leave what the pass makes of its array and change nothing else, in an equal
+/// share of the counts that the pass names: a law of the definitions.
+pub fn passes_run()
+    ensures { PassesRun }
+{}

@@ -1,0 +1,43 @@
+-- What the emission of nests and passes asks for.
+use Rattle.std.specs.Prelude.{◌≡◌, ℕ, ◌^◌, ◌<◌, ◌≤◌, List, [], ◌∷◌, length, All, Option, Some}
+use Rattle.pass_actions.specs.Acts.{nest_registers}
+use Rattle.pass_actions.specs.Laws.{CanRunNest}
+use Rattle.pass_actions.specs.Machine.{PlainMachine}
+use Rattle.pass_programs.specs.Conditions.{CanWrite, CanWriteNest}
+use Rattle.passes.specs.Merged.{PlainMerged}
+use Rattle.passes.specs.Nest.{PlainMultiplier, PlainNest}
+use Rattle.perm_algebra.specs.Affine.{Sum}
+
+-- a place for each of n registers, which can be written
+pub record HasPlaces (n : ℕ) (sums : List Sum) : Type 0 where
+  pub enough : n ≤ length sums
+  pub writable : All CanWrite sums
+
+-- the places where the first n registers go, and those of their factors
+pub record CanStore (n : ℕ) (z : PlainNest) : Type 0 where
+  pub scatters : HasPlaces n z.scatters
+  pub factors : (d : PlainMultiplier) → z.multiplier ≡ Some d → HasPlaces n d.places
+
+-- a nest that can be run and written, in registers of few numbers
+pub record CanEmit (h : PlainMachine) (z : PlainNest) : Type 0 where
+  pub modulus : 2 ≤ h.modulus
+  pub lanes : h.lanes ≤ 16
+  pub runs : CanRunNest h z
+  pub writes : CanWriteNest h z
+  pub few : nest_registers h z z.work < 2 ^ 20
+
+abbrev pub CanEmitPass : PlainMachine → List PlainNest → Type 0
+CanEmitPass h [] = Unit {0}
+CanEmitPass h (z ∷ zs) = CanEmit h z × CanEmitPass h zs
+
+abbrev pub CanEmitAll : PlainMachine → List (List PlainNest) → Type 0
+CanEmitAll h [] = Unit {0}
+CanEmitAll h (zs ∷ ps) = CanEmitPass h zs × CanEmitAll h ps
+
+abbrev pub CanEmitPhases : PlainMachine → List (List (List PlainNest)) → Type 0
+CanEmitPhases h [] = Unit {0}
+CanEmitPhases h (ps ∷ more) = CanEmitAll h ps × CanEmitPhases h more
+
+-- the machine of merged passes, for residues of a modulus and lines of so many words
+abbrev pub machine_for : ℕ → ℕ → PlainMerged → PlainMachine
+machine_for modulus line g = record { size = g.size; modulus = modulus; procs = g.procs; line = line; lanes = g.lanes }

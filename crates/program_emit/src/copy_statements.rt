@@ -1,0 +1,65 @@
+// The statements of copies.
+ghost use Rattle.std.specs.Prelude.{◌≡◌, ◌+◌, IfOk, OnOk};
+ghost use Rattle.icode.specs.Plain.{AndStmts, Do, Load, plain_body};
+ghost use Rattle.pass_programs.specs.Statements.{finish_body, followed_by, items_body, place_at};
+ghost use Rattle.passes.specs.Views.{plain_nest};
+ghost use Rattle.program_emit.specs.Conditions.{CanStore, HasPlaces};
+ghost use Rattle.program_emit.specs.Views.{plain_frame};
+
+use crate::outputs;
+use crate::outputs::put_output;
+use crate::site::{Item, Site};
+use crate::statements::put_op;
+use icode::program::{Op, Stmt};
+use memory::NoMemory;
+use passes::Nest;
+use std::alloc::Global;
+
+// Appends the load of an item into register 0, and its store.
+fn put_copy(
+    alloc: Global,
+    out: &mut Vec<Stmt>,
+    nest: &Nest,
+    site: Site,
+    number: u64,
+) -> Result<(), NoMemory>
+    requires loads { HasPlaces (number + 1) (plain_nest nest.now).gathers }
+    requires stores { CanStore (number + 1) (plain_nest nest.now) }
+    ensures { OnOk result (let z = plain_nest nest.now in let f = plain_frame site.frame in plain_body out.new.items ≡ followed_by (plain_body out.old.items)
+        (AndStmts (Do (Load 0 site.source (place_at f site.open_loops z.gathers number))) (finish_body f 0 z.multiplier z.scatters site.open_loops site.table site.target number 0 1))) }
+{
+    let place = outputs::place_at(alloc, site.frame, &nest.gathers, number, site.open_loops)?;
+    put_op(
+        out,
+        Op::Load {
+            register: 0,
+            array: site.source,
+            place,
+        },
+    )?;
+    let item = Item {
+        number,
+        from: 0,
+        free: 1,
+    };
+    put_output(alloc, out, nest, site, 0, item)?;
+    Ok(())
+}
+
+/// The statements of so many copies: each item goes by way of register 0.
+pub(crate) fn statements_of_copies(
+    alloc: Global,
+    nest: &Nest,
+    size: u64,
+    site: Site,
+) -> Result<Vec<Stmt>, NoMemory>
+    requires loads { HasPlaces size (plain_nest nest.now).gathers }
+    requires stores { CanStore size (plain_nest nest.now) }
+    ensures { IfOk result (λ y. plain_body y.items ≡ items_body (plain_frame site.frame) (plain_nest nest.now) site.open_loops size site.table site.source site.target) }
+{
+    let mut body = Vec::new(alloc);
+    for number in 0..size {
+        put_copy(alloc, &mut body, nest, site, number)?;
+    }
+    Ok(body)
+}

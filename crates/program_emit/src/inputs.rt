@@ -1,0 +1,40 @@
+// Loads of a nest.
+ghost use Rattle.std.specs.Prelude.{◌≡◌, IfOk};
+ghost use Rattle.icode.specs.Plain.{plain_body};
+ghost use Rattle.pass_programs.specs.Statements.{loads_body};
+ghost use Rattle.passes.specs.Views.{plain_nest};
+ghost use Rattle.program_emit.specs.Conditions.{HasPlaces};
+ghost use Rattle.program_emit.specs.Views.{plain_frame};
+
+use crate::outputs::place_at;
+use crate::site::Site;
+use crate::statements::put_op;
+use icode::program::{Op, Stmt};
+use memory::NoMemory;
+use passes::Nest;
+use std::alloc::Global;
+
+/// A load of each of the first registers.
+pub(crate) fn loads(
+    alloc: Global,
+    nest: &Nest,
+    count: u64,
+    site: Site,
+) -> Result<Vec<Stmt>, NoMemory>
+    requires { HasPlaces count (plain_nest nest.now).gathers }
+    ensures { IfOk result (λ y. plain_body y.items ≡ loads_body (plain_frame site.frame) (plain_nest nest.now) site.open_loops count site.source) }
+{
+    let mut body = Vec::new(alloc);
+    for register in 0..count {
+        let place = place_at(alloc, site.frame, &nest.gathers, register, site.open_loops)?;
+        put_op(
+            &mut body,
+            Op::Load {
+                register,
+                array: site.source,
+                place,
+            },
+        )?;
+    }
+    Ok(body)
+}

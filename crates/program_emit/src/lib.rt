@@ -1,0 +1,21 @@
+//! The program of merged passes: loops round bodies that load, compute and store, phase by phase.
+#![tactic(auto)]
+
+mod copy_statements;
+mod emit;
+mod host;
+mod inputs;
+mod kernel_statements;
+mod loop_values;
+mod loops;
+mod nest;
+mod outputs;
+mod places;
+mod row_statements;
+mod site;
+mod statements;
+mod tables;
+mod tile_statements;
+mod work;
+
+pub use emit::emit_on;

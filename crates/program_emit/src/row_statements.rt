@@ -1,0 +1,162 @@
+// The statements of work by rows: in a loop over its rows register 0 becomes a row's sum, and is stored.
+ghost use Rattle.std.specs.Prelude.{◌≡◌, ◌+◌, ◌<◌, IfOk};
+ghost use Rattle.icode.specs.Plain.{AndStmts, Do, NoStmts, Load, MulTable, Add, plain_body, plain_expr};
+ghost use Rattle.pass_programs.specs.Statements.{horner_body, place_at, rows_body, term_body};
+ghost use Rattle.passes.specs.Views.{plain_nest};
+ghost use Rattle.program_emit.specs.Conditions.{CanStore, HasPlaces};
+ghost use Rattle.program_emit.specs.Views.{plain_frame};
+
+use crate::loop_values::{loop_value, product_place};
+use crate::loops::in_loops;
+use crate::outputs;
+use crate::outputs::put_output;
+use crate::site::{Item, Site};
+use crate::statements::put_op;
+use icode::program::{Array, Expr, Op, Stmt};
+use memory::NoMemory;
+use passes::Nest;
+use std::alloc::Global;
+
+// An item of the source, times the entry of the powers' table at this place, is added to register 0.
+fn term(alloc: Global, site: Site, input: Expr, place: Expr) -> Result<Vec<Stmt>, NoMemory>
+    ensures { IfOk result (λ y. plain_body y.items ≡ AndStmts (Do (Load 1 site.source (plain_expr input)))
+        (AndStmts (Do (MulTable 2 1 site.powers (plain_expr place) 0)) (AndStmts (Do (Add 0 0 2)) NoStmts))) }
+{
+    let mut body = Vec::new(alloc);
+    put_op(
+        &mut body,
+        Op::Load {
+            register: 1,
+            array: site.source,
+            place: input,
+        },
+    )?;
+    put_op(
+        &mut body,
+        Op::MulTable {
+            register: 2,
+            source: 1,
+            table: site.powers,
+            place,
+            step: 0,
+        },
+    )?;
+    put_op(
+        &mut body,
+        Op::Add {
+            register: 0,
+            left: 0,
+            right: 2,
+        },
+    )?;
+    Ok(body)
+}
+
+// Register 0 becomes its product by the entry of the powers' table at this place, plus an item of the source.
+fn horner_turn(alloc: Global, site: Site, input: Expr, place: Expr) -> Result<Vec<Stmt>, NoMemory>
+    ensures { IfOk result (λ y. plain_body y.items ≡ AndStmts (Do (MulTable 1 0 site.powers (plain_expr place) 0))
+        (AndStmts (Do (Load 2 site.source (plain_expr input))) (AndStmts (Do (Add 0 1 2)) NoStmts))) }
+{
+    let mut body = Vec::new(alloc);
+    put_op(
+        &mut body,
+        Op::MulTable {
+            register: 1,
+            source: 0,
+            table: site.powers,
+            place,
+            step: 0,
+        },
+    )?;
+    put_op(
+        &mut body,
+        Op::Load {
+            register: 2,
+            array: site.source,
+            place: input,
+        },
+    )?;
+    put_op(
+        &mut body,
+        Op::Add {
+            register: 0,
+            left: 1,
+            right: 2,
+        },
+    )?;
+    Ok(body)
+}
+
+// So many turns for each of so many rows.
+fn in_rows(
+    alloc: Global,
+    nest: &Nest,
+    size: u64,
+    turn: Vec<Stmt>,
+    site: Site,
+) -> Result<Vec<Stmt>, NoMemory>
+    requires shallow { site.open_loops + 2 < 64 }
+    requires stores { CanStore 1 (plain_nest nest.now) }
+    ensures { IfOk result (λ y. plain_body y.items ≡ rows_body (plain_frame site.frame) (plain_nest nest.now) site.open_loops size (plain_body turn.items) site.table site.target) }
+{
+    let mut sum = in_loops(alloc, &[size], turn)?;
+    let mut row = Vec::new(alloc);
+    put_op(&mut row, Op::Zero { register: 0 })?;
+    row.append(&mut sum)?;
+    let inner = Site {
+        frame: site.frame,
+        open_loops: site.open_loops + 1,
+        powers: site.powers,
+        table: site.table,
+        source: site.source,
+        target: site.target,
+    };
+    let item = Item {
+        number: 0,
+        from: 0,
+        free: 3,
+    };
+    put_output(alloc, &mut row, nest, inner, 0, item)?;
+    let rows = in_loops(alloc, &[size], row)?;
+    Ok(rows)
+}
+
+/// The statements of a longer leaf: each row is the sum of its products.
+pub(crate) fn statements_of_rows(
+    alloc: Global,
+    nest: &Nest,
+    size: u64,
+    site: Site,
+) -> Result<Vec<Stmt>, NoMemory>
+    requires shallow { site.open_loops + 2 < 64 }
+    requires loads { HasPlaces 1 (plain_nest nest.now).gathers }
+    requires stores { CanStore 1 (plain_nest nest.now) }
+    ensures { IfOk result (λ y. let z = plain_nest nest.now in let f = plain_frame site.frame in plain_body y.items
+        ≡ rows_body f z site.open_loops size (term_body (place_at f (site.open_loops + 2) z.gathers 0) site.open_loops site.source site.powers size) site.table site.target) }
+{
+    let input = outputs::place_at(alloc, site.frame, &nest.gathers, 0, site.open_loops + 2)?;
+    let entry = product_place(alloc, site.open_loops, size)?;
+    let turn = term(alloc, site, input, entry)?;
+    let rows = in_rows(alloc, nest, size, turn, site)?;
+    Ok(rows)
+}
+
+/// The statements of a transform by Horner's rule, row by row.
+pub(crate) fn statements_of_horner(
+    alloc: Global,
+    nest: &Nest,
+    size: u64,
+    site: Site,
+) -> Result<Vec<Stmt>, NoMemory>
+    requires shallow { site.open_loops + 2 < 64 }
+    requires loads { HasPlaces 1 (plain_nest nest.now).gathers }
+    requires stores { CanStore 1 (plain_nest nest.now) }
+    ensures { IfOk result (λ y. let z = plain_nest nest.now in let f = plain_frame site.frame in plain_body y.items
+        ≡ rows_body f z site.open_loops size (horner_body (place_at f (site.open_loops + 2) z.gathers 0) site.open_loops site.source site.powers) site.table site.target) }
+{
+    let input = outputs::place_at(alloc, site.frame, &nest.gathers, 0, site.open_loops + 2)?;
+    let entry = loop_value(alloc, site.open_loops)?;
+    let turn = horner_turn(alloc, site, input, entry)?;
+    let rows = in_rows(alloc, nest, size, turn, site)?;
+    Ok(rows)
+}

@@ -1,0 +1,92 @@
+// Tables of factors.
+ghost use Rattle.std.specs.Prelude.{◌≡◌, ◌^◌, ◌<◌, IfOk, OnOk};
+ghost use Rattle.std.specs.Option.{option_map};
+ghost use Rattle.icode.specs.Plain.{plain_tables};
+ghost use Rattle.pass_programs.specs.Statements.{multiplier_number, powers_number, powers_of, table_number, tables_of_multiplier, tables_of_work, with_table};
+ghost use Rattle.passes.specs.Views.{plain_multiplier, plain_work};
+ghost use Rattle.program_emit.specs.Conditions.{HasFactors};
+
+use crate::factors::diagonal;
+use memory::NoMemory;
+use passes::{Multiplier, Work};
+use ring_mod::Modulus;
+use std::alloc::Global;
+
+// The first `count` powers of the root, from the power 0 on.
+fn powers(alloc: Global, modulus: &Modulus, root: u64, count: u64) -> Result<Vec<u64>, NoMemory>
+    ensures { IfOk result (λ y. y.items ≡ powers_of modulus.now root count) }
+{
+    let base = modulus.reduce(root);
+    let mut items = Vec::new(alloc);
+    let mut power = modulus.reduce(1);
+    for _ in 0..count {
+        items.push(power)?;
+        power = modulus.mul(power, base);
+    }
+    Ok(items)
+}
+
+// Where a table stands among others, or how many there are where it is new.
+fn find_table(tables: &[Vec<u64>], entries: &[u64]) -> u64
+    ensures { result ≡ table_number (plain_tables tables.now) entries.now }
+{
+    for k in 0..tables.len() {
+        if tables[k].as_slice() == entries {
+            return k as u64;
+        }
+    }
+    tables.len() as u64
+}
+
+// The number of a table, which is added where it is new.
+fn share_table(tables: &mut Vec<Vec<u64>>, entries: Vec<u64>) -> Result<u64, NoMemory>
+    ensures number { IfOk result (λ n. n ≡ table_number (plain_tables tables.old.items) entries.items) }
+    ensures tables { OnOk result (plain_tables tables.new.items ≡ with_table (plain_tables tables.old.items) entries.items) }
+{
+    let number = find_table(tables, &entries);
+    if number == tables.len() as u64 {
+        tables.push(entries)?;
+    }
+    Ok(number)
+}
+
+/// The number of the table of the powers that work by rows uses, and 0 for other work.
+pub(crate) fn number_powers(
+    alloc: Global,
+    modulus: &Modulus,
+    work: &Work,
+    tables: &mut Vec<Vec<u64>>,
+) -> Result<u64, NoMemory>
+    ensures number { IfOk result (λ n. n ≡ powers_number modulus.now (plain_work work.now) (plain_tables tables.old.items)) }
+    ensures tables { OnOk result (plain_tables tables.new.items ≡ tables_of_work modulus.now (plain_work work.now) (plain_tables tables.old.items)) }
+{
+    match work {
+        Work::Rows { root, size } | Work::Horner { root, size } => {
+            let entries = powers(alloc, modulus, *root, *size)?;
+            let number = share_table(tables, entries)?;
+            Ok(number)
+        }
+        _ => Ok(0),
+    }
+}
+
+/// The number of the table of a multiplier's diagonal, and 0 where there is no multiplier.
+pub(crate) fn number_multiplier(
+    alloc: Global,
+    modulus: &Modulus,
+    multiplier: &Option<Multiplier>,
+    tables: &mut Vec<Vec<u64>>,
+) -> Result<u64, NoMemory>
+    requires { HasFactors (option_map plain_multiplier multiplier.now) }
+    ensures number { IfOk result (λ n. n ≡ multiplier_number modulus.now (option_map plain_multiplier multiplier.now) (plain_tables tables.old.items)) }
+    ensures tables { OnOk result (plain_tables tables.new.items ≡ tables_of_multiplier modulus.now (option_map plain_multiplier multiplier.now) (plain_tables tables.old.items)) }
+{
+    match multiplier {
+        None => Ok(0),
+        Some(multiplier) => {
+            let entries = diagonal(alloc, modulus, &multiplier.factors)?;
+            let number = share_table(tables, entries)?;
+            Ok(number)
+        }
+    }
+}
