@@ -36,3 +36,6 @@ pub mod Counts
 pub mod Walks
 pub mod TreePlaces
 pub mod Listing
+pub mod LoopNests
+pub mod NestPlaces
+pub mod NestLists

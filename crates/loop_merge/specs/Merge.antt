@@ -1,8 +1,9 @@
 -- Passes: loops that gather, compute and scatter, into which the permutations and diagonals beside them have gone.
 use Rattle.std.specs.Prelude.{ℕ, List, [], ◌∷◌, ◌++◌, map, Option, Some, None}
-use Rattle.index_fn.specs.Mapping.{Mapping, at}
+use Rattle.index_fn.specs.Mapping.{Mapping}
 use Rattle.matrix_meaning.specs.declared.Request.{Request}
 use Rattle.operators.specs.Operator.{Operator, scale}
+pub use Rattle.passes.specs.Loops.{through}
 use Rattle.sigma_lower.specs.Term.{PlainTerm, gath, scat, diag, nest, diagonal_at, lowered_of}
 use Rattle.sigma_lower.specs.Work.{PlainWork, work_size, work_on}
 use Rattle.tensor_paths.specs.Loop.{loop_on}
@@ -23,11 +24,6 @@ pub record PlainPass : Type 0 where
   pub befores : List Mapping
   pub diagonal : Option PlainDiagonal
   pub afters : List Mapping
-
--- one function after the other
-abbrev pub through : List Mapping → ℕ → ℕ
-through [] i = i
-through (f ∷ fs) i = through fs (at f i)
 
 -- ---- merging
 

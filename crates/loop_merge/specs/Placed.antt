@@ -3,32 +3,22 @@ use Rattle.std.specs.Prelude.{◌≡◌, ℕ, ◌+◌, ◌*◌, ◌<◌, ◌≤�
 use Rattle.index_fn.specs.Mapping.{Mapping, at}
 use Rattle.matrix_meaning.specs.declared.Request.{Request}
 use Rattle.matrix_meaning.specs.Valid.{IsValid}
-use Rattle.perm_algebra.specs.Affine.{Fits, Sum, constant, variable, value, IsSound, AreBelowCounts, levels, parts, scaled, joined, simplified}
+use Rattle.perm_algebra.specs.Affine.{Fits, Sum, constant, value, IsSound, AreBelowCounts, levels, parts, simplified}
 use Rattle.perm_algebra.specs.Room.{HasRoomFor}
 use Rattle.sigma_lower.specs.Work.{PlainWork, transforming, tiling, work_size}
 use Rattle.sigma_lower.specs.Wrapped.{inner_of}
 use Rattle.loop_merge.specs.Merge.{PlainDiagonal, PlainPass, through, gather_place, scatter_place, merged_of}
+pub use Rattle.passes.specs.Merge.{place_sum, all_simplified}
 use Rattle.tensor_paths.specs.declared.Tensor.TheVariants.{Blocks, Columns}
-use Rattle.tensor_paths.specs.Path.{Path, size_under, place}
+use Rattle.tensor_paths.specs.Path.{Path, place}
 use Rattle.tree_model.specs.Admissible.{IsAdmissible}
 use Rattle.tree_model.specs.Breakdown.{Breakdown}
-
--- the place of e in the copy that the variables from d on name
-abbrev pub place_sum : Path → ℕ → ℕ → Sum → Sum
-place_sum [] n d e = e
-place_sum (Blocks c ∷ path) n d e = joined (scaled (size_under path n) (variable 1 d (constant 0))) (place_sum path n (d + 1) e)
-place_sum (Columns c ∷ path) n d e = joined (scaled c (place_sum path n (d + 1) e)) (variable 1 d (constant 0))
 
 -- the variables from d on run below the path's factors, each at least 2, and no size is 0
 abbrev pub AreCounts : Path → ℕ → ℕ → (ℕ → ℕ) → Type 0
 AreCounts [] n d cs = 0 < n
 AreCounts (Blocks c ∷ path) n d cs = (cs d ≡ c) × (2 ≤ c) × AreCounts path n (d + 1) cs
 AreCounts (Columns c ∷ path) n d cs = (cs d ≡ c) × (2 ≤ c) × AreCounts path n (d + 1) cs
-
--- one function after the other, at a sum
-abbrev pub all_simplified : (ℕ → ℕ) → List Mapping → Sum → Sum
-all_simplified cs [] e = e
-all_simplified cs (f ∷ fs) e = all_simplified cs fs (simplified cs f e)
 
 -- every number on the way fits 64 bits
 abbrev pub AllRoom : (ℕ → ℕ) → List Mapping → Sum → Type 0

@@ -10,6 +10,8 @@ use Rattle.sigma_lower.specs.Work.{PlainWork, transforming, tiling, work_size}
 use Rattle.loop_merge.specs.Merge.{PlainDiagonal, PlainPass}
 use Rattle.loop_merge.specs.Placed.{AllRoom, place_sum, diagonal_places}
 use Rattle.loop_merge.specs.Listed.{counts_of, items_of}
+use Rattle.loop_merge.specs.Nests.{loop_work}
+use Rattle.passes.specs.Merge.{items_in, items_out}
 use Rattle.tensor_paths.specs.declared.Tensor.TheVariants.{Blocks, Columns}
 use Rattle.tensor_paths.specs.Path.{Path, size_under}
 use Rattle.tree_model.specs.Breakdown.{HasWordSizes}
@@ -70,3 +72,20 @@ pub record IsReachable (c : Request) (p : PlainPass) : Type 0 where
 abbrev pub AreReachable : Request → List PlainPass → Type 0
 AreReachable c [] = Unit {0}
 AreReachable c (p ∷ ps) = IsReachable c p × AreReachable c ps
+
+-- ---- as nests
+
+-- a pass that can become a nest: its work and its diagonal have roots, and its items, named as its work names them, can be reached
+pub record IsNestable (c : Request) (p : PlainPass) : Type 0 where
+  pub sized : HasWords p.work
+  pub some : 0 < work_size p.work
+  pub short : length p.path + 1 < 2 ^ 64
+  pub gathers : ReachesAll (counts_of p) p.befores p.path (work_size p.work) (items_in (loop_work c p.work) (length p.path))
+  pub scatters : ReachesAll (counts_of p) p.afters p.path (work_size p.work) (items_out (loop_work c p.work) (length p.path))
+  pub multiplies : (d : PlainDiagonal) → p.diagonal ≡ Some d →
+      HasRoom d.path (d.rows * d.cols) × (0 < d.rows * d.cols) × (d.rows * d.cols < 2 ^ 64)
+      × ReachesAll (counts_of p) (diagonal_places d) p.path (work_size p.work) (items_out (loop_work c p.work) (length p.path))
+
+abbrev pub AreNestable : Request → List PlainPass → Type 0
+AreNestable c [] = Unit {0}
+AreNestable c (p ∷ ps) = IsNestable c p × AreNestable c ps

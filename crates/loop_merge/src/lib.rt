@@ -4,6 +4,7 @@
 ghost use Rattle.std.specs.Prelude.{◌≡◌, IfOk, map};
 ghost use Rattle.index_fn.specs.Index.{mapping_of};
 ghost use Rattle.loop_merge.specs.Laws.{MergeKeeps, MergeCounts};
+ghost use Rattle.loop_merge.specs.Nests.{LoopsListed, TreeNests};
 ghost use Rattle.loop_merge.specs.Merge.{scattered, multiplied, at_last};
 ghost use Rattle.loop_merge.specs.Placed.{PlacesAreLimited, PlacesAreValues};
 ghost use Rattle.loop_merge.specs.Stores.{PassesStore};
@@ -14,12 +15,14 @@ ghost use Rattle.sigma_spl.specs.Views.{plain_places, plain_sigma};
 
 mod listed;
 mod merged;
+mod nests;
 mod work;
 
 use index_fn::Index;
 pub use listed::{Frame, ListedPass, Multiplier, frame_for, is_straight, listed_places};
 use memory::NoMemory;
 pub use merged::{Merged, merge};
+pub use nests::merge_nests;
 use sigma_spl::{Places, Sigma};
 use std::alloc::Global;
 use tensor_paths::Tensor;
@@ -298,4 +301,14 @@ pub fn places_are_values()
 /// What a pass leaves at the place of each item: a law of the definitions.
 pub fn passes_store()
     ensures { PassesStore }
+{}
+
+/// The loops of a phase's term are its passes: a law of the definitions.
+pub fn loops_listed()
+    ensures { LoopsListed }
+{}
+
+/// Each merged pass of a tree is one of its passes, as one nest: a law of the definitions.
+pub fn tree_nests()
+    ensures { TreeNests }
 {}

@@ -146,7 +146,7 @@ fn after(alloc: Global, numbers: &[u64], first: u64) -> Result<Vec<u64>, NoMemor
 }
 
 // How often the loop of each tensor runs.
-fn counts(alloc: Global, path: &[Tensor]) -> Result<Vec<u64>, NoMemory>
+pub(crate) fn counts(alloc: Global, path: &[Tensor]) -> Result<Vec<u64>, NoMemory>
     ensures { IfOk result (λ counts. counts.items ≡ map count_of path.now) }
 {
     let mut counts = Vec::new(alloc);
@@ -157,7 +157,7 @@ fn counts(alloc: Global, path: &[Tensor]) -> Result<Vec<u64>, NoMemory>
 }
 
 // The list, and the number twice.
-fn with_two(alloc: Global, list: &[u64], number: u64) -> Result<Vec<u64>, NoMemory>
+pub(crate) fn with_two(alloc: Global, list: &[u64], number: u64) -> Result<Vec<u64>, NoMemory>
     ensures { IfOk result (λ longer. longer.items ≡ list.now ++ number ∷ number ∷ []) }
 {
     let mut longer = list.to_vec(alloc)?;
@@ -192,7 +192,7 @@ fn numbers(alloc: Global, work: &Work) -> Result<Vec<Affine>, NoMemory>
 }
 
 // The places that the functions make of the items.
-fn places(
+pub(crate) fn places(
     alloc: Global,
     counts: &[u64],
     functions: &[Index],
@@ -305,7 +305,7 @@ fn multiplier_at(
     })
 }
 
-fn diagonal_functions(alloc: Global, diagonal: &Diagonal) -> Result<Vec<Index>, NoMemory>
+pub(crate) fn diagonal_functions(alloc: Global, diagonal: &Diagonal) -> Result<Vec<Index>, NoMemory>
     requires fits { diagonal.now.rows * diagonal.now.cols < 2 ^ 64 }
     requires room { HasRoom diagonal.now.path.items (diagonal.now.rows * diagonal.now.cols) }
     ensures { IfOk result (λ fs. map mapping_of fs.items ≡ diagonal_places (plain_diagonal diagonal.now)) }
