@@ -1,15 +1,16 @@
 -- The nest of a pass that processors and lanes share: its counts, its variables, and what they name.
-use Rattle.std.proofs.Common.{◌≡◌, ℕ, ◌+◌, ◌*◌, ◌<◌, Bool, true, false, List, [], ◌∷◌, ◌++◌, map, refl, sym, ap, ◌∙◌, arith, subst}
+use Rattle.std.proofs.Common.{◌≡◌, ℕ, ◌<◌, Bool, true, false, List, [], ◌∷◌, ◌++◌, map, refl, sym, ap, ◌∙◌, arith, subst}
 use Rattle.std.specs.Prelude.{◌==◌, if◌then◌else◌}
 use Rattle.loop_merge.specs.Listed as shared
 use Rattle.loop_merge.specs.Merge.{PlainPass}
 use Rattle.loop_merge.specs.Nests.{loop_work, loop_of}
 use Rattle.matrix_meaning.specs.declared.Request.{Request}
 use Rattle.operators.proofs.Lists.{place_below}
-use Rattle.pass_actions.specs.Machine.{framed_lanes, if_several, item_of, lane_step, values_of, vectors_of}
+use Rattle.pass_actions.specs.Machine.{framed_lanes, if_several, item_of, lane_step, values_of}
 use Rattle.pass_actions.specs.Laws as actions
 use Rattle.passes.specs.Loops.{nest_of}
 use Rattle.passes.specs.Work as works
+use Rattle.passes.specs.Work.{vectors_of}
 use Rattle.shared_passes.specs.Shared.{framed, HasLanes, IsFramed, step_of}
 use Rattle.sigma_lower.specs.Work.{PlainWork, transforming, tiling, work_size}
 use Rattle.smp_rewrite.specs.Smp.{within}

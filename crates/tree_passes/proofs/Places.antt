@@ -1,5 +1,5 @@
 -- The places of a pass's nest are the pass's, and the lanes of its registers stand side by side.
-use Rattle.std.proofs.Common.{◌≡◌, ℕ, ◌+◌, ◌*◌, ◌<◌, ◌≤◌, List, [], ◌∷◌, ◌++◌, length, map, refl, sym, ap, ap₂, ◌∙◌, arith, subst, Option, Some, None, mod-lt}
+use Rattle.std.proofs.Common.{◌≡◌, ℕ, ◌+◌, ◌*◌, ◌<◌, List, [], ◌∷◌, ◌++◌, length, map, refl, sym, ap, ap₂, ◌∙◌, arith, subst, Option, Some, None, mod-lt}
 use Rattle.std.specs.Option.{option_map}
 use Rattle.index_fn.specs.Mapping.{Mapping, at}
 use Rattle.loop_merge.specs.Listed as shared
@@ -12,19 +12,20 @@ use Rattle.loop_merge.proofs.Shaped.{IsShaped}
 use Rattle.matrix_meaning.specs.declared.Request.{Request}
 use Rattle.matrix_meaning.specs.Valid.{IsValid}
 use Rattle.pass_actions.specs.Laws.{FindsFactors, HasResidues, MovesVectors}
-use Rattle.pass_actions.specs.Machine.{item_of, lane_step, values_of, vectors_of}
+use Rattle.pass_actions.specs.Machine.{item_of, values_of}
 use Rattle.passes.specs.Copies.{loops_of}
-use Rattle.passes.specs.Loops.{PlainLoop, PlainTaken, nest_of, multiplier_of, places_by, IsGoodLoop}
-use Rattle.passes.specs.Merge.{items_in, items_out}
+use Rattle.passes.specs.Loops.{nest_of, multiplier_of, places_by, IsGoodLoop}
+use Rattle.passes.specs.Merge.{items_out}
 use Rattle.passes.specs.Nest.{PlainMultiplier, inner_of, load_place, store_place, factor_at, factor_count}
 use Rattle.passes.specs.Work as works
+use Rattle.passes.specs.Work.{vectors_of}
 use Rattle.passes.proofs.Natural.{looped, ranged}
 use Rattle.passes.proofs.Listed.{loops_have_places}
 use Rattle.ring_mod.specs.Residue.{power_mod}
 use Rattle.ring_mod.proofs.Powers.{power_mod-mod}
 use Rattle.shared_passes.specs.Shared.{IsFramed}
 use Rattle.sigma_lower.specs.Work.{work_size}
-use Rattle.tensor_paths.specs.Path.{Path, count_of, place, size_under, AreInRange}
+use Rattle.tensor_paths.specs.Path.{count_of, place, AreInRange}
 use Rattle.tensor_paths.proofs.PathPlaces.{place-below}
 use Rattle.tree_model.specs.Cost.{node_root}
 use Rattle.tree_passes.specs.Laws.{machine_of}
