@@ -75,7 +75,7 @@ module _ (c : Request) where
 
 -- ---- actions
 
-copies-are : (path : Path) → copies_in (map count_of path) ≡ copies_of path
+pub copies-are : (path : Path) → copies_in (map count_of path) ≡ copies_of path
 copies-are [] = refl
 copies-are (t ∷ path) = ap (λ n. count_of t * n) (copies-are path)
 

@@ -16,3 +16,6 @@ pub mod Owned
 pub mod Bounds
 pub mod Few
 pub mod TreesCanProgram
+pub mod Counting
+pub mod Adding
+pub mod Lean

@@ -103,10 +103,10 @@ module _ (c : Request) (p : PlainPass) (valid : IsValid c) (shape : IsShaped c c
         let path : p.path ≡ framed c (transforming t) frame.loops = frame.path ∙ ap (λ (w : lowered.PlainWork). framed c w frame.loops) is in
         several-copies c t frame.loops shared (ap copies_of (sym path) ∙ one)
 
-    long-node : is_kernel c (size_of t) ≡ false → 2 < size_of t
-    long-node e =
+    long-over : is_kernel c (size_of t) ≡ false → c.unroll < size_of t
+    long-over e =
         elim (cases_lt c.unroll (size_of t)) [
-          | inl longer ↦ omega (arith, valid.in_range.unroll.0)
+          | inl longer ↦ longer
           | inr short ↦ let whole = long-or-whole c (size_of t) e (omega (arith, short)) in absurd (part-of whole.1 whole.0)
         ]
 
@@ -114,13 +114,16 @@ module _ (c : Request) (p : PlainPass) (valid : IsValid c) (shape : IsShaped c c
     pub record IsLong : Type 0 where
       pub leaf_is : t ≡ leaf (size_of t)
       pub kind_is : c.kind ≡ Dft
+      pub over : c.unroll < size_of t
       pub more : 2 < size_of t
 
     pub long-of : is_kernel c (size_of t) ≡ false → IsLong
     long-of e =
         let tree : t ≡ leaf (size_of t) = (subst (IsShapedWork c) is shape.work).1 e in
-        let more = long-node e in
-        record { leaf_is = tree; kind_is = long-kind c.kind (size_of t) (subst (IsWellFormed c.kind) tree node-of.formed) more; more = more }
+        let over = long-over e in
+        let least = valid.in_range.unroll.0 in
+        let more : 2 < size_of t = omega (arith, over, least) in
+        record { leaf_is = tree; kind_is = long-kind c.kind (size_of t) (subst (IsWellFormed c.kind) tree node-of.formed) more; over = over; more = more }
 
   -- what holds of kernels of nodes, of rows of longer leaves and of tiles holds of a pass's work
   pub by-work : (P : PlainWork → Type 0) →

@@ -200,7 +200,7 @@ module _ (c : Request) (p : PlainPass) (valid : IsValid c) (known : IsKnown c p)
   n-small = let least = under-least p.path (works.work_size w) known.sized.wide known.loop.some in omega (arith, least, fills, high)
 
   -- the nest with other work
-  abbrev with_work : PlainWork → PlainNest
+  abbrev pub with_work : PlainWork → PlainNest
   with_work v = nest_of (record { path = p.path; work = v; befores = p.befores; taken = option_map (taken_of c) p.diagonal; afters = p.afters })
 
   alike : LoadsAlike z w
