@@ -1,5 +1,5 @@
 -- The newest store for each word.
-use Rattle.std.proofs.Common.{◌≡◌, ℕ, zero, suc, ◌+◌, ◌-◌, ◌<◌, ◌≤◌, ◌≢◌, ◌⊎◌, List, [], ◌∷◌, length, take, replicate, refl, sym, ap, ◌∙◌, subst, arith, inl, inr, ⊎_elim, get_or-set_same, get_or-set_other}
+use Rattle.std.proofs.Common.{◌≡◌, ℕ, ◌+◌, ◌-◌, ◌<◌, ◌≤◌, ◌≢◌, ◌⊎◌, List, length, replicate, sym, ap, ◌∙◌, subst, arith, inl, inr, ⊎_elim, get_or-set_same, get_or-set_other}
 use Rattle.std.specs.Prelude.{slice_index, slice_set}
 use Rattle.std.proofs.lemmas.Bool.{cases_eq, cases_lt}
 use Rattle.std.proofs.lemmas.List.{length-replicate, get_or-replicate, replicate-append-replicate}
@@ -8,7 +8,7 @@ use Rattle.icode.proofs.End.{slice_index-zeros}
 use Rattle.icode.proofs.LaneSteps.{with_words_more}
 use Rattle.icode.proofs.Words.{with_words-other, slice_index-agree}
 use Rattle.buffer_machine.specs.Sound.{AreNewest}
-use Rattle.buffer_machine.specs.Waits.{Covers, NoneCovers}
+use Rattle.buffer_machine.specs.Waits.{NoneCovers}
 use Rattle.buffer_machine.proofs.Windows.{with_words-here}
 
 -- a word is among those that were marked, or as it was

@@ -1,5 +1,5 @@
 -- What a machine keeps.
-use Rattle.std.proofs.Common.{◌≡◌, ℕ, zero, suc, Bool, cond, true, false, ⊎_elim, ◌+◌, ◌-◌, ◌*◌, ◌<◌, ◌≤◌, ◌⊎◌, ◌^◌, List, [], ◌∷◌, ◌++◌, length, map, drop, replicate, Option, Some, refl, sym, ap, ap₂, ◌∙◌, subst, arith, length-append, div-add-mod', mod-lt}
+use Rattle.std.proofs.Common.{◌≡◌, ℕ, zero, suc, Bool, cond, true, false, ⊎_elim, ◌+◌, ◌-◌, ◌*◌, ◌<◌, ◌≤◌, ◌^◌, List, [], ◌∷◌, ◌++◌, length, map, drop, replicate, Some, refl, sym, ap, ap₂, ◌∙◌, subst, arith, length-append, div-add-mod', mod-lt}
 use Rattle.std.specs.Prelude.{slice_get, slice_index, slice_index_or, slice_set}
 use Rattle.std.proofs.lemmas.List.{get_or-replicate, length-replicate, length-map, replicate-append-replicate}
 use Rattle.std.proofs.lemmas.Bool.{cases_eq, cases_lt, false≢true}
@@ -9,11 +9,9 @@ use Rattle.icode.specs.declared.event.Event.{Event}
 use Rattle.icode.specs.declared.event.Event.TheVariants.{Turn, Drain}
 use Rattle.icode.specs.declared.program.Program.{Program}
 use Rattle.icode.specs.Actions.{Step}
-use Rattle.icode.specs.Buffers.{Waiting, Buffered, some_wait, IsBusy, IsIdle, is_waiting, buffered_completion, stores_among, buffered_start, buffered_turn, buffered_turn_with, buffered_moved_on, buffered_step, drain, drain_with, written}
+use Rattle.icode.specs.Buffers.{Waiting, Buffered, some_wait, IsBusy, IsIdle, is_waiting, buffered_completion, stores_among, buffered_start, buffered_turn, buffered_turn_with, buffered_moved_on, buffered_step, drain, drain_with}
 use Rattle.icode.specs.Operation.{AddressFits}
-use Rattle.icode.specs.declared.event.Turned.{Turned}
-use Rattle.icode.specs.declared.event.Turned.TheVariants.{Did, Waits, Done}
-use Rattle.icode.specs.Machine.{Code, IsCode, State, acts, padded, start, first_open, whole_lines, is_open, phases_after, none_done, next_action, answer, answer_with, moved_on, acted, turn_with, turn}
+use Rattle.icode.specs.Machine.{Code, IsCode, State, acts, padded, start, first_open, whole_lines, is_open, phases_after, none_done, next_action, moved_on, acted, turn_with, turn}
 use Rattle.icode.specs.Program.{plain_program, code_of, Fits, steps}
 use Rattle.icode.proofs.Below.{below-padded}
 use Rattle.icode.proofs.BufferedCompletion.{busy_step, starts_busy, waits_within, completion_turn, completion_drain, completion_past, idle_past}
@@ -33,7 +31,7 @@ use Rattle.buffer_machine.specs.Ready.{CanAct}
 use Rattle.par_machine.specs.Running.{Running as Machine}
 use Rattle.par_machine.specs.Skipped.{skipped}
 use Rattle.buffer_machine.specs.Stand.{Stand, backlog_at, waits_of, buffered_of, acted_stand, cleared, first_busy, settled_stand, first_stand, HasLens, AreSound, IsStanding}
-use Rattle.buffer_machine.specs.View.{running_of, IsWhole}
+use Rattle.buffer_machine.specs.View.{IsWhole}
 use Rattle.buffer_machine.proofs.Fitting.{can_be_done, acts_steps}
 use Rattle.buffer_machine.proofs.Few.{few_step, few_start, few_events}
 use Rattle.buffer_machine.proofs.Lens.{acts_none}
