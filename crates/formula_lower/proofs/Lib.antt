@@ -9,3 +9,5 @@ pub mod Vectors
 pub mod Embedded
 pub mod SharedTrees
 pub mod Ordered
+pub mod HaveLoops
+pub mod TreesKeep

@@ -4,3 +4,4 @@ pub mod Compiled
 pub mod Trees
 pub mod Shared
 pub mod Order
+pub mod Merged

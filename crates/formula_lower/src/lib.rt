@@ -2,6 +2,7 @@
 #![tactic(auto)]
 
 ghost use Rattle.formula_lower.specs.Compiled.{FormulasCompile};
+ghost use Rattle.formula_lower.specs.Merged.{PhasesHaveLoops, TreesKeep};
 ghost use Rattle.formula_lower.specs.Operations.{LowerCounts};
 ghost use Rattle.formula_lower.specs.Terms.{LowerKeeps};
 ghost use Rattle.formula_lower.specs.Order.{TreesAreLoops, TreesOrdered};
@@ -51,4 +52,14 @@ pub fn trees_ordered()
 /// So the passes of each phase are its loops, one by one: a law of the definitions.
 pub fn trees_are_loops()
     ensures { TreesAreLoops }
+{}
+
+/// Each phase of a tree has a loop: a law of the definitions.
+pub fn phases_have_loops()
+    ensures { PhasesHaveLoops }
+{}
+
+/// The merged passes of a tree do its transform: a law of the definitions.
+pub fn trees_keep()
+    ensures { TreesKeep }
 {}

@@ -13,3 +13,4 @@ pub mod HornerRows
 pub mod PassPlaces
 pub mod Listed
 pub mod GoodLoops
+pub mod Numbered

@@ -9,9 +9,11 @@ ghost use Rattle.passes.specs.Loops.{LoopsAreGood, LoopsHavePlaces, MergeListed}
 ghost use Rattle.passes.specs.Places.{PassStores};
 ghost use Rattle.passes.specs.CopiesLaws.{KeepsOnce, LoadsGather, LoopsScale, StandSideBySide, StandUnder, StoresScatter};
 
+mod items;
 mod nest;
 mod work;
 
+pub use items::{items_in, items_out};
 pub use nest::{Factors, Merged, Multiplier, Nest};
 pub use work::Work;
 
