@@ -100,12 +100,16 @@ checked_passes limit p n few past h =
 pub checked_shared : (limit : ℕ) (p : PlainProgram) (n : ℕ) (s : Sharing) → action_count p ≤ limit → length p.phases ≤ n → IsCheckedTo p n (Some s) → IsCause limit p (LineShared s.phase s.line s.a s.b)
 checked_shared limit p n s few past h = record { few = few; sound = all_sound p n (Some s) past h; first = h.sharing }
 
--- what passes fits
-pub passed_fits : (p : PlainProgram) → IsWithinLimits p → PassesCheck 100000000 p → PlainFits p
-passed_fits p limits h = record { few = omega (arith, h.few); each = λ phase q small k d lt. fits phase q small k d lt }
+-- what is short and sound fits
+pub sound_fits : (p : PlainProgram) → IsWithinLimits p → action_count p ≤ 100000000 → AreSound p → PlainFits p
+sound_fits p limits few all = record { few = omega (arith, few); each = λ phase q small k d lt. fits phase q small k d lt }
   where
     fits : (phase q : ℕ) → q < p.procs → All (StepFits p) (steps_of_phase p phase q)
     fits phase q small k d lt =
-        let sound = h.sound phase q small k d lt in
+        let sound = all phase q small k d lt in
         let factors = factors_fit p limits phase q k d lt in
         record { numbers = sound.place.numbers; place = sound.place.inside; registers = sound.registers; factors = factors }
+
+-- what passes fits
+pub passed_fits : (p : PlainProgram) → IsWithinLimits p → PassesCheck 100000000 p → PlainFits p
+passed_fits p limits h = sound_fits p limits h.few h.sound

@@ -1,7 +1,7 @@
 -- When a program is refused, and why.
 use Rattle.std.specs.Prelude.{◌≡◌, ◌≢◌, ℕ, ◌^◌, ◌<◌, ◌≤◌, Some, All, Contains, length, slice_get, take}
 use Rattle.operators.specs.Sum.{sum_below}
-use Rattle.icode.specs.Actions.{Step, RegistersFit, steps_of_phase, plain_code}
+use Rattle.icode.specs.Actions.{Step, RegistersFit, PlainFits, steps_of_phase, plain_code}
 use Rattle.icode.specs.Machine.{Code, IsApart, written_lines, touched_lines}
 use Rattle.icode.specs.Plain.{PlainProgram}
 use Rattle.code_check.specs.declared.fault.CheckFault.{CheckFault}
@@ -91,3 +91,11 @@ IsCause limit p (Address phase q i) = IsBadPlace limit p phase q i
 IsCause limit p (Register phase q i) = IsBadRegister limit p phase q i
 IsCause limit p (LineShared phase line a b) = IsBadLine limit p phase line a b
 IsCause limit p NoMemory = Unit {0}
+
+-- what is refused for a shared line alone fits all the same
+abbrev pub FitsIfShared : PlainProgram → CheckFault → Type 0
+FitsIfShared p (OverSteps n) = Unit {0}
+FitsIfShared p (Address phase q i) = Unit {0}
+FitsIfShared p (Register phase q i) = Unit {0}
+FitsIfShared p (LineShared phase line a b) = PlainFits p
+FitsIfShared p NoMemory = Unit {0}

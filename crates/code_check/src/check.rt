@@ -3,7 +3,7 @@
 ghost use Rattle.std.specs.Prelude.{◌≡◌, ◌≢◌, ◌⊎◌, ℕ, List, [], OnOk, IfOk, IfErr, IsErrAnd};
 ghost use Rattle.icode.specs.Machine.{IsApart, runs};
 ghost use Rattle.icode.specs.Program.{plain_program, code_of, Fits};
-ghost use Rattle.code_check.specs.Refusals.{PassesCheck, IsCause};
+ghost use Rattle.code_check.specs.Refusals.{PassesCheck, IsCause, FitsIfShared};
 
 use crate::count::count_actions;
 use crate::fault::{CheckFault, STEP_LIMIT};
@@ -71,6 +71,9 @@ pub fn verify<'a>(alloc: Global, program: &'a Program) -> Result<Verified<'a>, C
     ensures refused { (fault : CheckFault) → fault ≢ CheckFault.NoMemory
         → IsCause STEP_LIMIT (plain_program program.now) fault
         → IsErrAnd result (λ answer. (answer ≡ fault) ⊎ (answer ≡ CheckFault.NoMemory)) }
+
+    // A program that shares a line fits: its runs are defined, and may differ.
+    ensures shared { IfErr result (FitsIfShared (plain_program program.now)) }
 {
     let answer = judge(alloc, program);
     answer

@@ -16,7 +16,7 @@ ghost use Rattle.generate.specs.Planned.{IsPlanned, IsAdmitted, IsBarred, IsRoot
 ghost use Rattle.generate.specs.declared.GenerateFault.TheVariants as fault;
 
 use icode::program::Program;
-use loop_merge::merge_nests;
+use loop_merge::merge;
 use matrix_meaning::{Kind, Request};
 use memory::NoMemory;
 use plan_search::{Plan, PlanError, best};
@@ -146,7 +146,7 @@ fn tree_program(alloc: Global, c: &Ctx, tree: &Tree) -> Result<Program, NoMemory
     let blocks = to_smp(alloc, c, tree)?;
     let vectors = to_vec(alloc, c, blocks)?;
     let loops = lower(alloc, c, &vectors)?;
-    let merged = merge_nests(alloc, c, &loops)?;
+    let merged = merge(alloc, c, &loops)?;
     let modulus = Modulus::new(request.modulus).unwrap();
     let program = emit_on(alloc, &modulus, request.line, &merged)?;
     Ok(program)

@@ -7,10 +7,10 @@ use Rattle.std.proofs.lemmas.Bool.{cases_eq, cases_lt}
 use Rattle.std.proofs.lemmas.Bool.Decides.{nat_tests}
 use Rattle.std.proofs.lemmas.List.Elements.{All-nil, All-cons}
 use Rattle.formula_lower.specs.Trees.{long_work}
-use Rattle.index_fn.specs.Mapping.{Mapping, Always, Paired}
-use Rattle.loop_merge.specs.Listed.{item_of, counts_of, items_of, places_of}
-use Rattle.loop_merge.specs.Merge.{PlainDiagonal, PlainPass, merged_of}
-use Rattle.loop_merge.specs.Nests.{loop_work, loop_of, taken_of}
+use Rattle.index_fn.specs.Mapping.{Mapping}
+use Rattle.loop_merge.specs.Items.{item_of, counts_of, items_of, places_of}
+use Rattle.loop_merge.specs.Merge.{PlainPass, merged_of}
+use Rattle.loop_merge.specs.Nests.{loop_work, loop_of}
 use Rattle.loop_merge.specs.Placed.{diagonal_places}
 use Rattle.loop_merge.specs.Reach.{HasWords, ReachesAll, CanReach, IsReachable, AreReachable, IsNestable, AreNestable}
 use Rattle.loop_merge.specs.Views.{plain_pass}
@@ -25,16 +25,14 @@ use Rattle.matrix_meaning.specs.declared.Request.{Request}
 use Rattle.matrix_meaning.specs.Valid.{IsValid}
 use Rattle.passes.specs.Loops.{limits_in, places_by}
 use Rattle.passes.specs.Merge.{place_sum, all_simplified, items_in, items_out}
-use Rattle.passes.specs.Nest.{PlainMultiplier, PlainNest, inner_of}
+use Rattle.passes.specs.Nest.{PlainMultiplier, PlainNest}
 use Rattle.passes.specs.Work as works
 use Rattle.passes.specs.Work.{kernel}
 use Rattle.perm_algebra.specs.Affine.{Sum, constant, variable}
 use Rattle.perm_algebra.specs.Views.{plain_sum}
 use Rattle.perm_algebra.specs.declared.Affine.{Affine}
 use Rattle.sigma_lower.specs.Work.{PlainWork, transforming, tiling, work_size}
-use Rattle.sigma_lower.specs.Wrapped as lowered
-use Rattle.tensor_paths.specs.declared.Tensor.TheVariants.{Blocks, Columns}
-use Rattle.tensor_paths.specs.Path.{Path, count_of, size_under, copies_of}
+use Rattle.tensor_paths.specs.Path.{Path, count_of, copies_of}
 use Rattle.tensor_paths.proofs.Under.{size_under-copies}
 use Rattle.tree_model.specs.declared.tree.Rule.TheVariants.{Gt, Ct, Split}
 use Rattle.tree_model.specs.Admissible.{IsAdmissible}
@@ -188,14 +186,6 @@ reach-items p counts gs fs path n es is counts_is gs_is path_is n_is items h = r
 
 pub places-are : (c : Request) (p : PlainPass) (counts : List ℕ) (gs fs : List Mapping) (path : Path) (n : ℕ) (es is : List Sum) → counts ≡ counts_of p → gs ≡ fs → path ≡ p.path → n ≡ work_size p.work → es ≡ is → places_of counts gs path n es ≡ places_by (loop_of c p) fs is
 places-are c p counts gs fs path n es is counts_is gs_is path_is n_is items = rw (counts_is, gs_is, path_is, n_is, items) (places-by c p fs is)
-
-inner-same : (path : Path) (n : ℕ) → lowered.inner_of path n ≡ inner_of path n
-inner-same [] n = refl
-inner-same (Blocks c ∷ path) n = ap (λ f. Paired (Always 0) 0 f (size_under path n)) (inner-same path n)
-inner-same (Columns c ∷ path) n = ap (λ f. Paired f 1 (Always 0) c) (inner-same path n)
-
-pub taken-places : (c : Request) (d : PlainDiagonal) → diagonal_places d ≡ (taken_of c d).places
-taken-places c d = ap (λ f. d.places ++ f ∷ []) (inner-same d.path (d.rows * d.cols))
 
 abbrev nest_by : List ℕ → works.PlainWork → List Sum → Option PlainMultiplier → List Sum → PlainNest
 nest_by counts work gathers multiplier scatters = record { counts = counts; work = work; gathers = gathers; multiplier = multiplier; scatters = scatters }

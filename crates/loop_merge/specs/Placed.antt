@@ -1,16 +1,16 @@
 -- The places of passes as sums of the loops' variables.
 use Rattle.std.specs.Prelude.{◌≡◌, ℕ, ◌+◌, ◌*◌, ◌<◌, ◌≤◌, List, [], ◌∷◌, ◌++◌, Some}
-use Rattle.index_fn.specs.Mapping.{Mapping, at}
+use Rattle.index_fn.specs.Mapping.{Mapping}
 use Rattle.matrix_meaning.specs.declared.Request.{Request}
 use Rattle.matrix_meaning.specs.Valid.{IsValid}
-use Rattle.perm_algebra.specs.Affine.{Fits, Sum, constant, value, IsSound, AreBelowCounts, levels, parts, simplified}
+use Rattle.perm_algebra.specs.Affine.{Fits, Sum, constant, levels, parts, simplified}
 use Rattle.perm_algebra.specs.Room.{HasRoomFor}
 use Rattle.sigma_lower.specs.Work.{PlainWork, transforming, tiling, work_size}
 use Rattle.sigma_lower.specs.Wrapped.{inner_of}
-use Rattle.loop_merge.specs.Merge.{PlainDiagonal, PlainPass, through, gather_place, scatter_place, merged_of}
+use Rattle.loop_merge.specs.Merge.{PlainDiagonal, PlainPass, merged_of}
 pub use Rattle.passes.specs.Merge.{place_sum, all_simplified}
 use Rattle.tensor_paths.specs.declared.Tensor.TheVariants.{Blocks, Columns}
-use Rattle.tensor_paths.specs.Path.{Path, place}
+use Rattle.tensor_paths.specs.Path.{Path}
 use Rattle.tree_model.specs.Admissible.{IsAdmissible}
 use Rattle.tree_model.specs.Breakdown.{Breakdown}
 
@@ -73,17 +73,3 @@ PlacesAreLimited = (c : Request) (t : Breakdown) → IsValid c → IsAdmissible 
 abbrev pub loop_values : Path → ℕ → (ℕ → ℕ) → List ℕ
 loop_values [] d vs = []
 loop_values (t ∷ path) d vs = vs d ∷ loop_values path (d + 1) vs
-
--- the sums have the values of the pass's places
-pub record ArePlacesValues (p : PlainPass) (cs vs : ℕ → ℕ) (e : Sum) : Type 0 where
-  pub gathers : value (gather_sum cs p e) vs ≡ gather_place p (loop_values p.path 0 vs) (value e vs)
-  pub scatters : value (scatter_sum cs p e) vs ≡ scatter_place p (loop_values p.path 0 vs) (value e vs)
-  pub multiplies : (d : PlainDiagonal) → p.diagonal ≡ Some d →
-      value (diagonal_sum cs p d e) vs ≡ at (inner_of d.path (d.rows * d.cols)) (through d.places (place p.path (work_size p.work) (loop_values p.path 0 vs) (value e vs)))
-
-abbrev pub AreValuesOf : List PlainPass → Type 0
-AreValuesOf [] = Unit {0}
-AreValuesOf (p ∷ ps) = ((cs vs : ℕ → ℕ) (e : Sum) → AreBelowCounts vs cs → IsSound e → ArePlacesValues p cs vs e) × AreValuesOf ps
-
-abbrev pub PlacesAreValues : Type 0
-PlacesAreValues = (c : Request) (t : Breakdown) → IsValid c → IsAdmissible c t → AreValuesOf (merged_of c t)

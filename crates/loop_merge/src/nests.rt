@@ -3,7 +3,7 @@ ghost use Rattle.std.specs.Prelude.{◌≡◌, ℕ, List, ◌*◌, ◌^◌, ◌<
 ghost use Rattle.formula_lower.specs.Merged.{tree_merged};
 ghost use Rattle.formula_lower.specs.Trees.{node_work};
 ghost use Rattle.index_fn.specs.Index.{mapping_of};
-ghost use Rattle.loop_merge.specs.Listed.{places_of};
+ghost use Rattle.loop_merge.specs.Items.{places_of};
 ghost use Rattle.loop_merge.specs.Nests.{loop_of, loop_work, taken_of};
 ghost use Rattle.loop_merge.specs.Placed.{diagonal_places};
 ghost use Rattle.loop_merge.specs.Reach.{AreNestable, CanReach, HasWords, IsNestable};
@@ -25,7 +25,7 @@ ghost use Rattle.tree_model.specs.Admissible.{IsAdmissible};
 ghost use Rattle.tree_model.specs.Breakdown.{Breakdown, HasWordSizes, breakdown_of, size_of};
 ghost use Rattle.tree_model.specs.Cost.{node_root};
 
-use crate::listed::{counts, diagonal_functions, places, with_two};
+use crate::places::{counts, diagonal_functions, places, with_two};
 use crate::{Diagonal, Pass, passes_of_formula};
 use matrix_meaning::Kind;
 use memory::NoMemory;
@@ -38,7 +38,7 @@ use tree_model::{Ctx, Tree, is_kernel, node_root};
 
 /// The formulas of a tree's phases, with every permutation and diagonal merged into the loops beside it: each pass is one
 /// nest.
-pub fn merge_nests(alloc: Global, c: &Ctx, formulas: &[Sigma]) -> Result<Merged, NoMemory>
+pub fn merge(alloc: Global, c: &Ctx, formulas: &[Sigma]) -> Result<Merged, NoMemory>
     requires { AreOfTree c.now (map plain_sigma formulas.now) }
     ensures merged { IfOk result (λ m. (t : Breakdown) → IsAdmissible c.now t → map plain_sigma formulas.now ≡ sigma_of c.now t → plain_merged m ≡ tree_merged c.now t) }
     ensures meaning { IfOk result (λ m. (x : List ℕ) → IsVector c.now.modulus c.now.size x → merged_on c.now.modulus (plain_merged m) x ≡ transform_of c.now c.now.size x) }

@@ -1,5 +1,5 @@
 -- What processors have executed so far.
-use Rattle.std.proofs.Common.{◌≡◌, ℕ, zero, suc, ◌+◌, ◌-◌, ◌*◌, ◌<◌, ◌≤◌, List, [], ◌∷◌, ◌++◌, Bool, true, false, cond, length, take, flat_map, refl, sym, ap, ap₂, ◌∙◌, subst, arith, ⊎_elim, append_assoc, length-append, length-take-le}
+use Rattle.std.proofs.Common.{◌≡◌, ℕ, zero, suc, ◌+◌, ◌-◌, ◌*◌, ◌<◌, ◌≤◌, ◌^◌, List, [], ◌∷◌, ◌++◌, Bool, true, false, cond, length, take, flat_map, refl, sym, ap, ap₂, ◌∙◌, subst, arith, ⊎_elim, append_assoc, length-append, length-take-le}
 use Rattle.std.specs.Prelude.{slice_index}
 use Rattle.std.specs.List.{range_with_len}
 use Rattle.std.proofs.lemmas.Bool.{cases_Bool}
@@ -8,6 +8,7 @@ use Rattle.icode.specs.declared.action.Action.TheVariants.{Load, Store, Zero, Ad
 use Rattle.icode.specs.declared.action.Counts.{Counts}
 use Rattle.icode.specs.Machine.{Code, IsCode, State, acts, is_open, none_done, first_open, phases_after, moved_on, counted, counts_of, executed}
 use Rattle.par_machine.specs.Frame.{total}
+use Rattle.par_machine.specs.Performed.{HasRoom}
 use Rattle.icode.proofs.End.{none_done-zero}
 use Rattle.icode.proofs.Runs.{closed_over, first_open-open, first_open-closed}
 
@@ -20,6 +21,10 @@ operations_in lanes (Neg r x) = lanes
 operations_in lanes (Mul r x factors) = lanes
 operations_in lanes _ = 0
 
+abbrev muls_in : ℕ → Action → ℕ
+muls_in lanes (Mul r x factors) = lanes
+muls_in lanes _ = 0
+
 abbrev loads_in : ℕ → Action → ℕ
 loads_in lanes (Load r address) = lanes
 loads_in lanes _ = 0
@@ -29,27 +34,27 @@ stores_in lanes (Store address r) = lanes
 stores_in lanes _ = 0
 
 abbrev plus : ℕ → Action → Counts → Counts
-plus lanes a c = record { operations = c.operations + operations_in lanes a; loads = c.loads + loads_in lanes a; stores = c.stores + stores_in lanes a }
+plus lanes a c = record { operations = c.operations + operations_in lanes a; muls = c.muls + muls_in lanes a; loads = c.loads + loads_in lanes a; stores = c.stores + stores_in lanes a }
 
-same_counts : (o l s o' l' s' : ℕ) → o ≡ o' → l ≡ l' → s ≡ s' → ◌≡◌ {A = Counts} (record { operations = o; loads = l; stores = s }) (record { operations = o'; loads = l'; stores = s' })
-same_counts o l s o' l' s' eo el es =
-    ap (λ o. record { operations = o; loads = l; stores = s }) eo
-    ∙ (ap (λ l. record { operations = o'; loads = l; stores = s }) el ∙ ap (λ s. record { operations = o'; loads = l'; stores = s }) es)
+same_counts : (o m l s o' m' l' s' : ℕ) → o ≡ o' → m ≡ m' → l ≡ l' → s ≡ s' → ◌≡◌ {A = Counts} (record { operations = o; muls = m; loads = l; stores = s }) (record { operations = o'; muls = m'; loads = l'; stores = s' })
+same_counts o m l s o' m' l' s' eo em el es =
+    ap₂ (λ o m. record { operations = o; muls = m; loads = l; stores = s }) eo em
+    ∙ ap₂ (λ l s. record { operations = o'; muls = m'; loads = l; stores = s }) el es
 
 counted_is : (lanes : ℕ) (a : Action) (c : Counts) → counted lanes a c ≡ plus lanes a c
-counted_is lanes (Load r address) c = same_counts c.operations (c.loads + lanes) c.stores _ _ _ (omega arith) refl (omega arith)
-counted_is lanes (Store address r) c = same_counts c.operations c.loads (c.stores + lanes) _ _ _ (omega arith) (omega arith) refl
-counted_is lanes (Zero r) c = same_counts c.operations c.loads c.stores _ _ _ (omega arith) (omega arith) (omega arith)
-counted_is lanes (Add r x y) c = same_counts (c.operations + lanes) c.loads c.stores _ _ _ refl (omega arith) (omega arith)
-counted_is lanes (Sub r x y) c = same_counts (c.operations + lanes) c.loads c.stores _ _ _ refl (omega arith) (omega arith)
-counted_is lanes (Neg r x) c = same_counts (c.operations + lanes) c.loads c.stores _ _ _ refl (omega arith) (omega arith)
-counted_is lanes (Mul r x factors) c = same_counts (c.operations + lanes) c.loads c.stores _ _ _ refl (omega arith) (omega arith)
-counted_is lanes (Tile r x) c = same_counts c.operations c.loads c.stores _ _ _ (omega arith) (omega arith) (omega arith)
+counted_is lanes (Load r address) c = same_counts c.operations c.muls (c.loads + lanes) c.stores _ _ _ _ (omega arith) (omega arith) refl (omega arith)
+counted_is lanes (Store address r) c = same_counts c.operations c.muls c.loads (c.stores + lanes) _ _ _ _ (omega arith) (omega arith) (omega arith) refl
+counted_is lanes (Zero r) c = same_counts c.operations c.muls c.loads c.stores _ _ _ _ (omega arith) (omega arith) (omega arith) (omega arith)
+counted_is lanes (Add r x y) c = same_counts (c.operations + lanes) c.muls c.loads c.stores _ _ _ _ refl (omega arith) (omega arith) (omega arith)
+counted_is lanes (Sub r x y) c = same_counts (c.operations + lanes) c.muls c.loads c.stores _ _ _ _ refl (omega arith) (omega arith) (omega arith)
+counted_is lanes (Neg r x) c = same_counts (c.operations + lanes) c.muls c.loads c.stores _ _ _ _ refl (omega arith) (omega arith) (omega arith)
+counted_is lanes (Mul r x factors) c = same_counts (c.operations + lanes) (c.muls + lanes) c.loads c.stores _ _ _ _ refl refl (omega arith) (omega arith)
+counted_is lanes (Tile r x) c = same_counts c.operations c.muls c.loads c.stores _ _ _ _ (omega arith) (omega arith) (omega arith) (omega arith)
 
 counted_swap : (lanes : ℕ) (a b : Action) (c : Counts) → counted lanes a (counted lanes b c) ≡ counted lanes b (counted lanes a c)
 counted_swap lanes a b c =
     ap (counted lanes a) (counted_is lanes b c) ∙ (counted_is lanes a (plus lanes b c)
-    ∙ (same_counts _ _ _ _ _ _ (omega arith) (omega arith) (omega arith)
+    ∙ (same_counts _ _ _ _ _ _ _ _ (omega arith) (omega arith) (omega arith) (omega arith)
     ∙ (sym (counted_is lanes b (plus lanes a c)) ∙ ap (counted lanes b) (sym (counted_is lanes a c)))))
 
 pub counts_more : (lanes : ℕ) (xs : List Action) (a : Action) → counts_of lanes (xs ++ a ∷ []) ≡ counted lanes a (counts_of lanes xs)
@@ -59,40 +64,54 @@ counts_more lanes (x ∷ xs) a = ap (counted lanes x) (counts_more lanes xs a) �
 -- no count is more than the lanes of all actions
 pub record AreSmall (n : ℕ) (c : Counts) : Type 0 where
   pub operations : c.operations ≤ n
+  pub muls : c.muls ≤ n
   pub loads : c.loads ≤ n
   pub stores : c.stores ≤ n
 
-in_lanes : (lanes : ℕ) (a : Action) → (operations_in lanes a ≤ lanes) × (loads_in lanes a ≤ lanes) × (stores_in lanes a ≤ lanes)
-in_lanes lanes (Load r address) = (omega arith, omega arith, omega arith)
-in_lanes lanes (Store address r) = (omega arith, omega arith, omega arith)
-in_lanes lanes (Zero r) = (omega arith, omega arith, omega arith)
-in_lanes lanes (Add r x y) = (omega arith, omega arith, omega arith)
-in_lanes lanes (Sub r x y) = (omega arith, omega arith, omega arith)
-in_lanes lanes (Neg r x) = (omega arith, omega arith, omega arith)
-in_lanes lanes (Mul r x factors) = (omega arith, omega arith, omega arith)
-in_lanes lanes (Tile r x) = (omega arith, omega arith, omega arith)
+in_lanes : (lanes : ℕ) (a : Action) → (operations_in lanes a ≤ lanes) × (muls_in lanes a ≤ lanes) × (loads_in lanes a ≤ lanes) × (stores_in lanes a ≤ lanes)
+in_lanes lanes (Load r address) = (omega arith, omega arith, omega arith, omega arith)
+in_lanes lanes (Store address r) = (omega arith, omega arith, omega arith, omega arith)
+in_lanes lanes (Zero r) = (omega arith, omega arith, omega arith, omega arith)
+in_lanes lanes (Add r x y) = (omega arith, omega arith, omega arith, omega arith)
+in_lanes lanes (Sub r x y) = (omega arith, omega arith, omega arith, omega arith)
+in_lanes lanes (Neg r x) = (omega arith, omega arith, omega arith, omega arith)
+in_lanes lanes (Mul r x factors) = (omega arith, omega arith, omega arith, omega arith)
+in_lanes lanes (Tile r x) = (omega arith, omega arith, omega arith, omega arith)
 
 pub counts_small : (lanes : ℕ) (xs : List Action) → AreSmall (length xs * lanes) (counts_of lanes xs)
-counts_small lanes [] = record { operations = omega arith; loads = omega arith; stores = omega arith }
+counts_small lanes [] = record { operations = omega arith; muls = omega arith; loads = omega arith; stores = omega arith }
 counts_small lanes (x ∷ xs) =
     let rest = counts_small lanes xs in
     let one = in_lanes lanes x in
     let is = counted_is lanes x (counts_of lanes xs) in
     record {
       operations = omega (arith, rest.operations, one.0, ap (λ (c : Counts). c.operations) is);
-      loads = omega (arith, rest.loads, one.1, ap (λ (c : Counts). c.loads) is);
-      stores = omega (arith, rest.stores, one.2, ap (λ (c : Counts). c.stores) is);
+      muls = omega (arith, rest.muls, one.1, ap (λ (c : Counts). c.muls) is);
+      loads = omega (arith, rest.loads, one.2, ap (λ (c : Counts). c.loads) is);
+      stores = omega (arith, rest.stores, one.3, ap (λ (c : Counts). c.stores) is);
     }
 
--- one action more counts at most the lanes more
-pub counted_at_most : (lanes : ℕ) (a : Action) (c : Counts) → ((counted lanes a c).operations ≤ c.operations + lanes) × ((counted lanes a c).loads ≤ c.loads + lanes) × ((counted lanes a c).stores ≤ c.stores + lanes)
-counted_at_most lanes a c =
+-- room
+
+pub room_less : (n more : ℕ) (c : Counts) → n ≤ more → HasRoom more c → HasRoom n c
+room_less n more c le h =
+    record { operations = omega (arith, h.operations); muls = omega (arith, h.muls); loads = omega (arith, h.loads); stores = omega (arith, h.stores) }
+
+pub small_has_room : (few n : ℕ) (c : Counts) → AreSmall few c → few + n < 2 ^ 64 → HasRoom n c
+small_has_room few n c h limit =
+    record { operations = omega (arith, h.operations); muls = omega (arith, h.muls); loads = omega (arith, h.loads); stores = omega (arith, h.stores) }
+
+-- one action takes the room of its lanes
+pub room_after : (n lanes : ℕ) (a : Action) (c : Counts) → HasRoom (n + lanes) c → HasRoom n (counted lanes a c)
+room_after n lanes a c h =
     let one = in_lanes lanes a in
-    let is = counted_is lanes a c in (
-      omega (arith, one.0, ap (λ (c : Counts). c.operations) is),
-      omega (arith, one.1, ap (λ (c : Counts). c.loads) is),
-      omega (arith, one.2, ap (λ (c : Counts). c.stores) is),
-    )
+    let is = counted_is lanes a c in
+    record {
+      operations = omega (arith, h.operations, one.0, ap (λ (c : Counts). c.operations) is);
+      muls = omega (arith, h.muls, one.1, ap (λ (c : Counts). c.muls) is);
+      loads = omega (arith, h.loads, one.2, ap (λ (c : Counts). c.loads) is);
+      stores = omega (arith, h.stores, one.3, ap (λ (c : Counts). c.stores) is);
+    }
 
 -- What is executed
 

@@ -1,6 +1,6 @@
 -- Actions that are played one after another.
 use Rattle.std.specs.Prelude.{IsTrue, ◌≤◌}
-use Rattle.std.proofs.Common.{◌≡◌, ℕ, zero, suc, ◌-◌, ◌*◌, ◌<◌, List, All, Some, length, take, get_or, refl, sym, ap, ◌∙◌, subst, arith}
+use Rattle.std.proofs.Common.{◌≡◌, ℕ, zero, suc, ◌+◌, ◌-◌, ◌*◌, ◌<◌, List, All, Some, length, take, get_or, refl, sym, ap, ◌∙◌, subst, arith}
 use Rattle.std.proofs.lemmas.Option.{slice_get_read}
 use Rattle.icode.specs.declared.program.Op.{Op}
 use Rattle.icode.specs.Actions.{StepFits, step_of}
@@ -13,10 +13,11 @@ use Rattle.icode.specs.Limits.{is_op_within}
 use Rattle.par_machine.specs.Instruction.{IsClosed, IsWithin}
 use Rattle.par_machine.specs.OnRegisters.{counted_op}
 use Rattle.par_machine.specs.Hand.{step_with, step_at, action_of_step, Runs}
+use Rattle.par_machine.specs.Performed.{HasRoom}
 use Rattle.par_machine.specs.Played.{Playing, CanPlay, played_one, played}
 use Rattle.par_machine.specs.Position.{Position, next_position, positions}
 use Rattle.icode.proofs.Below.{effect_memory_below, effect_registers_below}
-use Rattle.par_machine.proofs.Executed.{counted_at_most}
+use Rattle.par_machine.proofs.Executed.{room_less, room_after}
 use Rattle.par_machine.proofs.Steps.{length-with_words, length-memory_after}
 
 pub playing_same : (m m' r r' : List ℕ) (p p' : Position) (c c' : Counts) → m ≡ m' → r ≡ r' → p ≡ p' → c ≡ c' → ◌≡◌ {A = Playing} (record { memory = m; registers = r; place = p; counts = c }) (record { memory = m'; registers = r'; place = p'; counts = c' })
@@ -76,6 +77,11 @@ module _ (g : PlainProgram) (code : List Instruction) (q : ℕ) where
   pub within_here : (n at : ℕ) (s : Playing) (i : Instruction) (op : Op) (depth : ℕ) → at < length code → i ≡ get_or code at i → i ≡ Act op depth → CanPlay g code q n s → IsTrue (is_op_within g.modulus (plain_op op) depth)
   within_here n at s i op depth lt e is h = subst (IsWithin g.modulus) is (subst (IsWithin g.modulus) (sym e) (h.within at i lt))
 
+  -- one action can be counted
+  pub room_here : (n : ℕ) (s : Playing) → 0 < n → CanPlay g code q n s → HasRoom g.lanes s.counts
+  room_here zero s some h = absurd (omega arith)
+  room_here (suc n) s some h = room_less g.lanes (suc n * g.lanes) s.counts (omega arith) h.counters
+
   -- the actions that come after the first
   pub can_play_rest : (n : ℕ) (s : Playing) → 0 < g.modulus → 0 < n → CanPlay g code q n s → CanPlay g code q (n - 1) (played_one g code q s)
   can_play_rest zero s pos some h = absurd (omega arith)
@@ -83,7 +89,6 @@ module _ (g : PlainProgram) (code : List Instruction) (q : ℕ) where
       let e : n ≡ suc n - 1 = omega arith in
       let action = action_of_step (step_at g code q s.place) in
       let before : Local = record { memory = s.memory; registers = s.registers } in
-      let more = counted_at_most g.lanes action s.counts in
       subst (λ k. CanPlay g code q k (played_one g code q s)) e
       (record {
         closed = h.closed;
@@ -93,7 +98,5 @@ module _ (g : PlainProgram) (code : List Instruction) (q : ℕ) where
         words = effect_memory_below g.modulus g.lanes pos before h.words h.residues action;
         file = length-with_words (value_put g.modulus g.lanes action before) s.registers (register_put action * g.lanes) ∙ h.file;
         residues = effect_registers_below g.modulus g.lanes pos before h.words h.residues action;
-        operations = omega (arith, h.operations, more.0);
-        loads = omega (arith, h.loads, more.1);
-        stores = omega (arith, h.stores, more.2);
+        counters = room_after (n * g.lanes) g.lanes action s.counts (room_less (n * g.lanes + g.lanes) (suc n * g.lanes) s.counts (omega arith) h.counters);
       })

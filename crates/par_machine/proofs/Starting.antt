@@ -4,7 +4,6 @@ use Rattle.std.specs.Prelude.{slice_get, slice_index, slice_index_or, slice_set}
 use Rattle.std.proofs.lemmas.List.{length-map}
 use Rattle.std.proofs.lemmas.Option.{get_or_from_slice_get}
 use Rattle.icode.specs.declared.action.Action.{Action}
-use Rattle.icode.specs.declared.action.Counts.{Counts}
 use Rattle.icode.specs.Machine.{Code, State, acts, is_open, first_open, executed, counts_so_far}
 use Rattle.par_machine.specs.declared.machine.Machine.TheInside.{Inside}
 use Rattle.par_machine.specs.declared.cursor.Instruction.{Instruction}
@@ -13,6 +12,7 @@ use Rattle.par_machine.specs.Context.{Context}
 use Rattle.par_machine.specs.Lengths.{HasLengths, IsFirstLeft, OfCode, settled_phase, settled_done}
 use Rattle.par_machine.specs.Header.{header_of}
 use Rattle.par_machine.specs.Hand.{step_at, Runs}
+use Rattle.par_machine.specs.Performed.{HasRoom}
 use Rattle.par_machine.specs.Played.{Playing, CanPlay, playing}
 use Rattle.par_machine.specs.Position.{Position, next_position, positions, first_position}
 use Rattle.par_machine.specs.Processors.{rewound, registers_of, cursors_of, counts_of_all}
@@ -22,7 +22,7 @@ use Rattle.par_machine.specs.Unfinished.{IsUnfinished}
 use Rattle.par_machine.specs.View.{frame_of, stand_of, stand_with, running_of, IsWhole}
 use Rattle.par_machine.proofs.Advances.{IsSet, IsAdvanced, IsRun, advanced_runs, unfinished_is}
 use Rattle.par_machine.proofs.Each.{at_map, map_set, map_map, map_all}
-use Rattle.par_machine.proofs.Executed.{counts_small, executed_room}
+use Rattle.par_machine.proofs.Executed.{counts_small, small_has_room, executed_room}
 use Rattle.par_machine.proofs.Frames.{some_same, has_lengths, is_code, count_lists, acts_places, places_lens, hand_place, routine_is}
 use Rattle.par_machine.proofs.Phases.{len_at}
 use Rattle.par_machine.proofs.Playings.{playing_same}
@@ -68,7 +68,7 @@ left_is a now q n r p is whole proc some most routine processor =
       processor = processor;
     }
 
-processor_there : (a : Inside) (q : ℕ) → IsWhole a → q < a.engine.shape.procs → q < length a.processors.items
+pub processor_there : (a : Inside) (q : ℕ) → IsWhole a → q < a.engine.shape.procs → q < length a.processors.items
 processor_there a q w lt = omega (arith, lt, w.running.cursors, length-map a.processors.items (λ (p : Context). p.place))
 
 begin_is : (a : Inside) (q : ℕ) (p : Context) (memory : List ℕ) → q < length a.processors.items → p ≡ get_or a.processors.items q p → memory ≡ a.memory.items → playing memory p ≡ begin_of a q p
@@ -89,10 +89,10 @@ pub done_fits : (a : Inside) (q n d : ℕ) (r : Routine) (p : Context) → IsLef
 done_fits a q n d r p h e =
     omega (arith, within_routine a q n r p h, done_is a q d h.whole h.proc e, len_at a.phases.items a.phase r (set_is a q n r p h).here.phase h.routine, one_len (lens_of a.phases.items) a.phase, h.whole.ready.few)
 
-count_room : (n lanes len count whole : ℕ) → lanes ≤ 16 → count ≤ len * lanes → len + n ≤ whole → whole < 2 ^ 59 → count + n * lanes < 2 ^ 64
-count_room n lanes len count whole few small room limit = omega (arith, small, room, limit, mul-le-mul_left (len + n) few)
+count_room : (n lanes len whole : ℕ) → lanes ≤ 16 → len + n ≤ whole → whole < 2 ^ 59 → len * lanes + n * lanes < 2 ^ 64
+count_room n lanes len whole few room limit = omega (arith, room, limit, mul-le-mul_left (len + n) few)
 
-can_begin : (a : Inside) (q n : ℕ) (r : Routine) (p : Context) → IsLeft a q n r p → CanPlay (header_of a.engine) r.code.items q n (begin_of a q p)
+pub can_begin : (a : Inside) (q n : ℕ) (r : Routine) (p : Context) → IsLeft a q n r p → CanPlay (header_of a.engine) r.code.items q n (begin_of a q p)
 can_begin a q n r p h =
     let f : Frame = frame_of a in
     let t : Stand = stand_of a in
@@ -103,7 +103,6 @@ can_begin a q n r p h =
     let lanes = a.engine.shape.lanes in
     let few : lanes ≤ 16 = ready.limits.of_lanes.1 in
     let xs : List Action = executed (code_of_frame f) t.state q in
-    let small = counts_small lanes xs in
     let room = executed_room (code_of_frame f) (is_code f) t.state q n (lens_of f.phases) (λ phase. acts_places f phase q h.proc ∙ places_lens f.phases phase) h.some h.most in
     let same : p.counts ≡ counts_so_far (code_of_frame f) t.state q = set.count_is ∙ get_or_from_slice_get t.counts q (counts_so_far (code_of_frame f) t.state q) p.counts (run.counted q h.proc) in
     record {
@@ -114,9 +113,7 @@ can_begin a q n r p h =
       words = run.memory_below;
       file = run.file q h.proc;
       residues = run.files_below q;
-      operations = count_room n lanes (length xs) p.counts.operations _ few (omega (arith, small.operations, ap (λ (c : Counts). c.operations) same)) room ready.few;
-      loads = count_room n lanes (length xs) p.counts.loads _ few (omega (arith, small.loads, ap (λ (c : Counts). c.loads) same)) room ready.few;
-      stores = count_room n lanes (length xs) p.counts.stores _ few (omega (arith, small.stores, ap (λ (c : Counts). c.stores) same)) room ready.few;
+      counters = subst (HasRoom (n * lanes)) (sym same) (small_has_room (length xs * lanes) (n * lanes) _ (counts_small lanes xs) (count_room n lanes (length xs) _ few room ready.few));
     }
 
 pub can_play : (a : Inside) (q n : ℕ) (r : Routine) (p : Context) (code : List Instruction) (memory : List ℕ) → IsLeft a q n r p → code ≡ r.code.items → memory ≡ a.memory.items → CanPlay (header_of a.engine) code q n (playing memory p)
@@ -126,11 +123,11 @@ can_play a q n r p code memory h ec em =
 
 -- What the phase's move leaves of the processors
 
-kept : {Y : Type 0} (f : Context → Y) (b : Bool) (ps : List Context) → ((p : Context) → f (rewound p) ≡ f p) → map f (cond b ps (map rewound ps)) ≡ map f ps
+pub kept : {Y : Type 0} (f : Context → Y) (b : Bool) (ps : List Context) → ((p : Context) → f (rewound p) ≡ f p) → map f (cond b ps (map rewound ps)) ≡ map f ps
 kept f true ps same = refl
 kept f false ps same = map_map f rewound ps same
 
-cursors_kept : (b : Bool) (ps : List Context) → cursors_of (cond b ps (map rewound ps)) ≡ cond b (cursors_of ps) (replicate (length ps) first_position)
+pub cursors_kept : (b : Bool) (ps : List Context) → cursors_of (cond b ps (map rewound ps)) ≡ cond b (cursors_of ps) (replicate (length ps) first_position)
 cursors_kept true ps = refl
 cursors_kept false ps = map_all (λ (p : Context). p.place) rewound ps first_position (λ p. refl)
 

@@ -3,7 +3,7 @@ use Rattle.std.specs.Prelude.{ℕ, ◌+◌, []}
 use Rattle.icode.specs.declared.action.Action.{Action}
 use Rattle.icode.specs.declared.action.Counts.{Counts}
 use Rattle.icode.specs.Actions.{step_of}
-use Rattle.icode.specs.Plain.{PlainOp, Load, Store, Zero, MulTable, Tile}
+use Rattle.icode.specs.Plain.{PlainOp, Load, Store, Zero, MulConst, MulTable, Tile}
 use Rattle.icode.specs.declared.shape.Shape.{Shape}
 use Rattle.par_machine.specs.Header.{header_with}
 
@@ -21,12 +21,20 @@ operations_of lanes (Zero register) = 0
 operations_of lanes (Tile register source) = 0
 operations_of lanes _ = lanes
 
+-- how many multiplications of words are among them
+abbrev pub muls_of : ℕ → PlainOp → ℕ
+muls_of lanes (MulConst register source factor) = lanes
+muls_of lanes (MulTable register source table place step) = lanes
+muls_of lanes _ = 0
+
 -- what it leaves of the counts
 abbrev pub counted_op : ℕ → PlainOp → Counts → Counts
 counted_op lanes (Load register array place) c = record c { loads = c.loads + lanes }
 counted_op lanes (Store array place register) c = record c { stores = c.stores + lanes }
 counted_op lanes (Zero register) c = c
 counted_op lanes (Tile register source) c = c
+counted_op lanes (MulConst register source factor) c = record c { operations = c.operations + lanes; muls = c.muls + lanes }
+counted_op lanes (MulTable register source table place step) c = record c { operations = c.operations + lanes; muls = c.muls + lanes }
 counted_op lanes _ c = record c { operations = c.operations + lanes }
 
 -- the operation names no place of an array or of a table

@@ -26,8 +26,9 @@ abbrev pub performed : Engine → Op → List ℕ → ℕ → List ℕ → List 
 performed engine op values proc memory registers =
     effect engine.shape.modulus engine.shape.lanes (action_by engine op values proc) (record { memory = memory; registers = registers })
 
--- one more action on all lanes can be counted
-pub record HasRoom (lanes : ℕ) (counts : Counts) : Type 0 where
-  pub operations : counts.operations + lanes < 2 ^ 64
-  pub loads : counts.loads + lanes < 2 ^ 64
-  pub stores : counts.stores + lanes < 2 ^ 64
+-- each counter has room for n more
+pub record HasRoom (n : ℕ) (counts : Counts) : Type 0 where
+  pub operations : counts.operations + n < 2 ^ 64
+  pub muls : counts.muls + n < 2 ^ 64
+  pub loads : counts.loads + n < 2 ^ 64
+  pub stores : counts.stores + n < 2 ^ 64

@@ -1,5 +1,5 @@
 -- What a processor changes as it does its actions.
-use Rattle.std.specs.Prelude.{◌≡◌, ℕ, zero, suc, ◌+◌, ◌*◌, ◌<◌, ◌^◌, List, Option, length, slice_index, All}
+use Rattle.std.specs.Prelude.{◌≡◌, ℕ, zero, suc, ◌*◌, ◌<◌, List, Option, length, slice_index, All}
 use Rattle.icode.specs.declared.action.Counts.{Counts}
 use Rattle.icode.specs.Actions.{Step}
 use Rattle.icode.specs.Machine.{Local, effect, counted, whole_lines}
@@ -10,6 +10,7 @@ use Rattle.par_machine.specs.declared.engine.Engine.{Engine}
 use Rattle.par_machine.specs.Header.{header_of}
 use Rattle.par_machine.specs.Hand.{step_at, action_of_step, Runs}
 use Rattle.par_machine.specs.Instruction.{IsClosed, IsWithin}
+use Rattle.par_machine.specs.Performed.{HasRoom}
 use Rattle.par_machine.specs.Position.{Position, next_position, positions}
 
 -- the memory, its registers, its place, and what it has executed
@@ -54,6 +55,4 @@ pub record CanPlay (p : PlainProgram) (code : List Instruction) (q n : ℕ) (s :
   pub words : (k : ℕ) → slice_index s.memory k < p.modulus
   pub file : length s.registers ≡ p.regs * p.lanes
   pub residues : (k : ℕ) → slice_index s.registers k < p.modulus
-  pub operations : s.counts.operations + n * p.lanes < 2 ^ 64
-  pub loads : s.counts.loads + n * p.lanes < 2 ^ 64
-  pub stores : s.counts.stores + n * p.lanes < 2 ^ 64
+  pub counters : HasRoom (n * p.lanes) s.counts

@@ -5,7 +5,7 @@ ghost use Rattle.icode.specs.Actions.{StepFits};
 ghost use Rattle.icode.specs.OnRegisters.{registers_after};
 ghost use Rattle.icode.specs.Plain.{plain_op};
 ghost use Rattle.par_machine.specs.Header.{header_of};
-ghost use Rattle.par_machine.specs.OnRegisters.{IsOnRegisters, operations_of, counted_op};
+ghost use Rattle.par_machine.specs.OnRegisters.{IsOnRegisters, operations_of, muls_of, counted_op};
 ghost use Rattle.par_machine.specs.Performed.{HasRoom, OpIsWithin, step_by, action_by, performed};
 
 use crate::engine::Engine;
@@ -71,7 +71,10 @@ pub(crate) fn counted(op: &Op, lanes: u64, before: Counts) -> Counts
     match op {
         Op::Load { .. } => counts.loads += lanes,
         Op::Store { .. } => counts.stores += lanes,
-        _ => counts.operations += operations_of(op, lanes),
+        _ => {
+            counts.operations += operations_of(op, lanes);
+            counts.muls += muls_of(op, lanes);
+        }
     }
     counts
 }
@@ -130,5 +133,16 @@ fn operations_of(op: &Op, lanes: u64) -> u64
     match op {
         Op::Load { .. } | Op::Store { .. } | Op::Zero { .. } | Op::Tile { .. } => 0,
         _ => lanes,
+    }
+}
+
+/// How many multiplications of words are among them.
+#[inline]
+fn muls_of(op: &Op, lanes: u64) -> u64
+    ensures { result ≡ muls_of lanes (plain_op op.now) }
+{
+    match op {
+        Op::MulConst { .. } | Op::MulTable { .. } => lanes,
+        _ => 0,
     }
 }

@@ -2,7 +2,7 @@
 ghost use Rattle.std.specs.Prelude.{◌≡◌, ℕ, Option, Some, option_map, option_and_then, codes, IfOk, IfSome, IfNone, IsUtf8};
 ghost use Rattle.serde_json.specs.Read.{read};
 ghost use Rattle.serde_json.specs.View.{view, items_view};
-ghost use Rattle.plan_cert.specs.Document.{choice_named, number_at, choice_at, has_items, row_of, rows_of, has_number, has_members, has_head, document_rows};
+ghost use Rattle.plan_cert.specs.Document.{choice_named, number_at, choice_at, has_items, row_of, rows_of, has_number, has_members, is_version_one, is_version_two, has_head, document_rows};
 
 use crate::certificate::Row;
 use memory::NoMemory;
@@ -27,15 +27,16 @@ pub(crate) fn document(alloc: Global, text: &[u8]) -> Result<Option<Value>, NoMe
     }
 }
 
-/// The rows of a certificate for this size.
+/// The rows of a certificate for this size and weight.
 pub(crate) fn document_rows(
     alloc: Global,
     size: u64,
+    weight: u64,
     value: &Value,
 ) -> Result<Option<Vec<Row>>, NoMemory>
-    ensures { IfOk result (λ o. option_map (λ rows. rows.items) o ≡ document_rows size (view value.now)) }
+    ensures { IfOk result (λ o. option_map (λ rows. rows.items) o ≡ document_rows size weight (view value.now)) }
 {
-    if !has_head(value, size) {
+    if !has_head(value, size, weight) {
         return Ok(None);
     }
     let Some(rows) = value.get("rows").and_then(Value::as_array) else {
@@ -44,18 +45,33 @@ pub(crate) fn document_rows(
     rows_of(alloc, rows)
 }
 
-/// Whether a value has the members of a certificate for this size.
-fn has_head(value: &Value, size: u64) -> bool
-    ensures { result ≡ has_head size (view value.now) }
+/// What stands in a certificate for this size and weight beside its rows.
+fn has_head(value: &Value, size: u64, weight: u64) -> bool
+    ensures { result ≡ has_head size weight (view value.now) }
 {
-    has_three_members(value) && has_number(value, "version", 1) && has_number(value, "size", size)
+    has_number(value, "size", size)
+        && (is_version_one(value, weight) || is_version_two(value, weight))
 }
 
-fn has_three_members(value: &Value) -> bool
-    ensures { result ≡ has_members 3 (view value.now) }
+/// Version 1 has rows, size and version; a multiplication weighs 1.
+fn is_version_one(value: &Value, weight: u64) -> bool
+    ensures { result ≡ is_version_one weight (view value.now) }
+{
+    weight == 1 && has_members(value, 3) && has_number(value, "version", 1)
+}
+
+/// Version 2 has rows, size, version and the weight.
+fn is_version_two(value: &Value, weight: u64) -> bool
+    ensures { result ≡ is_version_two weight (view value.now) }
+{
+    has_number(value, "weight", weight) && has_members(value, 4) && has_number(value, "version", 2)
+}
+
+fn has_members(value: &Value, count: usize) -> bool
+    ensures { result ≡ has_members count (view value.now) }
 {
     match value.as_object() {
-        Some(members) => members.len() == 3,
+        Some(members) => members.len() == count,
         None => false,
     }
 }

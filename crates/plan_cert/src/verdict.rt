@@ -24,16 +24,21 @@ pub enum Verdict {
     Wrong { size: u64, given: u64, found: u64 },
 }
 
-/// The rows of a text, if it has the form of a certificate for this size.
-fn text_rows(alloc: Global, size: u64, text: &[u8]) -> Result<Option<Vec<Row>>, NoMemory>
+/// The rows of a text, if it has the form of a certificate for this size and weight.
+fn text_rows(
+    alloc: Global,
+    size: u64,
+    weight: u64,
+    text: &[u8],
+) -> Result<Option<Vec<Row>>, NoMemory>
     ensures some { IfOk result (λ o. IfSome o (λ rows. IsUtf8 text.now)) }
     ensures value { IfOk result (λ o. IsUtf8 text.now
-        → option_map (λ rows. rows.items) o ≡ option_and_then (document_rows size) (read text.now)) }
+        → option_map (λ rows. rows.items) o ≡ option_and_then (document_rows size weight) (read text.now)) }
 {
     let Some(value) = document(alloc, text)? else {
         return Ok(None);
     };
-    document_rows(alloc, size, &value)
+    document_rows(alloc, size, weight, &value)
 }
 
 /// Reads a certificate, and checks its rows by the table alone.
@@ -41,7 +46,8 @@ pub fn check_cert(alloc: Global, c: &Ctx, text: &[u8]) -> Result<Verdict, NoMemo
     ensures verdict { IfOk result (IsVerdict c.now text.now) }
     ensures least { IfOk result (λ v. (cost : ℕ) → v ≡ Least cost → IsLeast c.now cost) }
 {
-    let Some(rows) = text_rows(alloc, c.request().size, text)? else {
+    let request = c.request();
+    let Some(rows) = text_rows(alloc, request.size, request.weight, text)? else {
         return Ok(Verdict::Unread);
     };
     if !has_rows(c, &rows) {

@@ -13,23 +13,25 @@ use serde_json::{Value, json, push};
 use std::alloc::Global;
 use tree_model::{Ctx, Rule};
 
-/// The certificate of a request, one line of JSON: for each wanted size the first of the cheapest trees.
+/// The certificate of a request, one line of JSON of version 2: the weight, and for each wanted size the first of the
+/// cheapest trees.
 pub fn certify(alloc: Global, c: &Ctx) -> Result<Vec<u8>, NoMemory>
     requires { CanDivide c.now }
     ensures { IfOk result (λ text. (rows : List SpecRow) × IsTableText c.now text.items rows) }
 {
     let rows = table_rows(alloc, c)?;
-    let value = table_value(alloc, c.request().size, &rows)?;
+    let request = c.request();
+    let value = table_value(alloc, request.size, request.weight, &rows)?;
     let mut text = value.to_vec(alloc)?;
     text.push(b'\n')?;
     Ok(text)
 }
 
-fn table_value(alloc: Global, size: u64, rows: &[Row]) -> Result<Value, NoMemory>
-    ensures { IfOk result (λ value. view value ≡ table_data size rows.now) }
+fn table_value(alloc: Global, size: u64, weight: u64, rows: &[Row]) -> Result<Value, NoMemory>
+    ensures { IfOk result (λ value. view value ≡ table_data size weight rows.now) }
 {
     let rows = rows_value(alloc, rows)?;
-    let table = json!(in alloc; {"rows": rows, "size": size, "version": 1u64})?;
+    let table = json!(in alloc; {"rows": rows, "size": size, "version": 2u64, "weight": weight})?;
     Ok(table)
 }
 

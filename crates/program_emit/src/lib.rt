@@ -3,6 +3,7 @@
 
 mod copy_statements;
 mod emit;
+mod factors;
 mod host;
 mod inputs;
 mod kernel_statements;

@@ -208,4 +208,3 @@ fn constant_of(sum: &Affine) -> u64
         Affine::Quotient(_, _, _, rest) => constant_of(rest),
     }
 }
-

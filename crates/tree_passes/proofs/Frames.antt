@@ -1,7 +1,7 @@
 -- The nest of a pass that processors and lanes share: its counts, its variables, and what they name.
 use Rattle.std.proofs.Common.{◌≡◌, ℕ, ◌<◌, Bool, true, false, List, [], ◌∷◌, ◌++◌, map, refl, sym, ap, ◌∙◌, arith, subst}
 use Rattle.std.specs.Prelude.{◌==◌, if◌then◌else◌}
-use Rattle.loop_merge.specs.Listed as shared
+use Rattle.loop_merge.specs.Items as shared
 use Rattle.loop_merge.specs.Merge.{PlainPass}
 use Rattle.loop_merge.specs.Nests.{loop_work, loop_of}
 use Rattle.matrix_meaning.specs.declared.Request.{Request}

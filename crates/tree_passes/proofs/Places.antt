@@ -2,8 +2,8 @@
 use Rattle.std.proofs.Common.{◌≡◌, ℕ, ◌+◌, ◌*◌, ◌<◌, List, [], ◌∷◌, ◌++◌, length, map, refl, sym, ap, ap₂, ◌∙◌, arith, subst, Option, Some, None, mod-lt}
 use Rattle.std.specs.Option.{option_map}
 use Rattle.index_fn.specs.Mapping.{Mapping, at}
-use Rattle.loop_merge.specs.Listed as shared
-use Rattle.loop_merge.specs.ListedLaw.{diagonal_place}
+use Rattle.loop_merge.specs.Items as shared
+use Rattle.loop_merge.specs.Merge.{diagonal_place}
 use Rattle.loop_merge.specs.Merge.{PlainDiagonal, PlainPass, through, gather_place, scatter_place}
 use Rattle.loop_merge.specs.Nests.{loop_work, loop_of, taken_of}
 use Rattle.loop_merge.proofs.Closed.{AreClosed, IsClosedPass, inner-below}

@@ -4,7 +4,7 @@ ghost use Rattle.std.specs.Prelude.{IfOk};
 ghost use Rattle.icode.specs.Program.{Fits};
 
 use code_check::laws::causes_are_exclusive;
-use code_check::verify;
+use code_check::{CheckFault, verify};
 use icode::program::Program;
 use listing_text::read_listing;
 use std::alloc::Global;
@@ -123,6 +123,24 @@ tile r6 r0
 end
 ";
 
+// Both processors store at one place.
+const RACED: &str = "program size 2 mod 5 procs 2 line 1 lanes 1 regs 1
+phase
+ld r0 X[0+q*1]
+st Y[0] r0
+end
+";
+
+// Each processor raises a flag of its own and then looks at the other's.
+const FLAGS: &str = "program size 2 mod 5 procs 2 line 1 lanes 1 regs 2
+phase
+ld r0 X[0+q*1]
+st A[0+q*1] r0
+ld r1 A[0+(1+q*1)%2*1]
+st Y[0+q*1] r1
+end
+";
+
 /// 64 loops of as many turns as can be, one in another, round the statements.
 pub(crate) fn nested(alloc: Global, header: &str, statements: &str) -> Result<String, Fail> {
     let mut text = format!(in alloc; "program {header}\nphase\n")?;
@@ -144,6 +162,8 @@ pub(crate) fn listing(alloc: Global, name: &str) -> Result<String, Fail> {
         "quad" => QUAD,
         "tiled" => TILED,
         "actions" => ACTIONS,
+        "raced" => RACED,
+        "flags" => FLAGS,
         "nested" => {
             let header = "size 4 mod 17 procs 1 line 4 lanes 1 regs 0";
             let text = nested(alloc, header, "")?;
@@ -166,6 +186,20 @@ pub(crate) fn program(alloc: Global, name: &str) -> Result<Program, Fail>
     match verify(alloc, &program) {
         Ok(_) => Ok(program),
         Err(_) => Err(Fail::from("a program that does not fit")),
+    }
+}
+
+/// The program of this name, whose processors share a line.
+pub(crate) fn sharing_program(alloc: Global, name: &str) -> Result<Program, Fail>
+    ensures { IfOk result (λ program. Fits program) }
+{
+    let text = listing(alloc, name)?;
+    let Ok(program) = read_listing(alloc, text.as_bytes()) else {
+        return Err(Fail::from("no listing"));
+    };
+    match verify(alloc, &program) {
+        Err(CheckFault::LineShared { .. }) => Ok(program),
+        _ => Err(Fail::from("a program that shares no line")),
     }
 }
 

@@ -4,7 +4,7 @@ ghost use Rattle.std.specs.Prelude.{◌≡◌, ◌<◌, IfOk};
 ghost use Rattle.icode.specs.Program.{Fits, code_of};
 
 use crate::machines::is_input;
-use crate::programs::{joined, numbers, program};
+use crate::programs::{joined, numbers, program, sharing_program};
 use buffer_machine::{BufMachine, Drained, Event, Turned};
 use icode::program::Program;
 use request_text::{Mix, read_mix};
@@ -72,9 +72,10 @@ quad; 1 2 3 4; mix:d0|empty 0 Some(Turn(0)): 0 0 0 0, 10 7 15 6
 quad; 1 2 3 4; mix:t1,d0,t0,d1|did empty did empty 0 Some(Turn(0)): 0 0 0 0, 10 7 15 6
 ";
 
-fn mix_answer(alloc: Global, name: &str, input: &str, word: &str) -> Result<String, Fail> {
-    let program = program(alloc, name)?;
-    let mut machine = machine_with(alloc, &program, &numbers(alloc, input)?)?;
+fn mix_answer(alloc: Global, program: &Program, input: &str, word: &str) -> Result<String, Fail>
+    requires { Fits program.now }
+{
+    let mut machine = machine_with(alloc, program, &numbers(alloc, input)?)?;
     let mix = read_mix(alloc, word.as_bytes()).ok().ok_or("a mix")?;
     let answers = play(alloc, &mut machine, &mix)?;
     let (phase, next) = (machine.phase(), machine.next_event());
@@ -90,7 +91,31 @@ fn turns_and_drains(rt: HostRuntime) -> Result<(), Fail> {
         let (question, wanted) = row.split_once('|').ok_or("a row")?;
         let (name, rest) = question.split_once("; ").ok_or("an input")?;
         let (input, word) = rest.split_once("; ").ok_or("a mix")?;
-        let answer = mix_answer(rt.alloc(), name, input, word)?;
+        let program = program(rt.alloc(), name)?;
+        let answer = mix_answer(rt.alloc(), &program, input, word)?;
+        assert_eq!(rt; answer.as_str(), wanted, "{row}");
+    }
+    Ok(())
+}
+
+// The same of programs that share a line: what is left depends on the events, also where only the drains differ, and where
+// each load comes before the store that it would see is written.
+const SHARED: &str = "\
+raced; 1 2; mix:t0,t0,t1,t1,d0,d1|did did did did wrote 2 wrote 2 1 None: 2 0, 2 0
+raced; 1 2; mix:t0,t0,t1,t1,d1,d0|did did did did wrote 2 wrote 2 1 None: 1 0, 1 0
+flags; 1 2; mix:t0,t0,d0,t1,t1,d1,t0,t1|did did wrote 4 did did wrote 5 did did 0 Some(Turn(0)): 0 0, 2 1
+flags; 1 2; mix:t0,t0,d0,t1,t1,t0,t1|did did wrote 4 did did did did 0 Some(Turn(0)): 0 0, 0 1
+flags; 1 2; mix:t0,t0,t0,t1,t1,t1|did did did did did did 0 Some(Turn(0)): 0 0, 0 0
+";
+
+#[test]
+fn turns_and_drains_of_shared_lines(rt: HostRuntime) -> Result<(), Fail> {
+    for row in SHARED.lines() {
+        let (question, wanted) = row.split_once('|').ok_or("a row")?;
+        let (name, rest) = question.split_once("; ").ok_or("an input")?;
+        let (input, word) = rest.split_once("; ").ok_or("a mix")?;
+        let program = sharing_program(rt.alloc(), name)?;
+        let answer = mix_answer(rt.alloc(), &program, input, word)?;
         assert_eq!(rt; answer.as_str(), wanted, "{row}");
     }
     Ok(())
@@ -100,6 +125,7 @@ fn turns_and_drains(rt: HostRuntime) -> Result<(), Fail> {
 #[test]
 fn results_of_mixes(rt: HostRuntime) -> Result<(), Fail> {
     let alloc = rt.alloc();
+    let quad = program(alloc, "quad")?;
     for rounds in 1..40u64 {
         let mut word = String::from_str(alloc, "mix:")?;
         for i in 0..rounds {
@@ -111,7 +137,7 @@ fn results_of_mixes(rt: HostRuntime) -> Result<(), Fail> {
                 word.push_str(",d1")?;
             }
         }
-        let answer = mix_answer(alloc, "quad", "1 2 3 4", &word)?;
+        let answer = mix_answer(alloc, &quad, "1 2 3 4", &word)?;
         assert!(rt; answer.as_str().ends_with(", 10 7 15 6"), "after {rounds}");
     }
     Ok(())

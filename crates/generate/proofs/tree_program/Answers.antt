@@ -22,8 +22,8 @@ lower-requires c =
       form = vectors_are c.args.c.now tree (plain_smp c.in_ok-blocks.blocks) (plain_vec c.in_ok-vectors.vectors) c.in_ok-blocks.ensures.form c.in_ok-vectors.ensures.form;
     }
 
-pub merge_nests-requires : goal.merge_nests-requires
-merge_nests-requires c =
+pub merge-requires : goal.merge-requires
+merge-requires c =
     let tree = breakdown_of c.args.tree.now in (
       tree,
       c.requires,

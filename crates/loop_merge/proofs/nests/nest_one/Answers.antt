@@ -10,7 +10,7 @@ use Rattle.passes.specs.Views.{plain_multiplier}
 use Rattle.perm_algebra.specs.Affine.{Sum}
 use Rattle.loop_merge.specs.Views.{plain_diagonal, plain_pass}
 use Rattle.loop_merge.specs.Nests.{loop_of, taken_of}
-use Rattle.loop_merge.proofs.NestPlaces.{reach-items, places-are, taken-places, nest-same}
+use Rattle.loop_merge.proofs.NestPlaces.{reach-items, places-are, nest-same}
 use Rattle.tensor_paths.specs.Path.{count_of}
 use Rattle.loop_merge.proofs.nests.nest_one.Goals as goal
 use Rattle.loop_merge.proofs.nests.nest_one.Goals.{in-None, in-Some+in_ok-places-in-Some}
@@ -69,7 +69,7 @@ returns c =
           ap (option_map plain_multiplier) w.multiplier-is
           ∙ ap₂ (λ (fs : PlainFactors) (es : List Sum). Some (let m : PlainMultiplier = record { factors = fs; places = es } in m)) w.factors.ensures
           (w.in_ok-places-in-Some.ensures
-          ∙ places-are request pass w.deref-in-Some.result.now _ _ w.deref-in-Some-2.result.now c.size-size.result _ _ (w.deref-in-Some.ensures.value ∙ limits) (taken-places request d) w.deref-in-Some-2.ensures.value c.size-size.ensures
+          ∙ places-are request pass w.deref-in-Some.result.now (taken_of request d).places (taken_of request d).places w.deref-in-Some-2.result.now c.size-size.result _ _ (w.deref-in-Some.ensures.value ∙ limits) refl w.deref-in-Some-2.ensures.value c.size-size.ensures
           (ap (map plain_sum) w.deref-in-Some-3.ensures.value ∙ rows))
           ∙ sym (ap (λ d. multiplier_of (loop_of request pass) (option_map (taken_of request) (option_map plain_diagonal d))) w.in-Some.is)
     ])

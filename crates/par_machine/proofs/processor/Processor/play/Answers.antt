@@ -10,7 +10,7 @@ use Rattle.par_machine.specs.Performed.{action_by}
 use Rattle.par_machine.specs.Played.{Playing, CanPlay, played, played_one}
 use Rattle.par_machine.specs.Position.{Position}
 use Rattle.par_machine.proofs.Frames.{place_inside}
-use Rattle.par_machine.proofs.Playings.{playing_same, place_same, counted_op_is, act_at, act_fits, not_again, runs_here, closed_here, within_here, played_first, can_play_rest}
+use Rattle.par_machine.proofs.Playings.{playing_same, place_same, counted_op_is, act_at, act_fits, not_again, room_here, runs_here, closed_here, within_here, played_first, can_play_rest}
 use Rattle.par_machine.proofs.processor.Processor.play.Goals as goal
 
 pub offset_bounds-code-at : goal.offset_bounds-code-at
@@ -76,6 +76,12 @@ perform-requires-clause-within c =
     let closed = closed_here g code q c.loop-left.left at s c.index-code-at.result c.in-Act.op c.in-Act.depth inside c.index-code-at.is c.in-Act.is c.loop-left.invariant.can_play in
     subst (λ k. IsTrue (is_op_within g.modulus (plain_op c.in-Act.op) k)) (sym (length-take-le c.in-Act.depth c.loop-left.values (omega (arith, closed, c.loop-left.invariant.long))))
     (within_here g code q c.loop-left.left at s c.index-code-at.result c.in-Act.op c.in-Act.depth inside c.index-code-at.is c.in-Act.is c.loop-left.invariant.can_play)
+
+pub counted-counts-requires : goal.counted-counts-requires
+counted-counts-requires c =
+    let place : Position = record { at = c.loop-left.at; values = c.loop-left.values } in
+    let s : Playing = record { memory = c.loop-left.memory; registers = c.loop-left.registers; place = place; counts = c.loop-left.counts } in
+    room_here (header_of c.args.engine.now) c.args.code.now c.args.proc c.loop-left.left s (omega (arith, c.loop-left-test.true)) c.loop-left.invariant.can_play
 
 pub perform-requires-clause-fits : goal.perform-requires-clause-fits
 perform-requires-clause-fits c =
