@@ -19,8 +19,8 @@ pub(crate) struct Host {
 }
 
 /// What the variables of a nest's places stand for.
-#[derive(Clone, Copy)]
-pub(crate) struct Frame {
+#[derive(Clone, Copy, Debug)]
+pub struct Frame {
     /// Whether several processors share the nest: then variable 0 is the processor's.
     pub shared: bool,
     /// The variable of the outermost loop.

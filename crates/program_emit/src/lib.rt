@@ -20,3 +20,5 @@ mod tile_statements;
 mod work;
 
 pub use emit::emit_on;
+pub use host::Frame;
+pub use places::place_expr;
