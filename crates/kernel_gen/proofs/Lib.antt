@@ -12,4 +12,4 @@ pub mod RequestNodes
 pub mod Writes
 pub mod Turns
 pub mod Parts
-mod Reduced
+pub mod Reduced

@@ -1,4 +1,4 @@
-use Rattle.std.proofs.Common.{ap, ◌∙◌, sym, subst}
+use Rattle.std.proofs.Common.{sym, subst}
 use Rattle.tree_model.specs.Breakdown.{breakdown_of}
 use Rattle.kernel_gen.specs.Kernel.{node_kernel}
 use Rattle.kernel_gen.specs.Kernels.{TransformsNode, CostsNode, IsStraight}
