@@ -1,5 +1,5 @@
 // One vector of the generator: the sum of its transform, and what a run on it counts.
-ghost use Rattle.std.specs.Prelude.{◌≡◌, ◌++◌, length, Ok, Err, IfOk, IfErr, OnOk};
+ghost use Rattle.std.specs.Prelude.{◌≡◌, ◌++◌, ◌<◌, ◌≤◌, ◌^◌, length, Ok, Err, IfOk, IfErr, OnOk};
 ghost use Rattle.operators.specs.Sum.{sum_below};
 ghost use Rattle.matrix_meaning.specs.Valid.{IsInRange};
 ghost use Rattle.icode.specs.Machine.{counts_so_far, weighted};
