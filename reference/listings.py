@@ -159,7 +159,7 @@ class Reader:
             numbers.append(line.number(least, most))
         line.word(" regs ")
         size, modulus, procs, words, lanes = numbers
-        request = Request(None, size, modulus, None, procs, words, lanes, None, None)
+        request = Request(None, size, modulus, None, procs, words, lanes, None, None, None)
         self.program = Program(request, line.number(0, MOST_REGISTERS), [], [])
 
     def table(self, line):

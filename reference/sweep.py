@@ -10,7 +10,8 @@ from emission import Emitter, actions, listing, loads_and_stores, run
 from listings import Lost, read_listing
 from reference import answer, vectors
 from strangers import MOST_ACTIONS, count, executed, parts_of
-from transforms import Refused, admitted, certificate, certificate_rows, every_tree, read_request, transform
+from transforms import Refused, admitted, best, certificate, certificate_rows, every_tree, read_request, transform
+from transforms import tree_count
 
 # Requests that the documents speak of, and the ends of the limits.
 NAMED = """
@@ -24,15 +25,21 @@ dft 4 mod 17 root 3
 dft 4 mod 17 root 4 budget 8
 dft 4 mod 10 root 9
 dft 4 mod 10 root 9 unroll 2
+dft 4 mod 10 root 9 weight 5
+dft 4 mod 17 root 4 weight 5
 dft 6 mod 7 root 3
+dft 6 mod 7 root 3 weight 5
 dft 8 mod 17 root 2
 dft 9 mod 19 root 4 unroll 2
 dft 9 mod 19 root 4 unroll 16
 dft 11 mod 23 root 2 budget 241
 dft 11 mod 23 root 2 budget 242
+dft 11 mod 23 root 2 budget 483 weight 3
 dft 15 mod 31 root 9
 dft 16 mod 17 root 3
 dft 16 mod 17 root 3 unroll 16
+dft 16 mod 17 root 2 unroll 16
+dft 16 mod 17 root 2 unroll 16 weight 2
 dft 30 mod 31 root 3 unroll 2
 dft 60 mod 61 root 2 unroll 2
 dft 210 mod 211 root 2
@@ -58,6 +65,7 @@ dft 6 mod 7 root 3 lanes 2
 dft 8 mod 17 root 2 procs 2 line 2
 dft 16 mod 17 root 3 procs 2 line 2
 dft 16 mod 17 root 3 procs 2 line 2 lanes 2
+dft 16 mod 17 root 3 procs 2 line 2 lanes 2 weight 5
 dft 36 mod 37 root 2 procs 2 line 3 unroll 2
 dft 64 mod 193 root 125 lanes 8 unroll 2
 dft 81 mod 163 root 38 procs 3 line 3 lanes 3
@@ -73,8 +81,10 @@ wht 256 mod 4611686018427387903 procs 2 line 8 lanes 2
 
 # Sizes for which only what needs no plain sum is compared.
 LARGE = ["dft 65536 mod 65537 root 3", "wht 65536 mod 65536", "dft 30030 mod 30031 root 1 budget 1000000000000"]
+LARGE += ["dft 65536 mod 65537 root 3 budget 1000000000000 weight 1000"]
 
 UNROLLS = [2, 2, 3, 4, 5, 6, 7, 8, 8, 8, 9, 12, 16, 25, 32, 64]
+WEIGHTS = [1, 2, 5, 1000]
 
 # Moduli with roots of many orders, and an element whose powers give them.
 RICH = [(17, 3), (97, 5), (257, 3), (2161, 23), (12289, 11), (65537, 3), (998244353, 3), (2**61 - 1, 37)]
@@ -153,15 +163,35 @@ def spread(numbers):
         return f"{first} procs {procs} line {line} lanes {lanes} unroll {numbers.one_of(UNROLLS)}"
 
 
+def weighed(numbers, line):
+    """The request with a weight, or with none."""
+    return line + numbers.one_of(["", *(f" weight {weight}" for weight in WEIGHTS)])
+
+
 def spread_requests():
     numbers = Numbers(5)
-    return SPREAD.split("\n")[1:-1] + [spread(numbers) for _ in range(40)]
+    return SPREAD.split("\n")[1:-1] + [weighed(numbers, spread(numbers)) for _ in range(40)]
 
 
 def requests():
     numbers = Numbers(7)
     makers = [any_root] * 120 + [rich_root] * 100 + [power_of_two] * 20 + [hadamard] * 30
-    return NAMED.split("\n")[1:-1] + [make(numbers) for make in makers]
+    return NAMED.split("\n")[1:-1] + [weighed(numbers, make(numbers)) for make in makers]
+
+
+def straight(numbers):
+    """A request for a root of small order, all of whose nodes are straight-line code. Its tree may hang on the weight."""
+    modulus, element = numbers.one_of(RICH)
+    power = numbers.one_of([n for n in range(2, 33) if (modulus - 1) % n == 0])
+    root = pow(element, (modulus - 1) // power, modulus)
+    return f"dft {power * (1 + numbers.below(64 // power))} mod {modulus} root {root} unroll 64"
+
+
+def requests_at_each_weight():
+    numbers = Numbers(13)
+    makers = [any_root] * 20 + [rich_root] * 20 + [straight] * 60 + [hadamard] * 5 + [spread] * 15
+    lines = ["dft 16 mod 17 root 2 unroll 16", *(make(numbers) for make in makers)]
+    return [[f"{line} weight {weight}" for weight in WEIGHTS] for line in lines]
 
 
 class Sweep:
@@ -205,10 +235,16 @@ def data_of(line, numbers):
 
 
 def checks(sweep, line, numbers):
-    """The certificate is accepted, and refused at a row with another cost."""
+    """The certificate is accepted, and refused under another weight and at a row with another cost. Its first version is
+    accepted where the weight is 1."""
     request = read_request(line)
     rows = list(certificate_rows(request))
-    sweep.compare("check", f"{line}\n{certificate(request, rows)}", f"least {rows[-1][1]}\n")
+    least, unreadable = f"least {rows[-1][1]}\n", (14, "certificate unreadable")
+    sweep.compare("check", f"{line}\n{certificate(request, rows)}", least)
+    older = least if request.weight == 1 else unreadable
+    sweep.compare("check", f"{line}\n{certificate(request, rows, version=1)}", older)
+    other = request._replace(weight=request.weight % 1000 + 1)
+    sweep.compare("check", f"{line}\n{certificate(other, rows)}", unreadable)
     at = numbers.below(len(rows))
     size, cost, *rest = rows[at]
     rows[at] = (size, cost + 1, *rest)
@@ -218,10 +254,10 @@ def checks(sweep, line, numbers):
 
 def budgets(sweep, line, cost):
     """A budget of the least cost is enough, and one less is not."""
-    line = line.split(" budget")[0]
+    line, weight = re.fullmatch(r"(.*?)(?: budget \d+)?( weight \d+)?", line).groups("")
     for budget in (cost, cost - 1):
         if budget > 0:
-            bounded = f"{line} budget {budget}"
+            bounded = f"{line} budget {budget}{weight}"
             sweep.compare("plan", bounded, wanted("plan", bounded))
 
 
@@ -237,7 +273,8 @@ def agrees_with_itself(request, cost, tree, data):
         loads, stores = words.count("ld"), words.count("st")
         assert (request.lanes * loads, request.lanes * stores) == loads_and_stores(request, tree)
         others = words.count("zero") + words.count("tile")
-        assert request.lanes * (len(words) - loads - stores - others) == cost
+        weighted = len(words) - loads - stores - others + (request.weight - 1) * words.count("mul")
+        assert request.lanes * weighted == cost
 
 
 def swept(sweep, line, numbers):
@@ -343,6 +380,21 @@ def is_small(line):
         return False
 
 
+def plans(sweep, lines):
+    """The plan and the certificate at each weight; the plan is the first of the cheapest of all trees. Whether the weight
+    changes the tree."""
+    trees = set()
+    for line in lines:
+        request = read_request(line)
+        if tree_count(request, request.size) < 20_000:
+            cost, tree = best(request, request.size)
+            assert min(every_tree(request, request.size)) == (cost, tree)
+            trees.add(tree)
+        for command in ("plan", "cert"):
+            sweep.compare(command, line, wanted(command, line))
+    return len(trees) > 1
+
+
 def main():
     sweep = Sweep(sys.argv[1])
     numbers = Numbers(11)
@@ -351,6 +403,8 @@ def main():
     for line in filter(is_small, NAMED.split("\n")[1:-1] + spread_requests()):
         runs(sweep, line, numbers)
         strangers(sweep, line, numbers)
+    changed = [plans(sweep, lines) for lines in requests_at_each_weight()]
+    assert sum(changed) >= 5, "the weights change too few trees"
     for line in LARGE:
         for command in ("plan", "formula", "cert", "code"):
             sweep.compare(command, line, wanted(command, line))

@@ -6,11 +6,11 @@ from functools import lru_cache
 from math import gcd
 from operator import mul
 
-OPTIONS = "".join(rf"(?: {word} (\d+))?" for word in ("root", "procs", "line", "lanes", "unroll", "budget"))
-LINE = re.compile(r"(dft|wht) (\d+) mod (\d+)" + OPTIONS)
+WORDS = ("root", "procs", "line", "lanes", "unroll", "budget", "weight")
+LINE = re.compile(r"(dft|wht) (\d+) mod (\d+)" + "".join(rf"(?: {word} (\d+))?" for word in WORDS))
 
 # A request's line. The root of a wht is 0.
-Request = namedtuple("Request", "kind size modulus root procs line lanes unroll budget")
+Request = namedtuple("Request", "kind size modulus root procs line lanes unroll budget weight")
 
 
 class Refused(Exception):
@@ -19,7 +19,7 @@ class Refused(Exception):
 
 def read_request(line):
     kind, *numbers = LINE.fullmatch(line).groups()
-    absent = (None, None, 0, 1, 1, 1, 8, 10**8)
+    absent = (None, None, 0, 1, 1, 1, 8, 10**8, 1)
     return Request(kind, *(default if text is None else int(text) for text, default in zip(numbers, absent)))
 
 
@@ -114,21 +114,33 @@ def has_leaf(request, d):
     return (request.kind == "dft" or d <= 2) and not is_whole(request, d)
 
 
+# A product counts as the request weighs it, and each other operation counts 1.
+
+
+@lru_cache(maxsize=None)
 def leaf_cost(request, d):
     """A difference or sum for each entry but the first of a row, and a product for those that are neither 1 nor -1."""
     if not is_kernel(request, d):
-        return 2 * d * d
+        return d * d * (1 + request.weight)
     entries = (entry(request, d, k, l) for k in range(d) for l in range(d))
-    return d * (d - 1) + sum(value not in (1, request.modulus - 1) for value in entries)
+    return d * (d - 1) + request.weight * sum(value not in (1, request.modulus - 1) for value in entries)
 
 
+def product_cost(request, factor):
+    """By 1 there is nothing to do, and by -1 a negation."""
+    if factor == 1:
+        return 0
+    return 1 if factor == request.modulus - 1 else request.weight
+
+
+@lru_cache(maxsize=None)
 def twiddle_cost(request, d, r, s):
-    """In straight-line code an operation for each twiddle that is not 1, else one for each."""
+    """In straight-line code what each twiddle costs, else a product for each."""
     if request.kind == "wht":
         return 0
     if not is_kernel(request, d):
-        return d
-    return sum(powers(request, d)[i * k] != 1 for i in range(r) for k in range(s))
+        return request.weight * d
+    return sum(product_cost(request, powers(request, d)[i * k]) for i in range(r) for k in range(s))
 
 
 def split_cost(request, rule, d, r, s, left_cost, right_cost):
@@ -144,6 +156,13 @@ def best(request, d):
         (left_cost, left), (right_cost, right) = best(request, r), best(request, s)
         choices.append((split_cost(request, rule, d, r, s, left_cost, right_cost), (rule, r, left, right)))
     return min(choices, default=None)
+
+
+@lru_cache(maxsize=None)
+def tree_count(request, d):
+    """How many trees of size d there are."""
+    pairs = (tree_count(request, r) * tree_count(request, s) for _, r, s in splits(request, d))
+    return has_leaf(request, d) + sum(pairs)
 
 
 def every_tree(request, d):
@@ -195,6 +214,8 @@ def certificate_rows(request):
             yield d, cost, rule_name(request, tree), *parts
 
 
-def certificate(request, rows):
+def certificate(request, rows, version=2):
+    """Version 1 is of weight 1 and does not say so."""
     texts = (f'[{d},{cost},"{rule}",{r},{s}]' for d, cost, rule, r, s in rows)
-    return f'{{"rows":[{",".join(texts)}],"size":{request.size},"version":1}}\n'
+    weight = f',"weight":{request.weight}' if version == 2 else ""
+    return f'{{"rows":[{",".join(texts)}],"size":{request.size},"version":{version}{weight}}}\n'

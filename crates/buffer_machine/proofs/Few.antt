@@ -1,6 +1,6 @@
 -- No step of a run with store buffers makes more events of those that finish it, and at first they are few.
-use Rattle.std.proofs.Common.{◌≡◌, ◌≢◌, ℕ, zero, suc, ◌+◌, ◌-◌, ◌<◌, ◌≤◌, ◌^◌, List, [], ◌∷◌, ◌++◌, Bool, true, false, cond, length, drop, flat_map, replicate, Option, Some, None, refl, sym, ap, ap₂, ◌∙◌, subst, arith, ⊎_elim, get_or-set_same, get_or-set_other, length-append, le_refl}
-use Rattle.std.specs.Prelude.{slice_index, slice_index_or, slice_set}
+use Rattle.std.proofs.Common.{◌≡◌, ◌≢◌, ℕ, zero, suc, ◌+◌, ◌<◌, ◌≤◌, ◌^◌, List, [], ◌∷◌, ◌++◌, Bool, true, false, cond, length, drop, flat_map, replicate, Option, Some, None, refl, sym, ap, ap₂, ◌∙◌, subst, arith, ⊎_elim, get_or-set_same, get_or-set_other, length-append, le_refl}
+use Rattle.std.specs.Prelude.{slice_index, slice_index_or}
 use Rattle.std.specs.List.{range_with_len}
 use Rattle.std.proofs.lemmas.Bool.{cases_Bool, cases_eq}
 use Rattle.std.proofs.lemmas.List.{get_or-replicate, length-map, length-replicate}
@@ -12,7 +12,7 @@ use Rattle.icode.specs.declared.event.Event.{Event}
 use Rattle.icode.specs.declared.event.Event.TheVariants.{Turn, Drain}
 use Rattle.icode.specs.Actions.{PlainFits, Step, plain_code, steps_of_phase}
 use Rattle.icode.specs.Buffers.{Waiting, Buffered, queue_of, some_wait, stored, stores_among, rest_of_processor, buffered_moved_on, buffered_acted, buffered_turn_with, written, drain_with, buffered_step, none_waiting, buffered_start, buffered_rest, buffered_phases, buffered_completion, IsBusy}
-use Rattle.icode.specs.Machine.{Code, IsCode, State, acts, is_open, none_done, next_action, first_open, phases_after}
+use Rattle.icode.specs.Machine.{Code, IsCode, acts, is_open, none_done, next_action, first_open, phases_after}
 use Rattle.icode.specs.Plain.{PlainProgram}
 use Rattle.icode.proofs.BufferedCompletion.{drop_at, drop_over, none_waiting-none, waits_within}
 use Rattle.icode.proofs.End.{none_done-zero}

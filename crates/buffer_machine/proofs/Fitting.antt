@@ -1,23 +1,21 @@
 -- What is known of a program's actions.
-use Rattle.std.proofs.Common.{◌≡◌, ℕ, zero, suc, ◌+◌, ◌*◌, ◌<◌, ◌≤◌, List, [], ◌∷◌, ◌++◌, map, flat_map, length, Some, Option, All, refl, sym, ap, ◌∙◌, subst, arith, get_or}
-use Rattle.std.specs.Prelude.{slice_get, slice_index_or, option_map}
+use Rattle.std.proofs.Common.{◌≡◌, ℕ, zero, suc, ◌+◌, ◌*◌, ◌<◌, ◌≤◌, List, [], ◌∷◌, ◌++◌, map, flat_map, length, Some, All, refl, sym, ap, ◌∙◌, subst, arith}
+use Rattle.std.specs.Prelude.{slice_get, slice_index_or}
 use Rattle.std.specs.List.{range_with_len}
 use Rattle.std.proofs.lemmas.List.{length-map, get_or_past}
 use Rattle.std.proofs.lemmas.List.FromFn.{get_or-map-range_with_len}
-use Rattle.std.proofs.lemmas.Option.{slice_get-map}
 use Rattle.icode.specs.declared.action.Action.{Action}
 use Rattle.icode.specs.declared.program.Array.{Array}
 use Rattle.icode.specs.declared.program.Array.TheVariants.{X, Y, A, B}
 use Rattle.icode.specs.declared.program.Program.{Program}
-use Rattle.icode.specs.Actions.{Step, StepFits, RegistersFit, FactorsFit, actions_of, array_start, step_of, steps_of_stmt, steps_of_body, steps_of_phase, plain_code}
+use Rattle.icode.specs.Actions.{Step, StepFits, actions_of, array_start, step_of, steps_of_stmt, steps_of_body, steps_of_phase, plain_code}
 use Rattle.icode.specs.Lengths.{len_of_body}
-use Rattle.icode.specs.Machine.{Code, acts, padded, whole_lines}
+use Rattle.icode.specs.Machine.{acts, whole_lines}
 use Rattle.icode.specs.Operation.{AddressFits}
 use Rattle.icode.specs.Plain.{PlainOp, PlainStmt, PlainBody, PlainProgram, Load, Store, Zero, Add, Sub, Neg, MulConst, MulTable, Tile, Loop, Do, NoStmts, AndStmts}
 use Rattle.icode.specs.Program.{plain_program, code_of, Fits}
 use Rattle.buffer_machine.specs.Good.{CanBeDone}
 use Rattle.icode.proofs.Lengths.{body_length}
-use Rattle.icode.proofs.Lists.{All-slice_get}
 
 -- the list of a phase and a processor, whether or not there is the phase
 pub acts_steps : (p : PlainProgram) (phase q : ℕ) → q < p.procs → acts (plain_code p) phase q ≡ actions_of (steps_of_phase p phase q)

@@ -6,7 +6,7 @@ use Rattle.std.proofs.lemmas.List.{get_or_past, length-map}
 use Rattle.icode.specs.declared.action.Action.{Action}
 use Rattle.icode.specs.declared.program.Program.{Program}
 use Rattle.icode.specs.Buffers.{stores_among}
-use Rattle.icode.specs.Machine.{Code, acts}
+use Rattle.icode.specs.Machine.{acts}
 use Rattle.icode.specs.Program.{plain_program, code_of}
 use Rattle.buffer_machine.specs.Stand.{HasLens}
 use Rattle.buffer_machine.proofs.Fitting.{lens_same}

@@ -1,13 +1,14 @@
 -- The newest store for each word.
-use Rattle.std.proofs.Common.{◌≡◌, ℕ, zero, suc, ◌+◌, ◌-◌, ◌<◌, ◌≤◌, ◌≢◌, ◌⊎◌, List, [], ◌∷◌, length, take, replicate, refl, sym, ap, ◌∙◌, subst, arith, inl, inr, ⊎_elim, get_or-set_same, get_or-set_other}
+use Rattle.std.proofs.Common.{◌≡◌, ℕ, ◌+◌, ◌-◌, ◌<◌, ◌≤◌, ◌≢◌, ◌⊎◌, List, length, replicate, sym, ap, ◌∙◌, subst, arith, inl, inr, ⊎_elim, get_or-set_same, get_or-set_other}
 use Rattle.std.specs.Prelude.{slice_index, slice_set}
 use Rattle.std.proofs.lemmas.Bool.{cases_eq, cases_lt}
-use Rattle.std.proofs.lemmas.List.{length-replicate, get_or-replicate}
+use Rattle.std.proofs.lemmas.List.{length-replicate, get_or-replicate, replicate-append-replicate}
 use Rattle.icode.specs.Machine.{with_words}
 use Rattle.icode.proofs.End.{slice_index-zeros}
+use Rattle.icode.proofs.LaneSteps.{with_words_more}
 use Rattle.icode.proofs.Words.{with_words-other, slice_index-agree}
 use Rattle.buffer_machine.specs.Sound.{AreNewest}
-use Rattle.buffer_machine.specs.Waits.{Covers, NoneCovers}
+use Rattle.buffer_machine.specs.Waits.{NoneCovers}
 use Rattle.buffer_machine.proofs.Windows.{with_words-here}
 
 -- a word is among those that were marked, or as it was
@@ -62,10 +63,11 @@ newest_cleared lanes n A =
       is_for = λ word some. absurd (omega (arith, some, slice_index-zeros n word));
     }
 
-pub take-same : (n k v : ℕ) → n ≤ k → take {A = ℕ} n (replicate k v) ≡ replicate n v
-take-same zero k v le = refl
-take-same (suc n) zero v le = absurd (omega arith)
-take-same (suc n) (suc k) v le = ap (λ (vs : List ℕ). v ∷ vs) (take-same n k v (omega arith))
+pub mark_step : (newest old : List ℕ) (address word number : ℕ) → newest ≡ with_words old address (replicate word number) → slice_set newest (address + word) number ≡ with_words old address (replicate (word + 1) number)
+mark_step newest old address word number e =
+    ap (λ ws. slice_set ws (address + word) number) e
+    ∙ (ap (λ k. slice_set (with_words old address (replicate word number)) (address + k) number) (sym (length-replicate {A = ℕ} word number))
+    ∙ (sym (with_words_more (replicate word number) old address number) ∙ ap (with_words old address) (replicate-append-replicate word 1 number)))
 
 -- what is known of a number that was found
 pub record IsFound (lanes : ℕ) (A : List ℕ) (tail place n : ℕ) : Type 0 where

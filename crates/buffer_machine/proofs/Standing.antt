@@ -1,5 +1,5 @@
 -- What turns and drains keep.
-use Rattle.std.proofs.Common.{◌≡◌, ℕ, zero, suc, ◌+◌, ◌-◌, ◌*◌, ◌<◌, ◌≤◌, ◌≢◌, ◌⊎◌, List, [], ◌∷◌, ◌++◌, Bool, true, false, cond, ◌||◌, length, map, drop, replicate, get_or, nat_lt, Some, refl, sym, ap, ap₂, ◌∙◌, subst, arith, ⊎_elim, get_or-set_same, get_or-set_other, length-set}
+use Rattle.std.proofs.Common.{◌≡◌, ℕ, zero, suc, ◌+◌, ◌-◌, ◌*◌, ◌<◌, ◌≤◌, ◌≢◌, List, [], ◌∷◌, ◌++◌, Bool, true, false, cond, ◌||◌, length, map, drop, replicate, get_or, nat_lt, Some, refl, sym, ap, ap₂, ◌∙◌, subst, arith, ⊎_elim, get_or-set_same, get_or-set_other, length-set}
 use Rattle.std.specs.Prelude.{slice_get, slice_index, slice_index_or, slice_set}
 use Rattle.std.specs.List.{list_any}
 use Rattle.std.proofs.lemmas.Bool.{cases_eq, cases_lt, cases_Bool, false≢true, le-ltb}
@@ -7,13 +7,13 @@ use Rattle.std.proofs.lemmas.List.{map-set, get_or-map, get_or_past, length-map,
 use Rattle.std.proofs.lemmas.List.Folds.{list_any_at, list_any_none}
 use Rattle.icode.specs.declared.action.Action.{Action}
 use Rattle.icode.specs.declared.action.Action.TheVariants.{Store}
-use Rattle.icode.specs.Buffers.{Waiting, Buffered, overlaid, stored, stores_among, some_wait, is_waiting, queue_of, buffered_acted, buffered_moved_on, written}
-use Rattle.icode.specs.Machine.{Code, acts, effect, is_open, none_done, first_open, phases_after, moved_on, padded, with_words, register_of, words_at, value_put, register_put}
+use Rattle.icode.specs.Buffers.{Waiting, overlaid, stored, stores_among, some_wait, is_waiting, queue_of, buffered_acted, buffered_moved_on, written}
+use Rattle.icode.specs.Machine.{Code, acts, effect, is_open, none_done, first_open, phases_after, moved_on, padded, with_words, value_put, register_put}
 use Rattle.icode.specs.Operation.{AddressFits}
 use Rattle.icode.proofs.Below.{effect_registers_below, below-words_at, below-with_words}
 use Rattle.icode.proofs.BufferedCompletion.{drop_at}
 use Rattle.icode.proofs.End.{slice_index-zeros}
-use Rattle.icode.proofs.Residues.{AreBelow, below-zeros}
+use Rattle.icode.proofs.Residues.{AreBelow}
 use Rattle.icode.proofs.Runs.{open_at, not_open}
 use Rattle.icode.proofs.StoreCounts.{stores_first}
 use Rattle.icode.proofs.Words.{length-words_at}

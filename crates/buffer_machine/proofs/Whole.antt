@@ -1,5 +1,5 @@
 -- What a machine keeps.
-use Rattle.std.proofs.Common.{◌≡◌, ℕ, zero, suc, Bool, cond, true, false, ⊎_elim, ◌+◌, ◌-◌, ◌*◌, ◌<◌, ◌≤◌, ◌⊎◌, ◌^◌, List, [], ◌∷◌, ◌++◌, length, map, drop, replicate, Option, Some, refl, sym, ap, ap₂, ◌∙◌, subst, arith, length-append, div-add-mod', mod-lt}
+use Rattle.std.proofs.Common.{◌≡◌, ℕ, zero, suc, Bool, cond, true, false, ⊎_elim, ◌+◌, ◌-◌, ◌*◌, ◌<◌, ◌≤◌, ◌^◌, List, [], ◌∷◌, ◌++◌, length, map, drop, replicate, Some, refl, sym, ap, ap₂, ◌∙◌, subst, arith, length-append, div-add-mod', mod-lt}
 use Rattle.std.specs.Prelude.{slice_get, slice_index, slice_index_or, slice_set}
 use Rattle.std.proofs.lemmas.List.{get_or-replicate, length-replicate, length-map, replicate-append-replicate}
 use Rattle.std.proofs.lemmas.Bool.{cases_eq, cases_lt, false≢true}
@@ -9,11 +9,9 @@ use Rattle.icode.specs.declared.event.Event.{Event}
 use Rattle.icode.specs.declared.event.Event.TheVariants.{Turn, Drain}
 use Rattle.icode.specs.declared.program.Program.{Program}
 use Rattle.icode.specs.Actions.{Step}
-use Rattle.icode.specs.Buffers.{Waiting, Buffered, some_wait, IsBusy, IsIdle, is_waiting, buffered_completion, stores_among, buffered_start, buffered_turn, buffered_turn_with, buffered_moved_on, buffered_step, drain, drain_with, written}
+use Rattle.icode.specs.Buffers.{Waiting, Buffered, some_wait, IsBusy, IsIdle, is_waiting, buffered_completion, stores_among, buffered_start, buffered_turn, buffered_turn_with, buffered_moved_on, buffered_step, drain, drain_with}
 use Rattle.icode.specs.Operation.{AddressFits}
-use Rattle.icode.specs.declared.event.Turned.{Turned}
-use Rattle.icode.specs.declared.event.Turned.TheVariants.{Did, Waits, Done}
-use Rattle.icode.specs.Machine.{Code, IsCode, State, acts, padded, start, first_open, whole_lines, is_open, phases_after, none_done, next_action, answer, answer_with, moved_on, acted, turn_with, turn}
+use Rattle.icode.specs.Machine.{Code, IsCode, State, acts, padded, start, first_open, whole_lines, is_open, phases_after, none_done, next_action, moved_on, acted, turn_with, turn}
 use Rattle.icode.specs.Program.{plain_program, code_of, Fits, steps}
 use Rattle.icode.proofs.Below.{below-padded}
 use Rattle.icode.proofs.BufferedCompletion.{busy_step, starts_busy, waits_within, completion_turn, completion_drain, completion_past, idle_past}
@@ -31,8 +29,9 @@ use Rattle.buffer_machine.specs.Good.{IsGood}
 use Rattle.buffer_machine.specs.Walking.{IsWalking}
 use Rattle.buffer_machine.specs.Ready.{CanAct}
 use Rattle.par_machine.specs.Running.{Running as Machine}
+use Rattle.par_machine.specs.Skipped.{skipped}
 use Rattle.buffer_machine.specs.Stand.{Stand, backlog_at, waits_of, buffered_of, acted_stand, cleared, first_busy, settled_stand, first_stand, HasLens, AreSound, IsStanding}
-use Rattle.buffer_machine.specs.View.{running_of, IsWhole}
+use Rattle.buffer_machine.specs.View.{IsWhole}
 use Rattle.buffer_machine.proofs.Fitting.{can_be_done, acts_steps}
 use Rattle.buffer_machine.proofs.Few.{few_step, few_start, few_events}
 use Rattle.buffer_machine.proofs.Lens.{acts_none}
@@ -116,27 +115,6 @@ walker_left a q w lt left =
     let at = w.walking.here (open_here a q w lt left) in
     omega (arith, w.lens.each a.values.phase q lt, left, ap (λ (phase : ℕ). length (acts (code_in a) phase q)) at.0, ap (λ (done : List ℕ). slice_index done q) at.1)
 
-pub walker_answers : (a : Inside) (q : ℕ) (turned : Turned) → IsWhole a → q < (code_in a).procs → slice_index a.values.done q < slice_index a.lens.items a.values.phase → turned ≡ answer (code_in a) a.walker.state q → (action : Action) × (turned ≡ Did action) × (next_action (code_in a) (buffered_of a.values).state q ≡ Some action)
-walker_answers a q turned w lt left e =
-    let xs : List Action = acts (code_in a) a.values.phase q in
-    let some = some_action xs (slice_index a.values.done q) (omega (arith, w.lens.each a.values.phase q lt)) in
-    (some.0, e ∙ ap (answer_with (code_in a) a.walker.state) (walker_next a q w lt left ∙ some.1), some.1)
-
-pub did_no_other : (t : Turned) (action : Action) → t ≡ Did action → (t ≡ Waits) ⊎ (t ≡ Done) → ⊥
-did_no_other t action e other =
-    ⊎_elim
-    (λ (w : t ≡ Waits). cc)
-    (λ (d : t ≡ Done). cc)
-    other
-
-pub action_is : (a : Inside) (q : ℕ) (action : Action) → IsWhole a → q < (code_in a).procs → slice_index a.values.done q < slice_index a.lens.items a.values.phase → Did action ≡ answer (code_in a) a.walker.state q → slice_get (acts (code_in a) a.values.phase q) (slice_index a.values.done q) ≡ Some action
-action_is a q action w lt left e =
-    let told = walker_answers a q (Did action) w lt left e in
-    told.2 ∙ ap (λ (x : Action). Some x) (sym (same_action action told.0 told.1))
-  where
-    same_action : (x y : Action) → Did x ≡ Did y → x ≡ y
-    same_action x y e = cc
-
 pub can_act : (a : Inside) (q : ℕ) (action : Action) → IsWhole a → q < (code_in a).procs → slice_get (acts (code_in a) a.values.phase q) (slice_index a.values.done q) ≡ Some action → CanAct a.shape.modulus a.shape.lanes a.shape.regs q action a.values
 can_act a q action w lt e =
     let code : Code = code_in a in
@@ -168,22 +146,24 @@ can_act a q action w lt e =
 -- The walker keeps up
 
 -- after an action, before the phase moves on
-walking_acted : (code : Code) (s m n : State) (q : ℕ) (action : Action) → s.phase < length code.lists → is_open code s.phase s.done ≡ true → IsWalking code s m → next_action code m q ≡ Some action → n ≡ turn code m q → (t : State) → t.phase ≡ s.phase → t.done ≡ slice_set s.done q (suc (slice_index s.done q)) → IsWalking code t n
+walking_acted : (code : Code) (s m n : State) (q : ℕ) (action : Action) → s.phase < length code.lists → is_open code s.phase s.done ≡ true → IsWalking code s m → next_action code m q ≡ Some action → n ≡ skipped code m q → (t : State) → t.phase ≡ s.phase → t.done ≡ slice_set s.done q (suc (slice_index s.done q)) → IsWalking code t n
 walking_acted code s m n q action lt opened w e en t ep ed =
     let at = w.here opened in
     let done : List ℕ = slice_set m.done q (suc (slice_index m.done q)) in
     let same : done ≡ t.done = ap (λ (d : List ℕ). slice_set d q (suc (slice_index d q))) at.1 ∙ sym ed in
     let phase : m.phase ≡ t.phase = at.0 ∙ sym ep in
-    let acts : n ≡ moved_on code (acted code q action m) = en ∙ ap (turn_with code q m) e in
+    let acts : turn code m q ≡ moved_on code (acted code q action m) = ap (turn_with code q m) e in
+    let goes : n.phase ≡ (turn code m q).phase = ap (λ (s : State). s.phase) en in
+    let does : n.done ≡ (turn code m q).done = ap (λ (s : State). s.done) en in
     record {
       here = λ o.
           let open_m : is_open code m.phase done ≡ true = ap₂ (is_open code) phase same ∙ o in
-          let is : n ≡ acted code q action m = acts ∙ ap (λ b. cond b (acted code q action m) (next_of code (acted code q action m))) open_m in
-          (ap (λ (s : State). s.phase) is ∙ phase, ap (λ (s : State). s.done) is ∙ same);
+          let is : turn code m q ≡ acted code q action m = acts ∙ ap (λ b. cond b (acted code q action m) (next_of code (acted code q action m))) open_m in
+          (goes ∙ (ap (λ (s : State). s.phase) is ∙ phase), does ∙ (ap (λ (s : State). s.done) is ∙ same));
       ahead = λ low c.
           let closed_m : is_open code m.phase done ≡ false = ap₂ (is_open code) phase same ∙ c in
-          let is : n ≡ next_of code (acted code q action m) = acts ∙ ap (λ b. cond b (acted code q action m) (next_of code (acted code q action m))) closed_m in
-          (ap (λ (s : State). s.phase) is ∙ ap (λ k. first_open code (phases_after code k) (k + 1)) phase, ap (λ (s : State). s.done) is);
+          let is : turn code m q ≡ next_of code (acted code q action m) = acts ∙ ap (λ b. cond b (acted code q action m) (next_of code (acted code q action m))) closed_m in
+          (goes ∙ (ap (λ (s : State). s.phase) is ∙ ap (λ k. first_open code (phases_after code k) (k + 1)) phase), does ∙ ap (λ (s : State). s.done) is);
     }
 
 -- as the phase moves on
@@ -200,7 +180,7 @@ walking_moved code is b m lt w = at (some_wait b.queues) (is_open code b.state.p
           ahead = λ low c. absurd (false≢true (sym c ∙ first_opens code is (phases_after code b.state.phase) (b.state.phase + 1) (omega (arith, low))));
         }
 
-pub turned : (a : Inside) (q : ℕ) (action : Action) (v : Stand) (m : Machine) → IsWhole a → q < (code_in a).procs → a.values.phase < length a.lens.items → slice_index a.values.done q < slice_index a.lens.items a.values.phase → slice_get (acts (code_in a) a.values.phase q) (slice_index a.values.done q) ≡ Some action → v ≡ settled_stand a.lens.items (acted_stand a.shape.modulus a.shape.lanes q action a.values) → m.code ≡ a.walker.code → m.state ≡ turn (code_in a) a.walker.state q → IsWhole (with_values a v m) × (buffered_of v ≡ buffered_turn (code_in a) (buffered_of a.values) q)
+pub turned : (a : Inside) (q : ℕ) (action : Action) (v : Stand) (m : Machine) → IsWhole a → q < (code_in a).procs → a.values.phase < length a.lens.items → slice_index a.values.done q < slice_index a.lens.items a.values.phase → slice_get (acts (code_in a) a.values.phase q) (slice_index a.values.done q) ≡ Some action → v ≡ settled_stand a.lens.items (acted_stand a.shape.modulus a.shape.lanes q action a.values) → m.code ≡ a.walker.code → m.state ≡ skipped (code_in a) a.walker.state q → IsWhole (with_values a v m) × (buffered_of v ≡ buffered_turn (code_in a) (buffered_of a.values) q)
 turned a q action v m w lt phase left e ev ec em =
     let code : Code = code_in a in
     let b : Buffered = buffered_of a.values in

@@ -1,8 +1,8 @@
 -- The stores of a queue.
-use Rattle.std.proofs.Common.{◌≡◌, ℕ, zero, suc, ◌+◌, ◌-◌, ◌*◌, ◌<◌, ◌≤◌, ◌⊎◌, ◌≢◌, List, [], ◌∷◌, ◌++◌, length, take, Some, true, refl, sym, ap, ap₂, ◌∙◌, subst, arith, ⊎_elim, mul-le-mul_left, mul_comm, get_or-set_same, get_or-set_other, length-take-le, Vec}
-use Rattle.std.specs.Prelude.{slice_get, slice_index, slice_set}
-use Rattle.std.proofs.lemmas.Bool.{cases_lt, cases_eq}
-use Rattle.icode.specs.Buffers.{Waiting, is_waiting, overlaid}
+use Rattle.std.proofs.Common.{◌≡◌, ℕ, zero, suc, ◌+◌, ◌-◌, ◌*◌, ◌<◌, ◌≤◌, ◌≢◌, List, [], ◌∷◌, ◌++◌, length, refl, sym, ap, ap₂, ◌∙◌, subst, arith, ⊎_elim, mul-le-mul_left, mul_comm, get_or-set_same, get_or-set_other}
+use Rattle.std.specs.Prelude.{slice_index, slice_set}
+use Rattle.std.proofs.lemmas.Bool.{cases_eq}
+use Rattle.icode.specs.Buffers.{Waiting, overlaid}
 use Rattle.icode.specs.Machine.{words_at, with_words}
 use Rattle.icode.proofs.LaneSteps.{words_at_more, with_words_more}
 use Rattle.icode.proofs.Words.{words_at-agree, with_words-other, slice_index-agree, length-words_at}

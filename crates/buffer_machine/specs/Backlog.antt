@@ -1,5 +1,5 @@
 -- What a queue of stores holds.
-use Rattle.std.specs.Prelude.{◌≡◌, ℕ, zero, suc, ◌+◌, ◌*◌, ◌≤◌, List, [], ◌∷◌, slice_index, length}
+use Rattle.std.specs.Prelude.{ℕ, zero, suc, ◌+◌, ◌*◌, List, [], ◌∷◌, slice_index}
 use Rattle.icode.specs.Buffers.{Waiting}
 use Rattle.icode.specs.Machine.{words_at}
 

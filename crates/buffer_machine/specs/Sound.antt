@@ -1,5 +1,5 @@
 -- What a queue keeps.
-use Rattle.std.specs.Prelude.{◌≡◌, ℕ, ◌+◌, ◌-◌, ◌*◌, ◌<◌, ◌≤◌, List, length, slice_index}
+use Rattle.std.specs.Prelude.{◌≡◌, ℕ, ◌-◌, ◌*◌, ◌<◌, ◌≤◌, List, length, slice_index}
 use Rattle.buffer_machine.specs.declared.queue.Queue.TheInside.{Inside}
 use Rattle.buffer_machine.specs.Backlog.{Backlog, window}
 use Rattle.buffer_machine.specs.Waits.{Covers, NoneCovers}

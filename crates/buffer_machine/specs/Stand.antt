@@ -3,7 +3,7 @@ use Rattle.std.specs.Prelude.{◌≡◌, ℕ, zero, suc, ◌+◌, ◌-◌, ◌*�
 use Rattle.std.specs.List.{list_any}
 use Rattle.icode.specs.declared.action.Action.{Action}
 use Rattle.icode.specs.Buffers.{Waiting, Buffered, overlaid, stored, stores_among, some_wait}
-use Rattle.icode.specs.Machine.{Code, acts, effect, padded, with_words}
+use Rattle.icode.specs.Machine.{Code, acts, effect, padded}
 use Rattle.buffer_machine.specs.Backlog.{Backlog}
 
 -- memory, each processor's registers and queue, the phase, and how many of its actions each processor has done

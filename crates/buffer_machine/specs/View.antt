@@ -1,7 +1,6 @@
 -- How a machine's fields are seen.
 use Rattle.std.specs.Prelude.{◌≡◌, ◌<◌, ◌^◌, length}
-use Rattle.icode.specs.Buffers.{Buffered, IsBusy, buffered_completion}
-use Rattle.icode.specs.Machine.{Code}
+use Rattle.icode.specs.Buffers.{IsBusy, buffered_completion}
 use Rattle.buffer_machine.specs.declared.machine.BufMachine.TheInside.{Inside}
 use Rattle.buffer_machine.specs.Good.{IsGood}
 use Rattle.buffer_machine.specs.Running.{Running}

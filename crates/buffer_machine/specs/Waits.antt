@@ -1,5 +1,5 @@
 -- What is known of stores that wait.
-use Rattle.std.specs.Prelude.{◌≡◌, ℕ, ◌+◌, ◌≤◌, ◌<◌, List, [], ◌∷◌, slice_index, length}
+use Rattle.std.specs.Prelude.{◌≡◌, ℕ, ◌+◌, ◌≤◌, ◌<◌, List, [], ◌∷◌, slice_index}
 use Rattle.icode.specs.Buffers.{Waiting}
 use Rattle.icode.specs.Machine.{with_words}
 use Rattle.buffer_machine.specs.Backlog.{Backlog}

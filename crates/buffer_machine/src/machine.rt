@@ -21,7 +21,7 @@ use std::alloc::Global;
 use std::marker::Model;
 
 /// A machine of several processors over one memory, each of which has a queue of stores that wait. It has taken all its
-/// memory when it is made. A machine without buffers walks ahead and tells the actions; its words are not looked at.
+/// memory when it is made. A machine without buffers walks ahead and tells the actions; it does none of them.
 #[derive(Drop)]
 pub struct BufMachine {
     shape: Shape,
@@ -88,14 +88,11 @@ impl BufMachine {
         if self.values.done(proc) >= self.lens[phase as usize] {
             return Turned::Waits;
         }
-        match self.walker.turn(proc) {
-            Turned::Did(action) => {
-                self.values.play(&self.shape, &action, proc);
-                self.values.settle(&self.lens);
-                Turned::Did(action)
-            }
-            Turned::Waits | Turned::Done => unreachable!(),
-        }
+        let action = self.walker.action(proc);
+        self.values.play(&self.shape, &action, proc);
+        self.walker.skip(proc);
+        self.values.settle(&self.lens);
+        Turned::Did(action)
     }
 
     /// Writes the oldest store of a processor that waits to memory, if one does.
@@ -151,7 +148,7 @@ impl BufMachine {
         }
         let action = self.walker.action(proc);
         self.values.play(&self.shape, &action, proc);
-        self.walker.pass(proc);
+        self.walker.skip(proc);
         self.values.settle(&self.lens);
     }
 

@@ -39,8 +39,7 @@ pub(crate) fn play(
             registers.load(shape, *register, memory, *address, queue);
         }
         Action::Store { address, register } => {
-            let words = registers.words_of(shape, *register);
-            queue.push(*address, &words);
+            registers.store(shape, *register, *address, queue);
         }
         _ => registers.change(shape, action),
     }

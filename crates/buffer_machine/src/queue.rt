@@ -1,16 +1,25 @@
 // A queue of stores that wait.
 
-ghost use Rattle.std.specs.Prelude.{◌≡◌, ℕ, ◌+◌, ◌^◌, ◌<◌, ◌≤◌, [], ◌∷◌, ◌++◌, length, take, slice_index, IfOk};
+ghost use Rattle.std.specs.Prelude.{◌≡◌, ℕ, ◌+◌, ◌^◌, ◌<◌, ◌≤◌, [], ◌∷◌, ◌++◌, length, replicate, slice_index, IfOk};
 ghost use Rattle.icode.specs.Buffers.{is_waiting, overlaid};
 ghost use Rattle.icode.specs.Machine.{with_words, words_at};
 ghost use Rattle.buffer_machine.specs.Waits.{OldestFits, IsDrained};
 
-use icode::action::MAX_LANES;
 use icode::effect::copy_lanes;
-use icode::lanes::write_lanes;
 use memory::NoMemory;
 use std::alloc::Global;
 use std::marker::Model;
+
+// The number for so many words from the address on.
+#[inline]
+fn mark(newest: &mut [u64], address: u64, number: u64, count: u64)
+    requires { address + count ≤ length newest.old }
+    ensures { newest.new ≡ with_words newest.old address (replicate count number) }
+{
+    for word in 0..count {
+        newest[(address + word) as usize] = number;
+    }
+}
 
 /// Stores that wait, the oldest first. It has room for so many until it is cleared, and then takes no more memory.
 #[derive(Drop)]
@@ -72,11 +81,13 @@ impl Queue {
         self.head < self.tail
     }
 
-    /// The words of each lane wait for the address.
-    pub(crate) fn push(&mut self, address: u64, values: &[u64; MAX_LANES])
+    /// The words of each lane, from the place on, wait for the address.
+    pub(crate) fn push(&mut self, address: u64, words: &[u64], place: u64)
         requires room { 0 < self.old.room }
         requires inside { address + self.old.lanes ≤ self.old.span }
-        ensures waiting { self.new.waiting ≡ self.old.waiting ++ record { address = address; words = take self.old.lanes values.now } ∷ [] }
+        requires from { place + self.old.lanes ≤ length words.now }
+        ensures waiting { self.new.waiting ≡ self.old.waiting
+            ++ record { address = address; words = words_at self.old.lanes words.now place } ∷ [] }
         ensures room { self.new.room + 1 ≡ self.old.room }
         ensures most { self.new.most ≡ self.old.most }
         ensures lanes { self.new.lanes ≡ self.old.lanes }
@@ -84,8 +95,8 @@ impl Queue {
     {
         let at = self.tail;
         self.addresses[at as usize] = address;
-        write_lanes(&mut self.words, at * self.lanes, values, self.lanes);
-        write_lanes(&mut self.newest, address, &[at + 1; MAX_LANES], self.lanes);
+        copy_lanes(words, place, &mut self.words, at * self.lanes, self.lanes);
+        mark(&mut self.newest, address, at + 1, self.lanes);
         self.tail = at + 1;
     }
 

@@ -1,15 +1,14 @@
 // The registers of a processor.
 
-ghost use Rattle.std.specs.Prelude.{◌≡◌, ℕ, ◌+◌, ◌*◌, ◌<◌, ◌≤◌, length, take, replicate, slice_index, IfOk};
+ghost use Rattle.std.specs.Prelude.{◌≡◌, ℕ, ◌+◌, ◌*◌, ◌<◌, ◌≤◌, [], ◌∷◌, ◌++◌, length, replicate, slice_index, IfOk};
 ghost use Rattle.icode.specs.Actions.{RegistersFit, FactorsFit};
 ghost use Rattle.icode.specs.Buffers.{overlaid};
 ghost use Rattle.icode.specs.Machine.{register_of, with_words, words_at};
 ghost use Rattle.icode.specs.OnRegisters.{ChangesRegisters, registers_after};
 
 use crate::queue::Queue;
-use icode::action::{Action, MAX_LANES};
+use icode::action::Action;
 use icode::change::change_registers;
-use icode::lanes::read_lanes;
 use icode::shape::Shape;
 use memory::NoMemory;
 use std::alloc::Global;
@@ -64,13 +63,23 @@ impl Registers {
         queue.load(memory, address, &mut self.words, register * shape.lanes);
     }
 
-    /// The words of a register, one for each lane.
-    pub(crate) fn words_of(&self, shape: &Shape, register: u64) -> [u64; MAX_LANES]
+    /// The words of the register, one for each lane, wait in the queue for the address.
+    pub(crate) fn store(&self, shape: &Shape, register: u64, address: u64, queue: &mut Queue)
         requires named { register < shape.now.regs }
         requires file { length self.now ≡ shape.now.regs * shape.now.lanes }
-        ensures { take shape.now.lanes result ≡ register_of shape.now.lanes self.now register }
+        requires room { 0 < queue.old.room }
+        requires inside { address + queue.old.lanes ≤ queue.old.span }
+        requires lanes { queue.old.lanes ≡ shape.now.lanes }
+        ensures waiting { queue.new.waiting ≡ queue.old.waiting ++ record {
+          address = address;
+          words = register_of shape.now.lanes self.now register;
+        } ∷ [] }
+        ensures room { queue.new.room + 1 ≡ queue.old.room }
+        ensures most { queue.new.most ≡ queue.old.most }
+        ensures lanes { queue.new.lanes ≡ queue.old.lanes }
+        ensures span { queue.new.span ≡ queue.old.span }
     {
-        read_lanes(&self.words, register * shape.lanes, shape.lanes)
+        queue.push(address, &self.words, register * shape.lanes);
     }
 
     /// Does an action that loads and stores nothing.

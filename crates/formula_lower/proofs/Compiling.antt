@@ -23,5 +23,5 @@ formulas_compile m f positive shaped =
       good = merged.good;
       limits = merge_limits 0 (size_of f) (term_of [] f) some (omega (arith, (size_is_size f shaped).1)) lowered.good (term-several [] f tt shaped);
       on = λ x v. merged.on x v ∙ lowered.on x v;
-      cost = merge_counts 0 m (size_of f) (most 64) (term_of [] f) (work_cost m) positive some (λ d. refl) lowered.good ∙ lower_counts m [] f positive shaped ∙ one;
+      cost = merge_counts 0 m (size_of f) (most 64) (term_of [] f) 1 (work_cost m) positive some (λ d. refl) lowered.good ∙ lower_counts m [] f positive shaped ∙ one;
     }

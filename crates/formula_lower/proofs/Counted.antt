@@ -39,7 +39,7 @@ hadamard-step : (c n k inner columns all : ℕ) → inner ≡ c * 2 * (n * k) �
 hadamard-step c n k inner columns all e f g =
     let right : c * (2 * n * suc k) ≡ c * 2 * (n * k) + c * n * 2 = omega arith in omega (arith, e, f, right, ap (λ z. c * (z * suc k)) g)
 
-hadamard-cost : (m n : ℕ) (path : Path) (k : ℕ) → term_cost (work_cost m) n (hadamard_term path k) ≡ copies_of path * (2 ^ k * k)
+hadamard-cost : (m n : ℕ) (path : Path) (k : ℕ) → term_cost 1 (work_cost m) n (hadamard_term path k) ≡ copies_of path * (2 ^ k * k)
 hadamard-cost m n path zero = omega arith
 hadamard-cost m n path (suc k) =
     hadamard-step (copies_of path) (2 ^ k) k _ _ (2 ^ suc k)
@@ -49,7 +49,7 @@ hadamard-cost m n path (suc k) =
 
 -- ---- formulas
 
-fourier-cost : (m : ℕ) (path : Path) (size n w : ℕ) → term_cost (work_cost m) size (fourier_term path n w) ≡ copies_of path * operations m (Fourier n w)
+fourier-cost : (m : ℕ) (path : Path) (size n w : ℕ) → term_cost 1 (work_cost m) size (fourier_term path n w) ≡ copies_of path * operations m (Fourier n w)
 fourier-cost m path size n w =
     elim (cases_lt 8 n) [
       | inl long ↦ grind (arith, nat_tests)
@@ -59,16 +59,16 @@ fourier-cost m path size n w =
 scaled-sum : (c k a : ℕ) → c * k * a ≡ c * (k * a)
 scaled-sum c k a = omega arith
 
-lower-cost : (m n : ℕ) (path : Path) (f : Formula) → 0 < m → IsShaped f → n ≡ size_under path (size_of f) → term_cost (work_cost m) n (term_of path f) ≡ copies_of path * operations m f
+lower-cost : (m n : ℕ) (path : Path) (f : Formula) → 0 < m → IsShaped f → n ≡ size_under path (size_of f) → term_cost 1 (work_cost m) n (term_of path f) ≡ copies_of path * operations m f
 lower-cost m n path (Identity k) positive shaped is = omega arith
 lower-cost m n path (Fourier k w) positive shaped is = fourier-cost m path n k w
 lower-cost m n path (Hadamard k) positive shaped is = power shaped.1 where
-  power : IsPowerOfTwo k → term_cost (work_cost m) n (hadamard_term path (halvings k k)) ≡ copies_of path * (k * halvings k k)
+  power : IsPowerOfTwo k → term_cost 1 (work_cost m) n (hadamard_term path (halvings k k)) ≡ copies_of path * (k * halvings k k)
   power (e, whole) =
       let steps : halvings k k ≡ e = ap (λ z. halvings z z) whole ∙ halvings-power e (2 ^ e) (power-above e) in
-      ap (λ z. term_cost (work_cost m) n (hadamard_term path z)) steps ∙ hadamard-cost m n path e ∙ ap₂ (λ a b. copies_of path * (a * b)) (sym whole) (sym steps)
-lower-cost m n path (Twiddles k s w) positive shaped is = is ∙ size_under-copies path k
-lower-cost m n path (Diagonal c) positive shaped is = is ∙ size_under-copies path (length c)
+      ap (λ z. term_cost 1 (work_cost m) n (hadamard_term path z)) steps ∙ hadamard-cost m n path e ∙ ap₂ (λ a b. copies_of path * (a * b)) (sym whole) (sym steps)
+lower-cost m n path (Twiddles k s w) positive shaped is = let whole = is ∙ size_under-copies path k in omega (arith, whole)
+lower-cost m n path (Diagonal c) positive shaped is = let whole = is ∙ size_under-copies path (length c) in omega (arith, whole)
 lower-cost m n path (Stride k r) positive shaped is = omega arith
 lower-cost m n path (Permutation k) positive shaped is = omega arith
 lower-cost m n path (GoodThomasIn r s) positive shaped is = omega arith

@@ -13,7 +13,7 @@ use Rattle.passes.proofs.Keeps.{scatter-same}
 use Rattle.passes.proofs.Nests.{moves-no-words}
 use Rattle.formula_lower.specs.Shared.{embed, Embeds, FactorsEmbed}
 use Rattle.formula_lower.specs.Trees.{core_term}
-use Rattle.formula_lower.proofs.Moves.{back-wrapped, strided-move, in-move, out-move, unit-same}
+use Rattle.formula_lower.proofs.Moves.{back-wrapped, strided-move, in-move, out-move}
 use Rattle.formula_lower.proofs.Parts.{tile-under}
 use Rattle.formula_lower.proofs.Trees.{pick-work, core-lowers, flip}
 use Rattle.formula_lower.proofs.Vectors.{HasVectors, vectors-blocks, vectors-columns, laned-move}
@@ -61,7 +61,7 @@ embed-core c path (piece t) = refl
 embed-core c path (turns r s) = refl
 embed-core c path (steps.twiddles r s) = refl
 embed-core c path (thomas_in r s) = refl
-embed-core c path (thomas_out r s) = ap₂ (λ u v. scat (wrapped path (r * s) (ThomasBack r s u v))) (unit-same r s r) (unit-same s r s)
+embed-core c path (thomas_out r s) = refl
 
 -- a scatter by what undoes a permutation
 scat-good : (v : ℕ) (path : Path) (n : ℕ) (f : Mapping) → 0 < size_under path n → HasVectors v path → back_of (back_of f) ≡ f → IsMove 0 n f → IsMove 0 n (back_of f) → IsGoodTerm v (size_under path n) (scat (wrapped path n f))

@@ -1,6 +1,5 @@
 -- The permutations of formulas can be undone, under tensors too.
 use Rattle.std.proofs.Common.{◌≡◌, ◌≢◌, ℕ, zero, suc, ◌+◌, ◌*◌, ◌/◌, ◌%◌, ◌<◌, ◌≤◌, arith, refl, sym, ap, ap₂, ◌∙◌, [], ◌∷◌, inl, inr, subst, mod-lt, mod-eq_of_lt, div-lt_iff_lt-mul, mul_comm}
-use Rattle.std.specs.Prelude.{◌==◌, if◌then◌else◌}
 use Rattle.std.proofs.Math.Nat.{add-mod, mod-mod, mod-mod_of_dvd, dvd-mul_right, dvd-mul_left, div-add-mod'}
 use Rattle.std.proofs.lemmas.Nat.{mul-mod_second, mul-lt, mod-mul-add}
 use Rattle.std.proofs.lemmas.Bool.{cases_eq}
@@ -11,10 +10,9 @@ use Rattle.operators.specs.Loop.{IsPermutationBelow}
 use Rattle.operators.proofs.Lists.{place_below}
 use Rattle.passes.specs.Good.{IsFormed, IsMove}
 use Rattle.passes.proofs.Nests.{moves-no-words}
-use Rattle.passes.specs.Merge.{unit_below, inverse_below, back_of}
+use Rattle.passes.specs.Merge.{inverse_below, back_of}
 use Rattle.ring_mod.proofs.Inverses.{AreInverses, inverse_of_s, inverse_of_r, inverses_of}
-use Rattle.sigma_lower.specs.Wrapped.{wrapped}
-use Rattle.sigma_lower.specs.Wrapped as lowered
+use Rattle.sigma_lower.specs.Wrapped.{wrapped, unit_of}
 use Rattle.sigma_lower.proofs.Lowering.{AreCoprime, turns-permute, thomas_permutes, both_units}
 use Rattle.sigma_lower.proofs.Permuted.{wrapped-permutes}
 use Rattle.tensor_paths.specs.declared.Tensor.TheVariants.{Blocks, Columns}
@@ -60,22 +58,17 @@ strided-move r s h g small =
     let turned : s * r ≡ r * s = mul_comm s r in
     record { vectors = moves-no-words _; back_vectors = moves-no-words _; there = record { formed = (h, g, omega arith); no_list = tt }; back = record { formed = (g, h, omega arith); no_list = tt }; permutes = turns-permute r s }
 
-pub unit-same : (r s b : ℕ) → lowered.unit_below r s b ≡ unit_below r s b
-unit-same r s zero = refl
-unit-same r s (suc b) = ap (λ u. if (s * b) % r == 1 % r then s * b else u) (unit-same r s b)
-
 pub out-move : (r s : ℕ) → AreCoprime r s → IsMove 0 (r * s) (ThomasOut r s)
 out-move r s h =
     let small = h.small in
     let units = both_units r s h in
-    let formed : IsFormed (ThomasBack r s (lowered.unit_of r s) (lowered.unit_of s r)) = record { formed = (omega (arith, h.left), omega (arith, h.right), omega (arith, small), units.0, units.1); no_list = tt } in
-    let same : ThomasBack r s (lowered.unit_of r s) (lowered.unit_of s r) ≡ back_of (ThomasOut r s) = ap₂ (λ u v. ThomasBack r s u v) (unit-same r s r) (unit-same s r s) in
+    let formed : IsFormed (ThomasBack r s (unit_of r s) (unit_of s r)) = record { formed = (omega (arith, h.left), omega (arith, h.right), omega (arith, small), units.0, units.1); no_list = tt } in
     record {
       vectors = moves-no-words _;
       back_vectors = moves-no-words _;
       there = record { formed = (omega (arith, h.left), omega (arith, h.right), omega (arith, small)); no_list = tt };
-      back = subst IsFormed same formed;
-      permutes = subst (λ g. IsPermutationBelow (r * s) (at (ThomasOut r s)) (at g)) same (thomas_permutes r s h);
+      back = formed;
+      permutes = thomas_permutes r s h;
     }
 
 -- ---- the permutation before a Good-Thomas step

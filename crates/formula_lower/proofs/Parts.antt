@@ -5,7 +5,6 @@ use Rattle.std.proofs.Math.Nat.{mod-mod, div-one, mod-one, div-eq_of_lt}
 use Rattle.std.proofs.lemmas.Bool.{cases_eq}
 use Rattle.std.proofs.lemmas.Bool.Decides.{nat_tests}
 use Rattle.std.proofs.lemmas.List.FromFn.{fill_by_all}
-use Rattle.index_fn.specs.Mapping.{Always, Paired, at}
 use Rattle.matrix_meaning.specs.declared.Kind.{Kind}
 use Rattle.matrix_meaning.specs.Kind.{transform, entry_of}
 use Rattle.operators.specs.Operator.{Operator, gather, scale, stride, block, column, on_blocks, on_columns}
@@ -16,14 +15,12 @@ use Rattle.operators.proofs.Lists.{at-list_below, list_below-same, length-list_b
 use Rattle.operators.proofs.Sums.{sum_below-same}
 use Rattle.passes.specs.Good.{AreBelow, CanNest, IsGoodTerm, IsVector}
 use Rattle.passes.specs.Nest.{PlainFactors, factor_count, factor_at}
-use Rattle.passes.specs.Term.{PlainTerm, nest, move, diag, gath, product, term_on, natural, moving}
-use Rattle.passes.specs.Term as terms
+use Rattle.passes.specs.Term.{PlainTerm, nest, move, diag, product, term_on}
 use Rattle.passes.specs.Work.{PlainWork, tile, work_size, work_on}
 use Rattle.passes.proofs.Keeps.{under-vector, vector-fill}
 use Rattle.passes.proofs.Natural.{at-natural}
 use Rattle.passes.proofs.Walk.{vector-below}
 use Rattle.formula_lower.specs.Terms.{one_more, Lowers}
-use Rattle.sigma_lower.specs.Wrapped as lowered
 use Rattle.sigma_lower.proofs.Permuted.{scale-under}
 use Rattle.tensor_paths.specs.declared.Tensor.{Tensor}
 use Rattle.tensor_paths.specs.declared.Tensor.TheVariants.{Blocks, Columns}
@@ -107,17 +104,12 @@ tile-under m path v x h =
 
 -- ---- diagonals
 
-inner-same : (path : Path) (n : ℕ) → lowered.inner_of path n ≡ terms.inner_of path n
-inner-same [] n = refl
-inner-same (Blocks c ∷ path) n = ap (λ f. Paired (Always 0) 0 f (size_under path n)) (inner-same path n)
-inner-same (Columns c ∷ path) n = ap (λ f. Paired f 1 (Always 0) c) (inner-same path n)
-
 pub diag-lowers : (m : ℕ) (path : Path) (factors : PlainFactors) → Lowers m (size_under path (factor_count factors)) (diag path factors) (under path (factor_count factors) (scale m (factor_count factors) (factor_at m factors)))
 diag-lowers m path factors =
     let n = factor_count factors in
     record {
       good = refl;
-      on = λ x v. ap (λ f. scale m (size_under path n) (λ w. factor_at m factors (at f w)) x) (sym (inner-same path n)) ∙ sym (scale-under path m n (factor_at m factors) x);
+      on = λ x v. sym (scale-under path m n (factor_at m factors) x);
     }
 
 -- ---- vectors under a path

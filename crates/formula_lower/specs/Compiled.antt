@@ -16,7 +16,7 @@ pub record Compiles (m : ℕ) (f : Formula) : Type 0 where
   pub good : AreGoodPasses 0 m (size_of f) (passes_of (size_of f) (term_of [] f))
   pub limits : AreWithin 64 (size_of f) (passes_of (size_of f) (term_of [] f))
   pub on : (x : List ℕ) → IsVector m (size_of f) x → passes_on m (size_of f) (passes_of (size_of f) (term_of [] f)) x ≡ apply m f x
-  pub cost : passes_cost (work_cost m) (passes_of (size_of f) (term_of [] f)) ≡ operations m f
+  pub cost : passes_cost 1 (work_cost m) (passes_of (size_of f) (term_of [] f)) ≡ operations m f
 
 -- every formula of this language
 abbrev pub FormulasCompile : Type 0

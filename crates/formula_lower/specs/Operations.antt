@@ -37,4 +37,4 @@ operations m (Pending a) = operations m a
 
 -- the term of a formula has its operations, for each copy under the path
 abbrev pub LowerCounts : Type 0
-LowerCounts = (m : ℕ) (path : Path) (f : Formula) → 0 < m → IsShaped f → term_cost (work_cost m) (size_under path (size_of f)) (term_of path f) ≡ copies_of path * operations m f
+LowerCounts = (m : ℕ) (path : Path) (f : Formula) → 0 < m → IsShaped f → term_cost 1 (work_cost m) (size_under path (size_of f)) (term_of path f) ≡ copies_of path * operations m f

@@ -12,3 +12,4 @@ pub mod RequestNodes
 pub mod Writes
 pub mod Turns
 pub mod Parts
+pub mod Reduced

@@ -1,12 +1,13 @@
 // Kernels.
-ghost use Rattle.std.specs.Prelude.{◌≡◌, ◌%◌, vec_len, IfOk};
+ghost use Rattle.std.specs.Prelude.{◌≡◌, ◌%◌, ◌^◌, ◌<◌, ◌≤◌, vec_len, IfOk};
 ghost use Rattle.operators.specs.Sum.{list_below};
-ghost use Rattle.tree_model.specs.Breakdown.{breakdown_of, size_of, IsWellFormed};
-ghost use Rattle.kernel_gen.specs.Kernel.{node_kernel};
+ghost use Rattle.tree_model.specs.Breakdown.{breakdown_of, size_of, HasWordSizes, IsWellFormed};
+ghost use Rattle.kernel_gen.specs.Kernel.{kernel_of, node_kernel};
 ghost use Rattle.kernel_gen.specs.Kernels.{made_of, TransformsNode, CostsNode, IsStraight};
 
 use crate::straight::Kernel;
 use crate::writer::Writer;
+use matrix_meaning::Kind;
 use memory::NoMemory;
 use ring_mod::Modulus;
 use std::alloc::Global;
@@ -18,6 +19,39 @@ fn first_registers(alloc: Global, n: u64) -> Result<Vec<u64>, NoMemory>
     ensures size { IfOk result (λ y. vec_len y ≡ n) }
 {
     Ok((0..n).map(|k| k).collect(alloc)?)
+}
+
+/// The code of a tree for this root, modulo the modulus, on registers of so many lanes.
+pub fn tree_kernel(
+    alloc: Global,
+    modulus: &Modulus,
+    lanes: u64,
+    kind: Kind,
+    t: &Tree,
+    root: u64,
+) -> Result<Kernel, NoMemory>
+    requires lanes { lanes ≤ 16 }
+    requires words { HasWordSizes (breakdown_of t.now) }
+    requires size { size_of (breakdown_of t.now) < 2 ^ 32 }
+    ensures inputs { IfOk result (λ k. k.inputs ≡ size_of (breakdown_of t.now)) }
+    ensures code { IfOk result (λ k. made_of k ≡ kernel_of modulus.now lanes kind (breakdown_of t.now) root) }
+{
+    let inputs = t.size();
+    let first = first_registers(alloc, inputs)?;
+    let mut writer = Writer {
+        lanes,
+        inputs,
+        actions: Vec::new(alloc),
+    };
+    let outputs = writer.put_tree(alloc, modulus, kind, t, modulus.reduce(root), &first)?;
+    let regs = writer.next();
+    let Writer { actions, .. } = writer;
+    Ok(Kernel {
+        inputs,
+        actions,
+        outputs,
+        regs,
+    })
 }
 
 /// The code of a tree for a node of the request's transform: from its inputs in the first registers it leaves the node's
@@ -34,21 +68,7 @@ pub fn kernel(alloc: Global, c: &Ctx, t: &Tree) -> Result<Kernel, NoMemory>
 {
     let request = c.request();
     let modulus = Modulus::new(request.modulus).unwrap();
-    let inputs = t.size();
-    let root = node_root(c, inputs);
-    let first = first_registers(alloc, inputs)?;
-    let mut writer = Writer {
-        lanes: request.lanes,
-        inputs,
-        actions: Vec::new(alloc),
-    };
-    let outputs = writer.put_tree(alloc, &modulus, request.kind, t, root, &first)?;
-    let regs = writer.next();
-    let Writer { actions, .. } = writer;
-    Ok(Kernel {
-        inputs,
-        actions,
-        outputs,
-        regs,
-    })
+    let root = node_root(c, t.size());
+    let made = tree_kernel(alloc, &modulus, request.lanes, request.kind, t, root)?;
+    Ok(made)
 }

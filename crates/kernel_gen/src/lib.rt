@@ -1,4 +1,4 @@
-//! Straight-line code for the nodes of a breakdown tree.
+//! Straight-line code of breakdown trees.
 #![tactic(auto)]
 
 mod generate;
@@ -8,5 +8,5 @@ mod places;
 mod straight;
 mod writer;
 
-pub use generate::kernel;
+pub use generate::{kernel, tree_kernel};
 pub use straight::Kernel;

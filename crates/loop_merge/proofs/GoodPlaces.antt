@@ -2,15 +2,13 @@
 use Rattle.std.proofs.Common.{◌≡◌, ◌≤◌, true, false, List, [], sym, subst}
 use Rattle.matrix_meaning.specs.declared.Request.{Request}
 use Rattle.matrix_meaning.specs.Valid.{IsValid}
-use Rattle.loop_merge.specs.ListedLaw.{AllListPlaces}
 use Rattle.loop_merge.specs.Merge.{PlainPass, merged_of}
-use Rattle.loop_merge.specs.Placed.{AllLimited, AreValuesOf}
+use Rattle.loop_merge.specs.Placed.{AllLimited}
 use Rattle.loop_merge.specs.Reach.{AreReachable}
 use Rattle.loop_merge.proofs.Closed.{AreClosedPasses, closed_passes}
-use Rattle.loop_merge.proofs.ListedPlaces.{all_list}
 use Rattle.loop_merge.proofs.PartRules.{IsSize}
 use Rattle.loop_merge.proofs.PlaceLimits.{size_in, tree_limited}
-use Rattle.loop_merge.proofs.PlaceValues.{AreFormedPasses, formed_passes, values-all}
+use Rattle.loop_merge.proofs.PlaceValues.{AreFormedPasses, formed_passes}
 use Rattle.loop_merge.proofs.Reaching.{all_reachable}
 use Rattle.loop_merge.proofs.Shaped.{AreShaped, shaped_passes}
 use Rattle.loop_merge.proofs.TreePasses.{tree_passes}
@@ -24,12 +22,6 @@ pub record HaveGoodPlaces (c : Request) (ps : List PlainPass) : Type 0 where
   pub formed : AreFormedPasses ps
   pub closed : AreClosedPasses c.size ps
   pub shaped : AreShaped c c.size ps
-
-pub good_values : (c : Request) (ps : List PlainPass) → HaveGoodPlaces c ps → AreValuesOf ps
-good_values c ps h = values-all ps h.formed
-
-pub good_lists : (c : Request) (ps : List PlainPass) → IsValid c → (is_plain c ≡ false → 2 ≤ c.size) → HaveGoodPlaces c ps → AllListPlaces c ps
-good_lists c ps valid shared h = all_list c ps valid shared h.shaped h.formed h.limited
 
 pub good_reaches : (c : Request) (ps : List PlainPass) → IsValid c → (is_plain c ≡ false → 2 ≤ c.size) → HaveGoodPlaces c ps → AreReachable c ps
 good_reaches c ps valid shared h = all_reachable c ps valid shared h.shaped h.formed h.closed h.limited

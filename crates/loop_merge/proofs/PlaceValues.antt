@@ -8,13 +8,13 @@ use Rattle.perm_algebra.specs.Affine.{Sum, constant, variable, value, IsSound, s
 use Rattle.perm_algebra.proofs.AffineLaws.{value-scaled, value-joined}
 use Rattle.perm_algebra.proofs.Values.{simplifies, sound-scaled, sound-joined}
 use Rattle.loop_merge.specs.Merge.{PlainDiagonal, PlainPass, through, new_pass, scattered, multiplied, at_last}
-use Rattle.loop_merge.specs.Placed.{place_sum, all_simplified, loop_values, ArePlacesValues, AreValuesOf}
+use Rattle.loop_merge.specs.Placed.{place_sum, all_simplified, loop_values}
 use Rattle.loop_merge.specs.Reach.{IsFormed, AreFormed}
 use Rattle.loop_merge.proofs.PlaceLimits.{none_is_some, multiplied-is}
 use Rattle.loop_merge.proofs.PartRules.{IsSize, IsRuleIn, rule_in, coprime_in}
 use Rattle.loop_merge.proofs.TreePasses.{rule_waiting, rule_passes, tree_passes}
 use Rattle.ring_mod.proofs.Inverses.{AreInverses, inverse_of_s, inverse_of_r, inverses_of}
-use Rattle.sigma_lower.specs.Work.{transforming, work_size}
+use Rattle.sigma_lower.specs.Work.{transforming}
 use Rattle.sigma_lower.specs.Wrapped.{wrapped, inner_of, unit_of}
 use Rattle.sigma_lower.proofs.Lowering.{AreCoprime, units_of}
 use Rattle.tensor_paths.specs.declared.Tensor.TheVariants.{Blocks, Columns}
@@ -67,17 +67,6 @@ pub record IsFormedPass (p : PlainPass) : Type 0 where
   pub befores : AreFormed p.befores
   pub afters : AreFormed p.afters
   pub multiplies : (d : PlainDiagonal) → p.diagonal ≡ Some d → AreFormed d.places × IsFormed (inner_of d.path (d.rows * d.cols))
-
-values-of : (p : PlainPass) → IsFormedPass p → (cs vs : ℕ → ℕ) (e : Sum) → AreBelowCounts vs cs → IsSound e → ArePlacesValues p cs vs e
-values-of p h cs vs e range sound =
-    record {
-      gathers = value-at_place cs vs p.path (work_size p.work) p.befores e h.befores range sound;
-      scatters = value-at_place cs vs p.path (work_size p.work) p.afters e h.afters range sound;
-      multiplies = λ d is.
-          let m = h.multiplies d is in
-          value-at_place cs vs p.path (work_size p.work) (d.places ++ inner_of d.path (d.rows * d.cols) ∷ []) e (formed-append d.places _ m.0 m.1) range sound
-          ∙ through-end d.places (inner_of d.path (d.rows * d.cols)) _;
-    }
 
 -- ---- the functions under tensors are formed
 
@@ -182,7 +171,3 @@ formed_passes c size path waiting (node rule a b) whole h e w =
     (passes_rule c.kind size rule path r s _ _ here
     (formed_passes c size (path ++ Columns s ∷ []) [] a whole h.1 (size_under-push path (Columns s) r ∙ e) tt)
     (formed_passes c size (path ++ Blocks r ∷ []) (rule_waiting rule path r s waiting) b whole h.2 (size_under-push path (Blocks r) s ∙ e) (waiting_formed c.kind size rule path r s waiting here w)))
-
-pub values-all : (ps : List PlainPass) → AreFormedPasses ps → AreValuesOf ps
-values-all [] h = tt
-values-all (p ∷ ps) h = (values-of p h.0, values-all ps h.1)

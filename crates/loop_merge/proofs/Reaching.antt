@@ -1,5 +1,5 @@
 -- The places of a tree's passes can be made with words of 64 bits.
-use Rattle.std.proofs.Common.{◌≡◌, ℕ, zero, suc, ◌+◌, ◌*◌, ◌<◌, ◌≤◌, Bool, true, false, arith, refl, sym, ap, ap₂, ◌∙◌, List, [], ◌∷◌, ◌++◌, length, if◌then◌else◌, subst, inl, inr}
+use Rattle.std.proofs.Common.{◌≡◌, ℕ, zero, suc, ◌+◌, ◌*◌, ◌<◌, ◌≤◌, Bool, true, false, arith, refl, sym, ap, ◌∙◌, List, [], ◌∷◌, ◌++◌, length, if◌then◌else◌, subst, inl, inr}
 use Rattle.std.specs.Prelude.{All, map, slice_index}
 use Rattle.std.specs.List.{range_with_len}
 use Rattle.std.proofs.Math.Nat.{mul-le-mul_left, mul-le-mul_right}
@@ -13,11 +13,9 @@ use Rattle.perm_algebra.specs.Affine.{Fits, Sum, constant, variable, remainder, 
 use Rattle.perm_algebra.specs.Fits.{InRange, IsAffine}
 use Rattle.perm_algebra.specs.Views.{plain_sum}
 use Rattle.perm_algebra.specs.declared.Affine.{Affine}
-use Rattle.perm_algebra.specs.declared.Affine.TheVariants.{Constant}
-use Rattle.std.proofs.lemmas.List.FromFn.{map-range_with_len_more}
 use Rattle.perm_algebra.proofs.AffineLaws.{top-scaled, value-scaled, value-joined, value-le-top}
 use Rattle.perm_algebra.proofs.PartLaws.{in_range_at}
-use Rattle.loop_merge.specs.Listed.{is_straight, vectors_of, item_of, counts_of, items_of}
+use Rattle.loop_merge.specs.Items.{is_straight, vectors_of, item_of, counts_of, items_of}
 use Rattle.loop_merge.specs.Merge.{PlainPass}
 use Rattle.loop_merge.specs.Placed.{AllRoom, place_sum, AreCounts, IsName, IsLimitedPass, AllLimited, diagonal_places}
 use Rattle.loop_merge.specs.Reach.{AreFormed, CanName, CanReach, ReachesAll, HasWords, IsReachable, AreReachable}
@@ -313,19 +311,3 @@ all-items counts fs path n es is same h = each es (subst (ReachesAll counts fs p
     each : (xs : List Affine) → ReachesAll counts fs path n (map plain_sum xs) → All (λ e. CanReach counts fs path n (plain_sum e)) xs
     each [] k = All-nil (λ e. CanReach counts fs path n (plain_sum e))
     each (x ∷ xs) k = All-cons (λ e. CanReach counts fs path n (plain_sum e)) x xs k.0 (each xs k.1)
-
--- the items of a pass, at its counts, functions and path
-pub listed-items : (c : Request) (p : PlainPass) (counts : List ℕ) (gs fs : List Mapping) (path : Path) (n d m : ℕ) (w : PlainWork) (es : List Affine) → counts ≡ counts_of p → gs ≡ fs → path ≡ p.path → n ≡ work_size p.work → w ≡ p.work →
-    map plain_sum es ≡ items_of c w d → d ≡ m → ReachesAll (counts_of p) fs p.path (work_size p.work) (items_of c p.work m) → All (λ e. CanReach counts gs path n (plain_sum e)) es
-listed-items c p counts gs fs path n d m w es counts_is gs_is path_is n_is work_is items d_is h =
-    rw (counts_is, gs_is, path_is, n_is) (all-items (counts_of p) fs p.path (work_size p.work) es (items_of c p.work m) (items ∙ ap₂ (items_of c) work_is d_is) h)
-
-sums_end : (xs : List Affine) (y : Affine) → map plain_sum (xs ++ y ∷ []) ≡ map plain_sum xs ++ plain_sum y ∷ []
-sums_end [] y = refl
-sums_end (x ∷ xs) y = ap (λ rest. plain_sum x ∷ rest) (sums_end xs y)
-
--- one item more
-pub one-number : (w : PlainWork) (before after : List Affine) (k : ℕ) → after ≡ before ++ Constant (item_of w k 0) ∷ [] → map plain_sum before ≡ map (λ i. constant (item_of w i 0)) (range_with_len 0 k) →
-    map plain_sum after ≡ map (λ i. constant (item_of w i 0)) (range_with_len 0 (k + 1))
-one-number w before after k is h =
-    ap (map plain_sum) is ∙ sums_end before (Constant (item_of w k 0)) ∙ ap (λ xs. xs ++ constant (item_of w k 0) ∷ []) h ∙ sym (map-range_with_len_more (λ i. constant (item_of w i 0)) 0 k k (omega arith))

@@ -1,5 +1,5 @@
 -- Merging the terms of a shared tree makes its passes.
-use Rattle.std.proofs.Common.{◌≡◌, ℕ, ◌*◌, ◌/◌, ◌==◌, Bool, true, false, List, [], ◌∷◌, ◌++◌, refl, sym, ap, ap₂, ◌∙◌, if◌then◌else◌, append_assoc, subst, inl, inr}
+use Rattle.std.proofs.Common.{◌≡◌, ℕ, ◌*◌, ◌/◌, ◌==◌, Bool, true, false, List, [], ◌∷◌, ◌++◌, refl, sym, ap, ap₂, ◌∙◌, if◌then◌else◌, append_assoc, subst}
 use Rattle.std.specs.Prelude.{map, None}
 use Rattle.std.specs.Option.{option_map}
 use Rattle.std.proofs.lemmas.List.{map-append, append-nil}
@@ -7,7 +7,6 @@ use Rattle.index_fn.specs.Mapping.{Mapping, Same, Paired, Strided, ThomasIn, Tho
 use Rattle.matrix_meaning.specs.declared.Request.{Request}
 use Rattle.loop_merge.specs.Merge.{PlainPass, Merging, new_pass, scattered, multiplied, at_last, merge_term, merged, passes_of_terms}
 use Rattle.loop_merge.proofs.RootPasses.{turned_waiting, tile_before, tile_after, if_lanes, right_passes, on_all, if_dealt, left_diagonal, left_pass, left_passes, root_passes, RootPasses}
-use Rattle.loop_merge.proofs.MergeMeaning.{IsPhase}
 use Rattle.loop_merge.proofs.TermOrder.{Ending, waits, settled, fresh, ending, CanFollow, Leads, AreInOrder, leads-append, steps_in_order}
 use Rattle.loop_merge.proofs.TreePasses.{tree_passes, IsFull, full-append, full-at_last, at_last-append, done, merged_tree}
 use Rattle.sigma_lower.specs.Root.{left_path, whole_path, right_path, tile_path, turned_in, tiled_before, tiled_after, lines_dealt, lines_moved, vectors_turned, vectors_grouped, left_core, left_terms, right_terms, root_terms}
@@ -215,41 +214,6 @@ leads_left p v m s e f (t ∷ ss) h =
 pub left_leads : (c : Request) (p v s : ℕ) (a : Breakdown) → AreInOrder (left_terms p v (size_of a) s (steps_of c [] a))
 left_leads c p v s a e = leads_left p v (size_of a) s e fresh (steps_of c [] a) (steps_in_order c [] a e)
 
-leads_turned : (b : Bool) (first second : Mapping) → Leads settled ((if b then [] else gath first ∷ []) ++ gath second ∷ []) waits
-leads_turned true first second = (tt, refl)
-leads_turned false first second = (tt, (tt, refl))
-
-leads_tile : (b : Bool) (path : Path) (w : PlainWork) (f : Mapping) → Leads fresh (if b then [] else nest path w ∷ scat f ∷ []) fresh
-leads_tile true path w f = refl
-leads_tile false path w f = (tt, (refl, refl))
-
-leads_first_tile : (b : Bool) (path : Path) (w : PlainWork) (f : Mapping) → Leads settled (if b then [] else gath f ∷ nest path w ∷ []) (if b then settled else fresh)
-leads_first_tile true path w f = refl
-leads_first_tile false path w f = (tt, (tt, refl))
-
--- how a right part ends
-abbrev pub right_ending : Rule → Ending
-right_ending Gt = settled
-right_ending Ct = settled
-right_ending Split = fresh
-
-pub right_leads : (c : Request) (p v : ℕ) (rule : Rule) (a b : Breakdown) → Leads settled (right_terms c p v rule a b) (right_ending rule)
-right_leads c p v Gt a b = refl
-right_leads c p v Ct a b =
-    let r = size_of a in
-    let s = size_of b in
-    let steps = map lowered (steps_of c (right_path p v r) b) in
-    leads-append settled waits settled (turned_in p v r s) _ (leads_turned (p == 1) (lines_moved p v r s) (vectors_turned p v r s))
-    (leads-append waits fresh settled steps _ (steps_in_order c (right_path p v r) b waits)
-    (leads-append fresh fresh settled (tiled_after p v r s) (diag [] r s ∷ []) (leads_tile (v == 1) (tile_path p v r s) (tiling v) (vectors_grouped (v * (s / v)) p v r s)) (refl, refl)))
-right_leads c p v Split a b =
-    let r = size_of a in
-    let s = size_of b in
-    let steps = map lowered (steps_of c (right_path p v r) b) in
-    let between = if v == 1 then settled else fresh in
-    leads-append settled between fresh (tiled_before p v r s) _ (leads_first_tile (v == 1) (tile_path p v r s) (tiling v) (vectors_grouped (s / v * v) p v r s))
-    (leads-append between fresh fresh steps _ (steps_in_order c (right_path p v r) b between) (leads_tile (v == 1) (tile_path p v r s) (tiling v) (vectors_grouped (v * (s / v)) p v r s)))
-
 -- ---- the root
 
 merged-both : (c : Request) (p v : ℕ) (rule : Rule) (a b : Breakdown) →
@@ -277,27 +241,3 @@ passes-root c (node rule a b) =
 
 pub root_merged : RootPasses
 root_merged c t valid h shared = ap (map passes_of_terms) (shared_terms c t valid h shared) ∙ passes-root c t
-
--- ---- each phase is in order
-
-one_phase : (rule : Rule) (first second : List PlainTerm) → Leads settled first (right_ending rule) → AreInOrder second → IsPhase (first ++ second)
-one_phase rule first second h k = inr (leads-append settled (right_ending rule) fresh first second h (k (right_ending rule)))
-
-first_phase : (rule : Rule) (first : List PlainTerm) → Leads settled first (right_ending rule) → IsPhase first
-first_phase Gt first h = inl h
-first_phase Ct first h = inl h
-first_phase Split first h = inr h
-
-abbrev pub AreOrdered : List (List PlainTerm) → Type 0
-AreOrdered [] = Unit {0}
-AreOrdered (ts ∷ more) = IsPhase ts × AreOrdered more
-
-ordered_phases : (rule : Rule) (b : Bool) (first second : List PlainTerm) → Leads settled first (right_ending rule) → AreInOrder second → AreOrdered (if b then (first ++ second) ∷ [] else first ∷ second ∷ [])
-ordered_phases rule true first second h k = (one_phase rule first second h k, tt)
-ordered_phases rule false first second h k = (first_phase rule first h, (inr (k settled), tt))
-
-pub root_ordered : (c : Request) (t : Breakdown) → AreOrdered (root_terms c t)
-root_ordered c (leaf d) = tt
-root_ordered c (node rule a b) =
-    ordered_phases rule (c.procs == 1) (right_terms c c.procs c.lanes rule a b) (left_terms c.procs c.lanes (size_of a) (size_of b) (steps_of c [] a))
-    (right_leads c c.procs c.lanes rule a b) (left_leads c c.procs c.lanes (size_of b) a)

@@ -2,11 +2,10 @@
 use Rattle.std.proofs.Common.{◌≡◌, Bool, true, false, refl, sym, subst}
 use Rattle.matrix_meaning.specs.declared.Request.{Request}
 use Rattle.matrix_meaning.specs.Valid.{IsValid}
-use Rattle.loop_merge.specs.ListedLaw.{ListedPlaces}
 use Rattle.loop_merge.specs.Merge.{in_order, merged_of}
-use Rattle.loop_merge.specs.Placed.{PlacesAreLimited, PlacesAreValues}
+use Rattle.loop_merge.specs.Placed.{PlacesAreLimited}
 use Rattle.loop_merge.specs.Reach.{AreReachable}
-use Rattle.loop_merge.proofs.GoodPlaces.{HaveGoodPlaces, good_values, good_lists, good_reaches, plain_good}
+use Rattle.loop_merge.proofs.GoodPlaces.{HaveGoodPlaces, good_reaches, plain_good}
 use Rattle.loop_merge.proofs.RootMerging.{root_merged}
 use Rattle.loop_merge.proofs.RootPlaces.{root_good, shared_size}
 use Rattle.tree_model.specs.Admissible.{IsAdmissible}
@@ -22,12 +21,6 @@ tree_good_places c t valid h = good_either c t valid h (is_plain c) refl
 
 pub places_are_limited : PlacesAreLimited
 places_are_limited c t valid h = (tree_good_places c t valid h).limited
-
-pub places_are_values : PlacesAreValues
-places_are_values c t valid h = good_values c (merged_of c t) (tree_good_places c t valid h)
-
-pub listed_places : ListedPlaces
-listed_places c t valid h = good_lists c (merged_of c t) valid (shared_size c t valid h) (tree_good_places c t valid h)
 
 -- each place can be made with words of 64 bits
 pub tree_reachable : (c : Request) (t : Breakdown) → IsValid c → IsAdmissible c t → AreReachable c (merged_of c t)

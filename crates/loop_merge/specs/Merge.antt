@@ -1,11 +1,11 @@
 -- Passes: loops that gather, compute and scatter, into which the permutations and diagonals beside them have gone.
-use Rattle.std.specs.Prelude.{ℕ, List, [], ◌∷◌, ◌++◌, map, Option, Some, None}
+use Rattle.std.specs.Prelude.{ℕ, ◌*◌, List, [], ◌∷◌, ◌++◌, map, Option, Some, None}
 use Rattle.index_fn.specs.Mapping.{Mapping, at}
 use Rattle.matrix_meaning.specs.declared.Request.{Request}
-use Rattle.operators.specs.Operator.{Operator, scale}
-use Rattle.sigma_lower.specs.Term.{PlainTerm, gath, scat, diag, nest, diagonal_at, lowered_of}
-use Rattle.sigma_lower.specs.Work.{PlainWork, work_size, work_on}
-use Rattle.tensor_paths.specs.Loop.{loop_on}
+pub use Rattle.passes.specs.Loops.{through}
+use Rattle.sigma_lower.specs.Wrapped.{inner_of}
+use Rattle.sigma_lower.specs.Term.{PlainTerm, gath, scat, diag, nest, lowered_of}
+use Rattle.sigma_lower.specs.Work.{PlainWork, work_size}
 use Rattle.tensor_paths.specs.Path.{Path, place}
 use Rattle.tree_model.specs.Breakdown.{Breakdown}
 
@@ -23,11 +23,6 @@ pub record PlainPass : Type 0 where
   pub befores : List Mapping
   pub diagonal : Option PlainDiagonal
   pub afters : List Mapping
-
--- one function after the other
-abbrev pub through : List Mapping → ℕ → ℕ
-through [] i = i
-through (f ∷ fs) i = through fs (at f i)
 
 -- ---- merging
 
@@ -78,7 +73,7 @@ in_order (ps ∷ more) = ps ++ in_order more
 abbrev pub merged_of : Request → Breakdown → List PlainPass
 merged_of c t = in_order (merged_phases c t)
 
--- ---- meaning
+-- ---- places
 
 -- the places that a pass loads from and stores to
 abbrev pub gather_place : PlainPass → List ℕ → ℕ → ℕ
@@ -87,13 +82,6 @@ gather_place p vs k = through p.befores (place p.path (work_size p.work) vs k)
 abbrev pub scatter_place : PlainPass → List ℕ → ℕ → ℕ
 scatter_place p vs k = through p.afters (place p.path (work_size p.work) vs k)
 
-abbrev pub multiplied_by : Request → PlainPass → Option PlainDiagonal → List ℕ → Operator
-multiplied_by c p None vs y = y
-multiplied_by c p (Some d) vs y = scale c.modulus (work_size p.work) (λ k. diagonal_at c d.path d.rows d.cols (through d.places (place p.path (work_size p.work) vs k))) y
-
-abbrev pub pass_on : Request → PlainPass → Operator
-pass_on c p = loop_on c.size p.path (work_size p.work) (gather_place p) (λ vs y. multiplied_by c p p.diagonal vs (work_on c p.work y)) (scatter_place p)
-
-abbrev pub passes_on : Request → List PlainPass → Operator
-passes_on c [] x = x
-passes_on c (p ∷ ps) x = passes_on c ps (pass_on c p x)
+-- the place of the item k in the diagonal
+abbrev pub diagonal_place : PlainPass → PlainDiagonal → List ℕ → ℕ → ℕ
+diagonal_place p d vs k = at (inner_of d.path (d.rows * d.cols)) (through d.places (place p.path (work_size p.work) vs k))

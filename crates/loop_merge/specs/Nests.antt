@@ -9,7 +9,7 @@ use Rattle.formula_lower.specs.Trees.{node_work}
 use Rattle.loop_merge.specs.Merge.{PlainDiagonal, PlainPass, passes_of_terms, merged_phases}
 use Rattle.passes.specs.Loops.{PlainLoop, PlainTaken, loops_in, one_nest}
 use Rattle.passes.specs.Merged.{PlainMerged}
-use Rattle.passes.specs.Nest.{PlainNest, twiddles, inner_of}
+use Rattle.passes.specs.Nest.{twiddles, inner_of}
 use Rattle.passes.specs.Work.{PlainWork, tile}
 use Rattle.sigma_lower.specs.Term.{PlainTerm}
 use Rattle.sigma_lower.specs.Work as lowered

@@ -1,34 +1,24 @@
 -- The places of passes as sums of the loops' variables.
 use Rattle.std.specs.Prelude.{◌≡◌, ℕ, ◌+◌, ◌*◌, ◌<◌, ◌≤◌, List, [], ◌∷◌, ◌++◌, Some}
-use Rattle.index_fn.specs.Mapping.{Mapping, at}
+use Rattle.index_fn.specs.Mapping.{Mapping}
 use Rattle.matrix_meaning.specs.declared.Request.{Request}
 use Rattle.matrix_meaning.specs.Valid.{IsValid}
-use Rattle.perm_algebra.specs.Affine.{Fits, Sum, constant, variable, value, IsSound, AreBelowCounts, levels, parts, scaled, joined, simplified}
+use Rattle.perm_algebra.specs.Affine.{Fits, Sum, constant, levels, parts, simplified}
 use Rattle.perm_algebra.specs.Room.{HasRoomFor}
 use Rattle.sigma_lower.specs.Work.{PlainWork, transforming, tiling, work_size}
 use Rattle.sigma_lower.specs.Wrapped.{inner_of}
-use Rattle.loop_merge.specs.Merge.{PlainDiagonal, PlainPass, through, gather_place, scatter_place, merged_of}
+use Rattle.loop_merge.specs.Merge.{PlainDiagonal, PlainPass, merged_of}
+pub use Rattle.passes.specs.Merge.{place_sum, all_simplified}
 use Rattle.tensor_paths.specs.declared.Tensor.TheVariants.{Blocks, Columns}
-use Rattle.tensor_paths.specs.Path.{Path, size_under, place}
+use Rattle.tensor_paths.specs.Path.{Path}
 use Rattle.tree_model.specs.Admissible.{IsAdmissible}
 use Rattle.tree_model.specs.Breakdown.{Breakdown}
-
--- the place of e in the copy that the variables from d on name
-abbrev pub place_sum : Path → ℕ → ℕ → Sum → Sum
-place_sum [] n d e = e
-place_sum (Blocks c ∷ path) n d e = joined (scaled (size_under path n) (variable 1 d (constant 0))) (place_sum path n (d + 1) e)
-place_sum (Columns c ∷ path) n d e = joined (scaled c (place_sum path n (d + 1) e)) (variable 1 d (constant 0))
 
 -- the variables from d on run below the path's factors, each at least 2, and no size is 0
 abbrev pub AreCounts : Path → ℕ → ℕ → (ℕ → ℕ) → Type 0
 AreCounts [] n d cs = 0 < n
 AreCounts (Blocks c ∷ path) n d cs = (cs d ≡ c) × (2 ≤ c) × AreCounts path n (d + 1) cs
 AreCounts (Columns c ∷ path) n d cs = (cs d ≡ c) × (2 ≤ c) × AreCounts path n (d + 1) cs
-
--- one function after the other, at a sum
-abbrev pub all_simplified : (ℕ → ℕ) → List Mapping → Sum → Sum
-all_simplified cs [] e = e
-all_simplified cs (f ∷ fs) e = all_simplified cs fs (simplified cs f e)
 
 -- every number on the way fits 64 bits
 abbrev pub AllRoom : (ℕ → ℕ) → List Mapping → Sum → Type 0
@@ -83,17 +73,3 @@ PlacesAreLimited = (c : Request) (t : Breakdown) → IsValid c → IsAdmissible 
 abbrev pub loop_values : Path → ℕ → (ℕ → ℕ) → List ℕ
 loop_values [] d vs = []
 loop_values (t ∷ path) d vs = vs d ∷ loop_values path (d + 1) vs
-
--- the sums have the values of the pass's places
-pub record ArePlacesValues (p : PlainPass) (cs vs : ℕ → ℕ) (e : Sum) : Type 0 where
-  pub gathers : value (gather_sum cs p e) vs ≡ gather_place p (loop_values p.path 0 vs) (value e vs)
-  pub scatters : value (scatter_sum cs p e) vs ≡ scatter_place p (loop_values p.path 0 vs) (value e vs)
-  pub multiplies : (d : PlainDiagonal) → p.diagonal ≡ Some d →
-      value (diagonal_sum cs p d e) vs ≡ at (inner_of d.path (d.rows * d.cols)) (through d.places (place p.path (work_size p.work) (loop_values p.path 0 vs) (value e vs)))
-
-abbrev pub AreValuesOf : List PlainPass → Type 0
-AreValuesOf [] = Unit {0}
-AreValuesOf (p ∷ ps) = ((cs vs : ℕ → ℕ) (e : Sum) → AreBelowCounts vs cs → IsSound e → ArePlacesValues p cs vs e) × AreValuesOf ps
-
-abbrev pub PlacesAreValues : Type 0
-PlacesAreValues = (c : Request) (t : Breakdown) → IsValid c → IsAdmissible c t → AreValuesOf (merged_of c t)

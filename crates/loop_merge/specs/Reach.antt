@@ -1,27 +1,22 @@
 -- Where each place can be made with words of 64 bits.
 use Rattle.std.specs.Prelude.{◌≡◌, ℕ, ◌+◌, ◌*◌, ◌^◌, ◌<◌, List, [], ◌∷◌, length, slice_index, Some}
-use Rattle.index_fn.specs.Mapping.{Mapping, IsDefinedAt, IsWellFormed}
+use Rattle.index_fn.specs.Mapping.{Mapping, IsDefinedAt}
 use Rattle.matrix_meaning.specs.declared.Request.{Request}
-use Rattle.perm_algebra.specs.Affine.{Sum, constant, variable, value, scaled, simplified, HasNoList}
+use Rattle.perm_algebra.specs.Affine.{Sum, constant, variable, value, scaled, simplified}
 use Rattle.perm_algebra.specs.Fits.{InRange, IsAffine, Stays}
 use Rattle.perm_algebra.specs.Room.{CanScale, CanJoin}
 use Rattle.sigma_lower.specs.Room.{HasRoom}
 use Rattle.sigma_lower.specs.Work.{PlainWork, transforming, tiling, work_size}
 use Rattle.loop_merge.specs.Merge.{PlainDiagonal, PlainPass}
 use Rattle.loop_merge.specs.Placed.{AllRoom, place_sum, diagonal_places}
-use Rattle.loop_merge.specs.Listed.{counts_of, items_of}
+use Rattle.loop_merge.specs.Items.{counts_of, items_of}
+use Rattle.loop_merge.specs.Nests.{loop_work}
+pub use Rattle.passes.specs.Good.{IsFormed}
+pub use Rattle.passes.specs.Loops.{AreFormed}
+use Rattle.passes.specs.Merge.{items_in, items_out}
 use Rattle.tensor_paths.specs.declared.Tensor.TheVariants.{Blocks, Columns}
 use Rattle.tensor_paths.specs.Path.{Path, size_under}
 use Rattle.tree_model.specs.Breakdown.{HasWordSizes}
-
--- a function that can be simplified
-pub record IsFormed (f : Mapping) : Type 0 where
-  pub formed : IsWellFormed f
-  pub no_list : HasNoList f
-
-abbrev pub AreFormed : List Mapping → Type 0
-AreFormed [] = Unit {0}
-AreFormed (f ∷ fs) = IsFormed f × AreFormed fs
 
 -- each function is defined wherever the variables are below their counts
 abbrev pub AreDefined : (ℕ → ℕ) → List Mapping → Sum → Type 0
@@ -70,3 +65,20 @@ pub record IsReachable (c : Request) (p : PlainPass) : Type 0 where
 abbrev pub AreReachable : Request → List PlainPass → Type 0
 AreReachable c [] = Unit {0}
 AreReachable c (p ∷ ps) = IsReachable c p × AreReachable c ps
+
+-- ---- as nests
+
+-- a pass that can become a nest: its work and its diagonal have roots, and its items, named as its work names them, can be reached
+pub record IsNestable (c : Request) (p : PlainPass) : Type 0 where
+  pub sized : HasWords p.work
+  pub some : 0 < work_size p.work
+  pub short : length p.path + 1 < 2 ^ 64
+  pub gathers : ReachesAll (counts_of p) p.befores p.path (work_size p.work) (items_in (loop_work c p.work) (length p.path))
+  pub scatters : ReachesAll (counts_of p) p.afters p.path (work_size p.work) (items_out (loop_work c p.work) (length p.path))
+  pub multiplies : (d : PlainDiagonal) → p.diagonal ≡ Some d →
+      HasRoom d.path (d.rows * d.cols) × (0 < d.rows * d.cols) × (d.rows * d.cols < 2 ^ 64)
+      × ReachesAll (counts_of p) (diagonal_places d) p.path (work_size p.work) (items_out (loop_work c p.work) (length p.path))
+
+abbrev pub AreNestable : Request → List PlainPass → Type 0
+AreNestable c [] = Unit {0}
+AreNestable c (p ∷ ps) = IsNestable c p × AreNestable c ps

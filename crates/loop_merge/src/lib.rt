@@ -3,23 +3,22 @@
 
 ghost use Rattle.std.specs.Prelude.{◌≡◌, IfOk, map};
 ghost use Rattle.index_fn.specs.Index.{mapping_of};
-ghost use Rattle.loop_merge.specs.Laws.{MergeKeeps, MergeCounts};
+ghost use Rattle.loop_merge.specs.Laws.{MergeCounts};
+ghost use Rattle.loop_merge.specs.Nests.{LoopsListed, TreeNests};
 ghost use Rattle.loop_merge.specs.Merge.{scattered, multiplied, at_last};
-ghost use Rattle.loop_merge.specs.Placed.{PlacesAreLimited, PlacesAreValues};
-ghost use Rattle.loop_merge.specs.Stores.{PassesStore};
+ghost use Rattle.loop_merge.specs.Placed.{PlacesAreLimited};
 ghost use Rattle.loop_merge.specs.Views.{plain_pass, plain_walked, plain_work};
 ghost use Rattle.loop_merge.specs.Walk.{walked, with_gather, with_scatter, with_term, passes_in};
 ghost use Rattle.sigma_lower.specs.Term.{diag, nest};
 ghost use Rattle.sigma_spl.specs.Views.{plain_places, plain_sigma};
 
-mod listed;
-mod merged;
+mod nests;
+mod places;
 mod work;
 
 use index_fn::Index;
-pub use listed::{Frame, ListedPass, Multiplier, frame_for, is_straight, listed_places};
 use memory::NoMemory;
-pub use merged::{Merged, merge};
+pub use nests::merge;
 use sigma_spl::{Places, Sigma};
 use std::alloc::Global;
 use tensor_paths::Tensor;
@@ -275,11 +274,6 @@ fn copies(alloc: Global, functions: &[Index]) -> Result<Vec<Index>, NoMemory>
     Ok(others)
 }
 
-/// Merging keeps the meaning: a law of the definitions.
-pub fn merge_keeps()
-    ensures { MergeKeeps }
-{}
-
 /// Merging makes the passes of the cost model: a law of the definitions.
 pub fn merge_counts()
     ensures { MergeCounts }
@@ -290,12 +284,12 @@ pub fn places_are_limited()
     ensures { PlacesAreLimited }
 {}
 
-/// The places of merged passes are the values of their sums: a law of the definitions.
-pub fn places_are_values()
-    ensures { PlacesAreValues }
+/// The loops of a phase's term are its passes: a law of the definitions.
+pub fn loops_listed()
+    ensures { LoopsListed }
 {}
 
-/// What a pass leaves at the place of each item: a law of the definitions.
-pub fn passes_store()
-    ensures { PassesStore }
+/// Each merged pass of a tree is one of its passes, as one nest: a law of the definitions.
+pub fn tree_nests()
+    ensures { TreeNests }
 {}

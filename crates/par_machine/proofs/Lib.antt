@@ -17,3 +17,4 @@ pub mod Remaining
 pub mod Playings
 pub mod Advances
 pub mod Starting
+pub mod Skips

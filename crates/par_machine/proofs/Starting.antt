@@ -68,7 +68,7 @@ left_is a now q n r p is whole proc some most routine processor =
       processor = processor;
     }
 
-processor_there : (a : Inside) (q : ℕ) → IsWhole a → q < a.engine.shape.procs → q < length a.processors.items
+pub processor_there : (a : Inside) (q : ℕ) → IsWhole a → q < a.engine.shape.procs → q < length a.processors.items
 processor_there a q w lt = omega (arith, lt, w.running.cursors, length-map a.processors.items (λ (p : Context). p.place))
 
 begin_is : (a : Inside) (q : ℕ) (p : Context) (memory : List ℕ) → q < length a.processors.items → p ≡ get_or a.processors.items q p → memory ≡ a.memory.items → playing memory p ≡ begin_of a q p
@@ -92,7 +92,7 @@ done_fits a q n d r p h e =
 count_room : (n lanes len whole : ℕ) → lanes ≤ 16 → len + n ≤ whole → whole < 2 ^ 59 → len * lanes + n * lanes < 2 ^ 64
 count_room n lanes len whole few room limit = omega (arith, room, limit, mul-le-mul_left (len + n) few)
 
-can_begin : (a : Inside) (q n : ℕ) (r : Routine) (p : Context) → IsLeft a q n r p → CanPlay (header_of a.engine) r.code.items q n (begin_of a q p)
+pub can_begin : (a : Inside) (q n : ℕ) (r : Routine) (p : Context) → IsLeft a q n r p → CanPlay (header_of a.engine) r.code.items q n (begin_of a q p)
 can_begin a q n r p h =
     let f : Frame = frame_of a in
     let t : Stand = stand_of a in
@@ -123,11 +123,11 @@ can_play a q n r p code memory h ec em =
 
 -- What the phase's move leaves of the processors
 
-kept : {Y : Type 0} (f : Context → Y) (b : Bool) (ps : List Context) → ((p : Context) → f (rewound p) ≡ f p) → map f (cond b ps (map rewound ps)) ≡ map f ps
+pub kept : {Y : Type 0} (f : Context → Y) (b : Bool) (ps : List Context) → ((p : Context) → f (rewound p) ≡ f p) → map f (cond b ps (map rewound ps)) ≡ map f ps
 kept f true ps same = refl
 kept f false ps same = map_map f rewound ps same
 
-cursors_kept : (b : Bool) (ps : List Context) → cursors_of (cond b ps (map rewound ps)) ≡ cond b (cursors_of ps) (replicate (length ps) first_position)
+pub cursors_kept : (b : Bool) (ps : List Context) → cursors_of (cond b ps (map rewound ps)) ≡ cond b (cursors_of ps) (replicate (length ps) first_position)
 cursors_kept true ps = refl
 cursors_kept false ps = map_all (λ (p : Context). p.place) rewound ps first_position (λ p. refl)
 

@@ -13,5 +13,6 @@ pub mod Plays
 pub mod Played
 pub mod Unfinished
 pub mod Running
+pub mod Skipped
 pub mod View
 pub mod Translated

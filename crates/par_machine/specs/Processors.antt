@@ -1,9 +1,13 @@
 -- Processors, and what several of them have.
-use Rattle.std.specs.Prelude.{ℕ, List, length, map, replicate}
+use Rattle.std.specs.Prelude.{ℕ, List, Option, Some, None, length, map, replicate, slice_get}
 use Rattle.icode.specs.declared.action.Counts.{Counts}
 use Rattle.icode.specs.Machine.{no_counts}
+use Rattle.icode.specs.Plain.{plain_op}
 use Rattle.par_machine.specs.Context.{Context}
-use Rattle.par_machine.specs.Position.{Position, first_position}
+use Rattle.par_machine.specs.declared.cursor.Instruction.{Instruction}
+use Rattle.par_machine.specs.declared.cursor.Instruction.TheVariants.{Act, Again}
+use Rattle.par_machine.specs.OnRegisters.{counted_op}
+use Rattle.par_machine.specs.Position.{Position, first_position, next_position}
 
 -- at the beginning, with so many words of registers
 abbrev pub fresh : ℕ → Context
@@ -16,6 +20,26 @@ as_new p = fresh (length p.registers)
 -- at the beginning of the code
 abbrev pub rewound : Context → Context
 rewound p = record { place = first_position; registers = p.registers; counts = p.counts }
+
+-- an action stands there, not the end of a loop
+abbrev pub IsAct : Option Instruction → Type 0
+IsAct None = ⊥
+IsAct (Some (Act op depth)) = Unit {0}
+IsAct (Some (Again start last depth)) = ⊥
+
+abbrev pub counted_at : ℕ → Option Instruction → Counts → Counts
+counted_at lanes None c = c
+counted_at lanes (Some (Act op depth)) c = counted_op lanes (plain_op op) c
+counted_at lanes (Some (Again start last depth)) c = c
+
+-- behind the action at its place, which is counted and changes nothing
+abbrev pub passed_over : ℕ → List Instruction → Context → Context
+passed_over lanes code p =
+    record {
+      place = next_position code p.place;
+      registers = p.registers;
+      counts = counted_at lanes (slice_get code p.place.at) p.counts;
+    }
 
 abbrev pub registers_of : List Context → List (List ℕ)
 registers_of ps = map (λ (p : Context). p.registers) ps

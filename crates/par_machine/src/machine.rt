@@ -5,6 +5,7 @@ ghost use Rattle.std.specs.List.{find};
 ghost use Rattle.icode.specs.Machine.{acts, next_action, turn, run, answer, completion, finished, start, counts_so_far, padded};
 ghost use Rattle.icode.specs.Program.{code_of, Fits};
 ghost use Rattle.request_text.specs.Turns.{named, turns_of};
+ghost use Rattle.par_machine.specs.Skipped.{skipped};
 ghost use Rattle.par_machine.specs.Unfinished.{IsUnfinished, left_of};
 
 use crate::engine::Engine;
@@ -157,6 +158,27 @@ impl Machine {
         if self.left(proc) != 0 {
             self.advance(proc, 1);
         }
+    }
+
+    /// The turn of a processor whose action somebody else does: only memory and registers stay as they were.
+    pub fn skip(&mut self, proc: u64)
+        requires proc { proc < self.old.code.procs }
+        requires left { slice_index self.old.state.done proc
+            < length (acts self.old.code self.old.state.phase proc) }
+        ensures state { self.new.state ≡ skipped self.old.code self.old.state proc }
+        ensures code { self.new.code ≡ self.old.code }
+    {
+        let routine = &self.phases[self.phase as usize];
+        let processor = &mut self.processors[proc as usize];
+        processor.skip(self.engine.shape.lanes, &routine.code);
+        self.done[proc as usize] += 1;
+        self.phase = settle(
+            &self.phases,
+            self.phase,
+            &mut self.done,
+            &mut self.processors,
+            proc,
+        );
     }
 
     /// Whether all phases are done.

@@ -1,11 +1,12 @@
 // A processor of the machine.
 
-ghost use Rattle.std.specs.Prelude.{◌≡◌, map, IfOk, All};
+ghost use Rattle.std.specs.Prelude.{◌≡◌, map, IfOk, All, slice_get};
 ghost use Rattle.par_machine.specs.Hand.{action_of_step, Runs};
 ghost use Rattle.par_machine.specs.Header.{header_of};
 ghost use Rattle.par_machine.specs.Instruction.{IsClosed, IsWithin};
 ghost use Rattle.par_machine.specs.Played.{CanPlay, playing, played, step_here};
-ghost use Rattle.par_machine.specs.Processors.{fresh, as_new, rewound};
+ghost use Rattle.par_machine.specs.Performed.{HasRoom};
+ghost use Rattle.par_machine.specs.Processors.{fresh, as_new, rewound, IsAct, passed_over};
 
 use crate::action::action_of;
 use crate::cursor::{Instruction, OPEN_LOOPS, rest};
@@ -143,6 +144,20 @@ impl Processor {
         }
         self.at = at;
         self.counts = counts;
+    }
+
+    /// Passes over the action at its place: it is counted, and changes nothing.
+    pub(crate) fn skip(&mut self, lanes: u64, code: &[Instruction])
+        requires closed { All IsClosed code.now }
+        requires act { IsAct (slice_get code.now self.old.place.at) }
+        requires room { HasRoom lanes self.old.counts }
+        ensures { self.new ≡ passed_over lanes code.now self.old }
+    {
+        match &code[self.at as usize] {
+            Instruction::Act { op, .. } => self.counts = counted(op, lanes, self.counts),
+            Instruction::Again { .. } => unreachable!(),
+        }
+        self.at = rest(code, self.at + 1, &mut self.values);
     }
 }
 

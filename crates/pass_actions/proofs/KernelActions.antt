@@ -1,5 +1,5 @@
 -- Each action of a kernel is an operation, and its factors are residues.
-use Rattle.std.proofs.Common.{◌≡◌, ℕ, zero, suc, ◌+◌, ◌-◌, ◌*◌, ◌%◌, ◌<◌, ◌≤◌, Bool, true, false, arith, refl, ap, ◌∙◌, List, [], ◌∷◌, ◌++◌, length, map, subst, mod-lt, if◌then◌else◌, replicate}
+use Rattle.std.proofs.Common.{◌≡◌, ℕ, zero, suc, ◌+◌, ◌-◌, ◌*◌, ◌%◌, ◌<◌, ◌≤◌, Bool, true, false, arith, refl, List, [], ◌∷◌, ◌++◌, length, map, subst, mod-lt, if◌then◌else◌, replicate}
 use Rattle.std.specs.Prelude.{◌==◌, bit_and, count_ones, All}
 use Rattle.std.specs.List.{range_with_len}
 use Rattle.std.proofs.lemmas.List.Elements.{All-nil, All-cons, All-append, All-replicate}

@@ -1,4 +1,4 @@
-mod Writing
+pub mod Writing
 mod Numbers
 pub mod Variables
 pub mod PlainSteps

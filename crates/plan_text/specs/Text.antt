@@ -20,7 +20,7 @@ tree_text (node rule a b) = rule_word rule ++ (tree_text a ++ (codes "," ++ (tre
 abbrev pub phases_of : Request → ℕ
 phases_of c = if nat_le c.procs 1 then 1 else 2
 
--- the tree, its cost, how many phases there are, and the operations of each processor
+-- the tree, its cost, how many phases there are, and the share of each processor in the cost
 abbrev pub plan_text : Request → Breakdown → List ℕ
 plan_text c t =
     codes "tree " ++ (tree_text t

@@ -59,7 +59,7 @@ pub fn write_tree(out: &mut Vec<u8>, tree: &Tree) -> Result<(), NoMemory>
     }
 }
 
-/// The four lines of a plan: its tree, its cost, the phases of its program, and the operations of each processor.
+/// The four lines of a plan: its tree, its cost, the phases of its program, and the share of each processor in the cost.
 pub fn print_plan(
     alloc: Global,
     request: &Request,

@@ -1,12 +1,13 @@
 -- What the emission of nests and passes asks for.
-use Rattle.std.specs.Prelude.{◌≡◌, ℕ, ◌^◌, ◌<◌, ◌≤◌, List, [], ◌∷◌, length, All, Option, Some}
+use Rattle.std.specs.Prelude.{◌≡◌, ℕ, ◌*◌, ◌^◌, ◌<◌, ◌≤◌, List, [], ◌∷◌, length, All, Option, Some, None}
 use Rattle.pass_actions.specs.Acts.{nest_registers}
 use Rattle.pass_actions.specs.Laws.{CanRunNest}
 use Rattle.pass_actions.specs.Machine.{PlainMachine}
 use Rattle.pass_programs.specs.Conditions.{CanWrite, CanWriteNest}
 use Rattle.passes.specs.Merged.{PlainMerged}
-use Rattle.passes.specs.Nest.{PlainMultiplier, PlainNest}
+use Rattle.passes.specs.Nest.{PlainFactors, values, twiddles, spread, PlainMultiplier, PlainNest, factor_count}
 use Rattle.perm_algebra.specs.Affine.{Sum}
+use Rattle.tensor_paths.specs.Path.{size_under}
 
 -- a place for each of n registers, which can be written
 pub record HasPlaces (n : ℕ) (sums : List Sum) : Type 0 where
@@ -16,23 +17,29 @@ pub record HasPlaces (n : ℕ) (sums : List Sum) : Type 0 where
 -- the places where the first n registers go, and those of their factors
 pub record CanStore (n : ℕ) (z : PlainNest) : Type 0 where
   pub scatters : HasPlaces n z.scatters
-  pub factors : (d : PlainMultiplier) → z.multiplier ≡ Some d → HasPlaces n d.places
+  pub multiplies : (d : PlainMultiplier) → z.multiplier ≡ Some d → HasPlaces n d.places
+
+-- the entries of a diagonal can be listed: there are some, and their numbers are words
+abbrev pub CanList : PlainFactors → Type 0
+CanList (values entries) = Unit {0}
+CanList (twiddles r s root) = (0 < s) × (r * s < 2 ^ 32)
+CanList (spread path factors) = CanList factors × (0 < size_under path (factor_count factors)) × (size_under path (factor_count factors) < 2 ^ 32)
+
+abbrev pub HasFactors : Option PlainMultiplier → Type 0
+HasFactors None = Unit {0}
+HasFactors (Some d) = CanList d.factors
 
 -- a nest that can be run and written, in registers of few numbers
 pub record CanEmit (h : PlainMachine) (z : PlainNest) : Type 0 where
   pub modulus : 2 ≤ h.modulus
-  pub lanes : h.lanes ≤ 16
+  pub lanes : (1 ≤ h.lanes) × (h.lanes ≤ 16)
   pub runs : CanRunNest h z
   pub writes : CanWriteNest h z
   pub few : nest_registers h z z.work < 2 ^ 20
 
-abbrev pub CanEmitPass : PlainMachine → List PlainNest → Type 0
-CanEmitPass h [] = Unit {0}
-CanEmitPass h (z ∷ zs) = CanEmit h z × CanEmitPass h zs
-
 abbrev pub CanEmitAll : PlainMachine → List (List PlainNest) → Type 0
 CanEmitAll h [] = Unit {0}
-CanEmitAll h (zs ∷ ps) = CanEmitPass h zs × CanEmitAll h ps
+CanEmitAll h (zs ∷ ps) = All (CanEmit h) zs × CanEmitAll h ps
 
 abbrev pub CanEmitPhases : PlainMachine → List (List (List PlainNest)) → Type 0
 CanEmitPhases h [] = Unit {0}

@@ -4,8 +4,9 @@ ghost use Rattle.index_fn.specs.Mapping.{at};
 ghost use Rattle.matrix_meaning.specs.Laws.{twiddle};
 ghost use Rattle.operators.specs.Sum.{list_below};
 ghost use Rattle.pass_programs.specs.Statements.{diagonal_of};
-ghost use Rattle.passes.specs.Nest.{factor_count, inner_of};
+ghost use Rattle.passes.specs.Nest.{inner_of};
 ghost use Rattle.passes.specs.Views.{plain_factors};
+ghost use Rattle.program_emit.specs.Conditions.{CanList};
 ghost use Rattle.tensor_paths.specs.Path.{size_under};
 
 use memory::NoMemory;
@@ -80,8 +81,7 @@ pub(crate) fn diagonal(
     modulus: &Modulus,
     factors: &Factors,
 ) -> Result<Vec<u64>, NoMemory>
-    requires some { 0 < factor_count (plain_factors factors.now) }
-    requires small { factor_count (plain_factors factors.now) < 2 ^ 32 }
+    requires { CanList (plain_factors factors.now) }
     ensures { IfOk result (λ y. y.items ≡ diagonal_of modulus.now (plain_factors factors.now)) }
 {
     match factors {

@@ -9,7 +9,7 @@ use ring_mod::Modulus;
 
 /// A machine: so many words in an array, residues of this modulus, so many processors, words of a line and lanes of a
 /// register.
-#[derive(Clone, Copy)]
+#[derive(Drop)]
 pub(crate) struct Host {
     pub size: u64,
     pub modulus: Modulus,
@@ -19,8 +19,8 @@ pub(crate) struct Host {
 }
 
 /// What the variables of a nest's places stand for.
-#[derive(Clone, Copy)]
-pub(crate) struct Frame {
+#[derive(Clone, Copy, Debug)]
+pub struct Frame {
     /// Whether several processors share the nest: then variable 0 is the processor's.
     pub shared: bool,
     /// The variable of the outermost loop.
@@ -35,8 +35,8 @@ fn one_if_several(count: u64) -> u64
 }
 
 // How many variables the lanes have: a tile has its items on the lanes, other work a copy on each.
-fn lane_variables(host: Host, work: &Work) -> u64
-    ensures value { result ≡ machine.lane_variables (plain_host host) (plain_work work.now) }
+fn lane_variables(host: &Host, work: &Work) -> u64
+    ensures value { result ≡ machine.lane_variables (plain_host host.now) (plain_work work.now) }
     ensures limit { result ≤ 1 }
 {
     match work {
@@ -46,8 +46,8 @@ fn lane_variables(host: Host, work: &Work) -> u64
 }
 
 /// The frame of a nest that does this work.
-pub(crate) fn frame_of(host: Host, work: &Work) -> Frame
-    ensures { plain_frame result ≡ machine.frame_of (plain_host host) (plain_work work.now) }
+pub(crate) fn frame_of(host: &Host, work: &Work) -> Frame
+    ensures { plain_frame result ≡ machine.frame_of (plain_host host.now) (plain_work work.now) }
 {
     Frame {
         shared: host.procs != 1,

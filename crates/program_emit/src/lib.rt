@@ -3,6 +3,7 @@
 
 mod copy_statements;
 mod emit;
+mod factors;
 mod host;
 mod inputs;
 mod kernel_statements;
@@ -19,3 +20,5 @@ mod tile_statements;
 mod work;
 
 pub use emit::emit_on;
+pub use host::Frame;
+pub use places::place_expr;

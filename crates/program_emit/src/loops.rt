@@ -8,7 +8,11 @@ use memory::NoMemory;
 use std::alloc::Global;
 
 /// The body in loops of these counts, the first the outermost.
-pub(crate) fn in_loops(alloc: Global, counts: &[u64], body: Vec<Stmt>) -> Result<Vec<Stmt>, NoMemory>
+pub(crate) fn in_loops(
+    alloc: Global,
+    counts: &[u64],
+    body: Vec<Stmt>,
+) -> Result<Vec<Stmt>, NoMemory>
     ensures { IfOk result (λ y. plain_body y.items ≡ nested counts.now (plain_body body.items)) }
 {
     let mut inner = body;

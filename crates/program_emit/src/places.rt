@@ -17,7 +17,7 @@ use std::alloc::Global;
 /// processor, the variables of the loops by rising depth, each with its parts added up, and then the remainders and the
 /// quotients. The lane is left out, so that the place is that of the first lane.
 #[cycle(place)]
-pub(crate) fn place_expr(
+pub fn place_expr(
     alloc: Global,
     frame: Frame,
     sum: &Affine,
@@ -208,4 +208,3 @@ fn constant_of(sum: &Affine) -> u64
         Affine::Quotient(_, _, _, rest) => constant_of(rest),
     }
 }
-

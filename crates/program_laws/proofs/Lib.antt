@@ -11,7 +11,7 @@ mod Tables
 mod Registers
 mod Fits
 mod Parts
-mod Performs
+pub mod Performs
 mod Plain
 mod Example
 mod Found

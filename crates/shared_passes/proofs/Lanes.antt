@@ -4,7 +4,7 @@ use Rattle.std.specs.Prelude.{Option, Some, None}
 use Rattle.std.proofs.Math.Nat.{zero-mul}
 use Rattle.index_fn.specs.Mapping.{Mapping, at}
 use Rattle.matrix_meaning.specs.declared.Request.{Request}
-use Rattle.loop_merge.specs.Listed.{item_of, values_of}
+use Rattle.loop_merge.specs.Items.{item_of, values_of}
 use Rattle.loop_merge.specs.Merge.{PlainDiagonal, PlainPass, Merging, through, new_pass, scattered, multiplied, merge_term}
 use Rattle.sigma_lower.specs.Term.{gath, scat, diag, nest}
 use Rattle.sigma_lower.specs.Work.{PlainWork, work_size}

@@ -2,7 +2,7 @@
 use Rattle.std.proofs.Common.{◌≡◌, ℕ, ◌+◌, ◌*◌, ◌<◌, Bool, true, false, arith, refl, sym, ap, ap₂, ◌∙◌, List, [], ◌∷◌, ◌++◌, if◌then◌else◌, subst}
 use Rattle.std.specs.Prelude.{◌==◌}
 use Rattle.matrix_meaning.specs.declared.Request.{Request}
-use Rattle.loop_merge.specs.Listed.{if_several, item_of, values_of}
+use Rattle.loop_merge.specs.Items.{if_several, item_of, values_of}
 use Rattle.shared_passes.specs.Shared.{framed, HasLanes}
 use Rattle.shared_passes.proofs.Vectors.{is-one}
 use Rattle.sigma_lower.specs.Work.{PlainWork, transforming, tiling, work_size}

@@ -2,8 +2,8 @@
 use Rattle.std.specs.Prelude.{◌≡◌, ◌≢◌, ℕ, ◌+◌, ◌*◌, ◌/◌, ◌<◌, List, [], ◌∷◌, slice_index, Some}
 use Rattle.matrix_meaning.specs.declared.Request.{Request}
 use Rattle.matrix_meaning.specs.Valid.{IsValid}
-use Rattle.loop_merge.specs.Listed.{vectors_of, item_of, values_of}
-use Rattle.loop_merge.specs.ListedLaw.{diagonal_place}
+use Rattle.loop_merge.specs.Items.{vectors_of, item_of, values_of}
+use Rattle.loop_merge.specs.Merge.{diagonal_place}
 use Rattle.loop_merge.specs.Merge.{PlainPass, PlainDiagonal, gather_place, scatter_place, merged_of, merged_phases}
 use Rattle.sigma_lower.specs.Work.{PlainWork, transforming, tiling, work_size}
 use Rattle.smp_rewrite.specs.Smp.{within}

@@ -34,6 +34,8 @@ run --schedule=turns:0,0; dft 4 mod 10 root 9 unroll 2 budget 32/1 2 3 4 4 3 2 1
 sample; dft 2 mod 10 root 9/x; 0; sum 5/operations 2/loads 2/stores 2/; -
 sample --seed 18446744073709551615 --schedule rr:3; dft 6 mod 7 root 3; 0; sum 3/operations 26/loads 6/stores 6/; -
 sample; wht 1024 mod 1024/; 0; sum 512/operations 10240/loads 8192/stores 8192/; -
+sample; dft 6 mod 7 root 3 weight 5/; 0; sum 6/operations 58/loads 6/stores 6/; -
+run; dft 4 mod 17 root 4 weight 1000/1 2 3 4/; 0; 10 7 15 6/; -
 ";
 
 const PLANS: &str = "\
@@ -47,6 +49,11 @@ plan; dft 16 mod 17 root 3/; 0; tree ct(ct(leaf(2),leaf(2)),ct(leaf(2),leaf(2)))
 plan; dft 16 mod 17 root 3 unroll 16/; 0; tree ct(leaf(2),ct(leaf(2),ct(leaf(2),leaf(2))))/cost 81/phases 1/each 81/; -
 plan; dft 65536 mod 65537 root 3/; 0; tree ct(ct(leaf(2),leaf(2)),ct(ct(leaf(2),leaf(2)),ct(ct(leaf(2),ct(leaf(2),leaf(2))),ct(ct(leaf(2),ct(leaf(2),leaf(2))),ct(ct(leaf(2),ct(leaf(2),leaf(2))),ct(leaf(2),ct(leaf(2),leaf(2))))))))/cost 1572864/phases 1/each 1572864/; -
 plan; dft 4 mod 17 root 4/1 2 3 4/; 0; tree ct(leaf(2),leaf(2))/cost 9/phases 1/each 9/; -
+plan; dft 4 mod 17 root 4 weight 5/; 0; tree ct(leaf(2),leaf(2))/cost 13/phases 1/each 13/; -
+plan; dft 6 mod 7 root 3 weight 5/; 0; tree gt(leaf(2),leaf(3))/cost 58/phases 1/each 58/; -
+plan; dft 4 mod 10 root 9 weight 5/; 0; tree ct(leaf(2),leaf(2))/cost 9/phases 1/each 9/; -
+plan; dft 16 mod 17 root 2 unroll 16/; 0; tree ct(leaf(2),ct(leaf(2),ct(leaf(2),leaf(2))))/cost 81/phases 1/each 81/; -
+plan; dft 16 mod 17 root 2 unroll 16 weight 2/; 0; tree ct(ct(leaf(2),leaf(2)),ct(leaf(2),leaf(2)))/cost 89/phases 1/each 89/; -
 ";
 
 const TEXTS: &str = "\
@@ -54,7 +61,7 @@ trace; dft 2 mod 15 root 4/1 1/; 0; program size 2 mod 15 procs 1 line 1 lanes 1
 trace --schedule turns:0,0,0,0,0,0,0,0; dft 2 mod 15 root 4/1 1/; 0; program size 2 mod 15 procs 1 line 1 lanes 1 regs 5/phase/ld r0 X[0]/ld r1 X[1]/add r2 r0 r1/mul r3 r1 4/add r4 r0 r3/st Y[0] r2/st Y[1] r4/end/0 0 ld r0 0/1 0 ld r1 1/2 0 add r2 r0 r1/3 0 mul r3 r1 4/4 0 add r4 r0 r3/5 0 st 2 r2/6 0 st 3 r4/7 0 done/2 5/; -
 trace; dft 2 mod 15 root 4; 0; program size 2 mod 15 procs 1 line 1 lanes 1 regs 5/phase/ld r0 X[0]/ld r1 X[1]/add r2 r0 r1/mul r3 r1 4/add r4 r0 r3/st Y[0] r2/st Y[1] r4/end/; -
 formula; dft 4 mod 17 root 4/1 2 3 4/; 0; TIMES(LEFT(DFT(2,16),2),TIMES(T(4,2,4),TIMES(RIGHT(2,DFT(2,16)),L(4,2))))/; -
-cert; dft 4 mod 17 root 4/1 2 3 4/; 0; {\"rows\":[[2,2,\"leaf\",0,0],[4,9,\"ct\",2,2]],\"size\":4,\"version\":1}/; -
+cert; dft 4 mod 17 root 4/1 2 3 4/; 0; {\"rows\":[[2,2,\"leaf\",0,0],[4,9,\"ct\",2,2]],\"size\":4,\"version\":2,\"weight\":1}/; -
 code --; dft 4 mod 17 root 4/1 2 3 4/; 0; program size 4 mod 17 procs 1 line 1 lanes 1 regs 13/phase/ld r0 X[0]/ld r1 X[1]/ld r2 X[2]/ld r3 X[3]/add r4 r0 r2/sub r5 r0 r2/add r6 r1 r3/sub r7 r1 r3/mul r8 r7 4/add r9 r4 r6/sub r10 r4 r6/add r11 r5 r8/sub r12 r5 r8/st Y[0] r9/st Y[1] r11/st Y[2] r10/st Y[3] r12/end/; -
 code; dft 9 mod 19 root 4 unroll 2/; 0; program size 9 mod 19 procs 1 line 1 lanes 1 regs 4/table 0 values 1 7 11/table 1 values 1 1 1 1 4 16 1 16 9/phase/for v0 3/for v1 3/zero r0/for v2 3/ld r1 X[0+v0*1+v2*3]/mul r2 r1 t0[0+(0+v1*v2*1)%3*1] step 0/add r0 r0 r2/end/mul r3 r0 t1[0+v0*3+v1*1] step 0/st A[0+v0*3+v1*1] r3/end/end/for v0 3/for v1 3/zero r0/for v2 3/ld r1 A[0+v0*1+v2*3]/mul r2 r1 t0[0+(0+v1*v2*1)%3*1] step 0/add r0 r0 r2/end/st Y[0+v0*1+v1*3] r0/end/end/end/; -
 ";
@@ -74,9 +81,13 @@ check; dft 4 mod 17 root 4/{\"rows\":[[2,2,\"leaf\",0,0],[4,9,\"ct\",2,2]],\"siz
 check; dft 4 mod 17 root 4/{\"rows\":[[2,2,\"leaf\",0,0],[4,9,\"ct\",1,4]],\"size\":4,\"version\":1}; 14; -; certificate unreadable
 check; dft 4 mod 17 root 4/{\"rows\":[[2,2,\"leaf\",0,0],[4,9,\"split\",2,2]],\"size\":4,\"version\":1}; 14; -; certificate unreadable
 check; dft 4 mod 17 root 4/{\"rows\":[[2, 2, \"leaf\", 0, 0], [4, 9, \"ct\", 2, 2]], \"size\":4, \"version\":1}; 0; least 9/; -
-cert; wht 4 mod 5/; 0; {\"rows\":[[2,2,\"leaf\",0,0],[4,8,\"split\",2,2]],\"size\":4,\"version\":1}/; -
+check; dft 4 mod 17 root 4 weight 5/{\"rows\":[[2,2,\"leaf\",0,0],[4,9,\"ct\",2,2]],\"size\":4,\"version\":1}/; 14; -; certificate unreadable
+cert; dft 4 mod 17 root 4 weight 5/; 0; {\"rows\":[[2,2,\"leaf\",0,0],[4,13,\"ct\",2,2]],\"size\":4,\"version\":2,\"weight\":5}/; -
+check; dft 4 mod 17 root 4 weight 5/{\"rows\":[[2,2,\"leaf\",0,0],[4,13,\"ct\",2,2]],\"size\":4,\"version\":2,\"weight\":5}/; 0; least 13/; -
+check; dft 4 mod 17 root 4/{\"rows\":[[2,2,\"leaf\",0,0],[4,13,\"ct\",2,2]],\"size\":4,\"version\":2,\"weight\":5}/; 14; -; certificate unreadable
+cert; wht 4 mod 5/; 0; {\"rows\":[[2,2,\"leaf\",0,0],[4,8,\"split\",2,2]],\"size\":4,\"version\":2,\"weight\":1}/; -
 check; wht 4 mod 5/{\"rows\":[[2,2,\"leaf\",0,0],[4,8,\"split\",2,2]],\"size\":4,\"version\":1}/; 0; least 8/; -
-cert; wht 4 mod 5 lanes 2/; 0; {\"rows\":[[2,2,\"leaf\",0,0],[4,8,\"split\",2,2]],\"size\":4,\"version\":1}/; -
+cert; wht 4 mod 5 lanes 2/; 0; {\"rows\":[[2,2,\"leaf\",0,0],[4,8,\"split\",2,2]],\"size\":4,\"version\":2,\"weight\":1}/; -
 check; wht 4 mod 5 lanes 2/{\"rows\":[[2,2,\"leaf\",0,0],[4,8,\"split\",2,2]],\"size\":4,\"version\":1}/; 0; least 8/; -
 check; wht 4 mod 5/{\"rows\":[[2,2,\"leaf\",0,0],[4,9,\"split\",2,2]],\"size\":4,\"version\":1}; 14; -; certificate row 4 gives 9, found 8
 check; dft 6 mod 7 root 3/{\"rows\":[[2,2,\"leaf\",0,0],[3,10,\"leaf\",0,0],[6,26,\"gt\",2,3]],\"size\":6,\"version\":1}; 0; least 26/; -
@@ -94,6 +105,10 @@ run; dft 2 mod 4611686018427387904 root 1/; 4; -; mod 4611686018427387904 is out
 run; wht 6 mod 5/; 4; -; wht size 6 is not a power of two
 run; dft 4 mod 17 root 3/1 2 3 4/; 6; -; root to the size is 13, not 1
 plan; dft 4 mod 17 root 4 budget 8/; 8; -; least cost 9 is over budget 8
+plan; dft 11 mod 23 root 2 budget 483 weight 3/; 8; -; least cost 484 is over budget 483
+run; dft 4 mod 17 root 4 weight 0/; 4; -; weight 0 is out of range
+run; dft 4 mod 17 root 4 weight 1001/; 4; -; weight 1001 is out of range
+run; dft 4 mod 17 root 4 weight 5 budget 9/; 3; -; syntax at byte 28
 run; dft 4 mod 17 root 4/1 2 x 4/; 9; -; token 3 is not a number
 run; dft 4 mod 17 root 4/1,2; 9; -; token 1 is not a number
 run; dft 4 mod 17 root 4/18446744073709551616; 9; -; token 1 is not a number
@@ -135,7 +150,7 @@ plan; wht 4 mod 5 lanes 2/; 0; tree split(leaf(2),leaf(2))/cost 8/phases 1/each 
 plan; dft 16 mod 17 root 3 procs 2 line 2/; 0; tree ct(ct(leaf(2),leaf(2)),ct(leaf(2),leaf(2)))/cost 88/phases 2/each 44/; -
 plan; dft 16 mod 17 root 3 procs 2 line 2 lanes 2/; 0; tree ct(ct(leaf(2),leaf(2)),ct(leaf(2),leaf(2)))/cost 88/phases 2/each 44/; -
 plan; wht 256 mod 17 procs 4 line 4 lanes 4/; 0; tree split(split(leaf(2),split(leaf(2),split(leaf(2),leaf(2)))),split(leaf(2),split(leaf(2),split(leaf(2),leaf(2)))))/cost 2048/phases 2/each 512/; -
-cert; dft 4 mod 17 root 4 procs 2 line 1/; 0; {\"rows\":[[2,2,\"leaf\",0,0],[4,12,\"ct\",2,2]],\"size\":4,\"version\":1}/; -
+cert; dft 4 mod 17 root 4 procs 2 line 1/; 0; {\"rows\":[[2,2,\"leaf\",0,0],[4,12,\"ct\",2,2]],\"size\":4,\"version\":2,\"weight\":1}/; -
 formula; dft 4 mod 17 root 4 procs 2 line 1/; 0; TIMES(LEFT(DFT(2,16),2),TIMES(T(4,2,4),TIMES(RIGHT(2,DFT(2,16)),L(4,2))))/; -
 trace --schedule turns:1,1,1,1,1,1,1,1,1; dft 4 mod 17 root 4 procs 2 line 1/1 2 3 4/; 0; program size 4 mod 17 procs 2 line 1 lanes 1 regs 6/table 0 values 1 1 1 4/phase/ld r0 X[0+q*1]/ld r1 X[2+q*1]/add r2 r0 r1/sub r3 r0 r1/mul r4 r2 t0[0+q*2] step 0/st A[0+q*2] r4/mul r5 r3 t0[1+q*2] step 0/st A[1+q*2] r5/end/phase/ld r0 A[0+q*1]/ld r1 A[2+q*1]/add r2 r0 r1/sub r3 r0 r1/st Y[0+q*1] r2/st Y[2+q*1] r3/end/0 1 ld r0 1/1 1 ld r1 3/2 1 add r2 r0 r1/3 1 sub r3 r0 r1/4 1 mul r4 r2 1/5 1 st 10 r4/6 1 mul r5 r3 4/7 1 st 11 r5/8 1 waits/9 0 ld r0 0/10 0 ld r1 2/11 0 add r2 r0 r1/12 0 sub r3 r0 r1/13 0 mul r4 r2 1/14 0 st 8 r4/15 0 mul r5 r3 1/16 0 st 9 r5/17 0 ld r0 8/18 0 ld r1 10/19 0 add r2 r0 r1/20 0 sub r3 r0 r1/21 0 st 4 r2/22 0 st 6 r3/23 1 ld r0 9/24 1 ld r1 11/25 1 add r2 r0 r1/26 1 sub r3 r0 r1/27 1 st 5 r2/28 1 st 7 r3/10 7 15 6/; -
 trace; dft 4 mod 17 root 4 lanes 2/1 2 3 4/; 0; program size 4 mod 17 procs 1 line 1 lanes 2 regs 6/table 0 values 1 1 1 4/phase/ld r0 X[0]/ld r1 X[2]/add r2 r0 r1/sub r3 r0 r1/st A[0] r2/st A[2] r3/ld r0 A[0]/ld r1 A[2]/tile r2 r0/mul r4 r2 t0[0] step 1/st B[0] r4/mul r5 r3 t0[2] step 1/st B[2] r5/ld r0 B[0]/ld r1 B[2]/add r2 r0 r1/sub r3 r0 r1/st Y[0] r2/st Y[2] r3/end/0 0 ld r0 0/1 0 ld r1 2/2 0 add r2 r0 r1/3 0 sub r3 r0 r1/4 0 st 8 r2/5 0 st 10 r3/6 0 ld r0 8/7 0 ld r1 10/8 0 tile r2 r0/9 0 mul r4 r2 1,1/10 0 st 12 r4/11 0 mul r5 r3 1,4/12 0 st 14 r5/13 0 ld r0 12/14 0 ld r1 14/15 0 add r2 r0 r1/16 0 sub r3 r0 r1/17 0 st 4 r2/18 0 st 6 r3/10 7 15 6/; -

@@ -20,13 +20,15 @@ fn verdict(alloc: Global, c: &Ctx, text: &str) -> Result<String, Fail> {
 
 // A request, its certificate, and what is said of it. Costs are by hand and by the reference in reference/.
 const CERTIFICATES: &str = "\
-dft 4 mod 17 root 4|{\"rows\":[[2,2,\"leaf\",0,0],[4,9,\"ct\",2,2]],\"size\":4,\"version\":1}~|least 9
-dft 4 mod 17 root 4 procs 2|{\"rows\":[[2,2,\"leaf\",0,0],[4,12,\"ct\",2,2]],\"size\":4,\"version\":1}~|least 12
-dft 4 mod 17 root 4 lanes 2|{\"rows\":[[2,2,\"leaf\",0,0],[4,12,\"ct\",2,2]],\"size\":4,\"version\":1}~|least 12
-dft 1 mod 2 root 1|{\"rows\":[[1,0,\"leaf\",0,0]],\"size\":1,\"version\":1}~|least 0
-dft 6 mod 7 root 3|{\"rows\":[[2,2,\"leaf\",0,0],[3,10,\"leaf\",0,0],[6,26,\"gt\",2,3]],\"size\":6,\"version\":1}~|least 26
-wht 4 mod 5|{\"rows\":[[2,2,\"leaf\",0,0],[4,8,\"split\",2,2]],\"size\":4,\"version\":1}~|least 8
-wht 4 mod 5 lanes 2|{\"rows\":[[2,2,\"leaf\",0,0],[4,8,\"split\",2,2]],\"size\":4,\"version\":1}~|least 8
+dft 4 mod 17 root 4|{\"rows\":[[2,2,\"leaf\",0,0],[4,9,\"ct\",2,2]],\"size\":4,\"version\":2,\"weight\":1}~|least 9
+dft 4 mod 17 root 4 procs 2|{\"rows\":[[2,2,\"leaf\",0,0],[4,12,\"ct\",2,2]],\"size\":4,\"version\":2,\"weight\":1}~|least 12
+dft 4 mod 17 root 4 lanes 2|{\"rows\":[[2,2,\"leaf\",0,0],[4,12,\"ct\",2,2]],\"size\":4,\"version\":2,\"weight\":1}~|least 12
+dft 1 mod 2 root 1|{\"rows\":[[1,0,\"leaf\",0,0]],\"size\":1,\"version\":2,\"weight\":1}~|least 0
+dft 6 mod 7 root 3|{\"rows\":[[2,2,\"leaf\",0,0],[3,10,\"leaf\",0,0],[6,26,\"gt\",2,3]],\"size\":6,\"version\":2,\"weight\":1}~|least 26
+wht 4 mod 5|{\"rows\":[[2,2,\"leaf\",0,0],[4,8,\"split\",2,2]],\"size\":4,\"version\":2,\"weight\":1}~|least 8
+wht 4 mod 5 lanes 2|{\"rows\":[[2,2,\"leaf\",0,0],[4,8,\"split\",2,2]],\"size\":4,\"version\":2,\"weight\":1}~|least 8
+dft 4 mod 17 root 4 weight 5|{\"rows\":[[2,2,\"leaf\",0,0],[4,13,\"ct\",2,2]],\"size\":4,\"version\":2,\"weight\":5}~|least 13
+dft 6 mod 7 root 3 weight 5|{\"rows\":[[2,2,\"leaf\",0,0],[3,26,\"leaf\",0,0],[6,58,\"gt\",2,3]],\"size\":6,\"version\":2,\"weight\":5}~|least 58
 ";
 
 #[test]
@@ -77,7 +79,7 @@ const FOUR: &str = "\
 [2,2,\"leaf\",0,0],[4,9,\"ct\",2,2]|,\"size\":8|1|unread
 ";
 
-// A request, a text, and what is said of it. On two processors the root is no leaf.
+// A request, a text, and what is said of it. On two processors the root is no leaf. Version 1 is of weight 1.
 const TEXTS: &str = "\
 dft 4 mod 17 root 4||unread
 dft 4 mod 17 root 4|4|unread
@@ -97,6 +99,20 @@ dft 6 mod 7 root 3|{\"rows\":[[2,2,\"leaf\",0,0],[3,10,\"leaf\",0,0],[6,26,\"ct\
 wht 4 mod 5|{\"rows\":[[2,2,\"leaf\",0,0],[4,9,\"split\",2,2]],\"size\":4,\"version\":1}|wrong 4 9 8
 wht 4 mod 5|{\"rows\":[[2,2,\"leaf\",0,0],[4,8,\"ct\",2,2]],\"size\":4,\"version\":1}|unread
 wht 4 mod 5|{\"rows\":[[2,2,\"leaf\",0,0],[4,8,\"leaf\",0,0]],\"size\":4,\"version\":1}|unread
+dft 4 mod 17 root 4|{\"rows\":[[2,2,\"leaf\",0,0],[4,9,\"ct\",2,2]],\"size\":4,\"version\":2,\"weight\":1}|least 9
+dft 4 mod 17 root 4|{\"rows\":[[2,2,\"leaf\",0,0],[4,9,\"ct\",2,2]],\"size\":4,\"weight\":1,\"version\":2}|least 9
+dft 4 mod 17 root 4|{\"rows\":[[2,2,\"leaf\",0,0],[4,9,\"ct\",2,2]],\"size\":4,\"version\":2}|unread
+dft 4 mod 17 root 4|{\"rows\":[[2,2,\"leaf\",0,0],[4,9,\"ct\",2,2]],\"size\":4,\"version\":1,\"weight\":1}|unread
+dft 4 mod 17 root 4|{\"rows\":[[2,2,\"leaf\",0,0],[4,9,\"ct\",2,2]],\"size\":4,\"version\":2,\"weight\":5}|unread
+dft 4 mod 17 root 4|{\"rows\":[[2,2,\"leaf\",0,0],[4,9,\"ct\",2,2]],\"size\":4,\"version\":2,\"weight\":1,\"x\":0}|unread
+dft 4 mod 17 root 4|{\"rows\":[[2,2,\"leaf\",0,0],[4,9,\"ct\",2,2]],\"size\":4,\"version\":3,\"weight\":1}|unread
+dft 4 mod 17 root 4 weight 5|{\"rows\":[[2,2,\"leaf\",0,0],[4,9,\"ct\",2,2]],\"size\":4,\"version\":1}|unread
+dft 4 mod 17 root 4 weight 5|{\"rows\":[[2,2,\"leaf\",0,0],[4,13,\"ct\",2,2]],\"size\":4,\"version\":1}|unread
+dft 4 mod 17 root 4 weight 5|{\"rows\":[[2,2,\"leaf\",0,0],[4,13,\"ct\",2,2]],\"size\":4,\"version\":2,\"weight\":5}|least 13
+dft 4 mod 17 root 4 weight 5|{\"rows\":[[2,2,\"leaf\",0,0],[4,13,\"ct\",2,2]],\"size\":4,\"weight\":4,\"version\":2,\"weight\":5}|least 13
+dft 4 mod 17 root 4 weight 5|{\"rows\":[[2,2,\"leaf\",0,0],[4,13,\"ct\",2,2]],\"size\":4,\"version\":2,\"weight\":5.0}|unread
+dft 4 mod 17 root 4 weight 5|{\"rows\":[[2,2,\"leaf\",0,0],[4,9,\"ct\",2,2]],\"size\":4,\"version\":2,\"weight\":5}|wrong 4 9 13
+dft 4 mod 17 root 4 weight 5|{\"rows\":[[2,2,\"leaf\",0,0],[4,13,\"ct\",2,2]],\"size\":4,\"version\":2,\"weight\":1}|unread
 ";
 
 #[test]

@@ -3,7 +3,7 @@
 ghost use Rattle.std.specs.Prelude.{IsTrue};
 ghost use Rattle.matrix_meaning.specs.Valid.{IsBetween, HasShape, IsInRange, IsValid};
 
-use crate::rows::{number, numbers};
+use crate::rows::numbers;
 use matrix_meaning::{Kind, Request};
 use request_text::read_request;
 use ring_mod::Modulus;
@@ -55,14 +55,9 @@ pub(crate) fn is_valid(r: &Request) -> bool
     }
 }
 
-/// The request of a line, behind which a weight may stand: `dft 4 mod 17 root 4; weight 5`.
-pub(crate) fn request(text: &str) -> Result<Request, Fail> {
-    let (line, weight) = match text.split_once("; weight ") {
-        Some((line, weight)) => (line, number(weight)?),
-        None => (text, 1),
-    };
-    let request = read_request(line.as_bytes()).ok().ok_or("a request")?;
-    Ok(Request { weight, ..request })
+/// The request of a line.
+pub(crate) fn request(line: &str) -> Result<Request, Fail> {
+    Ok(read_request(line.as_bytes()).ok().ok_or("a request")?)
 }
 
 /// The context of the request, where it is valid.

@@ -5,8 +5,9 @@ ghost use Rattle.tree_model.specs.Breakdown.{breakdown_of};
 
 use crate::contexts::{context, tree_of};
 use crate::rows::halves;
-use loop_merge::{ListedPass, Merged, merge};
+use loop_merge::merge;
 use memory::NoMemory;
+use passes::{Merged, Nest};
 use sigma_lower::lower;
 use std::alloc::Global;
 use std::test::Fail;
@@ -34,16 +35,16 @@ fn merged_tree(alloc: Global, c: &Ctx, tree: &Tree) -> Result<Merged, NoMemory>
     merge(alloc, c, &formulas)
 }
 
-fn list_pass(alloc: Global, text: &mut String, pass: &ListedPass) -> Result<(), Fail> {
-    for sum in &pass.gathers {
+fn list_nest(alloc: Global, text: &mut String, nest: &Nest) -> Result<(), Fail> {
+    for sum in &nest.gathers {
         text.push_str(format!(in alloc; " ld {sum}")?.as_str())?;
     }
-    if let Some(multiplier) = &pass.multiplier {
+    if let Some(multiplier) = &nest.multiplier {
         for sum in &multiplier.places {
             text.push_str(format!(in alloc; " mul {sum}")?.as_str())?;
         }
     }
-    for sum in &pass.scatters {
+    for sum in &nest.scatters {
         text.push_str(format!(in alloc; " st {sum}")?.as_str())?;
     }
     Ok(())
@@ -53,7 +54,9 @@ fn listing(alloc: Global, merged: &Merged) -> Result<String, Fail> {
     let mut text = format!(in alloc; "{}", merged.phases.len())?;
     for phase in &merged.phases {
         for pass in phase {
-            list_pass(alloc, &mut text, pass)?;
+            for nest in pass {
+                list_nest(alloc, &mut text, nest)?;
+            }
         }
     }
     Ok(text)

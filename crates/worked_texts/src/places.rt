@@ -1,13 +1,12 @@
 // Places of statements from sums of loop variables, by hand.
 
 ghost use Rattle.std.specs.Prelude.{IfOk};
+ghost use Rattle.pass_programs.specs.Conditions.{CanWrite};
 ghost use Rattle.perm_algebra.specs.Views.{plain_sum};
-ghost use Rattle.place_code.specs.Laws.{CanWrite};
 
 use icode::program::{Expr, Part};
-use loop_merge::Frame;
 use perm_algebra::Affine;
-use place_code::place_expr;
+use program_emit::{Frame, place_expr};
 use std::alloc::Global;
 use std::test::Fail;
 

@@ -42,10 +42,13 @@ dft 16 mod 17 root 3 procs 2 line 2|ct(ct(leaf(2),leaf(2)),ct(leaf(2),leaf(2))) 
 dft 16 mod 17 root 3 procs 2 line 2 lanes 2|ct(ct(leaf(2),leaf(2)),ct(leaf(2),leaf(2))) 88 3 48 48
 dft 144 mod 31 root 30 procs 3 line 4 unroll 3|ct(gt(leaf(3),ct(leaf(2),leaf(2))),gt(leaf(3),ct(leaf(2),leaf(2)))) 1584 6 864 864
 wht 1024 mod 1024 procs 2 line 4 lanes 2|split(split(leaf(2),split(leaf(2),leaf(2))),split(leaf(2),split(leaf(2),split(leaf(2),split(leaf(2),split(leaf(2),split(leaf(2),leaf(2)))))))) 10240 8 8192 8192
-dft 4 mod 17 root 4; weight 5|ct(leaf(2),leaf(2)) 13 1 4 4
-dft 6 mod 7 root 3; weight 5|gt(leaf(2),leaf(3)) 58 1 6 6
-dft 4 mod 10 root 9; weight 5|ct(leaf(2),leaf(2)) 9 1 4 4
-dft 11 mod 23 root 2 budget 483; weight 3|484 over 483
+dft 4 mod 17 root 4 weight 5|ct(leaf(2),leaf(2)) 13 1 4 4
+dft 6 mod 7 root 3 weight 5|gt(leaf(2),leaf(3)) 58 1 6 6
+dft 4 mod 10 root 9 weight 5|ct(leaf(2),leaf(2)) 9 1 4 4
+dft 11 mod 23 root 2 budget 483 weight 3|484 over 483
+dft 16 mod 17 root 2 unroll 16|ct(leaf(2),ct(leaf(2),ct(leaf(2),leaf(2)))) 81 1 16 16
+dft 16 mod 17 root 2 unroll 16 weight 2|ct(ct(leaf(2),leaf(2)),ct(leaf(2),leaf(2))) 89 1 16 16
+dft 4 mod 17 root 4 procs 2 weight 1000|ct(leaf(2),leaf(2)) 4008 2 8 8
 ";
 
 fn described(alloc: Global, request: &Request) -> Result<String, Fail> {
@@ -166,7 +169,7 @@ fn variants(request: &Request) -> [Request; 10] {
         Request { unroll: 2, ..r },
         Request {
             unroll: 64,
-            weight: 7,
+            weight: 1000,
             ..r
         },
         Request { weight: 5, ..r },
@@ -213,7 +216,13 @@ fn small_requests(alloc: Global, size: u64) -> Result<String, Fail> {
     }
     let root = modulus.pow(38, 55440 / size);
     let mut lines = format!(in alloc; "dft {size} mod 55441 root {root}\n")?;
-    for rest in ["2 root 1", "15 root 1", "15 root 4", "10 root 9"] {
+    for rest in [
+        "2 root 1",
+        "15 root 1",
+        "15 root 4",
+        "10 root 9",
+        "17 root 2",
+    ] {
         lines.push_str(format!(in alloc; "dft {size} mod {rest}\n")?.as_str())?;
     }
     if size.is_power_of_two() {

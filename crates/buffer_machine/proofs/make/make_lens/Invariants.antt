@@ -1,4 +1,3 @@
-use Rattle.std.proofs.Common.{length, ◌≤◌}
 use Rattle.buffer_machine.proofs.Lens.{AreLens}
 use Rattle.buffer_machine.proofs.make.make_lens.Given as goal
 

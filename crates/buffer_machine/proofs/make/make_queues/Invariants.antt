@@ -1,5 +1,4 @@
 use Rattle.std.proofs.Common.{◌≡◌, ◌-◌, ◌≤◌, length, replicate, []}
-use Rattle.buffer_machine.specs.Backlog.{Backlog}
 use Rattle.buffer_machine.proofs.make.make_queues.Given as goal
 
 abbrev pub invariant-loop-alloc : goal.invariant-loop-alloc

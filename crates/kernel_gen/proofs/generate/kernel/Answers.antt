@@ -1,10 +1,8 @@
-use Rattle.std.proofs.Common.{ap, ◌∙◌, sym, subst}
-use Rattle.operators.specs.Sum.{list_below}
+use Rattle.std.proofs.Common.{sym, subst}
 use Rattle.tree_model.specs.Breakdown.{breakdown_of}
 use Rattle.kernel_gen.specs.Kernel.{node_kernel}
 use Rattle.kernel_gen.specs.Kernels.{TransformsNode, CostsNode, IsStraight}
 use Rattle.kernel_gen.specs.Making.{Made}
-use Rattle.kernel_gen.proofs.Parts.{kernel_written}
 use Rattle.kernel_gen.proofs.RequestNodes.{written_for, nodes_transform, nodes_cost, nodes_straight}
 use Rattle.kernel_gen.proofs.Sizes.{node_words}
 use Rattle.kernel_gen.proofs.generate.kernel.Goals as goal
@@ -12,17 +10,14 @@ use Rattle.kernel_gen.proofs.generate.kernel.Goals as goal
 pub returns-clause-code : goal.returns-clause-code
 returns-clause-code c =
     let r = c.request-request.result in
-    written_for c.args.c.now r (breakdown_of c.args.t.now) c.unwrap-modulus.result c.node_root-root.result c.size-inputs.result _
-    (kernel_written c.unwrap-modulus.result r.lanes r.kind (breakdown_of c.args.t.now) c.node_root-root.result
-    (record { lanes = r.lanes; inputs = c.size-inputs.result; actions = c.new-2.result }) c.put_tree.new.self c.deref.result.now c.in_ok-outputs.outputs.items c.next-regs.result
-    c.new-2.ensures.items c.size-inputs.ensures (c.deref.ensures.value ∙ c.in_ok-first.ensures.value ∙ ap (λ n. list_below n (λ k. k)) c.size-inputs.ensures) c.in_ok-outputs.ensures.code c.next-regs.ensures)
-    c.request-request.ensures.value (rw c.unwrap-modulus.ensures at c.new.ensures.value) c.node_root-root.ensures.value c.size-inputs.ensures
+    written_for c.args.c.now r (breakdown_of c.args.t.now) c.unwrap-modulus.result c.node_root-root.result c.size.result _ c.in_ok-made.ensures.code
+    c.request-request.ensures.value (rw c.unwrap-modulus.ensures at c.new.ensures.value) c.node_root-root.ensures.value c.size.ensures
 
-pub size-inputs-requires : goal.size-inputs-requires
-size-inputs-requires c = node_words c.args.c.now (breakdown_of c.args.t.now) c.request-request.ensures.valid c.requires.tree c.requires.divides
+pub size-requires : goal.size-requires
+size-requires c = node_words c.args.c.now (breakdown_of c.args.t.now) c.request-request.ensures.valid c.requires.tree c.requires.divides
 
-pub put_tree-requires-clause-words : goal.put_tree-requires-clause-words
-put_tree-requires-clause-words c = node_words c.args.c.now (breakdown_of c.args.t.now) c.request-request.ensures.valid c.requires.tree c.requires.divides
+pub tree_kernel-requires-clause-words : goal.tree_kernel-requires-clause-words
+tree_kernel-requires-clause-words c = node_words c.args.c.now (breakdown_of c.args.t.now) c.request-request.ensures.valid c.requires.tree c.requires.divides
 
 -- what holds of the node's code holds of the code that was written
 
@@ -39,5 +34,5 @@ returns-clause-cost c =
 pub returns-clause-straight : goal.returns-clause-straight
 returns-clause-straight c =
     let t = breakdown_of c.args.t.now in
-    subst (λ (made : Made). IsStraight c.args.c.now.lanes c.size-inputs.result made) (sym (returns-clause-code c))
-    (subst (λ inputs. IsStraight c.args.c.now.lanes inputs (node_kernel c.args.c.now t)) (sym c.size-inputs.ensures) (nodes_straight c.args.c.now t c.request-request.ensures.valid c.requires.tree c.requires.divides))
+    subst (λ (made : Made). IsStraight c.args.c.now.lanes c.in_ok-made.made.inputs made) (sym (returns-clause-code c))
+    (subst (λ inputs. IsStraight c.args.c.now.lanes inputs (node_kernel c.args.c.now t)) (sym c.in_ok-made.ensures.inputs) (nodes_straight c.args.c.now t c.request-request.ensures.valid c.requires.tree c.requires.divides))

@@ -1,4 +1,4 @@
-use Rattle.std.proofs.Common.{◌≡◌, ℕ, List, ◌<◌, ◌≤◌, ap, sym, subst, ◌∙◌, arith, length}
+use Rattle.std.proofs.Common.{ℕ, List, ◌<◌, ap, ◌∙◌, arith, length}
 use Rattle.icode.specs.Buffers.{drain}
 use Rattle.buffer_machine.specs.Running.{Running}
 use Rattle.buffer_machine.specs.Stand.{settled_stand}

@@ -1,4 +1,4 @@
-use Rattle.std.proofs.Common.{◌≡◌, ℕ, List, ap, ◌∙◌, []}
+use Rattle.std.proofs.Common.{ℕ, List, ap, ◌∙◌, []}
 use Rattle.buffer_machine.specs.declared.machine.BufMachine.TheInside.{Inside}
 use Rattle.buffer_machine.specs.Stand.{first_stand}
 use Rattle.buffer_machine.proofs.Whole.{IsMade, made}

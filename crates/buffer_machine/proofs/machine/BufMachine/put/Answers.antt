@@ -1,4 +1,4 @@
-use Rattle.std.proofs.Common.{◌≡◌, ℕ, List, ◌<◌, ap, sym, subst, ◌∙◌, arith, All, length}
+use Rattle.std.proofs.Common.{◌≡◌, ℕ, List, ◌<◌, ap, sym, subst, ◌∙◌, All, length}
 use Rattle.icode.specs.Buffers.{buffered_start}
 use Rattle.icode.proofs.Below.{below_from_all}
 use Rattle.buffer_machine.specs.Running.{Running}

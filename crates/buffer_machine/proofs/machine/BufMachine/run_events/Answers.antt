@@ -1,5 +1,4 @@
-use Rattle.std.proofs.Common.{◌≡◌, ◌+◌, arith, subst, sym, ap, ap₂, ◌∙◌, drop}
-use Rattle.icode.specs.declared.event.Event.{Event}
+use Rattle.std.proofs.Common.{◌+◌, arith, subst, sym, ap, ap₂, ◌∙◌, drop}
 use Rattle.icode.specs.Buffers.{Buffered, buffered_run}
 use Rattle.icode.specs.Machine.{Code}
 use Rattle.buffer_machine.specs.Listed.{HasNoStranger, events_of}

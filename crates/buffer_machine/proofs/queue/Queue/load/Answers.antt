@@ -1,4 +1,3 @@
-use Rattle.std.proofs.Common.{arith}
 use Rattle.icode.specs.Buffers.{overlaid}
 use Rattle.buffer_machine.proofs.Windows.{load_step}
 use Rattle.buffer_machine.proofs.queue.Queue.load.Goals as goal

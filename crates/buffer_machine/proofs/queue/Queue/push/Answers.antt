@@ -1,31 +1,32 @@
-use Rattle.std.proofs.Common.{◌≡◌, ℕ, ◌<◌, ◌≤◌, ◌+◌, ◌-◌, ◌*◌, List, ◌∷◌, ◌++◌, [], length, length-set, take, replicate, sym, ap, ap₂, ◌∙◌, arith, length-take-le}
+use Rattle.std.proofs.Common.{ℕ, ◌<◌, ◌≤◌, ◌+◌, ◌*◌, List, ◌∷◌, ◌++◌, [], length, length-set, replicate, sym, ap, ap₂, ◌∙◌, arith}
 use Rattle.std.proofs.lemmas.List.{with_items_is}
 use Rattle.icode.specs.Buffers.{Waiting}
-use Rattle.icode.specs.Machine.{with_words}
+use Rattle.icode.specs.Machine.{with_words, words_at}
+use Rattle.icode.proofs.Words.{length-words_at}
 use Rattle.buffer_machine.specs.Backlog.{Backlog}
-use Rattle.buffer_machine.proofs.Newest.{newest_push, take-same}
+use Rattle.buffer_machine.proofs.Newest.{newest_push}
 use Rattle.buffer_machine.proofs.Windows.{window-push, length-with_words}
 use Rattle.buffer_machine.proofs.queue.Queue.push.Goals as goal
 
 pub returns-clause-waiting : goal.returns-clause-waiting
 returns-clause-waiting c =
     let a = c.self.inside in
-    let values : List ℕ = take a.lanes c.args.values.now in
-    let words = with_items_is a.words c.write_lanes.new.words (c.write_lanes.auto.words ∙ (ap length c.deref_mut.ensures.value ∙ sym a.words.ok.0)) in
-    let written = words ∙ (c.write_lanes.ensures ∙ ap (λ (ws : List ℕ). with_words ws (a.tail * a.lanes) values) c.deref_mut.ensures.value) in
+    let values : List ℕ = words_at a.lanes c.args.words.now c.args.place in
+    let words = with_items_is a.words c.copy_lanes.new.to (c.copy_lanes.auto.to ∙ (ap length c.deref_mut.ensures.value ∙ sym a.words.ok.0)) in
+    let written = words ∙ (c.copy_lanes.ensures ∙ ap (λ (ws : List ℕ). with_words ws (a.tail * a.lanes) values) c.deref_mut.ensures.value) in
     window-push a.lanes a.head a.tail c.args.address a.addresses.items a.words.items _ values c.self.invariant.order
-    (omega (arith, c.requires.room, ap (λ (b : Backlog). b.room) c.self.view_is)) c.self.invariant.size (length-take-le a.lanes c.args.values.now (omega (arith, c.self.invariant.few, c.told-values))) written
-    ∙ ap₂ (λ (ws : List Waiting) (n : ℕ). ws ++ record { address = c.args.address; words = take n c.args.values.now } ∷ []) (ap (λ (b : Backlog). b.waiting) c.self.view_is) (ap (λ (b : Backlog). b.lanes) c.self.view_is)
+    (omega (arith, c.requires.room, ap (λ (b : Backlog). b.room) c.self.view_is)) c.self.invariant.size (length-words_at a.lanes c.args.words.now c.args.place) written
+    ∙ ap₂ (λ (ws : List Waiting) (n : ℕ). ws ++ record { address = c.args.address; words = words_at n c.args.words.now c.args.place } ∷ []) (ap (λ (b : Backlog). b.waiting) c.self.view_is) (ap (λ (b : Backlog). b.lanes) c.self.view_is)
 
 pub invariant_of-self : goal.invariant_of-self
 invariant_of-self c =
     let a = c.self.inside in
     let w = c.self.invariant in
-    let values : List ℕ = take a.lanes c.args.values.now in
-    let words = with_items_is a.words c.write_lanes.new.words (c.write_lanes.auto.words ∙ (ap length c.deref_mut.ensures.value ∙ sym a.words.ok.0)) in
-    let written = words ∙ (c.write_lanes.ensures ∙ ap (λ (ws : List ℕ). with_words ws (a.tail * a.lanes) values) c.deref_mut.ensures.value) in
-    let newest = with_items_is a.newest c.write_lanes-2.new.words (c.write_lanes-2.auto.words ∙ (ap length c.deref_mut-2.ensures.value ∙ sym a.newest.ok.0)) in
-    let marked = newest ∙ (c.write_lanes-2.ensures ∙ ap₂ (λ (ws vs : List ℕ). with_words ws c.args.address vs) c.deref_mut-2.ensures.value (take-same a.lanes 16 (a.tail + 1) w.few)) in
+    let values : List ℕ = words_at a.lanes c.args.words.now c.args.place in
+    let words = with_items_is a.words c.copy_lanes.new.to (c.copy_lanes.auto.to ∙ (ap length c.deref_mut.ensures.value ∙ sym a.words.ok.0)) in
+    let written = words ∙ (c.copy_lanes.ensures ∙ ap (λ (ws : List ℕ). with_words ws (a.tail * a.lanes) values) c.deref_mut.ensures.value) in
+    let newest = with_items_is a.newest c.mark.new.newest (c.mark.auto.newest ∙ (ap length c.deref_mut-2.ensures.value ∙ sym a.newest.ok.0)) in
+    let marked = newest ∙ (c.mark.ensures ∙ ap (λ (ws : List ℕ). with_words ws c.args.address (replicate a.lanes (a.tail + 1))) c.deref_mut-2.ensures.value) in
     let lt : a.tail < length a.addresses.items = omega (arith, c.requires.room, ap (λ (b : Backlog). b.room) c.self.view_is) in
     let inside : c.args.address + a.lanes ≤ length a.newest.items = omega (arith, c.requires.inside, ap (λ (b : Backlog). b.lanes) c.self.view_is, ap (λ (b : Backlog). b.span) c.self.view_is) in
     record {

@@ -1,0 +1,40 @@
+-- The code of a tree hangs on the residue of its root alone.
+use Rattle.std.proofs.Common.{◌≡◌, ℕ, ◌*◌, ◌%◌, refl, ap, ap₂, ◌∙◌}
+use Rattle.std.proofs.lemmas.Nat.{pow-mod}
+use Rattle.kernel_gen.specs.Kernel.{columns_make, kernel_of, node_make, tree_make}
+use Rattle.kernel_gen.specs.Making.{Maker, pick_make, then_make, rows_make, diagonal_make, matrix_make}
+use Rattle.matrix_meaning.specs.Kind.{entry_of}
+use Rattle.matrix_meaning.specs.declared.Kind.{Kind}
+use Rattle.matrix_meaning.specs.declared.Kind.TheVariants.{Dft, Wht}
+use Rattle.operators.specs.Identities.{turn}
+use Rattle.operators.specs.Sum.{list_below}
+use Rattle.ring_mod.specs.Residue.{power_mod}
+use Rattle.tree_model.specs.Breakdown.{Breakdown, leaf, node, size_of}
+use Rattle.tree_model.specs.declared.tree.Rule.{Rule}
+use Rattle.tree_model.specs.declared.tree.Rule.TheVariants.{Gt, Ct, Split}
+
+pub power_mod-reduced : (m w e : ℕ) → power_mod m (w % m) e ≡ power_mod m w e
+unfolding power_mod
+power_mod-reduced m w e = pow-mod w e m
+
+powers-reduced : (m w : ℕ) → power_mod m (w % m) ≡ power_mod m w
+powers-reduced m w = λ i e. power_mod-reduced m w e i
+
+entries-reduced : (kind : Kind) (m w : ℕ) → entry_of kind m (w % m) ≡ entry_of kind m w
+entries-reduced Dft m w = λ i k l. power_mod-reduced m w (k * l) i
+entries-reduced Wht m w = refl
+
+rule-reduced : (m lanes : ℕ) (rule : Rule) (r s w : ℕ) (a b : Maker) → node_make m lanes rule r s (w % m) a b ≡ node_make m lanes rule r s w a b
+rule-reduced m lanes Gt r s w a b = refl
+rule-reduced m lanes Ct r s w a b =
+    ap (λ (power : ℕ → ℕ). then_make (pick_make (turn r s)) (then_make (rows_make r s (λ i. then_make b (diagonal_make m lanes s (λ k. power (i * k))))) (columns_make r s a))) (powers-reduced m w)
+rule-reduced m lanes Split r s w a b = refl
+
+tree-reduced : (m lanes : ℕ) (kind : Kind) (t : Breakdown) (w : ℕ) → tree_make m lanes kind t (w % m) ≡ tree_make m lanes kind t w
+tree-reduced m lanes kind (leaf d) w = ap (λ (e : ℕ → ℕ → ℕ). matrix_make m lanes e d) (entries-reduced kind m w)
+tree-reduced m lanes kind (node rule a b) w =
+    ap₂ (λ x y. node_make m lanes rule (size_of a) (size_of b) (w % m) (tree_make m lanes kind a x) (tree_make m lanes kind b y)) (power_mod-reduced m w (size_of b)) (power_mod-reduced m w (size_of a))
+    ∙ rule-reduced m lanes rule (size_of a) (size_of b) w (tree_make m lanes kind a (power_mod m w (size_of b))) (tree_make m lanes kind b (power_mod m w (size_of a)))
+
+pub kernel-reduced : (m lanes : ℕ) (kind : Kind) (t : Breakdown) (w : ℕ) → kernel_of m lanes kind t (w % m) ≡ kernel_of m lanes kind t w
+kernel-reduced m lanes kind t w = ap (λ (make : Maker). make (list_below (size_of t) (λ k. k)) (size_of t)) (tree-reduced m lanes kind t w)

@@ -1,5 +1,0 @@
-pub mod Places
-pub mod Bodies
-pub mod Emission
-pub mod EmissionLaws
-pub mod Conditions

@@ -1,0 +1,7 @@
+mod PlainRules
+mod CodeTables
+mod Powers
+mod StatementRules
+mod Diagonals
+mod Works
+mod Passes

@@ -1,0 +1,35 @@
+-- The statements of works, put together.
+use Rattle.std.proofs.Common.{◌≡◌, ℕ, ◌+◌, ◌≤◌, List, length, get_or, map, sym, ap, ap₂, ◌∙◌, arith, subst}
+use Rattle.std.specs.Prelude.{Option, Some}
+use Rattle.std.proofs.lemmas.List.{get_or-map, length-map}
+use Rattle.icode.specs.declared.program.Array.{Array}
+use Rattle.icode.specs.Plain.{PlainBody, PlainExpr, NoStmts, AndStmts, Do, Store, MulTable}
+use Rattle.pass_actions.specs.Machine.{PlainFrame}
+use Rattle.pass_programs.specs.Conditions.{CanWrite}
+use Rattle.pass_programs.specs.Statements.{finish_body, followed_by, place_at}
+use Rattle.passes.specs.Nest.{PlainMultiplier}
+use Rattle.perm_algebra.specs.Affine.{Sum, constant}
+use Rattle.perm_algebra.specs.Views.{plain_sum}
+use Rattle.perm_algebra.specs.declared.Affine.{Affine}
+use Rattle.program_emit.specs.Conditions.{HasPlaces}
+use Rattle.program_emit.proofs.PlainRules.{followed-one}
+
+-- a place of the code can be written
+pub writable-at : (sums : List Affine) (i : ℕ) (e : Affine) → HasPlaces (i + 1) (map plain_sum sums) → e ≡ get_or sums i e → CanWrite (plain_sum e)
+writable-at sums i e places is =
+    let long : length (map plain_sum sums) ≡ length sums = length-map sums plain_sum in
+    let enough : i + 1 ≤ length (map plain_sum sums) = places.enough in
+    let item : CanWrite (get_or (map plain_sum sums) i (constant 0)) = places.writable i (constant 0) (omega arith) in
+    subst CanWrite (get_or-map plain_sum sums i e (constant 0) (omega arith) ∙ ap plain_sum (sym is)) item
+
+module _ (f : PlainFrame) where
+  -- a product, and the store of it
+  pub stored-product : (old one two : PlainBody) (o : Option PlainMultiplier) (m : PlainMultiplier) (scatters : List Sum) (place entry : PlainExpr) (step open_loops table : ℕ) (target : Array) (item from free : ℕ) →
+      o ≡ Some m → place ≡ place_at f open_loops scatters item → entry ≡ place_at f open_loops m.places item →
+      one ≡ followed_by old (AndStmts (Do (MulTable free from table entry step)) NoStmts) → two ≡ followed_by one (AndStmts (Do (Store target place free)) NoStmts) →
+      two ≡ followed_by old (finish_body f step o scatters open_loops table target item from free)
+  stored-product old one two o m scatters place entry step open_loops table target item from free is to at first second =
+      second ∙ ap (λ (b : PlainBody). followed_by b (AndStmts (Do (Store target place free)) NoStmts)) first
+      ∙ followed-one old (AndStmts (Do (Store target place free)) NoStmts) (Do (MulTable free from table entry step))
+      ∙ ap₂ (λ (e p : PlainExpr). followed_by old (AndStmts (Do (MulTable free from table e step)) (AndStmts (Do (Store target p free)) NoStmts))) at to
+      ∙ sym (ap (λ (z : Option PlainMultiplier). followed_by old (finish_body f step z scatters open_loops table target item from free)) is)

@@ -1,0 +1,79 @@
+// The statements of nests and passes.
+ghost use Rattle.std.specs.Prelude.{◌≡◌, IfOk, OnOk, All, map};
+ghost use Rattle.icode.specs.Plain.{plain_body, plain_tables};
+ghost use Rattle.pass_actions.specs.Acts.{nest_registers, pass_registers};
+ghost use Rattle.pass_programs.specs.Statements.{nest_body, pass_body, tables_after, tables_of_nest};
+ghost use Rattle.passes.specs.Views.{plain_nest};
+ghost use Rattle.program_emit.specs.Conditions.{CanEmit};
+ghost use Rattle.program_emit.specs.Views.{plain_host};
+
+use crate::host::{Host, frame_of};
+use crate::loops::in_loops;
+use crate::site::Site;
+use crate::tables::{number_multiplier, number_powers};
+use crate::work::{Emitted, emit_work};
+use icode::program::Array;
+use memory::NoMemory;
+use passes::Nest;
+use std::alloc::Global;
+
+// The statements of a nest from one array to another. A table that they use and that is not there yet is added.
+fn emit_nest(
+    alloc: Global,
+    host: &Host,
+    nest: &Nest,
+    source: Array,
+    target: Array,
+    tables: &mut Vec<Vec<u64>>,
+) -> Result<Emitted, NoMemory>
+    requires { CanEmit (plain_host host.now) (plain_nest nest.now) }
+    ensures body { IfOk result (λ e. plain_body e.statements.items ≡ nest_body (plain_host host.now) (plain_nest nest.now) (plain_tables tables.old.items) source target) }
+    ensures tables { OnOk result (plain_tables tables.new.items ≡ tables_of_nest host.now.modulus (plain_nest nest.now) (plain_tables tables.old.items)) }
+    ensures registers { IfOk result (λ e. let z = plain_nest nest.now in e.registers ≡ nest_registers (plain_host host.now) z z.work) }
+{
+    let frame = frame_of(host, &nest.work);
+    let loops = &nest.counts[frame.first_loop as usize..];
+    let powers = number_powers(alloc, &host.modulus, &nest.work, tables)?;
+    let table = number_multiplier(alloc, &host.modulus, &nest.multiplier, tables)?;
+    let site = Site {
+        frame,
+        open_loops: loops.len() as u64,
+        powers,
+        table,
+        source,
+        target,
+    };
+    let work = emit_work(alloc, host, nest, site)?;
+    let statements = in_loops(alloc, loops, work.statements)?;
+    Ok(Emitted {
+        statements,
+        registers: work.registers,
+    })
+}
+
+/// The statements of a pass from one array to another: its nests in a row.
+pub(crate) fn emit_pass(
+    alloc: Global,
+    host: &Host,
+    nests: &[Nest],
+    source: Array,
+    target: Array,
+    tables: &mut Vec<Vec<u64>>,
+) -> Result<Emitted, NoMemory>
+    requires { All (CanEmit (plain_host host.now)) (map plain_nest nests.now) }
+    ensures body { IfOk result (λ e. plain_body e.statements.items ≡ pass_body (plain_host host.now) (map plain_nest nests.now) (plain_tables tables.old.items) source target) }
+    ensures tables { OnOk result (plain_tables tables.new.items ≡ tables_after host.now.modulus (map plain_nest nests.now) (plain_tables tables.old.items)) }
+    ensures registers { IfOk result (λ e. e.registers ≡ pass_registers (plain_host host.now) (map plain_nest nests.now)) }
+{
+    let mut statements = Vec::new(alloc);
+    let mut registers: u64 = 0;
+    for nest in nests {
+        let mut one = emit_nest(alloc, host, nest, source, target, tables)?;
+        statements.append(&mut one.statements)?;
+        registers = registers.max(one.registers);
+    }
+    Ok(Emitted {
+        statements,
+        registers,
+    })
+}

@@ -1,0 +1,129 @@
+-- How many actions and tables the passes of a tree have at most.
+use Rattle.std.proofs.Common.{◌≡◌, ℕ, zero, suc, ◌+◌, ◌*◌, ◌^◌, ◌≤◌, Bool, true, false, List, [], ◌∷◌, length, map, refl, sym, ap, ◌∙◌, arith, Option, Some, None, if◌then◌else◌, mul-le-mul_left}
+use Rattle.std.proofs.Math.Nat.{mul-le-mul}
+use Rattle.loop_merge.specs.Merge.{PlainPass}
+use Rattle.loop_merge.specs.Nests.{loop_work, loop_of}
+use Rattle.matrix_meaning.specs.declared.Request.{Request}
+use Rattle.matrix_meaning.specs.Valid.{IsValid}
+use Rattle.pass_actions.specs.Costs.{pass_cost, pass_loads, work_cost, work_loads}
+use Rattle.pass_programs.specs.Contract.{most_actions}
+use Rattle.pass_programs.specs.Program.{tables_of_phases, tables_through}
+use Rattle.pass_programs.specs.Statements.{diagonal_of, is_table, powers_of, tables_of_multiplier, tables_of_nest, tables_of_work, with_table}
+use Rattle.passes.specs.Counts.{copies_in, multiplier_cost}
+use Rattle.passes.specs.Loops.{nest_of, one_nest}
+use Rattle.passes.specs.Nest.{PlainMultiplier, PlainNest}
+use Rattle.passes.specs.Work as works
+use Rattle.passes.specs.Work.{PlainWork, kernel, rows, horner, tile, copy}
+use Rattle.sigma_lower.specs.Work.{work_size}
+use Rattle.tensor_paths.specs.Path.{Path, copies_of, count_of}
+use Rattle.tensor_paths.proofs.Under.{size_under-copies}
+use Rattle.tree_model.specs.Breakdown.{size_of}
+use Rattle.tree_model.specs.Cost.{node_root}
+use Rattle.tree_passes.specs.Laws.{machine_of}
+use Rattle.tree_passes.proofs.Frames.{loop-size}
+use Rattle.tree_passes.proofs.KernelSizes.{cost-le}
+use Rattle.tree_passes.proofs.Known.{AllKnown}
+use Rattle.tree_passes.proofs.Owned.{nests_in}
+use Rattle.tree_passes.proofs.Works.{by-work, node-of}
+use Rattle.tree_passes.proofs.Writes.{IsKnown, n-small}
+
+-- ---- tables
+
+grown-pick : (b : Bool) (table : List ℕ) (tables more : List (List ℕ)) → length more ≤ suc (length tables) → length (if b then table ∷ tables else table ∷ more) ≤ suc (suc (length tables))
+grown-pick true table tables more h = omega arith
+grown-pick false table tables more h = omega (arith, h)
+
+with-grown : (tables : List (List ℕ)) (entries : List ℕ) → length (with_table tables entries) ≤ suc (length tables)
+with-grown [] entries = omega arith
+with-grown (table ∷ tables) entries = grown-pick (is_table table entries) table tables (with_table tables entries) (with-grown tables entries)
+
+work-grown : (m : ℕ) (w : PlainWork) (tables : List (List ℕ)) → length (tables_of_work m w tables) ≤ length tables + 1
+work-grown m (kernel kind root t) tables = omega arith
+work-grown m (rows root size) tables = let more = with-grown tables (powers_of m root size) in omega (arith, more)
+work-grown m (horner root size) tables = let more = with-grown tables (powers_of m root size) in omega (arith, more)
+work-grown m (tile lanes) tables = omega arith
+work-grown m (copy size) tables = omega arith
+
+multiplier-grown : (m : ℕ) (o : Option PlainMultiplier) (tables : List (List ℕ)) → length (tables_of_multiplier m o tables) ≤ length tables + 1
+multiplier-grown m None tables = omega arith
+multiplier-grown m (Some d) tables = let more = with-grown tables (diagonal_of m d.factors) in omega (arith, more)
+
+nest-grown : (m : ℕ) (z : PlainNest) (tables : List (List ℕ)) → length (tables_of_nest m z tables) ≤ length tables + 2
+nest-grown m z tables =
+    let first = work-grown m z.work tables in
+    let second = multiplier-grown m z.multiplier (tables_of_work m z.work tables) in
+    omega (arith, first, second)
+
+module _ (c : Request) where
+  through-grown : (ps : List PlainPass) (tables : List (List ℕ)) → length (tables_through c.modulus (nests_in c ps) tables) ≤ length tables + 2 * length ps
+  through-grown [] tables = omega arith
+  through-grown (p ∷ ps) tables =
+      let first = nest-grown c.modulus (nest_of (loop_of c p)) tables in
+      let rest = through-grown ps (tables_of_nest c.modulus (nest_of (loop_of c p)) tables) in
+      omega (arith, first, rest)
+
+  abbrev pub total : List (List PlainPass) → ℕ
+  total [] = 0
+  total (ps ∷ more) = length ps + total more
+
+  pub phases-grown : (phases : List (List PlainPass)) (tables : List (List ℕ)) → length (tables_of_phases c.modulus (map (nests_in c) phases) tables) ≤ length tables + 2 * total phases
+  phases-grown [] tables = omega arith
+  phases-grown (ps ∷ more) tables =
+      let first = through-grown ps tables in
+      let rest = phases-grown more (tables_through c.modulus (nests_in c ps) tables) in
+      omega (arith, first, rest)
+
+-- ---- actions
+
+pub copies-are : (path : Path) → copies_in (map count_of path) ≡ copies_of path
+copies-are [] = refl
+copies-are (t ∷ path) = ap (λ n. count_of t * n) (copies-are path)
+
+multiplier-le : (weight : ℕ) (o : Option PlainMultiplier) (w : PlainWork) → multiplier_cost weight o w ≤ weight * works.work_size w
+multiplier-le weight None w = omega arith
+multiplier-le weight (Some d) w = omega arith
+
+-- for each item twice as many operations as there are items, and one for a diagonal
+spread : (copies n size cost more loads : ℕ) → copies * n ≡ size → size ≤ 65536 → n ≤ 65536 → cost ≤ 2 * (n * n) → more ≤ 1 * n → loads ≤ n * n → copies * (cost + more) + 0 + (copies * loads + 0) + 2 * size ≤ 2 ^ 40
+spread copies n size cost more loads whole high small low one each =
+    let all : cost + more + loads ≤ n * (3 * n + 1) = omega (arith, low, one, each) in
+    let product : copies * (cost + more + loads) ≤ copies * (n * (3 * n + 1)) = mul-le-mul_left copies all in
+    let turned : copies * (n * (3 * n + 1)) ≡ copies * n * (3 * n + 1) = omega arith in
+    let same : copies * n * (3 * n + 1) ≡ size * (3 * n + 1) = ap (λ x. x * (3 * n + 1)) whole in
+    let bound : size * (3 * n + 1) ≤ 65536 * 196609 = mul-le-mul {n₁ = size} {m₁ = 3 * n + 1} {n₂ = 65536} {m₂ = 196609} high (omega (arith, small)) in
+    let cut : copies * (cost + more + loads) ≡ copies * (cost + more) + copies * loads = omega arith in
+    omega (arith, product, turned, same, bound, cut, high)
+
+module _ (c : Request) (valid : IsValid c) where
+  -- operations and loads of one copy
+  record IsModest (n : ℕ) (w : PlainWork) : Type 0 where
+    operations : work_cost 1 c.modulus w ≤ 2 * (n * n)
+    loads : work_loads w ≤ n * n
+
+  square-le : (n : ℕ) → n ≤ n * n
+  square-le zero = omega arith
+  square-le (suc n) = omega arith
+
+  modest : (p : PlainPass) → IsKnown c p → IsModest (works.work_size (loop_work c p.work)) (loop_work c p.work)
+  modest p known = by-work c p valid known.shaped known.framed (λ w. IsModest (works.work_size w) w)
+      (λ t is e. let node = node-of c p valid known.shaped known.framed t is in let price = cost-le c.modulus c.kind t (node_root c (size_of t)) node.formed in record { operations = omega (arith, price); loads = square-le (size_of t) })
+      (λ t is e kind. record { operations = omega arith; loads = omega arith })
+      (λ v is. record { operations = omega arith; loads = square-le (v * v) })
+
+  pass-actions : (p : PlainPass) → IsKnown c p → pass_cost 1 c.modulus (one_nest (loop_of c p)) + pass_loads (one_nest (loop_of c p)) + 2 * c.size ≤ 2 ^ 40
+  pass-actions p known =
+      let w = loop_work c p.work in
+      let n = works.work_size w in
+      let z = nest_of (loop_of c p) in
+      let m = modest p known in
+      let high = valid.in_range.size.1 in
+      let whole : copies_in (map count_of p.path) * n ≡ c.size =
+      ap (λ x. x * n) (copies-are p.path) ∙ ap (λ x. copies_of p.path * x) (loop-size c p.work) ∙ sym (size_under-copies p.path (work_size p.work)) ∙ known.shaped.fills in
+      spread (copies_in (map count_of p.path)) n c.size (work_cost 1 c.modulus w) (multiplier_cost 1 z.multiplier w) (work_loads w) whole high (n-small c p valid known) m.operations (multiplier-le 1 z.multiplier w) m.loads
+
+  pub actions-few : (ps : List PlainPass) → AllKnown c ps → most_actions (machine_of c) (nests_in c ps) ≤ 2 ^ 40 * length ps
+  actions-few [] known = omega arith
+  actions-few (p ∷ ps) known =
+      let first = pass-actions p known.0 in
+      let rest = actions-few ps known.1 in
+      omega (arith, first, rest)

@@ -1,0 +1,100 @@
+-- What is known of each pass of a tree.
+use Rattle.std.proofs.Common.{List, [], ◌∷◌, ◌++◌, map, sym, arith, subst}
+use Rattle.std.specs.Prelude.{reverse}
+use Rattle.std.proofs.lemmas.List.{map-append, reverse-append, reverse-reverse}
+use Rattle.formula_lower.specs.Merged.{AllHaveLoops}
+use Rattle.formula_lower.specs.Order.{AllLoops, AllOrdered}
+use Rattle.formula_lower.specs.Shared.{phase_term, AllEmbed, AllMerge}
+use Rattle.formula_lower.proofs.HaveLoops.{phases_have_loops}
+use Rattle.formula_lower.proofs.Ordered.{trees_are_loops, trees_ordered}
+use Rattle.formula_lower.proofs.SharedTrees.{shared_trees_merge, trees_embed}
+use Rattle.loop_merge.specs.Merge.{PlainPass, passes_of_terms, in_order, merged_of}
+use Rattle.loop_merge.specs.Nests.{loop_of}
+use Rattle.loop_merge.specs.Placed.{AllLimited}
+use Rattle.loop_merge.proofs.Closed.{AreClosedPasses}
+use Rattle.loop_merge.proofs.GoodPlaces.{HaveGoodPlaces}
+use Rattle.loop_merge.proofs.LoopNests.{loops_listed}
+use Rattle.loop_merge.proofs.PlaceValues.{AreFormedPasses}
+use Rattle.loop_merge.proofs.Shaped.{AreShaped}
+use Rattle.loop_merge.proofs.TreePlaces.{tree_good_places}
+use Rattle.matrix_meaning.specs.declared.Request.{Request}
+use Rattle.matrix_meaning.specs.Valid.{IsValid}
+use Rattle.passes.specs.Good.{AreGoodPasses, IsGoodPass}
+use Rattle.passes.specs.Loops.{PlainLoop, AreGoodLoops, IsGoodLoop, loops_in, one_nest}
+use Rattle.passes.specs.Merge.{unbounded}
+use Rattle.passes.proofs.GoodLoops.{loops_are_good}
+use Rattle.shared_passes.specs.Shared.{AllFramed}
+use Rattle.shared_passes.proofs.Framed.{passes_are_framed}
+use Rattle.sigma_lower.specs.Term.{PlainTerm, lowered_of}
+use Rattle.sigma_lower.proofs.Both.{plain_terms}
+use Rattle.sigma_lower.proofs.RootTerms.{shared_terms}
+use Rattle.tree_model.specs.Admissible.{IsAdmissible}
+use Rattle.tree_model.specs.Breakdown.{Breakdown}
+use Rattle.tree_passes.proofs.SizedPasses.{AreSizedPasses, sized_passes}
+use Rattle.tree_passes.proofs.Writes.{IsKnown}
+
+-- a loop whose nest is a good pass
+record IsGood (c : Request) (l : PlainLoop) : Type 0 where
+  loop : IsGoodLoop c.lanes l
+  pass : IsGoodPass c.lanes c.modulus c.size (one_nest l)
+
+abbrev AreGood : Request → List PlainLoop → Type 0
+AreGood c [] = Unit {0}
+AreGood c (l ∷ ls) = IsGood c l × AreGood c ls
+
+good-loops : (c : Request) (ls : List PlainLoop) → AreGoodLoops c.lanes ls → AreGoodPasses c.lanes c.modulus c.size (map one_nest ls) → AreGood c ls
+good-loops c [] h k = tt
+good-loops c (l ∷ ls) h k = (record { loop = h.0; pass = k.0 }, good-loops c ls h.1 k.1)
+
+good-append : (c : Request) (ls more : List PlainLoop) → AreGood c ls → AreGood c more → AreGood c (ls ++ more)
+good-append c [] more h k = k
+good-append c (l ∷ ls) more h k = (h.0, good-append c ls more h.1 k)
+
+good-reverse : (c : Request) (ls : List PlainLoop) → AreGood c ls → AreGood c (reverse ls)
+good-reverse c [] h = tt
+good-reverse c (l ∷ ls) h = subst (AreGood c) (sym (reverse-append (l ∷ []) ls)) (good-append c (reverse ls) (l ∷ []) (good-reverse c ls h.1) (h.0, tt))
+
+good-back : (c : Request) (ls : List PlainLoop) → AreGood c (reverse ls) → AreGood c ls
+good-back c ls h = subst (AreGood c) (reverse-reverse ls) (good-reverse c (reverse ls) h)
+
+-- those of a phase, in order
+good-phase : (c : Request) (ts : List PlainTerm) → AreGood c (loops_in (phase_term c ts)) → AreGood c (map (loop_of c) (passes_of_terms ts))
+good-phase c ts h = good-back c (map (loop_of c) (passes_of_terms ts)) (subst (AreGood c) (loops_listed c ts) h)
+
+good-phases : (c : Request) (phases : List (List PlainTerm)) → IsValid c → AllEmbed c c.lanes phases → AllOrdered c phases → AllHaveLoops c phases → AllLoops c phases → AllMerge unbounded c phases →
+    AreGood c (map (loop_of c) (in_order (map passes_of_terms phases)))
+good-phases c [] valid embedded ordered have loops merged = tt
+good-phases c (ts ∷ more) valid embedded ordered have loops merged =
+    let size = valid.in_range.size.0 in
+    let good = loops_are_good c.lanes c.size (phase_term c ts) (omega (arith, size)) embedded.0.good ordered.0.in_order in
+    let first = good-phase c ts (good-loops c (loops_in (phase_term c ts)) good (subst (AreGoodPasses c.lanes c.modulus c.size) (loops.0 have.0) merged.0)) in
+    subst (AreGood c) (sym (map-append (loop_of c) (passes_of_terms ts) (in_order (map passes_of_terms more))))
+    (good-append c (map (loop_of c) (passes_of_terms ts)) _ first (good-phases c more valid embedded.1 ordered.1 have.1 loops.1 merged.1))
+
+-- ---- all passes
+
+abbrev pub AllKnown : Request → List PlainPass → Type 0
+AllKnown c [] = Unit {0}
+AllKnown c (p ∷ ps) = IsKnown c p × AllKnown c ps
+
+all-known : (c : Request) (ps : List PlainPass) → AllFramed c ps → AreShaped c c.size ps → AllLimited c ps → AreFormedPasses ps → AreClosedPasses c.size ps → AreSizedPasses c.size ps → AreGood c (map (loop_of c) ps) → AllKnown c ps
+all-known c [] framed shaped limited formed closed sized good = tt
+all-known c (p ∷ ps) framed shaped limited formed closed sized good = (
+  record {
+    framed = framed.0;
+    shaped = shaped.0;
+    limited = limited.0;
+    formed = formed.0;
+    closed = closed.0;
+    sized = sized.0;
+    loop = good.0.loop;
+    good = good.0.pass;
+  },
+  all-known c ps framed.1 shaped.1 limited.1 formed.1 closed.1 sized.1 good.1,
+)
+
+pub tree-known : (c : Request) (t : Breakdown) → IsValid c → IsAdmissible c t → AllKnown c (merged_of c t)
+tree-known c t valid h =
+    let places : HaveGoodPlaces c (merged_of c t) = tree_good_places c t valid h in
+    all-known c (merged_of c t) (passes_are_framed plain_terms shared_terms c t valid h) places.shaped places.limited places.formed places.closed (sized_passes c t valid h)
+    (good-phases c (lowered_of c t) valid (trees_embed c t valid h) (trees_ordered c t valid h) (phases_have_loops c t valid h) (trees_are_loops c t valid h) (shared_trees_merge unbounded c t valid h).good)

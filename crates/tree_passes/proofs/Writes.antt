@@ -1,0 +1,296 @@
+-- Each pass of a tree can be run and written.
+use Rattle.std.proofs.Common.{◌≡◌, ℕ, zero, suc, ◌+◌, ◌-◌, ◌^◌, ◌<◌, ◌≤◌, Bool, true, false, List, [], ◌∷◌, ◌++◌, All, length, map, refl, sym, ap, ap₂, ◌∙◌, arith, subst, Option, Some, None, if◌then◌else◌}
+use Rattle.std.specs.Prelude.{◌==◌, max, not, nat_le, slice_index, slice_index_or}
+use Rattle.std.proofs.lemmas.Bool.Decides.{nat_tests}
+use Rattle.std.proofs.lemmas.List.Elements.{All-nil, All-cons, All-weaker}
+use Rattle.std.specs.Option.{option_map}
+use Rattle.index_fn.specs.Mapping.{Mapping}
+use Rattle.code_laws.specs.Lanes.{operations}
+use Rattle.code_laws.proofs.ByLane.{weight_of_one}
+use Rattle.kernel_gen.specs.Kernel.{kernel_cost, kernel_of}
+use Rattle.kernel_gen.proofs.Kernels.{firsts, kernel-does}
+use Rattle.kernel_gen.proofs.NodeCosts.{kernel-short}
+use Rattle.kernel_gen.proofs.Pieces.{DoesAt}
+use Rattle.kernel_gen.proofs.RequestNodes.{root-of}
+use Rattle.loop_merge.specs.Merge.{PlainPass, through}
+use Rattle.loop_merge.specs.Nests.{loop_work, loop_of, taken_of}
+use Rattle.loop_merge.specs.Placed.{IsLimitedPass}
+use Rattle.loop_merge.proofs.Closed.{IsClosedPass}
+use Rattle.loop_merge.proofs.PlaceValues.{IsFormedPass, value-at_place}
+use Rattle.loop_merge.proofs.Shaped.{IsShaped}
+use Rattle.matrix_meaning.specs.declared.Kind.TheVariants.{Dft}
+use Rattle.matrix_meaning.specs.declared.Request.{Request}
+use Rattle.matrix_meaning.specs.Kind.{transform}
+use Rattle.matrix_meaning.specs.Valid.{IsValid}
+use Rattle.pass_actions.specs.Acts.{nest_registers, with_multiplier}
+use Rattle.pass_actions.specs.Laws.{CanRun, CanRunNest}
+use Rattle.pass_actions.specs.Machine.{PlainMachine, frame_of, lane_variables, first_loop, loop_counts}
+use Rattle.pass_programs.specs.Conditions.{AreWithin, CanWriteNest, CanWritePass, LoadsAlike, loads_inside, stores_inside}
+use Rattle.pass_programs.specs.Small.{IsFrame}
+use Rattle.passes.specs.Copies.{loops_of}
+use Rattle.passes.specs.Good.{IsGoodPass, NamesItems}
+use Rattle.passes.specs.Loops.{IsGoodLoop, AreFormed, limits_in, nest_of, one_nest}
+use Rattle.passes.specs.Merge.{items_out, all_simplified, limits_of, place_sum}
+use Rattle.passes.specs.Nest.{PlainMultiplier, PlainNest, factor_count}
+use Rattle.passes.specs.Work as works
+use Rattle.passes.specs.Work.{PlainWork, kernel, rows, tile}
+use Rattle.passes.proofs.Natural.{names-out, ranged, values-are}
+use Rattle.passes.proofs.Nests.{names-simplified}
+use Rattle.perm_algebra.specs.Affine.{Sum, constant, variable, value, simplified}
+use Rattle.shared_passes.specs.Shared.{HasLanes, IsFramed}
+use Rattle.sigma_lower.specs.Work.{transforming, tiling}
+use Rattle.tensor_paths.specs.Path.{Path, AreInRange, count_of, place, size_under}
+use Rattle.tree_model.specs.Breakdown.{Breakdown, size_of}
+use Rattle.tree_model.specs.Cost.{is_kernel, node_root}
+use Rattle.tree_passes.specs.Laws.{machine_of}
+use Rattle.tree_passes.proofs.Frames.{loop-size, nest-framed}
+use Rattle.tree_passes.proofs.Items.{gathers-coded, scatters-coded, factors-coded, factors-few}
+use Rattle.tree_passes.proofs.KernelSizes.{cost-le, small_kernel}
+use Rattle.tree_passes.proofs.Loops.{IsCount, counts-drop, length-drop, length-tensors, loop-counts, path-weight, weight-small}
+use Rattle.tree_passes.proofs.Places.{taken-is, moves-vectors, finds-factors, residues-of}
+use Rattle.tree_passes.proofs.Sized.{under-least}
+use Rattle.tree_passes.proofs.SizedPasses.{IsSizedPass}
+use Rattle.tree_passes.proofs.Sums.{coded-within}
+use Rattle.tree_passes.proofs.Works.{by-work, can-work, node-of}
+
+-- what is known of a pass of a tree
+pub record IsKnown (c : Request) (p : PlainPass) : Type 0 where
+  pub framed : IsFramed c p
+  pub shaped : IsShaped c c.size p
+  pub limited : IsLimitedPass c p
+  pub formed : IsFormedPass p
+  pub closed : IsClosedPass c.size p
+  pub sized : IsSizedPass c.size p
+  pub loop : IsGoodLoop c.lanes (loop_of c p)
+  pub good : IsGoodPass c.lanes c.modulus c.size (one_nest (loop_of c p))
+
+-- ---- names
+
+names-all : (w : PlainWork) (cs : ℕ → ℕ) (fs : List Mapping) (sums : List Sum) → AreFormed fs → NamesItems w sums → NamesItems w (map (all_simplified cs fs) sums)
+names-all w cs [] sums formed h = subst (NamesItems w) (sym (map-same sums)) h
+  where
+    map-same : (sums : List Sum) → map (λ e. e) sums ≡ sums
+    map-same [] = refl
+    map-same (e ∷ es) = ap (λ rest. e ∷ rest) (map-same es)
+names-all w cs (f ∷ fs) sums formed h = subst (NamesItems w) (map-twice sums) (names-all w cs fs (map (simplified cs f) sums) formed.1 (names-simplified w cs f sums formed.0 h))
+  where
+    map-twice : (sums : List Sum) → map (all_simplified cs fs) (map (simplified cs f) sums) ≡ map (all_simplified cs (f ∷ fs)) sums
+    map-twice [] = refl
+    map-twice (e ∷ es) = ap (λ rest. all_simplified cs fs (simplified cs f e) ∷ rest) (map-twice es)
+
+-- ---- frames
+
+frame-pick : (b : Bool) (more : ℕ) → not b ≡ true → 0 < (if b then 0 else 1) + more
+frame-pick true more e = absurd (cc)
+frame-pick false more e = omega arith
+
+is-frame : (h : PlainMachine) (w : PlainWork) → IsFrame (frame_of h w)
+is-frame h w e = frame-pick (h.procs == 1) (lane_variables h w) e
+
+inside-le : (w : PlainWork) → loads_inside w ≤ 2
+inside-le (kernel kind root t) = omega arith
+inside-le (rows root size) = omega arith
+inside-le (works.horner root size) = omega arith
+inside-le (tile lanes) = omega arith
+inside-le (works.copy size) = omega arith
+
+stores-le : (w : PlainWork) → stores_inside w ≤ 2
+stores-le (kernel kind root t) = omega arith
+stores-le (rows root size) = omega arith
+stores-le (works.horner root size) = omega arith
+stores-le (tile lanes) = omega arith
+stores-le (works.copy size) = omega arith
+
+-- ---- registers
+
+with-le : (o : Option PlainMultiplier) (used more : ℕ) → with_multiplier o used more ≤ used + more
+with-le None used more = omega arith
+with-le (Some d) used more = omega arith
+
+short-size : (d unroll : ℕ) → nat_le d unroll ≡ true → unroll ≤ 64 → d ≤ 64
+short-size d unroll short low = grind (arith, nat_tests)
+
+max-less : (a n : ℕ) → a < n → max a 0 < n
+max-less a n low = omega (arith, low)
+
+-- ---- values in range, with others behind them
+
+two_below : (n k l : ℕ) → k < n → l < n → (i : ℕ) → slice_index (k ∷ l ∷ []) i ≤ slice_index (n ∷ n ∷ []) i - 1
+two_below n k l h g zero = omega arith
+two_below n k l h g (suc zero) = omega arith
+two_below n k l h g (suc (suc i)) = omega arith
+
+with_more : (counts : List ℕ) (n : ℕ) (vs more : List ℕ) → AreInRange (loops_of counts) vs → ((i : ℕ) → slice_index more i ≤ slice_index (n ∷ n ∷ []) i - 1) →
+    (i : ℕ) → slice_index (vs ++ more) i ≤ slice_index (counts ++ n ∷ n ∷ []) i - 1
+with_more [] n [] more h rest i = rest i
+with_more [] n (v ∷ vs) more h rest i = absurd h
+with_more (c ∷ counts) n [] more h rest i = absurd h
+with_more (c ∷ counts) n (v ∷ vs) more h rest zero = omega (arith, h.0)
+with_more (c ∷ counts) n (v ∷ vs) more h rest (suc i) = with_more counts n vs more h.1 rest i
+
+at-second : (path : Path) (vs : List ℕ) (k l : ℕ) → AreInRange path vs → slice_index (vs ++ k ∷ l ∷ []) (suc (length path)) ≡ l
+at-second [] [] k l h = refl
+at-second [] (v ∷ vs) k l h = absurd h
+at-second (t ∷ path) [] k l h = absurd h
+at-second (t ∷ path) (v ∷ vs) k l h = at-second path vs k l h.1
+
+module _ (c : Request) (p : PlainPass) (valid : IsValid c) (known : IsKnown c p) where
+  abbrev h : PlainMachine
+  h = machine_of c
+
+  abbrev w : PlainWork
+  w = loop_work c p.work
+
+  abbrev z : PlainNest
+  z = nest_of (loop_of c p)
+
+  some-procs : 0 < c.procs
+  some-procs = let procs = valid.in_range.procs.0 in omega (arith, procs)
+
+  some-lanes : 0 < c.lanes
+  some-lanes = let lanes = valid.in_range.lanes.0 in omega (arith, lanes)
+
+  some-modulus : 0 < c.modulus
+  some-modulus = let large = valid.in_range.modulus.0 in omega (arith, large)
+
+  run-nest : CanRunNest h z
+  run-nest =
+      record {
+        work = can-work c p valid known.shaped known.framed;
+        inside = known.good.nests.0.inside;
+        framed = nest-framed c p known.framed;
+        vectors = λ q vs lane k range on below. moves-vectors c p known.loop valid known.framed q vs lane k range on below;
+        factors = finds-factors c p known.loop known.shaped known.closed;
+        residues = residues-of c p some-modulus;
+      }
+
+  runs : CanRun h (one_nest (loop_of c p))
+  runs =
+      record {
+        lanes = some-lanes;
+        modulus = valid.in_range.modulus.0;
+        nests = All-cons (CanRunNest h) z [] run-nest (All-nil (CanRunNest h));
+        once = known.good.once;
+      }
+
+  -- ---- statements
+
+  high : c.size ≤ 65536
+  high = valid.in_range.size.1
+
+  fills : size_under p.path (works.work_size w) ≡ c.size
+  fills = ap (size_under p.path) (loop-size c p.work) ∙ known.shaped.fills
+
+  all-counts : All IsCount (map count_of p.path)
+  all-counts = loop-counts p.path (works.work_size w) known.sized.wide known.loop.some (omega (arith, fills, high))
+
+  few-loops : length p.path ≤ 16
+  few-loops =
+      let weight = path-weight p.path (works.work_size w) known.sized.wide known.loop.some in
+      weight-small (length p.path) (omega (arith, weight, fills, high))
+
+  shallow : length (loop_counts h z) ≤ 16
+  shallow =
+      let dropped = length-drop (first_loop h w) (map count_of p.path) in
+      let all = length-tensors p.path in
+      let few = few-loops in
+      omega (arith, dropped, all, few)
+
+  pub n-small : works.work_size w ≤ 65536
+  n-small = let least = under-least p.path (works.work_size w) known.sized.wide known.loop.some in omega (arith, least, fills, high)
+
+  -- the nest with other work
+  abbrev pub with_work : PlainWork → PlainNest
+  with_work v = nest_of (record { path = p.path; work = v; befores = p.befores; taken = option_map (taken_of c) p.diagonal; afters = p.afters })
+
+  alike : LoadsAlike z w
+  alike = by-work c p valid known.shaped known.framed (λ v. LoadsAlike (with_work v) v) (λ t is e. tt) (λ t is e kind. each (node_root c (size_of t)) (size_of t)) (λ v is. tt)
+    where
+      at-row-of : (root n : ℕ) (vs : List ℕ) (row k : ℕ) → AreInRange (loops_of (map count_of p.path)) vs → row < n → k < n →
+          value (slice_index_or (with_work (rows root n)).gathers 0 (constant 0)) (slice_index (vs ++ row ∷ k ∷ [])) ≡ through p.befores (place p.path n vs k)
+      at-row-of root n vs row k range below under =
+          let us = slice_index (vs ++ row ∷ k ∷ []) in
+          let cs = slice_index (map count_of p.path ++ n ∷ n ∷ []) in
+          let item : Sum = variable 1 (length p.path + 1) (constant 0) in
+          value-at_place cs us p.path n p.befores item known.formed.befores (with_more (map count_of p.path) n vs (row ∷ k ∷ []) range (two_below n row k below under)) tt
+          ∙ ap₂ (λ ws j. through p.befores (place p.path n ws j)) (values-are p.path 0 us vs (row ∷ k ∷ []) (ranged p.path vs range) (λ i. ap us (omega arith)))
+          (let there : us (length p.path + 1) ≡ k = ap us (omega arith) ∙ at-second p.path vs row k (ranged p.path vs range) in omega (arith, there))
+
+      each : (root n : ℕ) → LoadsAlike (with_work (rows root n)) (rows root n)
+      each root n vs row k range below under = at-row-of root n vs row k range below under ∙ sym (at-row-of root n vs 0 k range (omega (arith, below)) under)
+
+  open-loads : length (loop_counts h z) + loads_inside w ≤ 64
+  open-loads = let few = shallow in let more = inside-le w in omega (arith, few, more)
+
+  open-stores : length (loop_counts h z) + stores_inside w ≤ 64
+  open-stores = let few = shallow in let more = stores-le w in omega (arith, few, more)
+
+  -- what is asked for of a multiplier
+  abbrev CanMultiply : PlainMultiplier → Type 0
+  CanMultiply d =
+      NamesItems w d.places × AreWithin (limits_of z) (frame_of h w) (length (loop_counts h z) + stores_inside w) d.places × (0 < factor_count d.factors) × (factor_count d.factors < 2 ^ 32)
+
+  can-multiply : (d : PlainMultiplier) → z.multiplier ≡ Some d → CanMultiply d
+  can-multiply d is =
+      let t = taken-is c p d is in
+      let few = factors-few c p valid known.shaped known.framed known.limited known.sized known.loop.some t.diagonal t.is in
+      let two = few.0 in
+      let most = few.1 in
+      let formed = (known.loop.taken (taken_of c t.diagonal) (ap (option_map (taken_of c)) t.is)).formed in
+      subst CanMultiply (sym t.same) (
+        names-all w (limits_in (loop_of c p)) (taken_of c t.diagonal).places (map (place_sum p.path (works.work_size w) 0) (items_out w (length p.path))) formed (names-out c.lanes p.path w known.loop.nested),
+        coded-within (limits_of z) (frame_of h w) _ _ (is-frame h w) open-stores (factors-coded c p valid known.shaped known.framed known.limited known.sized known.loop.some t.diagonal t.is),
+        omega (arith, two),
+        omega (arith, most),
+      )
+
+  writes-nest : CanWriteNest h z
+  writes-nest =
+      record {
+        gathers = (known.good.nests.0.gathers, coded-within (limits_of z) (frame_of h w) _ z.gathers (is-frame h w) open-loads (gathers-coded c p valid known.shaped known.framed known.limited known.sized known.loop.some));
+        scatters = (known.good.nests.0.scatters, coded-within (limits_of z) (frame_of h w) _ z.scatters (is-frame h w) open-stores (scatters-coded c p valid known.shaped known.framed known.limited known.sized known.loop.some));
+        multiplier = can-multiply;
+        alike = alike;
+        items = let small = n-small in omega (arith, small);
+        shallow = let few = shallow in omega (arith, few);
+        counts = All-weaker IsCount (λ k. (1 ≤ k) × (k < 2 ^ 32)) (λ k both. let low = both.0 in let most = both.1 in (omega (arith, low), omega (arith, most))) (loop_counts h z) (counts-drop (first_loop h w) (map count_of p.path) all-counts);
+      }
+
+  -- ---- registers
+
+  few-registers : nest_registers h z w < 2 ^ 20
+  few-registers = by-work c p valid known.shaped known.framed (λ v. nest_registers h (with_work v) v < 2 ^ 20) kernels long tiles
+    where
+      kernels : (t : Breakdown) → p.work ≡ transforming t → is_kernel c (size_of t) ≡ true → nest_registers h (with_work (kernel c.kind (node_root c (size_of t)) t)) (kernel c.kind (node_root c (size_of t)) t) < 2 ^ 20
+      kernels t is e =
+          let n = size_of t in
+          let root = node_root c n in
+          let node = node-of c p valid known.shaped known.framed t is in
+          let made = kernel_of c.modulus c.lanes c.kind t root in
+          let small : n ≤ 64 = short-size n c.unroll (kernel-short c n e) valid.in_range.unroll.1 in
+          let price : kernel_cost 1 c.modulus c.kind t root + n ≤ 8192 = small_kernel n (kernel_cost 1 c.modulus c.kind t root) small (cost-le c.modulus c.kind t root node.formed) in
+          let does : DoesAt c.modulus c.lanes 0 1 n (kernel_cost 1 c.modulus c.kind t root) (firsts n) n made (transform c.kind c.modulus n root) =
+          kernel-does c.modulus c.lanes 0 1 c.kind t root valid.in_range.modulus.0 some-lanes node.formed (root-of c t valid node.divides) in
+          let next : made.next ≡ n + operations made.acts = does.next_is in
+          let counted : operations made.acts ≡ kernel_cost 1 c.modulus c.kind t root = sym (weight_of_one made.acts) ∙ does.costs in
+          let used = with-le (with_work (kernel c.kind root t)).multiplier made.next n in
+          omega (arith, used, next, counted, price, small)
+
+      long : (t : Breakdown) → p.work ≡ transforming t → is_kernel c (size_of t) ≡ false → c.kind ≡ Dft → nest_registers h (with_work (rows (node_root c (size_of t)) (size_of t))) (rows (node_root c (size_of t)) (size_of t)) < 2 ^ 20
+      long t is e kind = let used = with-le (with_work (rows (node_root c (size_of t)) (size_of t))).multiplier 3 1 in omega (arith, used)
+
+      tiles : (v : ℕ) → p.work ≡ tiling v → nest_registers h (with_work (tile v)) (tile v) < 2 ^ 20
+      tiles v is =
+          let used = with-le (with_work (tile v)).multiplier (v + v) v in
+          let lanes : v ≡ c.lanes = subst (HasLanes c) is known.framed.lanes in
+          let most = valid.in_range.lanes.1 in
+          omega (arith, used, lanes, most)
+
+  pub can-write-pass : CanWritePass h (one_nest (loop_of c p))
+  can-write-pass =
+      record {
+        line = let line = valid.in_range.line.0 in omega (arith, line);
+        runs = runs;
+        nests = All-cons (CanWriteNest h) z [] writes-nest (All-nil (CanWriteNest h));
+        few = max-less (nest_registers h z w) (2 ^ 20) few-registers;
+      }
