@@ -1,5 +1,5 @@
 // The top call.
-ghost use Rattle.std.specs.Prelude.{◌≡◌, ◌≢◌, ℕ, List, [], length, map, string_bytes, IfOk, IfErr, IfSome};
+ghost use Rattle.std.specs.Prelude.{◌≡◌, ◌≢◌, ◌↔◌, ℕ, List, [], length, map, string_bytes, vec_len, IsTrue, IfOk, IfErr, IfSome};
 ghost use Rattle.std.specs.declared.option.Option.{Option};
 ghost use Rattle.std.specs.Io.KnownBytes.{Appends, IsAtEnd};
 ghost use Rattle.icode.specs.Machine.{IsApart};
@@ -47,6 +47,13 @@ fn text_of(alloc: Global, listing: &[u8]) -> Result<Vec<u8>, Status>
     Ok(text)
 }
 
+// Whether the words are the program's name alone.
+fn are_alone(words: &Vec<String>) -> bool
+    ensures { IsTrue result ↔ (vec_len words.now ≡ 1) }
+{
+    words.len() == 1
+}
+
 // Does what the words and the input ask for.
 fn work<I: Source, O: Sink>(
     alloc: Global,
@@ -60,7 +67,7 @@ fn work<I: Source, O: Sink>(
     ensures write { Reports (O.faults output.old) (O.faults output.new) (status_of result ≡ Status.WriteFault) }
     ensures nothing { status_of result ≢ Status.Success → status_of result ≢ Status.WriteFault → Appends (O.taken output.old) (O.taken output.new) [] }
 {
-    if words.len() != 1 {
+    if !are_alone(words) {
         return Err(Status::Usage);
     }
     let mut feed = Feed::new(alloc)?;

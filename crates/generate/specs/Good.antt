@@ -3,9 +3,9 @@ use Rattle.std.specs.Prelude.{◌≡◌, ℕ, ◌*◌, ◌<◌, List, length, Al
 use Rattle.matrix_meaning.specs.declared.Request.{Request}
 use Rattle.matrix_meaning.specs.Kind.{transform}
 use Rattle.icode.specs.declared.program.Program.{Program}
-use Rattle.icode.specs.Machine.{IsApart, results, whole_counts}
+use Rattle.icode.specs.Machine.{IsApart, results, weighted, whole_counts}
 use Rattle.icode.specs.Program.{Fits, code_of}
-use Rattle.lean_code.specs.Parts.{IsLeanCode}
+use Rattle.tree_passes.specs.Lean.{IsLeanCode}
 use Rattle.operators.specs.Sum.{sum_below}
 use Rattle.tree_model.specs.Breakdown.{Breakdown}
 use Rattle.tree_model.specs.Passes.{loads_of, stores_of}
@@ -24,15 +24,15 @@ pub record IsVector (r : Request) (x : List ℕ) : Type 0 where
   pub residues : All (λ v. v < r.modulus) x
 
 -- Whatever the vector and whatever turns its processors take first, the program leaves the matrix times the vector. In
--- no phase does a processor touch a line that another writes. The operations of all processors together are the least
--- cost, in equal shares
+-- no phase does a processor touch a line that another writes. The operations of all processors together, where a
+-- multiplication counts as the request's weight, are the least cost, in equal shares
 pub record IsGood (r : Request) (least : ℕ) (p : Program) : Type 0 where
   pub header : HasHeader r p
   pub fits : Fits p
   pub product : (x turns : List ℕ) → IsVector r x → All (λ q. q < r.procs) turns →
       results (code_of p) x turns ≡ transform r.kind r.modulus r.size r.root x
   pub apart : (phase : ℕ) → IsApart (code_of p) phase
-  pub operations : (q : ℕ) → q < r.procs → r.procs * (whole_counts (code_of p) q).operations ≡ least
+  pub operations : (q : ℕ) → q < r.procs → r.procs * weighted r.weight (whole_counts (code_of p) q) ≡ least
 
 -- The actions of each processor are one part for each pass of the tree, in order, with an equal share of the pass's operations, loads and stores, between its two arrays. All processors together load and store exactly what the passes do
 pub record IsLean (r : Request) (t : Breakdown) (p : Program) : Type 0 where

@@ -4,21 +4,23 @@
 
 ghost use Rattle.std.specs.Prelude.{◌≡◌, ◌≢◌, false, Ok, Err, IfOk, IfErr, OnOk, OnErr};
 ghost use Rattle.matrix_meaning.specs.Valid.{IsInRange, IsValid};
-ghost use Rattle.code_gen.specs.Whole.{tree_listing};
+ghost use Rattle.formula_lower.specs.Merged.{tree_merged};
 ghost use Rattle.icode.specs.Program.{plain_program};
+ghost use Rattle.pass_programs.specs.Contract.{Performs};
 ghost use Rattle.tree_model.specs.Admissible.{IsAdmissible};
 ghost use Rattle.tree_model.specs.Breakdown.{breakdown_of};
 ghost use Rattle.tree_model.specs.Cost.{cost_of};
+ghost use Rattle.tree_passes.specs.Laws.{machine_of};
 ghost use Rattle.generate.specs.Good.{IsGood, IsLean};
 ghost use Rattle.generate.specs.Planned.{IsPlanned, IsAdmitted, IsBarred, IsRooted, has_root, root_power};
 ghost use Rattle.generate.specs.declared.GenerateFault.TheVariants as fault;
 
-use code_gen::emit;
 use icode::program::Program;
 use loop_merge::merge;
 use matrix_meaning::{Kind, Request};
 use memory::NoMemory;
 use plan_search::{Plan, PlanError, best};
+use program_emit::emit_on;
 use ring_mod::Modulus;
 use sigma_lower::lower;
 use smp_rewrite::to_smp;
@@ -121,8 +123,7 @@ pub fn plan(alloc: Global, request: &Request) -> Result<Plan, GenerateFault>
 
 /// A good program for the request, or the first cause to refuse it.
 pub fn generate(alloc: Global, request: &Request) -> Result<Product, GenerateFault>
-    requires in_range { IsInRange request.now }
-    requires weight { request.now.weight ≡ 1 }
+    requires { IsInRange request.now }
     ensures planned { IfOk result (λ product. IsPlanned request.now (Ok (breakdown_of product.plan.tree))) }
     ensures cost { IfOk result (λ product. product.plan.cost ≡ cost_of request.now (breakdown_of product.plan.tree)) }
     ensures good { IfOk result (λ product. IsGood request.now (cost_of request.now (breakdown_of product.plan.tree)) product.program) }
@@ -138,15 +139,15 @@ pub fn generate(alloc: Global, request: &Request) -> Result<Product, GenerateFau
 // The program of a tree: its products of tensors, cut for processors and lanes, become loops, the loops are merged, and
 // what is merged is written as code.
 fn tree_program(alloc: Global, c: &Ctx, tree: &Tree) -> Result<Program, NoMemory>
-    requires admissible { IsAdmissible c.now (breakdown_of tree.now) }
-    requires weight { c.now.weight ≡ 1 }
-    ensures { IfOk result (λ p. plain_program p ≡ tree_listing c.now (breakdown_of tree.now)) }
+    requires { IsAdmissible c.now (breakdown_of tree.now) }
+    ensures { IfOk result (λ p. Performs (machine_of c.now) (tree_merged c.now (breakdown_of tree.now)) (plain_program p)) }
 {
-    let _request = c.request();
+    let request = c.request();
     let blocks = to_smp(alloc, c, tree)?;
     let vectors = to_vec(alloc, c, blocks)?;
     let loops = lower(alloc, c, &vectors)?;
     let merged = merge(alloc, c, &loops)?;
-    let program = emit(alloc, c, &merged)?;
+    let modulus = Modulus::new(request.modulus).unwrap();
+    let program = emit_on(alloc, &modulus, request.line, &merged)?;
     Ok(program)
 }

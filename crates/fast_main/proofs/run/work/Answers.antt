@@ -1,4 +1,4 @@
-use Rattle.std.proofs.Common.{◌≡◌, ap, subst, ◌∙◌, Err, map, length, string_bytes, Global, arith}
+use Rattle.std.proofs.Common.{◌≡◌, ap, subst, ◌∙◌, Err, map, length, string_bytes, Global, arith, refl}
 use Rattle.std.proofs.lemmas.List.{length-map}
 use Rattle.std.proofs.lemmas.Result.{err_from_is_err_and}
 use Rattle.std.specs.Io.KnownBytes.{Consumes, IsAtEnd}
@@ -9,7 +9,7 @@ use Rattle.fast_main.proofs.run.work.Goals as goal
 pub returns-in_err-listing-clause-told : goal.returns-in_err-listing-clause-told
 returns-in_err-listing-clause-told g c =
     let words = map (string_bytes {Z = Global}) c.args.words.now.items in
-    let one : length words ≡ 1 = length-map c.args.words.now.items (string_bytes {Z = Global}) ∙ grind (arith, c.if-len-ne1.false, c.len.ensures) in
+    let one : length words ≡ 1 = length-map c.args.words.now.items (string_bytes {Z = Global}) ∙ grind (arith, c.if-not-are_alone.ensures.0 refl) in
     let told = g.I.Source.left c.args.input.now in
     let left = g.I.Source.left c.read_rest.new.source in
     let answer = c.in_err-listing.ensures.answer in
@@ -27,7 +27,7 @@ returns-in_err-listing-clause-end g c =
 pub returns-in_err-text-clause-told : goal.returns-in_err-text-clause-told
 returns-in_err-text-clause-told g c =
     let words = map (string_bytes {Z = Global}) c.args.words.now.items in
-    let one : length words ≡ 1 = length-map c.args.words.now.items (string_bytes {Z = Global}) ∙ grind (arith, c.if-len-ne1.false, c.len.ensures) in
+    let one : length words ≡ 1 = length-map c.args.words.now.items (string_bytes {Z = Global}) ∙ grind (arith, c.if-not-are_alone.ensures.0 refl) in
     let told = g.I.Source.left c.args.input.now in
     let left = g.I.Source.left c.read_rest.new.source in
     let answer = c.in_ok-listing.ensures.answer in
@@ -40,7 +40,7 @@ returns-in_err-text-clause-told g c =
 pub returns-in_err-write_all-clause-told : goal.returns-in_err-write_all-clause-told
 returns-in_err-write_all-clause-told g c =
     let words = map (string_bytes {Z = Global}) c.args.words.now.items in
-    let one : length words ≡ 1 = length-map c.args.words.now.items (string_bytes {Z = Global}) ∙ grind (arith, c.if-len-ne1.false, c.len.ensures) in
+    let one : length words ≡ 1 = length-map c.args.words.now.items (string_bytes {Z = Global}) ∙ grind (arith, c.if-not-are_alone.ensures.0 refl) in
     let told = g.I.Source.left c.args.input.now in
     let left = g.I.Source.left c.read_rest.new.source in
     let answer = c.in_ok-listing.ensures.answer in
@@ -54,7 +54,7 @@ returns-in_err-write_all-clause-told g c =
 pub returns-clause-told : goal.returns-clause-told
 returns-clause-told g c =
     let words = map (string_bytes {Z = Global}) c.args.words.now.items in
-    let one : length words ≡ 1 = length-map c.args.words.now.items (string_bytes {Z = Global}) ∙ grind (arith, c.if-len-ne1.false, c.len.ensures) in
+    let one : length words ≡ 1 = length-map c.args.words.now.items (string_bytes {Z = Global}) ∙ grind (arith, c.if-not-are_alone.ensures.0 refl) in
     let told = g.I.Source.left c.args.input.now in
     let left = g.I.Source.left c.read_rest.new.source in
     let answer = c.in_ok-listing.ensures.answer in
