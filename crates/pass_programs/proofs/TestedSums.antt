@@ -150,6 +150,7 @@ tested room n cs e h =
   where
     le : (a b : ℕ) → nat_le a b ≡ true → a ≤ b
     le a b h = grind (arith, nat_tests)
+
     lt : (a b : ℕ) → nat_lt a b ≡ true → a < b
     lt a b h = grind (arith, nat_tests)
 
