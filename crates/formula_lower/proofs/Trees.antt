@@ -1,6 +1,5 @@
--- Trees are merged by the law of all terms.
-use Rattle.std.proofs.Common.{◌≡◌, ℕ, ◌*◌, ◌<◌, ◌≤◌, Bool, true, false, arith, refl, sym, ap, ◌∙◌, List, [], ◌∷◌, subst, if◌then◌else◌}
-use Rattle.std.specs.Prelude.{map}
+-- The terms of the steps of a tree do what the steps do.
+use Rattle.std.proofs.Common.{◌≡◌, ℕ, ◌*◌, ◌<◌, ◌≤◌, Bool, true, false, arith, refl, sym, ap, ◌∙◌, List, subst, if◌then◌else◌}
 use Rattle.index_fn.specs.Mapping.{Strided, ThomasIn, ThomasOut, ThomasBack, at}
 use Rattle.matrix_meaning.specs.declared.Kind.{Kind}
 use Rattle.matrix_meaning.specs.declared.Kind.TheVariants.{Dft, Wht}
@@ -9,26 +8,25 @@ use Rattle.matrix_meaning.specs.Kind.{transform}
 use Rattle.matrix_meaning.specs.Valid.{IsValid}
 use Rattle.operators.specs.Loop.{IsPermutationBelow}
 use Rattle.operators.specs.Operator.{Operator, gather}
-use Rattle.passes.specs.Good.{CanNest, IsMove, IsGoodTerm, IsVector}
-use Rattle.passes.specs.Merge.{unit_below, back_of, most}
+use Rattle.passes.specs.Good.{CanNest, IsMove, IsVector}
+use Rattle.passes.specs.Merge.{unit_below, back_of}
 use Rattle.passes.specs.Nest as nests
-use Rattle.passes.specs.Term.{scat, nest, term_on}
+use Rattle.passes.specs.Term.{scat, nest}
 use Rattle.passes.specs.Work.{PlainWork, kernel, work_size, work_on}
 use Rattle.passes.proofs.Nests.{moves-no-words}
-use Rattle.passes.proofs.Keeps.{merge_keeps, scatter-same}
+use Rattle.passes.proofs.Keeps.{scatter-same}
 use Rattle.passes.proofs.Walk.{vector-below}
 use Rattle.formula_lower.specs.Terms.{Lowers}
-use Rattle.formula_lower.specs.Trees.{long_work, node_work, core_term, in_turn, tree_term, TreesMerge}
+use Rattle.formula_lower.specs.Trees.{long_work, node_work, core_term}
 use Rattle.formula_lower.proofs.Lowers.{gath-lowers}
 use Rattle.formula_lower.proofs.Moves.{back-wrapped, move-wrapped, strided-move, in-move, out-move}
 use Rattle.formula_lower.proofs.Parts.{IsWork, transform-work, nest-lowers, diag-lowers, under-keeps}
-use Rattle.sigma_lower.specs.Good.{AreCoprime, IsGoodCore, IsGood, AreGood}
+use Rattle.sigma_lower.specs.Good.{AreCoprime, IsGoodCore, IsGood}
 use Rattle.sigma_lower.specs.Wrapped.{wrapped}
-use Rattle.sigma_lower.proofs.Lowering.{good_steps, part-le}
-use Rattle.steps.specs.Meaning.{transform_of, core_size, core_on, step_on, all_on}
+use Rattle.sigma_lower.proofs.Lowering.{part-le}
+use Rattle.steps.specs.Meaning.{core_size, core_on, step_on}
 use Rattle.steps.specs.Step.{PlainCore, piece, turns, thomas_in, thomas_out, PlainStep, steps_of}
 use Rattle.steps.specs.Step as steps
-use Rattle.steps.proofs.StepMeanings.{steps_transform}
 use Rattle.tensor_paths.specs.Path.{Path, copies_of, size_under, under}
 use Rattle.tensor_paths.proofs.Under.{size_under-copies}
 use Rattle.tree_model.specs.Breakdown.{Breakdown, size_of}
@@ -111,19 +109,6 @@ core-keeps c (steps.twiddles r s) y positive h low v = vector-below c.modulus (r
 core-keeps c (thomas_in r s) y positive h low v = gather-keeps c.modulus (r * s) _ y (in-move r s h).permutes.there_below v
 core-keeps c (thomas_out r s) y positive h low v = gather-keeps c.modulus (r * s) _ y (out-move r s h).permutes.there_below v
 
--- the terms of steps, one after the other
-pub record StepsLower (c : Request) (ss : List PlainStep) : Type 0 where
-  pub good : IsGoodTerm 0 c.size (in_turn (map (λ (s : PlainStep). core_term c s.path s.core) ss))
-  pub on : (x : List ℕ) → IsVector c.modulus c.size x → term_on c.modulus c.size (in_turn (map (λ (s : PlainStep). core_term c s.path s.core) ss)) x ≡ all_on c ss x
-
-one-lowers : (c : Request) (s : PlainStep) → IsValid c → IsGood c s → Lowers c.modulus c.size (core_term c s.path s.core) (step_on c s)
-one-lowers c s valid h =
-    let size = h.size in
-    let d = core_size s.core in
-    let low : d ≤ c.size = part-le (copies_of s.path) d c.size (sym (size_under-copies s.path d) ∙ size) valid.in_range.size.0 in
-    subst (λ n. Lowers c.modulus n (core_term c s.path s.core) (step_on c s)) size
-    (core-lowers c s.path s.core (omega (arith, size, valid.in_range.size.0)) h.core (omega (arith, size, valid.in_range.size.1)) (omega (arith, low, valid.in_range.size.1)))
-
 pub step-keeps : (c : Request) (s : PlainStep) (x : List ℕ) → IsValid c → IsGood c s → IsVector c.modulus c.size x → IsVector c.modulus c.size (step_on c s x)
 step-keeps c s x valid h v =
     let size = h.size in
@@ -131,22 +116,3 @@ step-keeps c s x valid h v =
     let low : d ≤ c.size = part-le (copies_of s.path) d c.size (sym (size_under-copies s.path d) ∙ size) valid.in_range.size.0 in
     subst (λ n. IsVector c.modulus n (step_on c s x)) size
     (under-keeps c.modulus s.path d (core_on c s.core) x (λ y w. core-keeps c s.core y (omega (arith, valid.in_range.modulus)) h.core (omega (arith, low, valid.in_range.size.1)) w) (subst (λ n. IsVector c.modulus n x) (sym size) v))
-
-steps-lower : (c : Request) (ss : List PlainStep) → IsValid c → AreGood c ss → StepsLower c ss
-steps-lower c [] valid h = record { good = tt; on = λ x v. refl }
-steps-lower c (s ∷ ss) valid h =
-    let first = one-lowers c s valid h.0 in
-    let rest = steps-lower c ss valid h.1 in
-    record {
-      good = (first.good, rest.good);
-      on = λ x v. ap (term_on c.modulus c.size (in_turn (map (λ (s : PlainStep). core_term c s.path s.core) ss))) (first.on x v) ∙ rest.on (step_on c s x) (step-keeps c s x valid h.0 v);
-    }
-
-pub trees_merge : TreesMerge
-trees_merge c t valid formed size =
-    let lowered = steps-lower c (steps_of c [] t) valid (good_steps c [] t valid formed size) in
-    let merged = merge_keeps 0 c.modulus c.size (most 64) (tree_term c t) (omega (arith, valid.in_range.modulus)) (omega (arith, valid.in_range.size.0)) lowered.good in
-    record {
-      good = merged.good;
-      on = λ x v. merged.on x v ∙ lowered.on x v ∙ steps_transform c [] t 1 x valid formed (omega (arith, size)) ∙ ap (λ d. transform_of c d x) size;
-    }

@@ -1,22 +1,19 @@
--- The terms of trees, on one processor and one lane: by the same merging as formulas.
-use Rattle.std.specs.Prelude.{◌≡◌, ℕ, ◌*◌, if◌then◌else◌, List, [], ◌∷◌, map}
+-- The terms of the steps of trees.
+use Rattle.std.specs.Prelude.{ℕ, ◌*◌, if◌then◌else◌, List, [], ◌∷◌}
 use Rattle.index_fn.specs.Mapping.{Strided, ThomasIn, ThomasBack}
 use Rattle.matrix_meaning.specs.declared.Kind.{Kind}
 use Rattle.matrix_meaning.specs.declared.Kind.TheVariants.{Dft, Wht}
 use Rattle.matrix_meaning.specs.declared.Request.{Request}
-use Rattle.matrix_meaning.specs.Valid.{IsValid}
-use Rattle.passes.specs.Good.{AreGoodPasses, IsVector}
-use Rattle.passes.specs.Merge.{passes_of, unit_below}
+use Rattle.passes.specs.Merge.{unit_below}
 use Rattle.passes.specs.Nest.{passes_on, twiddles}
 use Rattle.passes.specs.Nest as nests
 use Rattle.passes.specs.Term.{PlainTerm, same, gath, scat, diag, nest, product}
 use Rattle.passes.specs.Work.{PlainWork, kernel, rows}
 use Rattle.sigma_lower.specs.Wrapped.{wrapped}
-use Rattle.steps.specs.Meaning.{transform_of}
 use Rattle.steps.specs.Step.{PlainCore, piece, turns, thomas_in, thomas_out, PlainStep, steps_of}
 use Rattle.steps.specs.Step as steps
 use Rattle.tensor_paths.specs.Path.{Path}
-use Rattle.tree_model.specs.Breakdown.{Breakdown, size_of, IsWellFormed}
+use Rattle.tree_model.specs.Breakdown.{Breakdown, size_of}
 use Rattle.tree_model.specs.Cost.{is_kernel, node_root}
 
 -- a longer leaf goes row by row
@@ -38,14 +35,3 @@ core_term c path (thomas_out r s) = scat (wrapped path (r * s) (ThomasBack r s (
 abbrev pub in_turn : List PlainTerm → PlainTerm
 in_turn [] = same
 in_turn (t ∷ ts) = product t (in_turn ts)
-
-abbrev pub tree_term : Request → Breakdown → PlainTerm
-tree_term c t = in_turn (map (λ (s : PlainStep). core_term c s.path s.core) (steps_of c [] t))
-
--- the passes of a tree are good, and do its transform
-pub record TreeMerges (c : Request) (t : Breakdown) : Type 0 where
-  pub good : AreGoodPasses 0 c.modulus c.size (passes_of c.size (tree_term c t))
-  pub on : (x : List ℕ) → IsVector c.modulus c.size x → passes_on c.modulus c.size (passes_of c.size (tree_term c t)) x ≡ transform_of c c.size x
-
-abbrev pub TreesMerge : Type 0
-TreesMerge = (c : Request) (t : Breakdown) → IsValid c → IsWellFormed c.kind t → size_of t ≡ c.size → TreeMerges c t

@@ -7,7 +7,6 @@ ghost use Rattle.formula_lower.specs.Operations.{LowerCounts};
 ghost use Rattle.formula_lower.specs.Terms.{LowerKeeps};
 ghost use Rattle.formula_lower.specs.Order.{TreesAreLoops, TreesOrdered};
 ghost use Rattle.formula_lower.specs.Shared.{FactorsEmbed, SharedTreesMerge, TreesEmbed};
-ghost use Rattle.formula_lower.specs.Trees.{TreesMerge};
 
 /// The term of a formula does what the formula does: a law of the definitions.
 pub fn lower_keeps()
@@ -22,11 +21,6 @@ pub fn lower_counts()
 /// The passes of any formula do what it does, in its operations: a law of the definitions.
 pub fn formulas_compile()
     ensures { FormulasCompile }
-{}
-
-/// Trees on one processor and one lane are merged by the same law: a law of the definitions.
-pub fn trees_merge()
-    ensures { TreesMerge }
 {}
 
 /// The terms of trees for any processors and lanes are good terms, which do what they did: a law of the definitions.

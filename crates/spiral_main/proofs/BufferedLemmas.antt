@@ -1,12 +1,10 @@
 -- Runs with store buffers, from a vector's start.
-use Rattle.std.proofs.Common.{◌≡◌, ◌<◌, ◌≤◌, ◌+◌, ◌-◌, ℕ, Bool, true, false, List, [], ◌∷◌, ◌++◌, Ok, Err, Result, length, refl, sym, ap, ap₂, subst, ◌∙◌, arith, inl, inr}
-use Rattle.std.specs.declared.option.Option.{Option}
-use Rattle.icode.specs.declared.event.Event.{Event}
+use Rattle.std.proofs.Common.{◌≡◌, ℕ, Bool, List, ap, ◌∙◌}
 use Rattle.icode.specs.Buffers.{Buffered, buffered_finished, buffered_results, buffered_run, buffered_runs, buffered_start}
 use Rattle.icode.specs.Machine.{Code, words_at, padded}
 use Rattle.buffer_machine.specs.declared.Events.{Events}
 use Rattle.buffer_machine.specs.Listed.{events_of}
-use Rattle.spiral_main.specs.BufferedText.{asked_lines, buffered_text}
+use Rattle.spiral_main.specs.BufferedText.{asked_lines}
 
 -- the words that a run leaves
 pub results_left : (events : Events) (code last : Code) (x : List ℕ) (ended : Buffered) → last ≡ code → ended ≡ buffered_runs code x (events_of events code.procs)

@@ -1,5 +1,5 @@
 -- What the commands with store buffers perform.
-use Rattle.std.proofs.Common.{◌≡◌, ◌<◌, ◌≤◌, ◌-◌, ◌++◌, ℕ, false, true, List, [], ◌∷◌, Ok, Err, Result, refl, sym, ap, ap₂, subst, ◌∙◌, arith}
+use Rattle.std.proofs.Common.{◌≡◌, ◌≤◌, ◌-◌, ◌++◌, ℕ, false, true, List, [], ◌∷◌, Result, refl, sym, ap, ap₂, subst, ◌∙◌, arith}
 use Rattle.std.proofs.KnownBytes.{Appends-nil}
 use Rattle.std.specs.declared.option.Option.{Option}
 use Rattle.std.specs.Io.KnownBytes.{Appends}

@@ -1,5 +1,5 @@
 -- The vector of a seed, and what a run on it counts.
-use Rattle.std.proofs.Common.{◌≡◌, ◌<◌, ◌≤◌, ◌+◌, ◌*◌, ◌%◌, ℕ, zero, suc, List, [], ◌∷◌, ◌++◌, length, slice_index, All, refl, sym, ap, ap₂, subst, ◌∙◌, arith, mod-lt, zero-add}
+use Rattle.std.proofs.Common.{◌≡◌, ◌<◌, ◌≤◌, ◌+◌, ◌-◌, ◌*◌, ◌%◌, ◌^◌, ℕ, zero, suc, List, [], ◌∷◌, ◌++◌, length, slice_index, All, refl, sym, ap, ap₂, subst, ◌∙◌, arith, mod-lt, mul-zero, zero-add}
 use Rattle.std.proofs.lemmas.Nat.{mul-mod}
 use Rattle.std.proofs.lemmas.List.Elements.{All-map}
 use Rattle.std.proofs.lemmas.List.FromFn.{map-range_with_len_more}
@@ -11,7 +11,7 @@ use Rattle.matrix_meaning.specs.declared.Request.{Request}
 use Rattle.matrix_meaning.specs.Valid.{IsInRange}
 use Rattle.icode.specs.declared.action.Action.{Action}
 use Rattle.icode.specs.declared.action.Counts.{Counts}
-use Rattle.icode.specs.Machine.{Code, State, IsCode, IsApart, results, runs, counts_of, counts_so_far, whole_counts}
+use Rattle.icode.specs.Machine.{Code, State, IsCode, IsApart, results, runs, counts_of, counts_so_far, weighted, whole_counts}
 use Rattle.icode.specs.Program.{plain_program, code_of}
 use Rattle.icode.proofs.Lists.{code_is}
 use Rattle.icode.proofs.Runs.{counts_of_runs}
@@ -73,6 +73,7 @@ good_counts request code state vector turns good in_range ran =
     let small : (actions : List Action) → AreSmall (length actions * p.lanes) (counts_of p.lanes actions) = counts_small p.lanes in
     record {
       operations = omega (arith, same (λ c. c.operations), within_word p good.3.fits few (λ c. c.operations) (λ actions. (small actions).operations));
+      muls = omega (arith, same (λ c. c.muls), within_word p good.3.fits few (λ c. c.muls) (λ actions. (small actions).muls));
       loads = omega (arith, same (λ c. c.loads), within_word p good.3.fits few (λ c. c.loads) (λ actions. (small actions).loads));
       stores = omega (arith, same (λ c. c.stores), within_word p good.3.fits few (λ c. c.stores) (λ actions. (small actions).stores));
     }
@@ -88,17 +89,52 @@ sample_fits request seed in_range = record {
   residues = sample_below request.modulus request.size seed (omega (arith, in_range.modulus.0));
 }
 
+-- the operations of all, where a multiplication counts as several
+sum-weighted : (weight n : ℕ) (f : ℕ → Counts) → sum_below n (λ q. weighted weight (f q)) ≡ sum_below n (λ q. (f q).operations) + (weight - 1) * sum_below n (λ q. (f q).muls)
+sum-weighted weight zero f = let none = mul-zero (weight - 1) in omega arith
+sum-weighted weight (suc n) f =
+    ap (λ k. k + weighted weight (f n)) (sum-weighted weight n f)
+    ∙ more-weighted (weight - 1) (sum_below n (λ q. (f q).operations)) (sum_below n (λ q. (f q).muls)) (f n).operations (f n).muls
+  where
+    more-weighted : (more o m p n : ℕ) → o + more * m + (p + more * n) ≡ o + p + more * (m + n)
+    more-weighted more o m p n = omega arith
+
+-- all processors together have executed exactly what the chosen tree costs
+pub costs : (request : Request) (code after : Code) (vector turns : List ℕ) (state : State) (counts : Counts) → (good : IsGoodCode request code) → IsInRange request → after ≡ code → state ≡ runs code vector turns
+    → counts.operations ≡ sum_below after.procs (λ q. (counts_so_far after state q).operations)
+    → counts.muls ≡ sum_below after.procs (λ q. (counts_so_far after state q).muls)
+    → weighted request.weight counts ≡ cost_of request good.0
+costs request code after vector turns state counts good in_range same ran operations muls =
+    let program = good.1 in
+    let is : IsCode code = subst IsCode (sym good.4) (code_is (plain_program program)) in
+    let apart : (phase : ℕ) → IsApart code phase = λ phase. subst (λ (k : Code). IsApart k phase) (sym good.4) (good.3.apart phase) in
+    let whole : (q : ℕ) → counts_so_far code state q ≡ whole_counts code q = λ q. ap (λ s. counts_so_far code s q) ran ∙ counts_of_runs code is vector turns q in
+    let some : 0 < (code_of program).procs = omega (arith, good.3.header.procs, in_range.procs.0) in
+    let share : (q : ℕ) → q < (code_of program).procs → (code_of program).procs * weighted request.weight (whole_counts (code_of program) q) ≡ cost_of request good.0 =
+    λ q below. ap (λ n. n * weighted request.weight (whole_counts (code_of program) q)) good.3.header.procs ∙ good.3.operations q (subst (λ n. q < n) good.3.header.procs below) in
+    ap₂ (λ o m. o + (request.weight - 1) * m) operations muls
+    ∙ sym (sum-weighted request.weight after.procs (λ q. counts_so_far after state q))
+    ∙ ap (λ (k : Code). sum_below k.procs (λ q. weighted request.weight (counts_so_far k state q))) same
+    ∙ sum_below-same code.procs _ _ (λ q _. ap (weighted request.weight) (whole q))
+    ∙ ap (λ (k : Code). sum_below k.procs (λ q. weighted request.weight (whole_counts k q))) good.4
+    ∙ whole-of (code_of program).procs (cost_of request good.0) (λ q. weighted request.weight (whole_counts (code_of program) q)) some share
+
+-- which is counted in 64 bits
+pub cost_fits : (request : Request) (code : Code) (n : ℕ) → (good : IsGoodCode request code) → IsInRange request → n ≡ cost_of request good.0 → n < 2 ^ 64
+cost_fits request code n good in_range is = let within = good.2.2 in let high = in_range.budget.1 in omega arith
+
 -- what the parts of a sample come to
 pub sampled : (request : Request) (code after : Code) (plan : Plan) (m n seed : ℕ) (vector y : List ℕ) (state : State) (sum : ℕ) (counts : Counts) (text : List ℕ)
     → IsGoodCode request code → IsInRange request → HasNoStranger plan request.procs
     → after ≡ code → m ≡ code.modulus → n ≡ code.size → vector ≡ sample_vector m n seed
     → y ≡ results code vector (turns_of plan code.procs) → state ≡ runs code vector (turns_of plan code.procs) → sum ≡ weighted_sum m y
     → counts.operations ≡ sum_below after.procs (λ q. (counts_so_far after state q).operations)
+    → counts.muls ≡ sum_below after.procs (λ q. (counts_so_far after state q).muls)
     → counts.loads ≡ sum_below after.procs (λ q. (counts_so_far after state q).loads)
     → counts.stores ≡ sum_below after.procs (λ q. (counts_so_far after state q).stores)
-    → text ≡ sample_text sum counts.operations counts.loads counts.stores
+    → text ≡ sample_text sum (weighted request.weight counts) counts.loads counts.stores
     → IsSampleText request seed text
-sampled request code after plan m n seed vector y state sum counts text good in_range none same modulus size v run ran s operations loads stores t =
+sampled request code after plan m n seed vector y state sum counts text good in_range none same modulus size v run ran s operations muls loads stores t =
     let turns = turns_of plan code.procs in
     let program = good.1 in
     let is : IsCode code = subst IsCode (sym good.4) (code_is (plain_program program)) in
@@ -108,15 +144,8 @@ sampled request code after plan m n seed vector y state sum counts text good in_
     let times : y ≡ product request vector = run ∙ ap (λ k. results k vector turns) good.4 ∙ good.3.product vector turns fits (good_turns plan request code good in_range none) in
     let of_request : m ≡ request.modulus = modulus ∙ ap (λ (k : Code). k.modulus) good.4 ∙ good.3.header.modulus in
     let whole : (q : ℕ) → counts_so_far code state q ≡ whole_counts code q = λ q. ap (λ s. counts_so_far code s q) ran ∙ counts_of_runs code is vector turns q in
-    let some : 0 < (code_of program).procs = omega (arith, good.3.header.procs, in_range.procs.0) in
-    let share : (q : ℕ) → q < (code_of program).procs → (code_of program).procs * (whole_counts (code_of program) q).operations ≡ cost_of request good.0 =
-    λ q below. ap (λ n. n * (whole_counts (code_of program) q).operations) good.3.header.procs ∙ good.3.operations q (subst (λ n. q < n) good.3.header.procs below) in
     let sum_is = s ∙ ap₂ weighted_sum of_request (times ∙ ap (product request) here) in
-    let operations_is : counts.operations ≡ cost_of request good.0 =
-    operations ∙ ap (λ (k : Code). sum_below k.procs (λ q. (counts_so_far k state q).operations)) same
-    ∙ sum_below-same code.procs _ _ (λ q _. ap (λ (c : Counts). c.operations) (whole q))
-    ∙ ap (λ (k : Code). sum_below k.procs (λ q. (whole_counts k q).operations)) good.4
-    ∙ whole-of (code_of program).procs (cost_of request good.0) (λ q. (whole_counts (code_of program) q).operations) some share in
+    let operations_is : weighted request.weight counts ≡ cost_of request good.0 = costs request code after vector turns state counts good in_range same ran operations muls in
     let loads_is : counts.loads ≡ loads_of request good.0 =
     loads ∙ ap (λ (k : Code). sum_below k.procs (λ q. (counts_so_far k state q).loads)) same
     ∙ sum_below-same code.procs _ _ (λ q _. ap (λ (c : Counts). c.loads) (whole q)) ∙ ap (λ (k : Code). sum_below k.procs (λ q. (whole_counts k q).loads)) good.4
@@ -126,7 +155,7 @@ sampled request code after plan m n seed vector y state sum counts text good in_
     ∙ sum_below-same code.procs _ _ (λ q _. ap (λ (c : Counts). c.stores) (whole q)) ∙ ap (λ (k : Code). sum_below k.procs (λ q. (whole_counts k q).stores)) good.4
     ∙ ap (λ n. sum_below n (λ q. (whole_counts (code_of program) q).stores)) good.3.header.procs ∙ good.5.stores in
     let text_is =
-    t ∙ ap (λ k. sample_text k counts.operations counts.loads counts.stores) sum_is
+    t ∙ ap (λ k. sample_text k (weighted request.weight counts) counts.loads counts.stores) sum_is
     ∙ ap (λ k. sample_text (weighted_sum request.modulus (product request (sample_vector request.modulus request.size seed))) k counts.loads counts.stores) operations_is
     ∙ ap₂ (sample_text (weighted_sum request.modulus (product request (sample_vector request.modulus request.size seed))) (cost_of request good.0)) loads_is stores_is in
     (good.0, good.2, text_is)

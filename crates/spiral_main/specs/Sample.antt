@@ -19,5 +19,6 @@ sample_text sum operations loads stores =
 -- what all processors have executed together is counted in 64 bits
 pub record AreCountable (code : Code) (s : State) : Type 0 where
   pub operations : sum_below code.procs (λ q. (counts_so_far code s q).operations) < 2 ^ 64
+  pub muls : sum_below code.procs (λ q. (counts_so_far code s q).muls) < 2 ^ 64
   pub loads : sum_below code.procs (λ q. (counts_so_far code s q).loads) < 2 ^ 64
   pub stores : sum_below code.procs (λ q. (counts_so_far code s q).stores) < 2 ^ 64

@@ -26,7 +26,7 @@ pub(crate) fn ask<I: Source>(
     requires fresh { feed.old.taken ≡ 0 }
     ensures told { Asks command.now (to_come feed.old (I.left input.old)) (to_come feed.new (I.left input.new)) feed.new.taken result }
     ensures within { OnOk result (feed.new.taken ≤ 257) }
-    ensures request { IfOk result (λ request. IsInRange request × (request.weight ≡ 1)) }
+    ensures request { IfOk result IsInRange }
     ensures turns { IfOk result (λ request. NamesNoStranger command.now request.procs) }
     ensures empty { IsErrOf result Status.ReadFault → feed.new.held ≡ [] }
     ensures read { Reports (I.faults input.old) (I.faults input.new) (IsErrOf result Status.ReadFault) }

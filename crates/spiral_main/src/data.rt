@@ -30,7 +30,6 @@ pub(crate) fn run<I: Source, O: Sink>(
     output: &mut O,
 ) -> Result<(), Status>
     requires in_range { IsInRange request.now }
-    requires weight { request.now.weight ≡ 1 }
     requires turns { NamesNoStranger (Command.Run order.now) request.now.procs }
     requires within { feed.old.taken ≤ limit }
     ensures told { ToldPerforms (Command.Run order.now) request.now (limit - feed.old.taken) (to_come feed.old (I.left input.old))
@@ -61,7 +60,6 @@ fn run_turns<I: Source, O: Sink>(
     output: &mut O,
 ) -> Result<(), Status>
     requires in_range { IsInRange request.now }
-    requires weight { request.now.weight ≡ 1 }
     requires turns { HasNoStranger schedule.now request.now.procs }
     requires within { feed.old.taken ≤ limit }
     ensures told { ToldPerforms (Command.Run (Order.Turns schedule.now)) request.now (limit - feed.old.taken) (to_come feed.old (I.left input.old))
@@ -96,7 +94,6 @@ pub(crate) fn trace<I: Source, O: Sink>(
     output: &mut O,
 ) -> Result<(), Status>
     requires in_range { IsInRange request.now }
-    requires weight { request.now.weight ≡ 1 }
     requires turns { NamesNoStranger (Command.Trace order.now) request.now.procs }
     requires within { feed.old.taken ≤ limit }
     ensures told { ToldPerforms (Command.Trace order.now) request.now (limit - feed.old.taken) (to_come feed.old (I.left input.old))
@@ -127,7 +124,6 @@ fn trace_turns<I: Source, O: Sink>(
     output: &mut O,
 ) -> Result<(), Status>
     requires in_range { IsInRange request.now }
-    requires weight { request.now.weight ≡ 1 }
     requires turns { HasNoStranger schedule.now request.now.procs }
     requires within { feed.old.taken ≤ limit }
     ensures told { ToldPerforms (Command.Trace (Order.Turns schedule.now)) request.now (limit - feed.old.taken) (to_come feed.old (I.left input.old))

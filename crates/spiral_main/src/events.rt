@@ -27,7 +27,6 @@ use std::alloc::Global;
 // A machine with store buffers and a good program for the request, and room for a vector.
 fn buffered_engine(alloc: Global, request: &Request) -> Result<(BufMachine, Vec<u64>), Status>
     requires in_range { IsInRange request.now }
-    requires weight { request.now.weight ≡ 1 }
     ensures affordable { OnOk result (IsAffordable request.now) }
     ensures machine { IfOk result (λ made. IsGoodCode request.now made.0.code) }
     ensures room { IfOk result (λ made. vec_len made.1 ≡ made.0.code.size) }
@@ -47,7 +46,6 @@ fn traced_buffered_engine(
     request: &Request,
 ) -> Result<(Vec<u8>, BufMachine, Vec<u64>), Status>
     requires in_range { IsInRange request.now }
-    requires weight { request.now.weight ≡ 1 }
     ensures program { IfOk result (λ made. (program : SpecProgram) × IsProgramFor request.now program
         × (made.0.items ≡ listing_of (plain_program program)) × (made.1.code ≡ code_of program)) }
     ensures room { IfOk result (λ made. vec_len made.2 ≡ made.1.code.size) }
@@ -72,7 +70,6 @@ pub(crate) fn run_events<I: Source, O: Sink>(
     output: &mut O,
 ) -> Result<(), Status>
     requires in_range { IsInRange request.now }
-    requires weight { request.now.weight ≡ 1 }
     requires turns { HasNoStranger events request.now.procs }
     requires within { feed.old.taken ≤ limit }
     ensures told { ToldPerforms (Command.Run (order_of events.entry)) request.now (limit - feed.old.taken) (to_come feed.old (I.left input.old))
@@ -107,7 +104,6 @@ pub(crate) fn trace_events<I: Source, O: Sink>(
     output: &mut O,
 ) -> Result<(), Status>
     requires in_range { IsInRange request.now }
-    requires weight { request.now.weight ≡ 1 }
     requires turns { HasNoStranger events request.now.procs }
     requires within { feed.old.taken ≤ limit }
     ensures told { ToldPerforms (Command.Trace (order_of events.entry)) request.now (limit - feed.old.taken) (to_come feed.old (I.left input.old))

@@ -32,7 +32,6 @@ fn write_text<O: Sink>(
     output: &mut O,
 ) -> Result<(), Status>
     requires in_range { IsInRange request.now }
-    requires weight { request.now.weight ≡ 1 }
     requires turns { NamesNoStranger command.now request.now.procs }
     requires textual { has_text command.now ≡ true }
     ensures told { (room : ℕ) (bytes : List ℕ) (left : Option (List ℕ)) → Performs command.now request.now room bytes left
@@ -57,7 +56,6 @@ fn perform<I: Source, O: Sink>(
     output: &mut O,
 ) -> Result<(), Status>
     requires in_range { IsInRange request.now }
-    requires weight { request.now.weight ≡ 1 }
     requires turns { NamesNoStranger command.now request.now.procs }
     requires line { feed.old.taken ≤ 257 }
     requires request { takes_request command.now ≡ true }

@@ -1,8 +1,8 @@
 // One vector of the generator: the sum of its transform, and what a run on it counts.
-ghost use Rattle.std.specs.Prelude.{◌≡◌, ◌++◌, length, Ok, Err, IfOk, IfErr, OnOk};
+ghost use Rattle.std.specs.Prelude.{◌≡◌, ◌++◌, ◌<◌, ◌≤◌, ◌^◌, length, Ok, Err, IfOk, IfErr, OnOk};
 ghost use Rattle.operators.specs.Sum.{sum_below};
 ghost use Rattle.matrix_meaning.specs.Valid.{IsInRange};
-ghost use Rattle.icode.specs.Machine.{counts_so_far};
+ghost use Rattle.icode.specs.Machine.{counts_so_far, weighted};
 ghost use Rattle.spiral_main.specs.Outcome.{IsRefused, IsAffordable, IsSampleText};
 ghost use Rattle.spiral_main.specs.Sample.{sample_vector, weighted_sum, sample_text, AreCountable};
 ghost use Rattle.spiral_main.specs.Status.{IsDefined};
@@ -49,31 +49,49 @@ fn weighted_sum(modulus: Modulus, vector: &[u64]) -> u64
 fn all_counts(machine: &Machine) -> Counts
     requires { AreCountable machine.now.code machine.now.state }
     ensures operations { result.operations ≡ sum_below machine.now.code.procs (λ q. (counts_so_far machine.now.code machine.now.state q).operations) }
+    ensures muls { result.muls ≡ sum_below machine.now.code.procs (λ q. (counts_so_far machine.now.code machine.now.state q).muls) }
     ensures loads { result.loads ≡ sum_below machine.now.code.procs (λ q. (counts_so_far machine.now.code machine.now.state q).loads) }
     ensures stores { result.stores ≡ sum_below machine.now.code.procs (λ q. (counts_so_far machine.now.code machine.now.state q).stores) }
 {
     let mut operations = 0;
+    let mut muls = 0;
     let mut loads = 0;
     let mut stores = 0;
     for proc in 0..machine.procs() {
         let counts = machine.counts(proc);
         operations += counts.operations;
+        muls += counts.muls;
         loads += counts.loads;
         stores += counts.stores;
     }
     Counts {
         operations,
+        muls,
         loads,
         stores,
     }
 }
 
-fn sample_text(alloc: Global, sum: u64, counts: &Counts) -> Result<Vec<u8>, NoMemory>
-    ensures { IfOk result (λ text. text.items ≡ sample_text sum counts.now.operations counts.now.loads counts.now.stores) }
+// The operations, where a multiplication counts as so many of them.
+fn weighted(counts: &Counts, weight: u64) -> u64
+    requires weight { 1 ≤ weight }
+    requires room { weighted weight counts.now < 2 ^ 64 }
+    ensures { result ≡ weighted weight counts.now }
+{
+    counts.operations + (weight - 1) * counts.muls
+}
+
+fn sample_text(
+    alloc: Global,
+    sum: u64,
+    operations: u64,
+    counts: &Counts,
+) -> Result<Vec<u8>, NoMemory>
+    ensures { IfOk result (λ text. text.items ≡ sample_text sum operations counts.now.loads counts.now.stores) }
 {
     let mut text = Vec::new(alloc);
     put(&mut text, b"sum ", sum)?;
-    put(&mut text, b"\noperations ", counts.operations)?;
+    put(&mut text, b"\noperations ", operations)?;
     put(&mut text, b"\nloads ", counts.loads)?;
     put(&mut text, b"\nstores ", counts.stores)?;
     text.extend_from_slice(b"\n")?;
@@ -88,7 +106,6 @@ pub(crate) fn sample(
     schedule: &Schedule,
 ) -> Result<Vec<u8>, Status>
     requires in_range { IsInRange request.now }
-    requires weight { request.now.weight ≡ 1 }
     requires turns { HasNoStranger schedule.now request.now.procs }
     ensures affordable { OnOk result (IsAffordable request.now) }
     ensures text { IfOk result (λ text. IsSampleText request.now seed text.items) }
@@ -101,6 +118,7 @@ pub(crate) fn sample(
     transform(&mut machine, schedule, &mut vector);
     let sum = weighted_sum(modulus, &vector);
     let counts = all_counts(&machine);
-    let text = sample_text(alloc, sum, &counts)?;
+    let operations = weighted(&counts, request.weight);
+    let text = sample_text(alloc, sum, operations, &counts)?;
     Ok(text)
 }

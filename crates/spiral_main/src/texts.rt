@@ -27,7 +27,6 @@ use std::alloc::Global;
 /// A good program for the request.
 pub(crate) fn good_product(alloc: Global, request: &Request) -> Result<Product, Status>
     requires in_range { IsInRange request.now }
-    requires weight { request.now.weight ≡ 1 }
     ensures planned { IfOk result (λ product. IsPlanned request.now (Ok (breakdown_of product.plan.tree))) }
     ensures good { IfOk result (λ product. IsGood request.now (cost_of request.now (breakdown_of product.plan.tree)) product.program) }
     ensures lean { IfOk result (λ product. IsLean request.now (breakdown_of product.plan.tree) product.program) }
@@ -43,7 +42,6 @@ pub(crate) fn good_product(alloc: Global, request: &Request) -> Result<Product, 
 /// A machine with a good program for the request, and room for a vector.
 pub(crate) fn engine(alloc: Global, request: &Request) -> Result<(Machine, Vec<u64>), Status>
     requires in_range { IsInRange request.now }
-    requires weight { request.now.weight ≡ 1 }
     ensures affordable { OnOk result (IsAffordable request.now) }
     ensures machine { IfOk result (λ made. IsGoodCode request.now made.0.code) }
     ensures room { IfOk result (λ made. vec_len made.1 ≡ made.0.code.size) }
@@ -63,7 +61,6 @@ pub(crate) fn traced_engine(
     request: &Request,
 ) -> Result<(Vec<u8>, Machine, Vec<u64>), Status>
     requires in_range { IsInRange request.now }
-    requires weight { request.now.weight ≡ 1 }
     ensures program { IfOk result (λ made. (program : SpecProgram) × IsProgramFor request.now program
         × (made.0.items ≡ listing_of (plain_program program)) × (made.1.code ≡ code_of program)) }
     ensures room { IfOk result (λ made. vec_len made.2 ≡ made.1.code.size) }
@@ -81,7 +78,6 @@ pub(crate) fn traced_engine(
 // The listing of a good program for the request.
 fn listing(alloc: Global, request: &Request) -> Result<Vec<u8>, Status>
     requires in_range { IsInRange request.now }
-    requires weight { request.now.weight ≡ 1 }
     ensures affordable { OnOk result (IsAffordable request.now) }
     ensures text { IfOk result (λ text. IsListing request.now text.items) }
     ensures refused { IfErr result (λ status. IsDefined status → IsRefused request.now status) }
@@ -95,7 +91,6 @@ fn listing(alloc: Global, request: &Request) -> Result<Vec<u8>, Status>
 // The C text of a good program for the request.
 fn c_text(alloc: Global, request: &Request) -> Result<Vec<u8>, Status>
     requires in_range { IsInRange request.now }
-    requires weight { request.now.weight ≡ 1 }
     ensures affordable { OnOk result (IsAffordable request.now) }
     ensures text { IfOk result (λ text. IsCText request.now text.items) }
     ensures refused { IfErr result (λ status. IsDefined status → IsRefused request.now status) }
@@ -113,7 +108,6 @@ pub(crate) fn text_of(
     request: &Request,
 ) -> Result<Vec<u8>, Status>
     requires in_range { IsInRange request.now }
-    requires weight { request.now.weight ≡ 1 }
     requires turns { NamesNoStranger command.now request.now.procs }
     requires textual { has_text command.now ≡ true }
     ensures affordable { OnOk result (IsAffordable request.now) }

@@ -10,6 +10,7 @@ use crate::line::{Named, command_found, parsed};
 use crate::seed::seed_of;
 use request_text::{Mix, MixFault, Schedule, ScheduleFault, read_mix, read_schedule};
 use std::alloc::{AllocError, Global};
+use thiserror::Error;
 
 /// What the words ask for.
 #[derive(Debug, Drop)]
@@ -38,10 +39,13 @@ pub enum Order {
 }
 
 /// Why the words ask for nothing.
-#[derive(Clone, Copy, Debug, PartialEq, Eq)]
+#[derive(Clone, Copy, Debug, PartialEq, Eq, Error)]
 pub enum Refusal {
     /// They are no command line.
+    #[error("usage")]
     Usage,
+    /// Memory ran out.
+    #[error("out of memory")]
     NoMemory,
 }
 

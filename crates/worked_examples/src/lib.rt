@@ -27,3 +27,5 @@ mod strangers;
 mod streams;
 #[cfg(test)]
 mod ways;
+#[cfg(test)]
+mod weights;

@@ -18,10 +18,9 @@ use std::process::Abort;
 use std::test::Fail;
 use tree_model::Ctx;
 
-// The request of the line.
-fn request_of(line: &[u8]) -> Result<Request, Fail>
+/// The request of the line.
+pub(crate) fn request_of(line: &[u8]) -> Result<Request, Fail>
     ensures in_range { IfOk result IsInRange }
-    ensures weight { IfOk result (λ request. request.weight ≡ 1) }
 {
     match read_request(line) {
         Ok(request) => Ok(request),
@@ -69,7 +68,6 @@ fn by_text(alloc: Global, request: &Request, x: &[u64]) -> Result<Vec<u64>, Fail
 // What a run of the generated program leaves.
 fn by_machine(alloc: Global, request: &Request, x: &[u64]) -> Result<Vec<u64>, Fail>
     requires in_range { IsInRange request.now }
-    requires weight { request.now.weight ≡ 1 }
     requires size { length x.now ≡ request.now.size }
     requires residues { All (λ v. v < request.now.modulus) x.now }
 {
@@ -159,6 +157,7 @@ fn turns_of_a_program(rt: HostRuntime) -> Result<(), Fail> {
     assert_eq!(rt; word(&machine, 3), Some(5));
     let counts = Counts {
         operations: 3,
+        muls: 1,
         loads: 2,
         stores: 2,
     };
@@ -179,7 +178,6 @@ dft 4 mod 17 root 3 budget 1|the root to the power of the size is 13, not 1
 
 fn described(alloc: Global, request: &Request) -> Result<String, Fail>
     requires in_range { IsInRange request.now }
-    requires weight { request.now.weight ≡ 1 }
 {
     match generate(alloc, request) {
         Ok(product) => {

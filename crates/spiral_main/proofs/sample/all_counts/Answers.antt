@@ -14,6 +14,16 @@ overflow_add-operations c =
           c.loop-proc.invariant.operations (ap (λ (k : Counts). k.operations) c.counts-counts.ensures) c.requires.operations,
     )
 
+pub overflow_add-muls : goal.overflow_add-muls
+overflow_add-muls c =
+    let machine = c.args.machine.now in
+    let low : c.loop-proc.proc < machine.code.procs = omega (arith, c.procs-proc-end.ensures.value) in
+    omega (
+      arith,
+      next_fits machine.code.procs c.loop-proc.proc c.loop-proc.muls c.counts-counts.result.muls (λ q. (counts_so_far machine.code machine.state q).muls) low
+          c.loop-proc.invariant.muls (ap (λ (k : Counts). k.muls) c.counts-counts.ensures) c.requires.muls,
+    )
+
 pub overflow_add-loads : goal.overflow_add-loads
 overflow_add-loads c =
     let machine = c.args.machine.now in

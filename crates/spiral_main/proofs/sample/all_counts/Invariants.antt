@@ -7,6 +7,7 @@ use Rattle.spiral_main.proofs.sample.all_counts.Given as goal
 abbrev pub invariant-loop-proc : goal.invariant-loop-proc
 invariant-loop-proc l = record {
   operations : l.operations ≡ sum_below l.proc (λ q. (counts_so_far l.fn.machine.code l.fn.machine.state q).operations);
+  muls : l.muls ≡ sum_below l.proc (λ q. (counts_so_far l.fn.machine.code l.fn.machine.state q).muls);
   loads : l.loads ≡ sum_below l.proc (λ q. (counts_so_far l.fn.machine.code l.fn.machine.state q).loads);
   stores : l.stores ≡ sum_below l.proc (λ q. (counts_so_far l.fn.machine.code l.fn.machine.state q).stores);
 }

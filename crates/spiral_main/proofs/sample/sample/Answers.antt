@@ -3,8 +3,8 @@ use Rattle.std.proofs.lemmas.List.{with_items_is}
 use Rattle.std.specs.Vec.{with_items}
 use Rattle.icode.specs.Machine.{Code}
 use Rattle.request_text.specs.Turns.{turns_of}
-use Rattle.spiral_main.specs.Sample.{weighted_sum, AreCountable}
-use Rattle.spiral_main.proofs.SampleLemmas.{sample_residues, good_counts, sampled}
+use Rattle.spiral_main.specs.Sample.{sample_text, weighted_sum, AreCountable}
+use Rattle.spiral_main.proofs.SampleLemmas.{sample_residues, good_counts, costs, cost_fits, sampled}
 use Rattle.spiral_main.proofs.sample.sample.Goals as goal
 
 pub transform-requires-clause-residues : goal.transform-requires-clause-residues
@@ -19,6 +19,13 @@ all_counts-counts-requires c =
     let code = c.in_ok-machine.machine.code in
     subst (λ (k : Code). AreCountable k c.transform.new.machine.state) (sym c.transform.ensures.code)
     (good_counts c.args.request.now code c.transform.new.machine.state c.deref_mut-2.result.now (turns_of c.args.schedule.now code.procs) c.in_ok-machine.ensures.machine c.requires.in_range c.transform.ensures.state)
+
+pub weighted-operations-requires-clause-room : goal.weighted-operations-requires-clause-room
+weighted-operations-requires-clause-room c =
+    let code = c.in_ok-machine.machine.code in
+    cost_fits c.args.request.now code _ c.in_ok-machine.ensures.machine c.requires.in_range
+    (costs c.args.request.now code c.transform.new.machine.code c.deref_mut-2.result.now (turns_of c.args.schedule.now code.procs) c.transform.new.machine.state c.all_counts-counts.result
+    c.in_ok-machine.ensures.machine c.requires.in_range c.transform.ensures.code c.transform.ensures.state c.all_counts-counts.ensures.operations c.all_counts-counts.ensures.muls)
 
 pub returns-clause-text : goal.returns-clause-text
 returns-clause-text c =
@@ -35,4 +42,5 @@ returns-clause-text c =
     c.in_ok-machine.ensures.machine c.requires.in_range c.requires.turns
     c.transform.ensures.code c.modulus-modulus.ensures (c.deref_mut.ensures.len ∙ c.in_ok-machine.ensures.room) (filled ∙ c.fill.ensures)
     c.transform.ensures.vector c.transform.ensures.state (c.weighted_sum-sum.ensures ∙ ap (weighted_sum m) seen)
-    c.all_counts-counts.ensures.operations c.all_counts-counts.ensures.loads c.all_counts-counts.ensures.stores c.in_ok-text.ensures
+    c.all_counts-counts.ensures.operations c.all_counts-counts.ensures.muls c.all_counts-counts.ensures.loads c.all_counts-counts.ensures.stores
+    (c.in_ok-text.ensures ∙ ap (λ k. sample_text c.weighted_sum-sum.result k c.all_counts-counts.result.loads c.all_counts-counts.result.stores) c.weighted-operations.ensures)
