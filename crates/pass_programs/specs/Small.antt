@@ -4,7 +4,8 @@ use Rattle.icode.specs.Limits.{is_expr_within}
 use Rattle.pass_programs.specs.Conditions.{CanWrite, FitsWord}
 use Rattle.pass_programs.specs.Expressions.{expr_of, factor_at}
 use Rattle.pass_actions.specs.Machine.{PlainFrame}
-use Rattle.perm_algebra.specs.Affine.{Sum, constant, variable, remainder, quotient, levels, parts, top}
+use Rattle.passes.specs.Merge.{is_limited}
+use Rattle.perm_algebra.specs.Affine.{Sum, constant, variable, remainder, quotient, levels, parts}
 use Rattle.perm_algebra.specs.Room.{constant_of}
 
 -- the constant, and the factors of variables, all their parts together
@@ -36,25 +37,13 @@ IsFrame f = f.shared ≡ true → 0 < f.first_loop
 abbrev pub ExpressionsAreWithin : Type 0
 ExpressionsAreWithin = (f : PlainFrame) (open_loops : ℕ) (e : Sum) → IsFrame f → open_loops ≤ 64 → IsSmallSum e → IsTrue (is_expr_within (expr_of f open_loops e) open_loops)
 
--- ---- by bounds that merging can test
-
--- what is divided stays below 2^32, where the variable d runs below cs d, and each variable has several values
-abbrev pub DividesLimited : (ℕ → ℕ) → Sum → Type 0
-DividesLimited cs (constant c) = Unit {0}
-DividesLimited cs (variable f d rest) = (2 ≤ cs d) × DividesLimited cs rest
-DividesLimited cs (remainder f of m rest) = IsSmallPositive f × IsSmallPositive m × (top of cs < 2 ^ 32) × DividesLimited cs of × DividesLimited cs rest
-DividesLimited cs (quotient f of m rest) = IsSmallPositive f × IsSmallPositive m × (top of cs < 2 ^ 32) × DividesLimited cs of × DividesLimited cs rest
-
-pub record IsLimitedSum (cs : ℕ → ℕ) (e : Sum) : Type 0 where
-  pub whole : top e cs < 2 ^ 32
-  pub divided : DividesLimited cs e
-  pub few : parts e ≤ 64
-  pub flat : levels e ≤ 64
+-- ---- by merging's test
 
 pub record CanBeCoded (cs : ℕ → ℕ) (e : Sum) : Type 0 where
   pub small : IsSmallSum e
   pub fits : FitsWord cs e
   pub writable : CanWrite e
 
-abbrev pub LimitedSumsAreCoded : Type 0
-LimitedSumsAreCoded = (cs : ℕ → ℕ) (e : Sum) → IsLimitedSum cs e → CanBeCoded cs e
+-- a place of so many parts, in an array of n words, that passes merging's test
+abbrev pub TestedSumsAreCoded : Type 0
+TestedSumsAreCoded = (room n : ℕ) (cs : ℕ → ℕ) (e : Sum) → room ≤ 64 → n ≤ 2 ^ 20 → is_limited room n cs e ≡ true → CanBeCoded cs e

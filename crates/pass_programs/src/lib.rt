@@ -2,7 +2,7 @@
 #![tactic(auto)]
 
 ghost use Rattle.pass_programs.specs.Conditions.{PassesAreEmitted};
-ghost use Rattle.pass_programs.specs.Small.{ExpressionsAreWithin, LimitedSumsAreCoded};
+ghost use Rattle.pass_programs.specs.Small.{ExpressionsAreWithin, TestedSumsAreCoded};
 
 /// The statements of each pass that can be written are its actions, at places that are inside, within the limits of
 /// programs: a law of the definitions.
@@ -15,7 +15,7 @@ pub fn expressions_are_within()
     ensures { ExpressionsAreWithin }
 {}
 
-/// A sum within bounds that merging can test can be written, and its numbers fit words and are small: a law of the definitions.
-pub fn limited_sums_are_coded()
-    ensures { LimitedSumsAreCoded }
+/// Places that pass merging's test can be coded: a law of the definitions.
+pub fn tested_sums_are_coded()
+    ensures { TestedSumsAreCoded }
 {}

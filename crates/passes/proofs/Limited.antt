@@ -2,7 +2,7 @@
 use Rattle.std.proofs.Common.{◌≡◌, ℕ, suc, ◌+◌, ◌*◌, ◌-◌, ◌^◌, ◌<◌, ◌≤◌, Bool, true, arith, refl, sym, ap, ap₂, ◌∙◌, List, [], ◌∷◌, ◌++◌, length, inl, inr, subst, append_assoc, Option, Some, None}
 use Rattle.std.specs.Prelude.{map, nat_lt, nat_le, ◌&&◌, slice_index}
 use Rattle.std.specs.List.{list_all, range_with_len}
-use Rattle.std.proofs.Math.Nat.{pow-succ', mul-le-mul_right}
+use Rattle.std.proofs.Math.Nat.{pow-succ', mul-le-mul, mul-le-mul_right}
 use Rattle.std.proofs.Math.Pow.{pow_mono}
 use Rattle.std.proofs.lemmas.Bool.{cases_eq, cases_lt}
 use Rattle.std.proofs.lemmas.Bool.Decides.{nat_tests}
@@ -19,7 +19,7 @@ use Rattle.passes.specs.Term.{PlainTerm, same, gath, scat, diag, nest, move, pro
 use Rattle.passes.specs.Work.{PlainWork, kernel, rows, horner, tile, copy, work_size}
 use Rattle.passes.proofs.Keeps.{merged-reaches, nothing-stands, inner_positive}
 use Rattle.passes.proofs.Sides.{rest_of, rest-index}
-use Rattle.passes.proofs.Small.{max-lt, HasCounts, place-small, renumbered-small, behind-small}
+use Rattle.passes.proofs.Small.{max-lt, divided-true, HasCounts, place-small, renumbered-small, behind-small}
 use Rattle.passes.proofs.Walk.{chosen, and-left, and-right, AreMoves, Stands}
 use Rattle.passes.proofs.Within.{both-true, within-append, TablesFit, AreInside', within-settled, within-pass, within-scatter, inside-end, within-ended, within-multiplied, IsSmall, limited, small-true, constant-small}
 use Rattle.tensor_paths.specs.declared.Tensor.TheVariants.{Blocks, Columns}
@@ -37,15 +37,15 @@ tested : (room n : ℕ) (cs : ℕ → ℕ) (e : Sum) → is_limited room n cs e 
 tested room n cs e h =
     let first = nat_le (parts e) room && nat_le (levels e) 64 in
     let bounds = nat_lt (top e cs) n && nat_lt (peak e) n in
-    let one = and-left first (bounds && are_small e) h in
-    let two = and-right first (bounds && are_small e) h in
-    let three = and-left bounds (are_small e) two in
+    let one = and-left first (bounds && are_small cs e) h in
+    let two = and-right first (bounds && are_small cs e) h in
+    let three = and-left bounds (are_small cs e) two in
     record {
       parts = le-true _ _ (and-left (nat_le (parts e) room) _ one);
       levels = le-true _ _ (and-right (nat_le (parts e) room) _ one);
       top = lt-true _ _ (and-left (nat_lt (top e cs) n) _ three);
       peak = lt-true _ _ (and-right (nat_lt (top e cs) n) _ three);
-      small = and-right bounds (are_small e) two;
+      small = and-right bounds (are_small cs e) two;
     }
 
 roomier : (room more n : ℕ) (cs : ℕ → ℕ) (e : Sum) → room ≤ more → IsSmall room n cs e → IsSmall more n cs e
@@ -119,6 +119,12 @@ range-below d =
     let within : i < d = omega (arith, size, below) in
     subst (λ v. v < d) (sym (ap (λ ks. slice_index ks i) (sym same) ∙ get_or-map-range_with_len (λ k. k) 0 d i i 0 within (omega arith))) within)
 
+turn-fits : (d c : ℕ) → d ≤ 2 ^ 20 → c ≤ 2 ^ 20 → (d - 1) * (c - 1) + (d - 1) < 2 ^ 64
+turn-fits d c low high =
+    let first : d - 1 ≤ 2 ^ 20 = omega (arith, low) in
+    let second : c - 1 ≤ 2 ^ 20 = omega (arith, high) in
+    let most : (d - 1) * (c - 1) ≤ 2 ^ 20 * 2 ^ 20 = mul-le-mul first second in omega (arith, most, low)
+
 module _ (room : ℕ) (path : Path) (d : ℕ) (several : AreSeveral path) (some : 0 < d) (high : size_under path d ≤ 2 ^ 20) (short : length path + 2 ≤ room) where
   abbrev cs : ℕ → ℕ
   cs = slice_index (map count_of path ++ d ∷ d ∷ [])
@@ -138,14 +144,17 @@ module _ (room : ℕ) (path : Path) (d : ℕ) (several : AreSeveral path) (some 
   variable-small v two is =
       record { parts = omega arith; levels = omega arith; top = let one : 1 * (cs v - 1) + 0 ≡ d - 1 = ap (λ z. 1 * (z - 1) + 0) is ∙ omega arith in omega (arith, one, two); peak = max-lt 1 0 d (omega arith) (omega arith); small = refl }
 
-  turn-small : (v : ℕ) → 2 ≤ d → d ≤ 2 ^ 20 → IsSmall 2 d cs (remainder 1 (variable (d - 1) v (constant (d - 1))) d (constant 0))
-  turn-small v two low =
+  turn-small : (v : ℕ) → 2 ≤ d → d ≤ 2 ^ 20 → cs v ≡ d → IsSmall 2 d cs (remainder 1 (variable (d - 1) v (constant (d - 1))) d (constant 0))
+  turn-small v two low is =
       record {
         parts = omega arith;
         levels = omega arith;
         top = omega (arith, two);
         peak = max-lt 1 0 d (omega arith) (omega arith);
-        small = both-true _ _ (small-true d (omega (arith, low))) (both-true _ _ (both-true _ _ (small-true (d - 1) (omega (arith, low))) (small-true (d - 1) (omega (arith, low)))) refl);
+        small =
+            let word : (d - 1) * (cs v - 1) + (d - 1) < 2 ^ 64 = turn-fits d (cs v) low (omega (arith, is, low)) in
+            both-true _ _ (divided-true cs 1 (variable (d - 1) v (constant (d - 1))) d (omega arith) (omega arith) (omega (arith, two)) (omega (arith, low)) (omega (arith, low)) word)
+            (both-true _ _ (both-true _ _ (small-true (d - 1) (omega (arith, low))) (small-true (d - 1) (omega (arith, low)))) refl);
       }
 
 both-within : (a b : Bool) → a ≡ true → b ≡ true → (((a && b) && true) && true) ≡ true
@@ -182,7 +191,7 @@ new-within room lanes path (rows root d) can long several some high short =
     (both-true _ _ (place-limited room path d several some high short 1 _ (omega arith) (variable-small room path d several some high short (length path) long (at-row path d))) refl)
 new-within room lanes path (horner root d) can long several some high short =
     both-within _ _
-    (both-true _ _ (place-limited room path d several some high short 2 _ (omega arith) (turn-small room path d several some high short (length path + 1) long (item-low path d several some high))) refl)
+    (both-true _ _ (place-limited room path d several some high short 2 _ (omega arith) (turn-small room path d several some high short (length path + 1) long (item-low path d several some high) (ap (slice_index (map count_of path ++ d ∷ d ∷ [])) (omega arith) ∙ at-column path d))) refl)
     (both-true _ _ (place-limited room path d several some high short 1 _ (omega arith) (variable-small room path d several some high short (length path) long (at-row path d))) refl)
 new-within room lanes path (tile v) can long several some high short =
     let d = v * v in

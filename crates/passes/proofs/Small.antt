@@ -1,13 +1,14 @@
 -- Sums within the limits, under tensors and behind other words.
 use Rattle.std.proofs.Common.{◌≡◌, ℕ, zero, suc, ◌+◌, ◌*◌, ◌-◌, ◌/◌, ◌^◌, ◌<◌, ◌≤◌, Bool, true, arith, refl, sym, ap, ap₂, ◌∙◌, [], ◌∷◌, length, subst}
 use Rattle.std.specs.Prelude.{nat_lt, max, ◌&&◌}
+use Rattle.std.proofs.Math.Nat.{mul-le-mul}
 use Rattle.std.proofs.lemmas.Bool.Decides.{nat_tests}
 use Rattle.std.proofs.lemmas.Nat.{mul-add-lt}
 use Rattle.perm_algebra.specs.Affine.{Sum, constant, variable, remainder, quotient, top, peak, levels, parts, scaled, joined}
 use Rattle.perm_algebra.proofs.AffineLaws.{top-scaled, top-joined}
 use Rattle.perm_algebra.proofs.Sizes.{levels-scaled, levels-joined, parts-scaled, parts-joined}
 use Rattle.passes.specs.Limits.{AreSeveral}
-use Rattle.passes.specs.Merge.{are_small, place_sum, renumbered}
+use Rattle.passes.specs.Merge.{total, is_divided, are_small, place_sum, renumbered}
 use Rattle.passes.proofs.Walk.{and-left, and-right}
 use Rattle.passes.proofs.Within.{both-true, IsSmall, small-true}
 use Rattle.tensor_paths.specs.declared.Tensor.TheVariants.{Blocks, Columns}
@@ -30,15 +31,15 @@ peak-more c n cs (variable f d rest) h t = max-lt f _ n (max-left f (peak rest) 
 peak-more c n cs (remainder f of m rest) h t = max-lt f _ n (max-left f (peak rest) n h) (peak-more c n cs rest (max-right f (peak rest) n h) (omega arith))
 peak-more c n cs (quotient f of m rest) h t = max-lt f _ n (max-left f (peak rest) n h) (peak-more c n cs rest (max-right f (peak rest) n h) (omega arith))
 
-small-more : (c : ℕ) (cs : ℕ → ℕ) (e : Sum) → are_small e ≡ true → c + top e cs < 2 ^ 32 → are_small (joined (constant c) e) ≡ true
+small-more : (c : ℕ) (cs : ℕ → ℕ) (e : Sum) → are_small cs e ≡ true → c + top e cs < 2 ^ 32 → are_small cs (joined (constant c) e) ≡ true
 small-more c cs (constant d) h t = small-true (c + d) t
 small-more c cs (variable f d rest) h t = both-true _ _ (and-left (nat_lt f (2 ^ 32)) _ h) (small-more c cs rest (and-right (nat_lt f (2 ^ 32)) _ h) (omega arith))
 small-more c cs (remainder f of m rest) h t =
-    let outer = nat_lt f (2 ^ 32) && nat_lt m (2 ^ 32) in
-    both-true _ _ (and-left outer _ h) (both-true _ _ (and-left (are_small of) _ (and-right outer _ h)) (small-more c cs rest (and-right (are_small of) _ (and-right outer _ h)) (omega arith)))
+    let outer = is_divided cs f of m in
+    both-true _ _ (and-left outer _ h) (both-true _ _ (and-left (are_small cs of) _ (and-right outer _ h)) (small-more c cs rest (and-right (are_small cs of) _ (and-right outer _ h)) (omega arith)))
 small-more c cs (quotient f of m rest) h t =
-    let outer = nat_lt f (2 ^ 32) && nat_lt m (2 ^ 32) in
-    both-true _ _ (and-left outer _ h) (both-true _ _ (and-left (are_small of) _ (and-right outer _ h)) (small-more c cs rest (and-right (are_small of) _ (and-right outer _ h)) (omega arith)))
+    let outer = is_divided cs f of m in
+    both-true _ _ (and-left outer _ h) (both-true _ _ (and-left (are_small cs of) _ (and-right outer _ h)) (small-more c cs rest (and-right (are_small cs of) _ (and-right outer _ h)) (omega arith)))
 
 -- ---- a variable at the end
 
@@ -48,15 +49,15 @@ peak-end v n (variable f d rest) h two = max-lt f _ n (max-left f (peak rest) n 
 peak-end v n (remainder f of m rest) h two = max-lt f _ n (max-left f (peak rest) n h) (peak-end v n rest (max-right f (peak rest) n h) two)
 peak-end v n (quotient f of m rest) h two = max-lt f _ n (max-left f (peak rest) n h) (peak-end v n rest (max-right f (peak rest) n h) two)
 
-small-end : (v : ℕ) (e : Sum) → are_small e ≡ true → are_small (joined e (variable 1 v (constant 0))) ≡ true
-small-end v (constant c) h = let e : c + 0 ≡ c = omega arith in ap (λ d. nat_lt d (2 ^ 32)) e ∙ h
-small-end v (variable f d rest) h = both-true _ _ (and-left (nat_lt f (2 ^ 32)) _ h) (small-end v rest (and-right (nat_lt f (2 ^ 32)) _ h))
-small-end v (remainder f of m rest) h =
-    let outer = nat_lt f (2 ^ 32) && nat_lt m (2 ^ 32) in
-    both-true _ _ (and-left outer _ h) (both-true _ _ (and-left (are_small of) _ (and-right outer _ h)) (small-end v rest (and-right (are_small of) _ (and-right outer _ h))))
-small-end v (quotient f of m rest) h =
-    let outer = nat_lt f (2 ^ 32) && nat_lt m (2 ^ 32) in
-    both-true _ _ (and-left outer _ h) (both-true _ _ (and-left (are_small of) _ (and-right outer _ h)) (small-end v rest (and-right (are_small of) _ (and-right outer _ h))))
+small-end : (cs : ℕ → ℕ) (v : ℕ) (e : Sum) → are_small cs e ≡ true → are_small cs (joined e (variable 1 v (constant 0))) ≡ true
+small-end cs v (constant c) h = let e : c + 0 ≡ c = omega arith in ap (λ d. nat_lt d (2 ^ 32)) e ∙ h
+small-end cs v (variable f d rest) h = both-true _ _ (and-left (nat_lt f (2 ^ 32)) _ h) (small-end cs v rest (and-right (nat_lt f (2 ^ 32)) _ h))
+small-end cs v (remainder f of m rest) h =
+    let outer = is_divided cs f of m in
+    both-true _ _ (and-left outer _ h) (both-true _ _ (and-left (are_small cs of) _ (and-right outer _ h)) (small-end cs v rest (and-right (are_small cs of) _ (and-right outer _ h))))
+small-end cs v (quotient f of m rest) h =
+    let outer = is_divided cs f of m in
+    both-true _ _ (and-left outer _ h) (both-true _ _ (and-left (are_small cs of) _ (and-right outer _ h)) (small-end cs v rest (and-right (are_small cs of) _ (and-right outer _ h))))
 
 -- ---- multiples
 
@@ -70,21 +71,40 @@ peak-scaled c n (variable f d rest) some h = max-lt (c * f) _ (n * c) (times-lt 
 peak-scaled c n (remainder f of m rest) some h = max-lt (c * f) _ (n * c) (times-lt c f n some (max-left f (peak rest) n h)) (peak-scaled c n rest some (max-right f (peak rest) n h))
 peak-scaled c n (quotient f of m rest) some h = max-lt (c * f) _ (n * c) (times-lt c f n some (max-left f (peak rest) n h)) (peak-scaled c n rest some (max-right f (peak rest) n h))
 
-factor-small : (a m : ℕ) (f : Bool) → a < 2 ^ 32 → (f && nat_lt m (2 ^ 32)) ≡ true → (nat_lt a (2 ^ 32) && nat_lt m (2 ^ 32)) ≡ true
-factor-small a m f h k = both-true _ _ (small-true a h) (and-right f _ k)
+above : (n : ℕ) → nat_lt 0 n ≡ true → 0 < n
+above n h = grind (arith, nat_tests)
 
-small-scaled : (c n : ℕ) (e : Sum) → 0 < c → peak e < n → n * c ≤ 2 ^ 20 → are_small e ≡ true → are_small (scaled c e) ≡ true
-small-scaled c n (constant d) some h high s = small-true (c * d) (omega (arith, times-lt c d n some h))
-small-scaled c n (variable f d rest) some h high s =
-    both-true _ _ (small-true (c * f) (omega (arith, times-lt c f n some (max-left f (peak rest) n h)))) (small-scaled c n rest some (max-right f (peak rest) n h) high (and-right (nat_lt f (2 ^ 32)) _ s))
-small-scaled c n (remainder f of m rest) some h high s =
-    let outer = nat_lt f (2 ^ 32) && nat_lt m (2 ^ 32) in
-    both-true _ _ (factor-small (c * f) m (nat_lt f (2 ^ 32)) (omega (arith, times-lt c f n some (max-left f (peak rest) n h))) (and-left outer _ s))
-    (both-true _ _ (and-left (are_small of) _ (and-right outer _ s)) (small-scaled c n rest some (max-right f (peak rest) n h) high (and-right (are_small of) _ (and-right outer _ s))))
-small-scaled c n (quotient f of m rest) some h high s =
-    let outer = nat_lt f (2 ^ 32) && nat_lt m (2 ^ 32) in
-    both-true _ _ (factor-small (c * f) m (nat_lt f (2 ^ 32)) (omega (arith, times-lt c f n some (max-left f (peak rest) n h))) (and-left outer _ s))
-    (both-true _ _ (and-left (are_small of) _ (and-right outer _ s)) (small-scaled c n rest some (max-right f (peak rest) n h) high (and-right (are_small of) _ (and-right outer _ s))))
+-- a part that divides, from its numbers
+pub divided-true : (cs : ℕ → ℕ) (f : ℕ) (of : Sum) (m : ℕ) → 0 < f → f < 2 ^ 32 → 0 < m → m < 2 ^ 32 → total of < 2 ^ 32 → top of cs < 2 ^ 64 → is_divided cs f of m ≡ true
+divided-true cs f of m a b c d t w = tests f m (total of) (top of cs) a b c d t w
+  where
+    tests : (f m t w : ℕ) → 0 < f → f < 2 ^ 32 → 0 < m → m < 2 ^ 32 → t < 2 ^ 32 → w < 2 ^ 64 → ((nat_lt 0 f && nat_lt f (2 ^ 32)) && ((nat_lt 0 m && nat_lt m (2 ^ 32)) && (nat_lt t (2 ^ 32) && nat_lt w (2 ^ 64)))) ≡ true
+    tests f m t w a b c d e g = grind (arith, nat_tests)
+
+-- with another factor
+divided-scaled : (cs : ℕ → ℕ) (c f n : ℕ) (of : Sum) (m : ℕ) → 0 < c → f < n → n * c ≤ 2 ^ 20 → is_divided cs f of m ≡ true → is_divided cs (c * f) of m ≡ true
+divided-scaled cs c f n of m some h high s =
+    let rest = (nat_lt 0 m && nat_lt m (2 ^ 32)) && (nat_lt (total of) (2 ^ 32) && nat_lt (top of cs) (2 ^ 64)) in
+    let whole = nat_lt 0 f && nat_lt f (2 ^ 32) in
+    let positive : 0 < f = above f (and-left (nat_lt 0 f) (nat_lt f (2 ^ 32)) (and-left whole rest s)) in
+    let more : 1 * 1 ≤ c * f = mul-le-mul some positive in
+    both-true _ _ (both-true _ _ (positive-true (c * f) (omega (arith, more))) (small-true (c * f) (omega (arith, times-lt c f n some h, high)))) (and-right whole rest s)
+  where
+    positive-true : (n : ℕ) → 0 < n → nat_lt 0 n ≡ true
+    positive-true n h = grind (arith, nat_tests)
+
+small-scaled : (cs : ℕ → ℕ) (c n : ℕ) (e : Sum) → 0 < c → peak e < n → n * c ≤ 2 ^ 20 → are_small cs e ≡ true → are_small cs (scaled c e) ≡ true
+small-scaled cs c n (constant d) some h high s = small-true (c * d) (omega (arith, times-lt c d n some h))
+small-scaled cs c n (variable f d rest) some h high s =
+    both-true _ _ (small-true (c * f) (omega (arith, times-lt c f n some (max-left f (peak rest) n h)))) (small-scaled cs c n rest some (max-right f (peak rest) n h) high (and-right (nat_lt f (2 ^ 32)) _ s))
+small-scaled cs c n (remainder f of m rest) some h high s =
+    let outer = is_divided cs f of m in
+    both-true _ _ (divided-scaled cs c f n of m some (max-left f (peak rest) n h) high (and-left outer _ s))
+    (both-true _ _ (and-left (are_small cs of) _ (and-right outer _ s)) (small-scaled cs c n rest some (max-right f (peak rest) n h) high (and-right (are_small cs of) _ (and-right outer _ s))))
+small-scaled cs c n (quotient f of m rest) some h high s =
+    let outer = is_divided cs f of m in
+    both-true _ _ (divided-scaled cs c f n of m some (max-left f (peak rest) n h) high (and-left outer _ s))
+    (both-true _ _ (and-left (are_small cs of) _ (and-right outer _ s)) (small-scaled cs c n rest some (max-right f (peak rest) n h) high (and-right (are_small cs of) _ (and-right outer _ s))))
 
 -- ---- under tensors
 
@@ -148,7 +168,7 @@ place-small (Columns c ∷ path) r d v e cs several counts some high h =
       top = let bound = mul-add-lt (top g cs) c (c - 1) n inner.top (omega (arith, several.0)) in
           let swap : c * top g cs ≡ top g cs * c = omega arith in omega (arith, top-joined (scaled c g) last cs, top-scaled c g cs, swap, count, bound);
       peak = peak-end v (n * c) (scaled c g) (peak-scaled c n g (omega (arith, several.0)) inner.peak) (omega (arith, larger, turned, positive));
-      small = small-end v (scaled c g) (small-scaled c n g (omega (arith, several.0)) inner.peak high inner.small);
+      small = small-end cs v (scaled c g) (small-scaled cs c n g (omega (arith, several.0)) inner.peak high inner.small);
     }
 
 -- ---- behind other words
@@ -174,17 +194,31 @@ peak-renumbered k (variable f d rest) = ap (max f) (peak-renumbered k rest)
 peak-renumbered k (remainder f of m rest) = ap (max f) (peak-renumbered k rest)
 peak-renumbered k (quotient f of m rest) = ap (max f) (peak-renumbered k rest)
 
-small-renumbered : (k : ℕ) (e : Sum) → are_small (renumbered k e) ≡ are_small e
-small-renumbered k (constant c) = refl
-small-renumbered k (variable f d rest) = ap (λ z. nat_lt f (2 ^ 32) && z) (small-renumbered k rest)
-small-renumbered k (remainder f of m rest) = ap₂ (λ y z. (nat_lt f (2 ^ 32) && nat_lt m (2 ^ 32)) && (y && z)) (small-renumbered k of) (small-renumbered k rest)
-small-renumbered k (quotient f of m rest) = ap₂ (λ y z. (nat_lt f (2 ^ 32) && nat_lt m (2 ^ 32)) && (y && z)) (small-renumbered k of) (small-renumbered k rest)
-
 top-renumbered : (k : ℕ) (e : Sum) (cs : ℕ → ℕ) → top (renumbered k e) cs ≡ top e (λ d. cs (d + k))
 top-renumbered k (constant c) cs = refl
 top-renumbered k (variable f d rest) cs = ap (λ z. f * (cs (d + k) - 1) + z) (top-renumbered k rest cs)
 top-renumbered k (remainder f of m rest) cs = ap (λ z. f * (m - 1) + z) (top-renumbered k rest cs)
 top-renumbered k (quotient f of m rest) cs = ap₂ (λ y z. f * (y / m) + z) (top-renumbered k of cs) (top-renumbered k rest cs)
+
+total-renumbered : (k : ℕ) (e : Sum) → total (renumbered k e) ≡ total e
+total-renumbered k (constant c) = refl
+total-renumbered k (variable f d rest) = ap (λ z. f + z) (total-renumbered k rest)
+total-renumbered k (remainder f of m rest) = ap (λ z. f + z) (total-renumbered k rest)
+total-renumbered k (quotient f of m rest) = ap (λ z. f + z) (total-renumbered k rest)
+
+module _ (k : ℕ) (cs ds : ℕ → ℕ) (same : (d : ℕ) → ds (d + k) ≡ cs d) where
+  top-same : (e : Sum) → top (renumbered k e) ds ≡ top e cs
+  top-same e = top-renumbered k e ds ∙ ap (top e) (λ t d. same d t)
+
+  divided-same : (f : ℕ) (of : Sum) (m : ℕ) → is_divided ds f (renumbered k of) m ≡ is_divided cs f of m
+  divided-same f of m =
+      ap₂ (λ t w. (nat_lt 0 f && nat_lt f (2 ^ 32)) && ((nat_lt 0 m && nat_lt m (2 ^ 32)) && (nat_lt t (2 ^ 32) && nat_lt w (2 ^ 64)))) (total-renumbered k of) (top-same of)
+
+  small-renumbered : (e : Sum) → are_small ds (renumbered k e) ≡ are_small cs e
+  small-renumbered (constant c) = refl
+  small-renumbered (variable f d rest) = ap (λ z. nat_lt f (2 ^ 32) && z) (small-renumbered rest)
+  small-renumbered (remainder f of m rest) = ap₂ (λ x z. x && z) (divided-same f of m) (ap₂ (λ y z. y && z) (small-renumbered of) (small-renumbered rest))
+  small-renumbered (quotient f of m rest) = ap₂ (λ x z. x && z) (divided-same f of m) (ap₂ (λ y z. y && z) (small-renumbered of) (small-renumbered rest))
 
 pub renumbered-small : (k room n : ℕ) (cs ds : ℕ → ℕ) (e : Sum) → ((d : ℕ) → ds (d + k) ≡ cs d) → IsSmall room n cs e → IsSmall room n ds (renumbered k e)
 renumbered-small k room n cs ds e same h =
@@ -193,7 +227,7 @@ renumbered-small k room n cs ds e same h =
       levels = omega (arith, levels-renumbered k e, h.levels);
       top = subst (λ z. z < n) (sym (top-renumbered k e ds ∙ ap (top e) (λ t d. same d t))) h.top;
       peak = omega (arith, peak-renumbered k e, h.peak);
-      small = small-renumbered k e ∙ h.small;
+      small = small-renumbered k cs ds same e ∙ h.small;
     }
 
 pub behind-small : (before room k n : ℕ) (cs : ℕ → ℕ) (e : Sum) → before + k ≤ n → n ≤ 2 ^ 20 → IsSmall room k cs e → IsSmall room n cs (joined (constant before) e)

@@ -106,13 +106,13 @@ pub record IsSmall (room n : ℕ) (cs : ℕ → ℕ) (e : Sum) : Type 0 where
   pub levels : levels e ≤ 64
   pub top : top e cs < n
   pub peak : peak e < n
-  pub small : are_small e ≡ true
+  pub small : are_small cs e ≡ true
 
 all-true : (p r l t k n : ℕ) (s : Bool) → p ≤ r → l ≤ 64 → t < n → k < n → s ≡ true → ((nat_le p r && nat_le l 64) && ((nat_lt t n && nat_lt k n) && s)) ≡ true
 all-true p r l t k n s a b c d e = grind (arith, nat_tests)
 
 pub limited : (room n : ℕ) (cs : ℕ → ℕ) (e : Sum) → IsSmall room n cs e → is_limited room n cs e ≡ true
-limited room n cs e h = all-true (parts e) room (levels e) (top e cs) (peak e) n (are_small e) h.parts h.levels h.top h.peak h.small
+limited room n cs e h = all-true (parts e) room (levels e) (top e cs) (peak e) n (are_small cs e) h.parts h.levels h.top h.peak h.small
 
 pub small-true : (c : ℕ) → c < 2 ^ 32 → nat_lt c (2 ^ 32) ≡ true
 small-true c h = grind (arith, nat_tests)

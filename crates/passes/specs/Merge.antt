@@ -81,16 +81,27 @@ multiplied factors fs zs =
 
 -- ---- limits
 
--- numbers inside of what is divided are small
-abbrev pub are_small : Sum → Bool
-are_small (constant c) = nat_lt c (2 ^ 32)
-are_small (variable f d rest) = nat_lt f (2 ^ 32) && are_small rest
-are_small (remainder f of m rest) = (nat_lt f (2 ^ 32) && nat_lt m (2 ^ 32)) && (are_small of && are_small rest)
-are_small (quotient f of m rest) = (nat_lt f (2 ^ 32) && nat_lt m (2 ^ 32)) && (are_small of && are_small rest)
+-- the constant and the factors, all together
+abbrev pub total : Sum → ℕ
+total (constant c) = c
+total (variable f d rest) = f + total rest
+total (remainder f of m rest) = f + total rest
+total (quotient f of m rest) = f + total rest
+
+-- a part that divides: its factor and its divisor are small numbers and not 0, and so is all that is divided, whose values fit a word
+abbrev pub is_divided : (ℕ → ℕ) → ℕ → Sum → ℕ → Bool
+is_divided cs f of m = (nat_lt 0 f && nat_lt f (2 ^ 32)) && ((nat_lt 0 m && nat_lt m (2 ^ 32)) && (nat_lt (total of) (2 ^ 32) && nat_lt (top of cs) (2 ^ 64)))
+
+-- numbers at all levels are small
+abbrev pub are_small : (ℕ → ℕ) → Sum → Bool
+are_small cs (constant c) = nat_lt c (2 ^ 32)
+are_small cs (variable f d rest) = nat_lt f (2 ^ 32) && are_small cs rest
+are_small cs (remainder f of m rest) = is_divided cs f of m && (are_small cs of && are_small cs rest)
+are_small cs (quotient f of m rest) = is_divided cs f of m && (are_small cs of && are_small cs rest)
 
 -- a place in an array of n words, in so many parts, whose factors are below n: so they stay small where the array becomes part of a larger one
 abbrev pub is_limited : ℕ → ℕ → (ℕ → ℕ) → Sum → Bool
-is_limited room n cs e = (nat_le (parts e) room && nat_le (levels e) 64) && ((nat_lt (top e cs) n && nat_lt (peak e) n) && are_small e)
+is_limited room n cs e = (nat_le (parts e) room && nat_le (levels e) 64) && ((nat_lt (top e cs) n && nat_lt (peak e) n) && are_small cs e)
 
 abbrev pub is_multiplier_within : ℕ → (ℕ → ℕ) → Option PlainMultiplier → Bool
 is_multiplier_within room cs None = true

@@ -27,7 +27,7 @@ below a b h = grind (arith, nat_tests)
 top-below : (room n : ℕ) (cs : ℕ → ℕ) (e : Sum) → is_limited room n cs e ≡ true → top e cs < n
 top-below room n cs e h =
     let second = and-right (nat_le (parts e) room && nat_le (levels e) 64) _ h in
-    below (top e cs) n (and-left (nat_lt (top e cs) n) (nat_lt (peak e) n) (and-left (nat_lt (top e cs) n && nat_lt (peak e) n) (are_small e) second))
+    below (top e cs) n (and-left (nat_lt (top e cs) n) (nat_lt (peak e) n) (and-left (nat_lt (top e cs) n && nat_lt (peak e) n) (are_small cs e) second))
 
 -- the sum number i
 tops-below : (room n : ℕ) (cs : ℕ → ℕ) (sums : List Sum) (i : ℕ) → i < length sums → list_all (is_limited room n cs) sums ≡ true → top (slice_index_or sums i (constant 0)) cs < n

@@ -1,15 +1,14 @@
 //! Sums within the limits of programs: tests, and index functions at sums that stay within them.
 #![tactic(auto)]
 
-ghost use Rattle.std.specs.Prelude.{◌≡◌, ℕ, ◌+◌, ◌*◌, ◌-◌, ◌^◌, ◌<◌, ◌≤◌, ◌↔◌, IfOk, IsTrue, Some, None, length, slice_index};
+ghost use Rattle.std.specs.Prelude.{◌≡◌, ℕ, ◌+◌, ◌*◌, ◌-◌, ◌^◌, ◌<◌, ◌≤◌, ◌↔◌, IfOk, IsTrue, Some, None, nat_lt, true, length, slice_index};
 ghost use Rattle.index_fn.specs.Index.{mapping_of};
 ghost use Rattle.index_fn.specs.Mapping.{IsDefinedAt, IsWellFormed, at};
-ghost use Rattle.pass_programs.specs.Small.{DividesLimited, IsSmallPositive};
+ghost use Rattle.passes.specs.Merge.{are_small, is_divided, is_limited, total};
 ghost use Rattle.perm_algebra.specs.Affine.{HasNoList, levels, parts, peak, simplified, top, value};
 ghost use Rattle.perm_algebra.specs.Fits.{Agree, InRange, IsAffine, Stays};
 ghost use Rattle.perm_algebra.specs.Room.{HasRoomFor};
 ghost use Rattle.perm_algebra.specs.Views.{plain_sum};
-ghost use Rattle.sum_limits.specs.Limited.{IsTop, IsWithin};
 
 use index_fn::Index;
 use memory::NoMemory;
@@ -19,7 +18,7 @@ use std::alloc::Global;
 /// What a place may be.
 #[derive(Clone, Copy, Debug)]
 pub struct Limits {
-    /// How many words the array has that it names, up to 2^32.
+    /// How many words the array has that it names.
     pub size: u64,
     /// How many parts it may have at all levels, but for the constants.
     pub room: u64,
@@ -38,12 +37,11 @@ pub fn simplify_within(
     requires affine { IsAffine (length counts.now) (slice_index counts.now) (plain_sum arg.now) }
     requires fits { Stays (slice_index counts.now) (value (plain_sum arg.now)) }
     requires defined { (vs : ℕ → ℕ) → InRange (slice_index counts.now) vs → IsDefinedAt (mapping_of f.now) (value (plain_sum arg.now) vs) }
-    requires size { limits.size ≤ 2 ^ 32 }
-    ensures some { IfOk result (λ r. (sum : Affine) → r ≡ Some sum → IsWithin (slice_index counts.now) limits.size limits.room (plain_sum sum)) }
+    ensures some { IfOk result (λ r. (sum : Affine) → r ≡ Some sum → is_limited limits.room limits.size (slice_index counts.now) (plain_sum sum) ≡ true) }
     ensures value { IfOk result (λ r. (sum : Affine) → r ≡ Some sum → Agree (slice_index counts.now) (value (plain_sum sum)) (λ vs. at (mapping_of f.now) (value (plain_sum arg.now) vs))) }
     ensures affine { IfOk result (λ r. (sum : Affine) → r ≡ Some sum → IsAffine (length counts.now) (slice_index counts.now) (plain_sum sum)) }
     ensures form { HasRoomFor (slice_index counts.now) (mapping_of f.now) (plain_sum arg.now) → IfOk result (λ r. (sum : Affine) → r ≡ Some sum → plain_sum sum ≡ simplified (slice_index counts.now) (mapping_of f.now) (plain_sum arg.now)) }
-    ensures none { HasRoomFor (slice_index counts.now) (mapping_of f.now) (plain_sum arg.now) → IfOk result (λ r. r ≡ None → IsWithin (slice_index counts.now) limits.size limits.room (simplified (slice_index counts.now) (mapping_of f.now) (plain_sum arg.now)) → ⊥) }
+    ensures none { HasRoomFor (slice_index counts.now) (mapping_of f.now) (plain_sum arg.now) → IfOk result (λ r. r ≡ None → is_limited limits.room limits.size (slice_index counts.now) (simplified (slice_index counts.now) (mapping_of f.now) (plain_sum arg.now)) ≡ true → ⊥) }
 {
     let sum = simplify(alloc, f, arg, counts)?;
     if is_within(counts, &sum, limits) {
@@ -53,16 +51,18 @@ pub fn simplify_within(
     }
 }
 
-/// Whether a place is within the limits.
+/// Whether a place is within the limits: the test of merging.
 pub fn is_within(counts: &[u64], sum: &Affine, limits: Limits) -> bool
-    requires affine { IsAffine (length counts.now) (slice_index counts.now) (plain_sum sum.now) }
-    requires size { limits.size ≤ 2 ^ 32 }
-    ensures { IsTrue result ↔ IsWithin (slice_index counts.now) limits.size limits.room (plain_sum sum.now) }
+    requires { IsAffine (length counts.now) (slice_index counts.now) (plain_sum sum.now) }
+    ensures { IsTrue result ↔ (is_limited limits.room limits.size (slice_index counts.now) (plain_sum sum.now) ≡ true) }
 {
-    if !is_flat(sum, 64) || !is_short(sum, limits.room) || greatest_factor(sum) >= limits.size {
+    if !is_short(sum, limits.room) || !is_flat(sum, 64) || greatest_factor(sum) >= limits.size {
         return false;
     }
-    match limited_top(counts, sum) {
+    if !are_small(counts, sum) {
+        return false;
+    }
+    match top_of(counts, sum) {
         None => false,
         Some(top) => top < limits.size,
     }
@@ -125,61 +125,95 @@ fn greatest_factor(sum: &Affine) -> u64
     }
 }
 
-// A bound on the values of a sum, if it is below 2^32 and what is divided is so too.
-fn limited_top(counts: &[u64], sum: &Affine) -> Option<u64>
-    requires { IsAffine (length counts.now) (slice_index counts.now) (plain_sum sum.now) }
-    ensures some { (t : ℕ) → result ≡ Some t → IsTop (slice_index counts.now) (plain_sum sum.now) t }
-    ensures none { result ≡ None → DividesLimited (slice_index counts.now) (plain_sum sum.now) → 2 ^ 32 ≤ top (plain_sum sum.now) (slice_index counts.now) }
+// The constant and the factors, all together, if they fit a word.
+fn total(sum: &Affine) -> Option<u64>
+    ensures some { (t : ℕ) → result ≡ Some t → t ≡ total (plain_sum sum.now) }
+    ensures none { result ≡ None → 2 ^ 64 ≤ total (plain_sum sum.now) }
 {
     match sum {
-        Affine::Constant(c) => below_limit(0, 0, *c),
+        Affine::Constant(c) => Some(*c),
+        Affine::Variable(factor, _, rest)
+        | Affine::Remainder(factor, _, _, rest)
+        | Affine::Quotient(factor, _, _, rest) => match total(rest) {
+            None => None,
+            Some(rest) => factor.checked_add(rest),
+        },
+    }
+}
+
+// A bound on the values of a sum, if it fits a word.
+fn top_of(counts: &[u64], sum: &Affine) -> Option<u64>
+    requires { IsAffine (length counts.now) (slice_index counts.now) (plain_sum sum.now) }
+    ensures some { (t : ℕ) → result ≡ Some t → t ≡ top (plain_sum sum.now) (slice_index counts.now) }
+    ensures none { result ≡ None → are_small (slice_index counts.now) (plain_sum sum.now) ≡ true → 2 ^ 64 ≤ top (plain_sum sum.now) (slice_index counts.now) }
+{
+    match sum {
+        Affine::Constant(c) => Some(*c),
         Affine::Variable(factor, variable, rest) => {
-            let count = counts[*variable as usize];
-            if count < 2 {
-                return None;
-            }
-            match limited_top(counts, rest) {
+            let most = counts[*variable as usize].saturating_sub(1);
+            match top_of(counts, rest) {
                 None => None,
-                Some(rest) => below_limit(*factor, count - 1, rest),
+                Some(rest) => times_and(*factor, most, rest),
             }
         }
-        Affine::Remainder(factor, of, divisor, rest) => {
-            if !is_small(*factor) || !is_small(*divisor) {
-                return None;
-            }
-            match (limited_top(counts, of), limited_top(counts, rest)) {
-                (Some(_), Some(rest)) => below_limit(*factor, *divisor - 1, rest),
-                _ => None,
-            }
-        }
+        Affine::Remainder(factor, _, divisor, rest) => match top_of(counts, rest) {
+            None => None,
+            Some(rest) => times_and(*factor, *divisor - 1, rest),
+        },
         Affine::Quotient(factor, of, divisor, rest) => {
-            if !is_small(*factor) || !is_small(*divisor) {
-                return None;
-            }
-            match (limited_top(counts, of), limited_top(counts, rest)) {
-                (Some(of), Some(rest)) => below_limit(*factor, of / *divisor, rest),
+            match (top_of(counts, of), top_of(counts, rest)) {
+                (Some(of), Some(rest)) => times_and(*factor, of / *divisor, rest),
                 _ => None,
             }
         }
     }
 }
 
-fn is_small(number: u64) -> bool
-    ensures { IsTrue result ↔ IsSmallPositive number }
+// A number times another, and one more, if that fits a word.
+fn times_and(factor: u64, most: u64, rest: u64) -> Option<u64>
+    ensures some { (t : ℕ) → result ≡ Some t → t ≡ factor * most + rest }
+    ensures none { result ≡ None → 2 ^ 64 ≤ factor * most + rest }
 {
-    0 < number && number < 1 << 32
+    match factor.checked_mul(most) {
+        None => None,
+        Some(product) => product.checked_add(rest),
+    }
 }
 
-// A number times another and one more, if that is below 2^32.
-fn below_limit(factor: u64, most: u64, rest: u64) -> Option<u64>
-    ensures some { (t : ℕ) → result ≡ Some t → (t ≡ factor * most + rest) × (t < 2 ^ 32) }
-    ensures none { result ≡ None → 2 ^ 32 ≤ factor * most + rest }
+// Whether the numbers at all levels are small.
+fn are_small(counts: &[u64], sum: &Affine) -> bool
+    requires { IsAffine (length counts.now) (slice_index counts.now) (plain_sum sum.now) }
+    ensures { IsTrue result ↔ (are_small (slice_index counts.now) (plain_sum sum.now) ≡ true) }
 {
-    let Some(product) = factor.checked_mul(most) else {
-        return None;
-    };
-    let Some(sum) = product.checked_add(rest) else {
-        return None;
-    };
-    if sum < 1 << 32 { Some(sum) } else { None }
+    match sum {
+        Affine::Constant(c) => is_small(*c),
+        Affine::Variable(factor, _, rest) => is_small(*factor) && are_small(counts, rest),
+        Affine::Remainder(factor, of, divisor, rest)
+        | Affine::Quotient(factor, of, divisor, rest) => {
+            are_small(counts, of)
+                && is_divided(counts, *factor, of, *divisor)
+                && are_small(counts, rest)
+        }
+    }
+}
+
+// Whether a part may divide this sum.
+fn is_divided(counts: &[u64], factor: u64, of: &Affine, divisor: u64) -> bool
+    requires affine { IsAffine (length counts.now) (slice_index counts.now) (plain_sum of.now) }
+    requires small { are_small (slice_index counts.now) (plain_sum of.now) ≡ true }
+    ensures { IsTrue result ↔ (is_divided (slice_index counts.now) factor (plain_sum of.now) divisor ≡ true) }
+{
+    if factor == 0 || !is_small(factor) || divisor == 0 || !is_small(divisor) {
+        return false;
+    }
+    match total(of) {
+        None => false,
+        Some(total) => is_small(total) && top_of(counts, of).is_some(),
+    }
+}
+
+fn is_small(number: u64) -> bool
+    ensures { result ≡ nat_lt number (2 ^ 32) }
+{
+    number < 1 << 32
 }
