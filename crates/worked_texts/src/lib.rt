@@ -18,7 +18,7 @@ mod kernels;
 #[cfg(test)]
 mod listings;
 #[cfg(test)]
-mod passes;
+mod merging;
 #[cfg(test)]
 mod places;
 #[cfg(test)]

@@ -3,7 +3,7 @@ use Rattle.std.specs.Prelude.{map}
 use Rattle.sigma_lower.specs.Lowered.{sigmas_of}
 use Rattle.sigma_spl.specs.Views.{plain_sigma}
 use Rattle.tree_model.specs.Breakdown.{breakdown_of}
-use Rattle.worked_texts.proofs.passes.merged_tree.Goals as goal
+use Rattle.worked_texts.proofs.merging.merged_tree.Goals as goal
 
 pub lower-requires : goal.lower-requires
 lower-requires c = record { tree = breakdown_of c.args.tree.now; admissible = c.requires; form = c.in_ok-formula.ensures.form }
