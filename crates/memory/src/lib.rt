@@ -2,9 +2,11 @@
 #![tactic(auto)]
 
 use std::alloc::{AllocError, AllocFailed};
+use thiserror::Error;
 
 /// Memory ran out.
-#[derive(Clone, Copy, PartialEq, Eq, Debug)]
+#[derive(Clone, Copy, PartialEq, Eq, Debug, Error)]
+#[error("out of memory")]
 pub struct NoMemory;
 
 impl From<AllocError> for NoMemory {
