@@ -9,6 +9,10 @@ use Rattle.passes.specs.declared.nest.Factors.TheVariants.{Values, Twiddles, Spr
 use Rattle.passes.specs.declared.nest.Merged.{Merged}
 use Rattle.passes.specs.declared.nest.Multiplier.{Multiplier}
 use Rattle.passes.specs.declared.nest.Nest.{Nest}
+use Rattle.passes.specs.declared.term.Term.{Term}
+use Rattle.passes.specs.declared.term.Term.TheVariants.{Same, Gather, Scatter, Diagonal, Copies, Move, Product', Beside'}
+use Rattle.passes.specs.Term.{PlainTerm, same, gath, scat, diag, nest, move, product, beside}
+use Rattle.index_fn.specs.Index.{mapping_of}
 use Rattle.passes.specs.declared.work.Work.{Work}
 use Rattle.passes.specs.declared.work.Work.TheVariants.{Kernel, Rows, Horner, Tile, Copy}
 use Rattle.perm_algebra.specs.Views.{plain_sum}
@@ -41,3 +45,13 @@ plain_nest z =
 
 abbrev pub plain_merged : Merged → PlainMerged
 plain_merged m = record { size = m.size; procs = m.procs; lanes = m.lanes; phases = map (λ ps. map (λ zs. map plain_nest zs.items) ps.items) m.phases.items }
+
+abbrev pub plain_term : Term → PlainTerm
+plain_term Same = same
+plain_term (Gather f) = gath (mapping_of f)
+plain_term (Scatter f) = scat (mapping_of f)
+plain_term (Diagonal path factors) = diag path.items (plain_factors factors)
+plain_term (Copies path work) = nest path.items (plain_work work)
+plain_term (Move path places) = move path.items places.items
+plain_term (Product' p a q b) = product (plain_term a) (plain_term b)
+plain_term (Beside' path n p a k q b) = beside path.items n (plain_term a) k (plain_term b)

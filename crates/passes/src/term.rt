@@ -1,0 +1,32 @@
+// Terms, which merging makes passes of.
+use crate::{Factors, Work};
+use index_fn::Index;
+use tensor_paths::Tensor;
+
+/// A term: a product of permutations, diagonals, loops over copies, and direct sums, on a list of items. The tensors of a
+/// path stand from the outside in. Clauses see it as a `PlainTerm`.
+#[derive(Drop)]
+pub enum Term {
+    /// The identity.
+    Same,
+    /// Takes the item at the function's value to each place.
+    Gather(Index),
+    /// Takes each item to the place that is the function's value.
+    Scatter(Index),
+    /// A diagonal under the tensors of a path.
+    Diagonal { path: Vec<Tensor>, factors: Factors },
+    /// Copies of some work under the tensors of a path.
+    Copies { path: Vec<Tensor>, work: Work },
+    /// Copies under the tensors of a path, each of which takes its items from these places of the copy.
+    Move { path: Vec<Tensor>, places: Vec<u64> },
+    /// One after the other: the first is applied first.
+    Product(Box<Term>, Box<Term>),
+    /// Two terms side by side, on lists of so many items, under the tensors of a path.
+    Beside {
+        path: Vec<Tensor>,
+        first_size: u64,
+        first: Box<Term>,
+        second_size: u64,
+        second: Box<Term>,
+    },
+}
