@@ -1,10 +1,10 @@
 -- The tests of room say what they test.
-use Rattle.std.proofs.Common.{◌≡◌, refl, ℕ, ◌*◌, ◌<◌, ◌^◌, ◌↔◌, Bool, true, false, arith}
+use Rattle.std.proofs.Common.{◌≡◌, refl, ℕ, ◌*◌, ◌<◌, ◌↔◌, Bool, true, false, arith}
 use Rattle.std.specs.Prelude.{nat_lt, ◌&&◌}
 use Rattle.std.proofs.lemmas.Bool.Decides.{nat_tests}
-use Rattle.index_fn.specs.Mapping.{Mapping, Same, Always, Line, Strided, ThomasIn, ThomasOut, ThomasBack, Listed, Paired, After}
-use Rattle.perm_algebra.specs.Affine.{Sum, constant, variable, remainder, quotient, top, peak, scaled, joined, rest_of, divided, mods, simplified}
-use Rattle.perm_algebra.specs.Room.{constant_of, HasTop, CanScale, CanJoin, CanDivide, CanMix, HasRoomFor, has_top, can_scale, can_join, can_divide, can_mix, has_room, RoomDecided}
+use Rattle.index_fn.specs.Mapping.{Same, Always, Line, Strided, ThomasIn, ThomasOut, ThomasBack, Listed, Paired, After}
+use Rattle.perm_algebra.specs.Affine.{Sum, constant, variable, remainder, quotient}
+use Rattle.perm_algebra.specs.Room.{HasTop, CanMix, has_top, can_mix, RoomDecided}
 
 unit : (true ≡ true) ↔ Unit {0}
 unit = (λ h. tt, λ h. refl)
@@ -33,7 +33,7 @@ five P Q R S T a b c d e p q r s t =
     let all = both P (Q × R × S × T) a (b && (c && (d && e))) p inner in
     (λ h. let w = all.0 h in (w.0, w.1.0, w.1.1, w.1.2, w.1.3), λ h. all.1 (h.0, (h.1, h.2, h.3, h.4)))
 
-top_tested : (cs : ℕ → ℕ) (e : Sum) → (has_top cs e ≡ true) ↔ HasTop cs e
+pub top_tested : (cs : ℕ → ℕ) (e : Sum) → (has_top cs e ≡ true) ↔ HasTop cs e
 top_tested cs (constant c) = unit
 top_tested cs (variable f d rest) = both _ _ _ _ (below _ _) (top_tested cs rest)
 top_tested cs (remainder f of m rest) = both _ _ _ _ (below _ _) (top_tested cs rest)

@@ -16,8 +16,8 @@ ghost use Rattle.perm_algebra.specs.Views.{plain_sum};
 
 use index_fn::Index;
 use memory::NoMemory;
-use std::alloc::Global;
 pub use parts::{Parts, divide, greatest, others, reduce, residues};
+use std::alloc::Global;
 pub use sums::{copy, join, scale_sum};
 
 /// A sum of a constant and of multiples of variables, remainders and quotients. Each part has its factor, and then the

@@ -9,7 +9,7 @@ ghost use Rattle.index_fn.specs.Mapping.{IsDefinedAt, IsWellFormed, at};
 ghost use Rattle.passes.specs.Merge.{all_simplified, are_small, carries_sum, is_divided, is_limited, total};
 ghost use Rattle.perm_algebra.specs.Affine.{HasNoList, levels, parts, peak, simplified, top, value};
 ghost use Rattle.perm_algebra.specs.Fits.{Agree, InRange, IsAffine, Stays};
-ghost use Rattle.perm_algebra.specs.Room.{has_room};
+ghost use Rattle.perm_algebra.specs.Room.{has_room, has_top};
 ghost use Rattle.perm_algebra.specs.Views.{plain_sum};
 ghost use Rattle.sum_limits.specs.Leading.{CanCarry, can_lead};
 
@@ -177,6 +177,8 @@ fn top_of(counts: &[u64], sum: &Affine) -> Option<u64>
     requires { IsAffine (length counts.now) (slice_index counts.now) (plain_sum sum.now) }
     ensures some { (t : ℕ) → result ≡ Some t → t ≡ top (plain_sum sum.now) (slice_index counts.now) }
     ensures none { result ≡ None → are_small (slice_index counts.now) (plain_sum sum.now) ≡ true → 2 ^ 64 ≤ top (plain_sum sum.now) (slice_index counts.now) }
+    ensures room { (t : ℕ) → result ≡ Some t → has_top (slice_index counts.now) (plain_sum sum.now) ≡ true }
+    ensures no_room { result ≡ None → has_top (slice_index counts.now) (plain_sum sum.now) ≡ false }
 {
     match sum {
         Affine::Constant(c) => Some(*c),
