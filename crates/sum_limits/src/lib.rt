@@ -15,7 +15,7 @@ ghost use Rattle.sum_limits.specs.Leading.{CanCarry, can_lead};
 
 use index_fn::Index;
 use memory::NoMemory;
-use perm_algebra::Affine;
+use perm_algebra::{Affine, copy};
 use rooms::simplify_in_room;
 use std::alloc::Global;
 
@@ -79,7 +79,32 @@ pub fn carry_within(
     ensures none { IfOk result (λ r. r ≡ None → carries_sum limits.room limits.size count (slice_index counts.now) (map mapping_of functions.now) (plain_sum arg.now) ≡ false) }
     ensures affine { IfOk result (λ r. (sum : Affine) → r ≡ Some sum → IsAffine (length counts.now) (slice_index counts.now) (plain_sum sum)) }
 {
-    Err(NoMemory)
+    match functions.split_first() {
+        None => {
+            let last = Limits {
+                size: count,
+                room: limits.room,
+            };
+            if is_within(counts, arg, last) {
+                let place = copy(alloc, arg)?;
+                Ok(Some(place))
+            } else {
+                Ok(None)
+            }
+        }
+        Some((f, rest)) => {
+            if !is_within(counts, arg, limits) {
+                return Ok(None);
+            }
+            match simplify_in_room(alloc, f, arg, counts)? {
+                None => Ok(None),
+                Some(next) => {
+                    let place = carry_within(alloc, rest, &next, counts, limits, count)?;
+                    Ok(place)
+                }
+            }
+        }
+    }
 }
 
 /// Whether a place is within the limits: the test of merging.

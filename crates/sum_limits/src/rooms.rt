@@ -95,7 +95,7 @@ pub fn simplify_in_room(
 }
 
 // `r` times the remainder by `s`, and the quotient.
-#[tactic(auto, using(crate::proofs::RoomFacts::turned_inside))]
+#[tactic(auto, using(perm_algebra::proofs::PartLaws::turned_below))]
 fn turn(
     alloc: Global,
     counts: &[u64],
