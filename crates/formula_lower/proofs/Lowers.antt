@@ -1,5 +1,5 @@
 -- The term of a formula does what the formula does.
-use Rattle.std.proofs.Common.{◌≡◌, ℕ, zero, suc, ◌+◌, ◌*◌, ◌-◌, ◌/◌, ◌%◌, ◌<◌, ◌≤◌, ◌^◌, arith, refl, sym, ap, ap₂, ◌∙◌, List, [], ◌∷◌, ◌++◌, length, inl, inr, subst, mod-lt, mod-eq_of_lt, take, drop, mul_comm, length-append, length-drop, length-map, map}
+use Rattle.std.proofs.Common.{◌≡◌, ℕ, zero, suc, ◌+◌, ◌*◌, ◌-◌, ◌/◌, ◌%◌, ◌<◌, ◌≤◌, ◌^◌, arith, refl, sym, ap, ap₂, ◌∙◌, List, [], ◌∷◌, ◌++◌, length, inl, inr, subst, mod-lt, mod-eq_of_lt, take, drop, mul_comm, length-append, length-drop, map}
 use Rattle.std.specs.Prelude.{slice_index, nat_lt, if◌then◌else◌}
 use Rattle.std.specs.Int.{IsGcd}
 use Rattle.std.proofs.Math.Nat.{pow-succ'}
@@ -7,7 +7,7 @@ use Rattle.std.proofs.Math.Pow.{pow_pos}
 use Rattle.std.proofs.lemmas.Bool.{cases_lt}
 use Rattle.std.proofs.lemmas.Bool.Decides.{nat_tests}
 use Rattle.std.proofs.lemmas.Nat.{mul-mod_first}
-use Rattle.std.proofs.lemmas.List.{get_or-map, length-take-le, get_or-take, get_or-drop, get_or_append_left, get_or-append_right}
+use Rattle.std.proofs.lemmas.List.{get_or-map, length-map, length-take-le, get_or-take, get_or-drop, get_or_append_left, get_or-append_right}
 use Rattle.std.proofs.lemmas.List.FromFn.{fill_by_all}
 use Rattle.index_fn.specs.Mapping.{Mapping, Strided, ThomasIn, ThomasOut, at}
 use Rattle.matrix_meaning.specs.declared.Kind.{Kind}
@@ -156,7 +156,7 @@ residues-scale m c y = list_below-same (length c) _ _ (λ i below. ap (λ v. (v 
 diagonal-lowers : (m : ℕ) (path : Path) (c : List ℕ) → Lowers m (size_under path (length c)) (diag path (values (map (λ v. v % m) c))) (under path (length c) (scale m (length c) (slice_index c)))
 diagonal-lowers m path c =
     let reduced : List ℕ = map (λ v. v % m) c in
-    let size : length reduced ≡ length c = length-map (λ v. v % m) c in
+    let size : length reduced ≡ length c = length-map c (λ v. v % m) in
     lowers-as m path (length c) (diag path (values reduced)) (scale m (length c) (slice_index reduced)) (scale m (length c) (slice_index c)) (λ y w. residues-scale m c y)
     (subst (λ n. Lowers m (size_under path n) (diag path (values reduced)) (under path n (scale m n (slice_index reduced)))) size (diag-lowers m path (values reduced)))
 

@@ -1,14 +1,18 @@
 // The term of a formula.
-ghost use Rattle.std.specs.Prelude.{◌≡◌, ◌*◌, ◌+◌, ◌%◌, ◌^◌, ◌<◌, ◌++◌, ◌∷◌, [], IfOk, map};
+ghost use Rattle.std.specs.Prelude.{◌≡◌, ◌%◌, [], IfOk, map};
 ghost use Rattle.formula_lower.specs.Terms.{one_more, halvings, hadamard_term, fourier_term, term_of};
 ghost use Rattle.index_fn.specs.Index.{mapping_of};
+ghost use Rattle.matrix_meaning.specs.declared.Kind.TheVariants.{Wht};
 ghost use Rattle.matrix_meaning.specs.Kind.{IsPowerOfTwo};
+ghost use Rattle.passes.specs.Nest.{twiddles, values};
 ghost use Rattle.passes.specs.Term.{gath, diag, nest, move, product, beside};
-ghost use Rattle.passes.specs.Views.{plain_factors, plain_term, plain_work};
+ghost use Rattle.passes.specs.Views.{plain_term};
+ghost use Rattle.passes.specs.Work.{kernel};
 ghost use Rattle.sigma_lower.specs.Room.{HasRoom};
 ghost use Rattle.sigma_lower.specs.Wrapped.{wrapped};
 ghost use Rattle.spl_ast.specs.Formula.{size_of};
-ghost use Rattle.tensor_paths.specs.declared.Tensor.TheVariants.{Blocks};
+ghost use Rattle.tensor_paths.specs.declared.Tensor.TheVariants.{Columns};
+ghost use Rattle.tree_model.specs.Breakdown.{leaf};
 
 use index_fn::Index;
 use matrix_meaning::Kind;
@@ -35,12 +39,7 @@ pub fn lower_formula(alloc: Global, modulus: &Modulus, formula: &Spl) -> Result<
 
 // The term of a formula under the tensors of a path.
 #[tactic(auto, using(crate::proofs::Lowering::room_stride, crate::proofs::Lowering::room_left, crate::proofs::Lowering::room_right, crate::proofs::Lowering::room_same, crate::proofs::Lowering::room_alone))]
-fn lower(
-    alloc: Global,
-    modulus: &Modulus,
-    path: &[Tensor],
-    formula: &Spl,
-) -> Result<Term, NoMemory>
+fn lower(alloc: Global, modulus: &Modulus, path: &[Tensor], formula: &Spl) -> Result<Term, NoMemory>
     requires { HasRoom path.now (size_of formula.now) }
     ensures { IfOk result (λ t. plain_term t ≡ term_of modulus.now path.now formula.now) }
 {

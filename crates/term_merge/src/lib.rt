@@ -4,6 +4,7 @@
 
 mod backs;
 mod nests;
+mod placed;
 mod sides;
 mod state;
 
