@@ -231,7 +231,7 @@ factor-through m waiting path factors i = ap (factor_at m factors) (through-appe
 abbrev pub diagonal_on : ℕ → ℕ → Path → PlainFactors → Operator
 diagonal_on m n path factors x = scale m n (λ w. factor_at m factors (at (inner_of path (factor_count factors)) w)) x
 
-places-formed : (lanes : ℕ) → (n : ℕ) (waiting : List Mapping) (path : Path) (factors : PlainFactors) → AreMoves lanes n waiting → IsFormed (inner_of path (factor_count factors)) → AreFormed (factor_places waiting path factors)
+pub places-formed : (lanes : ℕ) → (n : ℕ) (waiting : List Mapping) (path : Path) (factors : PlainFactors) → AreMoves lanes n waiting → IsFormed (inner_of path (factor_count factors)) → AreFormed (factor_places waiting path factors)
 places-formed lanes n waiting path factors h inner = formed-append (backs_of waiting) _ (backs-formed lanes n waiting h) (inner, tt)
 
 -- a pass multiplied past the gathers that wait

@@ -1,0 +1,9 @@
+//! The merged passes of formulas: a program can be made of them.
+#![tactic(auto)]
+
+ghost use Rattle.formula_passes.specs.Laws.{FormulasCanProgram};
+
+/// A program can be made of the passes of every formula of this language: a law of the definitions.
+pub fn formulas_can_program()
+    ensures { FormulasCanProgram }
+{}
