@@ -1,13 +1,13 @@
 -- Where no store waits, the events that finish the run leave what the turns alone leave.
-use Rattle.std.proofs.Common.{◌≡◌, ◌≢◌, ℕ, zero, suc, ◌+◌, ◌<◌, ◌≤◌, ◌⊎◌, List, [], ◌∷◌, ◌++◌, Bool, true, false, cond, length, replicate, Option, Some, None, refl, sym, ap, ap₂, ◌∙◌, subst, arith, inl, inr, ⊎_elim, get_or-set_same, get_or-set_other}
+use Rattle.std.proofs.Common.{◌≡◌, ◌≢◌, ℕ, zero, suc, ◌+◌, ◌<◌, ◌≤◌, ◌⊎◌, List, [], ◌∷◌, ◌++◌, Bool, true, false, cond, length, Option, Some, None, refl, sym, ap, ◌∙◌, subst, arith, inl, inr, ⊎_elim, get_or-set_same, get_or-set_other}
 use Rattle.std.specs.Prelude.{slice_get, slice_index, slice_index_or, slice_set}
-use Rattle.std.proofs.lemmas.Bool.{cases_eq, cases_lt, cases_Bool, false≢true}
+use Rattle.std.proofs.lemmas.Bool.{cases_eq, cases_lt, cases_Bool}
 use Rattle.std.proofs.lemmas.Option.{slice_get_within}
 use Rattle.icode.specs.declared.action.Action.{Action}
 use Rattle.icode.specs.declared.event.Event.{Event}
 use Rattle.icode.specs.declared.event.Event.TheVariants.{Turn, Drain}
-use Rattle.icode.specs.Machine.{Code, IsCode, State, acts, effect, is_open, next_action, first_open, phases_after, none_done, moved_on, acted, turn_with, turn, run, completion, finished}
-use Rattle.icode.specs.Buffers.{Waiting, Buffered, queue_of, some_wait, overlaid, stored, seen_by, buffered_moved_on, buffered_acted, buffered_turn_with, buffered_turn, written, drain_with, drain, buffered_step, buffered_run, buffered_completion, buffered_finished, IsBusy, IsIdle}
+use Rattle.icode.specs.Machine.{Code, IsCode, State, acts, is_open, next_action, first_open, phases_after, none_done, moved_on, acted, turn_with, turn, run, finished}
+use Rattle.icode.specs.Buffers.{Waiting, Buffered, queue_of, some_wait, overlaid, stored, buffered_moved_on, buffered_acted, buffered_turn_with, buffered_turn, written, drain_with, drain, buffered_step, buffered_run, buffered_completion, buffered_finished, IsBusy, IsIdle}
 use Rattle.icode.proofs.BufferedCompletion.{busy_step, completion_turn, completion_drain, completion_past, idle_past, next_event}
 use Rattle.icode.proofs.Completion.{completion_step, completion_past as turns_past}
 use Rattle.icode.proofs.Runs.{open_at, has_action}

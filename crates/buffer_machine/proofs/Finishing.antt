@@ -7,7 +7,7 @@ use Rattle.icode.specs.Machine.{Code, IsCode, State, finished}
 use Rattle.icode.proofs.BufferedCompletion.{busy_run, completion_past, finished_ends, next_event}
 use Rattle.par_machine.specs.Running.{Running as Machine}
 use Rattle.buffer_machine.specs.declared.machine.BufMachine.TheInside.{Inside}
-use Rattle.buffer_machine.specs.Lent.{IsHeld, IsLendable, back_from, lent}
+use Rattle.buffer_machine.specs.Lent.{IsHeld, back_from, lent}
 use Rattle.buffer_machine.specs.Stand.{Stand, buffered_of, cleared, waits_of, IsStanding}
 use Rattle.buffer_machine.specs.View.{IsWhole}
 use Rattle.buffer_machine.specs.Walking.{IsWalking}
@@ -15,18 +15,18 @@ use Rattle.buffer_machine.proofs.Direct.{finished_directly, finished_none_done}
 use Rattle.buffer_machine.proofs.Standing.{standing_anew}
 use Rattle.buffer_machine.proofs.Whole.{code_in, empty_queues, whole_with, with_values}
 
-pub lendable : (code : Code) (t : Stand) → IsStanding code t → IsLendable code t
-lendable code t s =
+pub values_held : (code : Code) (t : Stand) → IsStanding code t → IsHeld code t.memory t.registers
+values_held code t s =
     record {
-      memory = s.memory;
+      words = s.memory;
       below = s.memory_below;
       files = record { count = s.files; size = s.file; below = s.files_below };
     }
 
-held_standing : (code : Code) (t : Stand) (s : State) → IsHeld code s → IsStanding code t → IsStanding code (record { memory = s.memory; registers = s.registers; queues = t.queues; phase = t.phase; done = t.done })
+held_standing : (code : Code) (t : Stand) (s : State) → IsHeld code s.memory s.registers → IsStanding code t → IsStanding code (record { memory = s.memory; registers = s.registers; queues = t.queues; phase = t.phase; done = t.done })
 held_standing code t s h w =
     record {
-      memory = h.memory;
+      memory = h.words;
       memory_below = h.below;
       files = h.files.count;
       file = h.files.size;
@@ -61,7 +61,7 @@ pub where_none : {X : Type 0} (o : Option X) (P Q : Type 0) → (P → Q) → If
 where_none None P Q f h = f h
 where_none (Some x) P Q f h = h
 
-pub finished_whole : (a : Inside) (v : Stand) (m : Machine) → IsWhole a → some_wait (waits_of a.values.queues) ≡ false → a.values.phase < length (code_in a).lists → m.code ≡ a.walker.code → m.state ≡ finished (code_in a) (lent a.values a.walker.state) → IsHeld (code_in a) m.state → v ≡ back_from m.state a.values → IsWhole (with_values a v m) × (buffered_of v ≡ buffered_finished (code_in a) (buffered_of a.values))
+pub finished_whole : (a : Inside) (v : Stand) (m : Machine) → IsWhole a → some_wait (waits_of a.values.queues) ≡ false → a.values.phase < length (code_in a).lists → m.code ≡ a.walker.code → m.state ≡ finished (code_in a) (lent a.values a.walker.state) → IsHeld (code_in a) m.state.memory m.state.registers → v ≡ back_from m.state a.values → IsWhole (with_values a v m) × (buffered_of v ≡ buffered_finished (code_in a) (buffered_of a.values))
 finished_whole a v m w none here ec em held ev =
     let code : Code = code_in a in
     let is = w.good.lists in

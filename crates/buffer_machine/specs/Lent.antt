@@ -1,4 +1,4 @@
--- What a machine without buffers is lent, and what comes back.
+-- What a machine without buffers is lent, and what it gives back.
 use Rattle.std.specs.Prelude.{◌≡◌, ℕ, ◌*◌, ◌<◌, List, length, map, replicate, slice_index}
 use Rattle.icode.specs.Machine.{Code, State, padded}
 use Rattle.par_machine.specs.Held.{AreFiles}
@@ -11,7 +11,7 @@ with_files files s = record s { registers = files }
 abbrev pub lent : Stand → State → State
 lent t s = record s { memory = t.memory; registers = t.registers }
 
--- the state comes back, in which nothing is done of the phase and no store waits
+-- its state is given back, in which nothing is done of the phase; no store waits
 abbrev pub back_from : State → Stand → Stand
 back_from s t =
     record {
@@ -22,13 +22,8 @@ back_from s t =
       done = replicate (length t.done) 0;
     }
 
--- its memory and registers are a machine's
-pub record IsLendable (code : Code) (t : Stand) : Type 0 where
-  pub memory : length t.memory ≡ 4 * padded code
-  pub below : (k : ℕ) → slice_index t.memory k < code.modulus
-  pub files : AreFiles code t.registers
-
-pub record IsHeld (code : Code) (s : State) : Type 0 where
-  pub memory : length s.memory ≡ 4 * padded code
-  pub below : (k : ℕ) → slice_index s.memory k < code.modulus
-  pub files : AreFiles code s.registers
+-- memory and registers that a machine can have
+pub record IsHeld (code : Code) (memory : List ℕ) (registers : List (List ℕ)) : Type 0 where
+  pub words : length memory ≡ 4 * padded code
+  pub below : (k : ℕ) → slice_index memory k < code.modulus
+  pub files : AreFiles code registers

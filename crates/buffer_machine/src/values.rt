@@ -3,7 +3,7 @@
 ghost use Rattle.std.specs.Prelude.{◌≡◌, ℕ, ◌+◌, ◌-◌, ◌*◌, ◌^◌, ◌<◌, ◌≤◌, [], ◌∷◌, length, slice_index, slice_index_or, replicate, IfOk};
 ghost use Rattle.icode.specs.Buffers.{is_waiting, some_wait};
 ghost use Rattle.buffer_machine.specs.Drains.{IsWritten};
-ghost use Rattle.buffer_machine.specs.Lent.{IsLendable, IsHeld, lent, back_from};
+ghost use Rattle.buffer_machine.specs.Lent.{IsHeld, lent, back_from};
 ghost use Rattle.buffer_machine.specs.Ready.{CanAct};
 ghost use Rattle.buffer_machine.specs.Stand.{Stand, backlog_at, waits_of, acted_stand, settled_stand, first_stand, first_busy};
 ghost use Rattle.buffer_machine.specs.Waits.{OldestFits};
@@ -113,7 +113,7 @@ impl Values {
 
     /// The machine goes on with this memory and these registers.
     pub(crate) fn lend(&self, machine: &mut Machine)
-        requires { IsLendable machine.old.code self.now }
+        requires { IsHeld machine.old.code self.now.memory self.now.registers }
         ensures state { machine.new.state ≡ lent self.now machine.old.state }
         ensures code { machine.new.code ≡ machine.old.code }
     {
@@ -123,9 +123,9 @@ impl Values {
 
     /// The machine's memory, registers and phase come back, where it has done nothing of the phase.
     pub(crate) fn take_back(&mut self, machine: &Machine)
-        requires { IsLendable machine.now.code self.old }
+        requires { IsHeld machine.now.code self.old.memory self.old.registers }
         ensures stand { self.new ≡ back_from machine.now.state self.old }
-        ensures held { IsHeld machine.now.code machine.now.state }
+        ensures held { IsHeld machine.now.code machine.now.state.memory machine.now.state.registers }
     {
         self.memory.copy_from_slice(machine.memory());
         take_registers(&mut self.registers, machine);

@@ -1,5 +1,5 @@
 -- A machine one of whose processors has other registers.
-use Rattle.std.proofs.Common.{◌≡◌, ℕ, ◌*◌, ◌<◌, List, [], length, get_or, refl, sym, ap, ◌∙◌, subst, arith, ⊎_elim, length-set, get_or-set_same, get_or-set_other}
+use Rattle.std.proofs.Common.{◌≡◌, ℕ, ◌*◌, ◌<◌, List, [], length, get_or, sym, ap, ◌∙◌, subst, arith, ⊎_elim, length-set, get_or-set_same, get_or-set_other}
 use Rattle.std.specs.Prelude.{slice_get, slice_index, slice_index_or, slice_set}
 use Rattle.std.proofs.Math.Seq.{map-set_same}
 use Rattle.std.proofs.lemmas.Bool.{cases_eq}
@@ -11,7 +11,6 @@ use Rattle.par_machine.specs.Frame.{IsRunning}
 use Rattle.par_machine.specs.Held.{with_file}
 use Rattle.par_machine.specs.Position.{Position}
 use Rattle.par_machine.specs.Processors.{with_registers, registers_of, cursors_of, counts_of_all}
-use Rattle.par_machine.specs.Running.{Running}
 use Rattle.par_machine.specs.View.{frame_of, stand_with, running_of, IsWhole}
 use Rattle.par_machine.proofs.Each.{at_map, map_set}
 use Rattle.par_machine.proofs.Starting.{processor_there}

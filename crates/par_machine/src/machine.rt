@@ -242,6 +242,7 @@ impl Machine {
         requires residues { (k : ℕ) → slice_index words.now k < self.old.code.modulus }
         ensures state { self.new.state ≡ with_memory words.now self.old.state }
         ensures code { self.new.code ≡ self.old.code }
+        ensures files { AreFiles self.new.code self.new.state.registers }
     {
         self.memory.copy_from_slice(words);
     }

@@ -1,8 +1,8 @@
 use Rattle.std.proofs.Common.{[], refl, ◌*◌, ◌≡◌, ℕ, List, ◌<◌, ◌++◌, take, drop, length, get_or, ap, sym, subst, ◌∙◌, arith}
-use Rattle.std.specs.Prelude.{slice_index, slice_set}
+use Rattle.std.specs.Prelude.{slice_index}
 use Rattle.std.proofs.lemmas.List.{get_or_read}
-use Rattle.icode.specs.Machine.{Code, State}
-use Rattle.par_machine.specs.Held.{AreFiles, with_file}
+use Rattle.icode.specs.Machine.{Code}
+use Rattle.par_machine.specs.Held.{with_file}
 use Rattle.buffer_machine.specs.Lent.{with_files}
 use Rattle.buffer_machine.proofs.Lends.{copied, all_copied}
 use Rattle.buffer_machine.proofs.lend.lend_registers.Goals as goal

@@ -1,4 +1,4 @@
-use Rattle.std.proofs.Common.{[], ◌≡◌, ℕ, List, ◌<◌, ◌++◌, take, drop, length, get_or, ap, sym, subst, ◌∙◌, arith, refl, length-set}
+use Rattle.std.proofs.Common.{[], ◌≡◌, ℕ, List, ◌<◌, length, get_or, ap, sym, ◌∙◌, arith, length-set}
 use Rattle.std.proofs.lemmas.List.{get_or_read, get_or_default}
 use Rattle.buffer_machine.proofs.Lends.{copied, not_yet, all_copied}
 use Rattle.buffer_machine.proofs.lend.take_registers.Goals as goal

@@ -1,4 +1,4 @@
-use Rattle.std.proofs.Common.{◌≡◌, [], subst, sym, ◌∙◌, ap, false}
+use Rattle.std.proofs.Common.{◌≡◌, [], subst, sym, false}
 use Rattle.icode.specs.Buffers.{buffered_completion, some_wait}
 use Rattle.std.specs.Prelude.{IfNone}
 use Rattle.buffer_machine.specs.Running.{Running}
