@@ -4,3 +4,4 @@ pub mod Counted
 pub mod Costs
 pub mod Coded
 pub mod Formulas
+pub mod Programs
