@@ -134,7 +134,7 @@ named-each counts path n (e ∷ es) several some high is h =
     let long : length counts ≡ length path + 2 = ap length is ∙ length-counts path n in
     let short = length-below path n several some in
     let counted = counts-from path 0 (slice_index counts) (n ∷ n ∷ []) (λ i. ap (slice_index counts) (omega arith) ∙ ap (λ l. slice_index l i) is) in (
-      can-name (length counts) (slice_index counts) path n 0 e several counted some high (omega (arith, long)) (omega (arith, long, short, high)) h.0.affine h.0.small,
+      can-name (length counts) 64 (slice_index counts) path n 0 e several counted some high (omega (arith, long)) (omega (arith, short, high)) h.0.affine h.0.small,
       named-each counts path n es several some high is h.1,
     )
 

@@ -82,43 +82,43 @@ room-of (Columns c ∷ path) n several high =
     let turned : size_under path n * c ≡ c * size_under path n = omega arith in
     let within : size_under path n ≤ c * size_under path n = le-mul_left c (size_under path n) (omega (arith, several.0)) in (omega (arith, high), room-of path n several.1 (omega (arith, within, turned, high)))
 
-pub can-name : (m : ℕ) (cs : ℕ → ℕ) (path : Path) (n d : ℕ) (e : Sum) → AreSeveral path → HasCounts path d cs → 0 < n → size_under path n ≤ 2 ^ 20 → d + length path ≤ m → m < 2 ^ 64 → IsAffine m cs e → IsSmall 64 n cs e →
+pub can-name : (m r : ℕ) (cs : ℕ → ℕ) (path : Path) (n d : ℕ) (e : Sum) → AreSeveral path → HasCounts path d cs → 0 < n → size_under path n ≤ 2 ^ 20 → d + length path ≤ m → d + length path < 2 ^ 64 → IsAffine m cs e → IsSmall r n cs e →
     CanName m cs path n d e
-can-name m cs [] n d e several counts some high long word affine small = tt
-can-name m cs (Blocks c ∷ path) n d e several counts some high long word affine small =
+can-name m r cs [] n d e several counts some high long word affine small = tt
+can-name m r cs (Blocks c ∷ path) n d e several counts some high long word affine small =
     let size = size_under path n in
     let within : size ≤ c * size = le-mul_left c size (omega (arith, several.0)) in
     let low : size ≤ 2 ^ 20 = omega (arith, within, high) in
-    let inner = place-small path 64 n (d + 1) e cs several.1 counts.1 some low small in
-    let whole = place-small (Blocks c ∷ path) 64 n d e cs several counts some high small in
+    let inner = place-small path r n (d + 1) e cs several.1 counts.1 some low small in
+    let whole = place-small (Blocks c ∷ path) r n d e cs several counts some high small in
     let place = place_sum path n (d + 1) e in
     let sound = sound-place_sum (Blocks c ∷ path) n d e (affine-sound m cs e affine) in
     let peaks = max-lt 1 0 2 (omega arith) (omega arith) in
     let none : size * 0 ≡ 0 = omega arith in (
-      omega (arith, long, word),
+      omega (arith, word),
       omega (arith, long),
       room-of path n several.1 low,
-      can-name m cs path n (d + 1) e several.1 counts.1 some low (omega (arith, long)) word affine small,
+      can-name m r cs path n (d + 1) e several.1 counts.1 some low (omega (arith, long)) (omega (arith, word)) affine small,
       affine-place m cs path n (d + 1) e (omega (arith, long)) affine,
       λ vs range. omega (arith, value-le-top (place_sum (Blocks c ∷ path) n d e) vs cs sound (λ i. in_range_at cs vs i range), whole.top, high),
       (let more = mul-le-mul_left size (let p : max 1 0 ≤ 1 = omega (arith, peaks) in p) in let one : size * 1 ≡ size = omega arith in omega (arith, more, one, low)),
       omega (arith, constant-le-top place cs, inner.top, none, low),
     )
-can-name m cs (Columns c ∷ path) n d e several counts some high long word affine small =
+can-name m r cs (Columns c ∷ path) n d e several counts some high long word affine small =
     let size = size_under path n in
     let turned : size * c ≡ c * size = omega arith in
     let within : size ≤ c * size = le-mul_left c size (omega (arith, several.0)) in
     let low : size ≤ 2 ^ 20 = omega (arith, within, turned, high) in
-    let inner = place-small path 64 n (d + 1) e cs several.1 counts.1 some low small in
-    let whole = place-small (Columns c ∷ path) 64 n d e cs several counts some high small in
+    let inner = place-small path r n (d + 1) e cs several.1 counts.1 some low small in
+    let whole = place-small (Columns c ∷ path) r n d e cs several counts some high small in
     let place = place_sum path n (d + 1) e in
     let sound = sound-place_sum (Columns c ∷ path) n d e (affine-sound m cs e affine) in
     let tops : c * top place cs ≤ 2 ^ 20 = scale-low c (top place cs) size (2 ^ 20) inner.top (omega (arith, turned, high)) in
     let peaks : c * peak place ≤ 2 ^ 20 = scale-low c (peak place) size (2 ^ 20) inner.peak (omega (arith, turned, high)) in (
-      omega (arith, long, word),
+      omega (arith, word),
       omega (arith, long),
       room-of path n several.1 low,
-      can-name m cs path n (d + 1) e several.1 counts.1 some low (omega (arith, long)) word affine small,
+      can-name m r cs path n (d + 1) e several.1 counts.1 some low (omega (arith, long)) (omega (arith, word)) affine small,
       affine-place m cs path n (d + 1) e (omega (arith, long)) affine,
       λ vs range. omega (arith, value-le-top (place_sum (Columns c ∷ path) n d e) vs cs sound (λ i. in_range_at cs vs i range), whole.top, high),
       omega (arith, peaks),

@@ -1,5 +1,6 @@
 -- What the code's passes and states of merging stand for.
 use Rattle.std.specs.Prelude.{List, map, Vec}
+use Rattle.std.proofs.Common.{Global}
 use Rattle.index_fn.specs.Index.{mapping_of}
 use Rattle.passes.specs.Merge.{Merging, Taking}
 use Rattle.passes.specs.Nest.{PlainNest}
