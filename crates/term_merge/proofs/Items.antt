@@ -3,6 +3,7 @@ use Rattle.std.proofs.Common.{◌≡◌, ℕ, zero, suc, ◌+◌, ◌-◌, ◌*�
 use Rattle.std.specs.Prelude.{All, map, slice_index}
 use Rattle.std.specs.List.{range_with_len}
 use Rattle.std.proofs.Math.Nat.{mul-le-mul, mul-le-mul_right}
+use Rattle.std.proofs.lemmas.List.FromFn.{map-range_with_len_more}
 use Rattle.std.proofs.lemmas.Bool.{cases_eq}
 use Rattle.std.proofs.lemmas.Bool.Decides.{nat_tests}
 use Rattle.std.proofs.lemmas.List.Elements.{All-nil, All-cons}
@@ -12,6 +13,8 @@ use Rattle.perm_algebra.specs.Views.{plain_sum}
 use Rattle.perm_algebra.specs.declared.Affine.{Affine}
 use Rattle.perm_algebra.proofs.AffineLaws.{value-le-top}
 use Rattle.perm_algebra.proofs.PartLaws.{in_range_at}
+use Rattle.operators.specs.Sum.{list_below}
+use Rattle.operators.proofs.Lists.{length-list_below}
 use Rattle.passes.specs.Good.{AreBelow}
 use Rattle.passes.specs.Limits.{AreSeveral, HasRows}
 use Rattle.passes.specs.Merge.{items_in, items_out, one_loop}
@@ -187,3 +190,11 @@ loop_size n =
       | inl one ↦ let is : one_loop n ≡ [] = grind (arith, nat_tests) in ap (λ p. size_under p 1) is ∙ sym one
       | inr several ↦ let is : one_loop n ≡ Blocks n ∷ [] = grind (arith, nat_tests) in ap (λ p. size_under p 1) is ∙ omega arith
     ]
+
+-- ---- values of a function
+
+pub values_count : (ks : List ℕ) (n : ℕ) (f : ℕ → ℕ) → ks ≡ list_below n f → length ks ≡ n
+values_count ks n f is = ap length is ∙ length-list_below n f
+
+pub values_more : (n : ℕ) (f : ℕ → ℕ) → list_below (n + 1) f ≡ list_below n f ++ f n ∷ []
+values_more n f = map-range_with_len_more f 0 n n (omega arith)

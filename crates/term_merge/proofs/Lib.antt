@@ -1,3 +1,5 @@
 pub mod Naming
 pub mod Items
 pub mod Fitting
+pub mod Lifting
+pub mod Standing

@@ -3,6 +3,7 @@
 #![tactic(auto)]
 
 mod backs;
+mod lifted;
 mod nests;
 mod placed;
 mod sides;
