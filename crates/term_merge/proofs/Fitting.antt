@@ -1,9 +1,11 @@
 -- Products that stay words.
 use Rattle.std.proofs.Common.{◌≡◌, ℕ, zero, suc, ◌+◌, ◌*◌, ◌^◌, ◌<◌, ◌≤◌, arith, [], ◌∷◌, le-mul_of_pos_right}
 use Rattle.std.proofs.Math.Nat.{mul-le-mul}
+use Rattle.passes.specs.Nest.{PlainFactors, values, twiddles, spread, factor_count}
 use Rattle.sigma_spl.specs.Room.{HasRoom}
 use Rattle.tensor_paths.specs.declared.Tensor.TheVariants.{Blocks, Columns}
 use Rattle.tensor_paths.specs.Path.{Path, size_under}
+use Rattle.term_merge.specs.Placed.{HasCount}
 
 le-times : (a b : ℕ) → 0 < a → b ≤ a * b
 le-times a b h = let more : b ≤ b * a = le-mul_of_pos_right {m = a} b h in omega arith
@@ -46,3 +48,12 @@ part_room (Blocks c ∷ path) n h high =
 part_room (Columns c ∷ path) n h high =
     let turned : size_under path n * c ≡ c * size_under path n = omega arith in
     let within = le-times c (size_under path n) (right-some (size_under path n) c h) in (omega (arith, high), part_room path n (left-some (size_under path n) c h) (omega (arith, within, turned, high)))
+
+count-fits : (factors : PlainFactors) → 0 < factor_count factors → factor_count factors ≤ 2 ^ 20 → HasCount factors
+count-fits (values entries) some high = tt
+count-fits (twiddles r s root) some high = omega (arith, high)
+count-fits (spread path factors) some high =
+    (count-fits factors (part_some path (factor_count factors) some) (part_high path (factor_count factors) some high), part_room path (factor_count factors) some high)
+
+pub has_count : (path : Path) (factors : PlainFactors) → 0 < size_under path (factor_count factors) → size_under path (factor_count factors) ≤ 2 ^ 20 → HasCount factors
+has_count path factors some high = count-fits factors (part_some path (factor_count factors) some) (part_high path (factor_count factors) some high)

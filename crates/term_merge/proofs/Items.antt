@@ -53,7 +53,7 @@ tile-items m v cs k zero high h = tt
 tile-items m v cs k (suc len) high h = (record { affine = tt; small = constant-small 64 (v * v) cs (k * v) (start-below k v (omega arith)) high }, tile-items m v cs (k + 1) len high (omega arith))
 
 -- the variable v, which runs below n
-variable-item : (m n : ℕ) (cs : ℕ → ℕ) (v : ℕ) → 2 ≤ n → cs v ≡ n → v < m → IsItem m n cs (variable 1 v (constant 0))
+pub variable-item : (m n : ℕ) (cs : ℕ → ℕ) (v : ℕ) → 2 ≤ n → cs v ≡ n → v < m → IsItem m n cs (variable 1 v (constant 0))
 variable-item m n cs v two is below =
     record {
       affine = (below, tt);

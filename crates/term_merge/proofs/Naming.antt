@@ -46,13 +46,13 @@ affine-place m cs (Blocks c ∷ path) n d e below h =
 affine-place m cs (Columns c ∷ path) n d e below h =
     affine-joined m cs (scaled c (place_sum path n (d + 1) e)) (variable 1 d (constant 0)) (affine-scaled m cs c (place_sum path n (d + 1) e) (affine-place m cs path n (d + 1) e (omega arith) h)) (omega arith, tt)
 
-affine-sound : (m : ℕ) (cs : ℕ → ℕ) (e : Sum) → IsAffine m cs e → IsSound e
+pub affine-sound : (m : ℕ) (cs : ℕ → ℕ) (e : Sum) → IsAffine m cs e → IsSound e
 affine-sound m cs (constant c) h = tt
 affine-sound m cs (variable f d rest) h = affine-sound m cs rest h.1
 affine-sound m cs (remainder f of n rest) h = (h.0, affine-sound m cs of h.1, affine-sound m cs rest h.3)
 affine-sound m cs (quotient f of n rest) h = (h.0, affine-sound m cs of h.1, affine-sound m cs rest h.3)
 
-constant-le-top : (e : Sum) (cs : ℕ → ℕ) → constant_of e ≤ top e cs
+pub constant-le-top : (e : Sum) (cs : ℕ → ℕ) → constant_of e ≤ top e cs
 constant-le-top (constant c) cs = omega arith
 constant-le-top (variable f d rest) cs = omega (arith, constant-le-top rest cs)
 constant-le-top (remainder f of m rest) cs = omega (arith, constant-le-top rest cs)

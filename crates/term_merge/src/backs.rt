@@ -8,6 +8,7 @@ ghost use Rattle.passes.specs.Views.{plain_factors};
 ghost use Rattle.sigma_spl.specs.Room.{HasRoom};
 ghost use Rattle.tensor_paths.specs.Path.{size_under};
 ghost use Rattle.term_merge.specs.Known.{AreSteps, HasSmallFactors};
+ghost use Rattle.term_merge.specs.Placed.{HasCount};
 
 use index_fn::Index;
 use memory::NoMemory;
@@ -101,17 +102,25 @@ fn is_inverse(r: u64, s: u64, b: u64) -> bool
 }
 
 /// How many factors there are.
-#[tactic(auto, using(crate::proofs::Fitting::part_some, crate::proofs::Fitting::part_high, crate::proofs::Fitting::part_room))]
+#[tactic(auto, using(crate::proofs::Fitting::has_count))]
 pub(crate) fn factor_count(path: &[Tensor], factors: &Factors) -> u64
     requires some { 0 < size_under path.now (factor_count (plain_factors factors.now)) }
     requires high { size_under path.now (factor_count (plain_factors factors.now)) ≤ 2 ^ 20 }
+    ensures { result ≡ factor_count (plain_factors factors.now) }
+{
+    let _path = path;
+    count_in(factors)
+}
+
+fn count_in(factors: &Factors) -> u64
+    requires { HasCount (plain_factors factors.now) }
     ensures { result ≡ factor_count (plain_factors factors.now) }
 {
     match factors {
         Factors::Values(entries) => entries.len() as u64,
         Factors::Twiddles { rows, cols, .. } => rows * cols,
         Factors::Spread { path, factors } => {
-            let count = factor_count(path, factors);
+            let count = count_in(factors);
             size_of_whole(path, count)
         }
     }
