@@ -1,5 +1,5 @@
 -- Products that stay words.
-use Rattle.std.proofs.Common.{◌≡◌, ℕ, zero, suc, ◌+◌, ◌*◌, ◌^◌, ◌<◌, ◌≤◌, arith, [], ◌∷◌, le-mul_of_pos_right}
+use Rattle.std.proofs.Common.{◌≡◌, ℕ, zero, suc, ◌*◌, ◌^◌, ◌<◌, ◌≤◌, arith, [], ◌∷◌, le-mul_of_pos_right}
 use Rattle.std.proofs.Math.Nat.{mul-le-mul}
 use Rattle.passes.specs.Nest.{PlainFactors, values, twiddles, spread, factor_count}
 use Rattle.sigma_spl.specs.Room.{HasRoom}

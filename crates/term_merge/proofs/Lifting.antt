@@ -1,14 +1,13 @@
 -- Nests within the limits can be made part of a larger array.
-use Rattle.std.proofs.Common.{◌≡◌, ℕ, zero, suc, ◌+◌, ◌-◌, ◌*◌, ◌^◌, ◌<◌, ◌≤◌, Bool, true, arith, refl, sym, ap, ◌∙◌, List, [], ◌∷◌, ◌++◌, length, subst, append_assoc, length-append, Option, Some, None}
+use Rattle.std.proofs.Common.{◌≡◌, ℕ, suc, ◌+◌, ◌-◌, ◌^◌, ◌<◌, ◌≤◌, true, arith, sym, ap, ◌∙◌, List, [], ◌∷◌, ◌++◌, length, subst, append_assoc, length-append, Option, Some, None}
 use Rattle.std.specs.Prelude.{All, map, slice_index, nat_lt, nat_le, ◌&&◌}
 use Rattle.std.specs.List.{list_all}
 use Rattle.std.proofs.lemmas.Bool.Decides.{nat_tests}
 use Rattle.std.proofs.lemmas.List.{length-map}
 use Rattle.std.proofs.lemmas.List.Elements.{All-nil, All-cons}
-use Rattle.perm_algebra.specs.Affine.{Sum, constant, variable, remainder, quotient, value, top, peak, levels, parts, IsSound, joined}
-use Rattle.perm_algebra.specs.Fits.{InRange, IsAffine}
+use Rattle.perm_algebra.specs.Affine.{Sum, constant, variable, remainder, quotient, top, peak, levels, parts, IsSound, joined}
+use Rattle.perm_algebra.specs.Fits.{IsAffine}
 use Rattle.perm_algebra.specs.Room.{HasCounts, IsReady}
-use Rattle.perm_algebra.specs.Room as room
 use Rattle.perm_algebra.specs.Views.{plain_sum}
 use Rattle.perm_algebra.specs.declared.Affine.{Affine}
 use Rattle.perm_algebra.proofs.AffineLaws.{value-le-top}
@@ -23,7 +22,6 @@ use Rattle.passes.proofs.Within.{IsSmall}
 use Rattle.tensor_paths.specs.Path.{Path, count_of, size_under}
 use Rattle.term_merge.specs.Known.{AreReady, IsReadyMultiplier, IsReadyNest}
 use Rattle.term_merge.specs.Lifted.{AreCounted, AreRaised, CanLift, CanRaise, IsCounted, counts_under}
-use Rattle.term_merge.specs.Placed.{CanName}
 use Rattle.term_merge.proofs.Naming.{can-name, affine-joined, affine-sound, constant-le-top}
 use Rattle.term_merge.proofs.Items.{counts-from, low-of, length-below}
 

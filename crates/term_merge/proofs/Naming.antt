@@ -1,15 +1,9 @@
 -- The places of a path's items can be made with words of 64 bits.
-use Rattle.std.proofs.Common.{◌≡◌, ℕ, zero, suc, ◌+◌, ◌-◌, ◌*◌, ◌^◌, ◌<◌, ◌≤◌, Bool, true, arith, refl, sym, ap, ◌∙◌, List, [], ◌∷◌, ◌++◌, length, subst, le-mul_of_pos_right, max}
-use Rattle.std.specs.Prelude.{All, map, slice_index, nat_lt, nat_le, ◌&&◌}
-use Rattle.std.specs.List.{list_all}
-use Rattle.std.proofs.Math.Nat.{mul-le-mul_left, mul-le-mul_right}
-use Rattle.std.proofs.lemmas.Bool.Decides.{nat_tests}
-use Rattle.std.proofs.lemmas.List.Elements.{All-nil, All-cons}
-use Rattle.perm_algebra.specs.Affine.{Sum, constant, variable, remainder, quotient, value, top, peak, levels, parts, IsSound, scaled, joined}
-use Rattle.perm_algebra.specs.Fits.{InRange, IsAffine}
-use Rattle.perm_algebra.specs.Room.{constant_of, CanScale, CanJoin}
-use Rattle.perm_algebra.specs.Views.{plain_sum}
-use Rattle.perm_algebra.specs.declared.Affine.{Affine}
+use Rattle.std.proofs.Common.{◌≡◌, ℕ, ◌+◌, ◌*◌, ◌^◌, ◌<◌, ◌≤◌, arith, ap, ◌∙◌, [], ◌∷◌, length, le-mul_of_pos_right, max}
+use Rattle.std.proofs.Math.Nat.{mul-le-mul_left}
+use Rattle.perm_algebra.specs.Affine.{Sum, constant, variable, remainder, quotient, value, top, peak, IsSound, scaled, joined}
+use Rattle.perm_algebra.specs.Fits.{IsAffine}
+use Rattle.perm_algebra.specs.Room.{constant_of}
 use Rattle.perm_algebra.proofs.AffineLaws.{top-scaled, value-scaled, value-joined, value-le-top}
 use Rattle.perm_algebra.proofs.PartLaws.{in_range_at}
 use Rattle.passes.specs.Limits.{AreSeveral}
@@ -19,7 +13,7 @@ use Rattle.passes.proofs.Small.{HasCounts, place-small, max-lt}
 use Rattle.passes.proofs.Within.{IsSmall}
 use Rattle.sigma_spl.specs.Room.{HasRoom}
 use Rattle.tensor_paths.specs.declared.Tensor.TheVariants.{Blocks, Columns}
-use Rattle.tensor_paths.specs.Path.{Path, count_of, size_under}
+use Rattle.tensor_paths.specs.Path.{Path, size_under}
 use Rattle.term_merge.specs.Placed.{CanName}
 
 -- ---- parts of sums

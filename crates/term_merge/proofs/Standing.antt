@@ -1,13 +1,13 @@
 -- Passes of two parts can stand side by side.
-use Rattle.std.proofs.Common.{◌≡◌, ℕ, suc, ◌+◌, ◌-◌, ◌*◌, ◌^◌, ◌<◌, ◌≤◌, Bool, true, arith, refl, sym, ap, ◌∙◌, List, [], ◌∷◌, ◌++◌, length, inl, inr, subst}
-use Rattle.std.specs.Prelude.{All, map, slice_index, ◌&&◌}
+use Rattle.std.proofs.Common.{◌≡◌, ℕ, ◌+◌, ◌^◌, ◌<◌, ◌≤◌, Bool, true, arith, refl, sym, List, [], ◌∷◌, length, inl, inr, subst}
+use Rattle.std.specs.Prelude.{All, map, ◌&&◌}
 use Rattle.std.specs.List.{list_all}
 use Rattle.std.proofs.lemmas.Bool.{cases_eq}
 use Rattle.std.proofs.lemmas.Bool.Decides.{nat_tests}
 use Rattle.std.proofs.lemmas.List.Elements.{All-nil, All-cons}
 use Rattle.perm_algebra.specs.Affine.{constant, variable}
 use Rattle.passes.specs.Limits.{AreSeveral, AreWithin}
-use Rattle.passes.specs.Merge.{copying, is_limited, is_multiplier_within, is_within, items_in, limits_of, new_nest, one_loop}
+use Rattle.passes.specs.Merge.{is_limited, is_multiplier_within, is_within, items_in, limits_of, new_nest, one_loop}
 use Rattle.passes.specs.Nest.{PlainNest}
 use Rattle.passes.specs.Views.{plain_nest}
 use Rattle.passes.specs.declared.nest.Nest.{Nest}

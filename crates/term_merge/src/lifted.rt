@@ -1,12 +1,14 @@
 // Nests of a part, under tensors behind the words before it.
-ghost use Rattle.std.specs.Prelude.{◌≡◌, ◌-◌, ◌++◌, ◌∷◌, [], IfOk, All, length, map, slice_index};
+ghost use Rattle.std.specs.Prelude.{◌≡◌, ◌-◌, ◌++◌, IfOk, All, length, map, slice_index};
 ghost use Rattle.std.specs.Option.{option_map};
 ghost use Rattle.passes.specs.Merge.{lifted, place_sum, renumbered, renumbered_places};
 ghost use Rattle.passes.specs.Views.{plain_multiplier, plain_nest};
+ghost use Rattle.passes.specs.Work.{HasWords};
 ghost use Rattle.perm_algebra.specs.Affine.{constant, joined};
 ghost use Rattle.perm_algebra.specs.Room.{HasCounts};
 ghost use Rattle.perm_algebra.specs.Views.{plain_sum};
-ghost use Rattle.term_merge.specs.Lifted.{CanLift, CanRaise, IsCounted};
+ghost use Rattle.tensor_paths.specs.Path.{count_of};
+ghost use Rattle.term_merge.specs.Lifted.{CanLift, CanRaise, IsCounted, counts_under};
 
 use crate::nests::copied_factors;
 use crate::placed::{counts, placed, renumbered, with_two};
@@ -17,7 +19,6 @@ use std::alloc::Global;
 use tensor_paths::Tensor;
 
 /// A nest of a part that begins behind so many words, under the tensors of a path round `size` words.
-#[tactic(auto, using(crate::proofs::Lifting::all_raised))]
 pub(crate) fn lifted(
     alloc: Global,
     path: &[Tensor],
@@ -28,9 +29,8 @@ pub(crate) fn lifted(
     requires { CanLift path.now size before (plain_nest nest.now) }
     ensures { IfOk result (λ z. plain_nest z ≡ lifted path.now size before (plain_nest nest.now)) }
 {
-    let mut counts = counts(alloc, path)?;
-    counts.extend_from_slice(&nest.counts)?;
-    let limits = with_two(alloc, &counts, nest.work.size())?;
+    let counts = counts_round(alloc, path, &nest.counts)?;
+    let limits = limits_under(alloc, path, nest)?;
     let gathers = all_raised(alloc, &limits, path, size, before, &nest.gathers)?;
     let multiplier = counted_on(alloc, &limits, path.len() as u64, &nest.multiplier)?;
     let scatters = all_raised(alloc, &limits, path, size, before, &nest.scatters)?;
@@ -42,6 +42,25 @@ pub(crate) fn lifted(
         multiplier,
         scatters,
     })
+}
+
+// The counts of the path's loops, and these.
+fn counts_round(alloc: Global, path: &[Tensor], inner: &[u64]) -> Result<Vec<u64>, NoMemory>
+    ensures { IfOk result (λ all. all.items ≡ map count_of path.now ++ inner.now) }
+{
+    let mut all = counts(alloc, path)?;
+    all.extend_from_slice(inner)?;
+    Ok(all)
+}
+
+// What all variables of the lifted nest run below.
+fn limits_under(alloc: Global, path: &[Tensor], nest: &Nest) -> Result<Vec<u64>, NoMemory>
+    requires { HasWords (plain_nest nest.now).work }
+    ensures { IfOk result (λ limits. limits.items ≡ counts_under path.now (plain_nest nest.now)) }
+{
+    let counts = counts_round(alloc, path, &nest.counts)?;
+    let limits = with_two(alloc, &counts, nest.work.size())?;
+    Ok(limits)
 }
 
 fn all_raised(
