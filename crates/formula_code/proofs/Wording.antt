@@ -8,7 +8,7 @@ use Rattle.matrix_meaning.specs.declared.Kind.TheVariants.{Dft}
 use Rattle.operators.proofs.Lists.{factor_positive}
 use Rattle.passes.specs.Good.{IsMove}
 use Rattle.passes.specs.Merge.{back_of, inverse_below}
-use Rattle.passes.specs.Term.{nest}
+use Rattle.passes.specs.Term.{PlainTerm, nest}
 use Rattle.passes.specs.Work.{kernel, horner}
 use Rattle.formula_lower.specs.Terms.{one_more, halvings, hadamard_term, fourier_term, term_of}
 use Rattle.formula_lower.proofs.Lowers.{coprime}
@@ -153,5 +153,6 @@ term-words m path (TensorRight k a) high shaped =
 term-words m path (DirectSum a b) high shaped = (term-words m [] a (size_is_size a shaped.0).1 shaped.0, term-words m [] b (size_is_size b shaped.1).1 shaped.1)
 term-words m path (Pending a) high shaped = term-words m path a high shaped
 
-pub term_words : (m : ℕ) (f : Formula) → IsShaped f → AreWords (size_of f) (term_of m [] f)
-term_words m f shaped = term-words m [] f (size_is_size f shaped).1 shaped
+pub term_words : (m n : ℕ) (f : Formula) (t : PlainTerm) → IsShaped f → n ≡ size_of f → t ≡ term_of m [] f → AreWords n t
+term_words m n f t shaped size is =
+    subst (λ s. AreWords n s) (sym is) (subst (λ k. AreWords k (term_of m [] f)) (sym size) (term-words m [] f (size_is_size f shaped).1 shaped))
