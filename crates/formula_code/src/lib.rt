@@ -7,7 +7,6 @@ ghost use Rattle.formula_passes.specs.Computes.{formula_merged};
 ghost use Rattle.passes.specs.Views.{plain_merged};
 ghost use Rattle.spl_ast.specs.Formula.{parts_of};
 
-
 use formula_lower::lower_formula;
 use icode::program::Program;
 use memory::NoMemory;
@@ -21,11 +20,7 @@ use term_merge::merge_term;
 /// The code of a formula modulo m, for one processor of one lane: its listing can be printed, and under every order of
 /// turns it leaves the formula's matrix times the vector.
 #[tactic(auto, using(crate::proofs::Coding::can_emit, crate::proofs::Coding::is_code))]
-pub fn formula_program(
-    alloc: Global,
-    modulus: &Modulus,
-    formula: &Spl,
-) -> Result<Program, NoMemory>
+pub fn formula_program(alloc: Global, modulus: &Modulus, formula: &Spl) -> Result<Program, NoMemory>
     requires few { parts_of formula.now ≤ 65536 }
     ensures code { IfOk result (λ program. IsCodeOf modulus.now formula.now program) }
 {
