@@ -1,0 +1,88 @@
+-- What is known while a term is merged: each number on the way is a word.
+use Rattle.std.specs.Prelude.{◌≡◌, ℕ, ◌+◌, ◌-◌, ◌*◌, ◌^◌, ◌<◌, ◌≤◌, true, List, [], ◌∷◌, length, Option, Some, None}
+use Rattle.index_fn.specs.Mapping.{Mapping, ThomasIn, ThomasOut, Paired, After, IsDefinedAt}
+use Rattle.perm_algebra.specs.Affine.{Sum}
+use Rattle.perm_algebra.specs.Room.{IsReady}
+use Rattle.passes.specs.Good.{IsMove, AreGoodPasses}
+use Rattle.passes.specs.Limits.{AreWithin}
+use Rattle.passes.specs.Merge.{Merging, back_of}
+use Rattle.passes.specs.Nest.{PlainMultiplier, PlainNest}
+use Rattle.passes.specs.Term.{PlainTerm, gath, scat, nest, product, beside}
+use Rattle.passes.specs.Work.{HasWords}
+
+-- ---- functions
+
+-- what is tried to undo it stays a word
+abbrev pub HasSmallFactors : Mapping → Type 0
+HasSmallFactors (ThomasIn r s) = r * s < 2 ^ 21
+HasSmallFactors (ThomasOut r s) = r * s < 2 ^ 21
+HasSmallFactors (Paired f c g d) = HasSmallFactors f × HasSmallFactors g
+HasSmallFactors (After f g) = HasSmallFactors f × HasSmallFactors g
+HasSmallFactors f = Unit {0}
+
+abbrev pub IsDefinedBelow : ℕ → Mapping → Type 0
+IsDefinedBelow n f = (i : ℕ) → i < n → IsDefinedAt f i
+
+-- a function of words, and back
+pub record HasNumbers (n : ℕ) (f : Mapping) : Type 0 where
+  pub small : HasSmallFactors f
+  pub there : IsDefinedBelow n f
+  pub back : IsDefinedBelow n (back_of f)
+
+-- a permutation that waits
+pub record IsStep (n : ℕ) (f : Mapping) : Type 0 where
+  pub moves : IsMove 0 n f
+  pub numbers : HasNumbers n f
+
+abbrev pub AreSteps : ℕ → List Mapping → Type 0
+AreSteps n [] = Unit {0}
+AreSteps n (f ∷ fs) = IsStep n f × AreSteps n fs
+
+-- ---- passes
+
+-- so many variables have counts
+abbrev pub AreReady : ℕ → List Sum → Type 0
+AreReady depth [] = Unit {0}
+AreReady depth (e ∷ es) = IsReady depth e × AreReady depth es
+
+abbrev pub IsReadyMultiplier : ℕ → Option PlainMultiplier → Type 0
+IsReadyMultiplier depth None = Unit {0}
+IsReadyMultiplier depth (Some d) = AreReady depth d.places
+
+pub record IsReadyNest (z : PlainNest) : Type 0 where
+  pub gathers : AreReady (length z.counts + 2) z.gathers
+  pub scatters : AreReady (length z.counts + 2) z.scatters
+  pub multiplier : IsReadyMultiplier (length z.counts + 2) z.multiplier
+
+abbrev pub IsReadyPass : List PlainNest → Type 0
+IsReadyPass [] = Unit {0}
+IsReadyPass (z ∷ zs) = IsReadyNest z × IsReadyPass zs
+
+abbrev pub AreReadyPasses : List (List PlainNest) → Type 0
+AreReadyPasses [] = Unit {0}
+AreReadyPasses (zs ∷ ps) = IsReadyPass zs × AreReadyPasses ps
+
+-- ---- states
+
+-- lists of n words under so many tensors that this room is left of 64
+pub record HasRoom (room n : ℕ) : Type 0 where
+  pub some : 0 < n
+  pub most : room ≤ 64
+  pub round : n * 2 ^ (64 - room) ≤ 2 ^ 20
+
+pub record IsKnown (room n : ℕ) (st : Merging) : Type 0 where
+  pub waiting : AreSteps n st.waiting
+  pub good : AreGoodPasses 0 1 n st.passes
+  pub within : AreWithin room n st.passes
+  pub ready : AreReadyPasses st.passes
+
+-- ---- terms
+
+-- each number of a term's functions and works is a word
+abbrev pub AreWords : ℕ → PlainTerm → Type 0
+AreWords n (gath f) = HasNumbers n f
+AreWords n (scat f) = HasNumbers n f × HasNumbers n (back_of f)
+AreWords n (nest path w) = HasWords w
+AreWords n (product a b) = AreWords n a × AreWords n b
+AreWords n (beside path k a l b) = AreWords k a × AreWords l b
+AreWords n t = Unit {0}

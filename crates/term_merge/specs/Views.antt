@@ -1,0 +1,21 @@
+-- What the code's passes and states of merging stand for.
+use Rattle.std.specs.Prelude.{List, map, Vec}
+use Rattle.index_fn.specs.Index.{mapping_of}
+use Rattle.passes.specs.Merge.{Merging, Taking}
+use Rattle.passes.specs.Nest.{PlainNest}
+use Rattle.passes.specs.Views.{plain_nest}
+use Rattle.passes.specs.declared.nest.Nest.{Nest}
+use Rattle.term_merge.specs.declared.state as state
+
+abbrev pub plain_pass : Vec Nest Global → List PlainNest
+plain_pass zs = map plain_nest zs.items
+
+abbrev pub plain_passes : List (Vec Nest Global) → List (List PlainNest)
+plain_passes ps = map plain_pass ps
+
+-- the latest first
+abbrev pub plain_merging : state.Merging.Merging → Merging
+plain_merging st = record { waiting = map mapping_of st.waiting.items; passes = plain_passes st.passes.items }
+
+abbrev pub plain_taking : state.Taking.Taking → Taking
+plain_taking taking = record { pass = plain_pass taking.pass; left = map mapping_of taking.left.items }
