@@ -3,8 +3,11 @@
 #![tactic(auto)]
 
 mod backs;
+mod copies;
+mod diagonals;
+mod firsts;
 mod nests;
+mod places;
 mod sides;
 mod state;
-
-pub use state::Limits;
+mod steps;

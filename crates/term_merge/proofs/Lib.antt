@@ -1,0 +1,4 @@
+pub mod Sums
+pub mod Passes
+pub mod Readies
+pub mod Carries
