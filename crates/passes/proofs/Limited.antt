@@ -237,7 +237,7 @@ sums-id : (es : List Sum) → map (λ e. e) es ≡ es
 sums-id [] = refl
 sums-id (e ∷ es) = ap (λ z. e ∷ z) (sums-id es)
 
-spread-within : (room n : ℕ) (factors : PlainFactors) (zs : List PlainNest) → factor_count factors ≡ n → is_within room n zs ≡ true → is_within room n (multiplied factors [] zs) ≡ true
+pub spread-within : (room n : ℕ) (factors : PlainFactors) (zs : List PlainNest) → factor_count factors ≡ n → is_within room n zs ≡ true → is_within room n (multiplied factors [] zs) ≡ true
 spread-within room n factors [] count h = refl
 spread-within room n factors (z ∷ zs) count h =
     let cs = limits_of z in

@@ -21,13 +21,13 @@ use Rattle.term_merge.proofs.Passes.{known-gathered, known-scattered}
 
 -- ---- the variables of new nests
 
-counts-scaled : (n k : ℕ) (e : Sum) → HasCounts n e → HasCounts n (scaled k e)
+pub counts-scaled : (n k : ℕ) (e : Sum) → HasCounts n e → HasCounts n (scaled k e)
 counts-scaled n k (constant c) h = tt
 counts-scaled n k (variable f d rest) h = (h.0, counts-scaled n k rest h.1)
 counts-scaled n k (remainder f of m rest) h = (h.0, counts-scaled n k rest h.1)
 counts-scaled n k (quotient f of m rest) h = (h.0, counts-scaled n k rest h.1)
 
-counts-joined : (n : ℕ) (a e : Sum) → HasCounts n a → HasCounts n e → HasCounts n (joined a e)
+pub counts-joined : (n : ℕ) (a e : Sum) → HasCounts n a → HasCounts n e → HasCounts n (joined a e)
 counts-joined n (constant c) (constant d) h g = tt
 counts-joined n (constant c) (variable f d rest) h g = (g.0, counts-joined n (constant c) rest tt g.1)
 counts-joined n (constant c) (remainder f of m rest) h g = (g.0, counts-joined n (constant c) rest tt g.1)
@@ -36,7 +36,7 @@ counts-joined n (variable f d rest) e h g = (h.0, counts-joined n rest e h.1 g)
 counts-joined n (remainder f of m rest) e h g = (h.0, counts-joined n rest e h.1 g)
 counts-joined n (quotient f of m rest) e h g = (h.0, counts-joined n rest e h.1 g)
 
-counts-place : (n : ℕ) (path : Path) (d v : ℕ) (e : Sum) → v + length path ≤ n → HasCounts n e → HasCounts n (place_sum path d v e)
+pub counts-place : (n : ℕ) (path : Path) (d v : ℕ) (e : Sum) → v + length path ≤ n → HasCounts n e → HasCounts n (place_sum path d v e)
 counts-place n [] d v e fits h = h
 counts-place n (Blocks c ∷ path) d v e fits h =
     counts-joined n (scaled (size_under path d) (variable 1 v (constant 0))) (place_sum path d (v + 1) e) (omega (arith, fits), tt) (counts-place n path d (v + 1) e (omega (arith, fits)) h)
@@ -73,7 +73,7 @@ ready-out depth (horner root size) = ready-variable (depth + 2) depth (omega ari
 ready-out depth (tile v) = ready-starts (depth + 2) v (range_with_len 0 v)
 ready-out depth (copy size) = ready-constants (depth + 2) (range_with_len 0 size)
 
-depth-is : (path : Path) → length (map count_of path) ≡ length path
+pub depth-is : (path : Path) → length (map count_of path) ≡ length path
 depth-is [] = refl
 depth-is (t ∷ path) = ap suc (depth-is path)
 

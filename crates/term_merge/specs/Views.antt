@@ -1,5 +1,5 @@
 -- What the code's passes and states of merging stand for.
-use Rattle.std.specs.Prelude.{List, map, Vec}
+use Rattle.std.specs.Prelude.{List, [], ◌∷◌, ◌++◌, map, Vec}
 use Rattle.std.proofs.Common.{Global}
 use Rattle.index_fn.specs.Index.{mapping_of}
 use Rattle.passes.specs.Merge.{Merging}
@@ -17,3 +17,8 @@ plain_passes ps = map plain_pass ps
 -- the latest first
 abbrev pub plain_merging : state.Merging.Merging → Merging
 plain_merging st = record { waiting = map mapping_of st.waiting.items; passes = plain_passes st.passes.items }
+
+-- passes, the latest first, in their order
+abbrev pub in_order : List (List PlainNest) → List (List PlainNest)
+in_order [] = []
+in_order (zs ∷ ps) = in_order ps ++ zs ∷ []

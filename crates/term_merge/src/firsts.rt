@@ -1,5 +1,5 @@
 // The latest pass of several, and gathers from their end.
-ghost use Rattle.std.specs.Prelude.{◌≡◌, ◌∷◌, [], IfOk, None, Some, Vec, map};
+ghost use Rattle.std.specs.Prelude.{◌≡◌, ◌+◌, ◌∷◌, [], IfOk, None, Some, map, vec_len};
 ghost use Rattle.index_fn.specs.Index.{mapping_of};
 ghost use Rattle.passes.specs.Merge.{from_end};
 ghost use Rattle.passes.specs.Views.{plain_nest};
@@ -20,6 +20,7 @@ pub(crate) struct FirstPass {
 /// The first of the passes and the others, if there are any.
 pub(crate) fn parted(passes: Vec<Vec<Nest>>) -> Option<FirstPass>
     ensures some { (p : FirstPass) → result ≡ Some p → plain_passes passes.items ≡ map plain_nest p.first.items ∷ plain_passes p.others.items }
+    ensures len { (p : FirstPass) → result ≡ Some p → vec_len p.others + 1 ≡ vec_len passes }
     ensures none { result ≡ None → plain_passes passes.items ≡ [] }
 {
     let mut others = passes;
