@@ -7,6 +7,7 @@ import sys
 from math import gcd, lcm
 
 from emission import Emitter, actions, listing, loads_and_stores, run
+from formula_sweep import formulas_swept
 from listings import Lost, read_listing
 from reference import answer, vectors
 from strangers import MOST_ACTIONS, count, executed, parts_of
@@ -202,6 +203,12 @@ class Sweep:
         done = subprocess.run([self.program, *words.split()], input=text.encode(), capture_output=True)
         return done.returncode, done.stdout.decode(), done.stderr.decode()
 
+    def count(self, is_right, what):
+        self.passed += is_right
+        self.failed += not is_right
+        if not is_right:
+            print(f"differs: {what}")
+
     def compare(self, words, text, wanted):
         """Whether the program answers as it is wanted: a text with success, or the code and note of a refusal, perhaps
         with a text between them."""
@@ -209,11 +216,9 @@ class Sweep:
         wanted = (0, wanted, "") if isinstance(wanted, str) else wanted
         code, *output, note = wanted
         wanted = (code, "".join(output), f"spiral: {note}\n" if note else "")
+        self.count(got == wanted, f"{words}, {text[:200].splitlines()[:1]}")
         if got == wanted:
-            self.passed += 1
             return
-        self.failed += 1
-        print(f"differs: {words}, {text.splitlines()[0]}")
         for mine, other in zip(map(str, wanted), map(str, got)):
             pairs = zip(mine.splitlines() + ["(end)"], other.splitlines() + ["(end)"])
             for pair in [pair for pair in pairs if pair[0] != pair[1]][:1]:
@@ -405,6 +410,7 @@ def main():
         strangers(sweep, line, numbers)
     changed = [plans(sweep, lines) for lines in requests_at_each_weight()]
     assert sum(changed) >= 5, "the weights change too few trees"
+    formulas_swept(sweep, Numbers(17))
     for line in LARGE:
         for command in ("plan", "formula", "cert", "code"):
             sweep.compare(command, line, wanted(command, line))

@@ -7,3 +7,6 @@ pub mod Lens
 pub mod Whole
 pub mod Named
 pub mod Few
+pub mod Direct
+pub mod Lends
+pub mod Finishing

@@ -235,7 +235,7 @@ zero_files : (files : List (List ℕ)) (k : ℕ) → ((q : ℕ) → q < length f
 zero_files [] k h = refl
 zero_files (f ∷ files) k h = ap₂ (λ (x : List ℕ) (xs : List (List ℕ)). x ∷ xs) (ap (λ n. replicate {A = ℕ} n 0) (h 0 (omega arith))) (zero_files files k (λ q lt. h (suc q) (omega arith)))
 
-empty_queues : (queues : List Backlog) → waits_of (map cleared queues) ≡ replicate (length queues) []
+pub empty_queues : (queues : List Backlog) → waits_of (map cleared queues) ≡ replicate (length queues) []
 empty_queues [] = refl
 empty_queues (l ∷ queues) = ap (λ (xs : List (List Waiting)). [] ∷ xs) (empty_queues queues)
 

@@ -10,3 +10,4 @@ pub mod Running
 pub mod Good
 pub mod Walking
 pub mod View
+pub mod Lent

@@ -2,6 +2,7 @@
 #![tactic(auto)]
 
 mod events;
+mod lend;
 mod machine;
 mod make;
 mod play;

@@ -1,7 +1,7 @@
 // The machine.
 
-ghost use Rattle.std.specs.Prelude.{◌≡◌, ℕ, ◌+◌, ◌-◌, ◌*◌, ◌^◌, ◌<◌, ◌≤◌, [], ◌∷◌, length, All, slice_index, replicate, IfSome, IfNone, IfOk};
-ghost use Rattle.icode.specs.Buffers.{proc_of, buffered_start, buffered_turn, drain, drain_answer, buffered_step, buffered_run, buffered_completion, buffered_finished};
+ghost use Rattle.std.specs.Prelude.{◌≡◌, ℕ, ◌+◌, ◌-◌, ◌*◌, ◌^◌, ◌<◌, ◌≤◌, [], ◌∷◌, length, All, slice_index, replicate, false, IfSome, IfNone, IfOk};
+ghost use Rattle.icode.specs.Buffers.{proc_of, some_wait, buffered_start, buffered_turn, drain, drain_answer, buffered_step, buffered_run, buffered_completion, buffered_finished};
 ghost use Rattle.icode.specs.Machine.{acts, answer, padded};
 ghost use Rattle.icode.specs.Program.{code_of, Fits};
 ghost use Rattle.buffer_machine.specs.Listed.{events_of, HasNoStranger};
@@ -178,13 +178,42 @@ impl BufMachine {
         }
     }
 
+    /// The next of the events that finish the run, as long as a store waits.
+    fn next_waiting(&self) -> Option<Event>
+        ensures found { IfSome result (λ e. (proc_of e < self.now.code.procs) × (buffered_completion self.now.code self.now.state ≡ e ∷ buffered_completion self.now.code (buffered_step self.now.code self.now.state e))) }
+        ensures none { IfNone result (some_wait self.now.state.queues ≡ false) }
+        ensures few { length (buffered_completion self.now.code self.now.state) < 2 ^ 60 }
+    {
+        if self.values.some_wait() {
+            self.next_event()
+        } else {
+            None
+        }
+    }
+
+    /// The events that finish the run, where no store waits: each processor takes its turns and then drains its queue, so they
+    /// leave what its turns leave on memory itself.
+    fn finish_directly(&mut self)
+        requires none { some_wait self.old.state.queues ≡ false }
+        requires here { self.old.state.state.phase < length self.old.code.lists }
+        ensures state { self.new.state ≡ buffered_finished self.old.code self.old.state }
+        ensures code { self.new.code ≡ self.old.code }
+    {
+        self.values.lend(&mut self.walker);
+        self.walker.finish();
+        self.values.take_back(&self.walker);
+    }
+
     /// The events that finish the run.
     pub fn finish(&mut self)
         ensures state { self.new.state ≡ buffered_finished self.old.code self.old.state }
         ensures code { self.new.code ≡ self.old.code }
     {
-        while let Some(event) = self.next_event() {
+        while let Some(event) = self.next_waiting() {
             self.step(event);
+        }
+        if self.values.phase() < self.lens.len() as u64 {
+            self.finish_directly();
         }
     }
 

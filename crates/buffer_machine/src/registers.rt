@@ -37,6 +37,21 @@ impl Registers {
         Ok(Registers { words })
     }
 
+    /// All words, register after register.
+    pub(crate) fn words(&self) -> &[u64]
+        ensures { result.now ≡ self.now }
+    {
+        &self.words
+    }
+
+    /// They become these words.
+    pub(crate) fn put(&mut self, words: &[u64])
+        requires { length words.now ≡ length self.old }
+        ensures { self.new ≡ words.now }
+    {
+        self.words.copy_from_slice(words);
+    }
+
     /// 0 in all words.
     pub(crate) fn clear(&mut self)
         ensures { self.new ≡ replicate (length self.old) 0 }

@@ -10,7 +10,7 @@ use crate::registers::Registers;
 
 /// Whether a store waits.
 #[inline]
-fn some_wait(queues: &[Queue]) -> bool
+pub(crate) fn some_wait(queues: &[Queue]) -> bool
     ensures { result ≡ some_wait (waits_of queues.now) }
 {
     for queue in queues {

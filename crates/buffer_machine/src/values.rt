@@ -1,18 +1,21 @@
 // What changes as a machine runs.
 
 ghost use Rattle.std.specs.Prelude.{◌≡◌, ℕ, ◌+◌, ◌-◌, ◌*◌, ◌^◌, ◌<◌, ◌≤◌, [], ◌∷◌, length, slice_index, slice_index_or, replicate, IfOk};
-ghost use Rattle.icode.specs.Buffers.{is_waiting};
+ghost use Rattle.icode.specs.Buffers.{is_waiting, some_wait};
 ghost use Rattle.buffer_machine.specs.Drains.{IsWritten};
+ghost use Rattle.buffer_machine.specs.Lent.{IsHeld, lent, back_from};
 ghost use Rattle.buffer_machine.specs.Ready.{CanAct};
-ghost use Rattle.buffer_machine.specs.Stand.{Stand, backlog_at, acted_stand, settled_stand, first_stand, first_busy};
+ghost use Rattle.buffer_machine.specs.Stand.{Stand, backlog_at, waits_of, acted_stand, settled_stand, first_stand, first_busy};
 ghost use Rattle.buffer_machine.specs.Waits.{OldestFits};
 
+use crate::lend::{lend_registers, take_registers};
 use crate::play::play;
 use crate::queue::Queue;
 use crate::registers::Registers;
-use crate::settle::{clear_files, clear_queues, is_held, next_busy};
+use crate::settle::{clear_files, clear_queues, is_held, next_busy, some_wait};
 use icode::action::Action;
 use icode::shape::Shape;
+use par_machine::Machine;
 use std::marker::Model;
 
 /// Memory, each processor's registers and queue, the phase, and how many of its actions each processor has done.
@@ -99,6 +102,36 @@ impl Values {
         self.done.fill(0);
         clear_queues(&mut self.queues);
         self.phase = next_busy(lens, self.phase + 1);
+    }
+
+    /// Whether any store waits.
+    pub(crate) fn some_wait(&self) -> bool
+        ensures { result ≡ some_wait (waits_of self.now.queues) }
+    {
+        some_wait(&self.queues)
+    }
+
+    /// The machine goes on with this memory and these registers.
+    pub(crate) fn lend(&self, machine: &mut Machine)
+        requires { IsHeld machine.old.code self.now.memory self.now.registers }
+        ensures state { machine.new.state ≡ lent self.now machine.old.state }
+        ensures code { machine.new.code ≡ machine.old.code }
+    {
+        machine.put_memory(&self.memory);
+        lend_registers(&self.registers, machine);
+    }
+
+    /// The machine's memory, registers and phase come back, where it has done nothing of the phase.
+    pub(crate) fn take_back(&mut self, machine: &Machine)
+        requires { IsHeld machine.now.code self.old.memory self.old.registers }
+        ensures stand { self.new ≡ back_from machine.now.state self.old }
+        ensures held { IsHeld machine.now.code machine.now.state.memory machine.now.state.registers }
+    {
+        self.memory.copy_from_slice(machine.memory());
+        take_registers(&mut self.registers, machine);
+        clear_queues(&mut self.queues);
+        self.done.fill(0);
+        self.phase = machine.phase();
     }
 
     /// Begins a run on this input.

@@ -17,12 +17,12 @@ pub formulas_compile : FormulasCompile
 formulas_compile m f positive shaped =
     let some = shaped_size f shaped in
     let lowered = lowers m [] f positive some shaped in
-    let merged = merge_keeps 0 m (size_of f) (most 64) (term_of [] f) positive some lowered.good in
+    let merged = merge_keeps 0 m (size_of f) (most 64) (term_of m [] f) positive some lowered.good in
     record {
       good = merged.good;
-      limits = merge_limits 0 (size_of f) (term_of [] f) some (omega (arith, (size_is_size f shaped).1)) lowered.good (term-several [] f tt shaped);
+      limits = merge_limits 0 (size_of f) (term_of m [] f) some (omega (arith, (size_is_size f shaped).1)) lowered.good (term-several m [] f tt shaped);
       on = λ x v. merged.on x v ∙ lowered.on x v;
       cost = λ weight.
           let one : 1 * operations weight m f ≡ operations weight m f = omega arith in
-          merge_counts 0 m (size_of f) (most 64) (term_of [] f) weight (work_cost weight m) positive some (λ d. refl) lowered.good ∙ lower_counts weight m [] f positive shaped ∙ one;
+          merge_counts 0 m (size_of f) (most 64) (term_of m [] f) weight (work_cost weight m) positive some (λ d. refl) lowered.good ∙ lower_counts weight m [] f positive shaped ∙ one;
     }

@@ -62,7 +62,7 @@ scaled-sum c k a = omega arith
 weighted-items : (weight n c k : ℕ) → n ≡ c * k → weight * n ≡ c * (weight * k)
 weighted-items weight n c k is = ap (λ x. weight * x) is ∙ omega arith
 
-lower-cost : (weight m n : ℕ) (path : Path) (f : Formula) → 0 < m → IsShaped f → n ≡ size_under path (size_of f) → term_cost weight (work_cost weight m) n (term_of path f) ≡ copies_of path * operations weight m f
+lower-cost : (weight m n : ℕ) (path : Path) (f : Formula) → 0 < m → IsShaped f → n ≡ size_under path (size_of f) → term_cost weight (work_cost weight m) n (term_of m path f) ≡ copies_of path * operations weight m f
 lower-cost weight m n path (Identity k) positive shaped is = omega arith
 lower-cost weight m n path (Fourier k w) positive shaped is = fourier-cost weight m path n k w
 lower-cost weight m n path (Hadamard k) positive shaped is = power shaped.1 where

@@ -4,6 +4,7 @@ pub mod Lowers
 pub mod Counted
 pub mod Several
 pub mod Compiling
+pub mod Lowering
 pub mod Trees
 pub mod Vectors
 pub mod Embedded

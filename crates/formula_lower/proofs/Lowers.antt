@@ -1,12 +1,13 @@
 -- The term of a formula does what the formula does.
-use Rattle.std.proofs.Common.{◌≡◌, ℕ, zero, suc, ◌+◌, ◌*◌, ◌-◌, ◌/◌, ◌%◌, ◌<◌, ◌≤◌, ◌^◌, arith, refl, sym, ap, ap₂, ◌∙◌, List, [], ◌∷◌, ◌++◌, length, inl, inr, subst, mod-lt, mod-eq_of_lt, take, drop, mul_comm, length-append, length-drop}
+use Rattle.std.proofs.Common.{◌≡◌, ℕ, zero, suc, ◌+◌, ◌*◌, ◌-◌, ◌/◌, ◌%◌, ◌<◌, ◌≤◌, ◌^◌, arith, refl, sym, ap, ap₂, ◌∙◌, List, [], ◌∷◌, ◌++◌, length, inl, inr, subst, mod-lt, mod-eq_of_lt, take, drop, mul_comm, length-append, length-drop, map}
 use Rattle.std.specs.Prelude.{slice_index, nat_lt, if◌then◌else◌}
 use Rattle.std.specs.Int.{IsGcd}
 use Rattle.std.proofs.Math.Nat.{pow-succ'}
 use Rattle.std.proofs.Math.Pow.{pow_pos}
 use Rattle.std.proofs.lemmas.Bool.{cases_lt}
 use Rattle.std.proofs.lemmas.Bool.Decides.{nat_tests}
-use Rattle.std.proofs.lemmas.List.{length-take-le, get_or-take, get_or-drop, get_or_append_left, get_or-append_right}
+use Rattle.std.proofs.lemmas.Nat.{mul-mod_first}
+use Rattle.std.proofs.lemmas.List.{get_or-map, length-map, length-take-le, get_or-take, get_or-drop, get_or_append_left, get_or-append_right}
 use Rattle.std.proofs.lemmas.List.FromFn.{fill_by_all}
 use Rattle.index_fn.specs.Mapping.{Mapping, Strided, ThomasIn, ThomasOut, at}
 use Rattle.matrix_meaning.specs.declared.Kind.{Kind}
@@ -148,6 +149,17 @@ fourier-lowers m path n w =
           subst (λ t. Lowers m (size_under path n) t (under path n (transform Dft m n w))) (sym is) (nest-lowers m path (kernel Dft w (leaf n)) tt (transform-work Dft m n w))
     ]
 
+-- a diagonal's values count modulo m
+residues-scale : (m : ℕ) (c y : List ℕ) → scale m (length c) (slice_index (map (λ v. v % m) c)) y ≡ scale m (length c) (slice_index c) y
+residues-scale m c y = list_below-same (length c) _ _ (λ i below. ap (λ v. (v * slice_index y i) % m) (get_or-map (λ v. v % m) c i 0 0 below) ∙ mul-mod_first (slice_index c i) (slice_index y i) m)
+
+diagonal-lowers : (m : ℕ) (path : Path) (c : List ℕ) → Lowers m (size_under path (length c)) (diag path (values (map (λ v. v % m) c))) (under path (length c) (scale m (length c) (slice_index c)))
+diagonal-lowers m path c =
+    let reduced : List ℕ = map (λ v. v % m) c in
+    let size : length reduced ≡ length c = length-map c (λ v. v % m) in
+    lowers-as m path (length c) (diag path (values reduced)) (scale m (length c) (slice_index reduced)) (scale m (length c) (slice_index c)) (λ y w. residues-scale m c y)
+    (subst (λ n. Lowers m (size_under path n) (diag path (values reduced)) (under path n (scale m n (slice_index reduced)))) size (diag-lowers m path (values reduced)))
+
 pub coprime : (r s : ℕ) → 2 ≤ r → 2 ≤ s → IsGcd r s 1 → r * s ≤ 65536 → AreCoprime r s
 coprime r s h g gcd small = record { left = omega arith; right = omega arith; gcd = gcd; small = small }
 
@@ -162,7 +174,7 @@ lowers m path (Hadamard n) positive some shaped = power shaped.1 where
       (subst (λ z. Lowers m (size_under path z) (hadamard_term path k) (under path z (transform Wht m z 0))) (sym is) (hadamard-lowers m path k positive))
 lowers m path (Twiddles n s w) positive some shaped =
     subst (λ z. Lowers m (size_under path z) (diag path (twiddles (n / s) s w)) (under path z (scale m z (twiddle m s w)))) shaped.2 (diag-lowers m path (twiddles (n / s) s w))
-lowers m path (Diagonal c) positive some shaped = diag-lowers m path (values c)
+lowers m path (Diagonal c) positive some shaped = diagonal-lowers m path c
 lowers m path (Stride n r) positive some shaped =
     let whole : r * (n / r) ≡ n = mul_comm r (n / r) ∙ shaped.2 in
     let count : 1 ≤ n / r = left_positive (n / r) r (omega (arith, shaped.2, shaped.0.0)) in
@@ -174,15 +186,15 @@ lowers m path (GoodThomasIn r s) positive some shaped = gath-lowers m path (r * 
 lowers m path (GoodThomasOut r s) positive some shaped = gath-lowers m path (r * s) (ThomasOut r s) some (out-move r s (coprime r s shaped.1.first shaped.1.second shaped.1.coprime shaped.0.1))
 lowers m path (Product a b) positive some shaped =
     let size : size_of a ≡ size_of b = shaped.2 in
-    let second : Lowers m (size_under path (size_of a)) (term_of path b) (under path (size_of a) (apply m b)) =
-    subst (λ z. Lowers m (size_under path z) (term_of path b) (under path z (apply m b))) (sym size) (lowers m path b positive (subst (λ z. 0 < size_under path z) size some) shaped.1) in
-    product-lowers m path (size_of a) (term_of path a) (term_of path b) (apply m a) (apply m b) (λ y w. subst (λ z. IsVector m z (apply m b y)) (sym size) (apply-vector m b y shaped.1 (subst (λ z. IsVector m z y) size w)))
+    let second : Lowers m (size_under path (size_of a)) (term_of m path b) (under path (size_of a) (apply m b)) =
+    subst (λ z. Lowers m (size_under path z) (term_of m path b) (under path z (apply m b))) (sym size) (lowers m path b positive (subst (λ z. 0 < size_under path z) size some) shaped.1) in
+    product-lowers m path (size_of a) (term_of m path a) (term_of m path b) (apply m a) (apply m b) (λ y w. subst (λ z. IsVector m z (apply m b y)) (sym size) (apply-vector m b y shaped.1 (subst (λ z. IsVector m z y) size w)))
     (lowers m path a positive some shaped.0) second
 lowers m path (TensorLeft a k) positive some shaped =
-    more-lowers m path (Columns k) (size_of a) (term_of (one_more path (Columns k)) a) (apply m a) (λ y w. apply-vector m a y shaped.0 w)
+    more-lowers m path (Columns k) (size_of a) (term_of m (one_more path (Columns k)) a) (apply m a) (λ y w. apply-vector m a y shaped.0 w)
     (lowers m (one_more path (Columns k)) a positive (subst (λ z. 0 < z) (sym (size-more path (Columns k) (size_of a))) some) shaped.0)
 lowers m path (TensorRight k a) positive some shaped =
-    more-lowers m path (Blocks k) (size_of a) (term_of (one_more path (Blocks k)) a) (apply m a) (λ y w. apply-vector m a y shaped.1 w)
+    more-lowers m path (Blocks k) (size_of a) (term_of m (one_more path (Blocks k)) a) (apply m a) (λ y w. apply-vector m a y shaped.1 w)
     (lowers m (one_more path (Blocks k)) a positive (subst (λ z. 0 < z) (sym (size-more path (Blocks k) (size_of a))) some) shaped.1)
 lowers m path (DirectSum a b) positive some shaped =
     let k = size_of a in
@@ -192,10 +204,10 @@ lowers m path (DirectSum a b) positive some shaped =
     record {
       good = (shaped_size a shaped.0, shaped_size b shaped.1, refl, first.good, second.good);
       on = λ x v.
-          under-vector m path (k + l) (both k l (term_on m k (term_of [] a)) (term_on m l (term_of [] b))) (apply m (DirectSum a b)) x (λ y w.
+          under-vector m path (k + l) (both k l (term_on m k (term_of m [] a)) (term_on m l (term_of m [] b))) (apply m (DirectSum a b)) x (λ y w.
           let front_is : IsVector m k (take k y) = subst (IsVector m k) (front-take k l y w.size) (front-vector m k l y w) in
           let back_is : IsVector m l (drop k y) = subst (IsVector m l) (back-drop k l y w.size) (back-vector m k l y w) in
-          both-equal k l (term_on m k (term_of [] a)) (term_on m l (term_of [] b)) (apply m a) (apply m b) y (first.on (front k y) (front-vector m k l y w)) (second.on (back k l y) (back-vector m k l y w))
+          both-equal k l (term_on m k (term_of m [] a)) (term_on m l (term_of m [] b)) (apply m a) (apply m b) y (first.on (front k y) (front-vector m k l y w)) (second.on (back k l y) (back-vector m k l y w))
           ∙ sum-on m k l (apply m a) (apply m b) y w (apply-vector m a (take k y) shaped.0 front_is).size (apply-vector m b (drop k y) shaped.1 back_is).size) v;
     }
 lowers m path (Pending a) positive some shaped = lowers m path a positive some shaped

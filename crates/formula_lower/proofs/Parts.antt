@@ -183,7 +183,7 @@ one-copy : (m : ℕ) (t : Tensor) (n : ℕ) (a : Operator) (y : List ℕ) → co
 one-copy m (Blocks c) n a y one v size = one-block m c n a y one v size
 one-copy m (Columns c) n a y one v size = one-column m n c a y one v size
 
-grown-one : (t : Tensor) (n : ℕ) → count_of t ≡ 1 → grown t n ≡ n
+pub grown-one : (t : Tensor) (n : ℕ) → count_of t ≡ 1 → grown t n ≡ n
 grown-one (Blocks c) n one = ap (λ z. z * n) one ∙ omega arith
 grown-one (Columns c) n one = ap (λ z. n * z) one ∙ omega arith
 

@@ -37,4 +37,4 @@ operations weight m (Pending a) = operations weight m a
 
 -- the term of a formula has its operations, for each copy under the path
 abbrev pub LowerCounts : Type 0
-LowerCounts = (weight m : ℕ) (path : Path) (f : Formula) → 0 < m → IsShaped f → term_cost weight (work_cost weight m) (size_under path (size_of f)) (term_of path f) ≡ copies_of path * operations weight m f
+LowerCounts = (weight m : ℕ) (path : Path) (f : Formula) → 0 < m → IsShaped f → term_cost weight (work_cost weight m) (size_under path (size_of f)) (term_of m path f) ≡ copies_of path * operations weight m f

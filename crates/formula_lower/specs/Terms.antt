@@ -1,5 +1,5 @@
--- The term of a formula, under the tensors since the last direct sum.
-use Rattle.std.specs.Prelude.{◌≡◌, ℕ, zero, suc, ◌*◌, ◌/◌, ◌^◌, ◌<◌, ◌==◌, nat_lt, nat_le, if◌then◌else◌, List, [], ◌∷◌, ◌++◌}
+-- The term of a formula modulo m, under the tensors since the last direct sum.
+use Rattle.std.specs.Prelude.{◌≡◌, ℕ, zero, suc, ◌*◌, ◌/◌, ◌%◌, ◌^◌, ◌<◌, ◌==◌, nat_lt, nat_le, if◌then◌else◌, List, [], ◌∷◌, ◌++◌, map}
 use Rattle.index_fn.specs.Mapping.{Strided, ThomasIn, ThomasOut}
 use Rattle.matrix_meaning.specs.declared.Kind.TheVariants.{Dft, Wht}
 use Rattle.passes.specs.Good.{IsGoodTerm, IsVector}
@@ -33,21 +33,22 @@ hadamard_term path (suc k) = product (hadamard_term (path ++ Blocks 2 ∷ []) k)
 abbrev pub fourier_term : Path → ℕ → ℕ → PlainTerm
 fourier_term path n w = if nat_le n 8 then nest path (kernel Dft w (leaf n)) else nest path (horner w n)
 
-abbrev pub term_of : Path → Formula → PlainTerm
-term_of path (Identity n) = same
-term_of path (Fourier n w) = fourier_term path n w
-term_of path (Hadamard n) = hadamard_term path (halvings n n)
-term_of path (Twiddles n s w) = diag path (twiddles (n / s) s w)
-term_of path (Diagonal c) = diag path (values c)
-term_of path (Stride n r) = gath (wrapped path (r * (n / r)) (Strided r (n / r)))
-term_of path (Permutation k) = move path k
-term_of path (GoodThomasIn r s) = gath (wrapped path (r * s) (ThomasIn r s))
-term_of path (GoodThomasOut r s) = gath (wrapped path (r * s) (ThomasOut r s))
-term_of path (Product a b) = product (term_of path b) (term_of path a)
-term_of path (TensorLeft a k) = term_of (one_more path (Columns k)) a
-term_of path (TensorRight k a) = term_of (one_more path (Blocks k)) a
-term_of path (DirectSum a b) = beside path (size_of a) (term_of [] a) (size_of b) (term_of [] b)
-term_of path (Pending a) = term_of path a
+-- a diagonal holds residues
+abbrev pub term_of : ℕ → Path → Formula → PlainTerm
+term_of m path (Identity n) = same
+term_of m path (Fourier n w) = fourier_term path n w
+term_of m path (Hadamard n) = hadamard_term path (halvings n n)
+term_of m path (Twiddles n s w) = diag path (twiddles (n / s) s w)
+term_of m path (Diagonal c) = diag path (values (map (λ v. v % m) c))
+term_of m path (Stride n r) = gath (wrapped path (r * (n / r)) (Strided r (n / r)))
+term_of m path (Permutation k) = move path k
+term_of m path (GoodThomasIn r s) = gath (wrapped path (r * s) (ThomasIn r s))
+term_of m path (GoodThomasOut r s) = gath (wrapped path (r * s) (ThomasOut r s))
+term_of m path (Product a b) = product (term_of m path b) (term_of m path a)
+term_of m path (TensorLeft a k) = term_of m (one_more path (Columns k)) a
+term_of m path (TensorRight k a) = term_of m (one_more path (Blocks k)) a
+term_of m path (DirectSum a b) = beside path (size_of a) (term_of m [] a) (size_of b) (term_of m [] b)
+term_of m path (Pending a) = term_of m path a
 
 -- a good term that does to a vector what an operator does under a path
 pub record Lowers (m n : ℕ) (t : PlainTerm) (a : List ℕ → List ℕ) : Type 0 where
@@ -56,4 +57,4 @@ pub record Lowers (m n : ℕ) (t : PlainTerm) (a : List ℕ → List ℕ) : Type
 
 -- the term of a formula does what the formula does
 abbrev pub LowerKeeps : Type 0
-LowerKeeps = (m : ℕ) (path : Path) (f : Formula) → 0 < m → 0 < size_under path (size_of f) → IsShaped f → Lowers m (size_under path (size_of f)) (term_of path f) (under path (size_of f) (apply m f))
+LowerKeeps = (m : ℕ) (path : Path) (f : Formula) → 0 < m → 0 < size_under path (size_of f) → IsShaped f → Lowers m (size_under path (size_of f)) (term_of m path f) (under path (size_of f) (apply m f))

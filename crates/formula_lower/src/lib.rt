@@ -1,12 +1,16 @@
 //! Formulas as terms: the same meaning, in as many operations.
 #![tactic(auto)]
 
+mod lower;
+
 ghost use Rattle.formula_lower.specs.Compiled.{FormulasCompile};
 ghost use Rattle.formula_lower.specs.Merged.{PhasesHaveLoops, TreesKeep};
 ghost use Rattle.formula_lower.specs.Operations.{LowerCounts};
 ghost use Rattle.formula_lower.specs.Terms.{LowerKeeps};
 ghost use Rattle.formula_lower.specs.Order.{TreesAreLoops, TreesOrdered};
 ghost use Rattle.formula_lower.specs.Shared.{FactorsEmbed, SharedTreesMerge, TreesEmbed};
+
+pub use lower::lower_formula;
 
 /// The term of a formula does what the formula does: a law of the definitions.
 pub fn lower_keeps()

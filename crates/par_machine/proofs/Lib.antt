@@ -18,3 +18,4 @@ pub mod Playings
 pub mod Advances
 pub mod Starting
 pub mod Skips
+pub mod Holding

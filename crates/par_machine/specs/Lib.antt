@@ -16,3 +16,4 @@ pub mod Running
 pub mod Skipped
 pub mod View
 pub mod Translated
+pub mod Held

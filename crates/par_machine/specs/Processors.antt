@@ -21,6 +21,10 @@ as_new p = fresh (length p.registers)
 abbrev pub rewound : Context → Context
 rewound p = record { place = first_position; registers = p.registers; counts = p.counts }
 
+-- with these words in its registers
+abbrev pub with_registers : List ℕ → Context → Context
+with_registers words p = record { place = p.place; registers = words; counts = p.counts }
+
 -- an action stands there, not the end of a loop
 abbrev pub IsAct : Option Instruction → Type 0
 IsAct None = ⊥

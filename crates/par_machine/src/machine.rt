@@ -1,10 +1,11 @@
 // The machine.
 
-ghost use Rattle.std.specs.Prelude.{◌≡◌, ℕ, ◌+◌, ◌-◌, ◌*◌, ◌^◌, ◌<◌, ◌≤◌, List, [], ◌∷◌, length, All, slice_index, Some, IfSome, IfNone, IfOk, IsTrue, ◌↔◌, replicate, nat_le, None};
+ghost use Rattle.std.specs.Prelude.{◌≡◌, ℕ, ◌+◌, ◌-◌, ◌*◌, ◌^◌, ◌<◌, ◌≤◌, List, [], ◌∷◌, length, All, slice_index, Some, IfSome, IfNone, IfOk, IsTrue, ◌↔◌, replicate, nat_le, None, slice_index_or};
 ghost use Rattle.std.specs.List.{find};
 ghost use Rattle.icode.specs.Machine.{acts, next_action, turn, run, answer, completion, finished, start, counts_so_far, padded};
 ghost use Rattle.icode.specs.Program.{code_of, Fits};
 ghost use Rattle.request_text.specs.Turns.{named, turns_of};
+ghost use Rattle.par_machine.specs.Held.{AreFiles, with_memory, with_file};
 ghost use Rattle.par_machine.specs.Skipped.{skipped};
 ghost use Rattle.par_machine.specs.Unfinished.{IsUnfinished, left_of};
 
@@ -233,6 +234,46 @@ impl Machine {
             let left = self.left(proc);
             self.advance(proc, left);
         }
+    }
+
+    /// These words become its memory, and nothing else changes.
+    pub fn put_memory(&mut self, words: &[u64])
+        requires size { length words.now ≡ 4 * padded self.old.code }
+        requires residues { (k : ℕ) → slice_index words.now k < self.old.code.modulus }
+        ensures state { self.new.state ≡ with_memory words.now self.old.state }
+        ensures code { self.new.code ≡ self.old.code }
+        ensures files { AreFiles self.new.code self.new.state.registers }
+    {
+        self.memory.copy_from_slice(words);
+    }
+
+    /// These words become a processor's registers, and nothing else changes.
+    pub fn put_registers(&mut self, proc: u64, words: &[u64])
+        requires proc { proc < self.old.code.procs }
+        requires size { length words.now ≡ self.old.code.regs * self.old.code.lanes }
+        requires residues { (k : ℕ) → slice_index words.now k < self.old.code.modulus }
+        ensures state { self.new.state ≡ with_file proc words.now self.old.state }
+        ensures code { self.new.code ≡ self.old.code }
+    {
+        self.processors[proc as usize].put_registers(words);
+    }
+
+    /// Its memory.
+    pub fn memory(&self) -> &[u64]
+        ensures value { result.now ≡ self.now.state.memory }
+        ensures size { length result.now ≡ 4 * padded self.now.code }
+        ensures residues { (k : ℕ) → slice_index result.now k < self.now.code.modulus }
+        ensures files { AreFiles self.now.code self.now.state.registers }
+    {
+        &self.memory
+    }
+
+    /// A processor's registers.
+    pub fn registers(&self, proc: u64) -> &[u64]
+        requires proc { proc < self.now.code.procs }
+        ensures { result.now ≡ slice_index_or self.now.state.registers proc [] }
+    {
+        self.processors[proc as usize].registers()
     }
 
     /// A word of memory.

@@ -1,12 +1,12 @@
 // A processor of the machine.
 
-ghost use Rattle.std.specs.Prelude.{◌≡◌, map, IfOk, All, slice_get};
+ghost use Rattle.std.specs.Prelude.{◌≡◌, map, length, IfOk, All, slice_get};
 ghost use Rattle.par_machine.specs.Hand.{action_of_step, Runs};
 ghost use Rattle.par_machine.specs.Header.{header_of};
 ghost use Rattle.par_machine.specs.Instruction.{IsClosed, IsWithin};
 ghost use Rattle.par_machine.specs.Played.{CanPlay, playing, played, step_here};
 ghost use Rattle.par_machine.specs.Performed.{HasRoom};
-ghost use Rattle.par_machine.specs.Processors.{fresh, as_new, rewound, IsAct, passed_over};
+ghost use Rattle.par_machine.specs.Processors.{fresh, as_new, rewound, with_registers, IsAct, passed_over};
 
 use crate::action::action_of;
 use crate::cursor::{Instruction, OPEN_LOOPS, rest};
@@ -81,6 +81,21 @@ impl Processor {
     {
         self.at = 0;
         self.values.fill(0);
+    }
+
+    /// Its registers, register after register.
+    pub(crate) fn registers(&self) -> &[u64]
+        ensures { result.now ≡ self.now.registers }
+    {
+        &self.registers
+    }
+
+    /// Its registers become these words.
+    pub(crate) fn put_registers(&mut self, words: &[u64])
+        requires { length words.now ≡ length self.old.registers }
+        ensures { self.new ≡ with_registers words.now self.old }
+    {
+        self.registers.copy_from_slice(words);
     }
 
     /// What it has executed.

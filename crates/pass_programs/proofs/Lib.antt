@@ -13,4 +13,4 @@ pub mod BodyLimits
 mod Limits
 pub mod PassesEmit
 pub mod Within
-mod TestedSums
+pub mod TestedSums

@@ -8,7 +8,7 @@ use Rattle.operators.proofs.Scatters.{sum_below-only}
 use Rattle.passes.specs.Copies.{loops_of, Copies, hits, StoreOnce, IsInside, AreInside}
 use Rattle.passes.specs.Counts.{copies_in, multiplier_cost, nest_cost, pass_cost, passes_cost, term_cost, CopiesAreFree, MergeCounts}
 use Rattle.passes.specs.Good.{IsGoodPass, AreGoodPasses, IsGoodTerm}
-use Rattle.passes.specs.Merge.{Room, less, Merging, Taking, nothing, one_loop, fits, gathered, scattered, multiplied, copying, take_gathers, copy_by, copies_before, settled, with_pass, with_passes, factor_places, can_take, suits, with_copy, with_diagonal, with_scatter, back_of, from_end, ended, merged, lifted, side, sides, renumbered_places, if_any, new_nest}
+use Rattle.passes.specs.Merge.{Room, less, Merging, Taking, nothing, one_loop, can_gather, can_scatter, gathered, scattered, multiplied, copying, take_gathers, copy_by, copies_before, settled, with_pass, with_passes, factor_places, can_take, suits, with_copy, with_diagonal, with_scatter, back_of, from_end, ended, merged, lifted, side, sides, renumbered_places, if_any, new_nest}
 use Rattle.passes.specs.Nest.{PlainFactors, spread, PlainMultiplier, PlainNest, copies_of}
 use Rattle.passes.specs.Term.{PlainTerm, same, gath, scat, diag, nest, move, product, beside}
 use Rattle.passes.specs.Work.{PlainWork, copy, work_size}
@@ -105,18 +105,18 @@ module _ (weight : ℕ) (cost : PlainWork → ℕ) (free : CopiesAreFree cost) w
   cost-take : (room : Room) (n : ℕ) (zs : List PlainNest) (fs : List Mapping) → pass_cost weight cost (take_gathers room n zs fs).pass ≡ pass_cost weight cost zs
   cost-take room n zs [] = refl
   cost-take room n zs (f ∷ fs) =
-      chosen (λ (t : Taking). pass_cost weight cost t.pass ≡ pass_cost weight cost zs) (fits room n (gathered f zs)) _ _ (λ _. cost-take room n (gathered f zs) fs ∙ cost-gathered f zs) refl
+      chosen (λ (t : Taking). pass_cost weight cost t.pass ≡ pass_cost weight cost zs) (can_gather room n f zs) _ _ (λ _. cost-take room n (gathered f zs) fs ∙ cost-gathered f zs) refl
 
   cost-by : (room : Room) (n : ℕ) (f : Mapping) → pass_cost weight cost (copy_by room n f) ≡ 0
   cost-by room n f =
-      chosen (λ zs. ◌≡◌ {A = ℕ} (pass_cost weight cost zs) 0) (fits room n (gathered f (copying n))) _ _
+      chosen (λ zs. ◌≡◌ {A = ℕ} (pass_cost weight cost zs) 0) (can_gather room n f (copying n)) _ _
       (λ _. cost-gathered f (copying n) ∙ cost-copying n)
       (ap (λ a. 1 * (a + 0) + 0) (free (length (list_below n (at f)))) ∙ omega arith)
 
   cost-copies : (room : Room) (n : ℕ) (zs : List PlainNest) (fs : List Mapping) → passes_cost weight cost (copies_before room n zs fs) ≡ pass_cost weight cost zs
   cost-copies room n zs [] = omega arith
   cost-copies room n zs (f ∷ fs) =
-      chosen (λ ps. passes_cost weight cost ps ≡ pass_cost weight cost zs) (fits room n (gathered f zs)) _ _
+      chosen (λ ps. passes_cost weight cost ps ≡ pass_cost weight cost zs) (can_gather room n f zs) _ _
       (λ _. cost-copies room n (gathered f zs) fs ∙ cost-gathered f zs)
       (omega (arith, cost-copies room n (copy_by room n f) fs, cost-by room n f))
 
@@ -145,14 +145,14 @@ module _ (weight : ℕ) (cost : PlainWork → ℕ) (free : CopiesAreFree cost) w
   cost-scatter : (room : Room) (n : ℕ) (waiting : List Mapping) (passes : List (List PlainNest)) (f : Mapping) → passes_cost weight cost (with_scatter room n waiting passes f).passes ≡ passes_cost weight cost passes
   cost-scatter room n [] [] f = refl
   cost-scatter room n [] (zs ∷ ps) f =
-      chosen (λ (next : Merging). passes_cost weight cost next.passes ≡ passes_cost weight cost (zs ∷ ps)) (fits room n (scattered f zs)) _ _ (λ _. ap (λ a. a + passes_cost weight cost ps) (cost-scattered f zs)) refl
+      chosen (λ (next : Merging). passes_cost weight cost next.passes ≡ passes_cost weight cost (zs ∷ ps)) (can_scatter room n f zs) _ _ (λ _. ap (λ a. a + passes_cost weight cost ps) (cost-scattered f zs)) refl
   cost-scatter room n (g ∷ gs) passes f = refl
 
   cost-ended : (room : Room) (n : ℕ) (fs : List Mapping) (passes : List (List PlainNest)) → passes_cost weight cost (ended room n fs passes) ≡ passes_cost weight cost passes
   cost-ended room n [] passes = refl
   cost-ended room n (f ∷ fs) [] = cost-settled room n (from_end (f ∷ fs))
   cost-ended room n (f ∷ fs) (zs ∷ ps) =
-      chosen (λ qs. passes_cost weight cost qs ≡ passes_cost weight cost (zs ∷ ps)) (fits room n (scattered (back_of f) zs)) _ _
+      chosen (λ qs. passes_cost weight cost qs ≡ passes_cost weight cost (zs ∷ ps)) (can_scatter room n (back_of f) zs) _ _
       (λ _. cost-ended room n fs (scattered (back_of f) zs ∷ ps) ∙ ap (λ a. a + passes_cost weight cost ps) (cost-scattered (back_of f) zs))
       (omega (arith, cost-append (settled room n (from_end (f ∷ fs))) (zs ∷ ps), cost-settled room n (from_end (f ∷ fs))))
 

@@ -71,7 +71,7 @@ value-place_sum (Columns c ∷ path) n d e vs =
     ∙ omega arith
 
 -- the place of an item, where other values stand behind those of the loops
-place-with : (path : Path) (n : ℕ) (e : Sum) (vs more : List ℕ) (k : ℕ) → AreInRange path vs → value e (slice_index (vs ++ more)) ≡ k → value (place_sum path n 0 e) (slice_index (vs ++ more)) ≡ place path n vs k
+pub place-with : (path : Path) (n : ℕ) (e : Sum) (vs more : List ℕ) (k : ℕ) → AreInRange path vs → value e (slice_index (vs ++ more)) ≡ k → value (place_sum path n 0 e) (slice_index (vs ++ more)) ≡ place path n vs k
 place-with path n e vs more k range is =
     value-place_sum path n 0 e (slice_index (vs ++ more))
     ∙ ap₂ (λ ws j. place path n ws j) (values-are path 0 (slice_index (vs ++ more)) vs more range (λ i. ap (slice_index (vs ++ more)) (omega arith))) is
@@ -92,7 +92,7 @@ at-first [] (v ∷ vs) k more h = absurd h
 at-first (t ∷ path) [] k more h = absurd h
 at-first (t ∷ path) (v ∷ vs) k more h = at-first path vs k more h.1
 
-at-second : (path : Path) (vs : List ℕ) (k l : ℕ) → AreInRange path vs → slice_index (vs ++ k ∷ l ∷ []) (suc (length path)) ≡ l
+pub at-second : (path : Path) (vs : List ℕ) (k l : ℕ) → AreInRange path vs → slice_index (vs ++ k ∷ l ∷ []) (suc (length path)) ≡ l
 at-second [] [] k l h = refl
 at-second [] (v ∷ vs) k l h = absurd h
 at-second (t ∷ path) [] k l h = absurd h

@@ -36,16 +36,16 @@ stored-alike counts size from source does makes to target x w froms doess tos =
 none_below : (n i : ℕ) → slice_index [] i ≤ slice_index (n ∷ n ∷ []) i - 1
 none_below n i = omega arith
 
-one_below : (n k : ℕ) → k < n → (i : ℕ) → slice_index (k ∷ []) i ≤ slice_index (n ∷ n ∷ []) i - 1
+pub one_below : (n k : ℕ) → k < n → (i : ℕ) → slice_index (k ∷ []) i ≤ slice_index (n ∷ n ∷ []) i - 1
 one_below n k h zero = omega arith
 one_below n k h (suc i) = omega arith
 
-two_below : (n k l : ℕ) → k < n → l < n → (i : ℕ) → slice_index (k ∷ l ∷ []) i ≤ slice_index (n ∷ n ∷ []) i - 1
+pub two_below : (n k l : ℕ) → k < n → l < n → (i : ℕ) → slice_index (k ∷ l ∷ []) i ≤ slice_index (n ∷ n ∷ []) i - 1
 two_below n k l h g zero = omega arith
 two_below n k l h g (suc zero) = omega arith
 two_below n k l h g (suc (suc i)) = omega arith
 
-with_more : (counts : List ℕ) (n : ℕ) (vs more : List ℕ) → AreInRange (loops_of counts) vs → ((i : ℕ) → slice_index more i ≤ slice_index (n ∷ n ∷ []) i - 1) →
+pub with_more : (counts : List ℕ) (n : ℕ) (vs more : List ℕ) → AreInRange (loops_of counts) vs → ((i : ℕ) → slice_index more i ≤ slice_index (n ∷ n ∷ []) i - 1) →
     (i : ℕ) → slice_index (vs ++ more) i ≤ slice_index (counts ++ n ∷ n ∷ []) i - 1
 with_more [] n [] more h rest i = rest i
 with_more [] n (v ∷ vs) more h rest i = absurd h
@@ -84,7 +84,7 @@ pub names-simplified : (w : PlainWork) (cs : ℕ → ℕ) (f : Mapping) (sums : 
 names-simplified w cs f sums form h = record { enough = omega (arith, h.enough, length-map (simplified cs f) sums); sound = sound-simplified cs f sums form h.sound }
 
 -- a sum with a function has the function's value
-sum-simplified : (cs : ℕ → ℕ) (f : Mapping) (sums : List Sum) (i : ℕ) (vs : List ℕ) → IsFormed f → AreSound sums → i < length sums → ((d : ℕ) → slice_index vs d ≤ cs d - 1) →
+pub sum-simplified : (cs : ℕ → ℕ) (f : Mapping) (sums : List Sum) (i : ℕ) (vs : List ℕ) → IsFormed f → AreSound sums → i < length sums → ((d : ℕ) → slice_index vs d ≤ cs d - 1) →
     sum_value (map (simplified cs f) sums) i vs ≡ at f (sum_value sums i vs)
 sum-simplified cs f sums i vs form sound within range =
     ap (λ e. value e (slice_index vs)) (at-map (simplified cs f) sums i within)

@@ -31,7 +31,7 @@ place-below-long (t ∷ path) n counts [] j h below = absurd h
 place-below-long (Blocks c ∷ path) n counts (v ∷ vs) j h below = place_below v (place path n vs j) c (size_under path n) h.0 (place-below-long path n counts vs j h.1 below)
 place-below-long (Columns c ∷ path) n counts (v ∷ vs) j h below = place_below (place path n vs j) v (size_under path n) c (place-below-long path n counts vs j h.1 below) h.0
 
-rest-range : (path : Path) (counts vs : List ℕ) → AreInRange (loops_of (map count_of path ++ counts)) vs → AreInRange (loops_of counts) (rest_of path vs)
+pub rest-range : (path : Path) (counts vs : List ℕ) → AreInRange (loops_of (map count_of path ++ counts)) vs → AreInRange (loops_of counts) (rest_of path vs)
 rest-range [] counts vs h = h
 rest-range (t ∷ path) counts [] h = absurd h
 rest-range (t ∷ path) counts (v ∷ vs) h = rest-range path counts vs h.1
@@ -75,7 +75,7 @@ value-renumbered k (variable g d rest) f = ap (λ v. g * f (d + k) + v) (value-r
 value-renumbered k (remainder g of m rest) f = ap₂ (λ u v. g * (u % m) + v) (value-renumbered k of f) (value-renumbered k rest f)
 value-renumbered k (quotient g of m rest) f = ap₂ (λ u v. g * (u / m) + v) (value-renumbered k of f) (value-renumbered k rest f)
 
-sound-renumbered : (k : ℕ) (e : Sum) → IsSound e → IsSound (renumbered k e)
+pub sound-renumbered : (k : ℕ) (e : Sum) → IsSound e → IsSound (renumbered k e)
 sound-renumbered k (constant c) h = tt
 sound-renumbered k (variable f d rest) h = sound-renumbered k rest h
 sound-renumbered k (remainder f of m rest) h = (h.0, sound-renumbered k of h.1, sound-renumbered k rest h.2)
@@ -85,7 +85,7 @@ sound-renumbered k (quotient f of m rest) h = (h.0, sound-renumbered k of h.1, s
 value-behind : (path : Path) (e : Sum) (vs : List ℕ) → value (renumbered (length path) e) (slice_index vs) ≡ value e (slice_index (rest_of path vs))
 value-behind path e vs = value-renumbered (length path) e (slice_index vs) ∙ ap (value e) (λ t i. rest-index path vs i t)
 
-abbrev up : Path → ℕ → ℕ → Sum → Sum
+abbrev pub up : Path → ℕ → ℕ → Sum → Sum
 up path n before e = place_sum path n 0 (joined (constant before) (renumbered (length path) e))
 
 value-up : (path : Path) (n before : ℕ) (e : Sum) (counts vs more : List ℕ) → AreInRange (loops_of (map count_of path ++ counts)) vs →
@@ -125,7 +125,7 @@ lift-alone : (path : Path) (n before : ℕ) (sums : List Sum) (counts vs : List 
     sum_value (map (up path n before) sums) i vs ≡ place path n vs (before + sum_value sums i (rest_of path vs))
 lift-alone path n before sums counts vs i within h = ap (λ e. value e (slice_index vs)) (at-map (up path n before) sums i within) ∙ value-up-alone path n before (slice_index_or sums i (constant 0)) counts vs h
 
-lift-more : (path : Path) (n before : ℕ) (sums : List Sum) (counts vs more : List ℕ) → 0 < length sums → AreInRange (loops_of (map count_of path ++ counts)) vs →
+pub lift-more : (path : Path) (n before : ℕ) (sums : List Sum) (counts vs more : List ℕ) → 0 < length sums → AreInRange (loops_of (map count_of path ++ counts)) vs →
     sum_value (map (up path n before) sums) 0 (vs ++ more) ≡ place path n vs (before + sum_value sums 0 (rest_of path vs ++ more))
 lift-more path n before sums counts vs more within h =
     ap (λ e. value e (slice_index (vs ++ more))) (at-map (up path n before) sums 0 within) ∙ value-up path n before (slice_index_or sums 0 (constant 0)) counts vs more h
@@ -343,7 +343,7 @@ sound-up : (path : Path) (n before : ℕ) (sums : List Sum) → AreSound sums �
 sound-up path n before [] h = tt
 sound-up path n before (e ∷ es) h = (sound-place_sum path n 0 _ (sound-joined (constant before) (renumbered (length path) e) tt (sound-renumbered (length path) e h.0)), sound-up path n before es h.1)
 
-names-up : (path : Path) (n before : ℕ) (w : PlainWork) (sums : List Sum) → NamesItems w sums → NamesItems w (map (up path n before) sums)
+pub names-up : (path : Path) (n before : ℕ) (w : PlainWork) (sums : List Sum) → NamesItems w sums → NamesItems w (map (up path n before) sums)
 names-up path n before w sums h = record { enough = omega (arith, h.enough, length-map (up path n before) sums); sound = sound-up path n before sums h.sound }
 
 -- work with no tiles is work for any lanes

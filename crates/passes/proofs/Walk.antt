@@ -8,7 +8,7 @@ use Rattle.operators.specs.Operator.{Operator, gather, scale}
 use Rattle.operators.specs.Sum.{list_below}
 use Rattle.operators.proofs.Lists.{at-list_below, list_below-same, length-list_below}
 use Rattle.passes.specs.Good.{MovesVectors, HasLanes, AreGoodNests, IsGoodPass, AreGoodPasses, IsFormed, IsMove, IsVector}
-use Rattle.passes.specs.Merge.{Room, most, unbounded, Merging, Taking, fits, gathered, scattered, multiplied, copying, take_gathers, copy_by, copies_before, settled, with_pass, backs_of, back_of, factor_places, is_free, can_take, is_tile, suits, with_copy, with_diagonal, with_scatter, from_end, ended}
+use Rattle.passes.specs.Merge.{Room, most, unbounded, Merging, Taking, can_gather, can_scatter, gathered, scattered, multiplied, copying, take_gathers, copy_by, copies_before, settled, with_pass, backs_of, back_of, factor_places, is_free, can_take, is_tile, suits, with_copy, with_diagonal, with_scatter, from_end, ended}
 use Rattle.passes.specs.Nest.{PlainFactors, spread, factor_at, factor_count, PlainMultiplier, PlainNest, nests_on, passes_on}
 use Rattle.passes.specs.Term.{inner_of}
 use Rattle.passes.specs.Work.{PlainWork, kernel, rows, horner, tile, copy}
@@ -127,7 +127,7 @@ pub record Takes (lanes : ℕ) (m n : ℕ) (taking : Taking) (zs : List PlainNes
 takes : (lanes : ℕ) → (m n : ℕ) (room : Room) (zs : List PlainNest) (fs : List Mapping) → IsGoodPass lanes m n zs → AreMoves lanes n fs → Takes lanes m n (take_gathers room n zs fs) zs fs
 takes lanes m n room zs [] h moves = record { good = h; moves = tt; on = λ x. refl }
 takes lanes m n room zs (f ∷ fs) h moves =
-    chosen (λ t. Takes lanes m n t zs (f ∷ fs)) (fits room n (gathered f zs)) _ _
+    chosen (λ t. Takes lanes m n t zs (f ∷ fs)) (can_gather room n f zs) _ _
     (λ _.
     let rest = takes lanes m n room (gathered f zs) fs (gathered-good lanes m n f zs moves.0.there moves.0.vectors moves.0.permutes.there_below h) moves.1 in
     record { good = rest.good; moves = rest.moves; on = λ x. rest.on x ∙ nests-gathered lanes m n f zs (waiting_on n fs x) moves.0.there moves.0.vectors h.nests })
@@ -142,7 +142,7 @@ pub record Copied (lanes : ℕ) (m n : ℕ) (zs : List PlainNest) (f : Mapping) 
 copied : (lanes : ℕ) → (m n : ℕ) (room : Room) (f : Mapping) → IsMove lanes n f → Copied lanes m n (copy_by room n f) f
 copied lanes m n room f move =
     let stay = move.permutes.there_below in
-    chosen (λ zs. Copied lanes m n zs f) (fits room n (gathered f (copying n))) _ _
+    chosen (λ zs. Copied lanes m n zs f) (can_gather room n f (copying n)) _ _
     (λ _.
     record {
       good = gathered-good lanes m n f (copying n) move.there move.vectors stay (copying-good lanes m n);
@@ -158,7 +158,7 @@ copies : (lanes : ℕ) → (m n : ℕ) (room : Room) (zs : List PlainNest) (fs :
 copies lanes m n room zs [] h moves = record { good = (h, tt); on = λ x v. refl }
 copies lanes m n room zs (f ∷ fs) h moves =
     let stay = moves.0.permutes.there_below in
-    chosen (λ ps. Copy lanes m n ps (λ x. nests_on m n zs (waiting_on n (f ∷ fs) x))) (fits room n (gathered f zs)) _ _
+    chosen (λ ps. Copy lanes m n ps (λ x. nests_on m n zs (waiting_on n (f ∷ fs) x))) (can_gather room n f zs) _ _
     (λ _.
     let rest = copies lanes m n room (gathered f zs) fs (gathered-good lanes m n f zs moves.0.there moves.0.vectors stay h) moves.1 in
     record { good = rest.good; on = λ x v. rest.on x v ∙ nests-gathered lanes m n f zs (waiting_on n fs x) moves.0.there moves.0.vectors h.nests })
@@ -231,7 +231,7 @@ factor-through m waiting path factors i = ap (factor_at m factors) (through-appe
 abbrev pub diagonal_on : ℕ → ℕ → Path → PlainFactors → Operator
 diagonal_on m n path factors x = scale m n (λ w. factor_at m factors (at (inner_of path (factor_count factors)) w)) x
 
-places-formed : (lanes : ℕ) → (n : ℕ) (waiting : List Mapping) (path : Path) (factors : PlainFactors) → AreMoves lanes n waiting → IsFormed (inner_of path (factor_count factors)) → AreFormed (factor_places waiting path factors)
+pub places-formed : (lanes : ℕ) → (n : ℕ) (waiting : List Mapping) (path : Path) (factors : PlainFactors) → AreMoves lanes n waiting → IsFormed (inner_of path (factor_count factors)) → AreFormed (factor_places waiting path factors)
 places-formed lanes n waiting path factors h inner = formed-append (backs_of waiting) _ (backs-formed lanes n waiting h) (inner, tt)
 
 -- a pass multiplied past the gathers that wait
@@ -340,7 +340,7 @@ pub scatter-reaches : (lanes : ℕ) → (m n : ℕ) (room : Room) (waiting : Lis
     Reaches lanes m n (with_scatter room n waiting passes f) (record { waiting = waiting; passes = passes }) (gather n (at (back_of f)))
 scatter-reaches lanes m n room [] [] f form whole back p moves good = record { stands = record { moves = (back, tt); good = tt }; on = λ x v. refl }
 scatter-reaches lanes m n room [] (zs ∷ ps) f form whole back p moves good =
-    chosen (λ (next : Merging). Reaches lanes m n next (record { waiting = []; passes = zs ∷ ps }) (gather n (at (back_of f)))) (fits room n (scattered f zs)) _ _
+    chosen (λ (next : Merging). Reaches lanes m n next (record { waiting = []; passes = zs ∷ ps }) (gather n (at (back_of f)))) (can_scatter room n f zs) _ _
     (λ _.
     record {
       stands = record { moves = tt; good = (scattered-good lanes m n f (at (back_of f)) zs form whole p good.0, good.1) };
@@ -358,7 +358,7 @@ ended-are lanes m n room (f ∷ fs) [] positive moves good =
 ended-are lanes m n room (f ∷ fs) (zs ∷ ps) positive moves good =
     let copy = settled-are lanes m n room (from_end (f ∷ fs)) (moves-end lanes n (f ∷ fs) moves) in
     let p = moves.0.permutes in
-    chosen (λ qs. Copy lanes m n qs (λ x. gathers_on n (f ∷ fs) (passes_on m n (zs ∷ ps) x))) (fits room n (scattered (back_of f) zs)) _ _
+    chosen (λ qs. Copy lanes m n qs (λ x. gathers_on n (f ∷ fs) (passes_on m n (zs ∷ ps) x))) (can_scatter room n (back_of f) zs) _ _
     (λ _.
     let rest = ended-are lanes m n room fs (scattered (back_of f) zs ∷ ps) positive moves.1 (scattered-good lanes m n (back_of f) (at f) zs moves.0.back moves.0.back_vectors p good.0, good.1) in
     record { good = rest.good; on = λ x v. rest.on x v ∙ ap (gathers_on n fs) (nests-scattered lanes m n (back_of f) (at f) zs (passes_on m n ps x) moves.0.back moves.0.back_vectors p good.0.nests) })

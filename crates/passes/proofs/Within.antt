@@ -6,8 +6,9 @@ use Rattle.std.proofs.lemmas.Bool.Decides.{nat_tests}
 use Rattle.index_fn.specs.Mapping.{Mapping, at}
 use Rattle.operators.specs.Sum.{list_below}
 use Rattle.perm_algebra.specs.Affine.{Sum, constant, top, peak, levels, parts, simplified}
+use Rattle.perm_algebra.specs.Room.{has_room}
 use Rattle.passes.specs.Limits.{AreWithin}
-use Rattle.passes.specs.Merge.{most, Merging, Taking, limits_of, is_limited, are_small, is_multiplier_within, is_within, carries_sum, is_free, can_multiply, gathered, scattered, all_simplified, multiplied, copying, copy_by, take_gathers, copies_before, settled, with_pass, with_scatter, back_of, from_end, ended, place_sum, new_nest}
+use Rattle.passes.specs.Merge.{most, Merging, Taking, limits_of, is_limited, are_small, is_multiplier_within, is_within, loads_have_room, stores_have_room, can_gather, can_scatter, carries_sum, is_free, can_multiply, gathered, scattered, all_simplified, multiplied, copying, copy_by, take_gathers, copies_before, settled, with_pass, with_scatter, back_of, from_end, ended, place_sum, new_nest}
 use Rattle.passes.specs.Nest.{PlainFactors, factor_count, PlainNest}
 use Rattle.passes.specs.Work.{copy}
 use Rattle.passes.proofs.Walk.{chosen, and-left, and-right}
@@ -24,7 +25,7 @@ within-append room n (zs ∷ ps) qs h k = (h.0, within-append room n ps qs h.1 k
 
 within-take : (room n : ℕ) (zs : List PlainNest) (fs : List Mapping) → is_within room n zs ≡ true → is_within room n (take_gathers (most room) n zs fs).pass ≡ true
 within-take room n zs [] h = h
-within-take room n zs (f ∷ fs) h = chosen (λ (t : Taking). is_within room n t.pass ≡ true) (is_within room n (gathered f zs)) _ _ (λ yes. within-take room n (gathered f zs) fs yes) h
+within-take room n zs (f ∷ fs) h = chosen (λ (t : Taking). is_within room n t.pass ≡ true) (can_gather (most room) n f zs) _ _ (λ yes. within-take room n (gathered f zs) fs (and-right (loads_have_room f zs) _ yes)) h
 
 -- a pass that copies word by word
 abbrev pub TablesFit : ℕ → ℕ → Type 0
@@ -36,12 +37,12 @@ module _ (room n : ℕ) (fit : TablesFit room n) where
   AreInside' (f ∷ fs) = ((i : ℕ) → i < n → at f i < n) × AreInside' fs
 
   pub within-by : (f : Mapping) → ((i : ℕ) → i < n → at f i < n) → is_within room n (copy_by (most room) n f) ≡ true
-  within-by f stay = chosen (λ zs. is_within room n zs ≡ true) (is_within room n (gathered f (copying n))) _ _ (λ yes. yes) (fit f stay)
+  within-by f stay = chosen (λ zs. is_within room n zs ≡ true) (can_gather (most room) n f (copying n)) _ _ (λ yes. and-right (loads_have_room f (copying n)) _ yes) (fit f stay)
 
   within-copies : (zs : List PlainNest) (fs : List Mapping) → is_within room n zs ≡ true → AreInside' fs → AreWithin room n (copies_before (most room) n zs fs)
   within-copies zs [] h stay = (h, tt)
   within-copies zs (f ∷ fs) h stay =
-      chosen (λ ps. AreWithin room n ps) (is_within room n (gathered f zs)) _ _ (λ yes. within-copies (gathered f zs) fs yes stay.1) (h, within-copies (copy_by (most room) n f) fs (within-by f stay.0) stay.1)
+      chosen (λ ps. AreWithin room n ps) (can_gather (most room) n f zs) _ _ (λ yes. within-copies (gathered f zs) fs (and-right (loads_have_room f zs) _ yes) stay.1) (h, within-copies (copy_by (most room) n f) fs (within-by f stay.0) stay.1)
 
   pub within-settled : (fs : List Mapping) → AreInside' fs → AreWithin room n (settled (most room) n fs)
   within-settled [] stay = tt
@@ -49,7 +50,7 @@ module _ (room n : ℕ) (fit : TablesFit room n) where
 
   left-inside : (zs : List PlainNest) (fs : List Mapping) → AreInside' fs → AreInside' (take_gathers (most room) n zs fs).left
   left-inside zs [] stay = tt
-  left-inside zs (f ∷ fs) stay = chosen (λ (t : Taking). AreInside' t.left) (is_within room n (gathered f zs)) _ _ (λ yes. left-inside (gathered f zs) fs stay.1) stay
+  left-inside zs (f ∷ fs) stay = chosen (λ (t : Taking). AreInside' t.left) (can_gather (most room) n f zs) _ _ (λ yes. left-inside (gathered f zs) fs stay.1) stay
 
   pub within-pass : (st : Merging) (zs : List PlainNest) → is_within room n zs ≡ true → AreInside' st.waiting → AreWithin room n st.passes → AreWithin room n (with_pass (most room) n st zs).passes
   within-pass st zs h stay before =
@@ -57,7 +58,7 @@ module _ (room n : ℕ) (fit : TablesFit room n) where
 
   pub within-scatter : (waiting : List Mapping) (passes : List (List PlainNest)) (f : Mapping) → AreWithin room n passes → AreWithin room n (with_scatter (most room) n waiting passes f).passes
   within-scatter [] [] f h = h
-  within-scatter [] (zs ∷ ps) f h = chosen (λ (t : Merging). AreWithin room n t.passes) (is_within room n (scattered f zs)) _ _ (λ yes. (yes, h.1)) h
+  within-scatter [] (zs ∷ ps) f h = chosen (λ (t : Merging). AreWithin room n t.passes) (can_scatter (most room) n f zs) _ _ (λ yes. (and-right (stores_have_room f zs) _ yes, h.1)) h
   within-scatter (g ∷ gs) passes f h = h
 
   inside-append : (fs gs : List Mapping) → AreInside' fs → AreInside' gs → AreInside' (fs ++ gs)
@@ -72,15 +73,15 @@ module _ (room n : ℕ) (fit : TablesFit room n) where
   within-ended [] passes stay h = h
   within-ended (f ∷ fs) [] stay h = within-settled (from_end (f ∷ fs)) (inside-end (f ∷ fs) stay)
   within-ended (f ∷ fs) (zs ∷ ps) stay h =
-      chosen (λ qs. AreWithin room n qs) (is_within room n (scattered (back_of f) zs)) _ _
-      (λ yes. within-ended fs (scattered (back_of f) zs ∷ ps) stay.1 (yes, h.1))
+      chosen (λ qs. AreWithin room n qs) (can_scatter (most room) n (back_of f) zs) _ _
+      (λ yes. within-ended fs (scattered (back_of f) zs ∷ ps) stay.1 (and-right (stores_have_room (back_of f) zs) _ yes, h.1))
       (within-append room n (settled (most room) n (from_end (f ∷ fs))) (zs ∷ ps) (within-settled (from_end (f ∷ fs)) (inside-end (f ∷ fs) stay)) h)
 
 -- ---- diagonals
 
 carries-last : (room n count : ℕ) (cs : ℕ → ℕ) (fs : List Mapping) (e : Sum) → carries_sum room n count cs fs e ≡ true → is_limited room count cs (all_simplified cs fs e) ≡ true
 carries-last room n count cs [] e h = h
-carries-last room n count cs (f ∷ fs) e h = carries-last room n count cs fs (simplified cs f e) (and-right (is_limited room n cs e) _ h)
+carries-last room n count cs (f ∷ fs) e h = carries-last room n count cs fs (simplified cs f e) (and-right (has_room cs f e) _ (and-right (is_limited room n cs e) _ h))
 
 carries-all : (room n count : ℕ) (cs : ℕ → ℕ) (fs : List Mapping) (es : List Sum) → list_all (carries_sum room n count cs fs) es ≡ true → list_all (is_limited room count cs) (map (all_simplified cs fs) es) ≡ true
 carries-all room n count cs fs [] h = refl

@@ -3,6 +3,7 @@ use Rattle.std.specs.Prelude.{ℕ, zero, suc, ◌%◌, ◌+◌, ◌-◌, ◌*◌
 use Rattle.std.specs.List.{range_with_len, list_all}
 use Rattle.index_fn.specs.Mapping.{Mapping, Same, Always, Line, Strided, ThomasIn, ThomasOut, ThomasBack, Paired, After, at}
 use Rattle.perm_algebra.specs.Affine.{Sum, constant, variable, remainder, quotient, top, peak, levels, parts, scaled, joined, simplified}
+use Rattle.perm_algebra.specs.Room.{has_room}
 use Rattle.operators.specs.Sum.{list_below}
 use Rattle.passes.specs.Nest.{PlainFactors, spread, factor_count, PlainMultiplier, PlainNest}
 use Rattle.passes.specs.Term.{PlainTerm, same, gath, scat, diag, nest, move, product, beside, inner_of}
@@ -111,10 +112,10 @@ abbrev pub is_within : ℕ → ℕ → List PlainNest → Bool
 is_within room n zs =
     list_all (λ (z : PlainNest). (list_all (is_limited room n (limits_of z)) z.gathers && list_all (is_limited room n (limits_of z)) z.scatters) && is_multiplier_within room (limits_of z) z.multiplier) zs
 
--- each sum on the way to the factors' places is within the limits
+-- each sum on the way to the factors' places is within the limits, and so is every number in between
 abbrev pub carries_sum : ℕ → ℕ → ℕ → (ℕ → ℕ) → List Mapping → Sum → Bool
 carries_sum room n count cs [] e = is_limited room count cs e
-carries_sum room n count cs (f ∷ fs) e = is_limited room n cs e && carries_sum room n count cs fs (simplified cs f e)
+carries_sum room n count cs (f ∷ fs) e = is_limited room n cs e && (has_room cs f e && carries_sum room n count cs fs (simplified cs f e))
 
 abbrev pub is_free : Option PlainMultiplier → Bool
 is_free None = true
@@ -129,9 +130,21 @@ pub data Room : Type 0 where
   most : (parts : ℕ) → Room
   unbounded : Room
 
-abbrev pub fits : Room → ℕ → List PlainNest → Bool
-fits (most room) n zs = is_within room n zs
-fits unbounded n zs = true
+-- every number on the way from a place to the function's fits 64 bits
+abbrev pub loads_have_room : Mapping → List PlainNest → Bool
+loads_have_room f zs = list_all (λ (z : PlainNest). list_all (has_room (limits_of z) f) z.gathers) zs
+
+abbrev pub stores_have_room : Mapping → List PlainNest → Bool
+stores_have_room f zs = list_all (λ (z : PlainNest). list_all (has_room (limits_of z) f) z.scatters) zs
+
+-- a pass that can take a gather into its loads, and a scatter into its stores
+abbrev pub can_gather : Room → ℕ → Mapping → List PlainNest → Bool
+can_gather (most room) n f zs = loads_have_room f zs && is_within room n (gathered f zs)
+can_gather unbounded n f zs = true
+
+abbrev pub can_scatter : Room → ℕ → Mapping → List PlainNest → Bool
+can_scatter (most room) n f zs = stores_have_room f zs && is_within room n (scattered f zs)
+can_scatter unbounded n f zs = true
 
 abbrev pub can_take : Room → ℕ → PlainFactors → List Mapping → List PlainNest → Bool
 can_take (most room) n factors fs zs = can_multiply room n factors fs zs
@@ -180,19 +193,19 @@ pub record Taking : Type 0 where
 -- the latest are taken first
 abbrev pub take_gathers : Room → ℕ → List PlainNest → List Mapping → Taking
 take_gathers room n zs [] = record { pass = zs; left = [] }
-take_gathers room n zs (f ∷ fs) = if fits room n (gathered f zs) then take_gathers room n (gathered f zs) fs else record { pass = zs; left = f ∷ fs }
+take_gathers room n zs (f ∷ fs) = if can_gather room n f zs then take_gathers room n (gathered f zs) fs else record { pass = zs; left = f ∷ fs }
 
 -- one gather as a copy pass: in a loop over all words, or word by word where its place there is over the limits
 abbrev pub copy_by : Room → ℕ → Mapping → List PlainNest
 copy_by room n f =
-    if fits room n (gathered f (copying n)) then gathered f (copying n)
+    if can_gather room n f (copying n) then gathered f (copying n)
     else new_nest [] (copy (length (list_below n (at f)))) (map constant (list_below n (at f))) ∷ []
 
 -- copy passes for gathers, the latest first: the last of them, and those before it
 abbrev pub copies_before : Room → ℕ → List PlainNest → List Mapping → List (List PlainNest)
 copies_before room n zs [] = zs ∷ []
 copies_before room n zs (f ∷ fs) =
-    if fits room n (gathered f zs) then copies_before room n (gathered f zs) fs else zs ∷ copies_before room n (copy_by room n f) fs
+    if can_gather room n f zs then copies_before room n (gathered f zs) fs else zs ∷ copies_before room n (copy_by room n f) fs
 
 abbrev pub settled : Room → ℕ → List Mapping → List (List PlainNest)
 settled room n [] = []
@@ -241,7 +254,7 @@ with_diagonal room n waiting (zs ∷ passes) path factors =
 -- a scatter goes into the last pass where no gather waits, and else waits as a gather
 abbrev pub with_scatter : Room → ℕ → List Mapping → List (List PlainNest) → Mapping → Merging
 with_scatter room n [] (zs ∷ passes) f =
-    if fits room n (scattered f zs) then record { waiting = []; passes = scattered f zs ∷ passes } else record { waiting = back_of f ∷ []; passes = zs ∷ passes }
+    if can_scatter room n f zs then record { waiting = []; passes = scattered f zs ∷ passes } else record { waiting = back_of f ∷ []; passes = zs ∷ passes }
 with_scatter room n waiting passes f = record { waiting = back_of f ∷ waiting; passes = passes }
 
 -- a list from its end
@@ -254,7 +267,7 @@ abbrev pub ended : Room → ℕ → List Mapping → List (List PlainNest) → L
 ended room n [] passes = passes
 ended room n (f ∷ fs) [] = settled room n (from_end (f ∷ fs))
 ended room n (f ∷ fs) (zs ∷ passes) =
-    if fits room n (scattered (back_of f) zs) then ended room n fs (scattered (back_of f) zs ∷ passes) else settled room n (from_end (f ∷ fs)) ++ zs ∷ passes
+    if can_scatter room n (back_of f) zs then ended room n fs (scattered (back_of f) zs ∷ passes) else settled room n (from_end (f ∷ fs)) ++ zs ∷ passes
 
 -- ---- passes side by side
 

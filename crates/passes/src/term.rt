@@ -14,11 +14,20 @@ pub enum Term {
     /// Takes each item to the place that is the function's value.
     Scatter(Index),
     /// A diagonal under the tensors of a path.
-    Diagonal { path: Vec<Tensor>, factors: Factors },
+    Diagonal {
+        path: Vec<Tensor>,
+        factors: Factors,
+    },
     /// Copies of some work under the tensors of a path.
-    Copies { path: Vec<Tensor>, work: Work },
+    Copies {
+        path: Vec<Tensor>,
+        work: Work,
+    },
     /// Copies under the tensors of a path, each of which takes its items from these places of the copy.
-    Move { path: Vec<Tensor>, places: Vec<u64> },
+    Move {
+        path: Vec<Tensor>,
+        places: Vec<u64>,
+    },
     /// One after the other: the first is applied first.
     Product(Box<Term>, Box<Term>),
     /// Two terms side by side, on lists of so many items, under the tensors of a path.

@@ -10,13 +10,13 @@ ghost use Rattle.index_fn.specs.Index.{mapping_of};
 ghost use Rattle.index_fn.specs.Mapping.{at, IsDefinedAt, IsWellFormed, Strided, ThomasOut};
 ghost use Rattle.perm_algebra.specs.Affine.{value, scaled, joined, divided, reduced, simplified, HasNoList, Divided, SimplifiedKeeps};
 ghost use Rattle.perm_algebra.specs.Fits.{Agree, InRange, IsAffine, Stays};
-ghost use Rattle.perm_algebra.specs.Room.{CanDivide, CanMix, HasRoomFor};
+ghost use Rattle.perm_algebra.specs.Room.{CanDivide, CanMix, HasRoomFor, RoomDecided};
 ghost use Rattle.perm_algebra.specs.ShapeLaw.{ShapeKept};
 ghost use Rattle.perm_algebra.specs.Views.{plain_sum};
 
-use crate::parts::{Parts, divide, reduce};
 use index_fn::Index;
 use memory::NoMemory;
+pub use parts::{Parts, divide, greatest, others, reduce, residues};
 use std::alloc::Global;
 pub use sums::{copy, join, scale_sum};
 
@@ -166,6 +166,11 @@ pub fn simplified_keeps()
 /// What simplification adds to a sum that a divisor takes apart: a law of the definitions.
 pub fn shape_kept()
     ensures { ShapeKept }
+{}
+
+/// Whether every number on the way to a simplified sum fits can be tested: a law of the definitions.
+pub fn room_decided()
+    ensures { RoomDecided }
 {}
 
 /// The steps of simplification.

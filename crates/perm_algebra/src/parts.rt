@@ -55,8 +55,8 @@ fn multiples(alloc: Global, s: u64, sum: &Affine) -> Result<Affine, NoMemory>
     }
 }
 
-// The parts whose factors s does not divide.
-fn others(alloc: Global, s: u64, sum: &Affine) -> Result<Affine, NoMemory>
+/// The parts whose factors `s` does not divide, and the remainder of the constant.
+pub fn others(alloc: Global, s: u64, sum: &Affine) -> Result<Affine, NoMemory>
     requires { 0 < s }
     ensures { IfOk result (λ a. plain_sum a ≡ rest_of s (plain_sum sum.now)) }
 {
@@ -94,8 +94,8 @@ fn others(alloc: Global, s: u64, sum: &Affine) -> Result<Affine, NoMemory>
     }
 }
 
-// The constant and the factors modulo s, and no part whose factor is then 0.
-fn residues(alloc: Global, s: u64, sum: &Affine) -> Result<Affine, NoMemory>
+/// The constant and the factors modulo `s`, and no part whose factor is then 0.
+pub fn residues(alloc: Global, s: u64, sum: &Affine) -> Result<Affine, NoMemory>
     requires { 0 < s }
     ensures { IfOk result (λ a. plain_sum a ≡ mods s (plain_sum sum.now)) }
 {

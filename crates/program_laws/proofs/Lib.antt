@@ -12,6 +12,6 @@ mod Registers
 mod Fits
 mod Parts
 pub mod Performs
-mod Plain
+pub mod Plain
 mod Example
 mod Found

@@ -253,8 +253,8 @@ fn loops(alloc: Global, path: &[Tensor], body: Sigma) -> Result<Sigma, NoMemory>
     }
 }
 
-// The index function of a permutation of size `n` under the tensors of the path.
-fn under(alloc: Global, path: &[Tensor], n: u64, f: Index) -> Result<Index, NoMemory>
+/// The index function of a permutation of size `n` under the tensors of the path.
+pub fn under(alloc: Global, path: &[Tensor], n: u64, f: Index) -> Result<Index, NoMemory>
     requires { HasRoom path.now n }
     ensures { IfOk result (λ g. mapping_of g ≡ wrapped path.now n (mapping_of f)) }
 {
@@ -272,8 +272,8 @@ fn under(alloc: Global, path: &[Tensor], n: u64, f: Index) -> Result<Index, NoMe
     }
 }
 
-// A multiple of `s` that leaves 1 by `r`, or 0 where there is none.
-fn unit(r: u64, s: u64) -> u64
+/// A multiple of `s` that leaves 1 by `r`, or 0 where there is none.
+pub fn unit(r: u64, s: u64) -> u64
     requires { r * s < 2 ^ 64 }
     ensures { result ≡ unit_of r s }
 {

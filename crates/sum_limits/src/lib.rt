@@ -1,18 +1,22 @@
 //! Sums within the limits of programs: tests, and index functions at sums that stay within them.
 #![tactic(auto)]
 
-ghost use Rattle.std.specs.Prelude.{◌≡◌, ℕ, ◌+◌, ◌*◌, ◌-◌, ◌^◌, ◌<◌, ◌≤◌, ◌↔◌, IfOk, IsTrue, Some, None, nat_lt, true, length, slice_index};
+mod rooms;
+
+ghost use Rattle.std.specs.Prelude.{◌≡◌, ℕ, ◌+◌, ◌*◌, ◌-◌, ◌^◌, ◌<◌, ◌≤◌, ◌↔◌, IfOk, IsTrue, Some, None, nat_lt, true, false, length, map, slice_index};
 ghost use Rattle.index_fn.specs.Index.{mapping_of};
 ghost use Rattle.index_fn.specs.Mapping.{IsDefinedAt, IsWellFormed, at};
-ghost use Rattle.passes.specs.Merge.{are_small, is_divided, is_limited, total};
+ghost use Rattle.passes.specs.Merge.{all_simplified, are_small, carries_sum, is_divided, is_limited, total};
 ghost use Rattle.perm_algebra.specs.Affine.{HasNoList, levels, parts, peak, simplified, top, value};
 ghost use Rattle.perm_algebra.specs.Fits.{Agree, InRange, IsAffine, Stays};
-ghost use Rattle.perm_algebra.specs.Room.{HasRoomFor};
+ghost use Rattle.perm_algebra.specs.Room.{has_room, has_top};
 ghost use Rattle.perm_algebra.specs.Views.{plain_sum};
+ghost use Rattle.sum_limits.specs.Leading.{CanCarry, can_lead};
 
 use index_fn::Index;
 use memory::NoMemory;
-use perm_algebra::{Affine, simplify};
+use perm_algebra::{Affine, copy};
+use rooms::simplify_in_room;
 use std::alloc::Global;
 
 /// What a place may be.
@@ -24,7 +28,8 @@ pub struct Limits {
     pub room: u64,
 }
 
-/// The function `f` at the place `arg`, where the variable d runs below `counts[d]`, if that is within the limits.
+/// The function `f` at the place `arg`, where the variable d runs below `counts[d]`, if that is within the limits and
+/// every number on the way fits 64 bits.
 pub fn simplify_within(
     alloc: Global,
     f: &Index,
@@ -37,17 +42,68 @@ pub fn simplify_within(
     requires affine { IsAffine (length counts.now) (slice_index counts.now) (plain_sum arg.now) }
     requires fits { Stays (slice_index counts.now) (value (plain_sum arg.now)) }
     requires defined { (vs : ℕ → ℕ) → InRange (slice_index counts.now) vs → IsDefinedAt (mapping_of f.now) (value (plain_sum arg.now) vs) }
-    ensures some { IfOk result (λ r. (sum : Affine) → r ≡ Some sum → is_limited limits.room limits.size (slice_index counts.now) (plain_sum sum) ≡ true) }
+    ensures some { IfOk result (λ r. (sum : Affine) → r ≡ Some sum → plain_sum sum ≡ simplified (slice_index counts.now) (mapping_of f.now) (plain_sum arg.now)) }
+    ensures room { IfOk result (λ r. (sum : Affine) → r ≡ Some sum → has_room (slice_index counts.now) (mapping_of f.now) (plain_sum arg.now) ≡ true) }
+    ensures limited { IfOk result (λ r. (sum : Affine) → r ≡ Some sum → is_limited limits.room limits.size (slice_index counts.now) (plain_sum sum) ≡ true) }
+    ensures none { IfOk result (λ r. r ≡ None → can_lead limits.room limits.size (slice_index counts.now) (mapping_of f.now) (plain_sum arg.now) ≡ false) }
     ensures value { IfOk result (λ r. (sum : Affine) → r ≡ Some sum → Agree (slice_index counts.now) (value (plain_sum sum)) (λ vs. at (mapping_of f.now) (value (plain_sum arg.now) vs))) }
     ensures affine { IfOk result (λ r. (sum : Affine) → r ≡ Some sum → IsAffine (length counts.now) (slice_index counts.now) (plain_sum sum)) }
-    ensures form { HasRoomFor (slice_index counts.now) (mapping_of f.now) (plain_sum arg.now) → IfOk result (λ r. (sum : Affine) → r ≡ Some sum → plain_sum sum ≡ simplified (slice_index counts.now) (mapping_of f.now) (plain_sum arg.now)) }
-    ensures none { HasRoomFor (slice_index counts.now) (mapping_of f.now) (plain_sum arg.now) → IfOk result (λ r. r ≡ None → is_limited limits.room limits.size (slice_index counts.now) (simplified (slice_index counts.now) (mapping_of f.now) (plain_sum arg.now)) ≡ true → ⊥) }
+    ensures fits { IfOk result (λ r. (sum : Affine) → r ≡ Some sum → Stays (slice_index counts.now) (value (plain_sum sum))) }
 {
-    let sum = simplify(alloc, f, arg, counts)?;
-    if is_within(counts, &sum, limits) {
-        Ok(Some(sum))
-    } else {
-        Ok(None)
+    match simplify_in_room(alloc, f, arg, counts)? {
+        None => Ok(None),
+        Some(sum) => {
+            if is_within(counts, &sum, limits) {
+                Ok(Some(sum))
+            } else {
+                Ok(None)
+            }
+        }
+    }
+}
+
+/// The functions one after the other at the place `arg`, if each place on the way is within the limits, the last one
+/// is below `count`, and every number in between fits 64 bits.
+pub fn carry_within(
+    alloc: Global,
+    functions: &[Index],
+    arg: &Affine,
+    counts: &[u64],
+    limits: Limits,
+    count: u64,
+) -> Result<Option<Affine>, NoMemory>
+    requires can { CanCarry limits.size (map mapping_of functions.now) }
+    requires affine { IsAffine (length counts.now) (slice_index counts.now) (plain_sum arg.now) }
+    ensures some { IfOk result (λ r. (sum : Affine) → r ≡ Some sum → plain_sum sum ≡ all_simplified (slice_index counts.now) (map mapping_of functions.now) (plain_sum arg.now)) }
+    ensures carries { IfOk result (λ r. (sum : Affine) → r ≡ Some sum → carries_sum limits.room limits.size count (slice_index counts.now) (map mapping_of functions.now) (plain_sum arg.now) ≡ true) }
+    ensures none { IfOk result (λ r. r ≡ None → carries_sum limits.room limits.size count (slice_index counts.now) (map mapping_of functions.now) (plain_sum arg.now) ≡ false) }
+    ensures affine { IfOk result (λ r. (sum : Affine) → r ≡ Some sum → IsAffine (length counts.now) (slice_index counts.now) (plain_sum sum)) }
+{
+    match functions.split_first() {
+        None => {
+            let last = Limits {
+                size: count,
+                room: limits.room,
+            };
+            if is_within(counts, arg, last) {
+                let place = copy(alloc, arg)?;
+                Ok(Some(place))
+            } else {
+                Ok(None)
+            }
+        }
+        Some((f, rest)) => {
+            if !is_within(counts, arg, limits) {
+                return Ok(None);
+            }
+            match simplify_in_room(alloc, f, arg, counts)? {
+                None => Ok(None),
+                Some(next) => {
+                    let place = carry_within(alloc, rest, &next, counts, limits, count)?;
+                    Ok(place)
+                }
+            }
+        }
     }
 }
 
@@ -146,6 +202,8 @@ fn top_of(counts: &[u64], sum: &Affine) -> Option<u64>
     requires { IsAffine (length counts.now) (slice_index counts.now) (plain_sum sum.now) }
     ensures some { (t : ℕ) → result ≡ Some t → t ≡ top (plain_sum sum.now) (slice_index counts.now) }
     ensures none { result ≡ None → are_small (slice_index counts.now) (plain_sum sum.now) ≡ true → 2 ^ 64 ≤ top (plain_sum sum.now) (slice_index counts.now) }
+    ensures room { (t : ℕ) → result ≡ Some t → has_top (slice_index counts.now) (plain_sum sum.now) ≡ true }
+    ensures no_room { result ≡ None → has_top (slice_index counts.now) (plain_sum sum.now) ≡ false }
 {
     match sum {
         Affine::Constant(c) => Some(*c),

@@ -1,3 +1,5 @@
+pub mod Naming
+pub mod Items
 pub mod Sums
 pub mod Passes
 pub mod Readies

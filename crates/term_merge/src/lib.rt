@@ -9,6 +9,7 @@ mod firsts;
 mod merging;
 mod multiplying;
 mod nests;
+mod placed;
 mod places;
 mod sides;
 mod state;

@@ -1,20 +1,25 @@
 // New nests, and copies of nests.
-ghost use Rattle.std.specs.Prelude.{◌≡◌, ◌^◌, ◌<◌, ◌≤◌, ◌∷◌, [], IfOk, length, map};
+ghost use Rattle.std.specs.Prelude.{◌≡◌, ◌^◌, ◌<◌, ◌≤◌, ◌++◌, ◌∷◌, [], IfOk, length, map};
+ghost use Rattle.std.specs.Option.{option_map};
 ghost use Rattle.index_fn.specs.Index.{mapping_of};
 ghost use Rattle.index_fn.specs.Mapping.{IsWellFormed, at};
 ghost use Rattle.operators.specs.Sum.{list_below};
 ghost use Rattle.passes.specs.Good.{AreBelow};
 ghost use Rattle.passes.specs.Limits.{AreSeveral, HasRows};
-ghost use Rattle.passes.specs.Merge.{copying, items_in, new_nest};
-ghost use Rattle.passes.specs.Views.{plain_factors, plain_nest, plain_work};
+ghost use Rattle.passes.specs.Merge.{copying, items_in, items_out, new_nest, one_loop, place_sum};
+ghost use Rattle.passes.specs.Views.{plain_factors, plain_multiplier, plain_nest, plain_work};
 ghost use Rattle.passes.specs.Work.{HasWords, copy, work_size};
 ghost use Rattle.perm_algebra.specs.Affine.{constant};
-ghost use Rattle.tensor_paths.specs.Path.{size_under};
+ghost use Rattle.perm_algebra.specs.Views.{plain_sum};
+ghost use Rattle.tensor_paths.specs.Path.{count_of, size_under};
 ghost use Rattle.term_merge.specs.Known.{IsDefinedBelow};
+ghost use Rattle.term_merge.specs.Placed.{AllNamed};
 
+use crate::placed::{all_placed, counts, with_two};
 use index_fn::Index;
 use memory::NoMemory;
-use passes::{Factors, Nest, Work};
+use passes::{Factors, Multiplier, Nest, Work, items_in, items_out};
+use perm_algebra::{Affine, copy};
 use std::alloc::Global;
 use tensor_paths::Tensor;
 
@@ -27,10 +32,63 @@ pub(crate) fn natural_nest(alloc: Global, path: &[Tensor], work: Work) -> Result
     requires high { size_under path.now (work_size (plain_work work)) ≤ 2 ^ 20 }
     ensures { IfOk result (λ z. plain_nest z ≡ new_nest path.now (plain_work work) (items_in (plain_work work) (length path.now))) }
 {
-    Err(NoMemory)
+    let counts = counts(alloc, path)?;
+    let limits = with_two(alloc, &counts, work.size())?;
+    let gathers = loads(alloc, &limits, path, &work)?;
+    let scatters = stores(alloc, &limits, path, &work)?;
+    Ok(Nest {
+        counts,
+        work,
+        gathers,
+        multiplier: None,
+        scatters,
+    })
+}
+
+// Where the work's items are loaded from.
+#[tactic(auto, using(crate::proofs::Items::all_named, crate::proofs::Items::loads_named))]
+fn loads(
+    alloc: Global,
+    limits: &[u64],
+    path: &[Tensor],
+    work: &Work,
+) -> Result<Vec<Affine>, NoMemory>
+    requires limits { limits.now ≡ map count_of path.now ++ work_size (plain_work work.now) ∷ work_size (plain_work work.now) ∷ [] }
+    requires words { HasWords (plain_work work.now) }
+    requires rows { HasRows (plain_work work.now) }
+    requires several { AreSeveral path.now }
+    requires some { 0 < work_size (plain_work work.now) }
+    requires high { size_under path.now (work_size (plain_work work.now)) ≤ 2 ^ 20 }
+    ensures { IfOk result (λ es. map plain_sum es.items ≡ map (place_sum path.now (work_size (plain_work work.now)) 0) (items_in (plain_work work.now) (length path.now))) }
+{
+    let items = items_in(alloc, work, path.len() as u64)?;
+    let places = all_placed(alloc, limits, path, work.size(), &items)?;
+    Ok(places)
+}
+
+// Where they are stored.
+#[tactic(auto, using(crate::proofs::Items::all_named, crate::proofs::Items::stores_named))]
+fn stores(
+    alloc: Global,
+    limits: &[u64],
+    path: &[Tensor],
+    work: &Work,
+) -> Result<Vec<Affine>, NoMemory>
+    requires limits { limits.now ≡ map count_of path.now ++ work_size (plain_work work.now) ∷ work_size (plain_work work.now) ∷ [] }
+    requires words { HasWords (plain_work work.now) }
+    requires rows { HasRows (plain_work work.now) }
+    requires several { AreSeveral path.now }
+    requires some { 0 < work_size (plain_work work.now) }
+    requires high { size_under path.now (work_size (plain_work work.now)) ≤ 2 ^ 20 }
+    ensures { IfOk result (λ es. map plain_sum es.items ≡ map (place_sum path.now (work_size (plain_work work.now)) 0) (items_out (plain_work work.now) (length path.now))) }
+{
+    let items = items_out(alloc, work, path.len() as u64)?;
+    let places = all_placed(alloc, limits, path, work.size(), &items)?;
+    Ok(places)
 }
 
 /// Copies that take their items from these places of the copy.
+#[tactic(auto, using(crate::proofs::Items::places_named))]
 pub(crate) fn moved_nest(alloc: Global, path: &[Tensor], places: &[u64]) -> Result<Nest, NoMemory>
     requires below { AreBelow (length places.now) places.now }
     requires several { AreSeveral path.now }
@@ -38,19 +96,78 @@ pub(crate) fn moved_nest(alloc: Global, path: &[Tensor], places: &[u64]) -> Resu
     requires high { size_under path.now (length places.now) ≤ 2 ^ 20 }
     ensures { IfOk result (λ z. plain_nest z ≡ new_nest path.now (copy (length places.now)) (map constant places.now)) }
 {
-    Err(NoMemory)
+    let nest = listed_nest(alloc, path, places)?;
+    Ok(nest)
+}
+
+#[tactic(auto, using(crate::proofs::Items::all_named))]
+fn listed_nest(alloc: Global, path: &[Tensor], places: &[u64]) -> Result<Nest, NoMemory>
+    requires named { AllNamed (map count_of path.now ++ length places.now ∷ length places.now ∷ []) path.now (length places.now) (map constant places.now) }
+    requires several { AreSeveral path.now }
+    requires some { 0 < length places.now }
+    requires high { size_under path.now (length places.now) ≤ 2 ^ 20 }
+    ensures { IfOk result (λ z. plain_nest z ≡ new_nest path.now (copy (length places.now)) (map constant places.now)) }
+{
+    let size = places.len() as u64;
+    let work = Work::Copy { size };
+    let counts = counts(alloc, path)?;
+    let limits = with_two(alloc, &counts, size)?;
+    let items = numbers(alloc, places)?;
+    let gathers = all_placed(alloc, &limits, path, size, &items)?;
+    let scatters = stores(alloc, &limits, path, &work)?;
+    Ok(Nest {
+        counts,
+        work,
+        gathers,
+        multiplier: None,
+        scatters,
+    })
+}
+
+fn numbers(alloc: Global, places: &[u64]) -> Result<Vec<Affine>, NoMemory>
+    ensures { IfOk result (λ es. map plain_sum es.items ≡ map constant places.now) }
+{
+    let mut numbers = Vec::new(alloc);
+    for place in places {
+        numbers.push(Affine::Constant(*place))?;
+    }
+    Ok(numbers)
 }
 
 /// A pass that changes nothing, on so many words.
+#[tactic(auto, using(crate::proofs::Items::loop_several, crate::proofs::Items::loop_size))]
 pub(crate) fn copying(alloc: Global, size: u64) -> Result<Vec<Nest>, NoMemory>
     requires some { 0 < size }
     requires high { size ≤ 2 ^ 20 }
     ensures { IfOk result (λ zs. map plain_nest zs.items ≡ copying size) }
 {
-    Err(NoMemory)
+    let path = one_loop(alloc, size)?;
+    let nest = natural_nest(alloc, &path, Work::Copy { size: 1 })?;
+    let nests = alone(alloc, nest)?;
+    Ok(nests)
+}
+
+// A loop over so many words, which is none for one word.
+fn one_loop(alloc: Global, size: u64) -> Result<Vec<Tensor>, NoMemory>
+    ensures { IfOk result (λ path. path.items ≡ one_loop size) }
+{
+    let mut path = Vec::new(alloc);
+    if size != 1 {
+        path.push(Tensor::Blocks(size))?;
+    }
+    Ok(path)
+}
+
+fn alone(alloc: Global, nest: Nest) -> Result<Vec<Nest>, NoMemory>
+    ensures { IfOk result (λ zs. map plain_nest zs.items ≡ plain_nest nest ∷ []) }
+{
+    let mut nests = Vec::new(alloc);
+    nests.push(nest)?;
+    Ok(nests)
 }
 
 /// A gather as a copy pass, word by word.
+#[tactic(auto, using(crate::proofs::Items::alone_named))]
 pub(crate) fn copying_words(alloc: Global, size: u64, f: &Index) -> Result<Vec<Nest>, NoMemory>
     requires some { 0 < size }
     requires high { size ≤ 2 ^ 20 }
@@ -58,19 +175,85 @@ pub(crate) fn copying_words(alloc: Global, size: u64, f: &Index) -> Result<Vec<N
     requires defined { IsDefinedBelow size (mapping_of f.now) }
     ensures { IfOk result (λ zs. map plain_nest zs.items ≡ new_nest [] (copy (length (list_below size (at (mapping_of f.now))))) (map constant (list_below size (at (mapping_of f.now)))) ∷ []) }
 {
-    Err(NoMemory)
+    let places = values(alloc, size, f)?;
+    let nest = listed_nest(alloc, &[], &places)?;
+    let nests = alone(alloc, nest)?;
+    Ok(nests)
+}
+
+// The function's values below a size.
+fn values(alloc: Global, size: u64, f: &Index) -> Result<Vec<u64>, NoMemory>
+    requires formed { IsWellFormed (mapping_of f.now) }
+    requires defined { IsDefinedBelow size (mapping_of f.now) }
+    ensures { IfOk result (λ ks. ks.items ≡ list_below size (at (mapping_of f.now))) }
+{
+    let mut values = Vec::new(alloc);
+    for i in 0..size {
+        values.push(f.at(i))?;
+    }
+    Ok(values)
 }
 
 /// The same nest, in other memory.
 pub(crate) fn copied_nest(alloc: Global, nest: &Nest) -> Result<Nest, NoMemory>
     ensures { IfOk result (λ z. plain_nest z ≡ plain_nest nest.now) }
 {
-    Err(NoMemory)
+    let counts = nest.counts.as_slice().to_vec(alloc)?;
+    let work = nest.work.copied(alloc)?;
+    let gathers = copied_sums(alloc, &nest.gathers)?;
+    let multiplier = copied_multiplier(alloc, &nest.multiplier)?;
+    let scatters = copied_sums(alloc, &nest.scatters)?;
+    Ok(Nest {
+        counts,
+        work,
+        gathers,
+        multiplier,
+        scatters,
+    })
+}
+
+fn copied_multiplier(
+    alloc: Global,
+    multiplier: &Option<Multiplier>,
+) -> Result<Option<Multiplier>, NoMemory>
+    ensures { IfOk result (λ d. option_map plain_multiplier d ≡ option_map plain_multiplier multiplier.now) }
+{
+    match multiplier {
+        None => Ok(None),
+        Some(multiplier) => {
+            let factors = copied_factors(alloc, &multiplier.factors)?;
+            let places = copied_sums(alloc, &multiplier.places)?;
+            Ok(Some(Multiplier { factors, places }))
+        }
+    }
+}
+
+pub(crate) fn copied_sums(alloc: Global, sums: &[Affine]) -> Result<Vec<Affine>, NoMemory>
+    ensures { IfOk result (λ es. map plain_sum es.items ≡ map plain_sum sums.now) }
+{
+    let mut others = Vec::new(alloc);
+    for sum in sums {
+        let other = copy(alloc, sum)?;
+        others.push(other)?;
+    }
+    Ok(others)
 }
 
 /// The same factors, in other memory.
 pub(crate) fn copied_factors(alloc: Global, factors: &Factors) -> Result<Factors, NoMemory>
     ensures { IfOk result (λ fs. plain_factors fs ≡ plain_factors factors.now) }
 {
-    Err(NoMemory)
+    match factors {
+        Factors::Values(entries) => Ok(Factors::Values(entries.as_slice().to_vec(alloc)?)),
+        Factors::Twiddles { rows, cols, root } => Ok(Factors::Twiddles {
+            rows: *rows,
+            cols: *cols,
+            root: *root,
+        }),
+        Factors::Spread { path, factors } => {
+            let path = path.as_slice().to_vec(alloc)?;
+            let factors = Box::new(alloc, copied_factors(alloc, factors)?)?;
+            Ok(Factors::Spread { path, factors })
+        }
+    }
 }

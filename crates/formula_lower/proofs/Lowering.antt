@@ -1,0 +1,79 @@
+-- Room for the paths of a formula, and the steps of a WHT.
+use Rattle.std.proofs.Common.{◌≡◌, ℕ, zero, suc, ◌*◌, ◌/◌, ◌+◌, ◌^◌, ◌<◌, ◌≤◌, arith, refl, sym, ap, ◌∙◌, [], ◌∷◌, ◌++◌, inl, inr, subst, mul_comm}
+use Rattle.std.proofs.Math.Nat.{pow-succ'}
+use Rattle.std.proofs.lemmas.Bool.{cases_eq}
+use Rattle.std.proofs.lemmas.Bool.Decides.{nat_tests}
+use Rattle.matrix_meaning.specs.declared.Kind.TheVariants.{Wht}
+use Rattle.matrix_meaning.specs.Kind.{IsPowerOfTwo}
+use Rattle.passes.specs.Term.{same, nest, product}
+use Rattle.passes.specs.Work.{kernel}
+use Rattle.formula_lower.specs.Terms.{one_more, halvings, hadamard_term}
+use Rattle.formula_lower.proofs.Lowers.{halvings-power, power-above}
+use Rattle.formula_lower.proofs.Parts.{grown-one}
+use Rattle.sigma_lower.specs.Room.{HasRoom}
+use Rattle.spl_ast.specs.Formula.{Formula, Stride, Product, TensorLeft, TensorRight, DirectSum, size_of}
+use Rattle.spl_ast.specs.Shape.{IsShaped}
+use Rattle.spl_ast.proofs.Vectors.{size_is_size}
+use Rattle.tensor_paths.specs.declared.Tensor.{Tensor}
+use Rattle.tensor_paths.specs.declared.Tensor.TheVariants.{Blocks, Columns}
+use Rattle.tensor_paths.specs.Path.{Path, count_of, grown}
+use Rattle.tensor_paths.proofs.Under.{size_under-push}
+use Rattle.tree_model.specs.Breakdown.{leaf}
+
+-- ---- room
+
+room-push : (path : Path) (t : Tensor) (n : ℕ) → HasRoom path (grown t n) → n < 2 ^ 64 → HasRoom (path ++ t ∷ []) n
+room-push [] t n h small = (h, small)
+room-push (u ∷ path) t n h small = (subst (λ z. grown u z < 2 ^ 64) (sym (size_under-push path t n)) h.0, room-push path t n h.1 small)
+
+room-more : (path : Path) (t : Tensor) (n : ℕ) → HasRoom path (grown t n) → n < 2 ^ 64 → HasRoom (one_more path t) n
+room-more path t n h small =
+    elim (cases_eq (count_of t) 1) [
+      | inl one ↦ let is : one_more path t ≡ path = grind (arith, nat_tests) in subst (λ p. HasRoom p n) (sym is) (subst (HasRoom path) (grown-one t n one) h)
+      | inr several ↦ let is : one_more path t ≡ path ++ t ∷ [] = grind (arith, nat_tests) in subst (λ p. HasRoom p n) (sym is) (room-push path t n h small)
+    ]
+
+part-small : (a : Formula) → IsShaped a → size_of a < 2 ^ 64
+part-small a h = let size = (size_is_size a h).1 in omega (arith, size)
+
+pub room_left : (path : Path) (a : Formula) (k : ℕ) → IsShaped (TensorLeft a k) → HasRoom path (size_of a * k) → HasRoom (one_more path (Columns k)) (size_of a)
+room_left path a k shaped h = room-more path (Columns k) (size_of a) h (part-small a shaped.0)
+
+pub room_right : (path : Path) (k : ℕ) (a : Formula) → IsShaped (TensorRight k a) → HasRoom path (k * size_of a) → HasRoom (one_more path (Blocks k)) (size_of a)
+room_right path k a shaped h = room-more path (Blocks k) (size_of a) h (part-small a shaped.1)
+
+pub room_same : (path : Path) (a b : Formula) → IsShaped (Product a b) → HasRoom path (size_of a) → HasRoom path (size_of b)
+room_same path a b shaped h = subst (HasRoom path) shaped.2 h
+
+pub room_alone : (a : Formula) → IsShaped a → HasRoom [] (size_of a)
+room_alone a shaped = part-small a shaped
+
+pub room_stride : (path : Path) (n r : ℕ) → IsShaped (Stride n r) → HasRoom path n → HasRoom path (r * (n / r))
+room_stride path n r shaped h = subst (HasRoom path) (sym (mul_comm r (n / r) ∙ shaped.2)) h
+
+-- ---- WHT
+
+pub hadamard_one : (path : Path) (n : ℕ) → n < 2 → hadamard_term path (halvings n n) ≡ same
+hadamard_one path zero h = refl
+hadamard_one path (suc zero) h = refl
+hadamard_one path (suc (suc n)) h = absurd (omega arith)
+
+half-of : (k n : ℕ) → n ≡ 2 ^ suc k → n / 2 ≡ 2 ^ k
+half-of k n is = ap (λ z. z / 2) (is ∙ pow-succ' 2 k) ∙ omega arith
+
+halvings-of : (k n : ℕ) → n ≡ 2 ^ k → halvings n n ≡ k
+halvings-of k n is = ap (λ z. halvings z z) is ∙ halvings-power k (2 ^ k) (power-above k)
+
+pub half_power : (n : ℕ) → 2 ≤ n → IsPowerOfTwo n → IsPowerOfTwo (n / 2)
+half_power n two (zero, is) = absurd (omega (arith, is))
+half_power n two (suc k, is) = (k, half-of k n is)
+
+pub hadamard_more : (path : Path) (n : ℕ) → 2 ≤ n → IsPowerOfTwo n →
+    hadamard_term path (halvings n n) ≡ product (hadamard_term (path ++ Blocks 2 ∷ []) (halvings (n / 2) (n / 2))) (nest (one_more path (Columns (n / 2))) (kernel Wht 0 (leaf 2)))
+hadamard_more path n two (zero, is) = absurd (omega (arith, is))
+hadamard_more path n two (suc k, is) =
+    let half : n / 2 ≡ 2 ^ k = half-of k n is in
+    let inner : halvings (n / 2) (n / 2) ≡ k = halvings-of k (n / 2) half in
+    ap (hadamard_term path) (halvings-of (suc k) n is)
+    ∙ ap (λ h. product (hadamard_term (path ++ Blocks 2 ∷ []) k) (nest (one_more path (Columns h)) (kernel Wht 0 (leaf 2)))) (sym half)
+    ∙ ap (λ j. product (hadamard_term (path ++ Blocks 2 ∷ []) j) (nest (one_more path (Columns (n / 2))) (kernel Wht 0 (leaf 2)))) (sym inner)

@@ -1,0 +1,15 @@
+//! The merged passes of formulas: a program can be made of them, and it computes the formula.
+#![tactic(auto)]
+
+ghost use Rattle.formula_passes.specs.Computes.{FormulasCompute};
+ghost use Rattle.formula_passes.specs.Laws.{FormulasCanProgram};
+
+/// A program can be made of the passes of every formula of this language: a law of the definitions.
+pub fn formulas_can_program()
+    ensures { FormulasCanProgram }
+{}
+
+/// A program that performs them does what the formula does, in exactly its operations: a law of the definitions.
+pub fn formulas_compute()
+    ensures { FormulasCompute }
+{}

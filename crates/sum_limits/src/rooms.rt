@@ -1,0 +1,301 @@
+ghost use Rattle.std.specs.Prelude.{◌≡◌, ℕ, ◌+◌, ◌*◌, ◌/◌, ◌%◌, ◌^◌, ◌<◌, ◌≤◌, IfOk, Some, None, true, false, length, slice_index};
+ghost use Rattle.index_fn.specs.Index.{mapping_of};
+ghost use Rattle.index_fn.specs.Mapping.{IsDefinedAt, IsWellFormed, Line, Strided, ThomasOut, at};
+ghost use Rattle.perm_algebra.specs.Affine.{HasNoList, divided, joined, mods, reduced, scaled, simplified, value};
+ghost use Rattle.perm_algebra.specs.Fits.{Agree, InRange, IsAffine, Stays};
+ghost use Rattle.perm_algebra.specs.Room.{can_divide, can_join, can_mix, can_scale, constant_of, has_room, has_top};
+ghost use Rattle.perm_algebra.specs.Views.{plain_sum};
+
+use crate::{greatest_factor, top_of};
+use index_fn::Index;
+use memory::NoMemory;
+use perm_algebra::{Affine, Parts, copy, divide, join, others, reduce, residues, scale_sum};
+use std::alloc::Global;
+
+/// The function `f` at the place `arg`, where the variable d runs below `counts[d]`, if every number on the way fits 64
+/// bits.
+pub fn simplify_in_room(
+    alloc: Global,
+    f: &Index,
+    arg: &Affine,
+    counts: &[u64],
+) -> Result<Option<Affine>, NoMemory>
+    requires formed { IsWellFormed (mapping_of f.now) }
+    requires no_list { HasNoList (mapping_of f.now) }
+    requires affine { IsAffine (length counts.now) (slice_index counts.now) (plain_sum arg.now) }
+    requires fits { Stays (slice_index counts.now) (value (plain_sum arg.now)) }
+    requires defined { (vs : ℕ → ℕ) → InRange (slice_index counts.now) vs → IsDefinedAt (mapping_of f.now) (value (plain_sum arg.now) vs) }
+    ensures some { IfOk result (λ r. (sum : Affine) → r ≡ Some sum → plain_sum sum ≡ simplified (slice_index counts.now) (mapping_of f.now) (plain_sum arg.now)) }
+    ensures room { IfOk result (λ r. (sum : Affine) → r ≡ Some sum → has_room (slice_index counts.now) (mapping_of f.now) (plain_sum arg.now) ≡ true) }
+    ensures none { IfOk result (λ r. r ≡ None → has_room (slice_index counts.now) (mapping_of f.now) (plain_sum arg.now) ≡ false) }
+    ensures value { IfOk result (λ r. (sum : Affine) → r ≡ Some sum → Agree (slice_index counts.now) (value (plain_sum sum)) (λ vs. at (mapping_of f.now) (value (plain_sum arg.now) vs))) }
+    ensures affine { IfOk result (λ r. (sum : Affine) → r ≡ Some sum → IsAffine (length counts.now) (slice_index counts.now) (plain_sum sum)) }
+    ensures fits { IfOk result (λ r. (sum : Affine) → r ≡ Some sum → Stays (slice_index counts.now) (value (plain_sum sum))) }
+{
+    match f {
+        Index::Identity => {
+            let sum = copy(alloc, arg)?;
+            Ok(Some(sum))
+        }
+        Index::Constant(value) => Ok(Some(Affine::Constant(*value))),
+        Index::Stride(base, step) => {
+            let Some(multiple) = scale_in_room(alloc, counts, *step, copy(alloc, arg)?)? else {
+                return Ok(None);
+            };
+            let sum = join_in_room(alloc, counts, Affine::Constant(*base), multiple)?;
+            Ok(sum)
+        }
+        Index::StridePermutation(r, s) => {
+            let sum = turn(alloc, counts, *r, *s, arg)?;
+            Ok(sum)
+        }
+        Index::ThomasIn(r, s) => {
+            let Some(parts) = divide_in_room(alloc, counts, arg, *s)? else {
+                return Ok(None);
+            };
+            let sum = mix(alloc, counts, parts, *s, *r, *r * *s)?;
+            Ok(sum)
+        }
+        Index::ThomasOut(r, s) => {
+            let sum = remainders(alloc, counts, *r, *s, arg)?;
+            Ok(sum)
+        }
+        Index::ThomasBack(r, s, e, g) => {
+            let Some(parts) = divide_in_room(alloc, counts, arg, *s)? else {
+                return Ok(None);
+            };
+            let sum = mix(alloc, counts, parts, *e, *g, *r * *s)?;
+            Ok(sum)
+        }
+        Index::Explicit(_) => unreachable!(),
+        Index::Tensor(f, c, g, d) => {
+            let Some(Parts { quot, rem }) = divide_in_room(alloc, counts, arg, *d)? else {
+                return Ok(None);
+            };
+            let Some(left) = simplify_in_room(alloc, f, &quot, counts)? else {
+                return Ok(None);
+            };
+            let Some(right) = simplify_in_room(alloc, g, &rem, counts)? else {
+                return Ok(None);
+            };
+            let Some(left) = scale_in_room(alloc, counts, *c, left)? else {
+                return Ok(None);
+            };
+            let sum = join_in_room(alloc, counts, left, right)?;
+            Ok(sum)
+        }
+        Index::Composed(f, g) => {
+            let Some(inner) = simplify_in_room(alloc, g, arg, counts)? else {
+                return Ok(None);
+            };
+            let sum = simplify_in_room(alloc, f, &inner, counts)?;
+            Ok(sum)
+        }
+    }
+}
+
+// `r` times the remainder by `s`, and the quotient.
+#[tactic(auto, using(perm_algebra::proofs::PartLaws::turned_below))]
+fn turn(
+    alloc: Global,
+    counts: &[u64],
+    r: u64,
+    s: u64,
+    arg: &Affine,
+) -> Result<Option<Affine>, NoMemory>
+    requires formed { IsWellFormed (Strided r s) }
+    requires affine { IsAffine (length counts.now) (slice_index counts.now) (plain_sum arg.now) }
+    requires fits { Stays (slice_index counts.now) (value (plain_sum arg.now)) }
+    requires defined { (vs : ℕ → ℕ) → InRange (slice_index counts.now) vs → value (plain_sum arg.now) vs < r * s }
+    ensures some { IfOk result (λ made. (sum : Affine) → made ≡ Some sum → plain_sum sum ≡ simplified (slice_index counts.now) (Strided r s) (plain_sum arg.now)) }
+    ensures room { IfOk result (λ made. (sum : Affine) → made ≡ Some sum → has_room (slice_index counts.now) (Strided r s) (plain_sum arg.now) ≡ true) }
+    ensures none { IfOk result (λ made. made ≡ None → has_room (slice_index counts.now) (Strided r s) (plain_sum arg.now) ≡ false) }
+    ensures value { IfOk result (λ made. (sum : Affine) → made ≡ Some sum → Agree (slice_index counts.now) (value (plain_sum sum)) (λ vs. at (Strided r s) (value (plain_sum arg.now) vs))) }
+    ensures affine { IfOk result (λ made. (sum : Affine) → made ≡ Some sum → IsAffine (length counts.now) (slice_index counts.now) (plain_sum sum)) }
+    ensures fits { IfOk result (λ made. (sum : Affine) → made ≡ Some sum → Stays (slice_index counts.now) (value (plain_sum sum))) }
+{
+    let Some(Parts { quot, rem }) = divide_in_room(alloc, counts, arg, s)? else {
+        return Ok(None);
+    };
+    let Some(rem) = scale_in_room(alloc, counts, r, rem)? else {
+        return Ok(None);
+    };
+    let sum = join_in_room(alloc, counts, rem, quot)?;
+    Ok(sum)
+}
+
+// The remainder by `r`, times `s`, and the remainder by `s`.
+fn remainders(
+    alloc: Global,
+    counts: &[u64],
+    r: u64,
+    s: u64,
+    arg: &Affine,
+) -> Result<Option<Affine>, NoMemory>
+    requires formed { IsWellFormed (ThomasOut r s) }
+    requires affine { IsAffine (length counts.now) (slice_index counts.now) (plain_sum arg.now) }
+    requires fits { Stays (slice_index counts.now) (value (plain_sum arg.now)) }
+    requires defined { (vs : ℕ → ℕ) → InRange (slice_index counts.now) vs → value (plain_sum arg.now) vs < r * s }
+    ensures some { IfOk result (λ made. (sum : Affine) → made ≡ Some sum → plain_sum sum ≡ simplified (slice_index counts.now) (ThomasOut r s) (plain_sum arg.now)) }
+    ensures room { IfOk result (λ made. (sum : Affine) → made ≡ Some sum → has_room (slice_index counts.now) (ThomasOut r s) (plain_sum arg.now) ≡ true) }
+    ensures none { IfOk result (λ made. made ≡ None → has_room (slice_index counts.now) (ThomasOut r s) (plain_sum arg.now) ≡ false) }
+    ensures value { IfOk result (λ made. (sum : Affine) → made ≡ Some sum → Agree (slice_index counts.now) (value (plain_sum sum)) (λ vs. at (ThomasOut r s) (value (plain_sum arg.now) vs))) }
+    ensures affine { IfOk result (λ made. (sum : Affine) → made ≡ Some sum → IsAffine (length counts.now) (slice_index counts.now) (plain_sum sum)) }
+    ensures fits { IfOk result (λ made. (sum : Affine) → made ≡ Some sum → Stays (slice_index counts.now) (value (plain_sum sum))) }
+{
+    let Some(Parts { quot: _, rem }) = divide_in_room(alloc, counts, arg, r)? else {
+        return Ok(None);
+    };
+    let Some(Parts { quot: _, rem: last }) = divide_in_room(alloc, counts, arg, s)? else {
+        return Ok(None);
+    };
+    let Some(first) = scale_in_room(alloc, counts, s, rem)? else {
+        return Ok(None);
+    };
+    let sum = join_in_room(alloc, counts, first, last)?;
+    Ok(sum)
+}
+
+// `a` times the quotient and `b` times the remainder, modulo `n`.
+fn mix(
+    alloc: Global,
+    counts: &[u64],
+    parts: Parts,
+    a: u64,
+    b: u64,
+    n: u64,
+) -> Result<Option<Affine>, NoMemory>
+    requires divisor { 0 < n }
+    requires quot { IsAffine (length counts.now) (slice_index counts.now) (plain_sum parts.quot) }
+    requires rem { IsAffine (length counts.now) (slice_index counts.now) (plain_sum parts.rem) }
+    requires fits { Stays (slice_index counts.now) (λ vs. a * value (plain_sum parts.quot) vs + b * value (plain_sum parts.rem) vs) }
+    ensures some { IfOk result (λ r. (sum : Affine) → r ≡ Some sum → plain_sum sum ≡ reduced (slice_index counts.now) n (joined (scaled a (plain_sum parts.quot)) (scaled b (plain_sum parts.rem)))) }
+    ensures room { IfOk result (λ r. (sum : Affine) → r ≡ Some sum → can_mix (slice_index counts.now) n a b (plain_sum parts.quot) (plain_sum parts.rem) ≡ true) }
+    ensures none { IfOk result (λ r. r ≡ None → can_mix (slice_index counts.now) n a b (plain_sum parts.quot) (plain_sum parts.rem) ≡ false) }
+    ensures value { IfOk result (λ r. (sum : Affine) → r ≡ Some sum → Agree (slice_index counts.now) (value (plain_sum sum)) (λ vs. (a * value (plain_sum parts.quot) vs + b * value (plain_sum parts.rem) vs) % n)) }
+    ensures affine { IfOk result (λ r. (sum : Affine) → r ≡ Some sum → IsAffine (length counts.now) (slice_index counts.now) (plain_sum sum)) }
+{
+    let Parts { quot, rem } = parts;
+    let Some(quot) = scale_in_room(alloc, counts, a, quot)? else {
+        return Ok(None);
+    };
+    let Some(rem) = scale_in_room(alloc, counts, b, rem)? else {
+        return Ok(None);
+    };
+    let Some(both) = join_in_room(alloc, counts, quot, rem)? else {
+        return Ok(None);
+    };
+    let sum = reduce_in_room(alloc, counts, n, &both)?;
+    Ok(sum)
+}
+
+// The quotient and the remainder by `s`, if the bounds on what `s` does not divide fit.
+fn divide_in_room(
+    alloc: Global,
+    counts: &[u64],
+    sum: &Affine,
+    s: u64,
+) -> Result<Option<Parts>, NoMemory>
+    requires divisor { 0 < s }
+    requires affine { IsAffine (length counts.now) (slice_index counts.now) (plain_sum sum.now) }
+    requires fits { Stays (slice_index counts.now) (value (plain_sum sum.now)) }
+    ensures quot { IfOk result (λ r. (p : Parts) → r ≡ Some p → Agree (slice_index counts.now) (value (plain_sum p.quot)) (λ vs. value (plain_sum sum.now) vs / s)) }
+    ensures rem { IfOk result (λ r. (p : Parts) → r ≡ Some p → Agree (slice_index counts.now) (value (plain_sum p.rem)) (λ vs. value (plain_sum sum.now) vs % s)) }
+    ensures quot_affine { IfOk result (λ r. (p : Parts) → r ≡ Some p → IsAffine (length counts.now) (slice_index counts.now) (plain_sum p.quot)) }
+    ensures rem_affine { IfOk result (λ r. (p : Parts) → r ≡ Some p → IsAffine (length counts.now) (slice_index counts.now) (plain_sum p.rem)) }
+    ensures quot_form { IfOk result (λ r. (p : Parts) → r ≡ Some p → plain_sum p.quot ≡ (divided (slice_index counts.now) s (plain_sum sum.now)).quot) }
+    ensures rem_form { IfOk result (λ r. (p : Parts) → r ≡ Some p → plain_sum p.rem ≡ (divided (slice_index counts.now) s (plain_sum sum.now)).rem) }
+    ensures room { IfOk result (λ r. (p : Parts) → r ≡ Some p → can_divide (slice_index counts.now) s (plain_sum sum.now) ≡ true) }
+    ensures none { IfOk result (λ r. r ≡ None → can_divide (slice_index counts.now) s (plain_sum sum.now) ≡ false) }
+{
+    let rest = others(alloc, s, sum)?;
+    match top_of(counts, &rest) {
+        None => Ok(None),
+        Some(_) => {
+            let parts = divide(alloc, counts, sum, s)?;
+            Ok(Some(parts))
+        }
+    }
+}
+
+// The sum modulo `n`, if its bounds fit.
+fn reduce_in_room(
+    alloc: Global,
+    counts: &[u64],
+    n: u64,
+    sum: &Affine,
+) -> Result<Option<Affine>, NoMemory>
+    requires divisor { 0 < n }
+    requires affine { IsAffine (length counts.now) (slice_index counts.now) (plain_sum sum.now) }
+    requires fits { Stays (slice_index counts.now) (value (plain_sum sum.now)) }
+    ensures some { IfOk result (λ r. (a : Affine) → r ≡ Some a → plain_sum a ≡ reduced (slice_index counts.now) n (plain_sum sum.now)) }
+    ensures room { IfOk result (λ r. (a : Affine) → r ≡ Some a → has_top (slice_index counts.now) (mods n (plain_sum sum.now)) ≡ true) }
+    ensures none { IfOk result (λ r. r ≡ None → has_top (slice_index counts.now) (mods n (plain_sum sum.now)) ≡ false) }
+    ensures value { IfOk result (λ r. (a : Affine) → r ≡ Some a → Agree (slice_index counts.now) (value (plain_sum a)) (λ vs. value (plain_sum sum.now) vs % n)) }
+    ensures affine { IfOk result (λ r. (a : Affine) → r ≡ Some a → IsAffine (length counts.now) (slice_index counts.now) (plain_sum a)) }
+{
+    let small = residues(alloc, n, sum)?;
+    match top_of(counts, &small) {
+        None => Ok(None),
+        Some(_) => {
+            let sum = reduce(alloc, counts, n, sum)?;
+            Ok(Some(sum))
+        }
+    }
+}
+
+// `k` times the sum, if each factor fits.
+fn scale_in_room(
+    alloc: Global,
+    counts: &[u64],
+    k: u64,
+    sum: Affine,
+) -> Result<Option<Affine>, NoMemory>
+    requires affine { IsAffine (length counts.now) (slice_index counts.now) (plain_sum sum) }
+    requires fits { Stays (slice_index counts.now) (λ vs. k * value (plain_sum sum) vs) }
+    ensures some { IfOk result (λ r. (a : Affine) → r ≡ Some a → plain_sum a ≡ scaled k (plain_sum sum)) }
+    ensures room { IfOk result (λ r. (a : Affine) → r ≡ Some a → can_scale k (plain_sum sum) ≡ true) }
+    ensures none { IfOk result (λ r. r ≡ None → can_scale k (plain_sum sum) ≡ false) }
+    ensures value { IfOk result (λ r. (a : Affine) → r ≡ Some a → Agree (slice_index counts.now) (value (plain_sum a)) (λ vs. k * value (plain_sum sum) vs)) }
+    ensures affine { IfOk result (λ r. (a : Affine) → r ≡ Some a → IsAffine (length counts.now) (slice_index counts.now) (plain_sum a)) }
+{
+    if k.checked_mul(greatest_factor(&sum)).is_none() {
+        return Ok(None);
+    }
+    let multiple = scale_sum(alloc, counts, k, sum)?;
+    Ok(Some(multiple))
+}
+
+// The sum of two sums, if its constant fits.
+fn join_in_room(
+    alloc: Global,
+    counts: &[u64],
+    a: Affine,
+    b: Affine,
+) -> Result<Option<Affine>, NoMemory>
+    requires affine { IsAffine (length counts.now) (slice_index counts.now) (plain_sum a) }
+    requires affine_too { IsAffine (length counts.now) (slice_index counts.now) (plain_sum b) }
+    requires fits { Stays (slice_index counts.now) (λ vs. value (plain_sum a) vs + value (plain_sum b) vs) }
+    ensures some { IfOk result (λ r. (c : Affine) → r ≡ Some c → plain_sum c ≡ joined (plain_sum a) (plain_sum b)) }
+    ensures room { IfOk result (λ r. (c : Affine) → r ≡ Some c → can_join (plain_sum a) (plain_sum b) ≡ true) }
+    ensures none { IfOk result (λ r. r ≡ None → can_join (plain_sum a) (plain_sum b) ≡ false) }
+    ensures value { IfOk result (λ r. (c : Affine) → r ≡ Some c → Agree (slice_index counts.now) (value (plain_sum c)) (λ vs. value (plain_sum a) vs + value (plain_sum b) vs)) }
+    ensures affine { IfOk result (λ r. (c : Affine) → r ≡ Some c → IsAffine (length counts.now) (slice_index counts.now) (plain_sum c)) }
+{
+    if constant_of(&a).checked_add(constant_of(&b)).is_none() {
+        return Ok(None);
+    }
+    let sum = join(alloc, counts, a, b)?;
+    Ok(Some(sum))
+}
+
+fn constant_of(sum: &Affine) -> u64
+    ensures { result ≡ constant_of (plain_sum sum.now) }
+{
+    match sum {
+        Affine::Constant(c) => *c,
+        Affine::Variable(_, _, rest)
+        | Affine::Remainder(_, _, _, rest)
+        | Affine::Quotient(_, _, _, rest) => constant_of(rest),
+    }
+}

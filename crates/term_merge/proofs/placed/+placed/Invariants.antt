@@ -1,0 +1,5 @@
+use Rattle.std.specs.Prelude.{length}
+use Rattle.term_merge.proofs.placed.+placed.Given as goal
+
+abbrev pub decreases-placed : goal.decreases-natural_place
+decreases-placed l = length l.path.now

@@ -1,0 +1,26 @@
+-- Where a place under tensors can be made with words of 64 bits.
+use Rattle.std.specs.Prelude.{ℕ, ◌+◌, ◌^◌, ◌<◌, List, [], ◌∷◌, length, slice_index}
+use Rattle.perm_algebra.specs.Affine.{Sum, constant, variable, value, scaled}
+use Rattle.perm_algebra.specs.Fits.{IsAffine, Stays}
+use Rattle.perm_algebra.specs.Room.{CanScale, CanJoin}
+use Rattle.passes.specs.Merge.{place_sum}
+use Rattle.sigma_spl.specs.Room.{HasRoom}
+use Rattle.tensor_paths.specs.declared.Tensor.TheVariants.{Blocks, Columns}
+use Rattle.tensor_paths.specs.Path.{Path, size_under}
+
+-- with m counts, every number on the way to a place of the path fits
+abbrev pub CanName : ℕ → (ℕ → ℕ) → Path → ℕ → ℕ → Sum → Type 0
+CanName m cs [] n d e = Unit {0}
+CanName m cs (Blocks c ∷ path) n d e =
+    (d + 1 < 2 ^ 64) × (d < m) × HasRoom path n × CanName m cs path n (d + 1) e
+    × IsAffine m cs (place_sum path n (d + 1) e) × Stays cs (value (place_sum (Blocks c ∷ path) n d e))
+    × CanScale (size_under path n) (variable 1 d (constant 0)) × CanJoin (scaled (size_under path n) (variable 1 d (constant 0))) (place_sum path n (d + 1) e)
+CanName m cs (Columns c ∷ path) n d e =
+    (d + 1 < 2 ^ 64) × (d < m) × HasRoom path n × CanName m cs path n (d + 1) e
+    × IsAffine m cs (place_sum path n (d + 1) e) × Stays cs (value (place_sum (Columns c ∷ path) n d e))
+    × CanScale c (place_sum path n (d + 1) e) × CanJoin (scaled c (place_sum path n (d + 1) e)) (variable 1 d (constant 0))
+
+-- the same of each item, by all variables
+abbrev pub AllNamed : List ℕ → Path → ℕ → List Sum → Type 0
+AllNamed counts path n [] = Unit {0}
+AllNamed counts path n (e ∷ es) = CanName (length counts) (slice_index counts) path n 0 e × AllNamed counts path n es

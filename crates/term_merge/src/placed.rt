@@ -1,0 +1,110 @@
+// Places of items under tensors, as sums of the loops' variables.
+ghost use Rattle.std.specs.Prelude.{◌≡◌, ◌+◌, ◌*◌, ◌^◌, ◌<◌, ◌++◌, ◌∷◌, [], IfOk, All, length, map, slice_index};
+ghost use Rattle.passes.specs.Merge.{place_sum, renumbered};
+ghost use Rattle.perm_algebra.specs.Room.{HasCounts};
+ghost use Rattle.perm_algebra.specs.Views.{plain_sum};
+ghost use Rattle.tensor_paths.specs.Path.{count_of};
+ghost use Rattle.term_merge.specs.Placed.{CanName};
+
+use memory::NoMemory;
+use perm_algebra::{Affine, copy, join, scale_sum};
+use sigma_spl::size_of_whole;
+use std::alloc::Global;
+use tensor_paths::Tensor;
+
+/// How often the loop of each tensor runs.
+pub(crate) fn counts(alloc: Global, path: &[Tensor]) -> Result<Vec<u64>, NoMemory>
+    ensures { IfOk result (λ counts. counts.items ≡ map count_of path.now) }
+{
+    let mut counts = Vec::new(alloc);
+    for tensor in path {
+        counts.push(tensor.count())?;
+    }
+    Ok(counts)
+}
+
+/// The list, and the number twice.
+pub(crate) fn with_two(alloc: Global, list: &[u64], number: u64) -> Result<Vec<u64>, NoMemory>
+    ensures { IfOk result (λ longer. longer.items ≡ list.now ++ number ∷ number ∷ []) }
+{
+    let mut longer = list.to_vec(alloc)?;
+    longer.push(number)?;
+    longer.push(number)?;
+    Ok(longer)
+}
+
+/// The place of each item in the copy that the variables of the path name.
+pub(crate) fn all_placed(
+    alloc: Global,
+    counts: &[u64],
+    path: &[Tensor],
+    size: u64,
+    items: &[Affine],
+) -> Result<Vec<Affine>, NoMemory>
+    requires { All (λ e. CanName (length counts.now) (slice_index counts.now) path.now size 0 (plain_sum e)) items.now }
+    ensures { IfOk result (λ places. map plain_sum places.items ≡ map (place_sum path.now size 0) (map plain_sum items.now)) }
+{
+    let mut places = Vec::new(alloc);
+    for item in items {
+        let one = placed(alloc, counts, path, size, 0, copy(alloc, item)?)?;
+        places.push(one)?;
+    }
+    Ok(places)
+}
+
+/// The place of an item in the copy that the variables from this one on name.
+pub(crate) fn placed(
+    alloc: Global,
+    counts: &[u64],
+    path: &[Tensor],
+    size: u64,
+    variable: u64,
+    item: Affine,
+) -> Result<Affine, NoMemory>
+    requires { CanName (length counts.now) (slice_index counts.now) path.now size variable (plain_sum item) }
+    ensures { IfOk result (λ place. plain_sum place ≡ place_sum path.now size variable (plain_sum item)) }
+{
+    match path.split_first() {
+        None => Ok(item),
+        Some((tensor, rest)) => {
+            let inner = placed(alloc, counts, rest, size, variable + 1, item)?;
+            let end = Box::new(alloc, Affine::Constant(0))?;
+            let copies = Affine::Variable(1, variable, end);
+            match tensor {
+                Tensor::Blocks(_) => {
+                    let whole = size_of_whole(rest, size);
+                    let begin = scale_sum(alloc, counts, whole, copies)?;
+                    join(alloc, counts, begin, inner)
+                }
+                Tensor::Columns(count) => {
+                    let begin = scale_sum(alloc, counts, *count, inner)?;
+                    join(alloc, counts, begin, copies)
+                }
+            }
+        }
+    }
+}
+
+/// The sum with higher numbers for its variables.
+pub(crate) fn renumbered(alloc: Global, by: u64, sum: &Affine) -> Result<Affine, NoMemory>
+    requires { HasCounts (2 ^ 64 - by) (plain_sum sum.now) }
+    ensures { IfOk result (λ e. plain_sum e ≡ renumbered by (plain_sum sum.now)) }
+{
+    match sum {
+        Affine::Constant(c) => Ok(Affine::Constant(*c)),
+        Affine::Variable(factor, variable, rest) => {
+            let rest = Box::new(alloc, renumbered(alloc, by, rest)?)?;
+            Ok(Affine::Variable(*factor, *variable + by, rest))
+        }
+        Affine::Remainder(factor, of, divisor, rest) => {
+            let of = Box::new(alloc, renumbered(alloc, by, of)?)?;
+            let rest = Box::new(alloc, renumbered(alloc, by, rest)?)?;
+            Ok(Affine::Remainder(*factor, of, *divisor, rest))
+        }
+        Affine::Quotient(factor, of, divisor, rest) => {
+            let of = Box::new(alloc, renumbered(alloc, by, of)?)?;
+            let rest = Box::new(alloc, renumbered(alloc, by, rest)?)?;
+            Ok(Affine::Quotient(*factor, of, *divisor, rest))
+        }
+    }
+}
