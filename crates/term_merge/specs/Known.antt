@@ -4,7 +4,6 @@ use Rattle.index_fn.specs.Mapping.{Mapping, ThomasIn, ThomasOut, Paired, After, 
 use Rattle.perm_algebra.specs.Affine.{Sum}
 use Rattle.perm_algebra.specs.Room.{IsReady}
 use Rattle.passes.specs.Good.{IsMove, AreGoodPasses}
-use Rattle.passes.specs.Limits.{AreWithin}
 use Rattle.passes.specs.Merge.{Merging, back_of, is_within}
 use Rattle.passes.specs.Nest.{PlainMultiplier, PlainNest}
 use Rattle.passes.specs.Term.{PlainTerm, gath, scat, nest, product, beside}
@@ -68,6 +67,10 @@ pub record IsKnownPass (room n : ℕ) (zs : List PlainNest) : Type 0 where
   pub within : is_within room n zs ≡ true
   pub ready : IsReadyPass zs
 
+abbrev pub AreKnownPasses : ℕ → ℕ → List (List PlainNest) → Type 0
+AreKnownPasses room n [] = Unit {0}
+AreKnownPasses room n (zs ∷ ps) = IsKnownPass room n zs × AreKnownPasses room n ps
+
 -- ---- states
 
 -- lists of n words under so many tensors that this room is left of 64
@@ -79,8 +82,7 @@ pub record HasRoom (room n : ℕ) : Type 0 where
 pub record IsKnown (room n : ℕ) (st : Merging) : Type 0 where
   pub waiting : AreSteps n st.waiting
   pub good : AreGoodPasses 0 1 n st.passes
-  pub within : AreWithin room n st.passes
-  pub ready : AreReadyPasses st.passes
+  pub passes : AreKnownPasses room n st.passes
 
 -- ---- terms
 

@@ -2,3 +2,4 @@ pub mod Views
 pub mod Known
 pub mod Placed
 pub mod Lifted
+pub mod Tests
