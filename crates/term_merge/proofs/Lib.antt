@@ -10,3 +10,4 @@ pub mod Carries
 pub mod Sided
 pub mod States
 pub mod Merged
+pub mod Depths

@@ -94,6 +94,9 @@ known-sides room n path k l ps qs h several inner size p q =
 
 -- ---- terms
 
+none-kept : (room n : ℕ) → Kept room n nothing
+none-kept room n = record { waiting = tt; passes = tt }
+
 kept : (room n : ℕ) (st : Merging) (t : PlainTerm) → HasRoom room n → IsGoodTerm 0 n t → HasSeveral t → AreWords n t → Kept room n st → Kept room n (merged (most room) n st t)
 kept room n st same h good several words k = k
 kept room n st (gath f) h good several words k = record { waiting = (record { moves = good; numbers = words }, k.waiting); passes = k.passes }
@@ -107,9 +110,8 @@ kept room n st (product a b) h good several words k = kept room n (merged (most 
 kept room n st (beside path k a l b) h good several words is =
     let inner = inner-room room n path k l h several.0 good.0 good.1 good.2 in
     let r = room - length path in
-    let none = λ (m : ℕ). (record { waiting = tt; passes = tt } : Kept r m nothing) in
-    let first = kept r k nothing a inner.left good.3 several.1 words.0 (none k) in
-    let second = kept r l nothing b inner.right good.4 several.2 words.1 (none l) in
+    let first = kept r k nothing a inner.left good.3 several.1 words.0 (none-kept r k) in
+    let second = kept r l nothing b inner.right good.4 several.2 words.1 (none-kept r l) in
     let ps = ended (most r) k (from_end (merged (most r) k nothing a).waiting) (merged (most r) k nothing a).passes in
     let qs = ended (most r) l (from_end (merged (most r) l nothing b).waiting) (merged (most r) l nothing b).passes in
     let both = known-sides room n path k l ps qs h several.0 inner good.2
@@ -131,11 +133,15 @@ pub known-last : (room n : ℕ) (A : Type 0) (view : A → List PlainNest) (qs :
 known-last room n A view [] q h = h.0
 known-last room n A view (p ∷ qs) q h = known-last room n A view qs q h.1
 
+-- a state of merging from its fields
+abbrev pub state_of : List Mapping → List (List PlainNest) → Merging
+state_of waiting passes = record { waiting = waiting; passes = passes }
+
 pub passes-last : (room n : ℕ) (st : Merging) (A : Type 0) (view : A → List PlainNest) (qs : List A) (q : A) →
     with_passes (most room) n st (map view (qs ++ q ∷ [])) ≡ record { waiting = []; passes = map view qs ++ (with_pass (most room) n st (view q)).passes }
 passes-last room n st A view [] q = refl
 passes-last room n st A view (p ∷ []) q = refl
-passes-last room n st A view (p ∷ r ∷ qs) q = ap (λ (b : Merging). (record { waiting = []; passes = view p ∷ b.passes } : Merging)) (passes-last room n st A view (r ∷ qs) q)
+passes-last room n st A view (p ∷ r ∷ qs) q = ap (λ (b : Merging). state_of [] (view p ∷ b.passes)) (passes-last room n st A view (r ∷ qs) q)
 
 -- ---- the parts of a direct sum
 

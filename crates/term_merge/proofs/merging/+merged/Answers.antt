@@ -1,12 +1,27 @@
-use Rattle.std.proofs.Common.{rules, ◌≡◌, sym, ap, ap₂, ◌∙◌, subst, arith, length, ◌-◌}
+use Rattle.std.proofs.Common.{rules, ◌≡◌, sym, ap, ap₂, ◌∙◌, subst, arith, length, ◌-◌, ◌+◌}
 use Rattle.passes.specs.Good.{IsGoodTerm}
 use Rattle.passes.specs.Limits.{HasSeveral}
 use Rattle.passes.specs.Merge.{sides}
 use Rattle.passes.specs.Views.{plain_term}
 use Rattle.term_merge.specs.Known.{AreWords, IsKnown}
 use Rattle.term_merge.specs.Views.{plain_merging, plain_passes}
+use Rattle.term_merge.proofs.Depths.{term_depth}
 use Rattle.term_merge.proofs.Merged.{merged-known, nothing-known, rooms, few-tensors, part-known, part-ended, known-both, within-of, ready-of}
 use Rattle.term_merge.proofs.merging.+merged.Goals as goal
+
+pub merged-requires : goal.merged-requires
+merged-requires t c =
+    let room = c.args.limits.room in
+    let n = c.args.limits.size in
+    let good = subst (λ x. IsGoodTerm 0 n (plain_term x)) c.in-Product.is c.requires.good in
+    let several = subst (λ x. HasSeveral (plain_term x)) c.in-Product.is c.requires.several in
+    let words = subst (λ x. AreWords n (plain_term x)) c.in-Product.is c.requires.words in
+    let whole : term_depth (plain_term c.args.term) ≡ 1 + (term_depth (plain_term c.in-Product.a.value) + term_depth (plain_term c.in-Product.b.value)) = ap (λ x. term_depth (plain_term x)) c.in-Product.is in
+    let a = sym c.into_inner.ensures in
+    let good_first = subst (λ x. IsGoodTerm 0 n (plain_term x)) a good.0 in
+    let several_first = subst (λ x. HasSeveral (plain_term x)) a several.0 in
+    let words_first = subst (λ x. AreWords n (plain_term x)) a words.0 in
+    (omega (arith, c.decreases, whole, ap (λ x. term_depth (plain_term x)) c.into_inner.ensures), (c.requires.room, (c.requires.known, (good_first, (several_first, words_first)))))
 
 pub merged-requires-in-Product : goal.merged-requires-in-Product
 merged-requires-in-Product t c =
@@ -15,12 +30,14 @@ merged-requires-in-Product t c =
     let good = subst (λ x. IsGoodTerm 0 n (plain_term x)) c.in-Product.is c.requires.good in
     let several = subst (λ x. HasSeveral (plain_term x)) c.in-Product.is c.requires.several in
     let words = subst (λ x. AreWords n (plain_term x)) c.in-Product.is c.requires.words in
+    let whole : term_depth (plain_term c.args.term) ≡ 1 + (term_depth (plain_term c.in-Product.a.value) + term_depth (plain_term c.in-Product.b.value)) = ap (λ x. term_depth (plain_term x)) c.in-Product.is in
     let a = sym c.into_inner.ensures in
+    let good_first = subst (λ x. IsGoodTerm 0 n (plain_term x)) a good.0 in
+    let several_first = subst (λ x. HasSeveral (plain_term x)) a several.0 in
+    let words_first = subst (λ x. AreWords n (plain_term x)) a words.0 in
     let b = sym c.into_inner-in-Product.ensures in
-    let known =
-    merged-known room n (plain_merging c.args.state) (plain_term c.into_inner.result) c.requires.room (subst (λ x. IsGoodTerm 0 n (plain_term x)) a good.0) (subst (λ x. HasSeveral (plain_term x)) a several.0)
-    (subst (λ x. AreWords n (plain_term x)) a words.0) c.requires.known in (
-      search rules,
+    let known = merged-known room n (plain_merging c.args.state) (plain_term c.into_inner.result) c.requires.room good_first several_first words_first c.requires.known in (
+      omega (arith, c.decreases, whole, ap (λ x. term_depth (plain_term x)) c.into_inner-in-Product.ensures),
       (
         c.requires.room,
         (
@@ -60,7 +77,8 @@ merged-requires-in-Beside t c =
     let good_first = subst (λ x. IsGoodTerm 0 k (plain_term x)) first good.3 in
     let several_first = subst (λ x. HasSeveral (plain_term x)) first several.1 in
     let words_first = subst (λ x. AreWords k (plain_term x)) first words.0 in
-    (search rules, (rooms.0, (subst (IsKnown r k) (sym c.nothing.ensures) (nothing-known r k), (good_first, (several_first, words_first)))))
+    let whole : term_depth (plain_term c.args.term) ≡ 1 + (term_depth (plain_term c.in-Beside.first.value) + term_depth (plain_term c.in-Beside.second.value)) = ap (λ x. term_depth (plain_term x)) c.in-Beside.is in
+    (omega (arith, c.decreases, whole, ap (λ x. term_depth (plain_term x)) c.into_inner-in-Beside.ensures), (rooms.0, (subst (IsKnown r k) (sym c.nothing.ensures) (nothing-known r k), (good_first, (several_first, words_first)))))
 
 pub finished-requires-clause-room : goal.finished-requires-clause-room
 finished-requires-clause-room t c =
@@ -114,7 +132,8 @@ merged-requires-in-Beside-2 t c =
     let good_second = subst (λ x. IsGoodTerm 0 l (plain_term x)) second good.4 in
     let several_second = subst (λ x. HasSeveral (plain_term x)) second several.2 in
     let words_second = subst (λ x. AreWords l (plain_term x)) second words.1 in
-    (search rules, (rooms.1, (subst (IsKnown r l) (sym c.nothing-in-Beside.ensures) (nothing-known r l), (good_second, (several_second, words_second)))))
+    let whole : term_depth (plain_term c.args.term) ≡ 1 + (term_depth (plain_term c.in-Beside.first.value) + term_depth (plain_term c.in-Beside.second.value)) = ap (λ x. term_depth (plain_term x)) c.in-Beside.is in
+    (omega (arith, c.decreases, whole, ap (λ x. term_depth (plain_term x)) c.into_inner-in-Beside-2.ensures), (rooms.1, (subst (IsKnown r l) (sym c.nothing-in-Beside.ensures) (nothing-known r l), (good_second, (several_second, words_second)))))
 
 pub finished-requires-in-Beside-clause-room : goal.finished-requires-in-Beside-clause-room
 finished-requires-in-Beside-clause-room t c =
