@@ -195,11 +195,11 @@ scatter-same m n f x p v =
       taken : (a b x : ℕ) → a ≡ b → (if a == b then x else 0) ≡ x
       taken a b x e = grind (arith, nat_tests)
 
-left_positive : (a b : ℕ) → 0 < a * b → 0 < a
+pub left_positive : (a b : ℕ) → 0 < a * b → 0 < a
 left_positive zero b h = absurd (let none : 0 * b ≡ 0 = zero-mul b in omega arith)
 left_positive (suc a) b h = omega arith
 
-right_positive : (a b : ℕ) → 0 < a * b → 0 < b
+pub right_positive : (a b : ℕ) → 0 < a * b → 0 < b
 right_positive a b h = elim (eq-zero-or-pos b) [ inl none ↦ absurd (let gone : a * b ≡ 0 = ap (λ x. a * x) none ∙ mul-zero a in omega arith) | inr positive ↦ positive ]
 
 pub inner_positive : (path : Path) (n : ℕ) → 0 < size_under path n → 0 < n

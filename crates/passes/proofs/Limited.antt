@@ -33,7 +33,7 @@ le-true a b h = grind (arith, nat_tests)
 lt-true : (a b : ℕ) → nat_lt a b ≡ true → a < b
 lt-true a b h = grind (arith, nat_tests)
 
-tested : (room n : ℕ) (cs : ℕ → ℕ) (e : Sum) → is_limited room n cs e ≡ true → IsSmall room n cs e
+pub tested : (room n : ℕ) (cs : ℕ → ℕ) (e : Sum) → is_limited room n cs e ≡ true → IsSmall room n cs e
 tested room n cs e h =
     let first = nat_le (parts e) room && nat_le (levels e) 64 in
     let bounds = nat_lt (top e cs) n && nat_lt (peak e) n in
@@ -54,10 +54,10 @@ roomier room more n cs e h s = record { parts = omega (arith, h, s.parts); level
 -- ---- tensors that fit
 
 -- so many tensors stand round n words, in an array of at most 2 ^ 20
-abbrev IsRound : ℕ → ℕ → Type 0
+abbrev pub IsRound : ℕ → ℕ → Type 0
 IsRound u n = n * 2 ^ u ≤ 2 ^ 20
 
-few-round : (u n : ℕ) → 0 < n → IsRound u n → u ≤ 20
+pub few-round : (u n : ℕ) → 0 < n → IsRound u n → u ≤ 20
 few-round u n some h =
     elim (cases_lt 20 u) [
       | inl many ↦
@@ -66,7 +66,7 @@ few-round u n some h =
       | inr few ↦ few
     ]
 
-round-word : (u n : ℕ) → IsRound u n → n ≤ 2 ^ 20
+pub round-word : (u n : ℕ) → IsRound u n → n ≤ 2 ^ 20
 round-word u n h =
     let low : 2 ^ 0 ≤ 2 ^ u = pow_mono {i = 0} {j = u} (omega arith) in
     let one : 1 * n ≤ 2 ^ u * n = mul-le-mul_right n (omega (arith, low)) in
@@ -75,7 +75,7 @@ round-word u n h =
 double : (p n c : ℕ) → 2 ≤ c → n * (2 * p) ≤ c * n * p
 double p n c two = let more = mul-le-mul_right (n * p) two in let left : 2 * (n * p) ≡ n * (2 * p) = omega arith in let right : c * (n * p) ≡ c * n * p = omega arith in omega (arith, more, left, right)
 
-round-inner : (path : Path) (u d : ℕ) → AreSeveral path → IsRound u (size_under path d) → IsRound (u + length path) d
+pub round-inner : (path : Path) (u d : ℕ) → AreSeveral path → IsRound u (size_under path d) → IsRound (u + length path) d
 round-inner [] u d several h = let e : u ≡ u + 0 = omega arith in subst (λ z. IsRound z d) e h
 round-inner (Blocks c ∷ path) u d several h =
     let n = size_under path d in
@@ -95,11 +95,11 @@ counts-first : (path : Path) (v : ℕ) (cs : ℕ → ℕ) (more : List ℕ) → 
 counts-first [] v cs more is = tt
 counts-first (t ∷ path) v cs more is = (ap cs (omega arith) ∙ is 0, counts-first path (v + 1) cs more (λ i. ap cs (omega arith) ∙ is (suc i)))
 
-at-row : (path : Path) (n : ℕ) → slice_index (map count_of path ++ n ∷ n ∷ []) (length path) ≡ n
+pub at-row : (path : Path) (n : ℕ) → slice_index (map count_of path ++ n ∷ n ∷ []) (length path) ≡ n
 at-row [] n = refl
 at-row (t ∷ path) n = at-row path n
 
-at-column : (path : Path) (n : ℕ) → slice_index (map count_of path ++ n ∷ n ∷ []) (suc (length path)) ≡ n
+pub at-column : (path : Path) (n : ℕ) → slice_index (map count_of path ++ n ∷ n ∷ []) (suc (length path)) ≡ n
 at-column [] n = refl
 at-column (t ∷ path) n = at-column path n
 
@@ -160,7 +160,7 @@ module _ (room : ℕ) (path : Path) (d : ℕ) (several : AreSeveral path) (some 
 both-within : (a b : Bool) → a ≡ true → b ≡ true → (((a && b) && true) && true) ≡ true
 both-within a b h k = both-true _ _ (both-true _ _ (both-true _ _ h k) refl) refl
 
-item-low : (path : Path) (d : ℕ) → AreSeveral path → 0 < d → size_under path d ≤ 2 ^ 20 → d ≤ 2 ^ 20
+pub item-low : (path : Path) (d : ℕ) → AreSeveral path → 0 < d → size_under path d ≤ 2 ^ 20 → d ≤ 2 ^ 20
 item-low path d several some high = round-word (0 + length path) d (round-inner path 0 d several (let e : size_under path d * 2 ^ 0 ≡ size_under path d = omega arith in omega (arith, e, high)))
 
 starts-below : (v : ℕ) (ks : List ℕ) → AreBelow v ks → AreBelow (v * v) (map (λ k. k * v) ks)
@@ -179,7 +179,7 @@ tile-limited room path v several some high short low =
     subst (λ es. list_all (is_limited room (size_under path (v * v)) (slice_index (map count_of path ++ v * v ∷ v * v ∷ []))) (map (place_sum path (v * v) 0) es) ≡ true) (starts-listed v (range_with_len 0 v))
     (constants-limited room path (v * v) several some high short (v * v) (map (λ k. k * v) (range_with_len 0 v)) (omega arith) low (starts-below v (range_with_len 0 v) (range-below v)))
 
-new-within : (room lanes : ℕ) (path : Path) (w : PlainWork) → CanNest lanes path w → HasRows w → AreSeveral path → 0 < work_size w → size_under path (work_size w) ≤ 2 ^ 20 → length path + 2 ≤ room →
+pub new-within : (room lanes : ℕ) (path : Path) (w : PlainWork) → CanNest lanes path w → HasRows w → AreSeveral path → 0 < work_size w → size_under path (work_size w) ≤ 2 ^ 20 → length path + 2 ≤ room →
     is_within room (size_under path (work_size w)) (new_nest path w (items_in w (length path)) ∷ []) ≡ true
 new-within room lanes path (kernel kind root t) can long several some high short =
     let d = work_size (kernel kind root t) in
@@ -202,14 +202,14 @@ new-within room lanes path (copy d) can long several some high short =
     let all = constants-limited room path d several some high short d (range_with_len 0 d) (omega arith) low (range-below d) in both-within _ _ all all
 
 -- copies that take listed items
-moved-within : (room : ℕ) (path : Path) (ks : List ℕ) → AreSeveral path → 0 < length ks → size_under path (length ks) ≤ 2 ^ 20 → length path + 2 ≤ room → AreBelow (length ks) ks →
+pub moved-within : (room : ℕ) (path : Path) (ks : List ℕ) → AreSeveral path → 0 < length ks → size_under path (length ks) ≤ 2 ^ 20 → length path + 2 ≤ room → AreBelow (length ks) ks →
     is_within room (size_under path (length ks)) (new_nest path (copy (length ks)) (map constant ks) ∷ []) ≡ true
 moved-within room path ks several some high short h =
     let d = length ks in
     let low = item-low path d several some high in
     both-within _ _ (constants-limited room path d several some high short d ks (omega arith) low h) (constants-limited room path d several some high short d (range_with_len 0 d) (omega arith) low (range-below d))
 
-table-within : (room n : ℕ) → 0 < n → n ≤ 2 ^ 20 → 2 ≤ room → TablesFit room n
+pub table-within : (room n : ℕ) → 0 < n → n ≤ 2 ^ 20 → 2 ≤ room → TablesFit room n
 table-within room n some high wide f stay =
     let ks = list_below n (at f) in
     let size : length ks ≡ n = length-list_below n (at f) in
@@ -217,7 +217,7 @@ table-within room n some high wide f stay =
     subst (λ z. is_within room z (new_nest [] (copy (length ks)) (map constant ks) ∷ []) ≡ true) size
     (moved-within room [] ks tt (omega (arith, size, some)) (omega (arith, size, high)) wide entries)
 
-several-one : (n : ℕ) → 0 < n → AreSeveral (one_loop n) × (length (one_loop n) ≤ 1) × (size_under (one_loop n) 1 ≡ n)
+pub several-one : (n : ℕ) → 0 < n → AreSeveral (one_loop n) × (length (one_loop n) ≤ 1) × (size_under (one_loop n) 1 ≡ n)
 several-one n some =
     elim (cases_eq n 1) [
       | inl one ↦ let is : one_loop n ≡ [] = grind (arith, nat_tests) in
@@ -226,7 +226,7 @@ several-one n some =
           (subst AreSeveral (sym is) (omega (arith, some, several), tt), omega (arith, ap length is), ap (λ p. size_under p 1) is ∙ omega arith)
     ]
 
-copying-within : (room n : ℕ) → 0 < n → n ≤ 2 ^ 20 → 3 ≤ room → is_within room n (copying n) ≡ true
+pub copying-within : (room n : ℕ) → 0 < n → n ≤ 2 ^ 20 → 3 ≤ room → is_within room n (copying n) ≡ true
 copying-within room n some high wide =
     let h = several-one n some in
     subst (λ z. is_within room z (copying n) ≡ true) h.2 (new-within room 0 (one_loop n) (copy 1) tt tt h.0 (omega arith) (omega (arith, h.2, high)) (omega (arith, h.1, wide)))
@@ -237,7 +237,7 @@ sums-id : (es : List Sum) → map (λ e. e) es ≡ es
 sums-id [] = refl
 sums-id (e ∷ es) = ap (λ z. e ∷ z) (sums-id es)
 
-spread-within : (room n : ℕ) (factors : PlainFactors) (zs : List PlainNest) → factor_count factors ≡ n → is_within room n zs ≡ true → is_within room n (multiplied factors [] zs) ≡ true
+pub spread-within : (room n : ℕ) (factors : PlainFactors) (zs : List PlainNest) → factor_count factors ≡ n → is_within room n zs ≡ true → is_within room n (multiplied factors [] zs) ≡ true
 spread-within room n factors [] count h = refl
 spread-within room n factors (z ∷ zs) count h =
     let cs = limits_of z in
@@ -249,16 +249,16 @@ spread-within room n factors (z ∷ zs) count h =
     (spread-within room n factors zs count (and-right (places && is_multiplier_within room cs z.multiplier) _ h))
 
 module _ (room n : ℕ) (some : 0 < n) (high : n ≤ 2 ^ 20) (wide : 3 ≤ room) where
-  tables : TablesFit room n
+  pub tables : TablesFit room n
   tables = table-within room n some high (omega arith)
 
-  copy-within : (st : Merging) (path : Path) (factors : PlainFactors) → size_under path (factor_count factors) ≡ n → AreInside' room n tables st.waiting → AreWithin room n st.passes → AreWithin room n (with_copy (most room) n st path factors).passes
+  pub copy-within : (st : Merging) (path : Path) (factors : PlainFactors) → size_under path (factor_count factors) ≡ n → AreInside' room n tables st.waiting → AreWithin room n st.passes → AreWithin room n (with_copy (most room) n st path factors).passes
   copy-within st path factors count stay before =
       chosen (λ (next : Merging). AreWithin room n next.passes) (can_multiply room n factors (factor_places st.waiting path factors) (copying n)) _ _
       (λ can. (within-multiplied room n factors (factor_places st.waiting path factors) (copying n) (copying-within room n some high wide) can, before))
       (spread-within room n (spread path factors) (copying n) count (copying-within room n some high wide), within-append room n (settled (most room) n st.waiting) st.passes (within-settled room n tables st.waiting stay) before)
 
-  diagonal-within : (waiting : List Mapping) (passes : List (List PlainNest)) (path : Path) (factors : PlainFactors) → size_under path (factor_count factors) ≡ n → AreInside' room n tables waiting → AreWithin room n passes →
+  pub diagonal-within : (waiting : List Mapping) (passes : List (List PlainNest)) (path : Path) (factors : PlainFactors) → size_under path (factor_count factors) ≡ n → AreInside' room n tables waiting → AreWithin room n passes →
       AreWithin room n (with_diagonal (most room) n waiting passes path factors).passes
   diagonal-within waiting [] path factors count stay before = copy-within (record { waiting = waiting; passes = [] }) path factors count stay before
   diagonal-within waiting (zs ∷ ps) path factors count stay before =
@@ -266,7 +266,7 @@ module _ (room n : ℕ) (some : 0 < n) (high : n ≤ 2 ^ 20) (wide : 3 ≤ room)
       (λ can. (within-multiplied room n factors (factor_places waiting path factors) zs before.0 (and-right (suits path zs) _ can), before.1))
       (copy-within (record { waiting = waiting; passes = zs ∷ ps }) path factors count stay before)
 
-  passes-within : (st : Merging) (ps : List (List PlainNest)) → AreWithin room n ps → AreInside' room n tables st.waiting → AreWithin room n st.passes → AreWithin room n (with_passes (most room) n st ps).passes
+  pub passes-within : (st : Merging) (ps : List (List PlainNest)) → AreWithin room n ps → AreInside' room n tables st.waiting → AreWithin room n st.passes → AreWithin room n (with_passes (most room) n st ps).passes
   passes-within st [] h stay before = before
   passes-within st (zs ∷ []) h stay before = within-pass room n tables st zs h.0 stay before
   passes-within st (zs ∷ ys ∷ ps) h stay before = (h.0, passes-within st (ys ∷ ps) h.1 stay before)
@@ -340,7 +340,7 @@ module _ (room k l : ℕ) (path : Path) (several : AreSeveral path) (left : 0 < 
   low : k + l ≤ 2 ^ 20
   low = item-low path (k + l) several (omega arith) high
 
-  sides-within : (ps qs : List (List PlainNest)) → AreWithin (room - length path) k ps → AreWithin (room - length path) l qs → AreWithin room (size_under path (k + l)) (sides path k l ps qs)
+  pub sides-within : (ps qs : List (List PlainNest)) → AreWithin (room - length path) k ps → AreWithin (room - length path) l qs → AreWithin room (size_under path (k + l)) (sides path k l ps qs)
   sides-within [] [] h g = tt
   sides-within (zs ∷ ps) [] h g = (side-within zs (copying l) h.0 (copying-within (room - length path) l right (omega (arith, low)) (omega arith)), sides-within ps [] h.1 tt)
   sides-within [] (ys ∷ qs) h g = (side-within (copying k) ys (copying-within (room - length path) k left (omega (arith, low)) (omega arith)) g.0, sides-within [] qs tt g.1)
@@ -348,12 +348,12 @@ module _ (room k l : ℕ) (path : Path) (several : AreSeveral path) (left : 0 < 
 
 -- ---- terms
 
-moves-inside : (lanes : ℕ) → (room n : ℕ) (fit : TablesFit room n) (fs : List Mapping) → AreMoves lanes n fs → AreInside' room n fit fs
+pub moves-inside : (lanes : ℕ) → (room n : ℕ) (fit : TablesFit room n) (fs : List Mapping) → AreMoves lanes n fs → AreInside' room n fit fs
 moves-inside lanes room n fit [] h = tt
 moves-inside lanes room n fit (f ∷ fs) h = (h.0.permutes.there_below, moves-inside lanes room n fit fs h.1)
 
 -- the passes of a part
-part-within : (lanes : ℕ) → (v k : ℕ) (a : PlainTerm) → 0 < k → IsRound v k → IsGoodTerm lanes k a → AreWithin (64 - v) k (merged (most (64 - v)) k nothing a).passes →
+pub part-within : (lanes : ℕ) → (v k : ℕ) (a : PlainTerm) → 0 < k → IsRound v k → IsGoodTerm lanes k a → AreWithin (64 - v) k (merged (most (64 - v)) k nothing a).passes →
     AreWithin (64 - v) k (ended (most (64 - v)) k (from_end (merged (most (64 - v)) k nothing a).waiting) (merged (most (64 - v)) k nothing a).passes)
 part-within lanes v k a some round good within =
     let few = few-round v k some round in
@@ -362,7 +362,7 @@ part-within lanes v k a some round good within =
     within-ended (64 - v) k fit (from_end (merged (most (64 - v)) k nothing a).waiting) (merged (most (64 - v)) k nothing a).passes (inside-end (64 - v) k fit _ (moves-inside lanes (64 - v) k fit _ reach.stands.moves)) within
 
 -- u tensors stand round the term
-merged-within : (lanes : ℕ) → (u n : ℕ) (st : Merging) (t : PlainTerm) → 0 < n → IsRound u n → IsGoodTerm lanes n t → HasSeveral t → Stands lanes 1 n st → AreWithin (64 - u) n st.passes → AreWithin (64 - u) n (merged (most (64 - u)) n st t).passes
+pub merged-within : (lanes : ℕ) → (u n : ℕ) (st : Merging) (t : PlainTerm) → 0 < n → IsRound u n → IsGoodTerm lanes n t → HasSeveral t → Stands lanes 1 n st → AreWithin (64 - u) n st.passes → AreWithin (64 - u) n (merged (most (64 - u)) n st t).passes
 merged-within lanes u n st same some round good several stands before = before
 merged-within lanes u n st (gath f) some round good several stands before = before
 merged-within lanes u n st (scat f) some round good several stands before =

@@ -76,7 +76,7 @@ module _ (n m : ℕ) where
   shared-first [] = record { owner = λ _. 0; is_owner = record { lines = λ a b low high same. refl; procs = λ a low. omega arith }; owns = tt }
   shared-first (zs ∷ ps) = record { owner = λ _. 0; is_owner = record { lines = λ a b low high same. refl; procs = λ a low. omega arith }; owns = (λ q w low is. omega arith, own-all ps) }
 
-  plain-can : (ps : List (List PlainNest)) → ArePlainPasses n m ps → CanProgram (plain_machine n m) (plain_merged n ps)
+  pub plain-can : (ps : List (List PlainNest)) → ArePlainPasses n m ps → CanProgram (plain_machine n m) (plain_merged n ps)
   plain-can ps h =
       let one : all_passes (in_order ps ∷ []) ≡ in_order ps = append-nil (in_order ps) in
       record {

@@ -1,17 +1,20 @@
 -- The items of works, whose places can be made.
-use Rattle.std.proofs.Common.{◌≡◌, ℕ, zero, suc, ◌+◌, ◌-◌, ◌*◌, ◌^◌, ◌<◌, ◌≤◌, Bool, true, arith, refl, sym, ap, ◌∙◌, List, [], ◌∷◌, ◌++◌, length, inl, inr, subst}
+use Rattle.std.proofs.Common.{◌≡◌, ℕ, zero, suc, ◌+◌, ◌-◌, ◌*◌, ◌^◌, ◌<◌, ◌≤◌, arith, refl, sym, ap, ◌∙◌, List, [], ◌∷◌, ◌++◌, length, inl, inr, subst}
 use Rattle.std.specs.Prelude.{All, map, slice_index}
 use Rattle.std.specs.List.{range_with_len}
 use Rattle.std.proofs.Math.Nat.{mul-le-mul, mul-le-mul_right}
+use Rattle.std.proofs.lemmas.List.FromFn.{map-range_with_len_more}
 use Rattle.std.proofs.lemmas.Bool.{cases_eq}
 use Rattle.std.proofs.lemmas.Bool.Decides.{nat_tests}
 use Rattle.std.proofs.lemmas.List.Elements.{All-nil, All-cons}
-use Rattle.perm_algebra.specs.Affine.{Sum, constant, variable, remainder, top}
-use Rattle.perm_algebra.specs.Fits.{InRange, IsAffine}
+use Rattle.perm_algebra.specs.Affine.{Sum, constant, variable, remainder}
+use Rattle.perm_algebra.specs.Fits.{IsAffine}
 use Rattle.perm_algebra.specs.Views.{plain_sum}
 use Rattle.perm_algebra.specs.declared.Affine.{Affine}
 use Rattle.perm_algebra.proofs.AffineLaws.{value-le-top}
 use Rattle.perm_algebra.proofs.PartLaws.{in_range_at}
+use Rattle.operators.specs.Sum.{list_below}
+use Rattle.operators.proofs.Lists.{length-list_below}
 use Rattle.passes.specs.Good.{AreBelow}
 use Rattle.passes.specs.Limits.{AreSeveral, HasRows}
 use Rattle.passes.specs.Merge.{items_in, items_out, one_loop}
@@ -50,7 +53,7 @@ tile-items m v cs k zero high h = tt
 tile-items m v cs k (suc len) high h = (record { affine = tt; small = constant-small 64 (v * v) cs (k * v) (start-below k v (omega arith)) high }, tile-items m v cs (k + 1) len high (omega arith))
 
 -- the variable v, which runs below n
-variable-item : (m n : ℕ) (cs : ℕ → ℕ) (v : ℕ) → 2 ≤ n → cs v ≡ n → v < m → IsItem m n cs (variable 1 v (constant 0))
+pub variable-item : (m n : ℕ) (cs : ℕ → ℕ) (v : ℕ) → 2 ≤ n → cs v ≡ n → v < m → IsItem m n cs (variable 1 v (constant 0))
 variable-item m n cs v two is below =
     record {
       affine = (below, tt);
@@ -134,7 +137,7 @@ named-each counts path n (e ∷ es) several some high is h =
     let long : length counts ≡ length path + 2 = ap length is ∙ length-counts path n in
     let short = length-below path n several some in
     let counted = counts-from path 0 (slice_index counts) (n ∷ n ∷ []) (λ i. ap (slice_index counts) (omega arith) ∙ ap (λ l. slice_index l i) is) in (
-      can-name (length counts) (slice_index counts) path n 0 e several counted some high (omega (arith, long)) (omega (arith, long, short, high)) h.0.affine h.0.small,
+      can-name (length counts) 64 (slice_index counts) path n 0 e several counted some high (omega (arith, long)) (omega (arith, short, high)) h.0.affine h.0.small,
       named-each counts path n es several some high is h.1,
     )
 
@@ -187,3 +190,11 @@ loop_size n =
       | inl one ↦ let is : one_loop n ≡ [] = grind (arith, nat_tests) in ap (λ p. size_under p 1) is ∙ sym one
       | inr several ↦ let is : one_loop n ≡ Blocks n ∷ [] = grind (arith, nat_tests) in ap (λ p. size_under p 1) is ∙ omega arith
     ]
+
+-- ---- values of a function
+
+pub values_count : (ks : List ℕ) (n : ℕ) (f : ℕ → ℕ) → ks ≡ list_below n f → length ks ≡ n
+values_count ks n f is = ap length is ∙ length-list_below n f
+
+pub values_more : (n : ℕ) (f : ℕ → ℕ) → list_below (n + 1) f ≡ list_below n f ++ f n ∷ []
+values_more n f = map-range_with_len_more f 0 n n (omega arith)

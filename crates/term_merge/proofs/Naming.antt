@@ -1,15 +1,9 @@
 -- The places of a path's items can be made with words of 64 bits.
-use Rattle.std.proofs.Common.{◌≡◌, ℕ, zero, suc, ◌+◌, ◌-◌, ◌*◌, ◌^◌, ◌<◌, ◌≤◌, Bool, true, arith, refl, sym, ap, ◌∙◌, List, [], ◌∷◌, ◌++◌, length, subst, le-mul_of_pos_right, max}
-use Rattle.std.specs.Prelude.{All, map, slice_index, nat_lt, nat_le, ◌&&◌}
-use Rattle.std.specs.List.{list_all}
-use Rattle.std.proofs.Math.Nat.{mul-le-mul_left, mul-le-mul_right}
-use Rattle.std.proofs.lemmas.Bool.Decides.{nat_tests}
-use Rattle.std.proofs.lemmas.List.Elements.{All-nil, All-cons}
-use Rattle.perm_algebra.specs.Affine.{Sum, constant, variable, remainder, quotient, value, top, peak, levels, parts, IsSound, scaled, joined}
-use Rattle.perm_algebra.specs.Fits.{InRange, IsAffine}
-use Rattle.perm_algebra.specs.Room.{constant_of, CanScale, CanJoin}
-use Rattle.perm_algebra.specs.Views.{plain_sum}
-use Rattle.perm_algebra.specs.declared.Affine.{Affine}
+use Rattle.std.proofs.Common.{◌≡◌, ℕ, ◌+◌, ◌*◌, ◌^◌, ◌<◌, ◌≤◌, arith, ap, ◌∙◌, [], ◌∷◌, length, le-mul_of_pos_right, max}
+use Rattle.std.proofs.Math.Nat.{mul-le-mul_left}
+use Rattle.perm_algebra.specs.Affine.{Sum, constant, variable, remainder, quotient, value, top, peak, IsSound, scaled, joined}
+use Rattle.perm_algebra.specs.Fits.{IsAffine}
+use Rattle.perm_algebra.specs.Room.{constant_of}
 use Rattle.perm_algebra.proofs.AffineLaws.{top-scaled, value-scaled, value-joined, value-le-top}
 use Rattle.perm_algebra.proofs.PartLaws.{in_range_at}
 use Rattle.passes.specs.Limits.{AreSeveral}
@@ -19,7 +13,7 @@ use Rattle.passes.proofs.Small.{HasCounts, place-small, max-lt}
 use Rattle.passes.proofs.Within.{IsSmall}
 use Rattle.sigma_spl.specs.Room.{HasRoom}
 use Rattle.tensor_paths.specs.declared.Tensor.TheVariants.{Blocks, Columns}
-use Rattle.tensor_paths.specs.Path.{Path, count_of, size_under}
+use Rattle.tensor_paths.specs.Path.{Path, size_under}
 use Rattle.term_merge.specs.Placed.{CanName}
 
 -- ---- parts of sums
@@ -46,13 +40,13 @@ affine-place m cs (Blocks c ∷ path) n d e below h =
 affine-place m cs (Columns c ∷ path) n d e below h =
     affine-joined m cs (scaled c (place_sum path n (d + 1) e)) (variable 1 d (constant 0)) (affine-scaled m cs c (place_sum path n (d + 1) e) (affine-place m cs path n (d + 1) e (omega arith) h)) (omega arith, tt)
 
-affine-sound : (m : ℕ) (cs : ℕ → ℕ) (e : Sum) → IsAffine m cs e → IsSound e
+pub affine-sound : (m : ℕ) (cs : ℕ → ℕ) (e : Sum) → IsAffine m cs e → IsSound e
 affine-sound m cs (constant c) h = tt
 affine-sound m cs (variable f d rest) h = affine-sound m cs rest h.1
 affine-sound m cs (remainder f of n rest) h = (h.0, affine-sound m cs of h.1, affine-sound m cs rest h.3)
 affine-sound m cs (quotient f of n rest) h = (h.0, affine-sound m cs of h.1, affine-sound m cs rest h.3)
 
-constant-le-top : (e : Sum) (cs : ℕ → ℕ) → constant_of e ≤ top e cs
+pub constant-le-top : (e : Sum) (cs : ℕ → ℕ) → constant_of e ≤ top e cs
 constant-le-top (constant c) cs = omega arith
 constant-le-top (variable f d rest) cs = omega (arith, constant-le-top rest cs)
 constant-le-top (remainder f of m rest) cs = omega (arith, constant-le-top rest cs)
@@ -82,43 +76,43 @@ room-of (Columns c ∷ path) n several high =
     let turned : size_under path n * c ≡ c * size_under path n = omega arith in
     let within : size_under path n ≤ c * size_under path n = le-mul_left c (size_under path n) (omega (arith, several.0)) in (omega (arith, high), room-of path n several.1 (omega (arith, within, turned, high)))
 
-pub can-name : (m : ℕ) (cs : ℕ → ℕ) (path : Path) (n d : ℕ) (e : Sum) → AreSeveral path → HasCounts path d cs → 0 < n → size_under path n ≤ 2 ^ 20 → d + length path ≤ m → m < 2 ^ 64 → IsAffine m cs e → IsSmall 64 n cs e →
+pub can-name : (m r : ℕ) (cs : ℕ → ℕ) (path : Path) (n d : ℕ) (e : Sum) → AreSeveral path → HasCounts path d cs → 0 < n → size_under path n ≤ 2 ^ 20 → d + length path ≤ m → d + length path < 2 ^ 64 → IsAffine m cs e → IsSmall r n cs e →
     CanName m cs path n d e
-can-name m cs [] n d e several counts some high long word affine small = tt
-can-name m cs (Blocks c ∷ path) n d e several counts some high long word affine small =
+can-name m r cs [] n d e several counts some high long word affine small = tt
+can-name m r cs (Blocks c ∷ path) n d e several counts some high long word affine small =
     let size = size_under path n in
     let within : size ≤ c * size = le-mul_left c size (omega (arith, several.0)) in
     let low : size ≤ 2 ^ 20 = omega (arith, within, high) in
-    let inner = place-small path 64 n (d + 1) e cs several.1 counts.1 some low small in
-    let whole = place-small (Blocks c ∷ path) 64 n d e cs several counts some high small in
+    let inner = place-small path r n (d + 1) e cs several.1 counts.1 some low small in
+    let whole = place-small (Blocks c ∷ path) r n d e cs several counts some high small in
     let place = place_sum path n (d + 1) e in
     let sound = sound-place_sum (Blocks c ∷ path) n d e (affine-sound m cs e affine) in
     let peaks = max-lt 1 0 2 (omega arith) (omega arith) in
     let none : size * 0 ≡ 0 = omega arith in (
-      omega (arith, long, word),
+      omega (arith, word),
       omega (arith, long),
       room-of path n several.1 low,
-      can-name m cs path n (d + 1) e several.1 counts.1 some low (omega (arith, long)) word affine small,
+      can-name m r cs path n (d + 1) e several.1 counts.1 some low (omega (arith, long)) (omega (arith, word)) affine small,
       affine-place m cs path n (d + 1) e (omega (arith, long)) affine,
       λ vs range. omega (arith, value-le-top (place_sum (Blocks c ∷ path) n d e) vs cs sound (λ i. in_range_at cs vs i range), whole.top, high),
       (let more = mul-le-mul_left size (let p : max 1 0 ≤ 1 = omega (arith, peaks) in p) in let one : size * 1 ≡ size = omega arith in omega (arith, more, one, low)),
       omega (arith, constant-le-top place cs, inner.top, none, low),
     )
-can-name m cs (Columns c ∷ path) n d e several counts some high long word affine small =
+can-name m r cs (Columns c ∷ path) n d e several counts some high long word affine small =
     let size = size_under path n in
     let turned : size * c ≡ c * size = omega arith in
     let within : size ≤ c * size = le-mul_left c size (omega (arith, several.0)) in
     let low : size ≤ 2 ^ 20 = omega (arith, within, turned, high) in
-    let inner = place-small path 64 n (d + 1) e cs several.1 counts.1 some low small in
-    let whole = place-small (Columns c ∷ path) 64 n d e cs several counts some high small in
+    let inner = place-small path r n (d + 1) e cs several.1 counts.1 some low small in
+    let whole = place-small (Columns c ∷ path) r n d e cs several counts some high small in
     let place = place_sum path n (d + 1) e in
     let sound = sound-place_sum (Columns c ∷ path) n d e (affine-sound m cs e affine) in
     let tops : c * top place cs ≤ 2 ^ 20 = scale-low c (top place cs) size (2 ^ 20) inner.top (omega (arith, turned, high)) in
     let peaks : c * peak place ≤ 2 ^ 20 = scale-low c (peak place) size (2 ^ 20) inner.peak (omega (arith, turned, high)) in (
-      omega (arith, long, word),
+      omega (arith, word),
       omega (arith, long),
       room-of path n several.1 low,
-      can-name m cs path n (d + 1) e several.1 counts.1 some low (omega (arith, long)) word affine small,
+      can-name m r cs path n (d + 1) e several.1 counts.1 some low (omega (arith, long)) (omega (arith, word)) affine small,
       affine-place m cs path n (d + 1) e (omega (arith, long)) affine,
       λ vs range. omega (arith, value-le-top (place_sum (Columns c ∷ path) n d e) vs cs sound (λ i. in_range_at cs vs i range), whole.top, high),
       omega (arith, peaks),

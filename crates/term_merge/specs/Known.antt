@@ -4,8 +4,7 @@ use Rattle.index_fn.specs.Mapping.{Mapping, ThomasIn, ThomasOut, Paired, After, 
 use Rattle.perm_algebra.specs.Affine.{Sum}
 use Rattle.perm_algebra.specs.Room.{IsReady}
 use Rattle.passes.specs.Good.{IsMove, AreGoodPasses}
-use Rattle.passes.specs.Limits.{AreWithin}
-use Rattle.passes.specs.Merge.{Merging, back_of}
+use Rattle.passes.specs.Merge.{Merging, back_of, is_within}
 use Rattle.passes.specs.Nest.{PlainMultiplier, PlainNest}
 use Rattle.passes.specs.Term.{PlainTerm, gath, scat, nest, product, beside}
 use Rattle.passes.specs.Work.{HasWords}
@@ -50,6 +49,7 @@ IsReadyMultiplier depth None = Unit {0}
 IsReadyMultiplier depth (Some d) = AreReady depth d.places
 
 pub record IsReadyNest (z : PlainNest) : Type 0 where
+  pub words : HasWords z.work
   pub gathers : AreReady (length z.counts + 2) z.gathers
   pub scatters : AreReady (length z.counts + 2) z.scatters
   pub multiplier : IsReadyMultiplier (length z.counts + 2) z.multiplier
@@ -62,6 +62,15 @@ abbrev pub AreReadyPasses : List (List PlainNest) → Type 0
 AreReadyPasses [] = Unit {0}
 AreReadyPasses (zs ∷ ps) = IsReadyPass zs × AreReadyPasses ps
 
+-- the places of a pass are within the limits, and of words
+pub record IsKnownPass (room n : ℕ) (zs : List PlainNest) : Type 0 where
+  pub within : is_within room n zs ≡ true
+  pub ready : IsReadyPass zs
+
+abbrev pub AreKnownPasses : ℕ → ℕ → List (List PlainNest) → Type 0
+AreKnownPasses room n [] = Unit {0}
+AreKnownPasses room n (zs ∷ ps) = IsKnownPass room n zs × AreKnownPasses room n ps
+
 -- ---- states
 
 -- lists of n words under so many tensors that this room is left of 64
@@ -73,8 +82,7 @@ pub record HasRoom (room n : ℕ) : Type 0 where
 pub record IsKnown (room n : ℕ) (st : Merging) : Type 0 where
   pub waiting : AreSteps n st.waiting
   pub good : AreGoodPasses 0 1 n st.passes
-  pub within : AreWithin room n st.passes
-  pub ready : AreReadyPasses st.passes
+  pub passes : AreKnownPasses room n st.passes
 
 -- ---- terms
 

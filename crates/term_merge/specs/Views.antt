@@ -1,7 +1,8 @@
 -- What the code's passes and states of merging stand for.
-use Rattle.std.specs.Prelude.{List, map, Vec}
+use Rattle.std.specs.Prelude.{List, [], ◌∷◌, ◌++◌, map, Vec}
+use Rattle.std.proofs.Common.{Global}
 use Rattle.index_fn.specs.Index.{mapping_of}
-use Rattle.passes.specs.Merge.{Merging, Taking}
+use Rattle.passes.specs.Merge.{Merging}
 use Rattle.passes.specs.Nest.{PlainNest}
 use Rattle.passes.specs.Views.{plain_nest}
 use Rattle.passes.specs.declared.nest.Nest.{Nest}
@@ -17,5 +18,7 @@ plain_passes ps = map plain_pass ps
 abbrev pub plain_merging : state.Merging.Merging → Merging
 plain_merging st = record { waiting = map mapping_of st.waiting.items; passes = plain_passes st.passes.items }
 
-abbrev pub plain_taking : state.Taking.Taking → Taking
-plain_taking taking = record { pass = plain_pass taking.pass; left = map mapping_of taking.left.items }
+-- passes, the latest first, in their order
+abbrev pub in_order : List (List PlainNest) → List (List PlainNest)
+in_order [] = []
+in_order (zs ∷ ps) = in_order ps ++ zs ∷ []

@@ -182,10 +182,12 @@ pub(crate) fn copying_words(alloc: Global, size: u64, f: &Index) -> Result<Vec<N
 }
 
 // The function's values below a size.
+#[tactic(auto, using(crate::proofs::Items::values_count, crate::proofs::Items::values_more))]
 fn values(alloc: Global, size: u64, f: &Index) -> Result<Vec<u64>, NoMemory>
     requires formed { IsWellFormed (mapping_of f.now) }
     requires defined { IsDefinedBelow size (mapping_of f.now) }
-    ensures { IfOk result (λ ks. ks.items ≡ list_below size (at (mapping_of f.now))) }
+    ensures value { IfOk result (λ ks. ks.items ≡ list_below size (at (mapping_of f.now))) }
+    ensures count { IfOk result (λ ks. length ks.items ≡ size) }
 {
     let mut values = Vec::new(alloc);
     for i in 0..size {

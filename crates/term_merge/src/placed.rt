@@ -1,5 +1,5 @@
 // Places of items under tensors, as sums of the loops' variables.
-ghost use Rattle.std.specs.Prelude.{◌≡◌, ◌+◌, ◌*◌, ◌^◌, ◌<◌, ◌++◌, ◌∷◌, [], IfOk, All, length, map, slice_index};
+ghost use Rattle.std.specs.Prelude.{◌≡◌, ◌-◌, ◌++◌, ◌∷◌, [], IfOk, All, length, map, slice_index};
 ghost use Rattle.passes.specs.Merge.{place_sum, renumbered};
 ghost use Rattle.perm_algebra.specs.Room.{HasCounts};
 ghost use Rattle.perm_algebra.specs.Views.{plain_sum};
@@ -85,25 +85,31 @@ pub(crate) fn placed(
     }
 }
 
-/// The sum with higher numbers for its variables.
-pub(crate) fn renumbered(alloc: Global, by: u64, sum: &Affine) -> Result<Affine, NoMemory>
-    requires { HasCounts (2 ^ 64 - by) (plain_sum sum.now) }
+/// The sum with higher numbers for its variables, which have counts then.
+pub(crate) fn renumbered(
+    alloc: Global,
+    counts: &[u64],
+    by: u64,
+    sum: &Affine,
+) -> Result<Affine, NoMemory>
+    requires { HasCounts (length counts.now - by) (plain_sum sum.now) }
     ensures { IfOk result (λ e. plain_sum e ≡ renumbered by (plain_sum sum.now)) }
 {
+    let _count = counts.len();
     match sum {
         Affine::Constant(c) => Ok(Affine::Constant(*c)),
         Affine::Variable(factor, variable, rest) => {
-            let rest = Box::new(alloc, renumbered(alloc, by, rest)?)?;
+            let rest = Box::new(alloc, renumbered(alloc, counts, by, rest)?)?;
             Ok(Affine::Variable(*factor, *variable + by, rest))
         }
         Affine::Remainder(factor, of, divisor, rest) => {
-            let of = Box::new(alloc, renumbered(alloc, by, of)?)?;
-            let rest = Box::new(alloc, renumbered(alloc, by, rest)?)?;
+            let of = Box::new(alloc, renumbered(alloc, counts, by, of)?)?;
+            let rest = Box::new(alloc, renumbered(alloc, counts, by, rest)?)?;
             Ok(Affine::Remainder(*factor, of, *divisor, rest))
         }
         Affine::Quotient(factor, of, divisor, rest) => {
-            let of = Box::new(alloc, renumbered(alloc, by, of)?)?;
-            let rest = Box::new(alloc, renumbered(alloc, by, rest)?)?;
+            let of = Box::new(alloc, renumbered(alloc, counts, by, of)?)?;
+            let rest = Box::new(alloc, renumbered(alloc, counts, by, rest)?)?;
             Ok(Affine::Quotient(*factor, of, *divisor, rest))
         }
     }

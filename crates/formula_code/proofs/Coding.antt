@@ -1,0 +1,77 @@
+-- A program that performs a formula's passes is its code.
+use Rattle.std.proofs.Common.{◌≡◌, ℕ, ◌+◌, ◌*◌, ◌^◌, ◌<◌, ◌≤◌, List, [], ◌∷◌, ◌++◌, refl, sym, ap, ap₂, ◌∙◌, arith, subst}
+use Rattle.formula_code.specs.Code.{IsCodeOf}
+use Rattle.formula_lower.specs.Terms.{term_of}
+use Rattle.formula_lower.proofs.Lowers.{lowers}
+use Rattle.formula_lower.proofs.Several.{term-several}
+use Rattle.formula_passes.specs.Computes.{formula_merged}
+use Rattle.formula_passes.proofs.Formulas.{formulas_can_program}
+use Rattle.formula_passes.proofs.Programs.{formulas_compute}
+use Rattle.icode.specs.Machine.{padded, results, words_at}
+use Rattle.icode.specs.Program.{code_of, plain_program}
+use Rattle.icode.specs.declared.program.Program.{Program}
+use Rattle.icode.proofs.Lists.{code_is}
+use Rattle.icode.proofs.Runs.{memory_of_runs}
+use Rattle.pass_actions.specs.Machine.{plain_machine}
+use Rattle.pass_programs.specs.Contract.{CanProgram, Performs}
+use Rattle.passes.specs.Good.{IsGoodTerm}
+use Rattle.passes.specs.Limits.{HasSeveral}
+use Rattle.passes.specs.Merge.{passes_of}
+use Rattle.passes.specs.Merged.{PlainMerged}
+use Rattle.passes.specs.Nest.{PlainNest}
+use Rattle.passes.specs.Term.{PlainTerm}
+use Rattle.program_emit.specs.Conditions.{machine_for}
+use Rattle.program_laws.specs.Plain.{in_order}
+use Rattle.program_laws.proofs.Plain.{plain-can}
+use Rattle.spl_ast.specs.Formula.{Formula, parts_of, size_of}
+use Rattle.spl_ast.specs.Shape.{IsShaped}
+use Rattle.spl_ast.proofs.Vectors.{shaped_size}
+use Rattle.term_merge.specs.Views as merging
+
+-- ---- the term of a formula
+
+pub term_good : (m n : ℕ) (f : Formula) (t : PlainTerm) → 2 ≤ m → IsShaped f → n ≡ size_of f → t ≡ term_of m [] f → IsGoodTerm 0 n t
+term_good m n f t large shaped size is =
+    subst (λ s. IsGoodTerm 0 n s) (sym is) (subst (λ k. IsGoodTerm 0 k (term_of m [] f)) (sym size) (lowers m [] f (omega (arith, large)) (shaped_size f shaped) shaped).good)
+
+pub term_several : (m : ℕ) (f : Formula) (t : PlainTerm) → IsShaped f → t ≡ term_of m [] f → HasSeveral t
+term_several m f t shaped is = subst HasSeveral (sym is) (term-several m [] f tt shaped)
+
+-- ---- passes in one phase
+
+same-order : (ps : List (List PlainNest)) → merging.in_order ps ≡ in_order ps
+same-order [] = refl
+same-order (zs ∷ ps) = ap (λ qs. qs ++ zs ∷ []) (same-order ps)
+
+pub one_phase : (m n : ℕ) (f : Formula) (t : PlainTerm) (qs : List (List PlainNest)) → n ≡ size_of f → t ≡ term_of m [] f → qs ≡ merging.in_order (passes_of n t) → record { size = n; procs = 1; lanes = 1; phases = qs ∷ [] } ≡ formula_merged m f
+one_phase m n f t qs size is listed =
+    let same : qs ≡ in_order (passes_of (size_of f) (term_of m [] f)) = listed ∙ same-order (passes_of n t) ∙ ap₂ (λ k s. in_order (passes_of k s)) size is in
+    ap₂ (λ (k : ℕ) (ps : List (List PlainNest)). record { size = k; procs = 1; lanes = 1; phases = ps ∷ [] }) size same
+
+pub can_emit : (m : ℕ) (f : Formula) (g : PlainMerged) → 2 ≤ m → m < 2 ^ 62 → IsShaped f → parts_of f ≤ 65536 → g ≡ formula_merged m f → CanProgram (machine_for m 1 g) g
+can_emit m f g large small shaped few is =
+    subst (λ h. CanProgram (machine_for m 1 h) h) (sym is) (plain-can (size_of f) m (passes_of (size_of f) (term_of m [] f)) (formulas_can_program m f large small shaped few))
+
+-- ---- code
+
+-- the turns that come first do not matter
+any-turns : (m : ℕ) (f : Formula) (p : Program) → Performs (plain_machine (size_of f) m) (formula_merged m f) (plain_program p) → (x turns : List ℕ) → results (code_of p) x turns ≡ results (code_of p) x []
+any-turns m f p performs x turns =
+    let first = memory_of_runs (code_of p) (code_is (plain_program p)) performs.apart x turns in
+    let none = memory_of_runs (code_of p) (code_is (plain_program p)) performs.apart x [] in
+    ap (λ memory. words_at p.size memory (padded (code_of p))) (first ∙ sym none)
+
+code-of : (m : ℕ) (f : Formula) (p : Program) → 2 ≤ m → m < 2 ^ 62 → IsShaped f → parts_of f ≤ 65536 → Performs (plain_machine (size_of f) m) (formula_merged m f) (plain_program p) → IsCodeOf m f p
+code-of m f p large small shaped few performs =
+    let computes = formulas_compute m f (plain_program p) large small shaped few performs in
+    record {
+      header = record { size = performs.size; modulus = performs.modulus; procs = performs.procs; line = performs.line; lanes = performs.lanes };
+      limits = performs.limits;
+      fits = performs.fits;
+      apart = performs.apart;
+      product = λ x turns vector _. any-turns m f p performs x turns ∙ computes.results x vector;
+      operations = computes.cost 1 (omega arith);
+    }
+
+pub is_code : (m : ℕ) (f : Formula) (g : PlainMerged) (p : Program) → 2 ≤ m → m < 2 ^ 62 → IsShaped f → parts_of f ≤ 65536 → g ≡ formula_merged m f → Performs (machine_for m 1 g) g (plain_program p) → IsCodeOf m f p
+is_code m f g p large small shaped few is performs = code-of m f p large small shaped few (subst (λ h. Performs (machine_for m 1 h) h (plain_program p)) is performs)

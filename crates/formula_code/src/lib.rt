@@ -1,0 +1,51 @@
+//! From a formula to a program that computes it.
+#![tactic(auto)]
+
+ghost use Rattle.std.specs.Prelude.{◌≡◌, ◌≤◌, IfOk};
+ghost use Rattle.formula_code.specs.Code.{IsCodeOf};
+ghost use Rattle.formula_passes.specs.Computes.{formula_merged};
+ghost use Rattle.passes.specs.Views.{plain_merged};
+ghost use Rattle.spl_ast.specs.Formula.{parts_of};
+
+use formula_lower::lower_formula;
+use icode::program::Program;
+use memory::NoMemory;
+use passes::Merged;
+use program_emit::emit_on;
+use ring_mod::Modulus;
+use spl_ast::Spl;
+use std::alloc::Global;
+use term_merge::merge_term;
+
+/// The code of a formula modulo m, for one processor of one lane: its listing can be printed, and under every order of
+/// turns it leaves the formula's matrix times the vector.
+#[tactic(auto, using(crate::proofs::Coding::can_emit, crate::proofs::Coding::is_code))]
+pub fn formula_program(alloc: Global, modulus: &Modulus, formula: &Spl) -> Result<Program, NoMemory>
+    requires few { parts_of formula.now ≤ 65536 }
+    ensures code { IfOk result (λ program. IsCodeOf modulus.now formula.now program) }
+{
+    let _modulus = modulus.get();
+    let _rows = formula.rows();
+    let merged = merge_formula(alloc, modulus, formula)?;
+    let program = emit_on(alloc, modulus, 1, &merged)?;
+    Ok(program)
+}
+
+// The passes of a formula, as one phase of one processor and one lane.
+#[tactic(auto, using(crate::proofs::Coding::term_good, crate::proofs::Coding::term_several, crate::proofs::Wording::term_words, crate::proofs::Coding::one_phase))]
+fn merge_formula(alloc: Global, modulus: &Modulus, formula: &Spl) -> Result<Merged, NoMemory>
+    ensures { IfOk result (λ g. plain_merged g ≡ formula_merged modulus.now formula.now) }
+{
+    let _modulus = modulus.get();
+    let size = formula.rows();
+    let term = lower_formula(alloc, modulus, formula)?;
+    let passes = merge_term(alloc, size, term)?;
+    let mut phases = Vec::new(alloc);
+    phases.push(passes)?;
+    Ok(Merged {
+        size,
+        procs: 1,
+        lanes: 1,
+        phases,
+    })
+}

@@ -1,0 +1,25 @@
+use Rattle.std.specs.Prelude.{map}
+use Rattle.index_fn.specs.Index.{mapping_of}
+use Rattle.passes.specs.Views.{plain_nest}
+use Rattle.term_merge.specs.Tests.{can_load}
+use Rattle.term_merge.proofs.Passes.{ready-nest-at, within-nest-at}
+use Rattle.term_merge.proofs.Sums.{fails-at, grown, alone}
+use Rattle.term_merge.proofs.places.gathered_nests.Goals as goal
+
+pub gathered_nest-requires-clause-ready : goal.gathered_nest-requires-clause-ready
+gathered_nest-requires-clause-ready c = ready-nest-at _ plain_nest c.args.nests.now c.loop-nest.nest-index c.nest-item.result c.requires.known.ready c.loop-nest-test.true c.nest-item.is
+
+pub gathered_nest-requires-clause-within : goal.gathered_nest-requires-clause-within
+gathered_nest-requires-clause-within c =
+    (within-nest-at c.args.limits.room c.args.limits.size _ plain_nest c.args.nests.now c.loop-nest.nest-index c.nest-item.result c.requires.known.within c.loop-nest-test.true c.nest-item.is).loads
+
+pub returns-in-None-clause-none : goal.returns-in-None-clause-none
+returns-in-None-clause-none c = λ t.
+    fails-at _ _ (can_load c.args.limits.room c.args.limits.size (mapping_of c.args.f.now)) plain_nest c.args.nests.now c.loop-nest.nest-index c.nest-item.result c.loop-nest-test.true c.nest-item.is
+    (c.in_ok-gathered_nest.ensures.none c.in-None.is)
+
+pub loop-nest-preserved : goal.loop-nest-preserved
+loop-nest-preserved c =
+    let made = c.in_ok-gathered_nest.ensures.some c.in-Some.nest c.in-Some.is in
+    grown _ _ _ _ (can_load c.args.limits.room c.args.limits.size (mapping_of c.args.f.now)) plain_nest _ plain_nest c.loop-nest.changed.items c.push.new.self.items c.in-Some.nest c.args.nests.now
+    c.loop-nest.nest-index c.nest-item.result c.loop-nest-test.true c.nest-item.is c.in_ok-push-in-Some.ensures.items c.loop-nest.invariant made.0 (alone _ _ _ made.1)

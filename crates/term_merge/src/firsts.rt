@@ -1,0 +1,46 @@
+// The latest pass of several, and gathers from their end.
+ghost use Rattle.std.specs.Prelude.{◌≡◌, ◌+◌, ◌∷◌, [], IfOk, None, Some, map, vec_len};
+ghost use Rattle.index_fn.specs.Index.{mapping_of};
+ghost use Rattle.passes.specs.Merge.{from_end};
+ghost use Rattle.passes.specs.Views.{plain_nest};
+ghost use Rattle.term_merge.specs.Views.{plain_passes};
+
+use index_fn::Index;
+use memory::NoMemory;
+use passes::Nest;
+use std::alloc::Global;
+
+/// Passes without the first of them, and that one.
+#[derive(Drop)]
+pub(crate) struct FirstPass {
+    pub(crate) first: Vec<Nest>,
+    pub(crate) others: Vec<Vec<Nest>>,
+}
+
+/// The first of the passes and the others, if there are any.
+pub(crate) fn parted(passes: Vec<Vec<Nest>>) -> Option<FirstPass>
+    ensures some { (p : FirstPass) → result ≡ Some p → plain_passes passes.items ≡ map plain_nest p.first.items ∷ plain_passes p.others.items }
+    ensures len { (p : FirstPass) → result ≡ Some p → vec_len p.others + 1 ≡ vec_len passes }
+    ensures none { result ≡ None → plain_passes passes.items ≡ [] }
+{
+    let mut others = passes;
+    if others.is_empty() {
+        return None;
+    }
+    let first = others.remove(0);
+    Some(FirstPass { first, others })
+}
+
+/// The functions from their end.
+pub(crate) fn from_end(alloc: Global, functions: &[Index]) -> Result<Vec<Index>, NoMemory>
+    ensures { IfOk result (λ fs. map mapping_of fs.items ≡ from_end (map mapping_of functions.now)) }
+{
+    match functions.split_first() {
+        None => Ok(Vec::new(alloc)),
+        Some((f, rest)) => {
+            let mut turned = from_end(alloc, rest)?;
+            turned.push(f.copy(alloc)?)?;
+            Ok(turned)
+        }
+    }
+}

@@ -1,0 +1,138 @@
+// Nests of a part, under tensors behind the words before it.
+ghost use Rattle.std.specs.Prelude.{◌≡◌, ◌-◌, ◌++◌, IfOk, All, length, map, slice_index};
+ghost use Rattle.std.specs.Option.{option_map};
+ghost use Rattle.passes.specs.Merge.{lifted, place_sum, renumbered, renumbered_places};
+ghost use Rattle.passes.specs.Views.{plain_multiplier, plain_nest};
+ghost use Rattle.passes.specs.Work.{HasWords};
+ghost use Rattle.perm_algebra.specs.Affine.{constant, joined};
+ghost use Rattle.perm_algebra.specs.Room.{HasCounts};
+ghost use Rattle.perm_algebra.specs.Views.{plain_sum};
+ghost use Rattle.tensor_paths.specs.Path.{count_of};
+ghost use Rattle.term_merge.specs.Lifted.{CanLift, CanRaise, IsCounted, counts_under};
+
+use crate::nests::copied_factors;
+use crate::placed::{counts, placed, renumbered, with_two};
+use memory::NoMemory;
+use passes::{Multiplier, Nest};
+use perm_algebra::{Affine, join};
+use std::alloc::Global;
+use tensor_paths::Tensor;
+
+/// A nest of a part that begins behind so many words, under the tensors of a path round `size` words.
+pub(crate) fn lifted(
+    alloc: Global,
+    path: &[Tensor],
+    size: u64,
+    before: u64,
+    nest: &Nest,
+) -> Result<Nest, NoMemory>
+    requires { CanLift path.now size before (plain_nest nest.now) }
+    ensures { IfOk result (λ z. plain_nest z ≡ lifted path.now size before (plain_nest nest.now)) }
+{
+    let counts = counts_round(alloc, path, &nest.counts)?;
+    let limits = limits_under(alloc, path, nest)?;
+    let gathers = all_raised(alloc, &limits, path, size, before, &nest.gathers)?;
+    let multiplier = counted_on(alloc, &limits, path.len() as u64, &nest.multiplier)?;
+    let scatters = all_raised(alloc, &limits, path, size, before, &nest.scatters)?;
+    let work = nest.work.copied(alloc)?;
+    Ok(Nest {
+        counts,
+        work,
+        gathers,
+        multiplier,
+        scatters,
+    })
+}
+
+// The counts of the path's loops, and these.
+fn counts_round(alloc: Global, path: &[Tensor], inner: &[u64]) -> Result<Vec<u64>, NoMemory>
+    ensures { IfOk result (λ all. all.items ≡ map count_of path.now ++ inner.now) }
+{
+    let mut all = counts(alloc, path)?;
+    all.extend_from_slice(inner)?;
+    Ok(all)
+}
+
+// What all variables of the lifted nest run below.
+fn limits_under(alloc: Global, path: &[Tensor], nest: &Nest) -> Result<Vec<u64>, NoMemory>
+    requires { HasWords (plain_nest nest.now).work }
+    ensures { IfOk result (λ limits. limits.items ≡ counts_under path.now (plain_nest nest.now)) }
+{
+    let counts = counts_round(alloc, path, &nest.counts)?;
+    let limits = with_two(alloc, &counts, nest.work.size())?;
+    Ok(limits)
+}
+
+fn all_raised(
+    alloc: Global,
+    limits: &[u64],
+    path: &[Tensor],
+    size: u64,
+    before: u64,
+    sums: &[Affine],
+) -> Result<Vec<Affine>, NoMemory>
+    requires { All (λ e. CanRaise (length limits.now) (slice_index limits.now) path.now size before (plain_sum e)) sums.now }
+    ensures { IfOk result (λ es. map plain_sum es.items ≡ map (λ e. place_sum path.now size 0 (joined (constant before) (renumbered (length path.now) e))) (map plain_sum sums.now)) }
+{
+    let mut places = Vec::new(alloc);
+    for sum in sums {
+        let place = raised(alloc, limits, path, size, before, sum)?;
+        places.push(place)?;
+    }
+    Ok(places)
+}
+
+// A place of the part, in the whole.
+fn raised(
+    alloc: Global,
+    limits: &[u64],
+    path: &[Tensor],
+    size: u64,
+    before: u64,
+    sum: &Affine,
+) -> Result<Affine, NoMemory>
+    requires { CanRaise (length limits.now) (slice_index limits.now) path.now size before (plain_sum sum.now) }
+    ensures { IfOk result (λ e. plain_sum e ≡ place_sum path.now size 0 (joined (constant before) (renumbered (length path.now) (plain_sum sum.now)))) }
+{
+    let higher = renumbered(alloc, limits, path.len() as u64, sum)?;
+    let behind = join(alloc, limits, Affine::Constant(before), higher)?;
+    let place = placed(alloc, limits, path, size, 0, behind)?;
+    Ok(place)
+}
+
+// The places of a diagonal's factors, whose variables have higher numbers.
+#[tactic(auto, using(crate::proofs::Lifting::all_counted))]
+fn counted_on(
+    alloc: Global,
+    limits: &[u64],
+    by: u64,
+    multiplier: &Option<Multiplier>,
+) -> Result<Option<Multiplier>, NoMemory>
+    requires { IsCounted (length limits.now - by) (option_map plain_multiplier multiplier.now) }
+    ensures { IfOk result (λ d. option_map plain_multiplier d ≡ renumbered_places by (option_map plain_multiplier multiplier.now)) }
+{
+    match multiplier {
+        None => Ok(None),
+        Some(multiplier) => {
+            let factors = copied_factors(alloc, &multiplier.factors)?;
+            let places = all_renumbered(alloc, limits, by, &multiplier.places)?;
+            Ok(Some(Multiplier { factors, places }))
+        }
+    }
+}
+
+fn all_renumbered(
+    alloc: Global,
+    limits: &[u64],
+    by: u64,
+    sums: &[Affine],
+) -> Result<Vec<Affine>, NoMemory>
+    requires { All (λ e. HasCounts (length limits.now - by) (plain_sum e)) sums.now }
+    ensures { IfOk result (λ es. map plain_sum es.items ≡ map (renumbered by) (map plain_sum sums.now)) }
+{
+    let mut higher = Vec::new(alloc);
+    for sum in sums {
+        higher.push(renumbered(alloc, limits, by, sum)?)?;
+    }
+    Ok(higher)
+}

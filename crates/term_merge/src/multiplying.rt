@@ -1,0 +1,191 @@
+// What a diagonal does to a state of merging.
+ghost use Rattle.std.specs.Prelude.{◌≡◌, ◌&&◌, [], IfOk, None, Some, Vec, false, map, not, true};
+ghost use Rattle.std.specs.List.{list_all};
+ghost use Rattle.index_fn.specs.Index.{mapping_of};
+ghost use Rattle.passes.specs.Merge.{can_multiply, factor_places, is_tile, most, multiplied, suits, with_copy, with_diagonal};
+ghost use Rattle.passes.specs.Nest.{factor_count, spread};
+ghost use Rattle.passes.specs.Views.{plain_factors, plain_nest, plain_work};
+ghost use Rattle.sum_limits.specs.Leading.{CanCarry};
+ghost use Rattle.tensor_paths.specs.Path.{size_under};
+ghost use Rattle.term_merge.specs.Known.{AreKnownPasses, AreSteps, HasRoom, IsKnown, IsKnownPass};
+ghost use Rattle.term_merge.specs.Views.{plain_merging, plain_passes};
+
+use crate::backs::{factor_count, factor_places};
+use crate::copies::{settled, with_before, with_first};
+use crate::diagonals::{Diagonal, multiplied, multiplied_in_order};
+use crate::firsts::{FirstPass, parted};
+use crate::nests::copying;
+use crate::state::Merging;
+use memory::NoMemory;
+use passes::{Factors, Nest, Work};
+use std::alloc::Global;
+use sum_limits::Limits;
+use tensor_paths::Tensor;
+
+/// A diagonal goes into the last pass where that can take it, and else into a copy pass.
+pub(crate) fn with_diagonal(
+    alloc: Global,
+    state: Merging,
+    path: Vec<Tensor>,
+    factors: Factors,
+    limits: Limits,
+) -> Result<Merging, NoMemory>
+    requires room { HasRoom limits.room limits.size }
+    requires known { IsKnown limits.room limits.size (plain_merging state) }
+    requires size { size_under path.items (factor_count (plain_factors factors)) ≡ limits.size }
+    ensures { IfOk result (λ next. plain_merging next ≡ with_diagonal (most limits.room) limits.size (plain_merging state).waiting (plain_merging state).passes path.items (plain_factors factors)) }
+{
+    let count = factor_count(&path, &factors);
+    let places = factor_places(alloc, limits.size, &state.waiting, &path, &factors)?;
+    let diagonal = Diagonal {
+        factors,
+        count,
+        places,
+    };
+    let next = multiplied_last(alloc, state, path, diagonal, limits)?;
+    Ok(next)
+}
+
+fn multiplied_last(
+    alloc: Global,
+    state: Merging,
+    path: Vec<Tensor>,
+    diagonal: Diagonal,
+    limits: Limits,
+) -> Result<Merging, NoMemory>
+    requires room { HasRoom limits.room limits.size }
+    requires steps { AreSteps limits.size (map mapping_of state.waiting.items) }
+    requires known { AreKnownPasses limits.room limits.size (plain_passes state.passes.items) }
+    requires count { diagonal.count ≡ factor_count (plain_factors diagonal.factors) }
+    requires places { map mapping_of diagonal.places.items ≡ factor_places (map mapping_of state.waiting.items) path.items (plain_factors diagonal.factors) }
+    requires can { CanCarry limits.size (map mapping_of diagonal.places.items) }
+    ensures { IfOk result (λ next. plain_merging next ≡ with_diagonal (most limits.room) limits.size (map mapping_of state.waiting.items) (plain_passes state.passes.items) path.items (plain_factors diagonal.factors)) }
+{
+    let Merging { waiting, passes } = state;
+    match parted(passes) {
+        None => {
+            let passes = Vec::new(alloc);
+            let next = with_copy(alloc, Merging { waiting, passes }, path, diagonal, limits)?;
+            Ok(next)
+        }
+        Some(FirstPass { first, others }) => {
+            match multiplied_if_suited(alloc, &path, &diagonal, &first, limits)? {
+                Some(pass) => {
+                    let passes = with_first(pass, others)?;
+                    Ok(Merging { waiting, passes })
+                }
+                None => {
+                    let passes = with_first(first, others)?;
+                    let state = Merging { waiting, passes };
+                    let next = with_copy(alloc, state, path, diagonal, limits)?;
+                    Ok(next)
+                }
+            }
+        }
+    }
+}
+
+// A diagonal goes into a copy pass, or into one behind the gathers, which then wait no more.
+fn with_copy(
+    alloc: Global,
+    state: Merging,
+    path: Vec<Tensor>,
+    diagonal: Diagonal,
+    limits: Limits,
+) -> Result<Merging, NoMemory>
+    requires room { HasRoom limits.room limits.size }
+    requires steps { AreSteps limits.size (map mapping_of state.waiting.items) }
+    requires count { diagonal.count ≡ factor_count (plain_factors diagonal.factors) }
+    requires places { map mapping_of diagonal.places.items ≡ factor_places (map mapping_of state.waiting.items) path.items (plain_factors diagonal.factors) }
+    requires can { CanCarry limits.size (map mapping_of diagonal.places.items) }
+    ensures { IfOk result (λ next. plain_merging next ≡ with_copy (most limits.room) limits.size (plain_merging state) path.items (plain_factors diagonal.factors)) }
+{
+    let Merging { waiting, passes } = state;
+    let copies = copying(alloc, limits.size)?;
+    match multiplied(alloc, &diagonal, &copies, limits)? {
+        Some(pass) => {
+            let passes = with_first(pass, passes)?;
+            Ok(Merging { waiting, passes })
+        }
+        None => {
+            let pass = multiplied_whole(alloc, path, diagonal, &copies)?;
+            let before = settled(alloc, &waiting, limits)?;
+            let before = with_before(before, passes)?;
+            let passes = with_first(pass, before)?;
+            Ok(Merging {
+                waiting: Vec::new(alloc),
+                passes,
+            })
+        }
+    }
+}
+
+// A pass with the whole diagonal after it.
+fn multiplied_whole(
+    alloc: Global,
+    path: Vec<Tensor>,
+    diagonal: Diagonal,
+    nests: &[Nest],
+) -> Result<Vec<Nest>, NoMemory>
+    ensures { IfOk result (λ zs. map plain_nest zs.items ≡ multiplied (spread path.items (plain_factors diagonal.factors)) [] (map plain_nest nests.now)) }
+{
+    let Diagonal { factors, .. } = diagonal;
+    let factors = Factors::Spread {
+        path,
+        factors: Box::new(alloc, factors)?,
+    };
+    let pass = multiplied_in_order(alloc, &factors, nests)?;
+    Ok(pass)
+}
+
+// A pass with the diagonal after it, where its work suits that and it can take it.
+fn multiplied_if_suited(
+    alloc: Global,
+    path: &[Tensor],
+    diagonal: &Diagonal,
+    nests: &[Nest],
+    limits: Limits,
+) -> Result<Option<Vec<Nest>>, NoMemory>
+    requires room { HasRoom limits.room limits.size }
+    requires can { CanCarry limits.size (map mapping_of diagonal.now.places.items) }
+    requires count { diagonal.now.count ≡ factor_count (plain_factors diagonal.now.factors) }
+    requires known { IsKnownPass limits.room limits.size (map plain_nest nests.now) }
+    ensures some { IfOk result (λ r. (zs : Vec Nest Global) → r ≡ Some zs → ((suits path.now (map plain_nest nests.now) && can_multiply limits.room limits.size (plain_factors diagonal.now.factors) (map mapping_of diagonal.now.places.items) (map plain_nest nests.now)) ≡ true) × (map plain_nest zs.items ≡ multiplied (plain_factors diagonal.now.factors) (map mapping_of diagonal.now.places.items) (map plain_nest nests.now))) }
+    ensures none { IfOk result (λ r. r ≡ None → (suits path.now (map plain_nest nests.now) && can_multiply limits.room limits.size (plain_factors diagonal.now.factors) (map mapping_of diagonal.now.places.items) (map plain_nest nests.now)) ≡ false) }
+{
+    if !suits(path, nests) {
+        return Ok(None);
+    }
+    let changed = multiplied(alloc, diagonal, nests, limits)?;
+    Ok(changed)
+}
+
+// Whether no factors of a vector stand apart.
+fn suits(path: &[Tensor], nests: &[Nest]) -> bool
+    ensures { result ≡ suits path.now (map plain_nest nests.now) }
+{
+    match path.split_first() {
+        None => true,
+        Some(_) => has_no_tile(nests),
+    }
+}
+
+fn has_no_tile(nests: &[Nest]) -> bool
+    ensures { result ≡ list_all (λ z. not (is_tile z.work)) (map plain_nest nests.now) }
+{
+    for nest in nests {
+        if is_tile(&nest.work) {
+            return false;
+        }
+    }
+    true
+}
+
+fn is_tile(work: &Work) -> bool
+    ensures { result ≡ is_tile (plain_work work.now) }
+{
+    match work {
+        Work::Tile { .. } => true,
+        Work::Kernel { .. } | Work::Rows { .. } | Work::Horner { .. } | Work::Copy { .. } => false,
+    }
+}
