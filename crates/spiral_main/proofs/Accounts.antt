@@ -13,11 +13,11 @@ use Rattle.spiral_words.specs.declared.Command.{Command}
 use Rattle.spiral_words.specs.declared.Command.TheVariants as command
 use Rattle.spiral_main.specs.declared.status.Status.{Status}
 use Rattle.spiral_main.specs.declared.status.Status.TheVariants.{ReadFault, WriteFault}
-use Rattle.spiral_main.specs.Commands.{commanded}
+use Rattle.spiral_main.specs.Commands.{commanded, AskForFormula}
 use Rattle.spiral_main.specs.Line.{data_of, is_line_end, HasEnded}
 use Rattle.spiral_main.specs.Status.{IsDefined}
 use Rattle.spiral_main.specs.Outcome.{IsAccepted, requested, Job, IsOrder, Settles, BreaksOff, ComesTo, room_behind, Accounts}
-use Rattle.spiral_main.specs.Steps.{IsEarly, AsksBy, Asks, Performs, ToldPerforms, Executes, ToldExecutes, ToldAccounts}
+use Rattle.spiral_main.specs.Steps.{IsEarly, AsksBy, Asks, Performs, ToldPerforms, Executes, ToldExecutes, Computes, ToldComputes, ToldAccounts}
 use Rattle.spiral_main.proofs.LineLemmas.{line_there}
 
 nothing_before : (xs ys : List ℕ) → xs ++ ys ≡ [] → xs ≡ []
@@ -42,7 +42,7 @@ pub none_cut : (rest read left : List ℕ) → rest ≡ read ++ left → rest �
 none_cut rest read left whole end = (nothing_before read left (sym whole ∙ end), nothing_behind read left (sym whole ∙ end))
 
 -- a line that has ended has ended behind further bytes too
-still_ended : (read more : List ℕ) (now later : Type 0) → HasEnded read now → (now → later) → HasEnded (read ++ more) later
+pub still_ended : (read more : List ℕ) (now later : Type 0) → HasEnded read now → (now → later) → HasEnded (read ++ more) later
 still_ended read more now later (inl there) goes = inl (list_any-append is_line_end read more ∙ ap (λ b. b || list_any is_line_end more) there)
 still_ended read more now later (inr e) goes = inr (goes e)
 
@@ -147,9 +147,20 @@ pub executed_accounts : (words : List (List ℕ)) (schedule : Plan) (before left
     → IsAsked words (command.Exec schedule) → ToldExecutes schedule before left out out' status → ToldAccounts words before left out out' status
 executed_accounts words schedule None left out out' status asked p = tt
 executed_accounts words schedule (Some bytes) left out out' status asked p = record {
-  answer = λ d. let found = p.answer d in (found.0, inr (schedule, asked, found.1), found.2);
-  read_fault = λ e. let found = p.read_fault e in (found.0, found.1, found.2, inr (inr (schedule, asked, found.3)), found.4);
-  write_fault = λ e. let found = p.write_fault e in (found.0, found.1, found.2, found.3, inr (schedule, asked, found.4), found.5);
+  answer = λ d. let found = p.answer d in (found.0, inr (inl (schedule, asked, found.1)), found.2);
+  read_fault = λ e. let found = p.read_fault e in (found.0, found.1, found.2, inr (inr (inl (schedule, asked, found.3))), found.4);
+  write_fault = λ e. let found = p.write_fault e in (found.0, found.1, found.2, found.3, inr (inl (schedule, asked, found.4)), found.5);
+}
+
+-- By a formula
+
+pub computed_accounts : (words : List (List ℕ)) (wanted : Command) (before left out out' : Option (List ℕ)) (status : Status)
+    → AskForFormula words wanted → ToldComputes wanted before left out out' status → ToldAccounts words before left out out' status
+computed_accounts words wanted None left out out' status asked p = tt
+computed_accounts words wanted (Some bytes) left out out' status asked p = record {
+  answer = λ d. let found = p.answer d in (found.0, inr (inr (wanted, asked, found.1)), found.2);
+  read_fault = λ e. let found = p.read_fault e in (found.0, found.1, found.2, inr (inr (inr (wanted, asked, found.3))), found.4);
+  write_fault = λ e. let found = p.write_fault e in (found.0, found.1, found.2, found.3, inr (inr (wanted, asked, found.4)), found.5);
 }
 
 -- What the feed holds
@@ -178,5 +189,14 @@ executes_by_source schedule None feed left out out' status empty p = tt
 executes_by_source schedule (Some bytes) feed left out out' status empty p = record {
   answer = p.answer;
   read_fault = λ e. (subst (λ (o : Option (List ℕ)). Executes schedule bytes o out out' status) (nothing_held feed left (empty e)) p).read_fault e;
+  write_fault = p.write_fault;
+}
+
+pub computes_by_source : (wanted : Command) (before : Option (List ℕ)) (feed : Fed) (left out out' : Option (List ℕ)) (status : Status)
+    → (status ≡ ReadFault → feed.held ≡ []) → ToldComputes wanted before (to_come feed left) out out' status → ToldComputes wanted before left out out' status
+computes_by_source wanted None feed left out out' status empty p = tt
+computes_by_source wanted (Some bytes) feed left out out' status empty p = record {
+  answer = p.answer;
+  read_fault = λ e. (subst (λ (o : Option (List ℕ)). Computes wanted bytes o out out' status) (nothing_held feed left (empty e)) p).read_fault e;
   write_fault = p.write_fault;
 }

@@ -115,6 +115,7 @@ abbrev named_reads : NamedTexts → Bool
 named_reads (named.run buffers word) = true
 named_reads (named.trace buffers word) = true
 named_reads named.check = true
+named_reads (named.apply number word) = true
 named_reads (named.exec word) = true
 named_reads _ = false
 
@@ -128,6 +129,8 @@ means_reads (named.trace buffers word) command means = ap reads_rest means.2
 means_reads named.cert command means = ap reads_rest means
 means_reads named.check command means = ap reads_rest means
 means_reads (named.sample number word) command means = ap reads_rest means.4
+means_reads (named.compile number) command means = ap reads_rest means.2
+means_reads (named.apply number word) command means = ap reads_rest means.4
 means_reads (named.exec word) command means = ap reads_rest means.2
 
 same_texts : (a b : NamedTexts) → Some a ≡ Some b → a ≡ b

@@ -13,9 +13,11 @@ pub mod StreamLemmas
 pub mod PlanLemmas
 pub mod RightCalls
 pub mod Accounts
+pub mod CompiledLemmas
 pub mod DataLemmas
 pub mod ListedLemmas
 pub mod OneExecution
+pub mod OneFormula
 pub mod Notes
 pub mod Stages
 pub mod BufferedLemmas

@@ -14,7 +14,8 @@ use Rattle.tree_model.specs.Cost.{cost_of}
 use Rattle.plan_cert.proofs.OneVerdict.{one_verdict}
 use Rattle.spiral_main.specs.declared.status.Status.{Status}
 use Rattle.spiral_main.specs.Checked.{IsChecked, status_of_verdict}
-use Rattle.spiral_main.specs.Commands.{reads_certificate, commanded, scheduled}
+use Rattle.spiral_main.specs.Commands.{reads_certificate, takes_formula, takes_request, commanded, scheduled, AskForFormula}
+use Rattle.spiral_main.specs.Compiled.{IsFormulaAnswer}
 use Rattle.spiral_main.specs.Fault.{status_of_request, status_of_generate}
 use Rattle.spiral_main.specs.Line.{line_of}
 use Rattle.spiral_main.specs.Outcome.{spelt, IsRefused, IsShutOut, IsAccepted, IsDeclined, requested, Job, accepted, ordered, IsTextOf, IsTextOfData, Settles, IsAnswerToRequest, IsOutcome, room_behind}
@@ -22,6 +23,7 @@ use Rattle.spiral_main.specs.Line.{data_of}
 use Rattle.spiral_main.specs.Listed.{IsExecution}
 use Rattle.spiral_main.specs.Stage.{given}
 use Rattle.spiral_main.proofs.OneExecution.{execution_status_once}
+use Rattle.spiral_main.proofs.OneFormula.{formula_status_once}
 use Rattle.spiral_main.proofs.PlanLemmas.{candidate_divides}
 use Rattle.spiral_main.proofs.Stages.{IsDecided, done, ended, done_same, ended_same, done_ended, given_decided, bind_decided}
 use Rattle.spiral_words.proofs.OneCommand.{asked_once}
@@ -112,6 +114,8 @@ accepted_clash (command.Trace order) r s p q = plan_clash r p.0 q.0 p.1 q.1
 accepted_clash command.Cert r s p q = plan_clash r p.0 q.0 p.1 q.1
 accepted_clash command.Check r s p q = bar_clash r q.0 p q.1
 accepted_clash (command.Sample seed schedule) r s p q = plan_clash r p.0 q.0 p.1 q.1
+accepted_clash (command.Compile modulus) r s p q = plan_clash r p.0 q.0 p.1 q.1
+accepted_clash (command.Apply modulus schedule) r s p q = plan_clash r p.0 q.0 p.1 q.1
 accepted_clash (command.Exec schedule) r s p q = plan_clash r p.0 q.0 p.1 q.1
 
 declined_once : (wanted : Command) (r : Request) (s t : Status) → IsDeclined wanted r s → IsDeclined wanted r t → s ≡ t
@@ -124,6 +128,8 @@ declined_once (command.Trace order) r s t p q = refused_once r s t p q
 declined_once command.Cert r s t p q = refused_once r s t p q
 declined_once command.Check r s t p q = shut_out_once r s t p q
 declined_once (command.Sample seed schedule) r s t p q = refused_once r s t p q
+declined_once (command.Compile modulus) r s t p q = refused_once r s t p q
+declined_once (command.Apply modulus schedule) r s t p q = refused_once r s t p q
 declined_once (command.Exec schedule) r s t p q = refused_once r s t p q
 
 accepted_decided : (wanted : Command) (r : Request) → IsDecided (accepted wanted r)
@@ -149,6 +155,8 @@ data_or_text (command.Trace order) r vectors s t p q = q
 data_or_text command.Cert r vectors s t p q = p
 data_or_text command.Check r vectors s t p q = p
 data_or_text (command.Sample seed schedule) r vectors s t p q = p
+data_or_text (command.Compile modulus) r vectors s t p q = p
+data_or_text (command.Apply modulus schedule) r vectors s t p q = p
 data_or_text (command.Exec schedule) r vectors s t p q = p
 
 pub data_or_check : (wanted : Command) (r : Request) (vectors : List (List ℕ)) (s : List ℕ) → IsTextOfData wanted r vectors s → reads_certificate wanted ≡ true → ⊥
@@ -161,6 +169,8 @@ data_or_check command.C r vectors s p q = p
 data_or_check command.Cert r vectors s p q = p
 data_or_check command.Check r vectors s p q = p
 data_or_check (command.Sample seed schedule) r vectors s p q = p
+data_or_check (command.Compile modulus) r vectors s p q = p
+data_or_check (command.Apply modulus schedule) r vectors s p q = p
 data_or_check (command.Exec schedule) r vectors s p q = p
 
 pub text_or_check : (wanted : Command) (r : Request) (s : List ℕ) → IsTextOf wanted r s → reads_certificate wanted ≡ true → ⊥
@@ -173,6 +183,8 @@ text_or_check (command.Sample seed schedule) r s p q = absurd (cc)
 text_or_check (command.Run order) r s p q = p
 text_or_check (command.Trace order) r s p q = p
 text_or_check command.Check r s p q = p
+text_or_check (command.Compile modulus) r s p q = p
+text_or_check (command.Apply modulus schedule) r s p q = p
 text_or_check (command.Exec schedule) r s p q = p
 
 checked_once : (r : Request) (bytes : List ℕ) (a b : Status) (s t : List ℕ) → IsChecked r bytes a s → IsChecked r bytes b t → a ≡ b
@@ -202,21 +214,39 @@ answer_once words bytes a b s t (inr p) (inr q) =
     settled_once q.0.command q.0.request (room_behind bytes) (data_of bytes) a b s t
     (subst (λ (job : Job). Settles job.command job.request (room_behind bytes) (data_of bytes) a s) same p.2) q.2
 
--- By a request or by a listing
+-- By a request, by a listing or by a formula
 
--- words that ask for `exec` order no request
-pub no_order : (words : List (List ℕ)) (schedule : Plan) (bytes : List ℕ) (r : Result Job Status) → IsAsked words (command.Exec schedule) → ordered words bytes r → ⊥
-no_order words schedule bytes (Ok job) asked p =
-    let same : p.value ≡ command.Exec schedule = asked_once words p.value (command.Exec schedule) p.before.0 asked in
-    absurd (let taken = rw same at p.before.1 in cc)
-no_order words schedule bytes (Err status) asked (inl p) = usage_nothing words (command.Exec schedule) p.1 asked
-no_order words schedule bytes (Err status) asked (inr p) =
-    let same : p.value ≡ command.Exec schedule = asked_once words p.value (command.Exec schedule) p.before.0 asked in
-    absurd (let taken = rw same at p.before.1 in cc)
+-- words that ask for a command that goes by no request order none
+pub no_order : (words : List (List ℕ)) (wanted : Command) (bytes : List ℕ) (r : Result Job Status) → IsAsked words wanted → takes_request wanted ≡ false → ordered words bytes r → ⊥
+no_order words wanted bytes (Ok job) asked other p =
+    two_values (takes_request wanted) (subst (λ (k : Command). takes_request k ≡ true) (asked_once words p.value wanted p.before.0 asked) p.before.1) other
+no_order words wanted bytes (Err status) asked other (inl p) = usage_nothing words wanted p.1 asked
+no_order words wanted bytes (Err status) asked other (inr p) =
+    two_values (takes_request wanted) (subst (λ (k : Command). takes_request k ≡ true) (asked_once words p.value wanted p.before.0 asked) p.before.1) other
 
-pub no_answer : (words : List (List ℕ)) (schedule : Plan) (bytes : List ℕ) (s : Status) (t : List ℕ) → IsAsked words (command.Exec schedule) → IsAnswerToRequest words bytes s t → ⊥
-no_answer words schedule bytes s t asked (inl p) = no_order words schedule bytes (Err s) asked p.0
-no_answer words schedule bytes s t asked (inr p) = no_order words schedule bytes (Ok p.0) asked p.1
+pub no_answer : (words : List (List ℕ)) (wanted : Command) (bytes : List ℕ) (s : Status) (t : List ℕ) → IsAsked words wanted → takes_request wanted ≡ false → IsAnswerToRequest words bytes s t → ⊥
+no_answer words wanted bytes s t asked other (inl p) = no_order words wanted bytes (Err s) asked other p.0
+no_answer words wanted bytes s t asked other (inr p) = no_order words wanted bytes (Ok p.0) asked other p.1
+
+-- a command that goes by a formula goes by no request
+pub no_request : (wanted : Command) → takes_formula wanted ≡ true → takes_request wanted ≡ false
+no_request (command.Compile modulus) h = refl
+no_request (command.Apply modulus schedule) h = refl
+no_request command.Plan h = absurd (cc)
+no_request command.Formula h = absurd (cc)
+no_request command.Code h = absurd (cc)
+no_request command.C h = absurd (cc)
+no_request (command.Run order) h = absurd (cc)
+no_request (command.Trace order) h = absurd (cc)
+no_request command.Cert h = absurd (cc)
+no_request command.Check h = absurd (cc)
+no_request (command.Sample seed schedule) h = absurd (cc)
+no_request (command.Exec schedule) h = absurd (cc)
+
+-- nor by a listing
+pub no_formula : (words : List (List ℕ)) (schedule : Plan) (wanted : Command) → IsAsked words (command.Exec schedule) → AskForFormula words wanted → ⊥
+no_formula words schedule wanted listing formula =
+    two_values (takes_formula (command.Exec schedule)) (subst (λ (k : Command). takes_formula k ≡ true) (asked_once words wanted (command.Exec schedule) formula.0 listing) formula.1) refl
 
 exec_same : (s t : Plan) → command.Exec s ≡ command.Exec t → s ≡ t
 exec_same s t e = cc
@@ -227,8 +257,15 @@ schedule_asked_once words s t p q = exec_same s t (asked_once words (command.Exe
 
 pub one_status : (words : List (List ℕ)) (bytes : List ℕ) (a b : Status) (s t : List ℕ) → IsOutcome words bytes a s → IsOutcome words bytes b t → a ≡ b
 one_status words bytes a b s t (inl p) (inl q) = answer_once words bytes a b s t p q
-one_status words bytes a b s t (inl p) (inr q) = absurd (no_answer words q.0 bytes a s q.1 p)
-one_status words bytes a b s t (inr p) (inl q) = absurd (no_answer words p.0 bytes b t p.1 q)
-one_status words bytes a b s t (inr p) (inr q) =
+one_status words bytes a b s t (inl p) (inr (inl q)) = absurd (no_answer words (command.Exec q.0) bytes a s q.1 refl p)
+one_status words bytes a b s t (inl p) (inr (inr q)) = absurd (no_answer words q.0 bytes a s q.1.0 (no_request q.0 q.1.1) p)
+one_status words bytes a b s t (inr (inl p)) (inl q) = absurd (no_answer words (command.Exec p.0) bytes b t p.1 refl q)
+one_status words bytes a b s t (inr (inr p)) (inl q) = absurd (no_answer words p.0 bytes b t p.1.0 (no_request p.0 p.1.1) q)
+one_status words bytes a b s t (inr (inl p)) (inr (inr q)) = absurd (no_formula words p.0 q.0 p.1 q.1)
+one_status words bytes a b s t (inr (inr p)) (inr (inl q)) = absurd (no_formula words q.0 p.0 q.1 p.1)
+one_status words bytes a b s t (inr (inr p)) (inr (inr q)) =
+    let same : p.0 ≡ q.0 = asked_once words p.0 q.0 p.1.0 q.1.0 in
+    formula_status_once q.0 bytes a b s t (subst (λ (k : Command). IsFormulaAnswer k bytes a s) same p.2) q.2
+one_status words bytes a b s t (inr (inl p)) (inr (inl q)) =
     let same : p.0 ≡ q.0 = schedule_asked_once words p.0 q.0 p.1 q.1 in
     execution_status_once q.0 bytes a b s t (subst (λ (k : Plan). IsExecution k bytes a s) same p.2) q.2

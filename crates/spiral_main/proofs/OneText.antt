@@ -1,5 +1,5 @@
 -- The words and the bytes of a call determine its text, but for the commands that print a program.
-use Rattle.std.proofs.Common.{◌≡◌, ℕ, true, List, [], ◌∷◌, ◌++◌, Ok, Err, sym, ap, subst, ◌∙◌, arith, inl, inr}
+use Rattle.std.proofs.Common.{◌≡◌, ℕ, true, List, [], ◌∷◌, ◌++◌, Ok, Err, refl, sym, ap, subst, ◌∙◌, arith, inl, inr}
 use Rattle.matrix_meaning.specs.declared.Request.{Request}
 use Rattle.request_text.specs.Schedule.{Plan}
 use Rattle.spiral_words.specs.declared.Command.{Command}
@@ -18,6 +18,7 @@ use Rattle.plan_cert.proofs.OneVerdict.{one_verdict}
 use Rattle.spiral_main.specs.declared.status.Status.{Status}
 use Rattle.spiral_main.specs.Checked.{IsChecked, verdict_text}
 use Rattle.spiral_main.specs.Commands.{prints_one_text}
+use Rattle.spiral_main.specs.Compiled.{IsFormulaAnswer}
 use Rattle.spiral_main.specs.Line.{data_of}
 use Rattle.spiral_main.specs.Listed.{IsExecution}
 use Rattle.spiral_main.specs.Outcome.{Job, ordered, product, IsTextOf, IsTextOfData, Settles, IsAnswerToRequest, IsOutcome, room_behind}
@@ -26,7 +27,8 @@ use Rattle.spiral_words.proofs.OneCommand.{asked_once}
 use Rattle.spiral_main.proofs.OneTable.{table_once}
 use Rattle.spiral_main.proofs.OneTree.{chosen_once}
 use Rattle.spiral_main.proofs.OneExecution.{execution_text_once}
-use Rattle.spiral_main.proofs.OneOutcome.{ordered_decided, data_or_text, data_or_check, text_or_check, no_answer, schedule_asked_once}
+use Rattle.spiral_main.proofs.OneFormula.{formula_text_once}
+use Rattle.spiral_main.proofs.OneOutcome.{ordered_decided, data_or_text, data_or_check, text_or_check, no_answer, no_formula, no_request, schedule_asked_once}
 use Rattle.spiral_main.proofs.Stages.{done_same, done_ended}
 
 planned_once : (r : Request) (t u : Breakdown) → IsPlanned r (Ok t) → IsPlanned r (Ok u) → t ≡ u
@@ -43,6 +45,8 @@ text_once command.Cert r s t h p q =
     let one : IsTableText r s q.0 = subst (λ (rows : List Row). IsTableText r s rows) (table_once r p.0 q.0 p.1.table q.1.table) p.1 in
     one.spelled ∙ sym q.1.spelled
 text_once command.Check r s t h p q = absurd p
+text_once (command.Compile modulus) r s t h p q = absurd p
+text_once (command.Apply modulus schedule) r s t h p q = absurd p
 text_once (command.Exec schedule) r s t h p q = absurd p
 text_once (command.Sample seed schedule) r s t h p q =
     p.2
@@ -60,6 +64,8 @@ data_text_once command.C r vectors s t h p q = absurd p
 data_text_once command.Cert r vectors s t h p q = absurd p
 data_text_once command.Check r vectors s t h p q = absurd p
 data_text_once (command.Sample seed schedule) r vectors s t h p q = absurd p
+data_text_once (command.Compile modulus) r vectors s t h p q = absurd p
+data_text_once (command.Apply modulus schedule) r vectors s t h p q = absurd p
 data_text_once (command.Exec schedule) r vectors s t h p q = absurd p
 
 checked_text_once : (r : Request) (bytes : List ℕ) (a b : Status) (s t : List ℕ) → IsChecked r bytes a s → IsChecked r bytes b t → s ≡ t
@@ -98,8 +104,16 @@ answer_text_once words bytes wanted a b s t asked h (inr p) (inr q) =
 pub one_text : (words : List (List ℕ)) (bytes : List ℕ) (wanted : Command) (a b : Status) (s t : List ℕ) → IsAsked words wanted → prints_one_text wanted ≡ true
     → IsOutcome words bytes a s → IsOutcome words bytes b t → s ≡ t
 one_text words bytes wanted a b s t asked h (inl p) (inl q) = answer_text_once words bytes wanted a b s t asked h p q
-one_text words bytes wanted a b s t asked h (inl p) (inr q) = absurd (no_answer words q.0 bytes a s q.1 p)
-one_text words bytes wanted a b s t asked h (inr p) (inl q) = absurd (no_answer words p.0 bytes b t p.1 q)
-one_text words bytes wanted a b s t asked h (inr p) (inr q) =
+one_text words bytes wanted a b s t asked h (inl p) (inr (inl q)) = absurd (no_answer words (command.Exec q.0) bytes a s q.1 refl p)
+one_text words bytes wanted a b s t asked h (inl p) (inr (inr q)) = absurd (no_answer words q.0 bytes a s q.1.0 (no_request q.0 q.1.1) p)
+one_text words bytes wanted a b s t asked h (inr (inl p)) (inl q) = absurd (no_answer words (command.Exec p.0) bytes b t p.1 refl q)
+one_text words bytes wanted a b s t asked h (inr (inr p)) (inl q) = absurd (no_answer words p.0 bytes b t p.1.0 (no_request p.0 p.1.1) q)
+one_text words bytes wanted a b s t asked h (inr (inl p)) (inr (inr q)) = absurd (no_formula words p.0 q.0 p.1 q.1)
+one_text words bytes wanted a b s t asked h (inr (inr p)) (inr (inl q)) = absurd (no_formula words q.0 p.0 q.1 p.1)
+one_text words bytes wanted a b s t asked h (inr (inr p)) (inr (inr q)) =
+    let same : p.0 ≡ q.0 = asked_once words p.0 q.0 p.1.0 q.1.0 in
+    let own : wanted ≡ q.0 = asked_once words wanted q.0 asked q.1.0 in
+    formula_text_once q.0 bytes a b s t (subst (λ (k : Command). prints_one_text k ≡ true) own h) (subst (λ (k : Command). IsFormulaAnswer k bytes a s) same p.2) q.2
+one_text words bytes wanted a b s t asked h (inr (inl p)) (inr (inl q)) =
     let same : p.0 ≡ q.0 = schedule_asked_once words p.0 q.0 p.1 q.1 in
     execution_text_once q.0 bytes a b s t (subst (λ (k : Plan). IsExecution k bytes a s) same p.2) q.2

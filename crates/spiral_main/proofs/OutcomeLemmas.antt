@@ -74,6 +74,8 @@ plan_accepted (command.Trace order) request other p = p
 plan_accepted command.Cert request other p = p
 plan_accepted command.Check request other p = absurd (cc)
 plan_accepted (command.Sample seed schedule) request other p = p
+plan_accepted (command.Compile modulus) request other p = p
+plan_accepted (command.Apply modulus schedule) request other p = p
 plan_accepted (command.Exec schedule) request other p = p
 
 pub plan_declined : (wanted : Command) (request : Request) (status : Status) → reads_certificate wanted ≡ false → IsRefused request status → IsDeclined wanted request status
@@ -86,6 +88,8 @@ plan_declined (command.Trace order) request status other p = p
 plan_declined command.Cert request status other p = p
 plan_declined command.Check request status other p = absurd (cc)
 plan_declined (command.Sample seed schedule) request status other p = p
+plan_declined (command.Compile modulus) request status other p = p
+plan_declined (command.Apply modulus schedule) request status other p = p
 plan_declined (command.Exec schedule) request status other p = p
 
 -- a command has a text of the request alone, or reads its input to its end
@@ -99,6 +103,8 @@ text_alone (command.Trace order) h = refl
 text_alone command.Cert h = refl
 text_alone command.Check h = absurd (cc)
 text_alone (command.Sample seed schedule) h = refl
+text_alone (command.Compile modulus) h = refl
+text_alone (command.Apply modulus schedule) h = refl
 text_alone (command.Exec schedule) h = refl
 
 -- a command that a refusal ends before its output
@@ -136,7 +142,7 @@ performs_cut wanted request room bytes left out out' text p l w = record {
 -- The lines of a run
 
 -- programs that do the same to each vector write the same lines
-lines_equal : (size modulus : ℕ) (f h : List ℕ → List ℕ) → ((x : List ℕ) → length x ≡ size → All (λ v. v < modulus) x → f x ≡ h x) → 0 < modulus
+pub lines_equal : (size modulus : ℕ) (f h : List ℕ → List ℕ) → ((x : List ℕ) → length x ≡ size → All (λ v. v < modulus) x → f x ≡ h x) → 0 < modulus
     → (count : ℕ) (ts : List (List ℕ)) → count * size ≤ length ts → lines f (group_vectors size modulus count ts) ≡ lines h (group_vectors size modulus count ts)
 lines_equal size modulus f h same some zero ts fits = refl
 lines_equal size modulus f h same some (suc count) ts fits =

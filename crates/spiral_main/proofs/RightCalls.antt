@@ -10,18 +10,22 @@ use Rattle.request_text.specs.Schedule.{Plan}
 use Rattle.spiral_words.specs.declared.Command.{Command}
 use Rattle.spiral_words.specs.declared.Command.TheVariants as command
 use Rattle.spiral_main.specs.declared.status.Status.{Status}
-use Rattle.spiral_main.specs.declared.status.Status.TheVariants.{Success, Usage, Syntax, Range, Shape, LanesLine, Turn, NoDivide, OverBudget, BadNumber, Truncated, ReadFault, WriteFault, NoMemory, TooLong, Unread, Wrong, ListingSyntax, Address, Register, LineShared, OverSteps}
+use Rattle.spiral_main.specs.declared.status.Status.TheVariants.{Success, Usage, Syntax, Range, Shape, LanesLine, Turn, NoDivide, OverBudget, BadNumber, Truncated, ReadFault, WriteFault, NoMemory, TooLong, Unread, Wrong, FormulaShape, FormulaTooDeep, ListingSyntax, Address, Register, LineShared, OverSteps}
 use Rattle.spiral_main.specs.declared.status.Status.TheVariants as status
 use Rattle.spiral_main.specs.Checked.{IsChecked, status_of_verdict}
 use Rattle.spiral_main.specs.Commands.{reads_certificate}
+use Rattle.spl_ast.specs.Formula.{Formula, size_of}
+use Rattle.spiral_main.specs.Compiled.{formula_in, SettlesFormula, IsFormulaAnswer}
 use Rattle.spiral_main.specs.Fault.{status_of_stream}
 use Rattle.spiral_main.specs.Line.{data_of}
 use Rattle.spiral_main.specs.Listed.{runnable, room_behind_listing, IsAnswerOfProgram, IsExecution}
 use Rattle.spiral_main.specs.Outcome.{Job, IsTextOfData, Settles, IsAnswerToRequest, IsOutcome, room_behind, Accounts}
-use Rattle.spiral_main.specs.Right.{AreWholeVectors, IsRightRest, IsRightRequest, IsRightCall, Succeeds}
+use Rattle.spiral_main.specs.Right.{AreRightData, AreWholeVectors, IsRightRest, IsRightRequest, IsRightCall, Succeeds}
 use Rattle.spiral_main.specs.Stream.{data_answer}
+use Rattle.spiral_words.proofs.OneCommand.{asked_once}
 use Rattle.spiral_main.proofs.OneExecution.{runnable_decided}
-use Rattle.spiral_main.proofs.OneOutcome.{ordered_decided, no_order, no_answer, schedule_asked_once}
+use Rattle.spiral_main.proofs.OneFormula.{formula_decided}
+use Rattle.spiral_main.proofs.OneOutcome.{ordered_decided, no_order, no_answer, no_formula, no_request, schedule_asked_once}
 use Rattle.spiral_main.proofs.Stages.{done_same, done_ended}
 use Rattle.spiral_main.proofs.StreamLemmas.{right_answer}
 
@@ -36,6 +40,8 @@ data_right command.C r room bytes vectors text right p = absurd p
 data_right command.Cert r room bytes vectors text right p = absurd p
 data_right command.Check r room bytes vectors text right p = absurd p
 data_right (command.Sample seed schedule) r room bytes vectors text right p = absurd p
+data_right (command.Compile modulus) r room bytes vectors text right p = absurd p
+data_right (command.Apply modulus schedule) r room bytes vectors text right p = absurd p
 data_right (command.Exec schedule) r room bytes vectors text right p = absurd p
 
 check_right : (wanted : Command) (r : Request) (room : ℕ) (bytes : List ℕ) (s : Status) (text : List ℕ) → IsRightRest wanted r room bytes → reads_certificate wanted ≡ true → IsChecked r bytes s text → s ≡ Success
@@ -49,6 +55,8 @@ check_right command.Code r room bytes s text right h p = absurd (cc)
 check_right command.C r room bytes s text right h p = absurd (cc)
 check_right command.Cert r room bytes s text right h p = absurd (cc)
 check_right (command.Sample seed schedule) r room bytes s text right h p = absurd (cc)
+check_right (command.Compile modulus) r room bytes s text right h p = absurd (cc)
+check_right (command.Apply modulus schedule) r room bytes s text right h p = absurd (cc)
 check_right (command.Exec schedule) r room bytes s text right h p = absurd (cc)
 
 settled_right : (wanted : Command) (r : Request) (room : ℕ) (bytes : List ℕ) (s : Status) (text : List ℕ) → IsRightRest wanted r room bytes → Settles wanted r room bytes s text → s ≡ Success
@@ -72,11 +80,33 @@ execution_success schedule bytes program s text runs right (inr p) =
     subst (λ (q : PlainProgram). IsAnswerOfProgram q (room_behind_listing bytes) (second_part bytes) s text) same p.2 in
     answer.0 ∙ ap status_of_stream (right_answer program.size (room_behind_listing bytes) (second_part bytes) right.few right.good right.whole)
 
+settled_formula : (wanted : Command) (formula : Formula) (room : ℕ) (bytes : List ℕ) (s : Status) (text : List ℕ) → AreRightData wanted formula room bytes
+    → SettlesFormula wanted formula room bytes s text → s ≡ Success
+settled_formula (command.Compile modulus) formula room bytes s text right p = p.0
+settled_formula (command.Apply modulus schedule) formula room bytes s text right p =
+    p.0 ∙ ap status_of_stream (right_answer (size_of formula) room bytes right.few right.good right.whole)
+settled_formula _ formula room bytes s text right p = absurd p
+
+formula_success : (wanted : Command) (bytes : List ℕ) (formula : Formula) (s : Status) (text : List ℕ) → formula_in wanted bytes (Ok formula)
+    → AreRightData wanted formula (room_behind bytes) (data_of bytes) → IsFormulaAnswer wanted bytes s text → s ≡ Success
+formula_success wanted bytes formula s text orders right (inl p) = absurd (done_ended formula s (formula_decided wanted bytes (Ok formula) (Err s) orders p.0))
+formula_success wanted bytes formula s text orders right (inr p) =
+    let same : p.0 ≡ formula = done_same p.0 formula (formula_decided wanted bytes (Ok p.0) (Ok formula) p.1 orders) in
+    settled_formula wanted formula (room_behind bytes) (data_of bytes) s text right
+    (subst (λ (f : Formula). SettlesFormula wanted f (room_behind bytes) (data_of bytes) s text) same p.2)
+
 right_success : (words : List (List ℕ)) (bytes : List ℕ) (s : Status) (text : List ℕ) → IsRightCall words bytes → IsOutcome words bytes s text → s ≡ Success
 right_success words bytes s text (inl right) (inl p) = answer_success words bytes s text right p
-right_success words bytes s text (inl right) (inr p) = absurd (no_order words p.0 bytes (Ok right.job) p.1 right.asks)
-right_success words bytes s text (inr right) (inl p) = absurd (no_answer words right.schedule bytes s text right.asked p)
-right_success words bytes s text (inr right) (inr p) =
+right_success words bytes s text (inl right) (inr (inl p)) = absurd (no_order words (command.Exec p.0) bytes (Ok right.job) p.1 refl right.asks)
+right_success words bytes s text (inl right) (inr (inr p)) = absurd (no_order words p.0 bytes (Ok right.job) p.1.0 (no_request p.0 p.1.1) right.asks)
+right_success words bytes s text (inr (inl right)) (inl p) = absurd (no_answer words (command.Exec right.schedule) bytes s text right.asked refl p)
+right_success words bytes s text (inr (inl right)) (inr (inr p)) = absurd (no_formula words right.schedule p.0 right.asked p.1)
+right_success words bytes s text (inr (inr right)) (inl p) = absurd (no_answer words right.wanted bytes s text right.asked.0 (no_request right.wanted right.asked.1) p)
+right_success words bytes s text (inr (inr right)) (inr (inl p)) = absurd (no_formula words p.0 right.wanted p.1 right.asked)
+right_success words bytes s text (inr (inr right)) (inr (inr p)) =
+    let same : p.0 ≡ right.wanted = asked_once words p.0 right.wanted p.1.0 right.asked.0 in
+    formula_success right.wanted bytes right.formula s text right.orders right.rest (subst (λ (k : Command). IsFormulaAnswer k bytes s text) same p.2)
+right_success words bytes s text (inr (inl right)) (inr (inl p)) =
     let same : p.0 ≡ right.schedule = schedule_asked_once words p.0 right.schedule p.1 right.asked in
     execution_success right.schedule bytes right.program s text right.runs right.rest (subst (λ (k : Plan). IsExecution k bytes s text) same p.2)
 
@@ -99,6 +129,8 @@ memory_or WriteFault = inr (λ e. cc)
 memory_or (TooLong limit) = inr (λ e. cc)
 memory_or Unread = inr (λ e. cc)
 memory_or (Wrong size given found) = inr (λ e. cc)
+memory_or (FormulaShape at left right) = inr (λ e. cc)
+memory_or (FormulaTooDeep at) = inr (λ e. cc)
 memory_or (ListingSyntax line) = inr (λ e. cc)
 memory_or (Address phase proc action) = inr (λ e. cc)
 memory_or (Register phase proc action) = inr (λ e. cc)

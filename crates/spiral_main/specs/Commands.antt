@@ -6,7 +6,7 @@ use Rattle.request_text.specs.Schedule.{Plan as Turns}
 use Rattle.request_text.specs.Turns.{named}
 use Rattle.spiral_words.specs.Asked.{IsAsked, IsUsage}
 use Rattle.spiral_words.specs.declared.Command.{Command}
-use Rattle.spiral_words.specs.declared.Command.TheVariants.{Plan, Formula, Cert, Check, Code, C, Run, Trace, Sample, Exec}
+use Rattle.spiral_words.specs.declared.Command.TheVariants.{Plan, Formula, Cert, Check, Code, C, Run, Trace, Sample, Compile, Apply, Exec}
 use Rattle.spiral_main.specs.Orders.{procs_of}
 use Rattle.spiral_main.specs.Stage.{Stage}
 use Rattle.spiral_main.specs.declared.status.Status.{Status}
@@ -16,13 +16,27 @@ use Rattle.spiral_main.specs.declared.status.Status.TheVariants.{Usage, Turn, No
 abbrev pub reads_data : Command → Bool
 reads_data (Run order) = true
 reads_data (Trace order) = true
+reads_data (Apply modulus schedule) = true
 reads_data (Exec schedule) = true
 reads_data _ = false
 
 -- the commands that go by a request, which the first line of the input spells
 abbrev pub takes_request : Command → Bool
+takes_request (Compile modulus) = false
+takes_request (Apply modulus schedule) = false
 takes_request (Exec schedule) = false
 takes_request _ = true
+
+-- the commands that go by a formula, which the first line of the input spells
+abbrev pub takes_formula : Command → Bool
+takes_formula (Compile modulus) = true
+takes_formula (Apply modulus schedule) = true
+takes_formula _ = false
+
+-- the command that goes by a listing, with which the input begins
+abbrev pub takes_listing : Command → Bool
+takes_listing (Exec schedule) = true
+takes_listing _ = false
 
 -- the command that judges a certificate
 abbrev pub reads_certificate : Command → Bool
@@ -48,6 +62,7 @@ abbrev pub prints_one_text : Command → Bool
 prints_one_text Code = false
 prints_one_text C = false
 prints_one_text (Trace order) = false
+prints_one_text (Compile modulus) = false
 prints_one_text _ = true
 
 -- the command that the words ask for, if it goes by a request
@@ -67,6 +82,10 @@ AskForRequest words = (command : Command) × commanded words (Ok command)
 abbrev pub AreJudged : List (List ℕ) → Status → Type 0
 AreJudged words status = (status ≡ NoMemory) ⊎ (((status ≡ Usage) × IsUsage words) ⊎ ((status ≢ Usage) × AskForCommand words))
 
+-- the words ask for this command, which goes by a formula
+abbrev pub AskForFormula : List (List ℕ) → Command → Type 0
+AskForFormula words command = IsAsked words command × (takes_formula command ≡ true)
+
 -- the words ask for a command that reads its input to its end
 abbrev pub AskForRest : List (List ℕ) → Type 0
 AskForRest words = (command : Command) × IsAsked words command × (reads_rest command ≡ true)
@@ -76,6 +95,7 @@ abbrev pub procs_named : Command → List ℕ
 procs_named (Run order) = procs_of order
 procs_named (Trace order) = procs_of order
 procs_named (Sample seed schedule) = named schedule
+procs_named (Apply modulus schedule) = named schedule
 procs_named (Exec schedule) = named schedule
 procs_named _ = []
 

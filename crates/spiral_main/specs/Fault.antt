@@ -8,6 +8,8 @@ use Rattle.request_text.specs.declared.RequestFault.{RequestFault}
 use Rattle.request_text.specs.declared.RequestFault.TheVariants as request
 use Rattle.listing_text.specs.declared.listing.ListingFault.{ListingFault}
 use Rattle.listing_text.specs.declared.listing.ListingFault.TheVariants as listing
+use Rattle.spl_text.specs.declared.reading.SplFault.{SplFault}
+use Rattle.spl_text.specs.declared.reading.SplFault.TheVariants as spl
 use Rattle.code_check.specs.declared.fault.CheckFault.{CheckFault}
 use Rattle.code_check.specs.declared.fault.CheckFault.TheVariants as check
 use Rattle.generate.specs.declared.GenerateFault.{GenerateFault}
@@ -15,7 +17,7 @@ use Rattle.generate.specs.declared.GenerateFault.TheVariants as generate
 use Rattle.spiral_main.specs.declared.stream.StreamFault.{StreamFault}
 use Rattle.spiral_main.specs.declared.stream.StreamFault.TheVariants as stream
 use Rattle.spiral_main.specs.declared.status.Status.{Status}
-use Rattle.spiral_main.specs.declared.status.Status.TheVariants.{Success, Syntax, Range, Shape, LanesLine, Root, NoDivide, OverBudget, BadNumber, Truncated, ReadFault, WriteFault, NoMemory, TooLong, ListingSyntax, Address, Register, LineShared, OverSteps}
+use Rattle.spiral_main.specs.declared.status.Status.TheVariants.{Success, Syntax, Range, Shape, LanesLine, Root, NoDivide, OverBudget, BadNumber, Truncated, ReadFault, WriteFault, NoMemory, TooLong, FormulaShape, FormulaTooDeep, ListingSyntax, Address, Register, LineShared, OverSteps}
 
 -- of the first line
 abbrev pub status_of_line : FeedFault → Status
@@ -47,6 +49,12 @@ status_of_fault stream.TooLong = TooLong (2 ^ 30)
 status_of_fault stream.ReadFault = ReadFault
 status_of_fault stream.WriteFault = WriteFault
 
+abbrev pub status_of_spl : SplFault → Status
+status_of_spl (spl.Syntax at) = Syntax at
+status_of_spl (spl.TooDeep at) = FormulaTooDeep at
+status_of_spl (spl.Shape at left right) = FormulaShape at left right
+status_of_spl spl.NoMemory = NoMemory
+
 abbrev pub status_of_listing : ListingFault → Status
 status_of_listing (listing.Syntax line) = ListingSyntax line
 status_of_listing listing.NoMemory = NoMemory
@@ -63,6 +71,12 @@ abbrev pub status_of_part : RestFault → Status
 status_of_part rest.ReadFault = ReadFault
 status_of_part rest.TooLong = TooLong 1048576
 status_of_part rest.NoMemory = NoMemory
+
+-- of the line of a formula
+abbrev pub status_of_text : RestFault → Status
+status_of_text rest.ReadFault = ReadFault
+status_of_text rest.TooLong = TooLong 65536
+status_of_text rest.NoMemory = NoMemory
 
 -- of a run over the data
 abbrev pub status_of_stream : Result (Unit {0}) StreamFault → Status

@@ -1,5 +1,6 @@
 pub mod Checked
 pub mod Commands
+pub mod Compiled
 pub mod Fault
 pub mod Line
 pub mod Listed

@@ -1,6 +1,7 @@
 -- The first line of an input, and what stands behind it.
-use Rattle.std.specs.Prelude.{◌≡◌, ◌⊎◌, ℕ, ◌+◌, ◌<◌, ◌≤◌, ◌==◌, nat_le, Bool, true, false, List, [], ◌++◌, length, take, Ok, Err, Result, if◌then◌else◌}
+use Rattle.std.specs.Prelude.{◌≡◌, ◌⊎◌, ℕ, ◌+◌, ◌-◌, ◌<◌, ◌≤◌, ◌==◌, nat_le, Bool, true, false, List, [], ◌++◌, length, take, Ok, Err, Result, if◌then◌else◌}
 use Rattle.std.specs.List.{before_first, after_first, list_any}
+use Rattle.io_edge.specs.Feed.{limit}
 use Rattle.io_edge.specs.declared.FeedFault.{FeedFault}
 use Rattle.io_edge.specs.declared.FeedFault.TheVariants.{ReadFault}
 use Rattle.io_edge.specs.declared.FeedFault.TheVariants as feed
@@ -17,6 +18,10 @@ first_line bytes = before_first is_line_end bytes
 -- what stands behind the first line's end, and nothing where it has none
 abbrev pub data_of : List ℕ → List ℕ
 data_of bytes = after_first is_line_end bytes
+
+-- as many bytes as the limit leaves behind the first line
+abbrev pub room_behind : List ℕ → ℕ
+room_behind bytes = limit - (length bytes - length (data_of bytes))
 
 -- the first line, if it has at most 256 bytes
 abbrev pub line_of : List ℕ → Result (List ℕ) Status

@@ -24,7 +24,6 @@ use Rattle.spl_text.specs.Spelling.{spelling}
 use Rattle.listing_text.specs.Listing.{listing_of}
 use Rattle.c_print.specs.CText.{c_text_of}
 use Rattle.io_edge.specs.Faults.{Rose}
-use Rattle.io_edge.specs.Feed.{limit}
 use Rattle.io_edge.specs.Taken.{AppendsPrefix}
 use Rattle.data_stream.specs.Data.{tokens, closed_part, is_good}
 use Rattle.spiral_words.specs.Asked.{IsAsked}
@@ -34,9 +33,11 @@ use Rattle.spiral_words.specs.declared.Command.TheVariants as command
 use Rattle.spiral_main.specs.declared.status.Status.{Status}
 use Rattle.spiral_main.specs.declared.status.Status.TheVariants.{Success, ReadFault, WriteFault}
 use Rattle.spiral_main.specs.Checked.{certificate_limit, IsJudged, IsChecked}
-use Rattle.spiral_main.specs.Commands.{reads_certificate, commanded, AskForRequest, scheduled}
+use Rattle.spiral_main.specs.Commands.{reads_certificate, commanded, AskForRequest, AskForFormula, scheduled}
 use Rattle.spiral_main.specs.Fault.{status_of_request, status_of_generate, status_of_stream}
+use Rattle.spiral_main.specs.Compiled.{IsFormulaAnswer, IsBrokenFormula, IsCutFormula}
 use Rattle.spiral_main.specs.Line.{line_of, data_of, IsPartOfLine, HasEnded}
+pub use Rattle.spiral_main.specs.Line.{room_behind}
 use Rattle.spiral_main.specs.Listed.{IsExecution, IsBrokenExecution, IsCutExecution}
 use Rattle.spiral_main.specs.Orders.{traced_text}
 use Rattle.spiral_main.specs.Sample.{sample_vector, weighted_sum, sample_text}
@@ -167,21 +168,18 @@ Settles wanted request room bytes status text =
     ⊎ (((status ≡ Success) × IsTextOf wanted request text)
     ⊎ ((reads_certificate wanted ≡ true) × IsChecked request bytes status text))
 
--- as many bytes as the limit leaves behind the first line
-abbrev pub room_behind : List ℕ → ℕ
-room_behind bytes = limit - (length bytes - length (data_of bytes))
-
 -- by a request: a stage ends the run, and nothing is written, or the status and the text are those of the job
 abbrev pub IsAnswerToRequest : List (List ℕ) → List ℕ → Status → List ℕ → Type 0
 IsAnswerToRequest words bytes status text =
     (ordered words bytes (Err status) × (text ≡ []))
     ⊎ ((job : Job) × ordered words bytes (Ok job) × Settles job.command job.request (room_behind bytes) (data_of bytes) status text)
 
--- The status and the text, by a request or by a listing
+-- The status and the text, by a request, by a listing or by a formula
 abbrev pub IsOutcome : List (List ℕ) → List ℕ → Status → List ℕ → Type 0
 IsOutcome words bytes status text =
     IsAnswerToRequest words bytes status text
-    ⊎ ((schedule : Turns) × IsAsked words (command.Exec schedule) × IsExecution schedule bytes status text)
+    ⊎ (((schedule : Turns) × IsAsked words (command.Exec schedule) × IsExecution schedule bytes status text)
+    ⊎ ((wanted : Command) × AskForFormula words wanted × IsFormulaAnswer wanted bytes status text))
 
 -- What a fault of the outside leaves
 
@@ -196,12 +194,13 @@ pub record IsOrder (words : List (List ℕ)) (read : List ℕ) (ended : Type 0) 
   pub line : HasEnded read ended
   pub asks : ordered words read (Ok job)
 
--- The bytes that were read show no fault: they are a part of the first line, and nothing is written, or a job and a part of what stands behind it, or as much of what is executed
+-- The bytes that were read show no fault: they are a part of the first line, and nothing is written, or a job and a part of what stands behind it, or as much of what is executed, or of a formula and its data
 abbrev pub IsBrokenOff : List (List ℕ) → List ℕ → Type 0 → List ℕ → Type 0
 IsBrokenOff words read ended text =
     (AskForRequest words × IsPartOfLine read × (text ≡ []))
     ⊎ (((job : Job) × IsOrder words read ended job × BreaksOff job.command job.request (data_of read) text)
-    ⊎ ((schedule : Turns) × IsAsked words (command.Exec schedule) × IsBrokenExecution schedule read ended text))
+    ⊎ (((schedule : Turns) × IsAsked words (command.Exec schedule) × IsBrokenExecution schedule read ended text)
+    ⊎ ((wanted : Command) × AskForFormula words wanted × IsBrokenFormula wanted read ended text)))
 
 -- The text to which a command has come by the bytes that it read behind the first line, where this is left. Of data no token counts that what is left may go on
 abbrev pub ComesTo : Command → Request → List ℕ → List ℕ → List ℕ → Type 0
@@ -215,7 +214,8 @@ ComesTo wanted request bytes left text =
 abbrev pub IsCutOff : List (List ℕ) → List ℕ → List ℕ → List ℕ → Type 0
 IsCutOff words read left text =
     ((job : Job) × IsOrder words read (left ≡ []) job × ComesTo job.command job.request (data_of read) left text)
-    ⊎ ((schedule : Turns) × IsAsked words (command.Exec schedule) × IsCutExecution schedule read left text)
+    ⊎ (((schedule : Turns) × IsAsked words (command.Exec schedule) × IsCutExecution schedule read left text)
+    ⊎ ((wanted : Command) × AskForFormula words wanted × IsCutFormula wanted read left text))
 
 -- Status and output of a run, by all the bytes of its input and by what the source has left of them
 pub record Accounts (words : List (List ℕ)) (bytes : List ℕ) (left before after : Option (List ℕ)) (status : Status) : Type 0 where

@@ -10,12 +10,15 @@ use Rattle.data_stream.specs.Data.{tokens, is_good}
 use Rattle.icode.specs.Plain.{PlainProgram}
 use Rattle.input_rest.specs.Part.{second_part}
 use Rattle.request_text.specs.Schedule.{Plan as Turns}
+use Rattle.spl_ast.specs.Formula.{Formula, size_of}
 use Rattle.spiral_words.specs.Asked.{IsAsked}
 use Rattle.spiral_words.specs.declared.Command.{Command}
 use Rattle.spiral_words.specs.declared.Command.TheVariants as command
 use Rattle.spiral_main.specs.declared.status.Status.{Status}
 use Rattle.spiral_main.specs.declared.status.Status.TheVariants.{Success}
 use Rattle.spiral_main.specs.Checked.{certificate_limit}
+use Rattle.spiral_main.specs.Commands.{AskForFormula}
+use Rattle.spiral_main.specs.Compiled.{formula_in}
 use Rattle.spiral_main.specs.Line.{data_of}
 use Rattle.spiral_main.specs.Listed.{runnable, room_behind_listing}
 use Rattle.spiral_main.specs.Outcome.{Job, ordered, room_behind, IsOutcome}
@@ -53,8 +56,21 @@ pub record IsRightExecution (words : List (List ℕ)) (bytes : List ℕ) : Type 
   pub runs : runnable schedule bytes (Ok program)
   pub rest : AreWholeVectors program.size (room_behind_listing bytes) (second_part bytes)
 
+-- the data are right for a command that goes by a formula; `compile` reads none
+abbrev pub AreRightData : Command → Formula → ℕ → List ℕ → Type 0
+AreRightData (command.Apply modulus schedule) formula room bytes = AreWholeVectors (size_of formula) room bytes
+AreRightData _ formula room bytes = Unit {0}
+
+-- The words ask for `compile` or `apply`, the first line spells a formula and is not too long, the schedule names the one processor alone, and the data are right
+pub record IsRightFormula (words : List (List ℕ)) (bytes : List ℕ) : Type 0 where
+  pub wanted : Command
+  pub asked : AskForFormula words wanted
+  pub formula : Formula
+  pub orders : formula_in wanted bytes (Ok formula)
+  pub rest : AreRightData wanted formula (room_behind bytes) (data_of bytes)
+
 abbrev pub IsRightCall : List (List ℕ) → List ℕ → Type 0
-IsRightCall words bytes = IsRightRequest words bytes ⊎ IsRightExecution words bytes
+IsRightCall words bytes = IsRightRequest words bytes ⊎ (IsRightExecution words bytes ⊎ IsRightFormula words bytes)
 
 -- the status is Success, and the output took the whole text
 pub record Succeeds (words : List (List ℕ)) (bytes : List ℕ) (before after : Option (List ℕ)) (status : Status) : Type 0 where

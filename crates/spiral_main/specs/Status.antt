@@ -4,7 +4,7 @@ use Rattle.std.specs.List.{concat}
 use Rattle.request_text.specs.declared.fault.Field.{Field}
 use Rattle.request_text.specs.declared.fault.Field.TheVariants.{Size, Mod, Root, Procs, Line, Lanes, Unroll, Budget, Weight}
 use Rattle.spiral_main.specs.declared.status.Status.{Status}
-use Rattle.spiral_main.specs.declared.status.Status.TheVariants.{Success, Usage, Syntax, Range, Shape, LanesLine, Turn, NoDivide, OverBudget, BadNumber, Truncated, ReadFault, WriteFault, NoMemory, TooLong, Unread, Wrong, ListingSyntax, Address, Register, LineShared, OverSteps}
+use Rattle.spiral_main.specs.declared.status.Status.TheVariants.{Success, Usage, Syntax, Range, Shape, LanesLine, Turn, NoDivide, OverBudget, BadNumber, Truncated, ReadFault, WriteFault, NoMemory, TooLong, Unread, Wrong, FormulaShape, FormulaTooDeep, ListingSyntax, Address, Register, LineShared, OverSteps}
 use Rattle.spiral_main.specs.declared.status.Status.TheVariants as status
 
 abbrev pub code_of : Status → ℕ
@@ -26,6 +26,8 @@ code_of NoMemory = 12
 code_of (TooLong limit) = 13
 code_of Unread = 14
 code_of (Wrong size given found) = 14
+code_of (FormulaShape at left right) = 16
+code_of (FormulaTooDeep at) = 17
 code_of (ListingSyntax line) = 18
 code_of (Address phase proc action) = 19
 code_of (Register phase proc action) = 20
@@ -69,6 +71,9 @@ note_line (TooLong limit) = concat (codes "spiral: more than " ∷ decimal limit
 note_line Unread = codes "spiral: certificate unreadable\n"
 note_line (Wrong size given found) =
     concat (codes "spiral: certificate row " ∷ decimal size ∷ codes " gives " ∷ decimal given ∷ codes ", found " ∷ decimal found ∷ codes "\n" ∷ [])
+note_line (FormulaShape at left right) =
+    concat (codes "spiral: formula shape at byte " ∷ decimal at ∷ codes ": " ∷ decimal left ∷ codes " and " ∷ decimal right ∷ codes "\n" ∷ [])
+note_line (FormulaTooDeep at) = concat (codes "spiral: formula too deep at byte " ∷ decimal at ∷ codes "\n" ∷ [])
 note_line (ListingSyntax line) = concat (codes "spiral: listing syntax at line " ∷ decimal line ∷ codes "\n" ∷ [])
 note_line (Address phase proc action) = action_line (codes "spiral: bad place in phase ") phase proc action
 note_line (Register phase proc action) = action_line (codes "spiral: bad register in phase ") phase proc action

@@ -20,6 +20,7 @@ use Rattle.request_text.specs.Schedule.{Plan as Turns}
 use Rattle.spiral_words.specs.declared.Command.{Command}
 use Rattle.spiral_main.specs.declared.status.Status.{Status}
 use Rattle.spiral_main.specs.declared.status.Status.TheVariants.{Success, Usage, ReadFault, WriteFault}
+use Rattle.spiral_main.specs.Compiled.{IsFormulaAnswer, IsBrokenFormula, IsCutFormula}
 use Rattle.spiral_main.specs.Fault.{status_of_part}
 use Rattle.spiral_main.specs.Line.{data_of, IsPartOfLine}
 use Rattle.spiral_main.specs.Listed.{listing_limit, loaded, IsExecution, IsBrokenExecution, IsCutExecution}
@@ -94,6 +95,18 @@ pub record Executes (schedule : Turns) (bytes : List ℕ) (left before after : O
 abbrev pub ToldExecutes : Turns → Option (List ℕ) → Option (List ℕ) → Option (List ℕ) → Option (List ℕ) → Status → Type 0
 ToldExecutes schedule None left before after status = Unit {0}
 ToldExecutes schedule (Some bytes) left before after status = Executes schedule bytes left before after status
+
+-- status and output of a command that goes by a formula, by all the bytes of its input and by what is left of them
+pub record Computes (wanted : Command) (bytes : List ℕ) (left before after : Option (List ℕ)) (status : Status) : Type 0 where
+  pub answer : IsDefined status → (text : List ℕ) × IsFormulaAnswer wanted bytes status text × Appends before after text
+  pub read_fault : status ≡ ReadFault → (read : List ℕ) × (text : List ℕ) × Consumes (Some bytes) left read
+      × IsBrokenFormula wanted read (IsAtEnd left) text × Appends before after text
+  pub write_fault : status ≡ WriteFault → (read : List ℕ) × (rest : List ℕ) × (text : List ℕ) × (bytes ≡ read ++ rest)
+      × IsCutFormula wanted read rest text × AppendsPrefix before after text
+
+abbrev pub ToldComputes : Command → Option (List ℕ) → Option (List ℕ) → Option (List ℕ) → Option (List ℕ) → Status → Type 0
+ToldComputes wanted None left before after status = Unit {0}
+ToldComputes wanted (Some bytes) left before after status = Computes wanted bytes left before after status
 
 abbrev pub ToldAccounts : List (List ℕ) → Option (List ℕ) → Option (List ℕ) → Option (List ℕ) → Option (List ℕ) → Status → Type 0
 ToldAccounts words None left before after status = Unit {0}

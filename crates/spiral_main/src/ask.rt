@@ -83,6 +83,7 @@ fn stranger(command: &Command, p: u64) -> Option<u64>
         Command::Run { order } => stranger_in(order, p),
         Command::Trace { order } => stranger_in(order, p),
         Command::Sample { schedule, .. } => schedule.stranger(p),
+        Command::Apply { schedule, .. } => schedule.stranger(p),
         Command::Exec { schedule } => schedule.stranger(p),
         _ => None,
     }

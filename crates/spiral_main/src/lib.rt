@@ -11,12 +11,15 @@ ghost use Rattle.spiral_main.specs.Commands.{prints_one_text};
 ghost use Rattle.spiral_main.specs.Outcome.{Accounts, IsOutcome};
 ghost use Rattle.spiral_main.specs.Right.{IsRightCall, Succeeds};
 
+mod apply;
 mod ask;
 mod buffered;
 mod check;
+mod compile;
 mod data;
 mod events;
 mod exec;
+mod formula_line;
 mod line;
 mod note;
 mod plans;

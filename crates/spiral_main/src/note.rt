@@ -242,6 +242,36 @@ fn note_shared<E: Sink>(
     )
 }
 
+// Writes which part of a formula does not fit, and for which numbers.
+fn note_misfit<E: Sink>(note: &mut E, at: u64, left: u64, right: u64) -> Result<(), WriteFault>
+    ensures bytes { WritesAll (E.taken note.old) (E.taken note.new) result (note_line (Status.FormulaShape at left right)) }
+    ensures cause { HasCause (E.faults note.old) (E.faults note.new) result }
+{
+    let mut places = Buffer::new();
+    let mut lefts = Buffer::new();
+    let mut rights = Buffer::new();
+    write_parts(
+        note,
+        &[
+            b"spiral: formula shape at byte ",
+            places.format(at).as_bytes(),
+            b": ",
+            lefts.format(left).as_bytes(),
+            b" and ",
+            rights.format(right).as_bytes(),
+            b"\n",
+        ],
+    )
+}
+
+// Writes where a formula is too deep.
+fn note_depth<E: Sink>(note: &mut E, at: u64) -> Result<(), WriteFault>
+    ensures bytes { WritesAll (E.taken note.old) (E.taken note.new) result (note_line (Status.FormulaTooDeep at)) }
+    ensures cause { HasCause (E.faults note.old) (E.faults note.new) result }
+{
+    note_number(note, b"spiral: formula too deep at byte ", at, b"\n")
+}
+
 // Writes how many actions are too many.
 fn note_steps<E: Sink>(note: &mut E, limit: u64) -> Result<(), WriteFault>
     ensures bytes { WritesAll (E.taken note.old) (E.taken note.new) result (note_line (Status.OverSteps limit)) }
@@ -277,6 +307,8 @@ pub(crate) fn write_note<E: Sink>(note: &mut E, status: Status) -> Result<(), Wr
         Status::TooLong { limit } => note_too_long(note, limit),
         Status::Unread => write_all(note, b"spiral: certificate unreadable\n"),
         Status::Wrong { size, given, found } => note_row(note, size, given, found),
+        Status::FormulaShape { at, left, right } => note_misfit(note, at, left, right),
+        Status::FormulaTooDeep { at } => note_depth(note, at),
         Status::ListingSyntax { line } => note_listing(note, line),
         Status::Address {
             phase,

@@ -5,12 +5,13 @@ ghost use Rattle.std.specs.Io.KnownBytes.{Appends, IsAtEnd};
 ghost use Rattle.matrix_meaning.specs.Valid.{IsInRange};
 ghost use Rattle.io_edge.specs.Faults.{Reports};
 ghost use Rattle.io_edge.specs.Feed.{to_come, limit};
-ghost use Rattle.spiral_main.specs.Commands.{reads_rest, takes_request, has_text, AskForRest, AskForCommand, AreJudged, NamesNoStranger};
+ghost use Rattle.spiral_main.specs.Commands.{reads_rest, takes_formula, takes_listing, takes_request, has_text, AskForRest, AskForCommand, AreJudged, NamesNoStranger};
 ghost use Rattle.spiral_main.specs.Outcome.{Accounts, Notes};
 ghost use Rattle.spiral_main.specs.Stage.{status_of};
 ghost use Rattle.spiral_main.specs.Status.{note_line};
 ghost use Rattle.spiral_main.specs.Steps.{Performs, ToldPerforms, ToldAccounts};
 
+use crate::apply::by_formula;
 use crate::ask::{ask, asked};
 use crate::check::check;
 use crate::data::{run, trace};
@@ -78,12 +79,19 @@ fn perform<I: Source, O: Sink>(
 
 // The schedule of `exec`, if that is the command.
 fn schedule_of_exec(command: &Command) -> Option<&Schedule>
-    ensures { MatchOption result (takes_request command.now ≡ true) (λ schedule. command.now ≡ Command.Exec schedule.now) }
+    ensures { MatchOption result (takes_listing command.now ≡ false) (λ schedule. command.now ≡ Command.Exec schedule.now) }
 {
     match command {
         Command::Exec { schedule } => Some(schedule),
         _ => None,
     }
+}
+
+// Whether the command goes by a formula.
+fn takes_formula(command: &Command) -> bool
+    ensures { result ≡ takes_formula command.now }
+{
+    matches!(command, Command::Compile { .. } | Command::Apply { .. })
 }
 
 // Does what the words and the input ask for.
@@ -106,6 +114,9 @@ fn work<I: Source, O: Sink>(
     if let Some(schedule) = schedule_of_exec(&command) {
         return exec(alloc, schedule, &mut feed, input, output);
     }
+    if takes_formula(&command) {
+        return by_formula(alloc, &command, &mut feed, input, output);
+    }
     let request = ask(&command, &mut feed, input)?;
     perform(alloc, &command, &request, &mut feed, input, output)
 }
@@ -125,7 +136,8 @@ fn ending(ended: Result<(), Status>) -> Status
 /// The words are the program's name, a command and its options. The first line of the input is the request. What stands
 /// behind it are the data of `run` and `trace`, numbers in tokens, of which every vector has as many as the request's size,
 /// or the certificate that `check` judges. `exec` has no request: the lines before the first empty line of its input are a
-/// listing, and what stands behind that line are the data of its program.
+/// listing, and what stands behind that line are the data of its program. Nor have `compile` and `apply`: the first line of
+/// their input is a formula, and what stands behind it are the data of `apply`.
 pub fn spiral_run<I: Source, O: Sink, E: Sink>(
     alloc: Global,
     words: &Vec<String>,
@@ -136,7 +148,7 @@ pub fn spiral_run<I: Source, O: Sink, E: Sink>(
     // Where the input tells its bytes, they and the words account for the status and for what the output took. Where a
     // read failed, that is the whole text of what the input gave.
     ensures told { IfSome (I.left input.old) (λ bytes. Accounts (map string_bytes words.now.items) bytes (I.left input.new) (O.taken output.old) (O.taken output.new) result) }
-    // `run`, `trace`, `check` and `exec` have read their input to its end where they succeed.
+    // `run`, `trace`, `check`, `exec` and `apply` have read their input to its end where they succeed.
     ensures end { result ≡ Status.Success → AskForRest (map string_bytes words.now.items) → IsAtEnd (I.left input.new) }
 
     // A fault has its cause and is not swallowed, also where nothing is told.

@@ -12,6 +12,7 @@ use io_edge::{Feed, FeedFault, WriteFault};
 use listing_text::ListingFault;
 use memory::NoMemory;
 use request_text::{Field, RequestFault};
+use spl_text::SplFault;
 use std::alloc::AllocError;
 
 /// How a run ended.
@@ -20,7 +21,7 @@ pub enum Status {
     Success,
     /// The words are no command line.
     Usage,
-    /// No request's line begins with more bytes of the first line than these.
+    /// No request's line, or no formula's, begins with more bytes of the first line than these.
     Syntax {
         at: u64,
     },
@@ -68,7 +69,7 @@ pub enum Status {
     /// The output failed.
     WriteFault,
     NoMemory,
-    /// The line, the input or the certificate has more bytes than this.
+    /// The line, the input, the certificate or the listing has more bytes than this.
     TooLong {
         limit: u64,
     },
@@ -79,6 +80,16 @@ pub enum Status {
         size: u64,
         given: u64,
         found: u64,
+    },
+    /// The part of a formula's text that begins here does not fit, for these two numbers.
+    FormulaShape {
+        at: u64,
+        left: u64,
+        right: u64,
+    },
+    /// The parenthesis of a formula's text that is open beside too many.
+    FormulaTooDeep {
+        at: u64,
     },
     /// The first line of a listing after which no listing goes on.
     ListingSyntax {
@@ -129,6 +140,8 @@ impl Status {
             Status::NoMemory => 12,
             Status::TooLong { .. } => 13,
             Status::Unread | Status::Wrong { .. } => 14,
+            Status::FormulaShape { .. } => 16,
+            Status::FormulaTooDeep { .. } => 17,
             Status::ListingSyntax { .. } => 18,
             Status::Address { .. } => 19,
             Status::Register { .. } => 20,
@@ -217,6 +230,22 @@ impl From<RestFault> for Status {
                 limit: CERTIFICATE_LIMIT,
             },
             RestFault::NoMemory => Status::NoMemory,
+        }
+    }
+}
+
+impl From<SplFault> for Status {
+    ghost use Rattle.std.specs.Prelude.{◌≡◌};
+    ghost use Rattle.spiral_main.specs.Fault.{status_of_spl};
+
+    ghost from_gives = { λ fault status. status ≡ status_of_spl fault };
+
+    fn from(fault: SplFault) -> Self {
+        match fault {
+            SplFault::Syntax { at } => Status::Syntax { at },
+            SplFault::TooDeep { at } => Status::FormulaTooDeep { at },
+            SplFault::Shape { at, left, right } => Status::FormulaShape { at, left, right },
+            SplFault::NoMemory => Status::NoMemory,
         }
     }
 }

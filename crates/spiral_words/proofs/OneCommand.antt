@@ -1,20 +1,20 @@
 -- Words ask for one command.
-use Rattle.std.proofs.Common.{◌≡◌, ◌⊎◌, ℕ, List, [], ◌∷◌, ◌++◌, Bool, true, false, Result, Ok, Err, Some, refl, sym, ap, ap₂, subst, ◌∙◌, codes, arith, inl, inr}
+use Rattle.std.proofs.Common.{◌≡◌, ◌⊎◌, ℕ, ◌^◌, List, [], ◌∷◌, ◌++◌, Bool, true, false, Result, Ok, Err, Some, refl, sym, ap, ap₂, subst, ◌∙◌, codes, arith, inl, inr}
 use Rattle.clap.specs.Words.{Text}
-use Rattle.grammar.specs.Grammar.{Judges, one_of}
+use Rattle.grammar.specs.Grammar.{Judges, number, one_of}
 use Rattle.icode.specs.declared.event.Event.{Event}
 use Rattle.request_text.specs.Mix.{mix_word}
 use Rattle.request_text.specs.Schedule.{Plan, schedule_word}
 use Rattle.request_text.proofs.MixWord.{mix_judges}
 use Rattle.request_text.proofs.ScheduleWord.{word_judges}
-use Rattle.spiral_words.proofs.SeedWord.{seed_judges}
+use Rattle.spiral_words.proofs.NumberWord.{seed_judges, small_judges}
 use Rattle.spiral_words.specs.declared.command.Command.{Command}
 use Rattle.spiral_words.specs.declared.command.Command.TheVariants as command
 use Rattle.spiral_words.specs.declared.command.Order.{Order}
 use Rattle.spiral_words.specs.declared.command.Order.TheVariants as order
 use Rattle.spiral_words.specs.Named.{NamedTexts}
 use Rattle.spiral_words.specs.Named as named
-use Rattle.spiral_words.specs.Asked.{Means, IsAsked, SpellsOrder, seed_word}
+use Rattle.spiral_words.specs.Asked.{Means, IsAsked, SpellsOrder, modulus_word, seed_word}
 
 -- a text spells one value
 spelt_once : {S A : Type 0} (L : List S → A → Type 0) (text : List S) (r : Result A ℕ) (a b : A) → Judges L text r → L text a → L text b → a ≡ b
@@ -23,6 +23,9 @@ spelt_once L text (Err left) a b j p q = absurd (j.1.nothing a p)
 
 seed_once : (word : List ℕ) (s t : ℕ) → seed_word word s → seed_word word t → s ≡ t
 seed_once word s t p q = spelt_once seed_word word _ s t (seed_judges word _ refl) p q
+
+modulus_once : (word : List ℕ) (s t : ℕ) → modulus_word word s → modulus_word word t → s ≡ t
+modulus_once word s t p q = spelt_once (number (2 ^ 62)) word _ s t (small_judges word _ refl) p.0 q.0
 
 pub schedule_once : (word : List ℕ) (s t : Plan) → schedule_word word s → schedule_word word t → s ≡ t
 schedule_once word s t p q = spelt_once schedule_word word _ s t (word_judges word _ refl) p q
@@ -82,6 +85,8 @@ means_once (named.trace buffers word) a b p q = p.2 ∙ ap command.Trace (order_
 means_once named.cert a b p q = p ∙ sym q
 means_once named.check a b p q = p ∙ sym q
 means_once (named.sample number word) a b p q = p.4 ∙ ap₂ command.Sample (seed_once number p.0 q.0 p.2 q.2) (schedule_once word p.1 q.1 p.3 q.3) ∙ sym q.4
+means_once (named.compile number) a b p q = p.2 ∙ ap command.Compile (modulus_once number p.0 q.0 p.1 q.1) ∙ sym q.2
+means_once (named.apply number word) a b p q = p.4 ∙ ap₂ command.Apply (modulus_once number p.0 q.0 p.2 q.2) (schedule_once word p.1 q.1 p.3 q.3) ∙ sym q.4
 means_once (named.exec word) a b p q = p.2 ∙ ap command.Exec (schedule_once word p.0 q.0 p.1 q.1) ∙ sym q.2
 
 pub asked_once : (words : List Text) (a b : Command) → IsAsked words a → IsAsked words b → a ≡ b

@@ -10,7 +10,7 @@ use Rattle.spiral_words.specs.CommandLine.{spiral_app}
 use Rattle.spiral_words.specs.declared.command.Command.{Command}
 use Rattle.spiral_words.specs.declared.command.Order.{Order}
 use Rattle.spiral_words.specs.declared.command.Order.TheVariants as order
-use Rattle.spiral_words.specs.Named.{NamedTexts, plan, formula, code, c, run, trace, cert, check, sample, exec, named_by, named_in, named_of}
+use Rattle.spiral_words.specs.Named.{NamedTexts, plan, formula, code, c, run, trace, cert, check, sample, compile, apply, exec, named_by, named_in, named_of}
 use Rattle.spiral_words.specs.Asked.{SpellsOrder, IsNoOrder, Means, HasOtherText, IsAsked, IsUsage}
 
 none_of : (kinds : Kinds) → is_empty kinds ≡ true → kinds ≡ []
@@ -69,7 +69,7 @@ known =
               λ rows. there rows cert,
               (
                 λ rows. there rows check,
-                (λ rows e. absurd (cc), (λ rows e. absurd (cc), (λ rows e. absurd (cc), (λ rows e. absurd (cc), tt)))),
+                (λ rows e. absurd (cc), (λ rows e. absurd (cc), (λ rows e. absurd (cc), (λ rows e. absurd (cc), (λ rows e. absurd (cc), (λ rows e. absurd (cc), tt)))))),
               ),
             ),
           ),
@@ -111,6 +111,9 @@ other_means_nothing (run buffers word) command other means = no_order buffers wo
 other_means_nothing (trace buffers word) command other means = no_order buffers word means.0 other means.1
 other_means_nothing (sample number word) command (inl none) means = none means.0 means.2
 other_means_nothing (sample number word) command (inr other) means = other means.1 means.3
+other_means_nothing (compile number) command other means = other means.0 means.1
+other_means_nothing (apply number word) command (inl none) means = none means.0 means.2
+other_means_nothing (apply number word) command (inr other) means = other means.1 means.3
 other_means_nothing (exec word) command other means = other means.0 means.1
 other_means_nothing _ command other means = absurd other
 

@@ -1,5 +1,5 @@
 -- What the words of a command line ask for.
-use Rattle.std.specs.Prelude.{◌≡◌, ◌⊎◌, ℕ, ◌^◌, List, Bool, true, false, Some, None}
+use Rattle.std.specs.Prelude.{◌≡◌, ◌⊎◌, ℕ, ◌≤◌, ◌^◌, List, Bool, true, false, Some, None}
 use Rattle.grammar.specs.Grammar.{number}
 use Rattle.clap.specs.Words.{Text}
 use Rattle.icode.specs.declared.event.Event.{Event}
@@ -9,7 +9,7 @@ use Rattle.spiral_words.specs.declared.command.Command.{Command}
 use Rattle.spiral_words.specs.declared.command.Command.TheVariants as command
 use Rattle.spiral_words.specs.declared.command.Order.{Order}
 use Rattle.spiral_words.specs.declared.command.Order.TheVariants as order
-use Rattle.spiral_words.specs.Named.{NamedTexts, plan, formula, code, c, run, trace, cert, check, sample, exec, named_of}
+use Rattle.spiral_words.specs.Named.{NamedTexts, plan, formula, code, c, run, trace, cert, check, sample, compile, apply, exec, named_of}
 
 -- ---- seeds
 
@@ -20,6 +20,16 @@ seed_word = number (2 ^ 64)
 -- the word spells no seed
 abbrev pub IsNoSeed : List ℕ → Type 0
 IsNoSeed word = (seed : ℕ) → seed_word word seed → ⊥
+
+-- ---- moduli
+
+-- a number from 2 to 2^62 - 1
+abbrev pub modulus_word : List ℕ → ℕ → Type 0
+modulus_word word modulus = number (2 ^ 62) word modulus × (2 ≤ modulus)
+
+-- the word spells no modulus
+abbrev pub IsNoModulus : List ℕ → Type 0
+IsNoModulus word = (modulus : ℕ) → modulus_word word modulus → ⊥
 
 -- ---- schedules
 
@@ -58,6 +68,9 @@ Means cert asked = asked ≡ command.Cert
 Means check asked = asked ≡ command.Check
 Means (sample seed_text word) asked =
     (seed : ℕ) × (schedule : Plan) × seed_word seed_text seed × schedule_word word schedule × (asked ≡ command.Sample seed schedule)
+Means (compile number) asked = (modulus : ℕ) × modulus_word number modulus × (asked ≡ command.Compile modulus)
+Means (apply number word) asked =
+    (modulus : ℕ) × (schedule : Plan) × modulus_word number modulus × schedule_word word schedule × (asked ≡ command.Apply modulus schedule)
 Means (exec word) asked = (schedule : Plan) × schedule_word word schedule × (asked ≡ command.Exec schedule)
 
 -- an option's text is outside its grammar
@@ -65,6 +78,8 @@ abbrev pub HasOtherText : NamedTexts → Type 0
 HasOtherText (run buffers word) = IsNoOrder buffers word
 HasOtherText (trace buffers word) = IsNoOrder buffers word
 HasOtherText (sample seed_text word) = IsNoSeed seed_text ⊎ IsNoSchedule word
+HasOtherText (compile number) = IsNoModulus number
+HasOtherText (apply number word) = IsNoModulus number ⊎ IsNoSchedule word
 HasOtherText (exec word) = IsNoSchedule word
 HasOtherText _ = ⊥
 

@@ -1,5 +1,5 @@
 -- The command that a command line names, with the words of its options.
-use Rattle.std.specs.Prelude.{unwrap_or, List, Bool, false, Option, Some, None, option_and_then, codes, if◌then◌else◌}
+use Rattle.std.specs.Prelude.{unwrap_or, List, [], Bool, false, Option, Some, None, option_and_then, codes, if◌then◌else◌}
 use Rattle.std.specs.Option.{option_map_or}
 use Rattle.std.specs.Str.{bytes_eq}
 use Rattle.clap.specs.Words.{Row, Text, subcommand_of, first_of, fault_of}
@@ -19,6 +19,8 @@ pub data NamedTexts : Type 0 where
   cert : NamedTexts
   check : NamedTexts
   sample : (seed schedule : Text) → NamedTexts
+  compile : (modulus : Text) → NamedTexts
+  apply : (modulus schedule : Text) → NamedTexts
   exec : (schedule : Text) → NamedTexts
 
 abbrev pub texts_of : Named → NamedTexts
@@ -31,6 +33,8 @@ texts_of (named.Trace buffers schedule) = trace buffers schedule.now
 texts_of named.Cert = cert
 texts_of named.Check = check
 texts_of (named.Sample seed schedule) = sample seed.now schedule.now
+texts_of (named.Compile modulus) = compile modulus.now
+texts_of (named.Apply modulus schedule) = apply modulus.now schedule.now
 texts_of (named.Exec schedule) = exec schedule.now
 
 -- the texts of the options, or their defaults
@@ -39,6 +43,10 @@ schedule_in rows = unwrap_or (first_of (codes "schedule") rows) (codes "seq")
 
 abbrev pub seed_in : List Row → Text
 seed_in rows = unwrap_or (first_of (codes "seed") rows) (codes "0")
+
+-- clap takes no words without it
+abbrev pub modulus_in : List Row → Text
+modulus_in rows = unwrap_or (first_of (codes "mod") rows) []
 
 -- the option without a value is given
 abbrev pub is_given : Text → List Row → Bool
@@ -56,7 +64,9 @@ named_by name rows =
     else (if bytes_eq name (codes "cert") then Some cert
     else (if bytes_eq name (codes "check") then Some check
     else (if bytes_eq name (codes "sample") then Some (sample (seed_in rows) (schedule_in rows))
-    else (if bytes_eq name (codes "exec") then Some (exec (schedule_in rows)) else None)))))))))
+    else (if bytes_eq name (codes "compile") then Some (compile (modulus_in rows))
+    else (if bytes_eq name (codes "apply") then Some (apply (modulus_in rows) (schedule_in rows))
+    else (if bytes_eq name (codes "exec") then Some (exec (schedule_in rows)) else None)))))))))))
 
 abbrev pub named_in : Option (Text × List Row) → Option NamedTexts
 named_in found = option_and_then (λ p. named_by p.0 p.1) found

@@ -2,7 +2,7 @@
 ghost use Rattle.std.specs.Prelude.{◌≡◌, [], ◌∷◌, IfOk, false};
 ghost use Rattle.clap.specs.Words.{app_of, shape_of, rule_of};
 ghost use Rattle.clap.specs.declared.Command.TheViews.{out-Command as fields_of};
-ghost use Rattle.spiral_words.specs.CommandLine.{option_rule, flag_rule, schedule_rule, seed_rule, buffers_rule, command, bare_app, with_bare, plain_app, running_app, spiral_app};
+ghost use Rattle.spiral_words.specs.CommandLine.{option_rule, required_rule, flag_rule, schedule_rule, seed_rule, mod_rule, buffers_rule, command, bare_app, with_bare, plain_app, running_app, formula_app, spiral_app};
 
 use clap::{Arg, ArgAction, Command};
 use std::alloc::{AllocError, Global};
@@ -16,6 +16,17 @@ fn option<'a>(alloc: Global, name: &'a str, default: &'a str) -> Arg<'a>
         .long(name)
         .action(ArgAction::Set)
         .default_value(default)
+}
+
+/// An option of one value, which has to be given.
+fn required<'a>(alloc: Global, name: &'a str) -> Arg<'a>
+    ensures rule { rule_of result ≡ required_rule name.now }
+    ensures local { result.global ≡ false }
+{
+    Arg::new(alloc, name)
+        .long(name)
+        .action(ArgAction::Set)
+        .required(true)
 }
 
 /// An option without a value.
@@ -53,6 +64,24 @@ fn sampled<'a>(alloc: Global, name: &'a str) -> Result<Command<'a>, AllocError>
     let schedule = option(alloc, "schedule", "seq");
     let seeded = Command::new(alloc, name).arg(seed)?;
     seeded.arg(schedule)
+}
+
+/// A subcommand that takes a modulus.
+fn reduced<'a>(alloc: Global, name: &'a str) -> Result<Command<'a>, AllocError>
+    ensures shape { IfOk result (λ r. shape_of r ≡ command name.now (mod_rule ∷ [])) }
+    ensures local { IfOk result (λ r. (fields_of r).has_globals ≡ false) }
+{
+    let modulus = required(alloc, "mod");
+    Command::new(alloc, name).arg(modulus)
+}
+
+/// A subcommand that takes a modulus and a schedule.
+fn applied<'a>(alloc: Global, name: &'a str) -> Result<Command<'a>, AllocError>
+    ensures shape { IfOk result (λ r. shape_of r ≡ command name.now (mod_rule ∷ schedule_rule ∷ [])) }
+    ensures local { IfOk result (λ r. (fields_of r).has_globals ≡ false) }
+{
+    let schedule = option(alloc, "schedule", "seq");
+    reduced(alloc, name)?.arg(schedule)
 }
 
 /// The command with one more subcommand, which has no options.
@@ -99,10 +128,20 @@ fn running<'a>(alloc: Global) -> Result<Command<'a>, AllocError>
     with_trace.subcommand(sample)
 }
 
+/// And those that are given a formula.
+fn formulas<'a>(alloc: Global) -> Result<Command<'a>, AllocError>
+    ensures { IfOk result (λ r. app_of r ≡ formula_app) }
+{
+    let compile = reduced(alloc, "compile")?;
+    let apply = applied(alloc, "apply")?;
+    let with_compile = running(alloc)?.subcommand(compile)?;
+    with_compile.subcommand(apply)
+}
+
 /// The whole command line.
 pub(crate) fn spiral_app<'a>(alloc: Global) -> Result<Command<'a>, AllocError>
     ensures { IfOk result (λ r. app_of r ≡ spiral_app) }
 {
     let exec = scheduled(alloc, "exec")?;
-    running(alloc)?.subcommand(exec)
+    formulas(alloc)?.subcommand(exec)
 }

@@ -7,8 +7,9 @@ ghost use Rattle.spiral_words.specs.Named.{texts_of};
 ghost use Rattle.spiral_words.specs.Asked.{IsNoMix, IsNoOrder, IsNoSchedule, SpellsOrder, Means, HasOtherText, IsAsked, IsUsage};
 
 use crate::line::{Named, command_found, parsed};
-use crate::seed::seed_of;
+use crate::number::{modulus_of, seed_of};
 use request_text::{Mix, MixFault, Schedule, ScheduleFault, read_mix, read_schedule};
+use ring_mod::Modulus;
 use std::alloc::{AllocError, Global};
 use thiserror::Error;
 
@@ -19,12 +20,28 @@ pub enum Command {
     Formula,
     Code,
     C,
-    Run { order: Order },
-    Trace { order: Order },
+    Run {
+        order: Order,
+    },
+    Trace {
+        order: Order,
+    },
     Cert,
     Check,
-    Sample { seed: u64, schedule: Schedule },
-    Exec { schedule: Schedule },
+    Sample {
+        seed: u64,
+        schedule: Schedule,
+    },
+    Compile {
+        modulus: Modulus,
+    },
+    Apply {
+        modulus: Modulus,
+        schedule: Schedule,
+    },
+    Exec {
+        schedule: Schedule,
+    },
 }
 
 /// The order in which the processors of a request's program go on.
@@ -93,6 +110,15 @@ fn read(alloc: Global, named: Named) -> Result<Command, Refusal>
             let seed = seed_of(seed)?;
             let schedule = schedule_of(alloc, schedule)?;
             Ok(Command::Sample { seed, schedule })
+        }
+        Named::Compile { modulus } => {
+            let modulus = modulus_of(modulus)?;
+            Ok(Command::Compile { modulus })
+        }
+        Named::Apply { modulus, schedule } => {
+            let modulus = modulus_of(modulus)?;
+            let schedule = schedule_of(alloc, schedule)?;
+            Ok(Command::Apply { modulus, schedule })
         }
         Named::Exec { schedule } => {
             let schedule = schedule_of(alloc, schedule)?;

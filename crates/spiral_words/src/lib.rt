@@ -12,7 +12,7 @@ ghost use Rattle.spiral_words.specs.Asked.{IsAsked, IsUsage};
 mod app;
 mod command;
 mod line;
-mod seed;
+mod number;
 
 pub use command::{Command, Order, Refusal, command_of};
 

@@ -4,7 +4,7 @@ ghost use Rattle.std.specs.Str.{bytes_eq};
 ghost use Rattle.clap.specs.Words.{fault_of, first_of, found_of, kind_of, rows_of, subcommand_of, subcommand_rows_of};
 ghost use Rattle.clap.specs.Walk.{is_empty};
 ghost use Rattle.spiral_words.specs.CommandLine.{spiral_app};
-ghost use Rattle.spiral_words.specs.Named.{texts_of, schedule_in, seed_in, is_given, named_by, named_in};
+ghost use Rattle.spiral_words.specs.Named.{texts_of, schedule_in, seed_in, modulus_in, is_given, named_by, named_in};
 
 use crate::app::spiral_app;
 use crate::command::Refusal;
@@ -24,6 +24,8 @@ pub(crate) enum Named<'a> {
     Cert,
     Check,
     Sample { seed: &'a str, schedule: &'a str },
+    Compile { modulus: &'a str },
+    Apply { modulus: &'a str, schedule: &'a str },
     Exec { schedule: &'a str },
 }
 
@@ -80,6 +82,13 @@ fn named_by<'a>(name: &str, options: &ArgMatches<'a>) -> Option<Named<'a>>
         "check" => Some(Named::Check),
         "sample" => Some(Named::Sample {
             seed: option_or(options, "seed", "0"),
+            schedule: schedule_in(options),
+        }),
+        "compile" => Some(Named::Compile {
+            modulus: option_or(options, "mod", ""),
+        }),
+        "apply" => Some(Named::Apply {
+            modulus: option_or(options, "mod", ""),
             schedule: schedule_in(options),
         }),
         "exec" => Some(Named::Exec {

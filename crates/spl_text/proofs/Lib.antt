@@ -4,6 +4,7 @@ pub mod Deep
 pub mod Fits
 pub mod Heads
 pub mod Judging
+pub mod Lengths
 pub mod Nested
 pub mod Parentheses
 pub mod Printable

@@ -4,7 +4,7 @@ ghost use Rattle.grammar.specs.Cursor.{Gives};
 ghost use Rattle.grammar.specs.Reading.{one_of_at, optional_at, word_at};
 ghost use Rattle.spl_text.specs.Answer.{Says, SaysAll, IsFirst, Shows, IsWithin, fault_of};
 ghost use Rattle.grammar.specs.Stops.{tested_at};
-ghost use Rattle.spl_ast.specs.Formula.{Formula, Product, DirectSum};
+ghost use Rattle.spl_ast.specs.Formula.{Formula, Product, DirectSum, parts_of};
 ghost use Rattle.spl_ast.specs.Nesting.{IsPrintable};
 ghost use Rattle.spl_ast.specs.Shape.{IsShaped};
 ghost use Rattle.spl_text.specs.Fault.{shape_fault};
@@ -248,11 +248,13 @@ fn whole_text(alloc: Global, text: &[u8]) -> Result<Spl, Halt>
 }
 
 /// The formula that a text spells, with or without a line end behind it; or the first fault from left to right.
-/// The text of a formula that can be printed is read as that formula, unless memory runs out.
+/// The text of a formula that can be printed is read as that formula, unless memory runs out. A formula has at most as
+/// many parts as its text has bytes.
 #[tactic(auto, using(crate::proofs::Whole::within, crate::proofs::Whole::first_fault, crate::proofs::Whole::shows_formula, crate::proofs::Whole::shows_fault))]
 pub fn read_spl(alloc: Global, text: &[u8]) -> Result<Spl, SplFault>
     ensures first { IsFirst text.now result }
     ensures shows { Shows text.now result }
+    ensures parts { IfOk result (λ f. parts_of f ≤ length text.now) }
     ensures only { (f : Formula) → spells_line text.now f → IsShaped f → IsPrintable f → IsOkUnless result faults.NoMemory × IfOk result (λ g. g ≡ f) }
 {
     match whole_text(alloc, text) {

@@ -6,7 +6,7 @@ use spiral_words::{Command, Order, Refusal, command_of};
 use std::alloc::Global;
 use std::test::Fail;
 
-// The words, and the command: its seed, and its schedule by the turns or events that it has on two processors and the last
+// The words, and the command: its seed or modulus, and its schedule by the turns or events that it has on two processors and the last
 // of them.
 const ROWS: &str = "\
 spiral plan|plan
@@ -47,6 +47,10 @@ spiral sample --seed 18446744073709551616|usage
 spiral check -- more|usage
 spiral exec|exec 0
 spiral exec --schedule turns:1,1,1,0|exec 4 0
+spiral compile --mod 2|compile 2
+spiral compile --mod=4611686018427387903|compile 4611686018427387903
+spiral apply --mod 17|apply 17 0
+spiral apply --schedule rr:3 --mod 7|apply 7 6 1
 spiral run --buffers|run buffered 0
 spiral trace --buffers --schedule mix:d0,t0|trace mixed 2 t0
 spiral run --schedule mix:t1,d0,t0,d1 --buffers|run mixed 4 d1
@@ -131,6 +135,13 @@ fn answer(alloc: Global, line: &str) -> Result<String, Fail> {
         Ok(Command::Check) => "check",
         Ok(Command::Sample { seed, schedule }) => {
             let name = format!(in alloc; "sample {seed}")?;
+            return shown(alloc, &name, &schedule);
+        }
+        Ok(Command::Compile { modulus }) => {
+            return Ok(format!(in alloc; "compile {}", modulus.get())?);
+        }
+        Ok(Command::Apply { modulus, schedule }) => {
+            let name = format!(in alloc; "apply {}", modulus.get())?;
             return shown(alloc, &name, &schedule);
         }
         Ok(Command::Exec { schedule }) => return shown(alloc, "exec", &schedule),

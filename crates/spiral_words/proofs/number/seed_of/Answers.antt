@@ -1,6 +1,6 @@
 use Rattle.std.proofs.Common.{Ok, Err}
-use Rattle.spiral_words.proofs.SeedWord.{seed_judges}
-use Rattle.spiral_words.proofs.seed.seed_of.Goals as goal
+use Rattle.spiral_words.proofs.NumberWord.{seed_judges}
+use Rattle.spiral_words.proofs.number.seed_of.Goals as goal
 
 pub returns-in-Ok-clause-ok : goal.returns-in-Ok-clause-ok
 returns-in-Ok-clause-ok c = (seed_judges c.args.word.now (Ok c.in-Ok.number) c.in-Ok.ensures).0
