@@ -43,10 +43,13 @@ same-order : (ps : List (List PlainNest)) → merging.in_order ps ≡ in_order p
 same-order [] = refl
 same-order (zs ∷ ps) = ap (λ qs. qs ++ zs ∷ []) (same-order ps)
 
-pub one_phase : (m n : ℕ) (f : Formula) (t : PlainTerm) (qs : List (List PlainNest)) → n ≡ size_of f → t ≡ term_of m [] f → qs ≡ merging.in_order (passes_of n t) → record { size = n; procs = 1; lanes = 1; phases = qs ∷ [] } ≡ formula_merged m f
+abbrev in_phase : ℕ → List (List PlainNest) → PlainMerged
+in_phase n ps = record { size = n; procs = 1; lanes = 1; phases = ps ∷ [] }
+
+pub one_phase : (m n : ℕ) (f : Formula) (t : PlainTerm) (qs : List (List PlainNest)) → n ≡ size_of f → t ≡ term_of m [] f → qs ≡ merging.in_order (passes_of n t) → in_phase n qs ≡ formula_merged m f
 one_phase m n f t qs size is listed =
     let same : qs ≡ in_order (passes_of (size_of f) (term_of m [] f)) = listed ∙ same-order (passes_of n t) ∙ ap₂ (λ k s. in_order (passes_of k s)) size is in
-    ap₂ (λ (k : ℕ) (ps : List (List PlainNest)). record { size = k; procs = 1; lanes = 1; phases = ps ∷ [] }) size same
+    ap₂ in_phase size same
 
 pub can_emit : (m : ℕ) (f : Formula) (g : PlainMerged) → 2 ≤ m → m < 2 ^ 62 → IsShaped f → parts_of f ≤ 65536 → g ≡ formula_merged m f → CanProgram (machine_for m 1 g) g
 can_emit m f g large small shaped few is =

@@ -19,7 +19,6 @@ use term_merge::merge_term;
 
 /// The code of a formula modulo m, for one processor of one lane: its listing can be printed, and under every order of
 /// turns it leaves the formula's matrix times the vector.
-#[tactic(auto, using(crate::proofs::Coding::can_emit, crate::proofs::Coding::is_code))]
 pub fn formula_program(alloc: Global, modulus: &Modulus, formula: &Spl) -> Result<Program, NoMemory>
     requires few { parts_of formula.now ≤ 65536 }
     ensures code { IfOk result (λ program. IsCodeOf modulus.now formula.now program) }
