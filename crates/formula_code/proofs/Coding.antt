@@ -1,5 +1,5 @@
 -- A program that performs a formula's passes is its code.
-use Rattle.std.proofs.Common.{◌≡◌, ℕ, ◌+◌, ◌*◌, ◌^◌, ◌<◌, ◌≤◌, List, [], ◌∷◌, ◌++◌, refl, sym, ap, ap₂, ◌∙◌, arith, subst}
+use Rattle.std.proofs.Common.{◌≡◌, ℕ, ◌^◌, ◌<◌, ◌≤◌, List, [], ◌∷◌, ◌++◌, refl, sym, ap, ap₂, ◌∙◌, arith, subst}
 use Rattle.formula_code.specs.Code.{IsCodeOf}
 use Rattle.formula_lower.specs.Terms.{term_of}
 use Rattle.formula_lower.proofs.Lowers.{lowers}

@@ -1,12 +1,11 @@
 -- The numbers of a formula's term are words.
-use Rattle.std.proofs.Common.{◌≡◌, ℕ, zero, suc, ◌+◌, ◌*◌, ◌/◌, ◌%◌, ◌^◌, ◌<◌, ◌≤◌, arith, refl, sym, ap, ◌∙◌, [], ◌∷◌, ◌++◌, inl, inr, subst, mod-lt, mul_comm, div-lt_iff_lt-mul, le-mul_of_pos_right}
+use Rattle.std.proofs.Common.{◌≡◌, ℕ, zero, suc, ◌+◌, ◌*◌, ◌/◌, ◌%◌, ◌<◌, ◌≤◌, arith, sym, ap, ◌∙◌, [], ◌∷◌, ◌++◌, inl, inr, subst, mod-lt, mul_comm, div-lt_iff_lt-mul, le-mul_of_pos_right}
 use Rattle.std.proofs.lemmas.Bool.{cases_eq, cases_lt}
 use Rattle.std.proofs.lemmas.Bool.Decides.{nat_tests}
 use Rattle.std.proofs.lemmas.Nat.{mul-le}
-use Rattle.index_fn.specs.Mapping.{Mapping, Same, Strided, ThomasIn, ThomasOut, ThomasBack, Paired, at, IsDefinedAt}
+use Rattle.index_fn.specs.Mapping.{Mapping, Strided, ThomasIn, ThomasOut}
 use Rattle.matrix_meaning.specs.declared.Kind.TheVariants.{Dft}
 use Rattle.operators.proofs.Lists.{factor_positive}
-use Rattle.passes.specs.Good.{IsMove}
 use Rattle.passes.specs.Merge.{back_of, inverse_below}
 use Rattle.passes.specs.Term.{PlainTerm, nest}
 use Rattle.passes.specs.Work.{kernel, horner}
