@@ -19,12 +19,12 @@ use Rattle.buffer_machine.specs.declared.Events.TheVariants as events
 use Rattle.buffer_machine.specs.Listed.{HasNoStranger, events_of, procs_named}
 use Rattle.spiral_words.specs.declared.Command.TheVariants as command
 use Rattle.spiral_words.specs.declared.Order.{Order}
-use Rattle.spiral_main.specs.declared.stream.StreamFault.{StreamFault}
-use Rattle.spiral_main.specs.BufferedText.{buffered_text}
+use Rattle.stream_run.specs.declared.stream.StreamFault.{StreamFault}
+use Rattle.stream_run.specs.BufferedText.{buffered_text}
 use Rattle.spiral_main.specs.Fault.{status_of_stream}
 use Rattle.spiral_main.specs.Orders.{order_of, traced_text}
 use Rattle.spiral_main.specs.Steps.{IsGoodCode, ToldPerforms}
-use Rattle.spiral_main.specs.Stream.{Streams, texts, vectors_of}
+use Rattle.stream_run.specs.Stream.{Streams, texts, vectors_of}
 use Rattle.spiral_main.proofs.OutcomeLemmas.{IsTextFor, IsTraced, good_lines, performs_stream, performs_trace, stream_of_request, traced_stranger}
 use Rattle.spiral_main.proofs.RunLemmas.{good_procs}
 

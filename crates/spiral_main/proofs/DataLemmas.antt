@@ -10,11 +10,11 @@ use Rattle.io_edge.proofs.TakenLemmas.{prefix_after}
 use Rattle.data_stream.specs.Data.{tokens, closed_part, is_good}
 use Rattle.spiral_main.specs.declared.status.Status.{Status}
 use Rattle.spiral_main.specs.declared.status.Status.TheVariants.{ReadFault, WriteFault}
-use Rattle.spiral_main.specs.declared.stream.StreamFault.{StreamFault}
-use Rattle.spiral_main.specs.declared.stream.StreamFault.TheVariants as stream
+use Rattle.stream_run.specs.declared.stream.StreamFault.{StreamFault}
+use Rattle.stream_run.specs.declared.stream.StreamFault.TheVariants as stream
 use Rattle.spiral_main.specs.Fault.{status_of_stream}
 use Rattle.spiral_main.specs.Status.{IsDefined}
-use Rattle.spiral_main.specs.Stream.{vectors_of, texts, data_answer, data_vectors, Reads, Streams}
+use Rattle.stream_run.specs.Stream.{vectors_of, texts, data_answer, data_vectors, Reads, Streams}
 
 -- Status and output of a run over the data, where it is known which text belongs to which whole vectors
 pub record RunsOver (IsText : List (List ℕ) → List ℕ → Type 0) (size modulus room : ℕ) (bytes : List ℕ) (left before after : Option (List ℕ)) (status : Status) : Type 0 where

@@ -9,7 +9,6 @@ pub mod OneTree
 pub mod OutcomeLemmas
 pub mod RunLemmas
 pub mod SampleLemmas
-pub mod StreamLemmas
 pub mod PlanLemmas
 pub mod RightCalls
 pub mod Accounts
@@ -20,5 +19,4 @@ pub mod OneExecution
 pub mod OneFormula
 pub mod Notes
 pub mod Stages
-pub mod BufferedLemmas
 pub mod BufferedOutcome

@@ -21,13 +21,13 @@ use Rattle.spiral_main.specs.Line.{data_of}
 use Rattle.spiral_main.specs.Listed.{runnable, room_behind_listing, IsAnswerOfProgram, IsExecution}
 use Rattle.spiral_main.specs.Outcome.{Job, IsTextOfData, Settles, IsAnswerToRequest, IsOutcome, room_behind, Accounts}
 use Rattle.spiral_main.specs.Right.{AreRightData, AreWholeVectors, IsRightRest, IsRightRequest, IsRightCall, Succeeds}
-use Rattle.spiral_main.specs.Stream.{data_answer}
+use Rattle.stream_run.specs.Stream.{data_answer}
 use Rattle.spiral_words.proofs.OneCommand.{asked_once}
 use Rattle.spiral_main.proofs.OneExecution.{runnable_decided}
 use Rattle.spiral_main.proofs.OneFormula.{formula_decided}
 use Rattle.spiral_main.proofs.OneOutcome.{ordered_decided, no_order, no_answer, no_formula, no_request, schedule_asked_once}
 use Rattle.spiral_main.proofs.Stages.{done_same, done_ended}
-use Rattle.spiral_main.proofs.StreamLemmas.{right_answer}
+use Rattle.stream_run.proofs.StreamLemmas.{right_answer}
 
 data_right : (wanted : Command) (r : Request) (room : ℕ) (bytes : List ℕ) (vectors : List (List ℕ)) (text : List ℕ) → IsRightRest wanted r room bytes → IsTextOfData wanted r vectors text
     → data_answer r.size room bytes ≡ Ok tt

@@ -13,7 +13,7 @@ use Rattle.spiral_words.specs.declared.Command.{Command}
 use Rattle.spiral_words.specs.declared.Command.TheVariants as command
 use Rattle.spiral_main.specs.Commands.{takes_formula, takes_listing, takes_request}
 use Rattle.spiral_main.specs.Steps.{IsGoodCode}
-use Rattle.spiral_main.specs.Stream.{HasNoStranger}
+use Rattle.stream_run.specs.Stream.{HasNoStranger}
 
 -- where nothing is to come, nothing is left
 pub left_ended : (held : List ℕ) (left : Option (List ℕ)) → IsAtEnd (prepend_known held left) → IsAtEnd left

@@ -25,7 +25,7 @@ use Rattle.tree_model.specs.Passes.{loads_of, stores_of}
 use Rattle.spiral_main.specs.Outcome.{product, IsSampleText}
 use Rattle.spiral_main.specs.Sample.{sample_vector, weighted_sum, sample_text, AreCountable}
 use Rattle.spiral_main.specs.Steps.{IsGoodCode}
-use Rattle.spiral_main.specs.Stream.{HasNoStranger}
+use Rattle.stream_run.specs.Stream.{HasNoStranger}
 use Rattle.spiral_main.proofs.CountLemmas.{within_word}
 use Rattle.spiral_main.proofs.RunLemmas.{good_turns}
 

@@ -23,7 +23,7 @@ use Rattle.spiral_main.specs.Commands.{admitted, first_stranger, procs_named}
 use Rattle.spiral_main.specs.Fault.{status_of_spl, status_of_stream, status_of_text}
 use Rattle.spiral_main.specs.Line.{is_line_end, first_line, data_of, room_behind, HasEnded, IsWholeLine}
 use Rattle.spiral_main.specs.Stage.{Stage, given, ◌>>=◌}
-use Rattle.spiral_main.specs.Stream.{lines, vectors_of, data_answer, data_vectors}
+use Rattle.stream_run.specs.Stream.{lines, vectors_of, data_answer, data_vectors}
 
 -- how many bytes the line of a formula has at most
 abbrev pub formula_limit : ℕ

@@ -14,8 +14,8 @@ use Rattle.code_check.specs.declared.fault.CheckFault.{CheckFault}
 use Rattle.code_check.specs.declared.fault.CheckFault.TheVariants as check
 use Rattle.generate.specs.declared.GenerateFault.{GenerateFault}
 use Rattle.generate.specs.declared.GenerateFault.TheVariants as generate
-use Rattle.spiral_main.specs.declared.stream.StreamFault.{StreamFault}
-use Rattle.spiral_main.specs.declared.stream.StreamFault.TheVariants as stream
+use Rattle.stream_run.specs.declared.stream.StreamFault.{StreamFault}
+use Rattle.stream_run.specs.declared.stream.StreamFault.TheVariants as stream
 use Rattle.spiral_main.specs.declared.status.Status.{Status}
 use Rattle.spiral_main.specs.declared.status.Status.TheVariants.{Success, Syntax, Range, Shape, LanesLine, Root, NoDivide, OverBudget, BadNumber, Truncated, ReadFault, WriteFault, NoMemory, TooLong, FormulaShape, FormulaTooDeep, ListingSyntax, Address, Register, LineShared, OverSteps}
 

@@ -10,7 +10,4 @@ pub mod Sample
 pub mod Stage
 pub mod Status
 pub mod Steps
-pub mod Stream
-pub mod BufferedText
 pub mod Orders
-pub mod StreamFault

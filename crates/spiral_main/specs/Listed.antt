@@ -18,7 +18,7 @@ use Rattle.spiral_main.specs.declared.status.Status.TheVariants.{TooLong, Listin
 use Rattle.spiral_main.specs.Commands.{stranger, admitted}
 use Rattle.spiral_main.specs.Fault.{status_of_check, status_of_stream}
 use Rattle.spiral_main.specs.Stage.{Stage, given, ◌>>=◌}
-use Rattle.spiral_main.specs.Stream.{lines, vectors_of, data_answer, data_vectors}
+use Rattle.stream_run.specs.Stream.{lines, vectors_of, data_answer, data_vectors}
 
 -- how many bytes a listing has at most, and how many actions its program
 abbrev pub listing_limit : ℕ

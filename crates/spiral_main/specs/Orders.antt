@@ -8,8 +8,8 @@ use Rattle.buffer_machine.specs.declared.Events.{Events}
 use Rattle.buffer_machine.specs.declared.Events.TheVariants as events
 use Rattle.spiral_words.specs.declared.Order.{Order}
 use Rattle.spiral_words.specs.declared.Order.TheVariants as order
-use Rattle.spiral_main.specs.BufferedText.{buffered_text}
-use Rattle.spiral_main.specs.Stream.{run_text}
+use Rattle.stream_run.specs.BufferedText.{buffered_text}
+use Rattle.stream_run.specs.Stream.{run_text}
 
 -- the processors that an order names
 abbrev pub procs_of : Order → List ℕ

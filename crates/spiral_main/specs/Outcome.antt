@@ -43,7 +43,7 @@ use Rattle.spiral_main.specs.Orders.{traced_text}
 use Rattle.spiral_main.specs.Sample.{sample_vector, weighted_sum, sample_text}
 use Rattle.spiral_main.specs.Stage.{Stage, given, ◌>>=◌}
 use Rattle.spiral_main.specs.Status.{IsDefined}
-use Rattle.spiral_main.specs.Stream.{texts, lines, vectors_of, data_answer, data_vectors}
+use Rattle.stream_run.specs.Stream.{texts, lines, vectors_of, data_answer, data_vectors}
 
 -- The stages
 

@@ -8,13 +8,12 @@ ghost use Rattle.spiral_main.specs.Compiled.{IsFormulaCode, formed};
 ghost use Rattle.spiral_main.specs.Stage.{status_of};
 ghost use Rattle.spiral_main.specs.Status.{IsDefined};
 ghost use Rattle.spiral_main.specs.Steps.{IsRefusal, ToldComputes};
-ghost use Rattle.spiral_main.specs.Stream.{HasNoStranger};
+ghost use Rattle.stream_run.specs.Stream.{HasNoStranger};
 
 use crate::Status;
 use crate::ask::check_turns;
 use crate::compile::{compile, written_formula};
 use crate::formula_line::formula_line;
-use crate::stream::run_stream;
 use formula_code::formula_program;
 use io_edge::{Feed, Sink, Source};
 use par_machine::Machine;
@@ -22,6 +21,7 @@ use request_text::Schedule;
 use ring_mod::Modulus;
 use spiral_words::Command;
 use std::alloc::Global;
+use stream_run::run_stream;
 
 // A machine with a program for the formula that the text spells, if the schedule names its one processor alone, and room
 // for a vector.

@@ -7,11 +7,10 @@ ghost use Rattle.io_edge.specs.Feed.{to_come, limit};
 ghost use Rattle.spiral_main.specs.Commands.{NamesNoStranger};
 ghost use Rattle.spiral_main.specs.Stage.{status_of};
 ghost use Rattle.spiral_main.specs.Steps.{ToldPerforms};
-ghost use Rattle.spiral_main.specs.Stream.{HasNoStranger};
+ghost use Rattle.stream_run.specs.Stream.{HasNoStranger};
 
 use crate::Status;
 use crate::events::{run_events, trace_events};
-use crate::stream::run_stream;
 use crate::texts::{engine, traced_engine};
 use buffer_machine::Events;
 use io_edge::{Feed, Sink, Source, write_all};
@@ -19,6 +18,7 @@ use matrix_meaning::Request;
 use request_text::Schedule;
 use spiral_words::{Command, Order};
 use std::alloc::Global;
+use stream_run::run_stream;
 
 /// Writes the line of each vector's transform.
 pub(crate) fn run<I: Source, O: Sink>(

@@ -15,7 +15,6 @@ ghost use Rattle.spiral_main.specs.Status.{IsDefined};
 ghost use Rattle.spiral_main.specs.Steps.{IsRefusal, IsGoodCode, ToldPerforms};
 
 use crate::Status;
-use crate::buffered::run_buffered;
 use crate::texts::good_product;
 use buffer_machine::{BufMachine, Events};
 use io_edge::{Feed, Sink, Source, write_all};
@@ -23,6 +22,7 @@ use listing_text::print_listing;
 use matrix_meaning::Request;
 use spiral_words::Command;
 use std::alloc::Global;
+use stream_run::run_buffered;
 
 // A machine with store buffers and a good program for the request, and room for a vector.
 fn buffered_engine(alloc: Global, request: &Request) -> Result<(BufMachine, Vec<u64>), Status>

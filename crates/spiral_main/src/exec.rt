@@ -7,11 +7,10 @@ ghost use Rattle.spiral_main.specs.Listed.{loaded};
 ghost use Rattle.spiral_main.specs.Stage.{status_of};
 ghost use Rattle.spiral_main.specs.Status.{IsDefined};
 ghost use Rattle.spiral_main.specs.Steps.{GivesListing, IsLoadedCode, IsRefusal, ToldExecutes};
-ghost use Rattle.spiral_main.specs.Stream.{HasNoStranger};
+ghost use Rattle.stream_run.specs.Stream.{HasNoStranger};
 
 use crate::Status;
 use crate::ask::check_turns;
-use crate::stream::run_stream;
 use code_check::verify;
 use input_rest::{RestFault, read_part};
 use io_edge::{Feed, Sink, Source};
@@ -19,6 +18,7 @@ use listing_text::read_listing;
 use par_machine::Machine;
 use request_text::Schedule;
 use std::alloc::Global;
+use stream_run::run_stream;
 
 /// How many bytes a listing has at most.
 const LISTING_LIMIT: u64 = 1_048_576;

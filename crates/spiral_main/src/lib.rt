@@ -13,7 +13,6 @@ ghost use Rattle.spiral_main.specs.Right.{IsRightCall, Succeeds};
 
 mod apply;
 mod ask;
-mod buffered;
 mod check;
 mod compile;
 mod data;
@@ -26,13 +25,12 @@ mod plans;
 mod run;
 mod sample;
 mod status;
-mod stream;
 mod texts;
 
 pub use run::spiral_run;
 pub use spiral_words::Command;
 pub use status::Status;
-pub use stream::{StreamFault, run_stream};
+pub use stream_run::{StreamFault, run_stream};
 
 /// The words and the bytes of a call determine its status.
 pub fn calls_have_one_status()

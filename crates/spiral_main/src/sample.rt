@@ -7,10 +7,9 @@ ghost use Rattle.spiral_main.specs.Outcome.{IsRefused, IsAffordable, IsSampleTex
 ghost use Rattle.spiral_main.specs.Sample.{sample_vector, weighted_sum, sample_text, AreCountable};
 ghost use Rattle.spiral_main.specs.Status.{IsDefined};
 ghost use Rattle.spiral_main.specs.Steps.{IsRefusal};
-ghost use Rattle.spiral_main.specs.Stream.{HasNoStranger};
+ghost use Rattle.stream_run.specs.Stream.{HasNoStranger};
 
 use crate::Status;
-use crate::stream::transform;
 use crate::texts::engine;
 use icode::action::Counts;
 use listing_text::put;
@@ -20,6 +19,7 @@ use par_machine::Machine;
 use request_text::{Schedule, next_state};
 use ring_mod::Modulus;
 use std::alloc::Global;
+use stream_run::transform;
 
 // Puts the vector of the seed into the slice.
 fn fill(vector: &mut [u64], modulus: Modulus, seed: u64)

@@ -4,7 +4,6 @@ ghost use Rattle.spiral_main.specs.Status.{code_of};
 
 use crate::check::CERTIFICATE_LIMIT;
 use crate::line::LINE_LIMIT;
-use crate::stream::StreamFault;
 use code_check::CheckFault;
 use generate::GenerateFault;
 use input_rest::RestFault;
@@ -14,6 +13,7 @@ use memory::NoMemory;
 use request_text::{Field, RequestFault};
 use spl_text::SplFault;
 use std::alloc::AllocError;
+use stream_run::StreamFault;
 
 /// How a run ended.
 #[derive(Clone, Copy, Debug, PartialEq, Eq)]

@@ -1,8 +1,8 @@
 use Rattle.std.proofs.Common.{◌≡◌, ◌∙◌}
 use Rattle.request_text.specs.Turns.{turns_of}
 use Rattle.icode.specs.Machine.{runs}
-use Rattle.spiral_main.proofs.StreamLemmas.{whole_run, results_left}
-use Rattle.spiral_main.proofs.stream.transform.Goals as goal
+use Rattle.stream_run.proofs.StreamLemmas.{whole_run, results_left}
+use Rattle.stream_run.proofs.stream.transform.Goals as goal
 
 pub returns-clause-state : goal.returns-clause-state
 returns-clause-state c =

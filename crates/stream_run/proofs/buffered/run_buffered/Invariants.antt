@@ -4,10 +4,10 @@ use Rattle.icode.specs.Buffers.{buffered_runs}
 use Rattle.buffer_machine.specs.Listed.{events_of}
 use Rattle.io_edge.specs.Feed.{to_come, limit}
 use Rattle.data_stream.specs.Vectors.{IsReady}
-use Rattle.spiral_main.specs.BufferedText.{buffered_text}
-use Rattle.spiral_main.specs.Stream.{texts, state_behind}
-use Rattle.spiral_main.proofs.StreamLemmas.{StreamProgress}
-use Rattle.spiral_main.proofs.buffered.run_buffered.Given as goal
+use Rattle.stream_run.specs.BufferedText.{buffered_text}
+use Rattle.stream_run.specs.Stream.{texts, state_behind}
+use Rattle.stream_run.proofs.StreamLemmas.{StreamProgress}
+use Rattle.stream_run.proofs.buffered.run_buffered.Given as goal
 
 -- The bytes so far are whole vectors, whose texts the output took, the machine is where the last left it, and nothing failed. A feed over its limit has given none
 abbrev pub invariant-loop-machine : goal.invariant-loop-machine

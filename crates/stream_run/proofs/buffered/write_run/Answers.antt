@@ -6,10 +6,10 @@ use Rattle.buffer_machine.specs.Listed.{events_of}
 use Rattle.io_edge.specs.Taken.{AppendsPrefix, WritesAll}
 use Rattle.io_edge.proofs.TakenLemmas.{prefix_more, writes_after}
 use Rattle.data_stream.specs.Line.{line_of}
-use Rattle.spiral_main.specs.BufferedText.{asked_lines}
-use Rattle.spiral_main.proofs.StreamLemmas.{held_at_ok}
-use Rattle.spiral_main.proofs.BufferedLemmas.{lines_begun, state_begun, results_left}
-use Rattle.spiral_main.proofs.buffered.write_run.Goals as goal
+use Rattle.stream_run.specs.BufferedText.{asked_lines}
+use Rattle.stream_run.proofs.StreamLemmas.{held_at_ok}
+use Rattle.stream_run.proofs.BufferedLemmas.{lines_begun, state_begun, results_left}
+use Rattle.stream_run.proofs.buffered.write_run.Goals as goal
 
 pub returns-in_err-take_events-clause-bytes : goal.returns-in_err-take_events-clause-bytes
 returns-in_err-take_events-clause-bytes g c =

@@ -6,8 +6,8 @@ ghost use Rattle.io_edge.specs.Faults.{HasCause, Reports};
 ghost use Rattle.io_edge.specs.Feed.{to_come, limit};
 ghost use Rattle.io_edge.specs.Taken.{WritesAll};
 ghost use Rattle.buffer_machine.specs.Listed.{HasNoStranger, events_of};
-ghost use Rattle.spiral_main.specs.BufferedText.{asked_lines, buffered_text};
-ghost use Rattle.spiral_main.specs.Stream.{Streams};
+ghost use Rattle.stream_run.specs.BufferedText.{asked_lines, buffered_text};
+ghost use Rattle.stream_run.specs.Stream.{Streams};
 
 use crate::stream::StreamFault;
 use buffer_machine::{BufMachine, Events};
@@ -78,7 +78,7 @@ fn write_run<O: Sink>(
 ///
 /// The data go on where the feed stands. One that has gone over its limit gives `TooLong`. The slice is room for a vector,
 /// which has at least one number.
-pub(crate) fn run_buffered<I: Source, O: Sink>(
+pub fn run_buffered<I: Source, O: Sink>(
     machine: &mut BufMachine,
     events: Events,
     lines: bool,

@@ -1,8 +1,8 @@
 use Rattle.std.proofs.Common.{◌≡◌, ◌<◌, ◌/◌, sym, ap, ◌∙◌, arith, length}
 use Rattle.std.proofs.lemmas.List.{take_all, take_more_set}
 use Rattle.icode.specs.Machine.{padded, words_at}
-use Rattle.spiral_main.proofs.StreamLemmas.{word_more}
-use Rattle.spiral_main.proofs.stream.take_results.Goals as goal
+use Rattle.stream_run.proofs.StreamLemmas.{word_more}
+use Rattle.stream_run.proofs.stream.take_results.Goals as goal
 
 pub loop-place-preserved : goal.loop-place-preserved
 loop-place-preserved c =

@@ -12,8 +12,8 @@ use Rattle.data_stream.specs.Data.{tokens, closed_part, is_good}
 use Rattle.data_stream.specs.Reading.{GoesOver, residues}
 use Rattle.data_stream.specs.Line.{line_of}
 use Rattle.trace_text.specs.Trace.{trace_of}
-use Rattle.spiral_main.specs.declared.stream.StreamFault.{StreamFault}
-use Rattle.spiral_main.specs.declared.stream.StreamFault.TheVariants.{BadNumber, Truncated, TooLong, ReadFault, WriteFault}
+use Rattle.stream_run.specs.declared.stream.StreamFault.{StreamFault}
+use Rattle.stream_run.specs.declared.stream.StreamFault.TheVariants.{BadNumber, Truncated, TooLong, ReadFault, WriteFault}
 
 -- Vectors
 

@@ -1,6 +1,6 @@
 use Rattle.std.proofs.Common.{◌≡◌, take}
 use Rattle.icode.specs.Machine.{words_at}
-use Rattle.spiral_main.proofs.stream.take_results.Given as goal
+use Rattle.stream_run.proofs.stream.take_results.Given as goal
 
 -- the words so far are those of the machine's second array
 abbrev pub invariant-loop-place : goal.invariant-loop-place

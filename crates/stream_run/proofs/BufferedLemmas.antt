@@ -4,7 +4,7 @@ use Rattle.icode.specs.Buffers.{Buffered, buffered_finished, buffered_results, b
 use Rattle.icode.specs.Machine.{Code, words_at, padded}
 use Rattle.buffer_machine.specs.declared.Events.{Events}
 use Rattle.buffer_machine.specs.Listed.{events_of}
-use Rattle.spiral_main.specs.BufferedText.{asked_lines}
+use Rattle.stream_run.specs.BufferedText.{asked_lines}
 
 -- the words that a run leaves
 pub results_left : (events : Events) (code last : Code) (x : List ℕ) (ended : Buffered) → last ≡ code → ended ≡ buffered_runs code x (events_of events code.procs)

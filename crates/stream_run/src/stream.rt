@@ -5,7 +5,7 @@ ghost use Rattle.io_edge.specs.Faults.{HasCause, Reports};
 ghost use Rattle.io_edge.specs.Feed.{to_come, limit};
 ghost use Rattle.io_edge.specs.Taken.{WritesAll};
 ghost use Rattle.request_text.specs.Turns.{turns_of};
-ghost use Rattle.spiral_main.specs.Stream.{HasNoStranger, turn_lines, run_text, Streams};
+ghost use Rattle.stream_run.specs.Stream.{HasNoStranger, turn_lines, run_text, Streams};
 
 use data_stream::{DataFault, Next, Vectors, write_vector};
 use io_edge::{Feed, Sink, Source, WriteFault};
@@ -36,7 +36,7 @@ pub enum StreamFault {
 
 impl From<DataFault> for StreamFault {
     ghost use Rattle.std.specs.Prelude.{◌≡◌};
-    ghost use Rattle.spiral_main.specs.StreamFault.{stream_fault};
+    ghost use Rattle.stream_run.specs.StreamFault.{stream_fault};
 
     ghost from_gives = { λ fault own. own ≡ stream_fault fault };
 
@@ -52,7 +52,7 @@ impl From<DataFault> for StreamFault {
 
 impl From<WriteFault> for StreamFault {
     ghost use Rattle.std.specs.Prelude.{◌≡◌};
-    ghost use Rattle.spiral_main.specs.declared.stream.StreamFault.TheVariants.{WriteFault};
+    ghost use Rattle.stream_run.specs.declared.stream.StreamFault.TheVariants.{WriteFault};
 
     ghost from_gives = { λ _ own. own ≡ WriteFault };
 
@@ -74,7 +74,7 @@ fn take_results(machine: &Machine, vector: &mut [u64])
 }
 
 /// Runs the machine on the vector, and puts the results in its place.
-pub(crate) fn transform(machine: &mut Machine, schedule: &Schedule, vector: &mut [u64])
+pub fn transform(machine: &mut Machine, schedule: &Schedule, vector: &mut [u64])
     requires size { length vector.old ≡ machine.old.code.size }
     requires residues { All (λ v. v < machine.old.code.modulus) vector.old }
     requires no_stranger { HasNoStranger schedule.now machine.old.code.procs }

@@ -24,10 +24,10 @@ use Rattle.data_stream.specs.declared.DataFault.TheVariants as data_fault
 use Rattle.data_stream.proofs.TokensLemmas.{not_ended}
 use Rattle.data_stream.proofs.TokenLemmas.{both_left, both_right}
 use Rattle.data_stream.proofs.VectorLemmas.{closed_after, over_behind}
-use Rattle.spiral_main.specs.Stream.{group_vectors, vectors_of, texts, turn_lines, state_behind, good_front, bad_after, answer_of, vectors_seen, data_answer, data_vectors, Answers, ToldAnswers, Reads, Writes, Streams}
-use Rattle.spiral_main.specs.declared.stream.StreamFault.{StreamFault}
-use Rattle.spiral_main.specs.StreamFault.{stream_fault}
-use Rattle.spiral_main.specs.declared.stream.StreamFault.TheVariants.{BadNumber, Truncated, TooLong, ReadFault, WriteFault}
+use Rattle.stream_run.specs.Stream.{group_vectors, vectors_of, texts, turn_lines, state_behind, good_front, bad_after, answer_of, vectors_seen, data_answer, data_vectors, Answers, ToldAnswers, Reads, Writes, Streams}
+use Rattle.stream_run.specs.declared.stream.StreamFault.{StreamFault}
+use Rattle.stream_run.specs.StreamFault.{stream_fault}
+use Rattle.stream_run.specs.declared.stream.StreamFault.TheVariants.{BadNumber, Truncated, TooLong, ReadFault, WriteFault}
 
 -- a whole vector at the front comes first
 pub vectors_more : (size modulus : ℕ) (us more : List (List ℕ)) → 0 < size → length us ≡ size → vectors_of size modulus (us ++ more) ≡ residues modulus us ∷ vectors_of size modulus more

@@ -6,9 +6,9 @@ use Rattle.request_text.specs.Turns.{turns_of}
 use Rattle.io_edge.specs.Taken.{AppendsPrefix, WritesAll}
 use Rattle.io_edge.proofs.TakenLemmas.{prefix_more, writes_after}
 use Rattle.data_stream.specs.Line.{line_of}
-use Rattle.spiral_main.specs.Stream.{turn_lines}
-use Rattle.spiral_main.proofs.StreamLemmas.{lines_begun, state_begun, results_left, held_at_ok}
-use Rattle.spiral_main.proofs.stream.write_run.Goals as goal
+use Rattle.stream_run.specs.Stream.{turn_lines}
+use Rattle.stream_run.proofs.StreamLemmas.{lines_begun, state_begun, results_left, held_at_ok}
+use Rattle.stream_run.proofs.stream.write_run.Goals as goal
 
 pub returns-in_err-take_turns-clause-bytes : goal.returns-in_err-take_turns-clause-bytes
 returns-in_err-take_turns-clause-bytes g c =

@@ -4,9 +4,9 @@ use Rattle.icode.specs.Machine.{runs}
 use Rattle.request_text.specs.Turns.{turns_of}
 use Rattle.io_edge.specs.Feed.{to_come, limit}
 use Rattle.data_stream.specs.Vectors.{IsReady}
-use Rattle.spiral_main.specs.Stream.{texts, run_text, state_behind}
-use Rattle.spiral_main.proofs.StreamLemmas.{StreamProgress}
-use Rattle.spiral_main.proofs.stream.run_stream.Given as goal
+use Rattle.stream_run.specs.Stream.{texts, run_text, state_behind}
+use Rattle.stream_run.proofs.StreamLemmas.{StreamProgress}
+use Rattle.stream_run.proofs.stream.run_stream.Given as goal
 
 -- The bytes so far are whole vectors, whose texts the output took, the machine is where the last left it, and nothing failed. A feed over its limit has given none
 abbrev pub invariant-loop-machine : goal.invariant-loop-machine

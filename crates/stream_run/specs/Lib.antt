@@ -1,0 +1,3 @@
+pub mod StreamFault
+pub mod Stream
+pub mod BufferedText

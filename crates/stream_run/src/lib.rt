@@ -1,0 +1,8 @@
+//! Runs over streams: the lines of each vector of the data, by the machine and by the machine with store buffers.
+#![tactic(auto)]
+
+mod buffered;
+mod stream;
+
+pub use buffered::run_buffered;
+pub use stream::{StreamFault, run_stream, transform};
