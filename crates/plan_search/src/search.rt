@@ -8,11 +8,10 @@ ghost use Rattle.plan_search.specs.Search.{IsPlan, IsNoWorse, IsBestOf, AnyTree,
 use crate::plan::Plan;
 use matrix_meaning::Kind;
 use memory::NoMemory;
+use ring_mod::is_coprime;
 use std::alloc::Global;
 use std::cmp::Ordering;
-use tree_model::{
-    Ctx, Rule, Tree, allows_leaf, allows_split, before, is_coprime, leaf_cost, node_cost,
-};
+use tree_model::{Ctx, Rule, Tree, allows_leaf, allows_split, before, leaf_cost, node_cost};
 
 /// The best rule for a node with parts of sizes `r` and `s`, if one is allowed.
 pub fn best_rule(c: &Ctx, r: u64, s: u64) -> Option<Rule>

@@ -9,9 +9,9 @@ ghost use Rattle.spl_text.specs.Fault.{are_coprime, first_stray};
 
 use crate::reading::Halt;
 use memory::NoMemory;
+use ring_mod::is_coprime;
 use spl_ast::Spl;
 use std::alloc::Global;
-use tree_model::is_coprime;
 
 /// The fault of a part whose size is over the limit.
 fn oversize(place: usize, size: u64) -> Halt

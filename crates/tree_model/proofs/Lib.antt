@@ -1,4 +1,3 @@
-pub mod Coprime
 pub mod Splits
 pub mod Sizes
 pub mod CostBounds

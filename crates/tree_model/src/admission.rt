@@ -4,8 +4,9 @@ ghost use Rattle.tree_model.specs.Breakdown.{breakdown_of, size_of, AllowsLeaf, 
 ghost use Rattle.tree_model.specs.Admissible.{AllowsNodeAt, RootFits, RuleFits, IsAdmissible};
 
 use crate::context::Ctx;
-use crate::tree::{Rule, Tree, is_coprime};
+use crate::tree::{Rule, Tree};
 use matrix_meaning::Kind;
+use ring_mod::is_coprime;
 
 /// Whether the request admits the tree.
 #[tactic(auto, using(crate::proofs::Sizes::word_sizes))]

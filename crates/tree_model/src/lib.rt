@@ -17,4 +17,4 @@ pub use context::{Ctx, divides};
 pub use costs::{cost, is_kernel, leaf_cost, mul_cost, node_cost, node_root};
 pub use order::before;
 pub use passes::{loads, pass_count, passes_do_the_cost, stores};
-pub use tree::{Rule, Tree, is_coprime};
+pub use tree::{Rule, Tree};

@@ -1,6 +1,5 @@
 // Breakdown trees.
-ghost use Rattle.std.specs.Prelude.{◌≡◌, ◌*◌, ◌↔◌, IsTrue, IfOk, Some};
-ghost use Rattle.std.specs.Int.{IsGcd};
+ghost use Rattle.std.specs.Prelude.{◌≡◌, ◌*◌, IfOk, Some};
 ghost use Rattle.tree_model.specs.Breakdown.{breakdown_of, size_of, HasWordSizes};
 ghost use Rattle.tree_model.specs.Text.{tree_text};
 
@@ -72,25 +71,4 @@ impl fmt::Display for Tree {
             Tree::Split(a, b) => write!(f, "split({a},{b})"),
         }
     }
-}
-
-/// The greatest common divisor.
-fn gcd(a: u64, b: u64) -> u64
-    ensures { IsGcd a b result }
-{
-    let mut x = a;
-    let mut y = b;
-    while y != 0 {
-        let rest = x % y;
-        x = y;
-        y = rest;
-    }
-    x
-}
-
-/// Whether sizes have no common factor.
-pub fn is_coprime(r: u64, s: u64) -> bool
-    ensures { IsTrue result ↔ IsGcd r s 1 }
-{
-    gcd(r, s) == 1
 }

@@ -1,11 +1,12 @@
 // Arithmetic modulo a number, index functions, and sums of loop variables.
 
 use crate::rows::{halves, number};
+use convolution::{conv_plain, first_bad_power};
 use index_fn::{Index, compose};
 use matrix_meaning::twiddle_factor;
 use perm_algebra::{Affine, simplify};
 use quick_mod::QuickModulus;
-use ring_mod::Modulus;
+use ring_mod::{Modulus, gcd};
 use std::test::Fail;
 
 // A call, the modulus and the numbers that it takes, and the value by Python's integers.
@@ -26,9 +27,30 @@ quick 12289 12288 12288|Some(1)
 quick 12289 6789 1234|Some(8817)
 quick 2 1 1|Some(1)
 twiddle 17 3 11|Some(15)
+inverse 4611686018427387903 65536 0|Some(70368744177664)
+inverse 4611686018427387903 3 0|None
+inverse 3 1048576 0|Some(1)
+inverse 3 0 0|None
+inverse 17 4 0|Some(13)
+inverse 2 18446744073709551615 0|Some(1)
+gcd 17 12 18|Some(6)
+gcd 17 0 5|Some(5)
+gcd 17 5 0|Some(5)
+gcd 17 0 0|Some(0)
+gcd 17 65536 65537|Some(1)
+bad 17 4 4|None
+bad 17 4 16|Some(2)
+bad 17 1 1|None
+bad 15 4 4|Some(1)
+bad 15 4 14|Some(2)
+bad 65537 64 8224|None
+bad 65537 64 65529|Some(32)
+bad 7 6 3|None
+bad 8 2 7|None
 ";
 
-// The value of a call on numbers that are residues, where there is such a modulus. A twiddle factor is one of four columns.
+// The value of a call on numbers that are residues, where there is such a modulus. A twiddle factor is one of four columns. The
+// bad power is the first power sum that is not 0, of a root of this size.
 fn value(call: &str, modulus: u64, a: u64, b: u64) -> Option<u64> {
     let m = Modulus::new(modulus)?;
     let (left, right) = (m.reduce(a), m.reduce(b));
@@ -38,6 +60,9 @@ fn value(call: &str, modulus: u64, a: u64, b: u64) -> Option<u64> {
         "sub" => m.sub(left, right),
         "neg" => m.neg(left),
         "mul" => m.mul(left, right),
+        "inverse" => m.inverse(a)?,
+        "gcd" => gcd(a, b),
+        "bad" => first_bad_power(&m, a, right)?,
         "quick" => QuickModulus::new(m).mul(left, right),
         "twiddle" => twiddle_factor(&m, 4, left, b),
         _ => left,
@@ -106,5 +131,18 @@ fn sums(rt: HostRuntime) -> Result<(), Fail> {
     let sum = simplify(alloc, &turn, &place, &[2, 3])?;
     let text = format!(in alloc; "{sum}")?;
     assert_eq!(rt; text.as_str(), "0+v1*2+v0*1");
+    Ok(())
+}
+
+// By hand, from the definition: the item l of the first list times the item k - l of the second.
+#[test]
+fn convolutions(rt: HostRuntime) -> Result<(), Fail> {
+    let modulus = Modulus::new(17).ok_or("a modulus")?;
+    if modulus.get() == 17 {
+        let product = conv_plain(rt.alloc(), &modulus, &[1, 2, 0, 0], &[1, 2, 3, 4])?;
+        assert!(rt; product.as_slice() == [9, 4, 7, 10].as_slice());
+        let product = conv_plain(rt.alloc(), &modulus, &[16], &[16])?;
+        assert!(rt; product.as_slice() == [1].as_slice());
+    }
     Ok(())
 }

@@ -1,0 +1,4 @@
+mod ConvolutionLaw
+mod GeometricSums
+mod InverseTransform
+mod PowerSums
