@@ -297,6 +297,7 @@ def swept(sweep, line, numbers):
     except Refused:
         return
     agrees_with_itself(request, cost, tree, data)
+    sweep.compare(f"apply --mod {request.modulus}", wanted("formula", line) + text, wanted("run", line, data))
     budgets(sweep, line, cost)
     checks(sweep, line, numbers)
     if cost < 1500:
