@@ -6,8 +6,8 @@ use spiral_words::{Command, Order, Refusal, command_of};
 use std::alloc::Global;
 use std::test::Fail;
 
-// The words, and the command: its seed or modulus, and its schedule by the turns or events that it has on two processors and the last
-// of them.
+// The words, and the command: its seed or modulus, and its schedule by the turns or events that it has on two processors
+// and the last of them.
 const ROWS: &str = "\
 spiral plan|plan
 spiral formula|formula
@@ -124,27 +124,28 @@ fn answer(alloc: Global, line: &str) -> Result<String, Fail> {
     for word in line.split(' ') {
         words.push(String::from_str(alloc, word)?)?;
     }
-    let name = match command_of(alloc, &words) {
+    let answer = command_of(alloc, &words);
+    let name = match &answer {
         Ok(Command::Plan) => "plan",
         Ok(Command::Formula) => "formula",
         Ok(Command::Code) => "code",
         Ok(Command::C) => "c",
-        Ok(Command::Run { order }) => return ordered(alloc, "run", &order),
-        Ok(Command::Trace { order }) => return ordered(alloc, "trace", &order),
+        Ok(Command::Run { order }) => return ordered(alloc, "run", order),
+        Ok(Command::Trace { order }) => return ordered(alloc, "trace", order),
         Ok(Command::Cert) => "cert",
         Ok(Command::Check) => "check",
         Ok(Command::Sample { seed, schedule }) => {
             let name = format!(in alloc; "sample {seed}")?;
-            return shown(alloc, &name, &schedule);
+            return shown(alloc, &name, schedule);
         }
         Ok(Command::Compile { modulus }) => {
             return Ok(format!(in alloc; "compile {}", modulus.get())?);
         }
         Ok(Command::Apply { modulus, schedule }) => {
             let name = format!(in alloc; "apply {}", modulus.get())?;
-            return shown(alloc, &name, &schedule);
+            return shown(alloc, &name, schedule);
         }
-        Ok(Command::Exec { schedule }) => return shown(alloc, "exec", &schedule),
+        Ok(Command::Exec { schedule }) => return shown(alloc, "exec", schedule),
         Err(Refusal::Usage) => "usage",
         Err(Refusal::NoMemory) => "no memory",
     };
