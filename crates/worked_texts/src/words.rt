@@ -6,7 +6,7 @@ use spiral_words::{Command, Order, Refusal, command_of};
 use std::alloc::Global;
 use std::test::Fail;
 
-// The words, and the command: its seed or modulus, and its schedule by the turns or events that it has on two processors
+// The words, and the command: its seed, and its schedule by the turns or events that it has on two processors
 // and the last of them.
 const ROWS: &str = "\
 spiral plan|plan
@@ -47,10 +47,10 @@ spiral sample --seed 18446744073709551616|usage
 spiral check -- more|usage
 spiral exec|exec 0
 spiral exec --schedule turns:1,1,1,0|exec 4 0
-spiral compile --mod 2|compile 2
-spiral compile --mod=4611686018427387903|compile 4611686018427387903
-spiral apply --mod 17|apply 17 0
-spiral apply --schedule rr:3 --mod 7|apply 7 6 1
+spiral compile --mod 2|compile
+spiral compile --mod=4611686018427387903|compile
+spiral apply --mod 17|apply 0
+spiral apply --schedule rr:3 --mod 7|apply 6 1
 spiral run --buffers|run buffered 0
 spiral trace --buffers --schedule mix:d0,t0|trace mixed 2 t0
 spiral run --schedule mix:t1,d0,t0,d1 --buffers|run mixed 4 d1
@@ -124,28 +124,22 @@ fn answer(alloc: Global, line: &str) -> Result<String, Fail> {
     for word in line.split(' ') {
         words.push(String::from_str(alloc, word)?)?;
     }
-    let answer = command_of(alloc, &words);
-    let name = match &answer {
+    let name = match command_of(alloc, &words) {
         Ok(Command::Plan) => "plan",
         Ok(Command::Formula) => "formula",
         Ok(Command::Code) => "code",
         Ok(Command::C) => "c",
-        Ok(Command::Run { order }) => return ordered(alloc, "run", order),
-        Ok(Command::Trace { order }) => return ordered(alloc, "trace", order),
+        Ok(Command::Run { order }) => return ordered(alloc, "run", &order),
+        Ok(Command::Trace { order }) => return ordered(alloc, "trace", &order),
         Ok(Command::Cert) => "cert",
         Ok(Command::Check) => "check",
         Ok(Command::Sample { seed, schedule }) => {
             let name = format!(in alloc; "sample {seed}")?;
-            return shown(alloc, &name, schedule);
+            return shown(alloc, &name, &schedule);
         }
-        Ok(Command::Compile { modulus }) => {
-            return Ok(format!(in alloc; "compile {}", modulus.get())?);
-        }
-        Ok(Command::Apply { modulus, schedule }) => {
-            let name = format!(in alloc; "apply {}", modulus.get())?;
-            return shown(alloc, &name, schedule);
-        }
-        Ok(Command::Exec { schedule }) => return shown(alloc, "exec", schedule),
+        Ok(Command::Compile { .. }) => "compile",
+        Ok(Command::Apply { schedule, .. }) => return shown(alloc, "apply", &schedule),
+        Ok(Command::Exec { schedule }) => return shown(alloc, "exec", &schedule),
         Err(Refusal::Usage) => "usage",
         Err(Refusal::NoMemory) => "no memory",
     };
