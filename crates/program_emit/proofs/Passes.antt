@@ -1,5 +1,6 @@
 -- Nests and passes that are written one after another.
-use Rattle.std.proofs.Common.{◌≡◌, ℕ, suc, ◌+◌, ◌<◌, List, [], ◌∷◌, ◌++◌, length, map, get_or, take, max, refl, sym, ap, ap₂, ◌∙◌, arith}
+use Rattle.program_emit.specs.Views.{plain_passes}
+use Rattle.std.proofs.Common.{◌≡◌, ℕ, Vec, Global, suc, ◌+◌, ◌<◌, List, [], ◌∷◌, ◌++◌, length, map, get_or, take, max, refl, sym, ap, ap₂, ◌∙◌, arith}
 use Rattle.std.proofs.lemmas.List.{map-append, take_more}
 use Rattle.icode.specs.Plain.{PlainBody, PlainProgram, NoStmts, AndStmts, plain_body}
 use Rattle.icode.specs.declared.program.Array.{Array}
@@ -70,17 +71,26 @@ module _ (h : PlainMachine) (nests : List Nest) (i : ℕ) (z : Nest) (tables : L
 
 -- ---- passes in a row
 
--- the statements of the first pass, and then those of the others
-pub first_and_more : (h : PlainMachine) (after_them : ℕ) (zs : List PlainNest) (ps all : List (List PlainNest)) (number : ℕ) (tables after : List (List ℕ)) (source target : Array) (first more whole : List Stmt) →
+-- the statements of the first pass behind those that are there, and then those of the others
+pub first_and_more : (h : PlainMachine) (after_them : ℕ) (zs : List PlainNest) (ps all : List (List PlainNest)) (number : ℕ) (tables after : List (List ℕ)) (source target : Array) (before first whole : List Stmt) (final : PlainBody) →
     all ≡ zs ∷ ps → target ≡ target_of number (after_them + length ps) → plain_body first ≡ pass_body h zs tables source target → after ≡ tables_after h.modulus zs tables →
-    plain_body more ≡ phase_body h after_them ps (number + 1) after target → whole ≡ first ++ more → plain_body whole ≡ phase_body h after_them all number tables source
-first_and_more h after_them zs ps all number tables after source target first more whole is to head then rest joined =
+    whole ≡ before ++ first → final ≡ followed_by (plain_body whole) (phase_body h after_them ps (number + 1) after target) → final ≡ followed_by (plain_body before) (phase_body h after_them all number tables source)
+first_and_more h after_them zs ps all number tables after source target before first whole final is to head then joined rest =
     let next : number + 1 ≡ suc number = omega arith in
-    ap plain_body joined ∙ plain-append first more
-    ∙ ap₂ followed_by head rest
+    rest
+    ∙ ap (λ (b : PlainBody). followed_by b (phase_body h after_them ps (number + 1) after target)) (ap plain_body joined ∙ plain-append before first)
+    ∙ followed-assoc (plain_body before) (plain_body first) (phase_body h after_them ps (number + 1) after target)
+    ∙ ap (followed_by (plain_body before))
+    (ap (λ (b : PlainBody). followed_by b (phase_body h after_them ps (number + 1) after target)) head
     ∙ ap₂ (λ (ts : List (List ℕ)) (n : ℕ). followed_by (pass_body h zs tables source target) (phase_body h after_them ps n ts target)) then next
     ∙ ap (λ (a : Array). followed_by (pass_body h zs tables source a) (phase_body h after_them ps (suc number) (tables_after h.modulus zs tables) a)) to
-    ∙ ap (λ (qs : List (List PlainNest)). phase_body h after_them qs number tables source) (sym is)
+    ∙ ap (λ (qs : List (List PlainNest)). phase_body h after_them qs number tables source) (sym is))
+
+-- no passes, and so nothing behind those that are there
+pub put_none : (h : PlainMachine) (after number : ℕ) (passes : List (Vec Nest Global)) (tables : List (List ℕ)) (source : Array) (xs : PlainBody) → length passes ≡ 0 →
+    xs ≡ followed_by xs (phase_body h after (plain_passes passes) number tables source)
+put_none h after number [] tables source xs none = sym (followed-none xs)
+put_none h after number (zs ∷ ps) tables source xs none = absurd (cc)
 
 -- the program that is made of the statements, the tables and the registers
 pub written_is : (h : PlainMachine) (g : PlainMerged) (modulus regs : ℕ) (ps : List (List (List PlainNest))) (had tables : List (List ℕ)) (phases : List PlainBody) → modulus ≡ h.modulus → ps ≡ g.phases →

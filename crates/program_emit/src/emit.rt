@@ -5,6 +5,7 @@ ghost use Rattle.icode.specs.Plain as icode_plain;
 ghost use Rattle.icode.specs.Program.{plain_program};
 ghost use Rattle.pass_programs.specs.Contract.{CanProgram, Performs};
 ghost use Rattle.pass_programs.specs.Program as program;
+ghost use Rattle.pass_programs.specs.Statements.{followed_by};
 ghost use Rattle.passes.specs.Views.{plain_merged};
 ghost use Rattle.program_emit.specs.Conditions.{CanEmitAll, CanEmitPhases, machine_for};
 ghost use Rattle.program_emit.specs.Views.{plain_host, plain_passes, plain_phases};
@@ -76,6 +77,38 @@ fn count_in(phases: &[Vec<Vec<Nest>>]) -> u64
     }
 }
 
+// Appends the statements of passes in a row, and tells how many registers they use.
+fn put_passes(
+    alloc: Global,
+    host: &Host,
+    passes: &[Vec<Nest>],
+    start: Start,
+    tables: &mut Vec<Vec<u64>>,
+    out: &mut Vec<Stmt>,
+) -> Result<u64, NoMemory>
+    requires can { CanEmitAll (plain_host host.now) (plain_passes passes.now) }
+    requires few { start.number + (start.after + length passes.now) < 2 ^ 64 }
+    ensures body { OnOk result (plain_body out.new.items ≡ followed_by (plain_body out.old.items) (program.phase_body (plain_host host.now) start.after (plain_passes passes.now) start.number (plain_tables tables.old.items) start.source)) }
+    ensures tables { OnOk result (plain_tables tables.new.items ≡ program.tables_through host.now.modulus (plain_passes passes.now) (plain_tables tables.old.items)) }
+    ensures registers { IfOk result (λ used. used ≡ program.most_of (plain_host host.now) (plain_passes passes.now)) }
+{
+    match passes.split_first() {
+        None => Ok(0),
+        Some((nests, rest)) => {
+            let target = target_of(start.number, start.after + rest.len() as u64);
+            let mut first = emit_pass(alloc, host, nests, start.source, target, tables)?;
+            out.append(&mut first.statements)?;
+            let next = Start {
+                number: start.number + 1,
+                source: target,
+                after: start.after,
+            };
+            let more = put_passes(alloc, host, rest, next, tables, out)?;
+            Ok(first.registers.max(more))
+        }
+    }
+}
+
 // The statements of passes in a row.
 fn emit_passes(
     alloc: Global,
@@ -90,27 +123,12 @@ fn emit_passes(
     ensures tables { OnOk result (plain_tables tables.new.items ≡ program.tables_through host.now.modulus (plain_passes passes.now) (plain_tables tables.old.items)) }
     ensures registers { IfOk result (λ e. e.registers ≡ program.most_of (plain_host host.now) (plain_passes passes.now)) }
 {
-    match passes.split_first() {
-        None => Ok(Emitted {
-            statements: Vec::new(alloc),
-            registers: 0,
-        }),
-        Some((nests, rest)) => {
-            let target = target_of(start.number, start.after + rest.len() as u64);
-            let mut first = emit_pass(alloc, host, nests, start.source, target, tables)?;
-            let next = Start {
-                number: start.number + 1,
-                source: target,
-                after: start.after,
-            };
-            let mut more = emit_passes(alloc, host, rest, next, tables)?;
-            first.statements.append(&mut more.statements)?;
-            Ok(Emitted {
-                statements: first.statements,
-                registers: first.registers.max(more.registers),
-            })
-        }
-    }
+    let mut statements = Vec::new(alloc);
+    let registers = put_passes(alloc, host, passes, start, tables, &mut statements)?;
+    Ok(Emitted {
+        statements,
+        registers,
+    })
 }
 
 // The statements of phases, where the first pass has this number and reads the source.

@@ -1,4 +1,6 @@
 // Why a line is no request.
+ghost use Rattle.std.specs.Prelude.{◌≡◌, Some};
+ghost use Rattle.request_text.specs.Fields.{field_word};
 
 use std::fmt;
 use thiserror::Error;
@@ -17,9 +19,12 @@ pub enum Field {
     Weight,
 }
 
-impl fmt::Display for Field {
-    fn fmt<W: fmt::Write>(&self, f: &mut fmt::Formatter<W>) -> fmt::Result {
-        f.write_str(match self {
+impl Field {
+    /// The field's word.
+    pub fn word(self) -> &'static str
+        ensures { result.now ≡ field_word self }
+    {
+        match self {
             Field::Size => "size",
             Field::Mod => "mod",
             Field::Root => "root",
@@ -29,7 +34,15 @@ impl fmt::Display for Field {
             Field::Unroll => "unroll",
             Field::Budget => "budget",
             Field::Weight => "weight",
-        })
+        }
+    }
+}
+
+impl fmt::Display for Field {
+    ghost output = { λ field. Some (field_word field) };
+
+    fn fmt<W: fmt::Write>(&self, f: &mut fmt::Formatter<W>) -> fmt::Result {
+        f.write_str(self.word())
     }
 }
 
