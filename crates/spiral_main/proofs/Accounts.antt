@@ -11,11 +11,11 @@ use Rattle.io_edge.specs.Feed.{Fed, limit, to_come}
 use Rattle.spiral_words.specs.Asked.{IsAsked}
 use Rattle.spiral_words.specs.declared.Command.{Command}
 use Rattle.spiral_words.specs.declared.Command.TheVariants as command
-use Rattle.spiral_main.specs.declared.status.Status.{Status}
-use Rattle.spiral_main.specs.declared.status.Status.TheVariants.{ReadFault, WriteFault}
+use Rattle.spiral_status.specs.declared.status.Status.{Status}
+use Rattle.spiral_status.specs.declared.status.Status.TheVariants.{ReadFault, WriteFault}
 use Rattle.spiral_main.specs.Commands.{commanded, AskForFormula}
 use Rattle.spiral_main.specs.Line.{data_of, is_line_end, HasEnded}
-use Rattle.spiral_main.specs.Status.{IsDefined}
+use Rattle.spiral_status.specs.Status.{IsDefined}
 use Rattle.spiral_main.specs.Outcome.{IsAccepted, requested, Job, IsOrder, Settles, BreaksOff, ComesTo, room_behind, Accounts}
 use Rattle.spiral_main.specs.Steps.{IsEarly, AsksBy, Asks, Performs, ToldPerforms, Executes, ToldExecutes, Computes, ToldComputes, ToldAccounts}
 use Rattle.spiral_main.proofs.LineLemmas.{line_there}

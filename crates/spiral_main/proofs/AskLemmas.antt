@@ -13,10 +13,10 @@ use Rattle.spiral_words.specs.declared.Command.{Command}
 use Rattle.spiral_words.specs.Named.{NamedTexts}
 use Rattle.spiral_words.specs.Named as named
 use Rattle.spiral_words.specs.Asked.{Means, IsAsked}
-use Rattle.spiral_main.specs.declared.status.Status.{Status}
-use Rattle.spiral_main.specs.declared.status.Status.TheVariants.{Turn, ReadFault, TooLong}
+use Rattle.spiral_status.specs.declared.status.Status.{Status}
+use Rattle.spiral_status.specs.declared.status.Status.TheVariants.{Turn, ReadFault, TooLong}
 use Rattle.spiral_main.specs.Commands.{reads_rest, first_stranger, procs_named, admitted}
-use Rattle.spiral_main.specs.Fault.{status_of_line, status_of_request}
+use Rattle.spiral_status.specs.Fault.{status_of_line, status_of_request}
 use Rattle.spiral_main.specs.Line.{first_line, line_of, IsWholeLine, GivesLine}
 use Rattle.spiral_main.specs.Steps.{Asks}
 

@@ -21,7 +21,7 @@ use Rattle.spiral_words.specs.declared.Command.TheVariants as command
 use Rattle.spiral_words.specs.declared.Order.{Order}
 use Rattle.stream_run.specs.declared.stream.StreamFault.{StreamFault}
 use Rattle.stream_run.specs.BufferedText.{buffered_text}
-use Rattle.spiral_main.specs.Fault.{status_of_stream}
+use Rattle.spiral_status.specs.Fault.{status_of_stream}
 use Rattle.spiral_main.specs.Orders.{order_of, traced_text}
 use Rattle.spiral_main.specs.Steps.{IsGoodCode, ToldPerforms}
 use Rattle.stream_run.specs.Stream.{Streams, texts, vectors_of}

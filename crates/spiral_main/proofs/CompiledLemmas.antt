@@ -30,14 +30,14 @@ use Rattle.request_text.specs.Turns.{turns_of}
 use Rattle.par_machine.proofs.Schedules.{turns_there}
 use Rattle.spiral_words.specs.declared.Command.{Command}
 use Rattle.spiral_words.specs.declared.Command.TheVariants as command
-use Rattle.spiral_main.specs.declared.status.Status.{Status}
-use Rattle.spiral_main.specs.declared.status.Status.TheVariants.{Success, Turn, ReadFault, WriteFault, NoMemory, TooLong}
+use Rattle.spiral_status.specs.declared.status.Status.{Status}
+use Rattle.spiral_status.specs.declared.status.Status.TheVariants.{Success, Turn, ReadFault, WriteFault, NoMemory, TooLong}
 use Rattle.stream_run.specs.declared.stream.StreamFault.{StreamFault}
 use Rattle.spiral_main.specs.Commands.{admitted, first_stranger, procs_named}
 use Rattle.spiral_main.specs.Compiled.{formula_limit, formula_line, written, formed, formula_in, IsAppliedText, IsFormulaListing, IsPartOfFormula, IsCompiledText, IsFormulaCode, GivesText}
-use Rattle.spiral_main.specs.Fault.{status_of_spl, status_of_stream, status_of_text}
+use Rattle.spiral_status.specs.Fault.{status_of_spl, status_of_stream, status_of_text}
 use Rattle.spiral_main.specs.Line.{is_line_end, first_line, data_of, room_behind, HasEnded, IsWholeLine}
-use Rattle.spiral_main.specs.Status.{IsDefined}
+use Rattle.spiral_status.specs.Status.{IsDefined}
 use Rattle.spiral_main.specs.Steps.{IsRefusal, Computes, ToldComputes}
 use Rattle.stream_run.specs.Stream.{run_text, lines, texts, vectors_of, data_answer, data_vectors, HasNoStranger, Streams}
 use Rattle.spiral_main.proofs.Accounts.{none_read, none_left, none_cut, still_ended}

@@ -8,12 +8,12 @@ use Rattle.io_edge.specs.Feed.{Fed, limit}
 use Rattle.io_edge.specs.Taken.{AppendsPrefix}
 use Rattle.io_edge.proofs.TakenLemmas.{prefix_after}
 use Rattle.data_stream.specs.Data.{tokens, closed_part, is_good}
-use Rattle.spiral_main.specs.declared.status.Status.{Status}
-use Rattle.spiral_main.specs.declared.status.Status.TheVariants.{ReadFault, WriteFault}
+use Rattle.spiral_status.specs.declared.status.Status.{Status}
+use Rattle.spiral_status.specs.declared.status.Status.TheVariants.{ReadFault, WriteFault}
 use Rattle.stream_run.specs.declared.stream.StreamFault.{StreamFault}
 use Rattle.stream_run.specs.declared.stream.StreamFault.TheVariants as stream
-use Rattle.spiral_main.specs.Fault.{status_of_stream}
-use Rattle.spiral_main.specs.Status.{IsDefined}
+use Rattle.spiral_status.specs.Fault.{status_of_stream}
+use Rattle.spiral_status.specs.Status.{IsDefined}
 use Rattle.stream_run.specs.Stream.{vectors_of, texts, data_answer, data_vectors, Reads, Streams}
 
 -- Status and output of a run over the data, where it is known which text belongs to which whole vectors

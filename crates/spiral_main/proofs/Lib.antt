@@ -17,6 +17,5 @@ pub mod DataLemmas
 pub mod ListedLemmas
 pub mod OneExecution
 pub mod OneFormula
-pub mod Notes
 pub mod Stages
 pub mod BufferedOutcome

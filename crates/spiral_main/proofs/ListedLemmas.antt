@@ -24,13 +24,13 @@ use Rattle.input_rest.proofs.PartLemmas.{still_ended}
 use Rattle.data_stream.specs.Data.{tokens, closed_part, is_good}
 use Rattle.data_stream.specs.Line.{line_of}
 use Rattle.request_text.specs.Schedule.{Plan}
-use Rattle.spiral_main.specs.declared.status.Status.{Status}
-use Rattle.spiral_main.specs.declared.status.Status.TheVariants.{Turn, ReadFault, WriteFault, NoMemory, TooLong}
+use Rattle.spiral_status.specs.declared.status.Status.{Status}
+use Rattle.spiral_status.specs.declared.status.Status.TheVariants.{Turn, ReadFault, WriteFault, NoMemory, TooLong}
 use Rattle.stream_run.specs.declared.stream.StreamFault.{StreamFault}
 use Rattle.spiral_main.specs.Commands.{stranger, admitted}
-use Rattle.spiral_main.specs.Fault.{status_of_listing, status_of_check, status_of_part, status_of_stream}
+use Rattle.spiral_status.specs.Fault.{status_of_listing, status_of_check, status_of_part, status_of_stream}
 use Rattle.spiral_main.specs.Listed.{listing_limit, action_limit, listing_in, loaded, runnable, result_of, IsResultText, room_behind_listing, IsAnswerOfProgram}
-use Rattle.spiral_main.specs.Status.{IsDefined}
+use Rattle.spiral_status.specs.Status.{IsDefined}
 use Rattle.spiral_main.specs.Steps.{IsRefusal, Executes, ToldExecutes}
 use Rattle.stream_run.specs.Stream.{run_text, texts, lines, vectors_of, Streams}
 use Rattle.spiral_main.proofs.Accounts.{none_read, none_left, none_cut}

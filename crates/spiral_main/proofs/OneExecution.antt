@@ -9,10 +9,10 @@ use Rattle.listing_text.specs.Texts.{is_listing}
 use Rattle.listing_text.proofs.DraftReads.{listing_judges}
 use Rattle.code_check.proofs.Causes.{one_cause, none_if_passed}
 use Rattle.request_text.specs.Schedule.{Plan}
-use Rattle.spiral_main.specs.declared.status.Status.{Status}
-use Rattle.spiral_main.specs.declared.status.Status.TheVariants.{ListingSyntax}
+use Rattle.spiral_status.specs.declared.status.Status.{Status}
+use Rattle.spiral_status.specs.declared.status.Status.TheVariants.{ListingSyntax}
 use Rattle.spiral_main.specs.Commands.{stranger, admitted}
-use Rattle.spiral_main.specs.Fault.{status_of_check}
+use Rattle.spiral_status.specs.Fault.{status_of_check}
 use Rattle.spiral_main.specs.Listed.{action_limit, listing_in, listed, verified, runnable, IsAnswerOfProgram, room_behind_listing, IsExecution}
 use Rattle.spiral_main.specs.Stage.{given}
 use Rattle.input_rest.specs.Part.{second_part}

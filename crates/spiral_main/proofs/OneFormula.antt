@@ -8,10 +8,10 @@ use Rattle.spl_text.specs.declared.reading.SplFault.{SplFault}
 use Rattle.spl_text.specs.declared.reading.SplFault.TheVariants as spl
 use Rattle.spiral_words.specs.declared.Command.{Command}
 use Rattle.spiral_words.specs.declared.Command.TheVariants as command
-use Rattle.spiral_main.specs.declared.status.Status.{Status}
+use Rattle.spiral_status.specs.declared.status.Status.{Status}
 use Rattle.spiral_main.specs.Commands.{admitted, first_stranger, procs_named, prints_one_text}
 use Rattle.spiral_main.specs.Compiled.{formula_line, written, formula_in, SettlesFormula, IsFormulaAnswer}
-use Rattle.spiral_main.specs.Fault.{status_of_spl}
+use Rattle.spiral_status.specs.Fault.{status_of_spl}
 use Rattle.spiral_main.specs.Line.{data_of, room_behind}
 use Rattle.spiral_main.specs.Stage.{given}
 use Rattle.spiral_main.proofs.Stages.{IsDecided, done, ended, done_same, ended_same, done_ended, given_decided, bind_decided}

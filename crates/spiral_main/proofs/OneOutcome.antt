@@ -12,11 +12,11 @@ use Rattle.generate.specs.Planned.{IsPlanned, IsAdmitted, IsBarred}
 use Rattle.tree_model.specs.Breakdown.{Breakdown}
 use Rattle.tree_model.specs.Cost.{cost_of}
 use Rattle.plan_cert.proofs.OneVerdict.{one_verdict}
-use Rattle.spiral_main.specs.declared.status.Status.{Status}
+use Rattle.spiral_status.specs.declared.status.Status.{Status}
 use Rattle.spiral_main.specs.Checked.{IsChecked, status_of_verdict}
 use Rattle.spiral_main.specs.Commands.{reads_certificate, takes_formula, takes_request, commanded, scheduled, AskForFormula}
 use Rattle.spiral_main.specs.Compiled.{IsFormulaAnswer}
-use Rattle.spiral_main.specs.Fault.{status_of_request, status_of_generate}
+use Rattle.spiral_status.specs.Fault.{status_of_request, status_of_generate}
 use Rattle.spiral_main.specs.Line.{line_of}
 use Rattle.spiral_main.specs.Outcome.{spelt, IsRefused, IsShutOut, IsAccepted, IsDeclined, requested, Job, accepted, ordered, IsTextOf, IsTextOfData, Settles, IsAnswerToRequest, IsOutcome, room_behind}
 use Rattle.spiral_main.specs.Line.{data_of}

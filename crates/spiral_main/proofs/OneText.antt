@@ -15,7 +15,7 @@ use Rattle.plan_text.specs.Text.{plan_text}
 use Rattle.plan_cert.specs.declared.certificate.Row.{Row}
 use Rattle.plan_cert.specs.Table.{IsTableText}
 use Rattle.plan_cert.proofs.OneVerdict.{one_verdict}
-use Rattle.spiral_main.specs.declared.status.Status.{Status}
+use Rattle.spiral_status.specs.declared.status.Status.{Status}
 use Rattle.spiral_main.specs.Checked.{IsChecked, verdict_text}
 use Rattle.spiral_main.specs.Commands.{prints_one_text}
 use Rattle.spiral_main.specs.Compiled.{IsFormulaAnswer}

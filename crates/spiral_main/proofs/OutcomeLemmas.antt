@@ -30,15 +30,15 @@ use Rattle.plan_cert.specs.Verdict.{IsVerdict}
 use Rattle.spiral_words.specs.declared.Command.{Command}
 use Rattle.spiral_words.specs.declared.Command.TheVariants as command
 use Rattle.spiral_words.specs.declared.Order.{Order}
-use Rattle.spiral_main.specs.declared.status.Status.{Status}
-use Rattle.spiral_main.specs.declared.status.Status.TheVariants.{Success, Usage, ReadFault, WriteFault, NoMemory}
+use Rattle.spiral_status.specs.declared.status.Status.{Status}
+use Rattle.spiral_status.specs.declared.status.Status.TheVariants.{Success, Usage, ReadFault, WriteFault, NoMemory}
 use Rattle.stream_run.specs.declared.stream.StreamFault.{StreamFault}
 use Rattle.stream_run.specs.declared.stream.StreamFault.TheVariants as stream
 use Rattle.spiral_main.specs.Checked.{certificate_limit, status_of_verdict, least_line, verdict_text}
 use Rattle.spiral_main.specs.Commands.{reads_certificate, first_stranger, has_text}
-use Rattle.spiral_main.specs.Fault.{status_of_generate, status_of_rest, status_of_fault, status_of_stream}
+use Rattle.spiral_status.specs.Fault.{status_of_generate, status_of_rest, status_of_fault, status_of_stream}
 use Rattle.spiral_main.specs.Orders.{traced_text}
-use Rattle.spiral_main.specs.Status.{IsDefined}
+use Rattle.spiral_status.specs.Status.{IsDefined}
 use Rattle.stream_run.specs.Stream.{group_vectors, vectors_of, texts, lines, run_text, Streams}
 use Rattle.spiral_main.specs.Outcome.{IsRefused, IsShutOut, IsAffordable, IsAccepted, IsDeclined, product, IsProgramFor, IsTextOf, IsTextOfData}
 use Rattle.spiral_main.proofs.DataLemmas.{RunsOver, runs_over}

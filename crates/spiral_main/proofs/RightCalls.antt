@@ -9,14 +9,14 @@ use Rattle.input_rest.specs.Part.{second_part}
 use Rattle.request_text.specs.Schedule.{Plan}
 use Rattle.spiral_words.specs.declared.Command.{Command}
 use Rattle.spiral_words.specs.declared.Command.TheVariants as command
-use Rattle.spiral_main.specs.declared.status.Status.{Status}
-use Rattle.spiral_main.specs.declared.status.Status.TheVariants.{Success, Usage, Syntax, Range, Shape, LanesLine, Turn, NoDivide, OverBudget, BadNumber, Truncated, ReadFault, WriteFault, NoMemory, TooLong, Unread, Wrong, FormulaShape, FormulaTooDeep, ListingSyntax, Address, Register, LineShared, OverSteps}
-use Rattle.spiral_main.specs.declared.status.Status.TheVariants as status
+use Rattle.spiral_status.specs.declared.status.Status.{Status}
+use Rattle.spiral_status.specs.declared.status.Status.TheVariants.{Success, Usage, Syntax, Range, Shape, LanesLine, Turn, NoDivide, OverBudget, BadNumber, Truncated, ReadFault, WriteFault, NoMemory, TooLong, Unread, Wrong, FormulaShape, FormulaTooDeep, ListingSyntax, Address, Register, LineShared, OverSteps}
+use Rattle.spiral_status.specs.declared.status.Status.TheVariants as status
 use Rattle.spiral_main.specs.Checked.{IsChecked, status_of_verdict}
 use Rattle.spiral_main.specs.Commands.{reads_certificate}
 use Rattle.spl_ast.specs.Formula.{Formula, size_of}
 use Rattle.spiral_main.specs.Compiled.{formula_in, SettlesFormula, IsFormulaAnswer}
-use Rattle.spiral_main.specs.Fault.{status_of_stream}
+use Rattle.spiral_status.specs.Fault.{status_of_stream}
 use Rattle.spiral_main.specs.Line.{data_of}
 use Rattle.spiral_main.specs.Listed.{runnable, room_behind_listing, IsAnswerOfProgram, IsExecution}
 use Rattle.spiral_main.specs.Outcome.{Job, IsTextOfData, Settles, IsAnswerToRequest, IsOutcome, room_behind, Accounts}

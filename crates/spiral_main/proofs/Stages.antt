@@ -1,6 +1,6 @@
 -- Stages that have one right answer.
 use Rattle.std.proofs.Common.{◌≡◌, Ok, Err, Result, sym, ap, subst, ◌∙◌, inl, inr}
-use Rattle.spiral_main.specs.declared.status.Status.{Status}
+use Rattle.spiral_status.specs.declared.status.Status.{Status}
 use Rattle.spiral_main.specs.Stage.{Stage, given, GoesOn, ◌>>=◌}
 
 -- at most one answer is right

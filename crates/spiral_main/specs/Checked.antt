@@ -5,8 +5,8 @@ use Rattle.matrix_meaning.specs.declared.Request.{Request}
 use Rattle.plan_cert.specs.declared.verdict.Verdict.{Verdict}
 use Rattle.plan_cert.specs.declared.verdict.Verdict.TheVariants as verdict
 use Rattle.plan_cert.specs.Verdict.{IsVerdict}
-use Rattle.spiral_main.specs.declared.status.Status.{Status}
-use Rattle.spiral_main.specs.declared.status.Status.TheVariants.{Success, TooLong, Unread, Wrong}
+use Rattle.spiral_status.specs.declared.status.Status.{Status}
+use Rattle.spiral_status.specs.declared.status.Status.TheVariants.{Success, TooLong, Unread, Wrong}
 
 -- how many bytes a certificate has at most
 abbrev pub certificate_limit : ℕ

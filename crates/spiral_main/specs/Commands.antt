@@ -9,8 +9,8 @@ use Rattle.spiral_words.specs.declared.Command.{Command}
 use Rattle.spiral_words.specs.declared.Command.TheVariants.{Plan, Formula, Cert, Check, Code, C, Run, Trace, Sample, Compile, Apply, Exec}
 use Rattle.spiral_main.specs.Orders.{procs_of}
 use Rattle.spiral_main.specs.Stage.{Stage}
-use Rattle.spiral_main.specs.declared.status.Status.{Status}
-use Rattle.spiral_main.specs.declared.status.Status.TheVariants.{Usage, Turn, NoMemory}
+use Rattle.spiral_status.specs.declared.status.Status.{Status}
+use Rattle.spiral_status.specs.declared.status.Status.TheVariants.{Usage, Turn, NoMemory}
 
 -- the commands that go over the data
 abbrev pub reads_data : Command → Bool

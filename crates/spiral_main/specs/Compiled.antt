@@ -17,10 +17,10 @@ use Rattle.input_rest.specs.declared.RestFault.TheVariants as rest
 use Rattle.data_stream.specs.Data.{tokens, closed_part, is_good}
 use Rattle.spiral_words.specs.declared.Command.{Command}
 use Rattle.spiral_words.specs.declared.Command.TheVariants as command
-use Rattle.spiral_main.specs.declared.status.Status.{Status}
-use Rattle.spiral_main.specs.declared.status.Status.TheVariants.{Success, TooLong}
+use Rattle.spiral_status.specs.declared.status.Status.{Status}
+use Rattle.spiral_status.specs.declared.status.Status.TheVariants.{Success, TooLong}
 use Rattle.spiral_main.specs.Commands.{admitted, first_stranger, procs_named}
-use Rattle.spiral_main.specs.Fault.{status_of_spl, status_of_stream, status_of_text}
+use Rattle.spiral_status.specs.Fault.{status_of_spl, status_of_stream, status_of_text}
 use Rattle.spiral_main.specs.Line.{is_line_end, first_line, data_of, room_behind, HasEnded, IsWholeLine}
 use Rattle.spiral_main.specs.Stage.{Stage, given, ◌>>=◌}
 use Rattle.stream_run.specs.Stream.{lines, vectors_of, data_answer, data_vectors}

@@ -1,13 +1,11 @@
 pub mod Checked
 pub mod Commands
 pub mod Compiled
-pub mod Fault
 pub mod Line
 pub mod Listed
 pub mod Outcome
 pub mod Right
 pub mod Sample
 pub mod Stage
-pub mod Status
 pub mod Steps
 pub mod Orders

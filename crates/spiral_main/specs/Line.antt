@@ -5,8 +5,8 @@ use Rattle.io_edge.specs.Feed.{limit}
 use Rattle.io_edge.specs.declared.FeedFault.{FeedFault}
 use Rattle.io_edge.specs.declared.FeedFault.TheVariants.{ReadFault}
 use Rattle.io_edge.specs.declared.FeedFault.TheVariants as feed
-use Rattle.spiral_main.specs.declared.status.Status.{Status}
-use Rattle.spiral_main.specs.declared.status.Status.TheVariants.{TooLong}
+use Rattle.spiral_status.specs.declared.status.Status.{Status}
+use Rattle.spiral_status.specs.declared.status.Status.TheVariants.{TooLong}
 
 abbrev pub is_line_end : ℕ → Bool
 is_line_end byte = byte == 10

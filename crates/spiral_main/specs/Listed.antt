@@ -13,10 +13,10 @@ use Rattle.io_edge.specs.Feed.{limit}
 use Rattle.input_rest.specs.Part.{first_part, second_part, HasPartEnded, IsInPart}
 use Rattle.data_stream.specs.Data.{tokens, closed_part, is_good}
 use Rattle.request_text.specs.Schedule.{Plan as Turns}
-use Rattle.spiral_main.specs.declared.status.Status.{Status}
-use Rattle.spiral_main.specs.declared.status.Status.TheVariants.{TooLong, ListingSyntax}
+use Rattle.spiral_status.specs.declared.status.Status.{Status}
+use Rattle.spiral_status.specs.declared.status.Status.TheVariants.{TooLong, ListingSyntax}
 use Rattle.spiral_main.specs.Commands.{stranger, admitted}
-use Rattle.spiral_main.specs.Fault.{status_of_check, status_of_stream}
+use Rattle.spiral_status.specs.Fault.{status_of_check, status_of_stream}
 use Rattle.spiral_main.specs.Stage.{Stage, given, ◌>>=◌}
 use Rattle.stream_run.specs.Stream.{lines, vectors_of, data_answer, data_vectors}
 

@@ -30,11 +30,11 @@ use Rattle.spiral_words.specs.Asked.{IsAsked}
 use Rattle.spiral_words.specs.declared.Command.{Command}
 use Rattle.spiral_words.specs.declared.Order.{Order}
 use Rattle.spiral_words.specs.declared.Command.TheVariants as command
-use Rattle.spiral_main.specs.declared.status.Status.{Status}
-use Rattle.spiral_main.specs.declared.status.Status.TheVariants.{Success, ReadFault, WriteFault}
+use Rattle.spiral_status.specs.declared.status.Status.{Status}
+use Rattle.spiral_status.specs.declared.status.Status.TheVariants.{Success, ReadFault, WriteFault}
 use Rattle.spiral_main.specs.Checked.{certificate_limit, IsJudged, IsChecked}
 use Rattle.spiral_main.specs.Commands.{reads_certificate, commanded, AskForRequest, AskForFormula, scheduled}
-use Rattle.spiral_main.specs.Fault.{status_of_request, status_of_generate, status_of_stream}
+use Rattle.spiral_status.specs.Fault.{status_of_request, status_of_generate, status_of_stream}
 use Rattle.spiral_main.specs.Compiled.{IsFormulaAnswer, IsBrokenFormula, IsCutFormula}
 use Rattle.spiral_main.specs.Line.{line_of, data_of, IsPartOfLine, HasEnded}
 pub use Rattle.spiral_main.specs.Line.{room_behind}
@@ -42,7 +42,7 @@ use Rattle.spiral_main.specs.Listed.{IsExecution, IsBrokenExecution, IsCutExecut
 use Rattle.spiral_main.specs.Orders.{traced_text}
 use Rattle.spiral_main.specs.Sample.{sample_vector, weighted_sum, sample_text}
 use Rattle.spiral_main.specs.Stage.{Stage, given, ◌>>=◌}
-use Rattle.spiral_main.specs.Status.{IsDefined}
+use Rattle.spiral_status.specs.Status.{IsDefined}
 use Rattle.stream_run.specs.Stream.{texts, lines, vectors_of, data_answer, data_vectors}
 
 -- The stages

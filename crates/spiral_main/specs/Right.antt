@@ -14,8 +14,8 @@ use Rattle.spl_ast.specs.Formula.{Formula, size_of}
 use Rattle.spiral_words.specs.Asked.{IsAsked}
 use Rattle.spiral_words.specs.declared.Command.{Command}
 use Rattle.spiral_words.specs.declared.Command.TheVariants as command
-use Rattle.spiral_main.specs.declared.status.Status.{Status}
-use Rattle.spiral_main.specs.declared.status.Status.TheVariants.{Success}
+use Rattle.spiral_status.specs.declared.status.Status.{Status}
+use Rattle.spiral_status.specs.declared.status.Status.TheVariants.{Success}
 use Rattle.spiral_main.specs.Checked.{certificate_limit}
 use Rattle.spiral_main.specs.Commands.{AskForFormula}
 use Rattle.spiral_main.specs.Compiled.{formula_in}

@@ -1,8 +1,8 @@
 -- The stages of a run. A stage says what it is right to answer: a value to go on with, or the status that ends the run.
 use Rattle.std.specs.Prelude.{◌≡◌, ◌⊎◌, Ok, Err, Result}
-use Rattle.spiral_main.specs.Status.{IsDefined}
-use Rattle.spiral_main.specs.declared.status.Status.{Status}
-use Rattle.spiral_main.specs.declared.status.Status.TheVariants.{Success}
+use Rattle.spiral_status.specs.Status.{IsDefined}
+use Rattle.spiral_status.specs.declared.status.Status.{Status}
+use Rattle.spiral_status.specs.declared.status.Status.TheVariants.{Success}
 
 abbrev pub Stage : Type 0 → Type 1
 Stage A = Result A Status → Type 0

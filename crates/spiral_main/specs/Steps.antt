@@ -18,13 +18,13 @@ use Rattle.input_rest.specs.declared.RestFault.{RestFault}
 use Rattle.input_rest.specs.Part.{GivesPart}
 use Rattle.request_text.specs.Schedule.{Plan as Turns}
 use Rattle.spiral_words.specs.declared.Command.{Command}
-use Rattle.spiral_main.specs.declared.status.Status.{Status}
-use Rattle.spiral_main.specs.declared.status.Status.TheVariants.{Success, Usage, ReadFault, WriteFault}
+use Rattle.spiral_status.specs.declared.status.Status.{Status}
+use Rattle.spiral_status.specs.declared.status.Status.TheVariants.{Success, Usage, ReadFault, WriteFault}
 use Rattle.spiral_main.specs.Compiled.{IsFormulaAnswer, IsBrokenFormula, IsCutFormula}
-use Rattle.spiral_main.specs.Fault.{status_of_part}
+use Rattle.spiral_status.specs.Fault.{status_of_part}
 use Rattle.spiral_main.specs.Line.{data_of, IsPartOfLine}
 use Rattle.spiral_main.specs.Listed.{listing_limit, loaded, IsExecution, IsBrokenExecution, IsCutExecution}
-use Rattle.spiral_main.specs.Status.{IsDefined}
+use Rattle.spiral_status.specs.Status.{IsDefined}
 use Rattle.spiral_main.specs.Outcome.{requested, IsAccepted, IsDeclined, Settles, BreaksOff, ComesTo, Accounts}
 
 -- a status that ends a run before the output and the data

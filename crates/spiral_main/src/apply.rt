@@ -6,7 +6,7 @@ ghost use Rattle.io_edge.specs.Feed.{to_come};
 ghost use Rattle.spiral_main.specs.Commands.{reads_rest, takes_formula};
 ghost use Rattle.spiral_main.specs.Compiled.{IsFormulaCode, formed};
 ghost use Rattle.spiral_main.specs.Stage.{status_of};
-ghost use Rattle.spiral_main.specs.Status.{IsDefined};
+ghost use Rattle.spiral_status.specs.Status.{IsDefined};
 ghost use Rattle.spiral_main.specs.Steps.{IsRefusal, ToldComputes};
 ghost use Rattle.stream_run.specs.Stream.{HasNoStranger};
 

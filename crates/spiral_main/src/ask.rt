@@ -6,14 +6,15 @@ ghost use Rattle.io_edge.specs.Feed.{to_come};
 ghost use Rattle.spiral_words.specs.Asked.{IsAsked};
 ghost use Rattle.spiral_main.specs.Commands.{commanded, AreJudged, NamesNoStranger, first_stranger, procs_named};
 ghost use Rattle.spiral_main.specs.Orders.{procs_of};
-ghost use Rattle.spiral_main.specs.Status.{IsDefined};
+ghost use Rattle.spiral_status.specs.Status.{IsDefined};
 ghost use Rattle.spiral_main.specs.Steps.{IsEarly, Asks};
 
 use crate::Status;
-use crate::line::{LINE_LIMIT, read_line};
+use crate::line::read_line;
 use io_edge::{Feed, Source};
 use matrix_meaning::Request;
 use request_text::read_request;
+use spiral_status::LINE_LIMIT;
 use spiral_words::{Command, Order, Refusal, command_of};
 use std::alloc::Global;
 

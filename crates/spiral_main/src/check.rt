@@ -16,12 +16,10 @@ use io_edge::{Feed, Sink, Source, WriteFault, write_parts};
 use itoa::Buffer;
 use matrix_meaning::Request;
 use plan_cert::{Verdict, check_cert};
+use spiral_status::CERTIFICATE_LIMIT;
 use spiral_words::Command;
 use std::alloc::Global;
 use tree_model::Ctx;
-
-/// How many bytes a certificate has at most.
-pub(crate) const CERTIFICATE_LIMIT: u64 = 65536;
 
 // Writes the line of a right certificate.
 fn write_least<O: Sink>(output: &mut O, cost: u64) -> Result<(), WriteFault>

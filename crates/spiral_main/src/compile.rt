@@ -6,7 +6,7 @@ ghost use Rattle.io_edge.specs.Feed.{to_come};
 ghost use Rattle.spl_ast.specs.Formula.{parts_of};
 ghost use Rattle.spiral_main.specs.Compiled.{IsCompiledText, formed, written};
 ghost use Rattle.spiral_main.specs.Stage.{status_of};
-ghost use Rattle.spiral_main.specs.Status.{IsDefined};
+ghost use Rattle.spiral_status.specs.Status.{IsDefined};
 ghost use Rattle.spiral_main.specs.Steps.{IsRefusal, ToldComputes};
 
 use crate::Status;

@@ -11,7 +11,7 @@ ghost use Rattle.buffer_machine.specs.Listed.{HasNoStranger};
 ghost use Rattle.spiral_main.specs.Orders.{order_of};
 ghost use Rattle.spiral_main.specs.Outcome.{IsRefused, IsAffordable, IsProgramFor};
 ghost use Rattle.spiral_main.specs.Stage.{status_of};
-ghost use Rattle.spiral_main.specs.Status.{IsDefined};
+ghost use Rattle.spiral_status.specs.Status.{IsDefined};
 ghost use Rattle.spiral_main.specs.Steps.{IsRefusal, IsGoodCode, ToldPerforms};
 
 use crate::Status;

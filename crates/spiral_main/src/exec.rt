@@ -5,7 +5,7 @@ ghost use Rattle.io_edge.specs.Faults.{Reports};
 ghost use Rattle.io_edge.specs.Feed.{to_come};
 ghost use Rattle.spiral_main.specs.Listed.{loaded};
 ghost use Rattle.spiral_main.specs.Stage.{status_of};
-ghost use Rattle.spiral_main.specs.Status.{IsDefined};
+ghost use Rattle.spiral_status.specs.Status.{IsDefined};
 ghost use Rattle.spiral_main.specs.Steps.{GivesListing, IsLoadedCode, IsRefusal, ToldExecutes};
 ghost use Rattle.stream_run.specs.Stream.{HasNoStranger};
 

@@ -5,8 +5,8 @@ ghost use Rattle.std.specs.Prelude.{◌≡◌, ◌≢◌, ◌⊎◌, ℕ, true, 
 ghost use Rattle.std.specs.declared.option.Option.{Option};
 ghost use Rattle.spiral_words.specs.Asked.{IsAsked};
 ghost use Rattle.spiral_words.specs.declared.Command.{Command as SpecCommand};
-ghost use Rattle.spiral_main.specs.declared.status.Status.{Status as SpecStatus};
-ghost use Rattle.spiral_main.specs.declared.status.Status.TheVariants.{ReadFault, WriteFault, NoMemory};
+ghost use Rattle.spiral_status.specs.declared.status.Status.{Status as SpecStatus};
+ghost use Rattle.spiral_status.specs.declared.status.Status.TheVariants.{ReadFault, WriteFault, NoMemory};
 ghost use Rattle.spiral_main.specs.Commands.{prints_one_text};
 ghost use Rattle.spiral_main.specs.Outcome.{Accounts, IsOutcome};
 ghost use Rattle.spiral_main.specs.Right.{IsRightCall, Succeeds};
@@ -20,16 +20,14 @@ mod events;
 mod exec;
 mod formula_line;
 mod line;
-mod note;
 mod plans;
 mod run;
 mod sample;
-mod status;
 mod texts;
 
 pub use run::spiral_run;
+pub use spiral_status::Status;
 pub use spiral_words::Command;
-pub use status::Status;
 pub use stream_run::{StreamFault, run_stream};
 
 /// The words and the bytes of a call determine its status.

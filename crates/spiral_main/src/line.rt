@@ -6,9 +6,7 @@ ghost use Rattle.io_edge.specs.Feed.{to_come};
 ghost use Rattle.spiral_main.specs.Line.{GivesLine};
 
 use io_edge::{Feed, FeedFault, Source};
-
-/// How many bytes a first line has at most, without its end.
-pub(crate) const LINE_LIMIT: usize = 256;
+use spiral_status::LINE_LIMIT;
 
 /// Reads the first line, to its end or the end of the input, and answers how many bytes it has.
 /// `TooLong` is a line that has more than the buffer takes.

@@ -5,7 +5,7 @@ ghost use Rattle.generate.specs.Planned.{IsPlanned};
 ghost use Rattle.tree_model.specs.Breakdown.{breakdown_of};
 ghost use Rattle.tree_model.specs.Cost.{cost_of};
 ghost use Rattle.spiral_main.specs.Outcome.{IsRefused, IsAffordable, IsPlanText, IsFormulaText, IsCertificate};
-ghost use Rattle.spiral_main.specs.Status.{IsDefined};
+ghost use Rattle.spiral_status.specs.Status.{IsDefined};
 ghost use Rattle.spiral_main.specs.Steps.{IsRefusal};
 
 use crate::Status;

@@ -8,20 +8,20 @@ ghost use Rattle.io_edge.specs.Feed.{to_come, limit};
 ghost use Rattle.spiral_main.specs.Commands.{reads_rest, takes_formula, takes_listing, takes_request, has_text, AskForRest, AskForCommand, AreJudged, NamesNoStranger};
 ghost use Rattle.spiral_main.specs.Outcome.{Accounts, Notes};
 ghost use Rattle.spiral_main.specs.Stage.{status_of};
-ghost use Rattle.spiral_main.specs.Status.{note_line};
+ghost use Rattle.spiral_status.specs.Status.{note_line};
 ghost use Rattle.spiral_main.specs.Steps.{Performs, ToldPerforms, ToldAccounts};
 
+use crate::Status;
 use crate::apply::by_formula;
 use crate::ask::{ask, asked};
 use crate::check::check;
 use crate::data::{run, trace};
 use crate::exec::exec;
-use crate::note::write_note;
-use crate::status::Status;
 use crate::texts::text_of;
 use io_edge::{Feed, Sink, Source, write_all};
 use matrix_meaning::Request;
 use request_text::Schedule;
+use spiral_status::write_note;
 use spiral_words::Command;
 use std::alloc::Global;
 

@@ -5,7 +5,7 @@ ghost use Rattle.matrix_meaning.specs.Valid.{IsInRange};
 ghost use Rattle.icode.specs.Machine.{counts_so_far, weighted};
 ghost use Rattle.spiral_main.specs.Outcome.{IsRefused, IsAffordable, IsSampleText};
 ghost use Rattle.spiral_main.specs.Sample.{sample_vector, weighted_sum, sample_text, AreCountable};
-ghost use Rattle.spiral_main.specs.Status.{IsDefined};
+ghost use Rattle.spiral_status.specs.Status.{IsDefined};
 ghost use Rattle.spiral_main.specs.Steps.{IsRefusal};
 ghost use Rattle.stream_run.specs.Stream.{HasNoStranger};
 

@@ -10,7 +10,7 @@ ghost use Rattle.tree_model.specs.Breakdown.{breakdown_of};
 ghost use Rattle.tree_model.specs.Cost.{cost_of};
 ghost use Rattle.spiral_main.specs.Commands.{has_text, NamesNoStranger};
 ghost use Rattle.spiral_main.specs.Outcome.{IsRefused, IsAffordable, IsProgramFor, IsListing, IsCText, IsTextOf};
-ghost use Rattle.spiral_main.specs.Status.{IsDefined};
+ghost use Rattle.spiral_status.specs.Status.{IsDefined};
 ghost use Rattle.spiral_main.specs.Steps.{IsRefusal, IsGoodCode};
 
 use crate::Status;

@@ -4,7 +4,7 @@ use Rattle.io_edge.specs.Feed.{to_come}
 use Rattle.data_stream.proofs.TokensLemmas.{reports_none}
 use Rattle.spiral_words.specs.declared.Command.TheVariants as command
 use Rattle.spiral_main.specs.Compiled.{formed}
-use Rattle.spiral_main.specs.Status.{IsDefined}
+use Rattle.spiral_status.specs.Status.{IsDefined}
 use Rattle.spiral_main.proofs.CompiledLemmas.{computes_unread, computes_refused, computes_run}
 use Rattle.spiral_main.proofs.OutcomeLemmas.{reports_after, reports_read, reports_write}
 use Rattle.spiral_main.proofs.apply.apply.Goals as goal

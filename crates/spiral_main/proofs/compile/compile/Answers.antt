@@ -3,7 +3,7 @@ use Rattle.std.proofs.lemmas.Result.{err_from_is_err_and}
 use Rattle.io_edge.specs.Feed.{to_come}
 use Rattle.spiral_words.specs.declared.Command.TheVariants as command
 use Rattle.spiral_main.specs.Compiled.{formed}
-use Rattle.spiral_main.specs.Status.{IsDefined}
+use Rattle.spiral_status.specs.Status.{IsDefined}
 use Rattle.spiral_main.proofs.CompiledLemmas.{computes_unread, computes_refused, computes_listing, computes_cut}
 use Rattle.spiral_main.proofs.compile.compile.Goals as goal
 

@@ -1,159 +1,26 @@
-// What the program answers with.
-ghost use Rattle.std.specs.Prelude.{◌≡◌};
-ghost use Rattle.spiral_main.specs.Status.{code_of};
-
-use crate::check::CERTIFICATE_LIMIT;
-use crate::line::LINE_LIMIT;
+// The faults of the parts of a call, as statuses.
+use crate::Status;
 use code_check::CheckFault;
+use convolver::ConvFault;
 use generate::GenerateFault;
 use input_rest::RestFault;
 use io_edge::{Feed, FeedFault, WriteFault};
 use listing_text::ListingFault;
 use memory::NoMemory;
-use request_text::{Field, RequestFault};
+use request_text::RequestFault;
 use spl_text::SplFault;
 use std::alloc::AllocError;
 use stream_run::StreamFault;
 
-/// How a run ended.
-#[derive(Clone, Copy, Debug, PartialEq, Eq)]
-pub enum Status {
-    Success,
-    /// The words are no command line.
-    Usage,
-    /// No request's line, or no formula's, begins with more bytes of the first line than these.
-    Syntax {
-        at: u64,
-    },
-    /// The first field of the request that is out of its limits.
-    Range {
-        field: Field,
-        value: u64,
-    },
-    /// The size of a Walsh-Hadamard transform is no power of two.
-    Shape {
-        size: u64,
-    },
-    /// There are several processors, and the lanes do not divide the line.
-    LanesLine {
-        lanes: u64,
-        line: u64,
-    },
-    /// The schedule's first turn of a processor that is none of so many.
-    Turn {
-        q: u64,
-        p: u64,
-    },
-    /// The root to the power of the size, which is not 1.
-    Root {
-        power: u64,
-    },
-    /// No tree fits the request's processors, line and lanes.
-    NoDivide,
-    /// The least cost of a program exceeds the budget.
-    OverBudget {
-        cost: u64,
-        budget: u64,
-    },
-    /// The first token of the data that is no number. Tokens are counted from 1.
-    BadNumber {
-        token: u64,
-    },
-    /// The data end inside a vector.
-    Truncated {
-        have: u64,
-        need: u64,
-    },
-    /// The input failed.
-    ReadFault,
-    /// The output failed.
-    WriteFault,
-    NoMemory,
-    /// The line, the input, the certificate or the listing has more bytes than this.
-    TooLong {
-        limit: u64,
-    },
-    /// What stands behind the request line is no certificate for the request.
-    Unread,
-    /// The certificate's first wrong row: its size, its cost, and the cost that was found in its place.
-    Wrong {
-        size: u64,
-        given: u64,
-        found: u64,
-    },
-    /// The part of a formula's text that begins here does not fit, for these two numbers.
-    FormulaShape {
-        at: u64,
-        left: u64,
-        right: u64,
-    },
-    /// The parenthesis of a formula's text that is open beside too many.
-    FormulaTooDeep {
-        at: u64,
-    },
-    /// The first line of a listing after which no listing goes on.
-    ListingSyntax {
-        line: u64,
-    },
-    /// The first action of a listing whose place is not there.
-    Address {
-        phase: u64,
-        proc: u64,
-        action: u64,
-    },
-    /// The first action of a listing with a register that is not there, or with tiles that meet.
-    Register {
-        phase: u64,
-        proc: u64,
-        action: u64,
-    },
-    /// In the phase a writes the line and b touches it.
-    LineShared {
-        phase: u64,
-        line: u64,
-        a: u64,
-        b: u64,
-    },
-    /// The listing has more actions than this.
-    OverSteps {
-        limit: u64,
-    },
-}
+/// How many bytes a request line may have, without its end.
+pub const LINE_LIMIT: usize = 256;
 
-impl Status {
-    /// The exit code of the process.
-    pub fn code(&self) -> u8
-        ensures code { result ≡ code_of self.now }
-    {
-        match self {
-            Status::Success => 0,
-            Status::Usage => 2,
-            Status::Syntax { .. } => 3,
-            Status::Range { .. } | Status::Shape { .. } | Status::LanesLine { .. } => 4,
-            Status::Turn { .. } => 5,
-            Status::Root { .. } => 6,
-            Status::NoDivide => 7,
-            Status::OverBudget { .. } => 8,
-            Status::BadNumber { .. } | Status::Truncated { .. } => 9,
-            Status::ReadFault => 10,
-            Status::WriteFault => 11,
-            Status::NoMemory => 12,
-            Status::TooLong { .. } => 13,
-            Status::Unread | Status::Wrong { .. } => 14,
-            Status::FormulaShape { .. } => 16,
-            Status::FormulaTooDeep { .. } => 17,
-            Status::ListingSyntax { .. } => 18,
-            Status::Address { .. } => 19,
-            Status::Register { .. } => 20,
-            Status::LineShared { .. } => 21,
-            Status::OverSteps { .. } => 22,
-        }
-    }
-}
+/// How many bytes a certificate may have.
+pub const CERTIFICATE_LIMIT: u64 = 65536;
 
 impl From<FeedFault> for Status {
     ghost use Rattle.std.specs.Prelude.{◌≡◌};
-    ghost use Rattle.spiral_main.specs.Fault.{status_of_line};
+    ghost use Rattle.spiral_status.specs.Fault.{status_of_line};
 
     ghost from_gives = { λ fault status. status ≡ status_of_line fault };
 
@@ -170,7 +37,7 @@ impl From<FeedFault> for Status {
 
 impl From<RequestFault> for Status {
     ghost use Rattle.std.specs.Prelude.{◌≡◌};
-    ghost use Rattle.spiral_main.specs.Fault.{status_of_request};
+    ghost use Rattle.spiral_status.specs.Fault.{status_of_request};
 
     ghost from_gives = { λ fault status. status ≡ status_of_request fault };
 
@@ -180,13 +47,14 @@ impl From<RequestFault> for Status {
             RequestFault::Range { field, value } => Status::Range { field, value },
             RequestFault::Shape { size } => Status::Shape { size },
             RequestFault::LanesLine { lanes, line } => Status::LanesLine { lanes, line },
+            RequestFault::NotUnit { gcd } => Status::NotUnit { gcd },
         }
     }
 }
 
 impl From<GenerateFault> for Status {
     ghost use Rattle.std.specs.Prelude.{◌≡◌};
-    ghost use Rattle.spiral_main.specs.Fault.{status_of_generate};
+    ghost use Rattle.spiral_status.specs.Fault.{status_of_generate};
 
     ghost from_gives = { λ fault status. status ≡ status_of_generate fault };
 
@@ -200,9 +68,25 @@ impl From<GenerateFault> for Status {
     }
 }
 
+impl From<ConvFault> for Status {
+    ghost use Rattle.std.specs.Prelude.{◌≡◌};
+    ghost use Rattle.spiral_status.specs.Fault.{status_of_conv};
+
+    ghost from_gives = { λ fault status. status ≡ status_of_conv fault };
+
+    fn from(fault: ConvFault) -> Self {
+        match fault {
+            ConvFault::Root { power } => Status::Root { power },
+            ConvFault::NotPrincipal { k } => Status::NotPrincipal { k },
+            ConvFault::OverBudget { cost, budget } => Status::OverBudget { cost, budget },
+            ConvFault::NoMemory => Status::NoMemory,
+        }
+    }
+}
+
 impl From<StreamFault> for Status {
     ghost use Rattle.std.specs.Prelude.{◌≡◌};
-    ghost use Rattle.spiral_main.specs.Fault.{status_of_fault};
+    ghost use Rattle.spiral_status.specs.Fault.{status_of_fault};
 
     ghost from_gives = { λ fault status. status ≡ status_of_fault fault };
 
@@ -219,7 +103,7 @@ impl From<StreamFault> for Status {
 
 impl From<RestFault> for Status {
     ghost use Rattle.std.specs.Prelude.{◌≡◌};
-    ghost use Rattle.spiral_main.specs.Fault.{status_of_rest};
+    ghost use Rattle.spiral_status.specs.Fault.{status_of_rest};
 
     ghost from_gives = { λ fault status. status ≡ status_of_rest fault };
 
@@ -236,7 +120,7 @@ impl From<RestFault> for Status {
 
 impl From<SplFault> for Status {
     ghost use Rattle.std.specs.Prelude.{◌≡◌};
-    ghost use Rattle.spiral_main.specs.Fault.{status_of_spl};
+    ghost use Rattle.spiral_status.specs.Fault.{status_of_spl};
 
     ghost from_gives = { λ fault status. status ≡ status_of_spl fault };
 
@@ -252,7 +136,7 @@ impl From<SplFault> for Status {
 
 impl From<ListingFault> for Status {
     ghost use Rattle.std.specs.Prelude.{◌≡◌};
-    ghost use Rattle.spiral_main.specs.Fault.{status_of_listing};
+    ghost use Rattle.spiral_status.specs.Fault.{status_of_listing};
 
     ghost from_gives = { λ fault status. status ≡ status_of_listing fault };
 
@@ -266,7 +150,7 @@ impl From<ListingFault> for Status {
 
 impl From<CheckFault> for Status {
     ghost use Rattle.std.specs.Prelude.{◌≡◌};
-    ghost use Rattle.spiral_main.specs.Fault.{status_of_check};
+    ghost use Rattle.spiral_status.specs.Fault.{status_of_check};
 
     ghost from_gives = { λ fault status. status ≡ status_of_check fault };
 
@@ -304,7 +188,7 @@ impl From<CheckFault> for Status {
 
 impl From<WriteFault> for Status {
     ghost use Rattle.std.specs.Prelude.{◌≡◌};
-    ghost use Rattle.spiral_main.specs.declared.status.Status.TheVariants.{WriteFault};
+    ghost use Rattle.spiral_status.specs.declared.status.Status.TheVariants.{WriteFault};
 
     ghost from_gives = { λ _ status. status ≡ WriteFault };
 
@@ -315,7 +199,7 @@ impl From<WriteFault> for Status {
 
 impl From<NoMemory> for Status {
     ghost use Rattle.std.specs.Prelude.{◌≡◌};
-    ghost use Rattle.spiral_main.specs.declared.status.Status.TheVariants.{NoMemory};
+    ghost use Rattle.spiral_status.specs.declared.status.Status.TheVariants.{NoMemory};
 
     ghost from_gives = { λ _ status. status ≡ NoMemory };
 
@@ -326,7 +210,7 @@ impl From<NoMemory> for Status {
 
 impl From<AllocError> for Status {
     ghost use Rattle.std.specs.Prelude.{◌≡◌};
-    ghost use Rattle.spiral_main.specs.declared.status.Status.TheVariants.{NoMemory};
+    ghost use Rattle.spiral_status.specs.declared.status.Status.TheVariants.{NoMemory};
 
     ghost from_gives = { λ _ status. status ≡ NoMemory };
 

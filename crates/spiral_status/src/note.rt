@@ -3,29 +3,12 @@ ghost use Rattle.std.specs.Prelude.{◌≡◌, ◌∷◌, [], decimal};
 ghost use Rattle.std.specs.List.{concat};
 ghost use Rattle.io_edge.specs.Faults.{HasCause};
 ghost use Rattle.io_edge.specs.Taken.{WritesAll};
-ghost use Rattle.spiral_main.specs.Status.{action_line, field_word, note_line};
+ghost use Rattle.spiral_status.specs.Status.{action_line, note_line};
 
-use crate::status::Status;
+use crate::Status;
 use io_edge::{Sink, WriteFault, write_all, write_parts};
 use itoa::Buffer;
 use request_text::Field;
-
-// A field's word in a request line.
-fn word(field: Field) -> &'static [u8]
-    ensures word { result.now ≡ field_word field }
-{
-    match field {
-        Field::Size => b"size",
-        Field::Mod => b"mod",
-        Field::Root => b"root",
-        Field::Procs => b"procs",
-        Field::Line => b"line",
-        Field::Lanes => b"lanes",
-        Field::Unroll => b"unroll",
-        Field::Budget => b"budget",
-        Field::Weight => b"weight",
-    }
-}
 
 // Writes a number between two texts.
 fn note_number<E: Sink>(
@@ -68,7 +51,7 @@ fn note_range<E: Sink>(note: &mut E, field: Field, value: u64) -> Result<(), Wri
         note,
         &[
             b"spiral: ",
-            word(field),
+            field.word().as_bytes(),
             b" ",
             buffer.format(value).as_bytes(),
             b" is out of range\n",
@@ -132,6 +115,27 @@ fn note_turn<E: Sink>(note: &mut E, q: u64, p: u64) -> Result<(), WriteFault>
     ensures cause { HasCause (E.faults note.old) (E.faults note.new) result }
 {
     note_numbers(note, b"spiral: turn names processor ", q, b" of ", p, b"\n")
+}
+
+// Writes which factor the size and the modulus share.
+fn note_factor<E: Sink>(note: &mut E, gcd: u64) -> Result<(), WriteFault>
+    ensures bytes { WritesAll (E.taken note.old) (E.taken note.new) result (note_line (Status.NotUnit gcd)) }
+    ensures cause { HasCause (E.faults note.old) (E.faults note.new) result }
+{
+    note_number(
+        note,
+        b"spiral: size and modulus share the factor ",
+        gcd,
+        b"\n",
+    )
+}
+
+// Writes which power sum of the root is not 0.
+fn note_power_sum<E: Sink>(note: &mut E, k: u64) -> Result<(), WriteFault>
+    ensures bytes { WritesAll (E.taken note.old) (E.taken note.new) result (note_line (Status.NotPrincipal k)) }
+    ensures cause { HasCause (E.faults note.old) (E.faults note.new) result }
+{
+    note_number(note, b"spiral: power sum ", k, b" is not zero\n")
 }
 
 // Writes what a root to the power of the size is.
@@ -281,7 +285,7 @@ fn note_steps<E: Sink>(note: &mut E, limit: u64) -> Result<(), WriteFault>
 }
 
 /// Writes the line of a status.
-pub(crate) fn write_note<E: Sink>(note: &mut E, status: Status) -> Result<(), WriteFault>
+pub fn write_note<E: Sink>(note: &mut E, status: Status) -> Result<(), WriteFault>
     ensures bytes { WritesAll (E.taken note.old) (E.taken note.new) result (note_line status) }
     ensures cause { HasCause (E.faults note.old) (E.faults note.new) result }
 {
@@ -297,6 +301,8 @@ pub(crate) fn write_note<E: Sink>(note: &mut E, status: Status) -> Result<(), Wr
         Status::LanesLine { lanes, line } => note_lanes_line(note, lanes, line),
         Status::Turn { q, p } => note_turn(note, q, p),
         Status::Root { power } => note_root(note, power),
+        Status::NotUnit { gcd } => note_factor(note, gcd),
+        Status::NotPrincipal { k } => note_power_sum(note, k),
         Status::NoDivide => write_all(note, b"spiral: no split fits procs, line and lanes\n"),
         Status::OverBudget { cost, budget } => note_budget(note, cost, budget),
         Status::BadNumber { token } => note_token(note, token),

@@ -1,11 +1,9 @@
 -- What the program answers with: its exit code and its line on the note.
 use Rattle.std.specs.Prelude.{◌≢◌, ℕ, List, [], ◌∷◌, codes, decimal}
 use Rattle.std.specs.List.{concat}
-use Rattle.request_text.specs.declared.fault.Field.{Field}
-use Rattle.request_text.specs.declared.fault.Field.TheVariants.{Size, Mod, Root, Procs, Line, Lanes, Unroll, Budget, Weight}
-use Rattle.spiral_main.specs.declared.status.Status.{Status}
-use Rattle.spiral_main.specs.declared.status.Status.TheVariants.{Success, Usage, Syntax, Range, Shape, LanesLine, Turn, NoDivide, OverBudget, BadNumber, Truncated, ReadFault, WriteFault, NoMemory, TooLong, Unread, Wrong, FormulaShape, FormulaTooDeep, ListingSyntax, Address, Register, LineShared, OverSteps}
-use Rattle.spiral_main.specs.declared.status.Status.TheVariants as status
+use Rattle.request_text.specs.Fields.{field_word}
+use Rattle.spiral_status.specs.declared.status.Status.{Status}
+use Rattle.spiral_status.specs.declared.status.Status.TheVariants.{Success, Usage, Syntax, Range, Shape, LanesLine, NotUnit, Turn, Root, NotPrincipal, NoDivide, OverBudget, BadNumber, Truncated, ReadFault, WriteFault, NoMemory, TooLong, Unread, Wrong, FormulaShape, FormulaTooDeep, ListingSyntax, Address, Register, LineShared, OverSteps}
 
 abbrev pub code_of : Status → ℕ
 code_of Success = 0
@@ -15,7 +13,7 @@ code_of (Range field value) = 4
 code_of (Shape size) = 4
 code_of (LanesLine lanes line) = 4
 code_of (Turn q p) = 5
-code_of (status.Root power) = 6
+code_of (Root power) = 6
 code_of NoDivide = 7
 code_of (OverBudget cost budget) = 8
 code_of (BadNumber token) = 9
@@ -26,6 +24,7 @@ code_of NoMemory = 12
 code_of (TooLong limit) = 13
 code_of Unread = 14
 code_of (Wrong size given found) = 14
+code_of (NotUnit gcd) = 15
 code_of (FormulaShape at left right) = 16
 code_of (FormulaTooDeep at) = 17
 code_of (ListingSyntax line) = 18
@@ -33,18 +32,7 @@ code_of (Address phase proc action) = 19
 code_of (Register phase proc action) = 20
 code_of (LineShared phase line a b) = 21
 code_of (OverSteps limit) = 22
-
--- a field's word in a request line
-abbrev pub field_word : Field → List ℕ
-field_word Size = codes "size"
-field_word Mod = codes "mod"
-field_word Root = codes "root"
-field_word Procs = codes "procs"
-field_word Line = codes "line"
-field_word Lanes = codes "lanes"
-field_word Unroll = codes "unroll"
-field_word Budget = codes "budget"
-field_word Weight = codes "weight"
+code_of (NotPrincipal k) = 23
 
 -- which action of a listing is wrong, behind the front of the line
 abbrev pub action_line : List ℕ → ℕ → ℕ → ℕ → List ℕ
@@ -59,7 +47,9 @@ note_line (Range field value) = concat (codes "spiral: " ∷ field_word field �
 note_line (Shape size) = concat (codes "spiral: wht size " ∷ decimal size ∷ codes " is not a power of two\n" ∷ [])
 note_line (LanesLine lanes line) = concat (codes "spiral: lanes " ∷ decimal lanes ∷ codes " do not divide line " ∷ decimal line ∷ codes "\n" ∷ [])
 note_line (Turn q p) = concat (codes "spiral: turn names processor " ∷ decimal q ∷ codes " of " ∷ decimal p ∷ codes "\n" ∷ [])
-note_line (status.Root power) = concat (codes "spiral: root to the size is " ∷ decimal power ∷ codes ", not 1\n" ∷ [])
+note_line (Root power) = concat (codes "spiral: root to the size is " ∷ decimal power ∷ codes ", not 1\n" ∷ [])
+note_line (NotUnit gcd) = concat (codes "spiral: size and modulus share the factor " ∷ decimal gcd ∷ codes "\n" ∷ [])
+note_line (NotPrincipal k) = concat (codes "spiral: power sum " ∷ decimal k ∷ codes " is not zero\n" ∷ [])
 note_line NoDivide = codes "spiral: no split fits procs, line and lanes\n"
 note_line (OverBudget cost budget) = concat (codes "spiral: least cost " ∷ decimal cost ∷ codes " is over budget " ∷ decimal budget ∷ codes "\n" ∷ [])
 note_line (BadNumber token) = concat (codes "spiral: token " ∷ decimal token ∷ codes " is not a number\n" ∷ [])

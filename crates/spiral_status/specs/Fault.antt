@@ -12,12 +12,14 @@ use Rattle.spl_text.specs.declared.reading.SplFault.{SplFault}
 use Rattle.spl_text.specs.declared.reading.SplFault.TheVariants as spl
 use Rattle.code_check.specs.declared.fault.CheckFault.{CheckFault}
 use Rattle.code_check.specs.declared.fault.CheckFault.TheVariants as check
+use Rattle.convolver.specs.declared.ConvFault.{ConvFault}
+use Rattle.convolver.specs.declared.ConvFault.TheVariants as conv
 use Rattle.generate.specs.declared.GenerateFault.{GenerateFault}
 use Rattle.generate.specs.declared.GenerateFault.TheVariants as generate
 use Rattle.stream_run.specs.declared.stream.StreamFault.{StreamFault}
 use Rattle.stream_run.specs.declared.stream.StreamFault.TheVariants as stream
-use Rattle.spiral_main.specs.declared.status.Status.{Status}
-use Rattle.spiral_main.specs.declared.status.Status.TheVariants.{Success, Syntax, Range, Shape, LanesLine, Root, NoDivide, OverBudget, BadNumber, Truncated, ReadFault, WriteFault, NoMemory, TooLong, FormulaShape, FormulaTooDeep, ListingSyntax, Address, Register, LineShared, OverSteps}
+use Rattle.spiral_status.specs.declared.status.Status.{Status}
+use Rattle.spiral_status.specs.declared.status.Status.TheVariants.{Success, Syntax, Range, Shape, LanesLine, NotUnit, Root, NotPrincipal, NoDivide, OverBudget, BadNumber, Truncated, ReadFault, WriteFault, NoMemory, TooLong, FormulaShape, FormulaTooDeep, ListingSyntax, Address, Register, LineShared, OverSteps}
 
 -- of the first line
 abbrev pub status_of_line : FeedFault → Status
@@ -29,12 +31,19 @@ status_of_request (request.Syntax at) = Syntax at
 status_of_request (request.Range field value) = Range field value
 status_of_request (request.Shape size) = Shape size
 status_of_request (request.LanesLine lanes line) = LanesLine lanes line
+status_of_request (request.NotUnit gcd) = NotUnit gcd
 
 abbrev pub status_of_generate : GenerateFault → Status
 status_of_generate (generate.Root power) = Root power
 status_of_generate generate.NoDivide = NoDivide
 status_of_generate (generate.OverBudget cost budget) = OverBudget cost budget
 status_of_generate generate.NoMemory = NoMemory
+
+abbrev pub status_of_conv : ConvFault → Status
+status_of_conv (conv.Root power) = Root power
+status_of_conv (conv.NotPrincipal k) = NotPrincipal k
+status_of_conv (conv.OverBudget cost budget) = OverBudget cost budget
+status_of_conv conv.NoMemory = NoMemory
 
 -- of the rest of the input, which is a certificate
 abbrev pub status_of_rest : RestFault → Status

@@ -2,8 +2,8 @@ use Rattle.std.proofs.Common.{◌∷◌, [], decimal}
 use Rattle.std.specs.List.{concat}
 use Rattle.std.proofs.lemmas.Result.{err_from_is_err_and}
 use Rattle.io_edge.proofs.TakenLemmas.{prefix_more, writes_after}
-use Rattle.spiral_main.proofs.Notes.{five_parts}
-use Rattle.spiral_main.proofs.note.note_numbers.Goals as goal
+use Rattle.spiral_status.proofs.Notes.{five_parts}
+use Rattle.spiral_status.proofs.note.note_numbers.Goals as goal
 
 pub returns-in_err-note_number-clause-bytes : goal.returns-in_err-note_number-clause-bytes
 returns-in_err-note_number-clause-bytes g c =
