@@ -1,4 +1,4 @@
-mod ConvolutionLaw
+pub mod ConvolutionLaw
 mod GeometricSums
-mod InverseTransform
+pub mod InverseTransform
 mod PowerSums

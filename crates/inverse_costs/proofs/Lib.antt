@@ -1,0 +1,4 @@
+pub mod Requests
+pub mod Powers
+pub mod Costs
+pub mod Traffic
