@@ -1,11 +1,11 @@
--- What a request for convolutions is.
+-- Which requests ask for a cyclic convolution.
 use Rattle.std.specs.Prelude.{◌≡◌}
 use Rattle.std.specs.Int.{IsGcd}
 use Rattle.matrix_meaning.specs.declared.Kind.TheVariants.{Dft}
 use Rattle.matrix_meaning.specs.declared.Request.{Request}
 use Rattle.matrix_meaning.specs.Valid.{IsInRange}
 
--- a request of a Fourier transform in range, for one processor and one lane, whose size has an inverse
+-- a request for the Fourier transform by which to convolve: on one processor and one lane, and its size has an inverse
 pub record IsConvRequest (r : Request) : Type 0 where
   pub in_range : IsInRange r
   pub kind : r.kind ≡ Dft

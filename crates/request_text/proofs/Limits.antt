@@ -8,20 +8,20 @@ use Rattle.matrix_meaning.specs.declared.Request.{Request}
 use Rattle.request_text.specs.declared.fault.Field.{Field}
 use Rattle.request_text.specs.declared.fault.Field.TheVariants.{Size, Mod, Root, Procs, Line, Lanes, Unroll, Budget, Weight}
 use Rattle.request_text.specs.declared.fault.RequestFault.{RequestFault}
-use Rattle.request_text.specs.declared.fault.RequestFault.TheVariants.{Syntax, Range, Shape, LanesLine}
+use Rattle.request_text.specs.declared.fault.RequestFault.TheVariants.{Syntax, Range, Shape, LanesLine, NotUnit}
 use Rattle.request_text.specs.Line.{request_line}
-use Rattle.request_text.specs.Limits.{◌>>◌, within, below, shaped, divided, judged}
+use Rattle.request_text.specs.Limits.{◌>>◌, within, below, shaped, divided, most_size, judged}
 use Rattle.request_text.specs.Answer.{Answers}
 use Rattle.matrix_meaning.specs.Valid.{IsInRange, HasShape}
 
-passes : {A : Type 0} (t : Result (Unit {0}) RequestFault) (n : Result A RequestFault) (q : A) → (t >> n) ≡ Ok q → (t ≡ Ok tt) × (n ≡ Ok q)
+pub passes : {A : Type 0} (t : Result (Unit {0}) RequestFault) (n : Result A RequestFault) (q : A) → (t >> n) ≡ Ok q → (t ≡ Ok tt) × (n ≡ Ok q)
 passes (Ok x) n q e = (refl, e)
 passes (Err f) n q e = absurd cc
 
-abbrev passed : Result (Unit {0}) RequestFault
+abbrev pub passed : Result (Unit {0}) RequestFault
 passed = Ok tt
 
-guard : (b : Bool) (f : RequestFault) → cond b passed (Err f) ≡ passed → b ≡ true
+pub guard : (b : Bool) (f : RequestFault) → cond b passed (Err f) ≡ passed → b ≡ true
 guard true f e = refl
 guard false f e = absurd cc
 
@@ -47,7 +47,7 @@ divided_is procs line lanes e more = cases (leb procs 1) refl e
 pub in_range : (r q : Request) → judged r ≡ Ok q → IsInRange r × (r ≡ q)
 unfolding judged
 in_range r q e =
-    let s1 = passes (within Size r.size 1 65536) _ q e in
+    let s1 = passes (within Size r.size 1 most_size) _ q e in
     let s2 = passes (within Mod r.modulus 2 (2 ^ 62 - 1)) _ q s1.1 in
     let s3 = passes (below Root r.root r.modulus) _ q s2.1 in
     let s4 = passes (within Procs r.procs 1 16) _ q s3.1 in
@@ -59,7 +59,7 @@ in_range r q e =
     let s10 = passes (shaped r.kind r.size) _ q s9.1 in
     let s11 = passes (divided r.procs r.line r.lanes) _ q s10.1 in (
       record {
-        size = within_is Size r.size 1 65536 s1.0;
+        size = within_is Size r.size 1 most_size s1.0;
         modulus = within_is Mod r.modulus 2 (2 ^ 62 - 1) s2.0;
         root = below_is Root r.root r.modulus s3.0;
         procs = within_is Procs r.procs 1 16 s4.0;
@@ -74,56 +74,62 @@ in_range r q e =
       (let same : r ≡ q = cc in same),
     )
 
--- ---- no test finds fault with the spelling
+-- ---- which faults the tests find
 
-abbrev IsTest : {A : Type 0} → Result A RequestFault → Type 0
-IsTest (Ok x) = Unit {0}
-IsTest (Err (Syntax at)) = ⊥
-IsTest (Err (Range field value)) = Unit {0}
-IsTest (Err (Shape size)) = Unit {0}
-IsTest (Err (LanesLine lanes line)) = Unit {0}
+abbrev pub Only : {A : Type 0} → (RequestFault → Type 0) → Result A RequestFault → Type 0
+Only P (Ok x) = Unit {0}
+Only P (Err fault) = P fault
 
-then_test : {A : Type 0} (t : Result (Unit {0}) RequestFault) (n : Result A RequestFault) → IsTest t → IsTest n → IsTest (t >> n)
-then_test (Ok x) n a b = b
-then_test (Err (Syntax at)) n a b = a
-then_test (Err (Range field value)) n a b = tt
-then_test (Err (Shape size)) n a b = tt
-then_test (Err (LanesLine lanes line)) n a b = tt
+pub then_only : {A B : Type 0} (P : RequestFault → Type 0) (t : Result A RequestFault) (n : Result B RequestFault) → Only P t → Only P n → Only P (t >> n)
+then_only P (Ok x) n a b = b
+then_only P (Err fault) n a b = a
 
-guard_test : (b : Bool) (f : RequestFault) → IsTest (let e : Result (Unit {0}) RequestFault = Err f in e) → IsTest (let e : Result (Unit {0}) RequestFault = cond b (Ok tt) (Err f) in e)
-guard_test true f h = tt
-guard_test false f h = h
+pub guard_only : (P : RequestFault → Type 0) (b : Bool) (f : RequestFault) → P f → Only P (cond b passed (Err f))
+guard_only P true f h = tt
+guard_only P false f h = h
 
-shaped_test : (kind : Kind) (size : ℕ) → IsTest (shaped kind size)
+pub judged_only : (P : RequestFault → Type 0) (r : Request) → ((field : Field) (value : ℕ) → P (Range field value)) → Only P (shaped r.kind r.size) → Only P (divided r.procs r.line r.lanes) → Only P (judged r)
+unfolding judged
+judged_only P r range shape lanes =
+    then_only P (within Size r.size 1 most_size) _ (guard_only P _ _ (range _ _))
+    (then_only P (within Mod r.modulus 2 (2 ^ 62 - 1)) _ (guard_only P _ _ (range _ _))
+    (then_only P (below Root r.root r.modulus) _ (guard_only P _ _ (range _ _))
+    (then_only P (within Procs r.procs 1 16) _ (guard_only P _ _ (range _ _))
+    (then_only P (within Line r.line 1 64) _ (guard_only P _ _ (range _ _))
+    (then_only P (within Lanes r.lanes 1 16) _ (guard_only P _ _ (range _ _))
+    (then_only P (within Unroll r.unroll 2 64) _ (guard_only P _ _ (range _ _))
+    (then_only P (within Budget r.budget 1 1000000000000) _ (guard_only P _ _ (range _ _))
+    (then_only P (within Weight r.weight 1 1000) _ (guard_only P _ _ (range _ _))
+    (then_only P (shaped r.kind r.size) _ shape
+    (then_only P (divided r.procs r.line r.lanes) (Ok r) lanes tt))))))))))
+
+-- a fault of a request that a line spells
+abbrev IsTested : RequestFault → Type 0
+IsTested (Syntax at) = ⊥
+IsTested (Range field value) = Unit {0}
+IsTested (Shape size) = Unit {0}
+IsTested (LanesLine lanes line) = Unit {0}
+IsTested (NotUnit gcd) = ⊥
+
+shaped_test : (kind : Kind) (size : ℕ) → Only IsTested (shaped kind size)
 shaped_test Dft size = tt
-shaped_test Wht size = guard_test (is_power_of_two size) (Shape size) tt
+shaped_test Wht size = guard_only IsTested (is_power_of_two size) (Shape size) tt
 
-divided_test : (procs line lanes : ℕ) → IsTest (divided procs line lanes)
+divided_test : (procs line lanes : ℕ) → Only IsTested (divided procs line lanes)
 divided_test procs line lanes = cases (leb procs 1)
   where
-    cases : (k : Bool) → IsTest (let e : Result (Unit {0}) RequestFault = cond k (Ok tt) (cond (eqb (line % lanes) 0) (Ok tt) (Err (LanesLine lanes line))) in e)
+    cases : (k : Bool) → Only IsTested (cond k passed (cond (eqb (line % lanes) 0) passed (Err (LanesLine lanes line))))
     cases true = tt
-    cases false = guard_test (eqb (line % lanes) 0) (LanesLine lanes line) tt
+    cases false = guard_only IsTested (eqb (line % lanes) 0) (LanesLine lanes line) tt
 
-judged_test : (r : Request) → IsTest (judged r)
-unfolding judged
-judged_test r =
-    then_test (within Size r.size 1 65536) _ (guard_test _ _ tt)
-    (then_test (within Mod r.modulus 2 (2 ^ 62 - 1)) _ (guard_test _ _ tt)
-    (then_test (below Root r.root r.modulus) _ (guard_test _ _ tt)
-    (then_test (within Procs r.procs 1 16) _ (guard_test _ _ tt)
-    (then_test (within Line r.line 1 64) _ (guard_test _ _ tt)
-    (then_test (within Lanes r.lanes 1 16) _ (guard_test _ _ tt)
-    (then_test (within Unroll r.unroll 2 64) _ (guard_test _ _ tt)
-    (then_test (within Budget r.budget 1 1000000000000) _ (guard_test _ _ tt)
-    (then_test (within Weight r.weight 1 1000) _ (guard_test _ _ tt)
-    (then_test (shaped r.kind r.size) _ (shaped_test r.kind r.size)
-    (then_test (divided r.procs r.line r.lanes) _ (divided_test r.procs r.line r.lanes) tt))))))))))
+judged_test : (r : Request) → Only IsTested (judged r)
+judged_test r = judged_only IsTested r (λ field value. tt) (shaped_test r.kind r.size) (divided_test r.procs r.line r.lanes)
 
 -- what the tests say of a request that the line spells is the answer for the line
 pub judged_answers : (text : List ℕ) (r : Request) (out : Result Request RequestFault) → request_line text r → out ≡ judged r → Answers text out
 judged_answers text r (Ok q) l e = let s = in_range r q (sym e) in subst (λ x. request_line text x × IsInRange x) s.1 (l, s.0)
-judged_answers text r (Err (Syntax at)) l e = absurd (subst IsTest (sym e) (judged_test r))
+judged_answers text r (Err (Syntax at)) l e = absurd (subst (Only IsTested) (sym e) (judged_test r))
 judged_answers text r (Err (Range field value)) l e = (r, l, sym e)
 judged_answers text r (Err (Shape size)) l e = (r, l, sym e)
 judged_answers text r (Err (LanesLine lanes line)) l e = (r, l, sym e)
+judged_answers text r (Err (NotUnit gcd)) l e = absurd (subst (Only IsTested) (sym e) (judged_test r))

@@ -13,10 +13,10 @@ use Rattle.grammar.proofs.OptionalParts.{BehindParts, parts_reader, parts_no_dig
 use Rattle.request_text.specs.Line.{request_line, kinds, root_of, optional_parts, above_all}
 use Rattle.request_text.specs.Reading.{request_at, root_at}
 
-pos : 0 < above_all
+pub pos : 0 < above_all
 pos = omega arith
 
-small : above_all ≤ above_all
+pub small : above_all ≤ above_all
 small = omega arith
 
 kinds_reader : IsReader Anything (one_of kinds) (one_of_at kinds)

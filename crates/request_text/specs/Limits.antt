@@ -10,7 +10,7 @@ use Rattle.request_text.specs.declared.fault.RequestFault.{RequestFault}
 use Rattle.request_text.specs.declared.fault.RequestFault.TheVariants.{Range, Shape, LanesLine}
 
 infixl 10 ◌>>◌
-abbrev pub ◌>>◌ : {A : Type 0} → Result (Unit {0}) RequestFault → Result A RequestFault → Result A RequestFault
+abbrev pub ◌>>◌ : {A B : Type 0} → Result A RequestFault → Result B RequestFault → Result B RequestFault
 (Ok x) >> next = next
 (Err fault) >> next = Err fault
 
@@ -28,11 +28,15 @@ shaped Wht size = if is_power_of_two size then Ok tt else Err (Shape size)
 abbrev pub divided : ℕ → ℕ → ℕ → Result (Unit {0}) RequestFault
 divided procs line lanes = if nat_le procs 1 then Ok tt else (if line % lanes == 0 then Ok tt else Err (LanesLine lanes line))
 
+-- no size is greater
+abbrev pub most_size : ℕ
+most_size = 65536
+
 -- the request, or its first fault: the first field in order that is out of its limits, then its shape, then its
 -- lanes and line
 unfoldable pub judged : Request → Result Request RequestFault
 judged r = do
-  within Size r.size 1 65536
+  within Size r.size 1 most_size
   within Mod r.modulus 2 (2 ^ 62 - 1)
   below Root r.root r.modulus
   within Procs r.procs 1 16

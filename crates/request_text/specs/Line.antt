@@ -1,5 +1,5 @@
 -- The grammar of the request line.
-use Rattle.std.specs.Prelude.{◌≡◌, ℕ, List, [], ◌∷◌, ◌^◌, codes, slice_index}
+use Rattle.std.specs.Prelude.{ℕ, List, [], ◌∷◌, ◌^◌, codes, slice_index}
 use Rattle.matrix_meaning.specs.declared.Kind.{Kind}
 use Rattle.matrix_meaning.specs.declared.Kind.TheVariants.{Dft, Wht}
 use Rattle.matrix_meaning.specs.declared.Request.{Request}
@@ -17,9 +17,13 @@ abbrev pub root_of : Kind → List ℕ → ℕ → Type 0
 root_of Dft = named_number (codes " root ") above_all
 root_of Wht = pure 0
 
--- the optional parts in their order, each with its value when absent
+-- the optional parts that bear on costs, in their order, each with its value when absent
+abbrev pub cost_parts : List (List ℕ × ℕ)
+cost_parts = (codes " unroll ", 8) ∷ (codes " budget ", 100000000) ∷ (codes " weight ", 1) ∷ []
+
+-- all optional parts
 abbrev pub optional_parts : List (List ℕ × ℕ)
-optional_parts = (codes " procs ", 1) ∷ (codes " line ", 1) ∷ (codes " lanes ", 1) ∷ (codes " unroll ", 8) ∷ (codes " budget ", 100000000) ∷ (codes " weight ", 1) ∷ []
+optional_parts = (codes " procs ", 1) ∷ (codes " line ", 1) ∷ (codes " lanes ", 1) ∷ cost_parts
 
 abbrev pub request_of : Kind → (size modulus root : ℕ) → List ℕ → Request
 request_of kind size modulus root options = record {

@@ -1,5 +1,5 @@
 -- The grammar of words that name turns and drains.
-use Rattle.std.specs.Prelude.{◌≤◌, ℕ, List, [], ◌∷◌, ◌^◌, zero, suc, length, codes, Result, Ok, Err}
+use Rattle.std.specs.Prelude.{ℕ, List, [], ◌∷◌, ◌^◌, zero, suc, codes, Result, Ok, Err}
 use Rattle.grammar.specs.Grammar.{◌>>=◌, ◌>>◌, pure, one_of, number, optional, word, IsStuck}
 use Rattle.icode.specs.declared.event.Event.{Event}
 use Rattle.icode.specs.declared.event.Event.TheVariants as events

@@ -1,12 +1,14 @@
 //! The texts of a request: its line, and the word that names a schedule.
 #![tactic(auto)]
 
+mod conv;
 mod fault;
 mod generator;
 mod mix;
 mod request;
 mod schedule;
 
+pub use conv::read_conv;
 pub use fault::{Field, RequestFault};
 pub use generator::next_state;
 pub use icode::event::Event;

@@ -10,6 +10,18 @@ use crate::fault::{Field, RequestFault};
 use grammar::{Cursor, Stuck};
 use matrix_meaning::{Kind, Request};
 
+/// No size is greater.
+const MOST_SIZE: u64 = 65_536;
+
+/// The size up to which kernels are unrolled, where the line names none.
+pub(crate) const UNROLL: u64 = 8;
+
+/// The budget of a line that names none.
+pub(crate) const BUDGET: u64 = 100_000_000;
+
+/// The weight of a line that names none.
+pub(crate) const WEIGHT: u64 = 1;
+
 fn root_of(cursor: &mut Cursor, kind: Kind) -> Result<u64, Stuck>
     ensures { Gives result cursor.new (root_at kind cursor.old) }
 {
@@ -42,9 +54,9 @@ fn request_of(cursor: &mut Cursor) -> Result<Request, Stuck>
         procs: cursor.optional_number(b" procs ", u64::MAX, 1),
         line: cursor.optional_number(b" line ", u64::MAX, 1),
         lanes: cursor.optional_number(b" lanes ", u64::MAX, 1),
-        unroll: cursor.optional_number(b" unroll ", u64::MAX, 8),
-        budget: cursor.optional_number(b" budget ", u64::MAX, 100_000_000),
-        weight: cursor.optional_number(b" weight ", u64::MAX, 1),
+        unroll: cursor.optional_number(b" unroll ", u64::MAX, UNROLL),
+        budget: cursor.optional_number(b" budget ", u64::MAX, BUDGET),
+        weight: cursor.optional_number(b" weight ", u64::MAX, WEIGHT),
     })
 }
 
@@ -108,10 +120,10 @@ fn divided(procs: u64, line: u64, lanes: u64) -> Result<(), RequestFault>
 
 /// The request, or its first fault.
 #[tactic(auto, unfolding(crate::specs::Limits::judged))]
-fn checked(request: Request) -> Result<Request, RequestFault>
+pub(crate) fn checked(request: Request) -> Result<Request, RequestFault>
     ensures { result ≡ judged request }
 {
-    within(Field::Size, request.size, 1, 65_536)?;
+    within(Field::Size, request.size, 1, MOST_SIZE)?;
     within(Field::Mod, request.modulus, 2, (1 << 62) - 1)?;
     below(Field::Root, request.root, request.modulus)?;
     within(Field::Procs, request.procs, 1, 16)?;

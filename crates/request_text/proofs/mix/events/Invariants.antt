@@ -1,4 +1,4 @@
-use Rattle.std.proofs.Common.{◌≡◌, ◌+◌, ◌-◌}
+use Rattle.std.proofs.Common.{◌≡◌, ◌-◌}
 use Rattle.grammar.specs.Reading.{many_at}
 use Rattle.grammar.proofs.Loop.{in_front}
 use Rattle.request_text.specs.MixReading.{next_event_at, events_at}

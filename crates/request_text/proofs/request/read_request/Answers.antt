@@ -1,6 +1,5 @@
-use Rattle.std.proofs.Common.{◌≡◌, Ok, Err, sym, ap, ◌∙◌}
+use Rattle.std.proofs.Common.{Ok, Err, sym, ap, ◌∙◌}
 use Rattle.request_text.specs.Limits.{judged}
-use Rattle.matrix_meaning.specs.declared.Request.{Request}
 use Rattle.request_text.proofs.Line.{line_judges}
 use Rattle.request_text.proofs.Limits.{judged_answers}
 use Rattle.request_text.proofs.request.read_request.Goals as goal

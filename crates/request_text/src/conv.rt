@@ -1,0 +1,84 @@
+// The line of a cyclic convolution.
+ghost use Rattle.std.specs.Prelude.{◌≡◌};
+ghost use Rattle.grammar.specs.Cursor.{Gives, GivesAll};
+ghost use Rattle.grammar.specs.Reading.{whole};
+ghost use Rattle.request_text.specs.ConvLine.{conv_line};
+ghost use Rattle.request_text.specs.ConvReading.{conv_at};
+ghost use Rattle.request_text.specs.ConvLimits.{unshared, judged_with, conv_judged};
+ghost use Rattle.request_text.specs.ConvAnswer.{ConvAnswers};
+
+use crate::fault::RequestFault;
+use crate::request::{BUDGET, UNROLL, WEIGHT, checked};
+use grammar::{Cursor, Stuck};
+use matrix_meaning::{Kind, Request};
+use ring_mod::gcd;
+
+#[tactic(auto, unfolding(crate::specs::ConvReading::conv_at))]
+fn conv_of(cursor: &mut Cursor) -> Result<Request, Stuck>
+    ensures { Gives result cursor.new (conv_at cursor.old) }
+{
+    cursor.word(b"conv ")?;
+    let size = cursor.number(u64::MAX)?;
+    let modulus = cursor.named_number(b" mod ", u64::MAX)?;
+    let root = cursor.named_number(b" root ", u64::MAX)?;
+    Ok(Request {
+        kind: Kind::Dft,
+        size,
+        modulus,
+        root,
+        procs: 1,
+        line: 1,
+        lanes: 1,
+        unroll: cursor.optional_number(b" unroll ", u64::MAX, UNROLL),
+        budget: cursor.optional_number(b" budget ", u64::MAX, BUDGET),
+        weight: cursor.optional_number(b" weight ", u64::MAX, WEIGHT),
+    })
+}
+
+fn whole_conv(text: &[u8]) -> Result<Request, Stuck>
+    ensures { GivesAll result (whole conv_at text.now) }
+{
+    let mut cursor = Cursor::new(text);
+    let request = conv_of(&mut cursor)?;
+    cursor.end()?;
+    Ok(request)
+}
+
+/// The greatest factor that size and modulus share is 1.
+fn unshared(shared: u64) -> Result<(), RequestFault>
+    ensures { result ≡ unshared shared }
+{
+    match shared {
+        1 => Ok(()),
+        gcd => Err(RequestFault::NotUnit { gcd }),
+    }
+}
+
+/// The request, or its first fault; the factor that its size and modulus share is asked for last.
+fn checked_with(request: Request, shared: u64) -> Result<Request, RequestFault>
+    ensures { result ≡ judged_with shared request }
+{
+    checked(request)?;
+    unshared(shared)?;
+    Ok(request)
+}
+
+fn checked_conv(request: Request) -> Result<Request, RequestFault>
+    ensures { conv_judged request result }
+{
+    checked_with(request, gcd(request.size, request.modulus))
+}
+
+/// The request that the line of a cyclic convolution spells, for the Fourier transform by which to convolve. The line is
+/// without its end.
+pub fn read_conv(line: &[u8]) -> Result<Request, RequestFault>
+    ensures answer { ConvAnswers line.now result }
+    ensures only { (r : Request) → conv_line line.now r → conv_judged r result }
+{
+    match whole_conv(line) {
+        Ok(request) => checked_conv(request),
+        Err(stuck) => Err(RequestFault::Syntax {
+            at: (line.len() - stuck.left) as u64,
+        }),
+    }
+}
