@@ -1,5 +1,5 @@
 -- Words ask for one command.
-use Rattle.std.proofs.Common.{◌≡◌, ◌⊎◌, ℕ, ◌^◌, List, [], ◌∷◌, ◌++◌, Bool, true, false, Result, Ok, Err, Some, refl, sym, ap, ap₂, subst, ◌∙◌, codes, arith, inl, inr}
+use Rattle.std.proofs.Common.{◌≡◌, ℕ, ◌^◌, List, [], ◌∷◌, ◌++◌, Bool, true, false, Result, Ok, Err, Some, refl, sym, ap, ap₂, subst, ◌∙◌, codes, arith, inl, inr}
 use Rattle.clap.specs.Words.{Text}
 use Rattle.grammar.specs.Grammar.{Judges, number, one_of}
 use Rattle.icode.specs.declared.event.Event.{Event}
@@ -88,6 +88,7 @@ means_once (named.sample number word) a b p q = p.4 ∙ ap₂ command.Sample (se
 means_once (named.compile number) a b p q = p.2 ∙ ap command.Compile (modulus_once number p.0 q.0 p.1 q.1) ∙ sym q.2
 means_once (named.apply number word) a b p q = p.4 ∙ ap₂ command.Apply (modulus_once number p.0 q.0 p.2 q.2) (schedule_once word p.1 q.1 p.3 q.3) ∙ sym q.4
 means_once (named.exec word) a b p q = p.2 ∙ ap command.Exec (schedule_once word p.0 q.0 p.1 q.1) ∙ sym q.2
+means_once (named.convolve word as_code) a b p q = p.2 ∙ ap (λ s. command.Convolve s as_code) (schedule_once word p.0 q.0 p.1 q.1) ∙ sym q.2
 
 pub asked_once : (words : List Text) (a b : Command) → IsAsked words a → IsAsked words b → a ≡ b
 asked_once words a b p q =

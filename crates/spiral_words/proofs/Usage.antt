@@ -1,5 +1,5 @@
 -- Words name no command only where clap refuses them, and then they ask for nothing.
-use Rattle.std.proofs.Common.{◌≡◌, ◌⊎◌, ℕ, List, [], ◌∷◌, Bool, true, false, Option, Some, None, is_some, option_map, find, refl, sym, ap, subst, ◌∙◌, inl, inr, arith}
+use Rattle.std.proofs.Common.{◌≡◌, List, [], ◌∷◌, Bool, true, false, Option, Some, None, is_some, option_map, find, refl, sym, subst, ◌∙◌, inl, inr, arith}
 use Rattle.std.proofs.lemmas.Bool.Decides.{nat_tests}
 use Rattle.clap.specs.Words.{App, Shape, Row, Text, Kinds, built, fault_of, subcommand_of}
 use Rattle.clap.specs.Kinds.{or_else}
@@ -10,7 +10,7 @@ use Rattle.spiral_words.specs.CommandLine.{spiral_app}
 use Rattle.spiral_words.specs.declared.command.Command.{Command}
 use Rattle.spiral_words.specs.declared.command.Order.{Order}
 use Rattle.spiral_words.specs.declared.command.Order.TheVariants as order
-use Rattle.spiral_words.specs.Named.{NamedTexts, plan, formula, code, c, run, trace, cert, check, sample, compile, apply, exec, named_by, named_in, named_of}
+use Rattle.spiral_words.specs.Named.{NamedTexts, plan, formula, code, c, run, trace, cert, check, sample, compile, apply, exec, convolve, named_by, named_in, named_of}
 use Rattle.spiral_words.specs.Asked.{SpellsOrder, IsNoOrder, Means, HasOtherText, IsAsked, IsUsage}
 
 none_of : (kinds : Kinds) → is_empty kinds ≡ true → kinds ≡ []
@@ -69,7 +69,7 @@ known =
               λ rows. there rows cert,
               (
                 λ rows. there rows check,
-                (λ rows e. absurd (cc), (λ rows e. absurd (cc), (λ rows e. absurd (cc), (λ rows e. absurd (cc), (λ rows e. absurd (cc), (λ rows e. absurd (cc), tt)))))),
+                (λ rows e. absurd (cc), (λ rows e. absurd (cc), (λ rows e. absurd (cc), (λ rows e. absurd (cc), (λ rows e. absurd (cc), (λ rows e. absurd (cc), (λ rows e. absurd (cc), tt))))))),
               ),
             ),
           ),
@@ -115,6 +115,7 @@ other_means_nothing (compile number) command other means = other means.0 means.1
 other_means_nothing (apply number word) command (inl none) means = none means.0 means.2
 other_means_nothing (apply number word) command (inr other) means = other means.1 means.3
 other_means_nothing (exec word) command other means = other means.0 means.1
+other_means_nothing (convolve word as_code) command other means = other means.0 means.1
 other_means_nothing _ command other means = absurd other
 
 pub usage_nothing : (words : List Text) (command : Command) → IsUsage words → IsAsked words command → ⊥

@@ -9,7 +9,7 @@ use Rattle.spiral_words.specs.declared.command.Command.{Command}
 use Rattle.spiral_words.specs.declared.command.Command.TheVariants as command
 use Rattle.spiral_words.specs.declared.command.Order.{Order}
 use Rattle.spiral_words.specs.declared.command.Order.TheVariants as order
-use Rattle.spiral_words.specs.Named.{NamedTexts, plan, formula, code, c, run, trace, cert, check, sample, compile, apply, exec, named_of}
+use Rattle.spiral_words.specs.Named.{NamedTexts, plan, formula, code, c, run, trace, cert, check, sample, compile, apply, exec, convolve, named_of}
 
 -- ---- seeds
 
@@ -72,6 +72,7 @@ Means (compile number) asked = (modulus : ℕ) × modulus_word number modulus ×
 Means (apply number word) asked =
     (modulus : ℕ) × (schedule : Plan) × modulus_word number modulus × schedule_word word schedule × (asked ≡ command.Apply modulus schedule)
 Means (exec word) asked = (schedule : Plan) × schedule_word word schedule × (asked ≡ command.Exec schedule)
+Means (convolve word as_code) asked = (schedule : Plan) × schedule_word word schedule × (asked ≡ command.Convolve schedule as_code)
 
 -- an option's text is outside its grammar
 abbrev pub HasOtherText : NamedTexts → Type 0
@@ -81,6 +82,7 @@ HasOtherText (sample seed_text word) = IsNoSeed seed_text ⊎ IsNoSchedule word
 HasOtherText (compile number) = IsNoModulus number
 HasOtherText (apply number word) = IsNoModulus number ⊎ IsNoSchedule word
 HasOtherText (exec word) = IsNoSchedule word
+HasOtherText (convolve word as_code) = IsNoSchedule word
 HasOtherText _ = ⊥
 
 -- the words ask for this command

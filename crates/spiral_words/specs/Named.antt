@@ -22,6 +22,7 @@ pub data NamedTexts : Type 0 where
   compile : (modulus : Text) → NamedTexts
   apply : (modulus schedule : Text) → NamedTexts
   exec : (schedule : Text) → NamedTexts
+  convolve : (schedule : Text) (as_code : Bool) → NamedTexts
 
 abbrev pub texts_of : Named → NamedTexts
 texts_of named.Plan = plan
@@ -36,6 +37,7 @@ texts_of (named.Sample seed schedule) = sample seed.now schedule.now
 texts_of (named.Compile modulus) = compile modulus.now
 texts_of (named.Apply modulus schedule) = apply modulus.now schedule.now
 texts_of (named.Exec schedule) = exec schedule.now
+texts_of (named.Convolve schedule as_code) = convolve schedule.now as_code
 
 -- the texts of the options, or their defaults
 abbrev pub schedule_in : List Row → Text
@@ -66,7 +68,8 @@ named_by name rows =
     else (if bytes_eq name (codes "sample") then Some (sample (seed_in rows) (schedule_in rows))
     else (if bytes_eq name (codes "compile") then Some (compile (modulus_in rows))
     else (if bytes_eq name (codes "apply") then Some (apply (modulus_in rows) (schedule_in rows))
-    else (if bytes_eq name (codes "exec") then Some (exec (schedule_in rows)) else None)))))))))))
+    else (if bytes_eq name (codes "exec") then Some (exec (schedule_in rows))
+    else (if bytes_eq name (codes "convolve") then Some (convolve (schedule_in rows) (is_given (codes "code") rows)) else None))))))))))))
 
 abbrev pub named_in : Option (Text × List Row) → Option NamedTexts
 named_in found = option_and_then (λ p. named_by p.0 p.1) found

@@ -2,7 +2,7 @@
 ghost use Rattle.std.specs.Prelude.{◌≡◌, [], ◌∷◌, IfOk, false};
 ghost use Rattle.clap.specs.Words.{app_of, shape_of, rule_of};
 ghost use Rattle.clap.specs.declared.Command.TheViews.{out-Command as fields_of};
-ghost use Rattle.spiral_words.specs.CommandLine.{option_rule, required_rule, flag_rule, schedule_rule, seed_rule, mod_rule, buffers_rule, command, bare_app, with_bare, plain_app, running_app, formula_app, spiral_app};
+ghost use Rattle.spiral_words.specs.CommandLine.{option_rule, required_rule, flag_rule, schedule_rule, seed_rule, mod_rule, command, bare_app, with_bare, plain_app, running_app, formula_app, listing_app, spiral_app};
 
 use clap::{Arg, ArgAction, Command};
 use std::alloc::{AllocError, Global};
@@ -46,13 +46,13 @@ fn scheduled<'a>(alloc: Global, name: &'a str) -> Result<Command<'a>, AllocError
     Command::new(alloc, name).arg(schedule)
 }
 
-/// A subcommand that takes a schedule, and may have store buffers.
-fn buffered<'a>(alloc: Global, name: &'a str) -> Result<Command<'a>, AllocError>
-    ensures shape { IfOk result (λ r. shape_of r ≡ command name.now (schedule_rule ∷ buffers_rule ∷ [])) }
+/// A subcommand that takes a schedule, and may be given an option without a value.
+fn flagged<'a>(alloc: Global, name: &'a str, option: &'a str) -> Result<Command<'a>, AllocError>
+    ensures shape { IfOk result (λ r. shape_of r ≡ command name.now (schedule_rule ∷ flag_rule option.now ∷ [])) }
     ensures local { IfOk result (λ r. (fields_of r).has_globals ≡ false) }
 {
-    let buffers = flag(alloc, "buffers");
-    scheduled(alloc, name)?.arg(buffers)
+    let option = flag(alloc, option);
+    scheduled(alloc, name)?.arg(option)
 }
 
 /// A subcommand that takes a seed and a schedule.
@@ -120,8 +120,8 @@ fn plain<'a>(alloc: Global) -> Result<Command<'a>, AllocError>
 fn running<'a>(alloc: Global) -> Result<Command<'a>, AllocError>
     ensures { IfOk result (λ r. app_of r ≡ running_app) }
 {
-    let run = buffered(alloc, "run")?;
-    let trace = buffered(alloc, "trace")?;
+    let run = flagged(alloc, "run", "buffers")?;
+    let trace = flagged(alloc, "trace", "buffers")?;
     let sample = sampled(alloc, "sample")?;
     let with_run = plain(alloc)?.subcommand(run)?;
     let with_trace = with_run.subcommand(trace)?;
@@ -138,10 +138,18 @@ fn formulas<'a>(alloc: Global) -> Result<Command<'a>, AllocError>
     with_compile.subcommand(apply)
 }
 
-/// The whole command line.
-pub(crate) fn spiral_app<'a>(alloc: Global) -> Result<Command<'a>, AllocError>
-    ensures { IfOk result (λ r. app_of r ≡ spiral_app) }
+/// And the one that is given a listing.
+fn listings<'a>(alloc: Global) -> Result<Command<'a>, AllocError>
+    ensures { IfOk result (λ r. app_of r ≡ listing_app) }
 {
     let exec = scheduled(alloc, "exec")?;
     formulas(alloc)?.subcommand(exec)
+}
+
+/// The whole command line: these, and the one that convolves.
+pub(crate) fn spiral_app<'a>(alloc: Global) -> Result<Command<'a>, AllocError>
+    ensures { IfOk result (λ r. app_of r ≡ spiral_app) }
+{
+    let convolve = flagged(alloc, "convolve", "code")?;
+    listings(alloc)?.subcommand(convolve)
 }

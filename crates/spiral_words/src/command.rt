@@ -3,7 +3,7 @@ ghost use Rattle.std.specs.Prelude.{◌≡◌, Err, IfOk, map, string_bytes, tru
 ghost use Rattle.request_text.specs.Mix.{mix_word};
 ghost use Rattle.request_text.specs.Schedule.{schedule_word};
 ghost use Rattle.spiral_words.specs.declared.command.Refusal.TheVariants.{NoMemory};
-ghost use Rattle.spiral_words.specs.Named.{texts_of};
+ghost use Rattle.spiral_words.specs.Named.{exec, convolve, texts_of};
 ghost use Rattle.spiral_words.specs.Asked.{IsNoMix, IsNoOrder, IsNoSchedule, SpellsOrder, Means, HasOtherText, IsAsked, IsUsage};
 
 use crate::line::{Named, command_found, parsed};
@@ -41,6 +41,11 @@ pub enum Command {
     },
     Exec {
         schedule: Schedule,
+    },
+    /// `code`: the program is written, and not run.
+    Convolve {
+        schedule: Schedule,
+        code: bool,
     },
 }
 
@@ -120,11 +125,25 @@ fn read(alloc: Global, named: Named) -> Result<Command, Refusal>
             let schedule = schedule_of(alloc, schedule)?;
             Ok(Command::Apply { modulus, schedule })
         }
-        Named::Exec { schedule } => {
-            let schedule = schedule_of(alloc, schedule)?;
-            Ok(Command::Exec { schedule })
-        }
+        Named::Exec { schedule } => exec_of(alloc, schedule),
+        Named::Convolve { schedule, code } => convolve_of(alloc, schedule, code),
     }
+}
+
+fn exec_of(alloc: Global, word: &str) -> Result<Command, Refusal>
+    ensures ok { IfOk result (λ command. Means (exec word.now) command) }
+    ensures usage { result ≡ Err Refusal.Usage → HasOtherText (exec word.now) }
+{
+    let schedule = schedule_of(alloc, word)?;
+    Ok(Command::Exec { schedule })
+}
+
+fn convolve_of(alloc: Global, word: &str, code: bool) -> Result<Command, Refusal>
+    ensures ok { IfOk result (λ command. Means (convolve word.now code) command) }
+    ensures usage { result ≡ Err Refusal.Usage → HasOtherText (convolve word.now code) }
+{
+    let schedule = schedule_of(alloc, word)?;
+    Ok(Command::Convolve { schedule, code })
 }
 
 fn order_of(alloc: Global, buffers: bool, word: &str) -> Result<Order, Refusal>

@@ -1,5 +1,5 @@
 // Command lines, as clap reads them.
-ghost use Rattle.std.specs.Prelude.{◌≡◌, unwrap_or, true, false, Some, None, Err, IfOk, OnOk, option_map, map, string_bytes, codes};
+ghost use Rattle.std.specs.Prelude.{◌≡◌, ◌↔◌, unwrap_or, true, false, Some, None, Err, IfOk, OnOk, option_map, map, string_bytes, codes};
 ghost use Rattle.std.specs.Str.{bytes_eq};
 ghost use Rattle.clap.specs.Words.{fault_of, first_of, found_of, kind_of, rows_of, subcommand_of, subcommand_rows_of};
 ghost use Rattle.clap.specs.Walk.{is_empty};
@@ -27,6 +27,7 @@ pub(crate) enum Named<'a> {
     Compile { modulus: &'a str },
     Apply { modulus: &'a str, schedule: &'a str },
     Exec { schedule: &'a str },
+    Convolve { schedule: &'a str, code: bool },
 }
 
 /// What clap finds in the words.
@@ -43,7 +44,7 @@ pub(crate) fn parsed<'a>(alloc: Global, words: &'a Vec<String>) -> Result<ArgMat
 }
 
 fn refusal_of(error: &Error) -> Refusal
-    ensures { result ≡ Refusal.Usage → ¬ (kind_of error.now ≡ ErrorKind.OutOfMemory) }
+    ensures { (result ≡ Refusal.NoMemory) ↔ (kind_of error.now ≡ ErrorKind.OutOfMemory) }
 {
     if error.kind() == ErrorKind::OutOfMemory {
         Refusal::NoMemory
@@ -93,6 +94,10 @@ fn named_by<'a>(name: &str, options: &ArgMatches<'a>) -> Option<Named<'a>>
         }),
         "exec" => Some(Named::Exec {
             schedule: schedule_in(options),
+        }),
+        "convolve" => Some(Named::Convolve {
+            schedule: schedule_in(options),
+            code: is_given(options, "code"),
         }),
         _ => None,
     }
