@@ -1,11 +1,11 @@
 -- A pass can be run and written with the values of a diagonal, too.
-use Rattle.std.proofs.Common.{◌≡◌, ℕ, ◌+◌, ◌*◌, ◌^◌, ◌<◌, ◌≤◌, List, [], ◌∷◌, length, map, refl, sym, ap, ap₂, ◌∙◌, arith, subst, inl, inr, All, Some}
+use Rattle.std.proofs.Common.{◌≡◌, ℕ, ◌+◌, ◌*◌, ◌^◌, ◌<◌, List, [], ◌∷◌, length, map, refl, sym, ap, ◌∙◌, arith, subst, inl, inr, All, Some}
 use Rattle.std.specs.Prelude.{slice_index}
 use Rattle.std.proofs.lemmas.Bool.{cases_lt}
 use Rattle.std.proofs.lemmas.List.{get_or_past}
 use Rattle.std.proofs.lemmas.List.Elements.{All-nil, All-cons, All-head, All-tail, All-map, All-weaker}
 use Rattle.pass_actions.specs.Acts.{pass_registers}
-use Rattle.pass_actions.specs.Laws.{CanRun, CanRunNest, MovesVectors}
+use Rattle.pass_actions.specs.Laws.{CanRunNest, MovesVectors}
 use Rattle.pass_actions.specs.Machine.{PlainMachine, frame_of, item_of, lane_step, loop_counts, values_of}
 use Rattle.pass_programs.specs.Conditions.{AreWithin, CanWriteNest, CanWritePass, LoadsAlike, stores_inside}
 use Rattle.passes.specs.Copies.{hits, loops_of}

@@ -1,5 +1,5 @@
 -- Phases as one, pass by pass.
-use Rattle.std.proofs.Common.{◌≡◌, List, [], ◌∷◌, ◌++◌, map, refl, sym, ap, ap₂, ◌∙◌, append_assoc, append-nil, Vec, Global}
+use Rattle.std.proofs.Common.{◌≡◌, List, [], ◌∷◌, ◌++◌, map, sym, ap, ap₂, ◌∙◌, append_assoc, append-nil, Vec, Global}
 use Rattle.std.proofs.lemmas.List.{map-append}
 use Rattle.pass_programs.specs.Contract.{all_passes}
 use Rattle.passes.specs.Nest.{PlainNest}
