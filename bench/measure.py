@@ -80,6 +80,11 @@ def main():
     large = "dft 65536 mod 65537 root 3\n"
     one = best("run", large + " ".join(str(k) for k in range(65536)) + "\n")
     print(f"run of one vector of {large.strip()}: {one * 1000:.0f} ms with start-up")
+    line, vector = "conv 65536 mod 65537 root 3\n", " ".join(str(k) for k in range(65536)) + "\n"
+    few, more = best("convolve", line + 2 * vector), best("convolve", line + 4 * vector)
+    print(f"convolve of one vector of {line.strip()}: {few * 1000:.0f} ms with start-up and the diagonal of h")
+    print(f"convolve of each other vector: {(more - few) / 2 * 1000:.0f} ms for two transforms and a product")
+    print(f"code of its program: {best('convolve --code', line + vector) * 1000:.0f} ms")
     data = vectors(2, 400_000)
     seconds = best("run", request(2) + data) - start_up
     print(f"data of dft 2: {len(data) / 1e6 / seconds:.1f} MB read a second, with a line written for each vector")

@@ -4,13 +4,14 @@ reference/sweep.sh compares the two.
 
     printf 'dft 4 mod 17 root 4\n1 2 3 4\n' | reference/reference.py run
 
-The commands are plan, formula, cert, code, c, run, trace, sample and exec. Requests and data have to be well formed, and
-listings need not.
+The commands are plan, formula, cert, code, c, run, trace, sample, exec and convolve. Requests and data have to be well
+formed; listings, and what convolve is given, need not.
 """
 
 import argparse
 import sys
 
+from convolutions import convolved
 from emission import Emitter, actions_of, c_text, listing, loads_and_stores, phase_count
 from machine import Machine, run_lines
 from strangers import executed
@@ -105,6 +106,8 @@ def answered(asked, text):
     """Status, output and note."""
     if asked.command == "exec":
         return executed(text)
+    if asked.command == "convolve":
+        return convolved(text.decode(), asked.schedule, asked.code)
     line, _, rest = text.decode().partition("\n")
     data = [int(token) for token in rest.split()]
     try:
@@ -120,6 +123,7 @@ def main():
     words.add_argument("--seed", type=int, default=0)
     words.add_argument("--schedule", default="seq")
     words.add_argument("--buffers", action="store_true")
+    words.add_argument("--code", action="store_true")
     code, text, note = answered(words.parse_args(), sys.stdin.buffer.read())
     sys.stdout.write(text)
     if note:

@@ -6,6 +6,7 @@ import subprocess
 import sys
 from math import gcd, lcm
 
+from convolution_sweep import convolutions_swept
 from emission import Emitter, actions, listing, loads_and_stores, run
 from formula_sweep import formulas_swept
 from listings import Lost, read_listing
@@ -412,6 +413,7 @@ def main():
     changed = [plans(sweep, lines) for lines in requests_at_each_weight()]
     assert sum(changed) >= 5, "the weights change too few trees"
     formulas_swept(sweep, Numbers(17))
+    convolutions_swept(sweep, Numbers(19))
     for line in LARGE:
         for command in ("plan", "formula", "cert", "code"):
             sweep.compare(command, line, wanted(command, line))

@@ -63,3 +63,12 @@ pub(crate) fn call(alloc: Global, line: &str, input: &[u8], outside: &Outside) -
         note,
     })
 }
+
+/// What the call writes, as text.
+pub(crate) fn output_of(seen: &Seen) -> Result<&str, Fail> {
+    Ok(
+        std::str::from_utf8(seen.output.bytes())
+            .ok()
+            .ok_or("a text")?,
+    )
+}

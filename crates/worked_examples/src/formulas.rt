@@ -2,7 +2,7 @@
 
 ghost use Rattle.std.specs.Prelude.{◌<◌};
 
-use crate::call::{AMPLE, Outside, Seen, call};
+use crate::call::{AMPLE, Outside, Seen, call, output_of};
 use crate::rows::answers_as;
 use listing_text::read_listing;
 use std::alloc::Global;
@@ -62,15 +62,6 @@ fn refused_formulas(rt: HostRuntime) -> Result<(), Fail> {
         answers_as(&rt, rt.alloc(), row)?;
     }
     Ok(())
-}
-
-// What the call writes, as text.
-fn output_of(seen: &Seen) -> Result<&str, Fail> {
-    Ok(
-        std::str::from_utf8(seen.output.bytes())
-            .ok()
-            .ok_or("a text")?,
-    )
 }
 
 // What `compile` writes for a formula is a listing, which `exec` runs on the data as `apply` does.

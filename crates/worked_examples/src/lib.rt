@@ -8,6 +8,8 @@ mod call;
 #[cfg(test)]
 mod checks;
 #[cfg(test)]
+mod convolutions;
+#[cfg(test)]
 mod formulas;
 #[cfg(test)]
 mod listings;
