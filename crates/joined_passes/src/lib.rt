@@ -52,8 +52,7 @@ fn in_one_phase(alloc: Global, phases: Vec<Vec<Vec<Nest>>>) -> Result<Vec<Vec<Ne
         plain_passes passes.items ≡ all_passes (plain_phases phases.items)) }
 {
     let mut passes = Vec::new(alloc);
-    for phase in phases {
-        let mut phase = phase;
+    for mut phase in phases {
         passes.append(&mut phase)?;
     }
     Ok(passes)
