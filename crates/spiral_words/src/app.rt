@@ -2,7 +2,7 @@
 ghost use Rattle.std.specs.Prelude.{◌≡◌, [], ◌∷◌, IfOk, false};
 ghost use Rattle.clap.specs.Words.{app_of, shape_of, rule_of};
 ghost use Rattle.clap.specs.declared.Command.TheViews.{out-Command as fields_of};
-ghost use Rattle.spiral_words.specs.CommandLine.{option_rule, required_rule, flag_rule, schedule_rule, seed_rule, mod_rule, command, bare_app, with_bare, plain_app, running_app, formula_app, listing_app, spiral_app};
+ghost use Rattle.spiral_words.specs.CommandLine.{option_rule, required_rule, flag_rule, schedule_rule, seed_rule, mod_rule, command, flagged, bare_app, with_bare, plain_app, running_app, formula_app, listing_app, spiral_app};
 
 use clap::{Arg, ArgAction, Command};
 use std::alloc::{AllocError, Global};
@@ -48,7 +48,7 @@ fn scheduled<'a>(alloc: Global, name: &'a str) -> Result<Command<'a>, AllocError
 
 /// A subcommand that takes a schedule, and may be given an option without a value.
 fn flagged<'a>(alloc: Global, name: &'a str, option: &'a str) -> Result<Command<'a>, AllocError>
-    ensures shape { IfOk result (λ r. shape_of r ≡ command name.now (schedule_rule ∷ flag_rule option.now ∷ [])) }
+    ensures shape { IfOk result (λ r. shape_of r ≡ flagged name.now option.now) }
     ensures local { IfOk result (λ r. (fields_of r).has_globals ≡ false) }
 {
     let option = flag(alloc, option);

@@ -1,7 +1,7 @@
 // Request lines, and the words of schedules and of turns with drains.
 
 use crate::rows::{halves, number, numbers, spelled};
-use request_text::{Mix, Schedule, read_mix, read_request, read_schedule};
+use request_text::{Mix, Schedule, read_conv, read_mix, read_request, read_schedule};
 use std::alloc::Global;
 use std::test::Fail;
 
@@ -70,6 +70,7 @@ dft 4 mod 17 root 4 weight 05|Err(Syntax { at: 28 })
 dft 4 mod 17 root 4 weight 18446744073709551616|Err(Syntax { at: 46 })
 dft 4 mod 17 root 4 wight 5|Err(Syntax { at: 21 })
 xht 4 mod 5|Err(Syntax { at: 0 })
+conv 4 mod 17 root 4|Err(Syntax { at: 0 })
 wht|Err(Syntax { at: 3 })
 wht 4 mod 5 root 1|Err(Syntax { at: 12 })
 dft 4 mod 17 root 4 unroll 8 unroll 8|Err(Syntax { at: 29 })
@@ -85,6 +86,70 @@ fn lines(rt: HostRuntime) -> Result<(), Fail> {
         let line = spelled(rt.alloc(), line)?;
         let answer = format!(in rt.alloc(); "{:?}", read_request(line.as_bytes()))?;
         assert_eq!(rt; answer.as_str(), wanted);
+    }
+    Ok(())
+}
+
+// The line of a convolution, and what it asks for or what is wrong with it, by the matcher of fronts in
+// reference/convolutions.py.
+const CONVOLUTIONS: &str = "\
+conv 4 mod 17 root 4 unroll 2 budget 21 weight 1000|Ok(Request { kind: Dft, size: 4, modulus: 17, root: 4, procs: 1, line: 1, lanes: 1, unroll: 2, budget: 21, weight: 1000 })
+conv 4 mod 15 root 4|Ok(Request { kind: Dft, size: 4, modulus: 15, root: 4, procs: 1, line: 1, lanes: 1, unroll: 8, budget: 100000000, weight: 1 })
+conv 1 mod 2 root 0|Ok(Request { kind: Dft, size: 1, modulus: 2, root: 0, procs: 1, line: 1, lanes: 1, unroll: 8, budget: 100000000, weight: 1 })
+conv 65536 mod 4611686018427387903 root 4611686018427387902 budget 1000000000000|Ok(Request { kind: Dft, size: 65536, modulus: 4611686018427387903, root: 4611686018427387902, procs: 1, line: 1, lanes: 1, unroll: 8, budget: 1000000000000, weight: 1 })
+conv 4 mod 17 root 4 unroll 64 weight 1|Ok(Request { kind: Dft, size: 4, modulus: 17, root: 4, procs: 1, line: 1, lanes: 1, unroll: 64, budget: 100000000, weight: 1 })
+conv 2 mod 10 root 9|Err(NotUnit { gcd: 2 })
+conv 12 mod 18 root 5|Err(NotUnit { gcd: 6 })
+conv 3 mod 4611686018427387903 root 1|Err(NotUnit { gcd: 3 })
+conv 65536 mod 65536 root 1 weight 1000|Err(NotUnit { gcd: 65536 })
+conv 2 mod 10 root 10|Err(Range { field: Root, value: 10 })
+conv 2 mod 10 root 9 unroll 1|Err(Range { field: Unroll, value: 1 })
+conv 2 mod 10 root 9 unroll 65|Err(Range { field: Unroll, value: 65 })
+conv 2 mod 10 root 9 budget 0|Err(Range { field: Budget, value: 0 })
+conv 2 mod 10 root 9 budget 1000000000001 weight 0|Err(Range { field: Budget, value: 1000000000001 })
+conv 2 mod 10 root 9 weight 0|Err(Range { field: Weight, value: 0 })
+conv 2 mod 10 root 9 weight 1001|Err(Range { field: Weight, value: 1001 })
+conv 0 mod 10 root 9|Err(Range { field: Size, value: 0 })
+conv 65537 mod 1 root 1|Err(Range { field: Size, value: 65537 })
+conv 2 mod 1 root 1|Err(Range { field: Mod, value: 1 })
+conv 2 mod 4611686018427387904 root 1|Err(Range { field: Mod, value: 4611686018427387904 })
+|Err(Syntax { at: 0 })
+con|Err(Syntax { at: 3 })
+conv|Err(Syntax { at: 4 })
+conv |Err(Syntax { at: 5 })
+convolve 4 mod 17 root 4|Err(Syntax { at: 4 })
+dft 4 mod 17 root 4|Err(Syntax { at: 0 })
+wht 4 mod 17|Err(Syntax { at: 0 })
+conv  4 mod 17 root 4|Err(Syntax { at: 5 })
+conv 04 mod 17 root 4|Err(Syntax { at: 6 })
+conv -4 mod 17 root 4|Err(Syntax { at: 5 })
+conv 2x2 mod 17 root 16x16|Err(Syntax { at: 6 })
+conv 4 mod 17|Err(Syntax { at: 13 })
+conv 4 mod 17 rot 4|Err(Syntax { at: 16 })
+conv 4 mod 17 root 4 |Err(Syntax { at: 21 })
+conv 4 mod 17 root 4~|Err(Syntax { at: 20 })
+conv 4 mod 17 root 4 procs 1|Err(Syntax { at: 21 })
+conv 4 mod 17 root 4 line 1|Err(Syntax { at: 21 })
+conv 4 mod 17 root 4 lanes 1|Err(Syntax { at: 21 })
+conv 4 mod 17 root 4 unroll 8 unroll 8|Err(Syntax { at: 30 })
+conv 4 mod 17 root 4 unroll 8 procs 1|Err(Syntax { at: 30 })
+conv 4 mod 17 root 4 budget 9 unroll 8|Err(Syntax { at: 30 })
+conv 4 mod 17 root 4 weight 1 budget 9|Err(Syntax { at: 29 })
+conv 4 mod 17 root 4 weight 05|Err(Syntax { at: 29 })
+conv 4 mod 17 root 4 weight 1 |Err(Syntax { at: 29 })
+conv 0 mod 1 root 5 procs|Err(Syntax { at: 20 })
+conv 18446744073709551616 mod 17 root 4|Err(Syntax { at: 24 })
+conv 4 mod 18446744073709551616 root 4|Err(Syntax { at: 30 })
+conv 4 mod 17 root 4 budget 18446744073709551616|Err(Syntax { at: 47 })
+";
+
+#[test]
+fn convolutions(rt: HostRuntime) -> Result<(), Fail> {
+    for row in CONVOLUTIONS.lines() {
+        let (line, wanted) = halves(row)?;
+        let line = spelled(rt.alloc(), line)?;
+        let answer = format!(in rt.alloc(); "{:?}", read_conv(line.as_bytes()))?;
+        assert_eq!(rt; answer.as_str(), wanted, "{row}");
     }
     Ok(())
 }

@@ -81,7 +81,27 @@ spiral compile --mod 18446744073709551618|usage
 spiral compile --mod 17 --mod 17|usage
 spiral compile --mod 17 --schedule seq|usage
 spiral exec --mod 17|usage
+spiral convolve|convolve 0
+spiral convolve --|convolve 0
+spiral convolve --code|convolve code 0
+spiral convolve --schedule turns:1,1,0|convolve 3 0
+spiral convolve --code --schedule=rr:3|convolve code 6 1
+spiral convolve --schedule seed:0:1000 --code|convolve code 1000 0
 spiral convolve --code --code|usage
+spiral convolve --code=true|usage
+spiral convolve --code seq|usage
+spiral convolve --cod|usage
+spiral convolve --schedule seq1|usage
+spiral convolve --code --schedule seq1|usage
+spiral convolve --schedule turns: --code|usage
+spiral convolve --code --schedule mix:t0|usage
+spiral convolve --code --schedule|usage
+spiral convolve --buffers|usage
+spiral convolve --mod 17|usage
+spiral convolve --seed 1|usage
+spiral convolve more|usage
+spiral --code convolve|usage
+spiral run --code|usage
 spiral exec --code|usage
 spiral code --code|usage
 spiral --mod 17 compile|usage
@@ -140,6 +160,10 @@ fn answer(alloc: Global, line: &str) -> Result<String, Fail> {
         Ok(Command::Compile { .. }) => "compile",
         Ok(Command::Apply { schedule, .. }) => return shown(alloc, "apply", &schedule),
         Ok(Command::Exec { schedule }) => return shown(alloc, "exec", &schedule),
+        Ok(Command::Convolve { schedule, code }) => {
+            let name = if code { "convolve code" } else { "convolve" };
+            return shown(alloc, name, &schedule);
+        }
         Err(Refusal::Usage) => "usage",
         Err(Refusal::NoMemory) => "no memory",
     };
