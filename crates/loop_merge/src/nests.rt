@@ -25,11 +25,11 @@ ghost use Rattle.tree_model.specs.Admissible.{IsAdmissible};
 ghost use Rattle.tree_model.specs.Breakdown.{Breakdown, HasWordSizes, breakdown_of, size_of};
 ghost use Rattle.tree_model.specs.Cost.{node_root};
 
-use crate::places::{counts, diagonal_functions, places, with_two};
+use crate::places::{diagonal_functions, places};
 use crate::{Diagonal, Pass, passes_of_formula};
 use matrix_meaning::Kind;
 use memory::NoMemory;
-use passes::{Factors, Merged, Multiplier, Nest, Work, items_in, items_out};
+use passes::{Factors, Merged, Multiplier, Nest, Work, counts, items_in, items_out, limits};
 use perm_algebra::Affine;
 use sigma_spl::Sigma;
 use std::alloc::Global;
@@ -104,7 +104,7 @@ fn nest_one(alloc: Global, c: &Ctx, pass: &Pass) -> Result<Nest, NoMemory>
     let work = loop_work(alloc, c, &pass.work)?;
     let size = pass.work.size();
     let counts = counts(alloc, &pass.path)?;
-    let limits = with_two(alloc, &counts, size)?;
+    let limits = limits(alloc, &counts, size)?;
     let depth = pass.path.len() as u64;
     let columns = items_in(alloc, &work, depth)?;
     let gathers = places(alloc, &limits, &pass.befores, &pass.path, size, &columns)?;

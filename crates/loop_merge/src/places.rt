@@ -1,5 +1,5 @@
 // The places of a pass's items as sums of its loops' variables.
-ghost use Rattle.std.specs.Prelude.{◌≡◌, ◌+◌, ◌*◌, ◌^◌, ◌<◌, ◌++◌, ◌∷◌, [], IfOk, All, length, map, slice_index};
+ghost use Rattle.std.specs.Prelude.{◌≡◌, ◌+◌, ◌*◌, ◌^◌, ◌<◌, IfOk, All, length, map, slice_index};
 ghost use Rattle.index_fn.specs.Index.{mapping_of};
 ghost use Rattle.loop_merge.specs.Items.{places_of};
 ghost use Rattle.loop_merge.specs.Placed.{AllRoom, place_sum, all_simplified, diagonal_places};
@@ -10,7 +10,6 @@ ghost use Rattle.perm_algebra.specs.Fits.{IsAffine, Stays};
 ghost use Rattle.perm_algebra.specs.Views.{plain_sum};
 ghost use Rattle.sigma_lower.specs.Room.{HasRoom};
 ghost use Rattle.sigma_lower.specs.Wrapped.{inner_of};
-ghost use Rattle.tensor_paths.specs.Path.{count_of};
 
 use crate::{Diagonal, copies};
 use index_fn::Index;
@@ -19,27 +18,6 @@ use perm_algebra::{Affine, copy, join, scale_sum, simplify};
 use sigma_lower::size_of_whole;
 use std::alloc::Global;
 use tensor_paths::Tensor;
-
-// How often the loop of each tensor runs.
-pub(crate) fn counts(alloc: Global, path: &[Tensor]) -> Result<Vec<u64>, NoMemory>
-    ensures { IfOk result (λ counts. counts.items ≡ map count_of path.now) }
-{
-    let mut counts = Vec::new(alloc);
-    for tensor in path {
-        counts.push(tensor.count())?;
-    }
-    Ok(counts)
-}
-
-// The list, and the number twice.
-pub(crate) fn with_two(alloc: Global, list: &[u64], number: u64) -> Result<Vec<u64>, NoMemory>
-    ensures { IfOk result (λ longer. longer.items ≡ list.now ++ number ∷ number ∷ []) }
-{
-    let mut longer = list.to_vec(alloc)?;
-    longer.push(number)?;
-    longer.push(number)?;
-    Ok(longer)
-}
 
 // The places that the functions make of the items.
 pub(crate) fn places(

@@ -12,11 +12,13 @@ ghost use Rattle.passes.specs.CopiesLaws.{KeepsOnce, LoadsGather, LoopsScale, St
 mod items;
 mod nest;
 mod term;
+mod variables;
 mod work;
 
 pub use items::{items_in, items_out};
 pub use nest::{Factors, Merged, Multiplier, Nest};
 pub use term::Term;
+pub use variables::{counts, limits};
 pub use work::Work;
 
 /// What is merged into a pass, and how passes stand side by side and under tensors: laws of the definitions.

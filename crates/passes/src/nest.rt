@@ -1,6 +1,7 @@
 // Loops as code has them, and the passes and phases that they make up.
 use crate::Work;
 use perm_algebra::Affine;
+use smallvec::SmallVec;
 use tensor_paths::Tensor;
 
 /// The factors of a diagonal, from its first place on: residues modulo the transform's modulus.
@@ -35,7 +36,7 @@ pub struct Multiplier {
 #[derive(Drop)]
 pub struct Nest {
     /// How often each loop runs, the outermost first.
-    pub counts: Vec<u64>,
+    pub counts: SmallVec<u64, 8>,
     pub work: Work,
     /// Where each item comes from, in the array that the pass reads.
     pub gathers: Vec<Affine>,

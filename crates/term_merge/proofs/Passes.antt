@@ -7,12 +7,13 @@ use Rattle.perm_algebra.specs.Affine.{Sum, simplified}
 use Rattle.perm_algebra.specs.Room.{has_room}
 use Rattle.perm_algebra.proofs.Counted.{ready-simplified}
 use Rattle.passes.specs.Good.{IsFormed}
-use Rattle.passes.specs.Merge.{most, limits_of, is_limited, is_multiplier_within, is_within, loads_have_room, stores_have_room, can_gather, can_scatter, carries_sum, is_free, gathered, scattered, multiplied}
+use Rattle.passes.specs.Merge.{all_simplified, most, limits_of, is_limited, is_multiplier_within, is_within, loads_have_room, stores_have_room, can_gather, can_scatter, carries_sum, is_free, gathered, scattered, multiplied}
 use Rattle.passes.specs.Nest.{PlainFactors, PlainNest}
 use Rattle.passes.proofs.Walk.{and-left, and-right}
 use Rattle.sum_limits.specs.Leading.{can_lead}
 use Rattle.term_merge.specs.Known.{AreReady, IsReadyNest, IsReadyPass, IsKnownPass}
 use Rattle.term_merge.specs.Tests.{can_load, can_store}
+use Rattle.term_merge.specs.Views.{multiplied_by}
 
 -- ---- tests
 
@@ -123,9 +124,8 @@ known-scattered room n f zs formed can h = record { within = and-right (stores_h
 abbrev pub can_multiply_nest : ℕ → ℕ → ℕ → List Mapping → PlainNest → Bool
 can_multiply_nest room n count fs z = is_free z.multiplier && list_all (carries_sum room n count (limits_of z) fs) z.scatters
 
--- the same nest, with a diagonal after it
-abbrev pub multiplied_by : PlainNest → PlainFactors → List Sum → PlainNest
-multiplied_by z d places = record { counts = z.counts; work = z.work; gathers = z.gathers; multiplier = Some (record { factors = d; places = places }); scatters = z.scatters }
+pub same-multiplied : (y z : PlainNest) (d e : PlainFactors) (places : List Sum) → y ≡ z → d ≡ e → multiplied_by y d places ≡ multiplied_by z e places
+same-multiplied y z d e places a b = ap₂ (λ w ds. multiplied_by w ds places) a b
 
-pub by-place : (y z : PlainNest) (d e : PlainFactors) (places : List Sum) → y ≡ z → d ≡ e → places ≡ map (λ s. s) z.scatters → multiplied_by y d places ∷ [] ≡ multiplied e [] (z ∷ [])
-by-place y z d e places a b c = ap (λ w. multiplied_by w d places ∷ []) a ∙ ap (λ w. multiplied_by z w places ∷ []) b ∙ ap (λ w. multiplied_by z e w ∷ []) c
+pub all-multiplied : (y z : PlainNest) (d : PlainFactors) (fs : List Mapping) (places : List Sum) → y ≡ multiplied_by z d places → places ≡ map (all_simplified (limits_of z) fs) z.scatters → y ∷ [] ≡ multiplied d fs (z ∷ [])
+all-multiplied y z d fs places a b = ap (λ w. w ∷ []) a ∙ ap (λ es. multiplied_by z d es ∷ []) b

@@ -1,9 +1,10 @@
 -- What the code's passes and states of merging stand for.
-use Rattle.std.specs.Prelude.{List, [], ◌∷◌, ◌++◌, map, Vec}
+use Rattle.std.specs.Prelude.{List, [], ◌∷◌, ◌++◌, map, Some, Vec}
 use Rattle.std.proofs.Common.{Global}
 use Rattle.index_fn.specs.Index.{mapping_of}
 use Rattle.passes.specs.Merge.{Merging}
-use Rattle.passes.specs.Nest.{PlainNest}
+use Rattle.passes.specs.Nest.{PlainFactors, PlainNest}
+use Rattle.perm_algebra.specs.Affine.{Sum}
 use Rattle.passes.specs.Views.{plain_nest}
 use Rattle.passes.specs.declared.nest.Nest.{Nest}
 use Rattle.term_merge.specs.declared.state as state
@@ -17,6 +18,17 @@ plain_passes ps = map plain_pass ps
 -- the latest first
 abbrev pub plain_merging : state.Merging.Merging → Merging
 plain_merging st = record { waiting = map mapping_of st.waiting.items; passes = plain_passes st.passes.items }
+
+-- the same nest, with a diagonal after it: its factors, and their places
+abbrev pub multiplied_by : PlainNest → PlainFactors → List Sum → PlainNest
+multiplied_by z d places =
+    record {
+      counts = z.counts;
+      work = z.work;
+      gathers = z.gathers;
+      multiplier = Some (record { factors = d; places = places });
+      scatters = z.scatters;
+    }
 
 -- passes, the latest first, in their order
 abbrev pub in_order : List (List PlainNest) → List (List PlainNest)

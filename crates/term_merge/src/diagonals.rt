@@ -8,6 +8,7 @@ ghost use Rattle.passes.specs.Views.{plain_factors, plain_nest};
 ghost use Rattle.perm_algebra.specs.Views.{plain_sum};
 ghost use Rattle.sum_limits.specs.Leading.{CanCarry};
 ghost use Rattle.term_merge.specs.Known.{AreReady, IsKnownPass, IsReadyNest};
+ghost use Rattle.term_merge.specs.Views.{multiplied_by};
 
 use crate::nests::{copied_factors, copied_nest};
 use crate::places::limits_of;
@@ -53,6 +54,21 @@ fn carried_sums(
     Ok(Some(places))
 }
 
+// The same nest with these factors after it, in other memory.
+fn multiplied_by(
+    alloc: Global,
+    factors: &Factors,
+    places: Vec<Affine>,
+    nest: &Nest,
+) -> Result<Nest, NoMemory>
+    ensures { IfOk result (λ z. plain_nest z ≡ multiplied_by (plain_nest nest.now) (plain_factors factors.now) (map plain_sum places.items)) }
+{
+    let factors = copied_factors(alloc, factors)?;
+    let mut other = copied_nest(alloc, nest)?;
+    other.multiplier = Some(Multiplier { factors, places });
+    Ok(other)
+}
+
 // A nest with the diagonal after it, in place of another.
 fn multiplied_anew(
     alloc: Global,
@@ -73,9 +89,7 @@ fn multiplied_anew(
     match carried_sums(alloc, functions, count, &nest.scatters, &counts, limits)? {
         None => Ok(None),
         Some(places) => {
-            let factors = copied_factors(alloc, &diagonal.factors)?;
-            let mut other = copied_nest(alloc, nest)?;
-            other.multiplier = Some(Multiplier { factors, places });
+            let other = multiplied_by(alloc, &diagonal.factors, places, nest)?;
             Ok(Some(other))
         }
     }
@@ -146,10 +160,8 @@ pub(crate) fn multiplied_in_order(
 fn multiplied_by_place(alloc: Global, factors: &Factors, nest: &Nest) -> Result<Nest, NoMemory>
     ensures { IfOk result (λ z. plain_nest z ∷ [] ≡ multiplied (plain_factors factors.now) [] (plain_nest nest.now ∷ [])) }
 {
-    let factors = copied_factors(alloc, factors)?;
     let places = copied_sums(alloc, &nest.scatters)?;
-    let mut other = copied_nest(alloc, nest)?;
-    other.multiplier = Some(Multiplier { factors, places });
+    let other = multiplied_by(alloc, factors, places, nest)?;
     Ok(other)
 }
 

@@ -11,10 +11,11 @@ ghost use Rattle.tensor_paths.specs.Path.{count_of};
 ghost use Rattle.term_merge.specs.Lifted.{CanLift, CanRaise, IsCounted, counts_under};
 
 use crate::nests::copied_factors;
-use crate::placed::{counts, placed, renumbered, with_two};
+use crate::placed::{placed, renumbered};
 use memory::NoMemory;
-use passes::{Multiplier, Nest};
+use passes::{Multiplier, Nest, counts, limits};
 use perm_algebra::{Affine, join};
+use smallvec::SmallVec;
 use std::alloc::Global;
 use tensor_paths::Tensor;
 
@@ -45,7 +46,11 @@ pub(crate) fn lifted(
 }
 
 // The counts of the path's loops, and these.
-fn counts_round(alloc: Global, path: &[Tensor], inner: &[u64]) -> Result<Vec<u64>, NoMemory>
+fn counts_round(
+    alloc: Global,
+    path: &[Tensor],
+    inner: &[u64],
+) -> Result<SmallVec<u64, 8>, NoMemory>
     ensures { IfOk result (λ all. all.items ≡ map count_of path.now ++ inner.now) }
 {
     let mut all = counts(alloc, path)?;
@@ -54,12 +59,16 @@ fn counts_round(alloc: Global, path: &[Tensor], inner: &[u64]) -> Result<Vec<u64
 }
 
 // What all variables of the lifted nest run below.
-fn limits_under(alloc: Global, path: &[Tensor], nest: &Nest) -> Result<Vec<u64>, NoMemory>
+fn limits_under(
+    alloc: Global,
+    path: &[Tensor],
+    nest: &Nest,
+) -> Result<SmallVec<u64, 10>, NoMemory>
     requires { HasWords (plain_nest nest.now).work }
     ensures { IfOk result (λ limits. limits.items ≡ counts_under path.now (plain_nest nest.now)) }
 {
     let counts = counts_round(alloc, path, &nest.counts)?;
-    let limits = with_two(alloc, &counts, nest.work.size())?;
+    let limits = limits(alloc, &counts, nest.work.size())?;
     Ok(limits)
 }
 

@@ -15,11 +15,12 @@ ghost use Rattle.tensor_paths.specs.Path.{count_of, size_under};
 ghost use Rattle.term_merge.specs.Known.{IsDefinedBelow};
 ghost use Rattle.term_merge.specs.Placed.{AllNamed};
 
-use crate::placed::{all_placed, counts, with_two};
+use crate::placed::all_placed;
 use index_fn::Index;
 use memory::NoMemory;
-use passes::{Factors, Multiplier, Nest, Work, items_in, items_out};
+use passes::{Factors, Multiplier, Nest, Work, counts, items_in, items_out, limits};
 use perm_algebra::{Affine, copy};
+use smallvec::SmallVec;
 use std::alloc::Global;
 use tensor_paths::Tensor;
 
@@ -33,7 +34,7 @@ pub(crate) fn natural_nest(alloc: Global, path: &[Tensor], work: Work) -> Result
     ensures { IfOk result (λ z. plain_nest z ≡ new_nest path.now (plain_work work) (items_in (plain_work work) (length path.now))) }
 {
     let counts = counts(alloc, path)?;
-    let limits = with_two(alloc, &counts, work.size())?;
+    let limits = limits(alloc, &counts, work.size())?;
     let gathers = loads(alloc, &limits, path, &work)?;
     let scatters = stores(alloc, &limits, path, &work)?;
     Ok(Nest {
@@ -111,7 +112,7 @@ fn listed_nest(alloc: Global, path: &[Tensor], places: &[u64]) -> Result<Nest, N
     let size = places.len() as u64;
     let work = Work::Copy { size };
     let counts = counts(alloc, path)?;
-    let limits = with_two(alloc, &counts, size)?;
+    let limits = limits(alloc, &counts, size)?;
     let items = numbers(alloc, places)?;
     let gathers = all_placed(alloc, &limits, path, size, &items)?;
     let scatters = stores(alloc, &limits, path, &work)?;
@@ -200,7 +201,7 @@ fn values(alloc: Global, size: u64, f: &Index) -> Result<Vec<u64>, NoMemory>
 pub(crate) fn copied_nest(alloc: Global, nest: &Nest) -> Result<Nest, NoMemory>
     ensures { IfOk result (λ z. plain_nest z ≡ plain_nest nest.now) }
 {
-    let counts = nest.counts.as_slice().to_vec(alloc)?;
+    let counts = SmallVec::from_slice(alloc, &nest.counts)?;
     let work = nest.work.copied(alloc)?;
     let gathers = copied_sums(alloc, &nest.gathers)?;
     let multiplier = copied_multiplier(alloc, &nest.multiplier)?;

@@ -1,9 +1,8 @@
 // Places of items under tensors, as sums of the loops' variables.
-ghost use Rattle.std.specs.Prelude.{◌≡◌, ◌-◌, ◌++◌, ◌∷◌, [], IfOk, All, length, map, slice_index};
+ghost use Rattle.std.specs.Prelude.{◌≡◌, ◌-◌, IfOk, All, length, map, slice_index};
 ghost use Rattle.passes.specs.Merge.{place_sum, renumbered};
 ghost use Rattle.perm_algebra.specs.Room.{HasCounts};
 ghost use Rattle.perm_algebra.specs.Views.{plain_sum};
-ghost use Rattle.tensor_paths.specs.Path.{count_of};
 ghost use Rattle.term_merge.specs.Placed.{CanName};
 
 use memory::NoMemory;
@@ -11,27 +10,6 @@ use perm_algebra::{Affine, copy, join, scale_sum};
 use sigma_spl::size_of_whole;
 use std::alloc::Global;
 use tensor_paths::Tensor;
-
-/// How often the loop of each tensor runs.
-pub(crate) fn counts(alloc: Global, path: &[Tensor]) -> Result<Vec<u64>, NoMemory>
-    ensures { IfOk result (λ counts. counts.items ≡ map count_of path.now) }
-{
-    let mut counts = Vec::new(alloc);
-    for tensor in path {
-        counts.push(tensor.count())?;
-    }
-    Ok(counts)
-}
-
-/// The list, and the number twice.
-pub(crate) fn with_two(alloc: Global, list: &[u64], number: u64) -> Result<Vec<u64>, NoMemory>
-    ensures { IfOk result (λ longer. longer.items ≡ list.now ++ number ∷ number ∷ []) }
-{
-    let mut longer = list.to_vec(alloc)?;
-    longer.push(number)?;
-    longer.push(number)?;
-    Ok(longer)
-}
 
 /// The place of each item in the copy that the variables of the path name.
 pub(crate) fn all_placed(

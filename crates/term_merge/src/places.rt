@@ -15,8 +15,9 @@ ghost use Rattle.term_merge.specs.Tests.{can_load, can_store};
 use crate::nests::copied_nest;
 use index_fn::Index;
 use memory::NoMemory;
-use passes::Nest;
+use passes::{Nest, limits};
 use perm_algebra::Affine;
+use smallvec::SmallVec;
 use std::alloc::Global;
 use sum_limits::{Limits, simplify_within};
 
@@ -47,15 +48,12 @@ fn simplified_sums(
 }
 
 /// What the variables of a nest run below.
-pub(crate) fn limits_of(alloc: Global, nest: &Nest) -> Result<Vec<u64>, NoMemory>
+pub(crate) fn limits_of(alloc: Global, nest: &Nest) -> Result<SmallVec<u64, 10>, NoMemory>
     requires { IsReadyNest (plain_nest nest.now) }
     ensures { IfOk result (λ counts. counts.items ≡ nest.now.counts.items ++ work_size (plain_nest nest.now).work ∷ work_size (plain_nest nest.now).work ∷ []) }
 {
-    let mut counts = nest.counts.as_slice().to_vec(alloc)?;
-    let size = nest.work.size();
-    counts.push(size)?;
-    counts.push(size)?;
-    Ok(counts)
+    let limits = limits(alloc, &nest.counts, nest.work.size())?;
+    Ok(limits)
 }
 
 // A nest with a gather in its loads.
