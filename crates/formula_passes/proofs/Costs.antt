@@ -4,7 +4,7 @@ use Rattle.std.specs.Prelude.{◌==◌, max}
 use Rattle.std.proofs.Math.Nat.{mul-le-mul, mul-le-mul_left}
 use Rattle.code_laws.specs.Lanes.{operations}
 use Rattle.code_laws.proofs.ByLane.{weight_of_one}
-use Rattle.kernel_gen.specs.Kernel.{kernel_cost, kernel_of, product_cost, products_cost}
+use Rattle.kernel_gen.specs.Kernel.{AllowsRoot, kernel_cost, kernel_of, product_cost, products_cost}
 use Rattle.kernel_gen.proofs.Kernels.{firsts}
 use Rattle.kernel_gen.proofs.Pieces.{DoesAt}
 use Rattle.matrix_meaning.specs.declared.Kind.{Kind}
@@ -13,7 +13,6 @@ use Rattle.matrix_meaning.specs.Kind.{entry_of, transform}
 use Rattle.operators.specs.Sum.{sum_below}
 use Rattle.pass_actions.specs.Acts.{nest_registers, pass_registers, with_multiplier}
 use Rattle.pass_actions.specs.Costs.{pass_cost, pass_loads, work_cost, work_loads}
-use Rattle.pass_actions.specs.Laws.{IsRootOf}
 use Rattle.pass_actions.specs.Machine.{plain_machine}
 use Rattle.pass_actions.proofs.Kernels.{kernel-runs}
 use Rattle.pass_programs.specs.Program.{tables_through}
@@ -52,7 +51,7 @@ leaf-size (suc d) x h =
 leaf-cost : (m d root : ℕ) (kind : Kind) → kernel_cost 1 m kind (leaf d) root + d ≤ 2 * (d * d)
 leaf-cost m d root kind = leaf-size d (products_cost 1 m 0 (entry_of kind m root) d d) (products-le m d (entry_of kind m root))
 
-pub leaf-root : (m root d : ℕ) (kind : Kind) → IsRootOf m root kind (leaf d)
+pub leaf-root : (m root d : ℕ) (kind : Kind) → AllowsRoot m root kind (leaf d)
 leaf-root m root d Dft = tt
 leaf-root m root d Wht = tt
 

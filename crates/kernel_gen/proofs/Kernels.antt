@@ -6,14 +6,16 @@ use Rattle.code_laws.proofs.ByLane.{arithmetic_is_by_lane, weighted_is_by_lane}
 use Rattle.icode.specs.Machine.{Local, effects, counts_of, weighted}
 use Rattle.code_laws.proofs.Placing.{slice_index-map, length-mapped}
 use Rattle.matrix_meaning.specs.declared.Kind.{Kind}
+use Rattle.matrix_meaning.specs.declared.Kind.TheVariants.{Dft, Wht}
 use Rattle.matrix_meaning.specs.Kind.{transform}
 use Rattle.operators.specs.Sum.{list_below}
 use Rattle.operators.proofs.Lists.{length-list_below, at-list_below}
-use Rattle.tree_model.specs.Breakdown.{Breakdown, size_of, IsWellFormed}
-use Rattle.kernel_gen.specs.Kernel.{IsRoot, tree_make, kernel_of, kernel_cost}
-use Rattle.kernel_gen.proofs.Below.{AllBelow, AllBelow-at}
+use Rattle.tree_model.specs.Breakdown.{Breakdown, leaf, node, size_of, IsWellFormed}
+use Rattle.kernel_gen.specs.Kernel.{IsRoot, AllowsRoot, tree_make, kernel_of, kernel_cost}
+use Rattle.kernel_gen.specs.Kernels.{IsStraight}
+use Rattle.kernel_gen.proofs.Below.{AllBelow, AllBelow-all, AllBelow-at}
 use Rattle.kernel_gen.proofs.Pieces.{Does, DoesAt, AreArithmetic-more}
-use Rattle.kernel_gen.proofs.Trees.{does-tree}
+use Rattle.kernel_gen.proofs.Trees.{does-leaf, does-tree}
 
 -- the first registers
 abbrev pub firsts : ℕ → List ℕ
@@ -36,16 +38,28 @@ firsts-residues g m n small =
     let inside : i < n = rw (length-list_below n g) at within in
     rw (at-list_below n g i inside) (small i inside)))
 
+-- a root of the size is one that a rule may take apart
+pub root-any : (kind : Kind) (m : ℕ) (t : Breakdown) (w : ℕ) → IsRoot kind m (size_of t) w → AllowsRoot m w kind t
+root-any Wht m t w root = tt
+root-any Dft m (leaf d) w root = tt
+root-any Dft m (node rule a b) w root = root
+
+does-any : (m lanes lane weight : ℕ) (kind : Kind) (t : Breakdown) (w : ℕ) → 2 ≤ m → lane < lanes → IsWellFormed kind t → AllowsRoot m w kind t →
+    Does m lanes lane weight (size_of t) (size_of t) (kernel_cost weight m kind t w) (tree_make m lanes kind t w) (transform kind m (size_of t) w)
+does-any m lanes lane weight Wht t w modulus there formed root = does-tree m lanes lane weight modulus there Wht t w formed tt
+does-any m lanes lane weight Dft (leaf d) w modulus there formed root = does-leaf m lanes lane weight modulus there Dft d w formed
+does-any m lanes lane weight Dft (node rule a b) w modulus there formed root = does-tree m lanes lane weight modulus there Dft (node rule a b) w formed root
+
 -- what the kernel of a tree does in a lane
-pub kernel-does : (m lanes lane weight : ℕ) (kind : Kind) (t : Breakdown) (w : ℕ) → 2 ≤ m → lane < lanes → IsWellFormed kind t → IsRoot kind m (size_of t) w →
+pub kernel-does : (m lanes lane weight : ℕ) (kind : Kind) (t : Breakdown) (w : ℕ) → 2 ≤ m → lane < lanes → IsWellFormed kind t → AllowsRoot m w kind t →
     DoesAt m lanes lane weight (size_of t) (kernel_cost weight m kind t w) (firsts (size_of t)) (size_of t) (kernel_of m lanes kind t w) (transform kind m (size_of t) w)
 kernel-does m lanes lane weight kind t w modulus there formed root =
     let done : Does m lanes lane weight (size_of t) (size_of t) (kernel_cost weight m kind t w) (tree_make m lanes kind t w) (transform kind m (size_of t) w) =
-    does-tree m lanes lane weight modulus there kind t w formed root in
+    does-any m lanes lane weight kind t w modulus there formed root in
     done.at (firsts (size_of t)) (size_of t) (length-list_below (size_of t) _) (firsts-below (size_of t))
 
 -- in each lane its outputs are its tree's transform of the first registers, and it leaves the memory
-pub kernels_transform : (m lanes regs : ℕ) (kind : Kind) (t : Breakdown) (w : ℕ) (s : Local) → 2 ≤ m → 0 < lanes → IsWellFormed kind t → IsRoot kind m (size_of t) w →
+pub kernels_transform : (m lanes regs : ℕ) (kind : Kind) (t : Breakdown) (w : ℕ) (s : Local) → 2 ≤ m → 0 < lanes → IsWellFormed kind t → AllowsRoot m w kind t →
     (kernel_of m lanes kind t w).next ≤ regs → regs * lanes ≤ length s.registers →
     let made = kernel_of m lanes kind t w in
     let after = effects m lanes made.acts s in
@@ -70,10 +84,23 @@ kernels_transform m lanes regs kind t w s modulus some formed root room wide =
     )
 
 -- with exactly the operations that the tree costs, in each lane, where a multiplication counts as `weight` of them
-pub kernels_cost : (weight m lanes : ℕ) (kind : Kind) (t : Breakdown) (w : ℕ) → 0 < weight → 2 ≤ m → 0 < lanes → IsWellFormed kind t → IsRoot kind m (size_of t) w →
+pub kernels_cost : (weight m lanes : ℕ) (kind : Kind) (t : Breakdown) (w : ℕ) → 0 < weight → 2 ≤ m → 0 < lanes → IsWellFormed kind t → AllowsRoot m w kind t →
     weighted weight (counts_of lanes (kernel_of m lanes kind t w).acts) ≡ lanes * kernel_cost weight m kind t w
 kernels_cost weight m lanes kind t w counted modulus some formed root =
     let made = kernel_of m lanes kind t w in
     let done : DoesAt m lanes 0 weight (size_of t) (kernel_cost weight m kind t w) (firsts (size_of t)) (size_of t) made (transform kind m (size_of t) w) =
     kernel-does m lanes 0 weight kind t w modulus some formed root in
     weighted_is_by_lane weight lanes made.acts counted ∙ ap (λ n. lanes * n) done.costs
+
+-- on its own registers alone
+pub kernels_straight : (m lanes : ℕ) (kind : Kind) (t : Breakdown) (w : ℕ) → 2 ≤ m → 0 < lanes → IsWellFormed kind t → AllowsRoot m w kind t → IsStraight lanes (size_of t) (kernel_of m lanes kind t w)
+kernels_straight m lanes kind t w modulus some formed root =
+    let made = kernel_of m lanes kind t w in
+    let done : DoesAt m lanes 0 1 (size_of t) (kernel_cost 1 m kind t w) (firsts (size_of t)) (size_of t) made (transform kind m (size_of t) w) =
+    kernel-does m lanes 0 1 kind t w modulus some formed root in
+    record {
+      arithmetic = done.arithmetic;
+      constant = done.constant;
+      outputs = AllBelow-all made.next made.outs done.below;
+      registers = done.next_is;
+    }

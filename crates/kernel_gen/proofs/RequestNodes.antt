@@ -11,12 +11,10 @@ use Rattle.ring_mod.proofs.Powers.{power_mod_of_power}
 use Rattle.tree_model.specs.Breakdown.{Breakdown, size_of, IsWellFormed}
 use Rattle.tree_model.specs.Cost.{node_root}
 use Rattle.tree_model.proofs.Splits.{product_div}
-use Rattle.kernel_gen.specs.Kernel.{IsRoot, kernel_of, kernel_cost, node_kernel}
+use Rattle.kernel_gen.specs.Kernel.{IsRoot, AllowsRoot, kernel_of, node_kernel}
 use Rattle.kernel_gen.specs.Making.{Made}
 use Rattle.kernel_gen.specs.Kernels.{TransformsNode, CostsNode, IsStraight}
-use Rattle.kernel_gen.proofs.Below.{AllBelow-all}
-use Rattle.kernel_gen.proofs.Kernels.{firsts, kernel-does, kernels_transform, kernels_cost}
-use Rattle.kernel_gen.proofs.Pieces.{DoesAt}
+use Rattle.kernel_gen.proofs.Kernels.{root-any, kernels_transform, kernels_cost, kernels_straight}
 use Rattle.kernel_gen.proofs.NodeCosts.{cost-same}
 
 -- the root of a part
@@ -30,31 +28,26 @@ pub root-of : (c : Request) (t : Breakdown) → IsValid c → c.size % size_of t
 root-of c t valid divides =
     part_root c.kind c.modulus c.root c.size (size_of t) _ valid.in_range.modulus.0 (product_div c.size (size_of t) divides) valid.root
 
+pub any-root : (c : Request) (t : Breakdown) → IsValid c → c.size % size_of t ≡ 0 → AllowsRoot c.modulus (node_root c (size_of t)) c.kind t
+any-root c t valid divides = root-any c.kind c.modulus t (node_root c (size_of t)) (root-of c t valid divides)
+
 some_lanes : (c : Request) → IsValid c → 0 < c.lanes
 some_lanes c valid = let lanes = valid.in_range.lanes in omega arith
 
 pub nodes_transform : (c : Request) (t : Breakdown) → IsValid c → IsWellFormed c.kind t → c.size % size_of t ≡ 0 → TransformsNode c t (node_kernel c t)
 nodes_transform c t valid formed divides regs s room wide =
-    kernels_transform c.modulus c.lanes regs c.kind t (node_root c (size_of t)) s valid.in_range.modulus.0 (some_lanes c valid) formed (root-of c t valid divides) room wide
+    kernels_transform c.modulus c.lanes regs c.kind t (node_root c (size_of t)) s valid.in_range.modulus.0 (some_lanes c valid) formed (any-root c t valid divides) room wide
 
 pub nodes_cost : (c : Request) (t : Breakdown) → IsValid c → IsWellFormed c.kind t → c.size % size_of t ≡ 0 → CostsNode c t (node_kernel c t)
 nodes_cost c t valid formed divides is =
     let size = valid.in_range.size in
     let weight = valid.in_range.weight in
-    kernels_cost c.weight c.modulus c.lanes c.kind t (node_root c (size_of t)) (omega arith) valid.in_range.modulus.0 (some_lanes c valid) formed (root-of c t valid divides)
+    kernels_cost c.weight c.modulus c.lanes c.kind t (node_root c (size_of t)) (omega arith) valid.in_range.modulus.0 (some_lanes c valid) formed (any-root c t valid divides)
     ∙ ap (λ n. c.lanes * n) (cost-same c t _ (omega arith) formed (product_div c.size (size_of t) divides) is)
 
 pub nodes_straight : (c : Request) (t : Breakdown) → IsValid c → IsWellFormed c.kind t → c.size % size_of t ≡ 0 → IsStraight c.lanes (size_of t) (node_kernel c t)
 nodes_straight c t valid formed divides =
-    let node = node_kernel c t in
-    let done : DoesAt c.modulus c.lanes 0 1 (size_of t) (kernel_cost 1 c.modulus c.kind t (node_root c (size_of t))) (firsts (size_of t)) (size_of t) node (transform c.kind c.modulus (size_of t) (node_root c (size_of t))) =
-    kernel-does c.modulus c.lanes 0 1 c.kind t (node_root c (size_of t)) valid.in_range.modulus.0 (some_lanes c valid) formed (root-of c t valid divides) in
-    record {
-      arithmetic = done.arithmetic;
-      constant = done.constant;
-      outputs = AllBelow-all node.next node.outs done.below;
-      registers = done.next_is;
-    }
+    kernels_straight c.modulus c.lanes c.kind t (node_root c (size_of t)) valid.in_range.modulus.0 (some_lanes c valid) formed (any-root c t valid divides)
 
 -- code that was written for the fields of a request
 pub written_for : (c r : Request) (t : Breakdown) (m root d : ℕ) (made : Made) → made ≡ kernel_of m r.lanes r.kind t root → r ≡ c → m ≡ r.modulus → root ≡ node_root c d → d ≡ size_of t → made ≡ node_kernel c t

@@ -133,10 +133,14 @@ module _ (m lanes lane weight : ℕ) (modulus : 2 ≤ m) (there : lane < lanes) 
   some_items Dft d formed = formed
   some_items Wht d formed = formed.0
 
+  pub does-leaf : (kind : Kind) (d w : ℕ) → IsWellFormed kind (leaf d) →
+      Does m lanes lane weight d d (kernel_cost weight m kind (leaf d) w) (tree_make m lanes kind (leaf d) w) (transform kind m d w)
+  does-leaf kind d w formed =
+      does-matrix m lanes lane weight (omega arith) there d (entry_of kind m w) (some_items kind d formed) (λ i. first_column kind m w i modulus)
+
   pub does-tree : (kind : Kind) (t : Breakdown) (w : ℕ) → IsWellFormed kind t → IsRoot kind m (size_of t) w →
       Does m lanes lane weight (size_of t) (size_of t) (kernel_cost weight m kind t w) (tree_make m lanes kind t w) (transform kind m (size_of t) w)
-  does-tree kind (leaf d) w formed root =
-      does-matrix m lanes lane weight (omega arith) there d (entry_of kind m w) (some_items kind d formed) (λ i. first_column kind m w i modulus)
+  does-tree kind (leaf d) w formed root = does-leaf kind d w formed
   does-tree Dft (node Ct a b) w formed root =
       does-ct (size_of a) (size_of b) w _ _ _ _ root
       (does-tree Dft a (power_mod m w (size_of b)) formed.1 (power_mod-part m w (size_of a) (size_of b) root))

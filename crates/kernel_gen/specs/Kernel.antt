@@ -20,6 +20,12 @@ abbrev pub IsRoot : Kind → ℕ → ℕ → ℕ → Type 0
 IsRoot Dft m n w = power_mod m w n ≡ 1 % m
 IsRoot Wht m n w = Unit {0}
 
+-- a root that a rule may take apart: any for a leaf, and for other trees one of the tree's size
+abbrev pub AllowsRoot : ℕ → ℕ → Kind → Breakdown → Type 0
+AllowsRoot m root Wht t = Unit {0}
+AllowsRoot m root Dft (leaf d) = Unit {0}
+AllowsRoot m root Dft (node rule a b) = power_mod m root (size_of a * size_of b) ≡ 1 % m
+
 -- a piece on each of s columns of r inputs
 abbrev pub columns_make : ℕ → ℕ → Maker → Maker
 columns_make r s a = then_make (pick_make (turn s r)) (then_make (rows_make s r (λ _. a)) (pick_make (turn r s)))

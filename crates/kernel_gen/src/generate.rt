@@ -3,7 +3,7 @@ ghost use Rattle.std.specs.Prelude.{◌≡◌, ◌%◌, ◌^◌, ◌<◌, ◌≤
 ghost use Rattle.operators.specs.Sum.{list_below};
 ghost use Rattle.tree_model.specs.Breakdown.{breakdown_of, size_of, HasWordSizes, IsWellFormed};
 ghost use Rattle.kernel_gen.specs.Kernel.{kernel_of, node_kernel};
-ghost use Rattle.kernel_gen.specs.Kernels.{made_of, TransformsNode, CostsNode, IsStraight};
+ghost use Rattle.kernel_gen.specs.Kernels.{made_of, CostsDefinition, CostsNode, IsStraight, TransformsBy, TransformsNode};
 
 use crate::straight::Kernel;
 use crate::writer::Writer;
@@ -52,6 +52,20 @@ pub fn tree_kernel(
         outputs,
         regs,
     })
+}
+
+/// The code of a Fourier transform of at most eight items by its definition, on one lane. The root may be any number: it need
+/// not be a root of 1.
+pub fn dft_kernel(alloc: Global, m: &Modulus, d: u64, w: u64) -> Result<Kernel, NoMemory>
+    requires { (1 ≤ d) × (d ≤ 8) }
+    ensures inputs { IfOk result (λ k. k.inputs ≡ d) }
+    ensures transforms { IfOk result (λ k. TransformsBy m.now 1 Kind.Dft d w (made_of k)) }
+    ensures cost { IfOk result (λ k. CostsDefinition m.now d w (made_of k)) }
+    ensures straight { IfOk result (λ k. IsStraight 1 d (made_of k)) }
+{
+    let _modulus = m.get();
+    let made = tree_kernel(alloc, m, 1, Kind::Dft, &Tree::Leaf(d), w)?;
+    Ok(made)
 }
 
 /// The code of a tree for a node of the request's transform: from its inputs in the first registers it leaves the node's

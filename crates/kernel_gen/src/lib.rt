@@ -8,5 +8,5 @@ mod places;
 mod straight;
 mod writer;
 
-pub use generate::{kernel, tree_kernel};
+pub use generate::{dft_kernel, kernel, tree_kernel};
 pub use straight::Kernel;

@@ -5,7 +5,7 @@ use Rattle.std.proofs.lemmas.Bool.Decides.{nat_tests}
 use Rattle.std.specs.Prelude.{◌==◌, ◌&&◌, if◌then◌else◌}
 use Rattle.formula_lower.specs.Trees.{long_work, node_work}
 use Rattle.kernel_gen.specs.Kernel.{IsRoot}
-use Rattle.kernel_gen.proofs.RequestNodes.{root-of}
+use Rattle.kernel_gen.proofs.RequestNodes.{any-root, root-of}
 use Rattle.kernel_gen.proofs.Sizes.{node_below}
 use Rattle.loop_merge.specs.Merge.{PlainPass}
 use Rattle.loop_merge.specs.Nests.{loop_work}
@@ -14,7 +14,7 @@ use Rattle.matrix_meaning.specs.declared.Kind.{Kind}
 use Rattle.matrix_meaning.specs.declared.Kind.TheVariants.{Dft, Wht}
 use Rattle.matrix_meaning.specs.declared.Request.{Request}
 use Rattle.matrix_meaning.specs.Valid.{IsValid}
-use Rattle.pass_actions.specs.Laws.{CanWork, IsRootOf}
+use Rattle.pass_actions.specs.Laws.{CanWork}
 use Rattle.passes.specs.Work.{PlainWork, kernel, rows, tile}
 use Rattle.shared_passes.specs.Shared.{framed, HasLanes, IsFramed}
 use Rattle.sigma_lower.specs.Work as lowered
@@ -146,13 +146,8 @@ module _ (c : Request) (p : PlainPass) (valid : IsValid c) (shape : IsShaped c c
   pub can-work : CanWork (machine_of c) (loop_work c p.work)
   can-work = by-work (CanWork (machine_of c)) kernels rows-work tiles
     where
-      root-for : (kind : Kind) (t : Breakdown) (w : ℕ) → IsRoot kind c.modulus (size_of t) w → IsRootOf c.modulus w kind t
-      root-for Wht t w root = tt
-      root-for Dft (leaf d) w root = tt
-      root-for Dft (node rule a b) w root = root
-
       kernels : (t : Breakdown) → p.work ≡ transforming t → is_kernel c (size_of t) ≡ true → CanWork (machine_of c) (kernel c.kind (node_root c (size_of t)) t)
-      kernels t is e = ((node-of t is).formed, root-for c.kind t (node_root c (size_of t)) (root-of c t valid (node-of t is).divides))
+      kernels t is e = ((node-of t is).formed, any-root c t valid (node-of t is).divides)
 
       rows-work : (t : Breakdown) → p.work ≡ transforming t → is_kernel c (size_of t) ≡ false → c.kind ≡ Dft → CanWork (machine_of c) (rows (node_root c (size_of t)) (size_of t))
       rows-work t is e kind = ((node-of t is).some, subst (λ k. IsRoot k c.modulus (size_of t) (node_root c (size_of t))) kind (root-of c t valid (node-of t is).divides))
