@@ -1,0 +1,7 @@
+pub mod Lasts
+pub mod Means
+pub mod Cans
+pub mod Tables
+pub mod Programs
+pub mod Adding
+pub mod Counts

@@ -1,0 +1,78 @@
+-- What joined passes do and count, and that a program can be made of them.
+use Rattle.std.specs.Prelude.{◌≡◌, ℕ, ◌+◌, ◌*◌, ◌^◌, ◌<◌, List, [], ◌∷◌, ◌++◌, length, map, slice_index, sum_by, All, None}
+use Rattle.icode.specs.Actions.{plain_code}
+use Rattle.icode.specs.Machine.{weighted, whole_counts}
+use Rattle.icode.specs.Plain.{PlainProgram}
+use Rattle.operators.specs.Operator.{scale}
+use Rattle.pass_actions.specs.Acts.{pass_registers}
+use Rattle.pass_actions.specs.Costs.{pass_cost, pass_loads}
+use Rattle.pass_actions.specs.Machine.{PlainMachine}
+use Rattle.pass_programs.specs.Contract.{CanProgram, Performs, all_passes, most_actions}
+use Rattle.passes.specs.Merged.{PlainMerged, merged_on}
+use Rattle.passes.specs.Nest.{PlainNest}
+use Rattle.joined_passes.specs.Joined.{joined, with_values}
+
+-- there is a last pass, and this holds of it
+abbrev pub LastHas : (List PlainNest → Type 0) → List (List PlainNest) → Type 0
+LastHas P [] = ⊥
+LastHas P (zs ∷ []) = P zs
+LastHas P (zs ∷ ys ∷ ps) = LastHas P (ys ∷ ps)
+
+-- no nest multiplies its items
+abbrev pub IsFree : List PlainNest → Type 0
+IsFree zs = All (λ (z : PlainNest). z.multiplier ≡ None) zs
+
+-- ---- what they do
+
+-- all is g, then a product with the value of each place, and then k, modulo any number
+abbrev pub AreInTurn : PlainMerged → List ℕ → PlainMerged → PlainMerged → Type 0
+AreInTurn g ds k all =
+    LastHas IsFree (all_passes g.phases) → k.size ≡ g.size →
+    (m : ℕ) (x : List ℕ) → 0 < m → merged_on m all x ≡ merged_on m k (scale m g.size (slice_index ds) (merged_on m g x))
+
+abbrev pub JoinedMeans : Type 0
+JoinedMeans = (g k : PlainMerged) (ds : List ℕ) → AreInTurn g ds k (joined g ds k)
+
+-- ---- programs of them
+
+-- passes for one processor and one lane, between which this diagonal can stand
+pub record CanJoin (h : PlainMachine) (g : PlainMerged) (ds : List ℕ) (k : PlainMerged) : Type 0 where
+  pub procs : h.procs ≡ 1
+  pub lanes : h.lanes ≡ 1
+  pub first : CanProgram h g
+  pub second : CanProgram h k
+  pub free : LastHas IsFree (all_passes g.phases)
+  pub size : length ds ≡ h.size
+  pub residues : All (λ d. d < h.modulus) ds
+  pub registers : LastHas (λ zs. pass_registers h (map (with_values ds) zs) < 2 ^ 20) (all_passes g.phases)
+  pub actions : most_actions h (all_passes g.phases) + h.size + most_actions h (all_passes k.phases) < 2 ^ 59
+  pub tables : 2 * (sum_by length (all_passes g.phases) + sum_by length (all_passes k.phases)) < 2 ^ 32
+
+abbrev pub JoinedCanProgram : Type 0
+JoinedCanProgram = (h : PlainMachine) (g k : PlainMerged) (ds : List ℕ) → CanJoin h g ds k → CanProgram h (joined g ds k)
+
+-- ---- what they count
+
+-- the last number grown by so many
+abbrev pub more_last : ℕ → List ℕ → List ℕ
+more_last more [] = []
+more_last more (c ∷ []) = c + more ∷ []
+more_last more (c ∷ d ∷ cs) = c ∷ more_last more (d ∷ cs)
+
+-- the operations of g and of k, and a product for each word between them; the loads of both; and a store of each word in each pass
+pub record CountsBoth (h : PlainMachine) (g k : PlainMerged) (p : PlainProgram) : Type 0 where
+  pub operations : (weight : ℕ) → 0 < weight →
+      weighted weight (whole_counts (plain_code p) 0) ≡ sum_by (pass_cost weight h.modulus) (all_passes g.phases) + weight * h.size + sum_by (pass_cost weight h.modulus) (all_passes k.phases)
+  pub loads : (whole_counts (plain_code p) 0).loads ≡ sum_by pass_loads (all_passes g.phases) + sum_by pass_loads (all_passes k.phases)
+  pub stores : (whole_counts (plain_code p) 0).stores ≡ h.size * (length (all_passes g.phases) + length (all_passes k.phases))
+
+-- pass by pass, and in a program for one processor
+pub record CountsJoined (h : PlainMachine) (g : PlainMerged) (ds : List ℕ) (k : PlainMerged) : Type 0 where
+  pub costs : (weight : ℕ) →
+      map (pass_cost weight h.modulus) (all_passes (joined g ds k).phases)
+      ≡ more_last (weight * h.size) (map (pass_cost weight h.modulus) (all_passes g.phases)) ++ map (pass_cost weight h.modulus) (all_passes k.phases)
+  pub loads : map pass_loads (all_passes (joined g ds k).phases) ≡ map pass_loads (all_passes g.phases) ++ map pass_loads (all_passes k.phases)
+  pub program : (p : PlainProgram) → h.procs ≡ 1 → Performs h (joined g ds k) p → CountsBoth h g k p
+
+abbrev pub JoinedCounts : Type 0
+JoinedCounts = (h : PlainMachine) (g k : PlainMerged) (ds : List ℕ) → CanProgram h g → LastHas IsFree (all_passes g.phases) → CountsJoined h g ds k
