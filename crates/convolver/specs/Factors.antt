@@ -7,8 +7,8 @@ use Rattle.operators.specs.Operator.{Operator}
 use Rattle.operators.specs.Sum.{list_below}
 
 -- the transform that a request asks for
-abbrev pub transform_of : Request → Operator
-transform_of r = transform r.kind r.modulus r.size r.root
+abbrev pub whole_transform : Request → Operator
+whole_transform r = transform r.kind r.modulus r.size r.root
 
 -- the transform of a list, divided by the size
 abbrev pub factors_of : Request → List ℕ → List ℕ

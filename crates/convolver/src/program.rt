@@ -7,7 +7,7 @@ ghost use Rattle.ring_mod.specs.Residue.{product_mod};
 ghost use Rattle.tree_model.specs.Admissible.{IsAdmissible};
 ghost use Rattle.tree_model.specs.Breakdown.{breakdown_of};
 ghost use Rattle.convolver.specs.Convolver.{IsConvolver};
-ghost use Rattle.convolver.specs.Factors.{factors_of, transform_of};
+ghost use Rattle.convolver.specs.Factors.{factors_of, whole_transform};
 ghost use Rattle.convolver.specs.Planned.{IsConvPlanned};
 
 use breakdown::expand;
@@ -77,7 +77,7 @@ fn list_factors(alloc: Global, c: &Ctx, tree: &Tree, h: &[u64]) -> Result<Vec<u6
 fn transform_by(alloc: Global, c: &Ctx, tree: &Tree, x: &[u64]) -> Result<Vec<u64>, NoMemory>
     requires tree { IsAdmissible c.now (breakdown_of tree.now) }
     requires vector { IsVector c.now x.now }
-    ensures value { IfOk result (λ y. y.items ≡ transform_of c.now x.now) }
+    ensures value { IfOk result (λ y. y.items ≡ whole_transform c.now x.now) }
     ensures vector { IfOk result (λ y. IsVector c.now y.items) }
 {
     let modulus = Modulus::new(c.request().modulus).unwrap();
@@ -87,12 +87,7 @@ fn transform_by(alloc: Global, c: &Ctx, tree: &Tree, x: &[u64]) -> Result<Vec<u6
 }
 
 // Each item times a factor.
-fn multiply(
-    alloc: Global,
-    modulus: &Modulus,
-    factor: u64,
-    x: &[u64],
-) -> Result<Vec<u64>, NoMemory>
+fn multiply(alloc: Global, modulus: &Modulus, factor: u64, x: &[u64]) -> Result<Vec<u64>, NoMemory>
     requires factor { factor < modulus.now }
     requires items { All (λ v. v < modulus.now) x.now }
     ensures value { IfOk result (λ y. y.items ≡ map (product_mod modulus.now factor) x.now) }
