@@ -1,6 +1,7 @@
 -- The counts of parts of a list of actions, one after another.
-use Rattle.std.proofs.Common.{◌≡◌, ℕ, suc, ◌+◌, ◌-◌, ◌*◌, ◌<◌, List, [], ◌∷◌, ◌++◌, length, refl, sym, ap, ap₂, ◌∙◌, arith, subst}
+use Rattle.std.proofs.Common.{◌≡◌, ℕ, suc, ◌+◌, ◌-◌, ◌*◌, ◌<◌, List, [], ◌∷◌, ◌++◌, length, refl, sym, ap, ap₂, ◌∙◌, arith}
 use Rattle.std.specs.Prelude.{sum_by}
+use Rattle.std.proofs.lemmas.List.Sums.{sum_by-cons}
 use Rattle.icode.specs.Machine.{counts_of, weighted}
 use Rattle.icode.specs.declared.action.Action.{Action}
 use Rattle.icode.specs.declared.action.Action.TheVariants.{Load, Store, Zero, Add, Sub, Neg, Mul, Tile}
@@ -60,7 +61,8 @@ module _ (h : PlainMachine) (procs : h.procs ≡ 1) where
       let rest = parts-count (suc t) (target_of t (length ps)) ps parts are.1 in
       let both = add-up h.lanes part (contract.joined parts) in
       record {
-        operations = λ weight some. weighted-append h.lanes weight part (contract.joined parts) ∙ ap₂ (λ a b. a + b) (alone _ _ (are.0.operations weight some)) (rest.operations weight some);
-        loads = both.loads ∙ ap₂ (λ a b. a + b) (alone _ _ are.0.loads) rest.loads;
+        operations = λ weight some.
+            weighted-append h.lanes weight part (contract.joined parts) ∙ ap₂ (λ a b. a + b) (alone _ _ (are.0.operations weight some)) (rest.operations weight some) ∙ sym (sum_by-cons (pass_cost weight h.modulus) zs ps);
+        loads = both.loads ∙ ap₂ (λ a b. a + b) (alone _ _ are.0.loads) rest.loads ∙ sym (sum_by-cons pass_loads zs ps);
         stores = both.stores ∙ ap₂ (λ a b. a + b) (alone _ _ are.0.stores) rest.stores ∙ omega arith;
       }

@@ -1,14 +1,16 @@
 -- A pass can be run and written with the values of a diagonal, too.
-use Rattle.std.proofs.Common.{◌≡◌, ℕ, ◌+◌, ◌*◌, ◌^◌, ◌<◌, ◌≤◌, List, [], ◌∷◌, length, map, refl, sym, ap, ap₂, ◌∙◌, arith, subst, inl, inr, All, Some}
+use Rattle.std.proofs.Common.{◌≡◌, ℕ, ◌+◌, ◌*◌, ◌^◌, ◌<◌, List, [], ◌∷◌, length, map, refl, sym, ap, ◌∙◌, arith, subst, inl, inr, All, Some}
 use Rattle.std.specs.Prelude.{slice_index}
 use Rattle.std.proofs.lemmas.Bool.{cases_lt}
 use Rattle.std.proofs.lemmas.List.{get_or_past}
 use Rattle.std.proofs.lemmas.List.Elements.{All-nil, All-cons, All-head, All-tail, All-map, All-weaker}
 use Rattle.pass_actions.specs.Acts.{pass_registers}
-use Rattle.pass_actions.specs.Laws.{CanRun, CanRunNest, MovesVectors}
-use Rattle.pass_actions.specs.Machine.{PlainMachine, item_of, lane_step, values_of}
-use Rattle.pass_programs.specs.Conditions.{CanWriteNest, CanWritePass, LoadsAlike}
+use Rattle.pass_actions.specs.Laws.{CanRunNest, MovesVectors}
+use Rattle.pass_actions.specs.Machine.{PlainMachine, frame_of, item_of, lane_step, loop_counts, values_of}
+use Rattle.pass_programs.specs.Conditions.{AreWithin, CanWriteNest, CanWritePass, LoadsAlike, stores_inside}
 use Rattle.passes.specs.Copies.{hits, loops_of}
+use Rattle.passes.specs.Good.{NamesItems}
+use Rattle.passes.specs.Merge.{limits_of}
 use Rattle.passes.specs.Nest.{PlainMultiplier, PlainNest, copies_of, factor_at, factor_count, store_place, values}
 use Rattle.passes.specs.Work.{PlainWork, kernel, rows, horner, tile, copy, work_size}
 use Rattle.tensor_paths.specs.Loop.{loop_at}
@@ -70,7 +72,10 @@ module _ (h : PlainMachine) (lanes : h.lanes ≡ 1) (high : h.size < 2 ^ 32) (so
       record {
         gathers = can.gathers;
         scatters = can.scatters;
-        multiplier = λ d is. of-some _ (diagonal z) d is (can.scatters.0, can.scatters.1, omega (arith, size, some), omega (arith, size, high));
+        multiplier = λ d is.
+            of-some
+            (λ e. NamesItems z.work e.places × AreWithin (limits_of z) (frame_of h z.work) (length (loop_counts h z) + stores_inside z.work) e.places × (0 < factor_count e.factors) × (factor_count e.factors < 2 ^ 32))
+            (diagonal z) d is (can.scatters.0, can.scatters.1, omega (arith, size, some), omega (arith, size, high));
         alike = alike-with ds z z.work can.alike;
         items = can.items;
         shallow = can.shallow;

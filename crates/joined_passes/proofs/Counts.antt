@@ -1,16 +1,16 @@
 -- Joined passes count what both parts do, and a product for each word between them.
-use Rattle.std.proofs.Common.{◌≡◌, ℕ, ◌+◌, ◌*◌, ◌<◌, List, [], ◌∷◌, ◌++◌, length, map, refl, sym, ap, ap₂, ◌∙◌, arith, subst, append-nil, length-append, Option, None, All, flat_map}
+use Rattle.std.proofs.Common.{◌≡◌, ℕ, ◌+◌, ◌*◌, List, [], ◌∷◌, ◌++◌, length, map, refl, sym, ap, ap₂, ◌∙◌, arith, subst, append-nil, length-append, Option, None, All, flat_map}
 use Rattle.std.specs.Prelude.{sum_by}
 use Rattle.std.specs.List.{range_with_len}
 use Rattle.std.proofs.lemmas.List.{length-map, map-append}
 use Rattle.std.proofs.lemmas.List.Elements.{All-head, All-tail}
-use Rattle.std.proofs.lemmas.List.Sums.{sum_by-append}
+use Rattle.std.proofs.lemmas.List.Sums.{sum_by-append, sum_by-cons}
 use Rattle.icode.specs.Actions.{plain_code}
-use Rattle.icode.specs.Machine.{acts, counts_of, weighted, whole_counts}
+use Rattle.icode.specs.Machine.{acts, counts_of, weighted}
 use Rattle.icode.specs.Plain.{PlainProgram}
 use Rattle.icode.specs.declared.action.Action.{Action}
 use Rattle.icode.specs.declared.program.Array.TheVariants.{X}
-use Rattle.pass_actions.specs.Costs.{pass_cost, pass_loads, work_cost}
+use Rattle.pass_actions.specs.Costs.{pass_cost, pass_loads, work_cost, work_loads}
 use Rattle.pass_actions.specs.Laws.{CanRun, CanRunNest}
 use Rattle.pass_actions.specs.Machine.{PlainMachine}
 use Rattle.pass_programs.specs.Conditions.{CanWritePass}
@@ -40,49 +40,59 @@ module _ (h : PlainMachine) (ds : List ℕ) where
       let turned : c * (w * s) ≡ w * (c * s) = omega arith in
       omega (arith, is, first, second, turned)
 
-  nests-cost : (weight : ℕ) (zs : List PlainNest) → IsFree zs → pass_cost weight h.modulus (map (with_values ds) zs) ≡ pass_cost weight h.modulus zs + weight * items_of (map (copies_of h.modulus) zs)
-  nests-cost weight [] free = omega arith
-  nests-cost weight (z ∷ zs) free =
-      more-cost (copies_in z.counts) (work_cost weight h.modulus z.work) (work_size z.work) _ _ weight _ (nests-cost weight zs (All-tail (λ (y : PlainNest). y.multiplier ≡ None) z zs free))
+  costs-with : (weight : ℕ) (zs : List PlainNest) → IsFree zs → pass_cost weight h.modulus (map (with_values ds) zs) ≡ pass_cost weight h.modulus zs + weight * items_of (map (copies_of h.modulus) zs)
+  costs-with weight [] free = omega arith
+  costs-with weight (z ∷ zs) free =
+      more-cost (copies_in z.counts) (work_cost weight h.modulus z.work) (work_size z.work) _ _ weight _ (costs-with weight zs (All-tail (λ (y : PlainNest). y.multiplier ≡ None) z zs free))
       ∙ ap
       (λ (o : Option PlainMultiplier).
       copies_in z.counts * (work_cost weight h.modulus z.work + multiplier_cost weight o z.work) + pass_cost weight h.modulus zs + weight * (copies_in z.counts * work_size z.work + items_of (map (copies_of h.modulus) zs)))
       (sym (All-head (λ (y : PlainNest). y.multiplier ≡ None) z zs free))
 
-  pass-cost : (weight : ℕ) (zs : List PlainNest) → CanRun h zs → IsFree zs → pass_cost weight h.modulus (map (with_values ds) zs) ≡ pass_cost weight h.modulus zs + weight * h.size
-  pass-cost weight zs can free = nests-cost weight zs free ∙ ap (λ n. pass_cost weight h.modulus zs + weight * n) (items-once h.size (map (copies_of h.modulus) zs) (inside-all zs can.nests) can.once)
+  cost-with : (weight : ℕ) (zs : List PlainNest) → CanRun h zs → IsFree zs → pass_cost weight h.modulus (map (with_values ds) zs) ≡ pass_cost weight h.modulus zs + weight * h.size
+  cost-with weight zs can free = costs-with weight zs free ∙ ap (λ n. pass_cost weight h.modulus zs + weight * n) (items-once h.size (map (copies_of h.modulus) zs) (inside-all zs can.nests) can.once)
 
-  pass-loads : (zs : List PlainNest) → pass_loads (map (with_values ds) zs) ≡ pass_loads zs
-  pass-loads [] = refl
-  pass-loads (z ∷ zs) = ap (λ n. _ + n) (pass-loads zs)
+  loads-with : (zs : List PlainNest) → pass_loads (map (with_values ds) zs) ≡ pass_loads zs
+  loads-with [] = refl
+  loads-with (z ∷ zs) = ap (λ n. copies_in z.counts * work_loads z.work + n) (loads-with zs)
 
   -- ---- the passes of the first part
 
   last-costs : (weight : ℕ) (ps : List (List PlainNest)) → All (CanWritePass h) ps → LastHas IsFree ps → map (pass_cost weight h.modulus) (multiplied_last ds ps) ≡ more_last (weight * h.size) (map (pass_cost weight h.modulus) ps)
   last-costs weight [] can free = absurd free
-  last-costs weight (zs ∷ []) can free = ap (λ n. n ∷ []) (pass-cost weight zs (All-head (CanWritePass h) zs [] can).runs free)
+  last-costs weight (zs ∷ []) can free = ap (λ n. n ∷ []) (cost-with weight zs (All-head (CanWritePass h) zs [] can).runs free)
   last-costs weight (zs ∷ ys ∷ ps) can free = ap (λ ns. pass_cost weight h.modulus zs ∷ ns) (last-costs weight (ys ∷ ps) (All-tail (CanWritePass h) zs (ys ∷ ps) can) free)
 
   last-loads : (ps : List (List PlainNest)) → map pass_loads (multiplied_last ds ps) ≡ map pass_loads ps
   last-loads [] = refl
-  last-loads (zs ∷ []) = ap (λ n. n ∷ []) (pass-loads zs)
+  last-loads (zs ∷ []) = ap (λ n. n ∷ []) (loads-with zs)
   last-loads (zs ∷ ys ∷ ps) = ap (λ ns. pass_loads zs ∷ ns) (last-loads (ys ∷ ps))
 
   sum-costs : (weight : ℕ) (ps : List (List PlainNest)) → All (CanWritePass h) ps → LastHas IsFree ps → sum_by (pass_cost weight h.modulus) (multiplied_last ds ps) ≡ sum_by (pass_cost weight h.modulus) ps + weight * h.size
   sum-costs weight [] can free = absurd free
-  sum-costs weight (zs ∷ []) can free = let one = pass-cost weight zs (All-head (CanWritePass h) zs [] can).runs free in omega (arith, one)
-  sum-costs weight (zs ∷ ys ∷ ps) can free = let rest = sum-costs weight (ys ∷ ps) (All-tail (CanWritePass h) zs (ys ∷ ps) can) free in omega (arith, rest)
+  sum-costs weight (zs ∷ []) can free = ap (λ n. 0 + n) (cost-with weight zs (All-head (CanWritePass h) zs [] can).runs free) ∙ omega arith
+  sum-costs weight (zs ∷ ys ∷ ps) can free =
+      let cost : List PlainNest → ℕ = pass_cost weight h.modulus in
+      let rest = sum-costs weight (ys ∷ ps) (All-tail (CanWritePass h) zs (ys ∷ ps) can) free in
+      let before = sum_by-cons cost zs (ys ∷ ps) in
+      let after = sum_by-cons cost zs (multiplied_last ds (ys ∷ ps)) in
+      omega (arith, rest, before, after)
 
   sum-loads : (ps : List (List PlainNest)) → sum_by pass_loads (multiplied_last ds ps) ≡ sum_by pass_loads ps
   sum-loads [] = refl
-  sum-loads (zs ∷ []) = ap (λ n. n + 0) (pass-loads zs)
-  sum-loads (zs ∷ ys ∷ ps) = ap (λ n. pass_loads zs + n) (sum-loads (ys ∷ ps))
+  sum-loads (zs ∷ []) = ap (λ n. 0 + n) (loads-with zs)
+  sum-loads (zs ∷ ys ∷ ps) = sum_by-cons pass_loads zs (multiplied_last ds (ys ∷ ps)) ∙ ap (λ n. pass_loads zs + n) (sum-loads (ys ∷ ps)) ∙ sym (sum_by-cons pass_loads zs (ys ∷ ps))
 
   -- ---- actions
 
   most-is : (ps : List (List PlainNest)) → most_actions h ps ≡ sum_by (pass_cost 1 h.modulus) ps + sum_by pass_loads ps + 2 * h.size * length ps
   most-is [] = omega arith
-  most-is (zs ∷ ps) = let rest = most-is ps in let turned : 2 * h.size * (1 + length ps) ≡ 2 * h.size + 2 * h.size * length ps = omega arith in omega (arith, rest, turned)
+  most-is (zs ∷ ps) =
+      let rest = most-is ps in
+      let costs = sum_by-cons (pass_cost 1 h.modulus) zs ps in
+      let loads = sum_by-cons pass_loads zs ps in
+      let turned : 2 * h.size * (1 + length ps) ≡ 2 * h.size + 2 * h.size * length ps = omega arith in
+      omega (arith, rest, costs, loads, turned)
 
   pub most-joined : (ps qs : List (List PlainNest)) → All (CanWritePass h) ps → LastHas IsFree ps → most_actions h (multiplied_last ds ps ++ qs) ≡ most_actions h ps + h.size + most_actions h qs
   most-joined ps qs can free =
@@ -103,8 +113,10 @@ listed-counts : (h : PlainMachine) (g : PlainMerged) (actions : List Action) →
 listed-counts h g actions procs listed = subst (CountsPasses h (all_passes g.phases)) listed.whole (parts-count h procs 0 X (all_passes g.phases) listed.parts listed.each)
 
 -- what the one processor executes in all
-pub whole-actions : (h : PlainMachine) (g : PlainMerged) (p : PlainProgram) → h.procs ≡ 1 → Performs h g p →
-    CountsPasses h (all_passes g.phases) (flat_map (λ phase. acts (plain_code p) phase 0) (range_with_len 0 (length (plain_code p).lists)))
+abbrev executed : PlainProgram → List Action
+executed p = flat_map (λ phase. acts (plain_code p) phase 0) (range_with_len 0 (length (plain_code p).lists))
+
+whole-actions : (h : PlainMachine) (g : PlainMerged) (p : PlainProgram) → h.procs ≡ 1 → Performs h g p → CountsPasses h (all_passes g.phases) (executed p)
 whole-actions h g p procs performs =
     let long : length (plain_code p).lists ≡ length g.phases = length-map p.phases _ ∙ performs.phases in
     subst (λ n. CountsPasses h (all_passes g.phases) (flat_map (λ phase. acts (plain_code p) phase 0) (range_with_len 0 n))) (sym long)
@@ -122,13 +134,14 @@ module _ (h : PlainMachine) (g k : PlainMerged) (ds : List ℕ) (can : CanProgra
 
   program : (p : PlainProgram) → h.procs ≡ 1 → Performs h (joined g ds k) p → CountsBoth h g k p
   program p procs performs =
-      let all : CountsPasses h (multiplied_last ds first ++ second) _ = subst (λ ps. CountsPasses h ps _) whole (whole-actions h (joined g ds k) p procs performs) in
+      let all : CountsPasses h (multiplied_last ds first ++ second) (executed p) = subst (λ ps. CountsPasses h ps (executed p)) whole (whole-actions h (joined g ds k) p procs performs) in
       record {
         operations = λ weight some.
-            ap (λ n. weighted weight (counts_of n _)) performs.lanes ∙ all.operations weight some ∙ sum_by-append (pass_cost weight h.modulus) (multiplied_last ds first) second
+            ap (λ n. weighted weight (counts_of n (executed p))) performs.lanes ∙ all.operations weight some ∙ sum_by-append (pass_cost weight h.modulus) (multiplied_last ds first) second
             ∙ ap (λ n. n + sum_by (pass_cost weight h.modulus) second) (sum-costs h ds weight first can.passes free);
-        loads = ap (λ n. (counts_of n _).loads) performs.lanes ∙ all.loads ∙ sum_by-append pass_loads (multiplied_last ds first) second ∙ ap (λ n. n + sum_by pass_loads second) (sum-loads h ds first);
-        stores = ap (λ n. (counts_of n _).stores) performs.lanes ∙ all.stores ∙ ap (λ n. h.size * n) (length-append (multiplied_last ds first) second ∙ ap (λ n. n + length second) (length-last ds first));
+        loads = ap (λ n. (counts_of n (executed p)).loads) performs.lanes ∙ all.loads ∙ sum_by-append pass_loads (multiplied_last ds first) second ∙ ap (λ n. n + sum_by pass_loads second) (sum-loads h ds first);
+        stores = ap (λ n. (counts_of n (executed p)).stores) performs.lanes ∙ all.stores
+            ∙ ap (λ n. h.size * n) (length-append (multiplied_last ds first) second ∙ ap (λ n. n + length second) (length-last ds first));
       }
 
   pub counts-joined : CountsJoined h g ds k

@@ -1,12 +1,8 @@
 -- The last of some passes.
-use Rattle.std.proofs.Common.{◌≡◌, ℕ, suc, ◌+◌, ◌<◌, List, [], ◌∷◌, ◌++◌, length, map, refl, sym, ap, ◌∙◌, arith}
+use Rattle.std.proofs.Common.{◌≡◌, ℕ, suc, List, [], ◌∷◌, ◌++◌, length, map, refl, sym, ap, ◌∙◌}
 use Rattle.std.proofs.lemmas.List.{map-append}
 use Rattle.passes.specs.Nest.{PlainNest}
-use Rattle.passes.specs.Views.{plain_nest}
-use Rattle.passes.specs.declared.nest.Nest.{Nest}
 use Rattle.joined_passes.specs.Joined.{multiplied_last, with_values}
-use Rattle.joined_passes.specs.Laws.{LastHas}
-use Rattle.joined_passes.specs.Views.{plain_passes}
 
 last-append : (ds : List ℕ) (ps : List (List PlainNest)) (zs : List PlainNest) → multiplied_last ds (ps ++ zs ∷ []) ≡ ps ++ map (with_values ds) zs ∷ []
 last-append ds [] zs = refl

@@ -1,4 +1,5 @@
 pub mod Lasts
+pub mod Phases
 pub mod Means
 pub mod Cans
 pub mod Tables

@@ -6,12 +6,12 @@ use Rattle.operators.specs.Operator.{scale}
 use Rattle.operators.specs.Sum.{list_below}
 use Rattle.pass_programs.specs.Contract.{all_passes}
 use Rattle.passes.specs.Copies.{pass_on, multiplied_by}
-use Rattle.passes.specs.Merged.{phase_on, phases_on, merged_on}
+use Rattle.passes.specs.Merged.{PlainMerged, phase_on, phases_on, merged_on}
 use Rattle.passes.specs.Nest.{PlainMultiplier, PlainNest, copies_of, load_place, multiplied_on, nests_on, store_place}
 use Rattle.passes.specs.Work.{work_size}
 use Rattle.passes.proofs.CopiesMerge.{loops_scale}
-use Rattle.joined_passes.specs.Joined.{multiplied_last, with_values}
-use Rattle.joined_passes.specs.Laws.{IsFree, JoinedMeans, LastHas}
+use Rattle.joined_passes.specs.Joined.{joined, multiplied_last, with_values}
+use Rattle.joined_passes.specs.Laws.{AreInTurn, IsFree, JoinedMeans, LastHas}
 
 -- ---- passes one after another
 
@@ -60,3 +60,7 @@ joined_means g k ds free size m x positive =
     ∙ ap (phase_on m n second) (last-scaled m n ds first x positive free ∙ ap (scale m n (slice_index ds)) (sym (one-phase m n g.phases x)))
     ∙ sym (one-phase m n k.phases (scale m n (slice_index ds) (merged_on m g x)))
     ∙ ap (λ s. phases_on m s k.phases (scale m n (slice_index ds) (merged_on m g x))) (sym size)
+
+-- so does what has their phases
+pub are_in_turn : (g k : PlainMerged) (ds : List ℕ) (phases : List (List (List PlainNest))) → phases ≡ (joined g ds k).phases → AreInTurn g ds k (record { size = g.size; procs = g.procs; lanes = g.lanes; phases = phases })
+are_in_turn g k ds phases is free size m x positive = ap (λ ps. phases_on m g.size ps x) is ∙ joined_means g k ds free size m x positive

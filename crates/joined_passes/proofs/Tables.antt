@@ -1,6 +1,7 @@
 -- How many tables passes have: at most two for each nest.
-use Rattle.std.proofs.Common.{◌≡◌, ℕ, suc, ◌+◌, ◌*◌, ◌≤◌, Bool, true, false, List, [], ◌∷◌, length, map, Option, Some, None, refl, ap, arith, if◌then◌else◌}
+use Rattle.std.proofs.Common.{◌≡◌, ℕ, suc, ◌+◌, ◌*◌, ◌≤◌, Bool, true, false, List, [], ◌∷◌, length, map, Option, Some, None, refl, sym, ap, ◌∙◌, arith, if◌then◌else◌}
 use Rattle.std.specs.Prelude.{sum_by}
+use Rattle.std.proofs.lemmas.List.Sums.{sum_by-cons}
 use Rattle.pass_programs.specs.Program.{tables_through}
 use Rattle.pass_programs.specs.Statements.{diagonal_of, is_table, powers_of, tables_after, tables_of_multiplier, tables_of_nest, tables_of_work, with_table}
 use Rattle.passes.specs.Nest.{PlainMultiplier, PlainNest}
@@ -39,7 +40,8 @@ passes-grown m [] tables = omega arith
 passes-grown m (zs ∷ ps) tables =
     let first = pass-grown m zs tables in
     let rest = passes-grown m ps (tables_after m zs tables) in
-    omega (arith, first, rest)
+    let all = sum_by-cons length zs ps in
+    omega (arith, first, rest, all)
 
 -- a diagonal adds no nest
 nests-with : (ds : List ℕ) (zs : List PlainNest) → length (map (with_values ds) zs) ≡ length zs
@@ -48,5 +50,5 @@ nests-with ds (z ∷ zs) = ap suc (nests-with ds zs)
 
 pub nests-last : (ds : List ℕ) (ps : List (List PlainNest)) → sum_by length (multiplied_last ds ps) ≡ sum_by length ps
 nests-last ds [] = refl
-nests-last ds (zs ∷ []) = ap (λ n. n + 0) (nests-with ds zs)
-nests-last ds (zs ∷ ys ∷ ps) = ap (λ n. length zs + n) (nests-last ds (ys ∷ ps))
+nests-last ds (zs ∷ []) = ap (λ n. 0 + n) (nests-with ds zs)
+nests-last ds (zs ∷ ys ∷ ps) = sum_by-cons length zs (multiplied_last ds (ys ∷ ps)) ∙ ap (λ n. length zs + n) (nests-last ds (ys ∷ ps)) ∙ sym (sum_by-cons length zs (ys ∷ ps))

@@ -56,7 +56,7 @@ JoinedCanProgram = (h : PlainMachine) (g k : PlainMerged) (ds : List ℕ) → Ca
 -- the last number grown by so many
 abbrev pub more_last : ℕ → List ℕ → List ℕ
 more_last more [] = []
-more_last more (c ∷ []) = c + more ∷ []
+more_last more (c ∷ []) = (c + more) ∷ []
 more_last more (c ∷ d ∷ cs) = c ∷ more_last more (d ∷ cs)
 
 -- the operations of g and of k, and a product for each word between them; the loads of both; and a store of each word in each pass
