@@ -2,11 +2,12 @@
 //! turns, shares no line, and executes exactly the operations of the cheapest tree.
 #![tactic(auto)]
 
-ghost use Rattle.std.specs.Prelude.{◌≡◌, ◌≢◌, false, Ok, Err, IfOk, IfErr, OnOk, OnErr};
+ghost use Rattle.std.specs.Prelude.{◌≡◌, ◌≢◌, false, Ok, Err, IfOk, IfErr, IfNone, IfSome, OnOk, OnErr};
 ghost use Rattle.matrix_meaning.specs.Valid.{IsInRange, IsValid};
 ghost use Rattle.formula_lower.specs.Merged.{tree_merged};
 ghost use Rattle.icode.specs.Program.{plain_program};
 ghost use Rattle.pass_programs.specs.Contract.{Performs};
+ghost use Rattle.passes.specs.Views.{plain_merged};
 ghost use Rattle.tree_model.specs.Admissible.{IsAdmissible};
 ghost use Rattle.tree_model.specs.Breakdown.{breakdown_of};
 ghost use Rattle.tree_model.specs.Cost.{cost_of};
@@ -19,6 +20,7 @@ use icode::program::Program;
 use loop_merge::merge;
 use matrix_meaning::{Kind, Request};
 use memory::NoMemory;
+use passes::Merged;
 use plan_search::{Plan, PlanError, best};
 use program_emit::emit_on;
 use ring_mod::Modulus;
@@ -75,6 +77,22 @@ impl From<PlanError> for GenerateFault {
     }
 }
 
+/// The root to the power of the size, where it is not 1. Only a Fourier transform has a root.
+pub fn wrong_power(request: &Request) -> Option<u64>
+    requires { IsInRange request.now }
+    ensures rooted { IfNone result (IsRooted request.now) }
+    ensures valid { IfNone result (IsValid request.now) }
+    ensures other { IfSome result (λ power. has_root request.now.kind (root_power request.now) ≡ false) }
+    ensures power { IfSome result (λ power. power ≡ root_power request.now) }
+{
+    if request.kind == Kind::Wht {
+        return None;
+    }
+    let modulus = Modulus::new(request.modulus).unwrap();
+    let power = modulus.pow(request.root, request.size);
+    if power == 1 { None } else { Some(power) }
+}
+
 // The root to the power of the size is 1, or this is the power.
 fn check_root(request: &Request) -> Result<(), GenerateFault>
     requires { IsInRange request.now }
@@ -83,14 +101,10 @@ fn check_root(request: &Request) -> Result<(), GenerateFault>
     ensures other { OnErr result (has_root request.now.kind (root_power request.now) ≡ false) }
     ensures power { IfErr result (λ cause. cause ≡ fault.Root (root_power request.now)) }
 {
-    if request.kind == Kind::Dft {
-        let modulus = Modulus::new(request.modulus).unwrap();
-        let power = modulus.pow(request.root, request.size);
-        if power != 1 {
-            return Err(GenerateFault::Root { power });
-        }
+    match wrong_power(request) {
+        None => Ok(()),
+        Some(power) => Err(GenerateFault::Root { power }),
     }
-    Ok(())
 }
 
 /// Whether some program computes the request's transform, whatever its cost; or the first cause why none does.
@@ -136,18 +150,27 @@ pub fn generate(alloc: Global, request: &Request) -> Result<Product, GenerateFau
     Ok(Product { plan, program })
 }
 
-// The program of a tree: its products of tensors, cut for processors and lanes, become loops, the loops are merged, and
-// what is merged is written as code.
+// The program of a tree: its merged passes, written as code.
 fn tree_program(alloc: Global, c: &Ctx, tree: &Tree) -> Result<Program, NoMemory>
     requires { IsAdmissible c.now (breakdown_of tree.now) }
     ensures { IfOk result (λ p. Performs (machine_of c.now) (tree_merged c.now (breakdown_of tree.now)) (plain_program p)) }
 {
     let request = c.request();
+    let merged = merge_tree(alloc, c, tree)?;
+    let modulus = Modulus::new(request.modulus).unwrap();
+    let program = emit_on(alloc, &modulus, request.line, &merged)?;
+    Ok(program)
+}
+
+/// The merged passes of a tree: its products of tensors, cut for processors and lanes, become loops, and the loops are
+/// merged.
+pub fn merge_tree(alloc: Global, c: &Ctx, tree: &Tree) -> Result<Merged, NoMemory>
+    requires { IsAdmissible c.now (breakdown_of tree.now) }
+    ensures { IfOk result (λ merged. plain_merged merged ≡ tree_merged c.now (breakdown_of tree.now)) }
+{
     let blocks = to_smp(alloc, c, tree)?;
     let vectors = to_vec(alloc, c, blocks)?;
     let loops = lower(alloc, c, &vectors)?;
     let merged = merge(alloc, c, &loops)?;
-    let modulus = Modulus::new(request.modulus).unwrap();
-    let program = emit_on(alloc, &modulus, request.line, &merged)?;
-    Ok(program)
+    Ok(merged)
 }

@@ -37,7 +37,7 @@ use Rattle.tree_passes.proofs.Counting.{trees_count}
 module _ (c : Request) where
   -- ---- parts
 
-  count-same : (ps : List (List PlainNest)) (passes : List Pass) → AllCount c ps passes → length ps ≡ length passes
+  pub count-same : (ps : List (List PlainNest)) (passes : List Pass) → AllCount c ps passes → length ps ≡ length passes
   count-same [] [] h = refl
   count-same [] (pass ∷ passes) h = absurd h
   count-same (zs ∷ ps) [] h = absurd h
@@ -104,6 +104,16 @@ phases-count c t = pick (c.procs == 1) _ _ _
     pick true one first second = refl
     pick false one first second = refl
 
+-- the root of the whole is the request's
+pub root-whole : (c : Request) → IsValid c → node_root c c.size ≡ c.root
+unfolding power_mod
+root-whole c valid =
+    let some = valid.in_range.size in
+    let one : c.size / c.size ≡ 1 = div_self (omega (arith, some)) in
+    ap (λ e. c.root ^ e % c.modulus) one
+    ∙ ap (λ v. v % c.modulus) (pow-suc c.root 0 ∙ ap (λ v. v * c.root) (pow-zero c.root) ∙ one-mul c.root)
+    ∙ mod-eq_of_lt valid.in_range.root
+
 module _ (c : Request) (t : Breakdown) (p : PlainProgram) (valid : IsValid c) (h : IsAdmissible c t) (performs : Performs (machine_of c) (tree_merged c t) p) where
   lists-length : length (plain_code p).lists ≡ length (tree_merged c t).phases
   lists-length = length-map p.phases _ ∙ performs.phases
@@ -123,15 +133,6 @@ module _ (c : Request) (t : Breakdown) (p : PlainProgram) (valid : IsValid c) (h
   pub lean-code : IsLeanCode c t (plain_code p)
   lean-code = record { phases = lists-length ∙ phases-count c t; lists = lean-list }
 
-  root-whole : node_root c c.size ≡ c.root
-  unfolding power_mod
-  root-whole =
-      let some = valid.in_range.size in
-      let one : c.size / c.size ≡ 1 = div_self (omega (arith, some)) in
-      ap (λ e. c.root ^ e % c.modulus) one
-      ∙ ap (λ v. v % c.modulus) (pow-suc c.root 0 ∙ ap (λ v. v * c.root) (pow-zero c.root) ∙ one-mul c.root)
-      ∙ mod-eq_of_lt valid.in_range.root
-
   pub computes : Computes c t p
   computes =
       record {
@@ -139,7 +140,7 @@ module _ (c : Request) (t : Breakdown) (p : PlainProgram) (valid : IsValid c) (h
         fits = performs.fits;
         results = λ x size residues.
             let vector : IsVector c.modulus c.size x = record { size = size; residues = λ i low. residues i 0 (omega (arith, low, size)) } in
-            performs.results x vector ∙ trees_keep c t x valid h vector ∙ ap (λ w. transform c.kind c.modulus c.size w x) root-whole;
+            performs.results x vector ∙ trees_keep c t x valid h vector ∙ ap (λ w. transform c.kind c.modulus c.size w x) (root-whole c valid);
         apart = performs.apart;
         shares = λ q low.
             subst (λ n. IsShare c t (counts_of n (flat_map (λ phase. acts (plain_code p) phase q) (range_with_len 0 (length (plain_code p).lists))))) (sym performs.lanes)

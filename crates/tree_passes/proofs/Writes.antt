@@ -258,10 +258,11 @@ module _ (c : Request) (p : PlainPass) (valid : IsValid c) (known : IsKnown c p)
 
   -- ---- registers
 
-  few-registers : nest_registers h z w < 2 ^ 20
-  few-registers = by-work c p valid known.shaped known.framed (λ v. nest_registers h (with_work v) v < 2 ^ 20) kernels long tiles
+  -- whatever multiplies its items
+  pub few-registers : (y : PlainNest) → nest_registers h y w < 2 ^ 20
+  few-registers y = by-work c p valid known.shaped known.framed (λ v. nest_registers h y v < 2 ^ 20) kernels long tiles
     where
-      kernels : (t : Breakdown) → p.work ≡ transforming t → is_kernel c (size_of t) ≡ true → nest_registers h (with_work (kernel c.kind (node_root c (size_of t)) t)) (kernel c.kind (node_root c (size_of t)) t) < 2 ^ 20
+      kernels : (t : Breakdown) → p.work ≡ transforming t → is_kernel c (size_of t) ≡ true → nest_registers h y (kernel c.kind (node_root c (size_of t)) t) < 2 ^ 20
       kernels t is e =
           let n = size_of t in
           let root = node_root c n in
@@ -273,15 +274,15 @@ module _ (c : Request) (p : PlainPass) (valid : IsValid c) (known : IsKnown c p)
           kernel-does c.modulus c.lanes 0 1 c.kind t root valid.in_range.modulus.0 some-lanes node.formed (root-of c t valid node.divides) in
           let next : made.next ≡ n + operations made.acts = does.next_is in
           let counted : operations made.acts ≡ kernel_cost 1 c.modulus c.kind t root = sym (weight_of_one made.acts) ∙ does.costs in
-          let used = with-le (with_work (kernel c.kind root t)).multiplier made.next n in
+          let used = with-le y.multiplier made.next n in
           omega (arith, used, next, counted, price, small)
 
-      long : (t : Breakdown) → p.work ≡ transforming t → is_kernel c (size_of t) ≡ false → c.kind ≡ Dft → nest_registers h (with_work (rows (node_root c (size_of t)) (size_of t))) (rows (node_root c (size_of t)) (size_of t)) < 2 ^ 20
-      long t is e kind = let used = with-le (with_work (rows (node_root c (size_of t)) (size_of t))).multiplier 3 1 in omega (arith, used)
+      long : (t : Breakdown) → p.work ≡ transforming t → is_kernel c (size_of t) ≡ false → c.kind ≡ Dft → nest_registers h y (rows (node_root c (size_of t)) (size_of t)) < 2 ^ 20
+      long t is e kind = let used = with-le y.multiplier 3 1 in omega (arith, used)
 
-      tiles : (v : ℕ) → p.work ≡ tiling v → nest_registers h (with_work (tile v)) (tile v) < 2 ^ 20
+      tiles : (v : ℕ) → p.work ≡ tiling v → nest_registers h y (tile v) < 2 ^ 20
       tiles v is =
-          let used = with-le (with_work (tile v)).multiplier (v + v) v in
+          let used = with-le y.multiplier (v + v) v in
           let lanes : v ≡ c.lanes = subst (HasLanes c) is known.framed.lanes in
           let most = valid.in_range.lanes.1 in
           omega (arith, used, lanes, most)
@@ -292,5 +293,5 @@ module _ (c : Request) (p : PlainPass) (valid : IsValid c) (known : IsKnown c p)
         line = let line = valid.in_range.line.0 in omega (arith, line);
         runs = runs;
         nests = All-cons (CanWriteNest h) z [] writes-nest (All-nil (CanWriteNest h));
-        few = max-less (nest_registers h z w) (2 ^ 20) few-registers;
+        few = max-less (nest_registers h z w) (2 ^ 20) (few-registers z);
       }

@@ -1,0 +1,47 @@
+-- From a plan to its program.
+use Rattle.std.proofs.Common.{◌≡◌, ℕ, List, true, Ok, sym, ap, ap₂, ◌∙◌, arith, subst}
+use Rattle.std.proofs.lemmas.Bool.Decides.{nat_tests}
+use Rattle.convolution.specs.Request.{IsConvRequest}
+use Rattle.formula_lower.specs.Merged.{tree_merged}
+use Rattle.generate.specs.Planned.{has_root, root_power}
+use Rattle.icode.specs.Plain.{PlainProgram}
+use Rattle.inverse_costs.specs.Inverted.{inverted}
+use Rattle.joined_passes.specs.Joined.{joined}
+use Rattle.matrix_meaning.specs.declared.Kind.TheVariants.{Dft}
+use Rattle.matrix_meaning.specs.declared.Request.{Request}
+use Rattle.matrix_meaning.specs.Valid.{HasRoot, IsValid}
+use Rattle.pass_programs.specs.Contract.{CanProgram, Performs}
+use Rattle.passes.specs.Merged.{PlainMerged}
+use Rattle.program_emit.specs.Conditions.{machine_for}
+use Rattle.tree_model.specs.Breakdown.{Breakdown}
+use Rattle.tree_passes.specs.Laws.{machine_of}
+use Rattle.convolver.specs.Planned.{IsConvPlanned}
+use Rattle.convolver.proofs.Goodness.{conv_merged}
+
+is-one : (power : ℕ) → has_root Dft power ≡ true → power ≡ 1
+is-one power is = grind (arith, nat_tests)
+
+-- a request that is planned is valid
+pub planned-valid : (r : Request) (t : Breakdown) → IsConvRequest r → IsConvPlanned r (Ok t) → IsValid r
+planned-valid r t request planned =
+    let rooted : has_root Dft (root_power r) ≡ true = subst (λ k. has_root k (root_power r) ≡ true) request.kind planned.0 in
+    record { in_range = request.in_range; root = subst (λ k. HasRoot k r.modulus r.root r.size) (sym request.kind) (is-one (root_power r) rooted) }
+
+-- the passes that are joined are those of the request
+pub joined-same : (r c d : Request) (t : Breakdown) (ds : List ℕ) (f s g : PlainMerged) → c ≡ r → d ≡ inverted r → f ≡ tree_merged c t → s ≡ tree_merged d t → g ≡ joined f ds s → g ≡ conv_merged r t ds
+joined-same r c d t ds f s g forward backward first second both =
+    both ∙ ap₂ (λ x y. joined x ds y) (first ∙ ap (λ z. tree_merged z t) forward) (second ∙ ap (λ z. tree_merged z t) backward)
+
+pub can-emit : (r : Request) (t : Breakdown) (ds : List ℕ) (g : PlainMerged) (m line : ℕ) → g ≡ conv_merged r t ds → m ≡ r.modulus → line ≡ r.line → CanProgram (machine_of r) (conv_merged r t ds) →
+    CanProgram (machine_for m line g) g
+can-emit r t ds g m line same residues words can =
+    subst (λ z. CanProgram (machine_for m line z) z) (sym same)
+    (subst (λ n. CanProgram (machine_for n line (conv_merged r t ds)) (conv_merged r t ds)) (sym residues)
+    (subst (λ n. CanProgram (machine_for r.modulus n (conv_merged r t ds)) (conv_merged r t ds)) (sym words) can))
+
+pub conv-performs : (r : Request) (t : Breakdown) (ds : List ℕ) (g : PlainMerged) (m line : ℕ) (p : PlainProgram) → g ≡ conv_merged r t ds → m ≡ r.modulus → line ≡ r.line → Performs (machine_for m line g) g p →
+    Performs (machine_of r) (conv_merged r t ds) p
+conv-performs r t ds g m line p same residues words performs =
+    subst (λ n. Performs (machine_for r.modulus n (conv_merged r t ds)) (conv_merged r t ds) p) words
+    (subst (λ n. Performs (machine_for n line (conv_merged r t ds)) (conv_merged r t ds) p) residues
+    (subst (λ z. Performs (machine_for m line z) z p) same performs))
