@@ -46,11 +46,7 @@ pub(crate) fn lifted(
 }
 
 // The counts of the path's loops, and these.
-fn counts_round(
-    alloc: Global,
-    path: &[Tensor],
-    inner: &[u64],
-) -> Result<SmallVec<u64, 8>, NoMemory>
+fn counts_round(alloc: Global, path: &[Tensor], inner: &[u64]) -> Result<SmallVec<u64, 8>, NoMemory>
     ensures { IfOk result (λ all. all.items ≡ map count_of path.now ++ inner.now) }
 {
     let mut all = counts(alloc, path)?;
@@ -59,11 +55,7 @@ fn counts_round(
 }
 
 // What all variables of the lifted nest run below.
-fn limits_under(
-    alloc: Global,
-    path: &[Tensor],
-    nest: &Nest,
-) -> Result<SmallVec<u64, 10>, NoMemory>
+fn limits_under(alloc: Global, path: &[Tensor], nest: &Nest) -> Result<SmallVec<u64, 10>, NoMemory>
     requires { HasWords (plain_nest nest.now).work }
     ensures { IfOk result (λ limits. limits.items ≡ counts_under path.now (plain_nest nest.now)) }
 {
