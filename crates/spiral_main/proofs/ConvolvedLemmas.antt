@@ -301,11 +301,11 @@ pub convolves_run : {S : Type 0} (schedule : Plan) (request : Request) (code : C
     → StreamsBehind (h ∷ []) (run_text false code (turns_of schedule code.procs)) leaves request.size request.modulus old new before after out out' first last result
     → ToldConvolvesData (lines_for schedule) request (limit - old.taken) before after out out' (status_of_stream result)
 convolves_run schedule request code old new None after out out' h program leaves first last result made same one own some none start s = tt
-convolves_run schedule request code old new (Some bytes) None out out' h program leaves first last result made same one own some none start s = absurd s.data.consumed
+convolves_run schedule request code old new (Some bytes) None out out' h program leaves first last result made same one own some none start s = absurd s.reads.consumed
 convolves_run schedule request code old new (Some bytes) (Some rest) out out' h program leaves first last result made same one own some none start s =
     let turns = turns_of schedule code.procs in
-    let whole = reads_vectors request.size request.modulus old new s.data.read (rest ≡ []) (h ∷ s.later) result s.data.answer in
-    lines_ended schedule request old new bytes rest h s.later out out' (lines (λ x. results code x turns) s.later) result (made.0, made.1) start s.data
+    let whole = reads_vectors request.size request.modulus old new s.reads.read (rest ≡ []) (h ∷ s.later) result s.reads.answer in
+    lines_ended schedule request old new bytes rest h s.later out out' (lines (λ x. results code x turns) s.later) result (made.0, made.1) start s.reads
     (convolved_lines request h program code turns s.later made same some (conv_turns schedule request code.procs own one none) whole) s.wrote
 
 -- From what stands behind the line to the whole input

@@ -73,6 +73,16 @@ come_fault modulus cut ended old now new a b c seen read vector fault some withi
     (stream_fault_at a b c old now new cut.ended ended cut.size modulus cut.done seen (IsAtEnd c) read vector fault some h.progress h.begun r going given end)
     (fault_within fault (new.taken ≤ limit) within)
 
+abbrev failed_stream : StreamFault → Result (Unit {0}) StreamFault
+failed_stream fault = Err fault
+
+-- which is no fault of the output
+pub fault_reads : (fault : DataFault) → failed_stream (stream_fault fault) ≢ failed_stream WriteFault
+fault_reads (data_fault.BadNumber token) = λ e. cc
+fault_reads (data_fault.Truncated have need) = λ e. cc
+fault_reads data_fault.TooLong = λ e. cc
+fault_reads data_fault.ReadFault = λ e. cc
+
 -- the output fails behind what was read
 pub come_unwritten : (modulus : ℕ) (cut : Cut) (old new : Fed) (a c : Option (List ℕ)) (seen : List (List ℕ))
     → 0 < cut.size → new.taken ≤ limit → (cut.ended ≡ true → IsAtEnd c) → HasCome modulus cut old new a c seen → ReadsData cut.size modulus old new a c seen (Err WriteFault)
@@ -84,11 +94,11 @@ come_unwritten modulus cut old new a c seen some within end h =
 pub streams_new : {S : Type 0} (text : List ℕ → List ℕ) (leaves : List ℕ → S) (size modulus : ℕ) (old new : Fed) (before after out out' : Option (List ℕ)) (first last : S) (result : Result (Unit {0}) StreamFault)
     → StreamsBehind [] text leaves size modulus old new before after out out' first last result → Streams text leaves size modulus old new before after out out' first last result
 streams_new text leaves size modulus old new before after out out' first last result s = record {
-  read = s.data.read;
+  read = s.reads.read;
   vectors = s.later;
-  consumed = s.data.consumed;
-  answer = s.data.answer;
-  told = s.data.told;
+  consumed = s.reads.consumed;
+  answer = s.reads.answer;
+  told = s.reads.told;
   wrote = s.wrote;
   stands = s.stands;
 }
@@ -115,7 +125,7 @@ seen_first a b old new true size modulus done vectors p true None more none = ab
 seen_first a b old new false size modulus done vectors p true None more none =
     (_, ap (λ l. vectors_of size modulus (tokens l)) (closed_after p.bytes more (p.closed refl)) ∙ ap (vectors_of size modulus) (p.are_tokens (closed_part more) (λ e. absurd (cc))) ∙ p.splits (tokens (closed_part more)))
 
-take_nothing : (n : ℕ) → take n ([] : List ℕ) ≡ []
+take_nothing : (n : ℕ) → take {A = ℕ} n [] ≡ []
 take_nothing zero = refl
 take_nothing (suc n) = refl
 

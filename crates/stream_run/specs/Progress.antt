@@ -40,7 +40,7 @@ pub record ReadsData (size modulus : ℕ) (old new : Fed) (before after : Option
 pub record StreamsBehind {S : Type 0} (seen : List (List ℕ)) (text : List ℕ → List ℕ) (leaves : List ℕ → S) (size modulus : ℕ) (old new : Fed) (before after : Option (List ℕ))
     (out out' : Option (List ℕ)) (first last : S) (result : Result (Unit {0}) StreamFault) : Type 0 where
   pub later : List (List ℕ)
-  pub data : ReadsData size modulus old new before after (seen ++ later) result
+  pub reads : ReadsData size modulus old new before after (seen ++ later) result
   pub wrote : Writes out out' result (texts text later)
   pub stands : result ≢ Err WriteFault → last ≡ state_behind leaves first later
 

@@ -79,7 +79,7 @@ returns-in_err-next-clause-streams g c =
     let p = err_from_is_err_and c.from_residual.result c.from_residual.ensures.1 in
     rw (p.1, p.2) (λ old start seen h. record {
       later = inv.later;
-      data = subst (λ n. ReadsData n code.modulus old c.next.new.feed start reached (seen ++ inv.later) (Err (stream_fault fault))) inv.size
+      reads = subst (λ n. ReadsData n code.modulus old c.next.new.feed start reached (seen ++ inv.later) (Err (stream_fault fault))) inv.size
           (come_fault code.modulus before.vectors c.next.new.self.ended old before.feed c.next.new.feed start (to_come before.feed (g.I.Source.left before.input)) reached (seen ++ inv.later) answer.0 x fault
           some c.in_err-next.ensures.within answer.1 going given c.next.ensures.end (inv.come old start seen h));
       wrote = writes_fault fault _ _ _ inv.wrote;
@@ -101,8 +101,8 @@ returns-in_err-write_run-clause-streams g c =
     let p = err_from_is_err_and c.from_residual-in_err-write_run.result c.from_residual-in_err-write_run.ensures.1 in
     rw (p.1, p.2) (λ old start seen h. record {
       later = inv.later ++ x ∷ [];
-      data = subst (λ n. ReadsData n code.modulus old c.next.new.feed start reached (seen ++ inv.later ++ x ∷ []) (Err WriteFault)) (c.next.ensures.size ∙ inv.size)
-          (come_unwritten code.modulus c.next.new.self old c.next.new.feed start reached (seen ++ inv.later ++ x ∷ []) (omega (arith, some, c.next.ensures.size)) within c.next.ensures.end
+      reads = subst (λ n. ReadsData n code.modulus old c.next.new.feed start reached (seen ++ (inv.later ++ x ∷ [])) (Err WriteFault)) (c.next.ensures.size ∙ inv.size)
+          (come_unwritten code.modulus c.next.new.self old c.next.new.feed start reached (seen ++ (inv.later ++ x ∷ [])) (omega (arith, some, c.next.ensures.size)) within c.next.ensures.end
           (subst (λ l. HasCome code.modulus c.next.new.self old c.next.new.feed start reached l) (append_assoc seen inv.later (x ∷ []))
           (come_push code.modulus before.vectors c.next.new.self old before.feed c.next.new.feed start (to_come before.feed (g.I.Source.left before.input)) reached (seen ++ inv.later) answer.0 x
           some c.next.ensures.size (rw c.in-Vector.is at c.in_ok-next.ensures.done refl) within answer.1 (λ e. (answer.2 e, (c.next.ensures.once e).1)) answer.3
@@ -120,10 +120,10 @@ returns-clause-streams g c =
     let code = c.args.machine.now.code in
     let some : 0 < before.vectors.size = omega (arith, c.requires.some, inv.size) in
     let reached = to_come c.next.new.feed (g.I.Source.left c.next.new.source) in
-    let answer = rw (c.in_default.is, c.modulus-modulus.ensures) at c.in_ok-next.ensures.answer in
+    let answer = rw c.in_default.is at c.in_ok-next.ensures.answer in
     λ old start seen h. record {
       later = inv.later;
-      data = subst (λ n. ReadsData n code.modulus old c.next.new.feed start reached (seen ++ inv.later) (Ok tt)) inv.size
+      reads = subst (λ n. ReadsData n code.modulus old c.next.new.feed start reached (seen ++ inv.later) (Ok tt)) inv.size
           (come_end code.modulus before.vectors c.next.new.self.ended old before.feed c.next.new.feed start (to_come before.feed (g.I.Source.left before.input)) reached (seen ++ inv.later) answer.0 c.next.new.vector
           some (c.in_ok-next.ensures.within (λ e. cc)) answer.1 (λ e. (answer.2 e, (c.next.ensures.once e).1)) answer.3 c.next.ensures.end (inv.come old start seen h));
       wrote = inv.wrote;
