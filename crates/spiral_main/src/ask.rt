@@ -1,6 +1,5 @@
 // What the words and the first line ask for.
 ghost use Rattle.std.specs.Prelude.{◌≡◌, ◌≢◌, ◌≤◌, ℕ, [], Some, None, Err, IfOk, IfErr, OnOk, IsErrOf, map, string_bytes};
-ghost use Rattle.convolution.specs.Request.{IsConvRequest};
 ghost use Rattle.matrix_meaning.specs.Valid.{IsInRange};
 ghost use Rattle.io_edge.specs.Faults.{Reports};
 ghost use Rattle.io_edge.specs.Feed.{to_come};
@@ -9,7 +8,6 @@ ghost use Rattle.spiral_main.specs.Commands.{commanded, AreJudged, NamesNoStrang
 ghost use Rattle.spiral_main.specs.Orders.{procs_of};
 ghost use Rattle.spiral_status.specs.Status.{IsDefined};
 ghost use Rattle.spiral_main.specs.Asking.{Asks};
-ghost use Rattle.spiral_main.specs.Convolved.{conv_spelt};
 ghost use Rattle.spiral_main.specs.Outcome.{spelt};
 ghost use Rattle.spiral_main.specs.Steps.{IsEarly};
 
@@ -17,7 +15,7 @@ use crate::Status;
 use crate::line::read_line;
 use io_edge::{Feed, Source};
 use matrix_meaning::Request;
-use request_text::{read_conv, read_request};
+use request_text::read_request;
 use spiral_status::LINE_LIMIT;
 use spiral_words::{Command, Order, Refusal, command_of};
 use std::alloc::Global;
@@ -40,30 +38,6 @@ pub(crate) fn ask<I: Source>(
     let mut line = [0; LINE_LIMIT];
     let count = read_line(feed, input, &mut line)?;
     let request = read_request(&line[..count])?;
-    check_turns(stranger(command, request.procs), request.procs)?;
-    Ok(request)
-}
-
-/// The request for convolutions that the first line of the input spells, for the command.
-pub(crate) fn ask_conv<I: Source>(
-    command: &Command,
-    feed: &mut Feed,
-    input: &mut I,
-) -> Result<Request, Status>
-    requires fresh { feed.old.taken ≡ 0 }
-    ensures told { Asks conv_spelt command.now (to_come feed.old (I.left input.old))
-        (to_come feed.new (I.left input.new)) feed.new.taken result }
-    ensures within { OnOk result (feed.new.taken ≤ 257) }
-    ensures request { IfOk result IsConvRequest }
-    ensures turns { IfOk result (λ request. NamesNoStranger command.now request.procs) }
-    ensures empty { IsErrOf result Status.ReadFault → feed.new.held ≡ [] }
-    ensures read { Reports (I.faults input.old) (I.faults input.new) (IsErrOf result Status.ReadFault) }
-    ensures others { IfErr result (λ status.
-        (status ≢ Status.Success) × (status ≢ Status.Usage) × (status ≢ Status.WriteFault)) }
-{
-    let mut line = [0; LINE_LIMIT];
-    let count = read_line(feed, input, &mut line)?;
-    let request = read_conv(&line[..count])?;
     check_turns(stranger(command, request.procs), request.procs)?;
     Ok(request)
 }
@@ -104,8 +78,8 @@ fn stranger_in(order: &Order, p: u64) -> Option<u64>
     }
 }
 
-// The first stranger to so many processors that the words of the command name.
-fn stranger(command: &Command, p: u64) -> Option<u64>
+/// The first stranger to so many processors that the words of the command name.
+pub(crate) fn stranger(command: &Command, p: u64) -> Option<u64>
     ensures { result ≡ first_stranger (procs_named command.now) p }
 {
     match command {

@@ -1,5 +1,5 @@
 // The command that convolves the vectors of the data with the first of them.
-ghost use Rattle.std.specs.Prelude.{◌≡◌, ◌≢◌, ◌-◌, ◌<◌, ◌≤◌, ◌∷◌, List, ℕ, [], true, vec_len, IfOk, IfErr, IsErrOf, OnOk};
+ghost use Rattle.std.specs.Prelude.{◌≡◌, ◌≢◌, ◌-◌, ◌<◌, ◌≤◌, ◌∷◌, List, ℕ, [], false, true, vec_len, IfOk, IfErr, IsErrOf, OnOk};
 ghost use Rattle.std.specs.declared.option.Option.{Option};
 ghost use Rattle.std.specs.Io.KnownBytes.{Appends, IsAtEnd};
 ghost use Rattle.convolution.specs.Request.{IsConvRequest};
@@ -8,13 +8,15 @@ ghost use Rattle.io_edge.specs.Faults.{Reports};
 ghost use Rattle.io_edge.specs.Feed.{to_come, limit};
 ghost use Rattle.spiral_words.specs.declared.Command.{Command as SpecCommand};
 ghost use Rattle.spiral_main.specs.Commands.{reads_rest, takes_convolution, NamesNoStranger};
-ghost use Rattle.spiral_main.specs.Convolved.{IsConvolvable, IsListProgram, ToldConvolves, ToldConvolvesData};
+ghost use Rattle.spiral_main.specs.Asking.{Asks};
+ghost use Rattle.spiral_main.specs.Convolved.{conv_spelt, IsListProgram, ToldConvolves, ToldConvolvesData};
 ghost use Rattle.spiral_main.specs.Stage.{status_of};
 ghost use Rattle.stream_run.specs.Progress.{HasCome};
 ghost use Rattle.stream_run.specs.Stream.{HasNoStranger};
 
 use crate::Status;
-use crate::ask::ask_conv;
+use crate::ask::{check_turns, stranger};
+use crate::line::read_line;
 use convolver::{generate_conv, plan_conv};
 use data_stream::Vectors;
 use icode::program::Program;
@@ -22,11 +24,36 @@ use io_edge::{Feed, Sink, Source, write_all};
 use listing_text::print_listing;
 use matrix_meaning::Request;
 use par_machine::Machine;
-use request_text::Schedule;
+use request_text::{Schedule, read_conv};
 use ring_mod::Modulus;
+use spiral_status::LINE_LIMIT;
 use spiral_words::Command;
 use std::alloc::Global;
 use stream_run::{read_first, run_vectors};
+
+// The request for convolutions that the first line of the input spells, for the command.
+fn ask_conv<I: Source>(
+    command: &Command,
+    feed: &mut Feed,
+    input: &mut I,
+) -> Result<Request, Status>
+    requires fresh { feed.old.taken ≡ 0 }
+    ensures told { Asks conv_spelt command.now (to_come feed.old (I.left input.old))
+        (to_come feed.new (I.left input.new)) feed.new.taken result }
+    ensures within { OnOk result (feed.new.taken ≤ 257) }
+    ensures request { IfOk result IsConvRequest }
+    ensures turns { IfOk result (λ request. NamesNoStranger command.now request.procs) }
+    ensures empty { IsErrOf result Status.ReadFault → feed.new.held ≡ [] }
+    ensures read { Reports (I.faults input.old) (I.faults input.new) (IsErrOf result Status.ReadFault) }
+    ensures others { IfErr result (λ status.
+        (status ≢ Status.Success) × (status ≢ Status.Usage) × (status ≢ Status.WriteFault)) }
+{
+    let mut line = [0; LINE_LIMIT];
+    let count = read_line(feed, input, &mut line)?;
+    let request = read_conv(&line[..count])?;
+    check_turns(stranger(command, request.procs), request.procs)?;
+    Ok(request)
+}
 
 // A program for the list with which the data begin, what cuts the vectors behind it, and the list.
 fn listed_program<I: Source>(

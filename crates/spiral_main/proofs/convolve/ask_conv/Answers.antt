@@ -4,7 +4,7 @@ use Rattle.std.specs.Io.KnownBytes.{IsAtEnd}
 use Rattle.io_edge.specs.Feed.{to_come}
 use Rattle.spiral_main.specs.Convolved.{conv_spelt}
 use Rattle.spiral_main.proofs.AskLemmas.{asked_line_fault, asked_request_fault, asked_turn_fault, asked_request, take_short}
-use Rattle.spiral_main.proofs.ask.ask_conv.Goals as goal
+use Rattle.spiral_main.proofs.convolve.ask_conv.Goals as goal
 
 pub returns-in_err-count-clause-told : goal.returns-in_err-count-clause-told
 returns-in_err-count-clause-told g c =
