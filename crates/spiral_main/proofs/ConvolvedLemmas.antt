@@ -38,7 +38,7 @@ use Rattle.spiral_main.proofs.Accounts.{none_read, none_left, none_cut, still_en
 use Rattle.spiral_main.proofs.DataLemmas.{reads_vectors}
 use Rattle.spiral_main.proofs.LineLemmas.{line_there}
 use Rattle.spiral_main.proofs.OutcomeLemmas.{lines_equal}
-use Rattle.stream_run.specs.Progress.{HasCome, ReadsData, StreamsBehind, lacking, HasNoVector}
+use Rattle.stream_run.specs.Progress.{HasCome, ReadsData, StreamsBehind, StreamsOn, lacking, HasNoVector}
 use Rattle.stream_run.specs.Stream.{run_text, lines, group_vectors, vectors_of, data_answer, data_vectors, HasNoStranger, Reads, Writes}
 use Rattle.stream_run.specs.declared.stream.StreamFault.{StreamFault}
 use Rattle.stream_run.specs.declared.stream.StreamFault.TheVariants as stream
@@ -294,19 +294,40 @@ conv_turns schedule request procs own one none =
     subst (λ p. All (λ q. q < request.procs) (turns_of schedule p)) (sym one)
     (subst (λ n. All (λ q. q < n) (turns_of schedule 1)) (sym own) (All-from_get_or (λ q. q < 1) (turns_of schedule 1) 0 (turns_there schedule 1 (omega arith) none)))
 
--- the machine runs behind the list
-pub convolves_run : {S : Type 0} (schedule : Plan) (request : Request) (code : Code) (old new : Fed) (before after out out' : Option (List ℕ)) (h : List ℕ) (program : Program) (leaves : List ℕ → S) (first last : S)
+run_told : {S : Type 0} (schedule : Plan) (request : Request) (code : Code) (old new : Fed) (before after out out' : Option (List ℕ)) (h : List ℕ) (program : Program) (leaves : List ℕ → S) (first last : S)
     (result : Result (Unit {0}) StreamFault)
-    → IsListProgram request h program → code ≡ code_of program → code.procs ≡ 1 → request.procs ≡ 1 → 0 < request.modulus → HasNoStranger schedule 1 → old.taken ≤ limit
+    → IsListProgram request h program → code ≡ code_of program → request.procs ≡ 1 → 0 < request.modulus → HasNoStranger schedule 1 → old.taken ≤ limit
     → StreamsBehind (h ∷ []) (run_text false code (turns_of schedule code.procs)) leaves request.size request.modulus old new before after out out' first last result
     → ToldConvolvesData (lines_for schedule) request (limit - old.taken) before after out out' (status_of_stream result)
-convolves_run schedule request code old new None after out out' h program leaves first last result made same one own some none start s = tt
-convolves_run schedule request code old new (Some bytes) None out out' h program leaves first last result made same one own some none start s = absurd s.reads.consumed
-convolves_run schedule request code old new (Some bytes) (Some rest) out out' h program leaves first last result made same one own some none start s =
+run_told schedule request code old new None after out out' h program leaves first last result made same own some none start s = tt
+run_told schedule request code old new (Some bytes) None out out' h program leaves first last result made same own some none start s = absurd s.reads.consumed
+run_told schedule request code old new (Some bytes) (Some rest) out out' h program leaves first last result made same own some none start s =
     let turns = turns_of schedule code.procs in
+    let one : code.procs ≡ 1 = ap (λ (k : Code). k.procs) same ∙ made.2.header.procs ∙ own in
     let whole = reads_vectors request.size request.modulus old new s.reads.read (rest ≡ []) (h ∷ s.later) result s.reads.answer in
     lines_ended schedule request old new bytes rest h s.later out out' (lines (λ x. results code x turns) s.later) result (made.0, made.1) start s.reads
     (convolved_lines request h program code turns s.later made same some (conv_turns schedule request code.procs own one none) whole) s.wrote
+
+-- the list has come, by what the machine's code says of the modulus
+pub list_come : (request : Request) (code : Code) (cut : Cut) (old now : Fed) (before mid : Option (List ℕ)) (h : List ℕ) (program : Program)
+    → IsListProgram request h program → code ≡ code_of program → HasCome request.modulus cut old now before mid (h ∷ []) → HasCome code.modulus cut old now before mid (h ∷ [])
+list_come request code cut old now before mid h program made same come =
+    subst (λ m. HasCome m cut old now before mid (h ∷ [])) (sym (ap (λ (k : Code). k.modulus) same ∙ made.2.header.modulus)) come
+
+-- the machine runs behind the list
+pub convolves_run : {S : Type 0} (schedule : Plan) (request : Request) (code : Code) (cut : Cut) (old now new : Fed) (before mid after out out' : Option (List ℕ)) (h : List ℕ) (program : Program) (leaves : List ℕ → S) (first last : S)
+    (result : Result (Unit {0}) StreamFault)
+    → IsListProgram request h program → code ≡ code_of program → cut.size ≡ request.size → request.procs ≡ 1 → 0 < request.modulus → HasNoStranger schedule 1 → old.taken ≤ limit
+    → HasCome request.modulus cut old now before mid (h ∷ [])
+    → StreamsOn (run_text false code (turns_of schedule code.procs)) leaves code.modulus cut now new mid after out out' first last result
+    → ToldConvolvesData (lines_for schedule) request (limit - old.taken) before after out out' (status_of_stream result)
+convolves_run schedule request code cut old now new before mid after out out' h program leaves first last result made same size own some none start come s =
+    let text : List ℕ → List ℕ = run_text false code (turns_of schedule code.procs) in
+    let modulus : code.modulus ≡ request.modulus = ap (λ (k : Code). k.modulus) same ∙ made.2.header.modulus in
+    run_told schedule request code old new before after out out' h program leaves first last result made same own some none start
+    (subst (λ n. StreamsBehind (h ∷ []) text leaves n request.modulus old new before after out out' first last result) size
+    (subst (λ m. StreamsBehind (h ∷ []) text leaves cut.size m old new before after out out' first last result) modulus
+    (s old before (h ∷ []) (list_come request code cut old now before mid h program made same come))))
 
 -- From what stands behind the line to the whole input
 
