@@ -13,11 +13,13 @@ use Rattle.spiral_words.specs.declared.Command.{Command}
 use Rattle.spiral_words.specs.declared.Command.TheVariants as command
 use Rattle.spiral_status.specs.declared.status.Status.{Status}
 use Rattle.spiral_status.specs.declared.status.Status.TheVariants.{ReadFault, WriteFault}
-use Rattle.spiral_main.specs.Commands.{commanded, AskForFormula}
+use Rattle.spiral_main.specs.Commands.{commanded, AskForFormula, AskForConvolution}
+use Rattle.spiral_main.specs.Convolved.{Convolves, ToldConvolves}
 use Rattle.spiral_main.specs.Line.{data_of, is_line_end, HasEnded}
 use Rattle.spiral_status.specs.Status.{IsDefined}
-use Rattle.spiral_main.specs.Outcome.{IsAccepted, requested, Job, IsOrder, Settles, BreaksOff, ComesTo, room_behind, Accounts}
-use Rattle.spiral_main.specs.Steps.{IsEarly, AsksBy, Asks, Performs, ToldPerforms, Executes, ToldExecutes, Computes, ToldComputes, ToldAccounts}
+use Rattle.spiral_main.specs.Outcome.{IsAccepted, requested, spelt, Job, IsOrder, Settles, BreaksOff, ComesTo, room_behind, Accounts}
+use Rattle.spiral_main.specs.Asking.{AsksBy, Asks}
+use Rattle.spiral_main.specs.Steps.{IsEarly, Performs, ToldPerforms, Executes, ToldExecutes, Computes, ToldComputes, ToldAccounts}
 use Rattle.spiral_main.proofs.LineLemmas.{line_there}
 
 nothing_before : (xs ys : List ℕ) → xs ++ ys ≡ [] → xs ≡ []
@@ -50,7 +52,7 @@ still_ended read more now later (inr e) goes = inr (goes e)
 
 -- what a command does after the first line accounts for the whole call
 accounts_after : (words : List (List ℕ)) (bytes read rest : List ℕ) (taken : ℕ) (wanted : Command) (request : Request) (left out out' : Option (List ℕ)) (status : Status)
-    → commanded words (Ok wanted) → bytes ≡ read ++ rest → AsksBy wanted read rest taken (Ok request) → Performs wanted request (limit - taken) rest left out out' status
+    → commanded words (Ok wanted) → bytes ≡ read ++ rest → AsksBy spelt wanted read rest taken (Ok request) → Performs wanted request (limit - taken) rest left out out' status
     → Accounts words bytes left out out' status
 accounts_after words bytes read rest taken wanted request left out out' status named whole asked p =
     let here = asked.1 rest (λ e. e) in
@@ -111,7 +113,7 @@ accounts_after words bytes read rest taken wanted request left out out' status n
     }
 
 pub accounted : (words : List (List ℕ)) (before mid left : Option (List ℕ)) (taken : ℕ) (wanted : Command) (request : Request) (out out' : Option (List ℕ)) (status : Status)
-    → commanded words (Ok wanted) → Asks wanted before mid taken (Ok request) → ToldPerforms wanted request (limit - taken) mid left out out' status → ToldAccounts words before left out out' status
+    → commanded words (Ok wanted) → Asks spelt wanted before mid taken (Ok request) → ToldPerforms wanted request (limit - taken) mid left out out' status → ToldAccounts words before left out out' status
 accounted words None mid left taken wanted request out out' status named a p = tt
 accounted words (Some bytes) None left taken wanted request out out' status named a p = absurd a
 accounted words (Some bytes) (Some rest) left taken wanted request out out' status named a p = accounts_after words bytes a.0 rest taken wanted request left out out' status named a.1 a.2 p
@@ -128,7 +130,7 @@ accounted_words words (Some bytes) left out status refused early = record {
 
 -- a call that ends with the first line
 pub accounted_line : (words : List (List ℕ)) (before after left : Option (List ℕ)) (taken : ℕ) (wanted : Command) (out : Option (List ℕ)) (status : Status)
-    → commanded words (Ok wanted) → Asks wanted before after taken (Err status) → status ≢ WriteFault → (status ≡ ReadFault → after ≡ left) → ToldAccounts words before left out out status
+    → commanded words (Ok wanted) → Asks spelt wanted before after taken (Err status) → status ≢ WriteFault → (status ≡ ReadFault → after ≡ left) → ToldAccounts words before left out out status
 accounted_line words None after left taken wanted out status named a w same = tt
 accounted_line words (Some bytes) None left taken wanted out status named a w same = absurd a
 accounted_line words (Some bytes) (Some rest) left taken wanted out status named a w same = record {
@@ -158,9 +160,20 @@ pub computed_accounts : (words : List (List ℕ)) (wanted : Command) (before lef
     → AskForFormula words wanted → ToldComputes wanted before left out out' status → ToldAccounts words before left out out' status
 computed_accounts words wanted None left out out' status asked p = tt
 computed_accounts words wanted (Some bytes) left out out' status asked p = record {
-  answer = λ d. let found = p.answer d in (found.0, inr (inr (wanted, asked, found.1)), found.2);
-  read_fault = λ e. let found = p.read_fault e in (found.0, found.1, found.2, inr (inr (inr (wanted, asked, found.3))), found.4);
-  write_fault = λ e. let found = p.write_fault e in (found.0, found.1, found.2, found.3, inr (inr (wanted, asked, found.4)), found.5);
+  answer = λ d. let found = p.answer d in (found.0, inr (inr (inl (wanted, asked, found.1))), found.2);
+  read_fault = λ e. let found = p.read_fault e in (found.0, found.1, found.2, inr (inr (inr (inl (wanted, asked, found.3)))), found.4);
+  write_fault = λ e. let found = p.write_fault e in (found.0, found.1, found.2, found.3, inr (inr (inl (wanted, asked, found.4))), found.5);
+}
+
+-- By a list
+
+pub convolved_accounts : (words : List (List ℕ)) (wanted : Command) (before left out out' : Option (List ℕ)) (status : Status)
+    → AskForConvolution words wanted → ToldConvolves wanted before left out out' status → ToldAccounts words before left out out' status
+convolved_accounts words wanted None left out out' status asked p = tt
+convolved_accounts words wanted (Some bytes) left out out' status asked p = record {
+  answer = λ d. let found = p.answer d in (found.0, inr (inr (inr (wanted, asked, found.1))), found.2);
+  read_fault = λ e. let found = p.read_fault e in (found.0, found.1, found.2, inr (inr (inr (inr (wanted, asked, found.3)))), found.4);
+  write_fault = λ e. let found = p.write_fault e in (found.0, found.1, found.2, found.3, inr (inr (inr (wanted, asked, found.4))), found.5);
 }
 
 -- What the feed holds
@@ -198,5 +211,14 @@ computes_by_source wanted None feed left out out' status empty p = tt
 computes_by_source wanted (Some bytes) feed left out out' status empty p = record {
   answer = p.answer;
   read_fault = λ e. (subst (λ (o : Option (List ℕ)). Computes wanted bytes o out out' status) (nothing_held feed left (empty e)) p).read_fault e;
+  write_fault = p.write_fault;
+}
+
+pub convolves_by_source : (wanted : Command) (before : Option (List ℕ)) (feed : Fed) (left out out' : Option (List ℕ)) (status : Status)
+    → (status ≡ ReadFault → feed.held ≡ []) → ToldConvolves wanted before (to_come feed left) out out' status → ToldConvolves wanted before left out out' status
+convolves_by_source wanted None feed left out out' status empty p = tt
+convolves_by_source wanted (Some bytes) feed left out out' status empty p = record {
+  answer = p.answer;
+  read_fault = λ e. (subst (λ (o : Option (List ℕ)). Convolves wanted bytes o out out' status) (nothing_held feed left (empty e)) p).read_fault e;
   write_fault = p.write_fault;
 }

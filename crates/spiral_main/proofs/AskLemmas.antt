@@ -18,7 +18,10 @@ use Rattle.spiral_status.specs.declared.status.Status.TheVariants.{Turn, ReadFau
 use Rattle.spiral_main.specs.Commands.{reads_rest, first_stranger, procs_named, admitted}
 use Rattle.spiral_status.specs.Fault.{status_of_line, status_of_request}
 use Rattle.spiral_main.specs.Line.{first_line, line_of, IsWholeLine, GivesLine}
-use Rattle.spiral_main.specs.Steps.{Asks}
+use Rattle.spiral_main.specs.Asking.{Asks}
+use Rattle.spiral_main.specs.Convolved.{conv_spelt}
+use Rattle.spiral_main.specs.Outcome.{spelt}
+use Rattle.spiral_main.specs.Stage.{Stage}
 
 -- a line of at most 256 bytes, and a longer one
 pub line_short : (bytes line : List ℕ) → first_line bytes ≡ line → length line ≤ 256 → line_of bytes ≡ Ok line
@@ -33,16 +36,16 @@ line_long bytes long =
     ap (λ b. cond {A = Result (List ℕ) Status} b (Ok (first_line bytes)) (Err (TooLong 256))) test
 
 -- the first line can't be read
-pub asked_line_fault : (command : Command) (before after : Option (List ℕ)) (taken : ℕ) (read buffer : List ℕ) (ended : Type 0) (fault : FeedFault)
-    → Consumes before after read → GivesLine read ended taken buffer (Err fault) → Asks command before after taken (Err (status_of_line fault))
-asked_line_fault command None after taken read buffer ended fault consumed given = tt
-asked_line_fault command (Some bytes) None taken read buffer ended fault consumed given = consumed
-asked_line_fault command (Some bytes) (Some rest) taken read buffer ended feed.ReadFault consumed given = (
+pub asked_line_fault : (spells : List ℕ → Stage Request) (command : Command) (before after : Option (List ℕ)) (taken : ℕ) (read buffer : List ℕ) (ended : Type 0) (fault : FeedFault)
+    → Consumes before after read → GivesLine read ended taken buffer (Err fault) → Asks spells command before after taken (Err (status_of_line fault))
+asked_line_fault spells command None after taken read buffer ended fault consumed given = tt
+asked_line_fault spells command (Some bytes) None taken read buffer ended fault consumed given = consumed
+asked_line_fault spells command (Some bytes) (Some rest) taken read buffer ended feed.ReadFault consumed given = (
   read,
   consumed,
   (λ d. absurd (d.read refl), λ _. given),
 )
-asked_line_fault command (Some bytes) (Some rest) taken read buffer ended feed.TooLong consumed given = (
+asked_line_fault spells command (Some bytes) (Some rest) taken read buffer ended feed.TooLong consumed given = (
   read,
   consumed,
   (λ _. inl (sym (line_long (read ++ rest) (given rest))), λ e. absurd (cc)),
@@ -53,27 +56,28 @@ request_fault_other (request.Syntax at) e = absurd (cc)
 request_fault_other (request.Range field value) e = absurd (cc)
 request_fault_other (request.Shape size) e = absurd (cc)
 request_fault_other (request.LanesLine lanes line) e = absurd (cc)
+request_fault_other (request.NotUnit gcd) e = absurd (cc)
 
 -- the line spells no request that can be served
-pub asked_request_fault : (command : Command) (before after : Option (List ℕ)) (taken : ℕ) (read line : List ℕ) (fault : RequestFault)
-    → Consumes before after read → IsWholeLine read (IsAtEnd after) line → length line ≤ 256 → Answers line (Err fault)
-    → Asks command before after taken (Err (status_of_request fault))
-asked_request_fault command None after taken read line fault consumed whole short answer = tt
-asked_request_fault command (Some bytes) None taken read line fault consumed whole short answer = consumed
-asked_request_fault command (Some bytes) (Some rest) taken read line fault consumed whole short answer =
+pub asked_request_fault : (spells : List ℕ → Stage Request) (command : Command) (before after : Option (List ℕ)) (taken : ℕ) (read line : List ℕ) (fault : RequestFault)
+    → Consumes before after read → IsWholeLine read (IsAtEnd after) line → length line ≤ 256 → spells line (Err (status_of_request fault))
+    → Asks spells command before after taken (Err (status_of_request fault))
+asked_request_fault spells command None after taken read line fault consumed whole short answer = tt
+asked_request_fault spells command (Some bytes) None taken read line fault consumed whole short answer = consumed
+asked_request_fault spells command (Some bytes) (Some rest) taken read line fault consumed whole short answer =
     let there = line_short (read ++ rest) line (whole rest (λ e. e)).0 short in (
       read,
       consumed,
-      (λ _. inr (record { value = line; before = sym there; behind = inl (fault, answer, refl) }), λ e. absurd (request_fault_other fault e)),
+      (λ _. inr (record { value = line; before = sym there; behind = inl answer }), λ e. absurd (request_fault_other fault e)),
     )
 
 -- a turn is of a processor that is not there
-pub asked_turn_fault : (command : Command) (before after : Option (List ℕ)) (taken : ℕ) (read line : List ℕ) (wanted : Request) (q : ℕ)
-    → Consumes before after read → IsWholeLine read (IsAtEnd after) line → length line ≤ 256 → Answers line (Ok wanted)
-    → first_stranger (procs_named command) wanted.procs ≡ Some q → Asks command before after taken (Err (Turn q wanted.procs))
-asked_turn_fault command None after taken read line wanted q consumed whole short answer found = tt
-asked_turn_fault command (Some bytes) None taken read line wanted q consumed whole short answer found = consumed
-asked_turn_fault command (Some bytes) (Some rest) taken read line wanted q consumed whole short answer found =
+pub asked_turn_fault : (spells : List ℕ → Stage Request) (command : Command) (before after : Option (List ℕ)) (taken : ℕ) (read line : List ℕ) (wanted : Request) (q : ℕ)
+    → Consumes before after read → IsWholeLine read (IsAtEnd after) line → length line ≤ 256 → spells line (Ok wanted)
+    → first_stranger (procs_named command) wanted.procs ≡ Some q → Asks spells command before after taken (Err (Turn q wanted.procs))
+asked_turn_fault spells command None after taken read line wanted q consumed whole short answer found = tt
+asked_turn_fault spells command (Some bytes) None taken read line wanted q consumed whole short answer found = consumed
+asked_turn_fault spells command (Some bytes) (Some rest) taken read line wanted q consumed whole short answer found =
     let there = line_short (read ++ rest) line (whole rest (λ e. e)).0 short in (
       read,
       consumed,
@@ -88,12 +92,12 @@ asked_turn_fault command (Some bytes) (Some rest) taken read line wanted q consu
     )
 
 -- the request
-pub asked_request : (command : Command) (before after : Option (List ℕ)) (taken : ℕ) (read line : List ℕ) (wanted : Request)
-    → Consumes before after read → taken ≡ length read → IsWholeLine read (IsAtEnd after) line → length line ≤ 256 → Answers line (Ok wanted)
-    → first_stranger (procs_named command) wanted.procs ≡ None → Asks command before after taken (Ok wanted)
-asked_request command None after taken read line wanted consumed count whole short answer none_found = tt
-asked_request command (Some bytes) None taken read line wanted consumed count whole short answer none_found = consumed
-asked_request command (Some bytes) (Some rest) taken read line wanted consumed count whole short answer none_found = (
+pub asked_request : (spells : List ℕ → Stage Request) (command : Command) (before after : Option (List ℕ)) (taken : ℕ) (read line : List ℕ) (wanted : Request)
+    → Consumes before after read → taken ≡ length read → IsWholeLine read (IsAtEnd after) line → length line ≤ 256 → spells line (Ok wanted)
+    → first_stranger (procs_named command) wanted.procs ≡ None → Asks spells command before after taken (Ok wanted)
+asked_request spells command None after taken read line wanted consumed count whole short answer none_found = tt
+asked_request spells command (Some bytes) None taken read line wanted consumed count whole short answer none_found = consumed
+asked_request spells command (Some bytes) (Some rest) taken read line wanted consumed count whole short answer none_found = (
   read,
   consumed,
   (
@@ -117,6 +121,7 @@ named_reads (named.trace buffers word) = true
 named_reads named.check = true
 named_reads (named.apply number word) = true
 named_reads (named.exec word) = true
+named_reads (named.convolve word false) = true
 named_reads _ = false
 
 means_reads : (texts : NamedTexts) (command : Command) → Means texts command → reads_rest command ≡ named_reads texts
@@ -132,6 +137,8 @@ means_reads (named.sample number word) command means = ap reads_rest means.4
 means_reads (named.compile number) command means = ap reads_rest means.2
 means_reads (named.apply number word) command means = ap reads_rest means.4
 means_reads (named.exec word) command means = ap reads_rest means.2
+means_reads (named.convolve word true) command means = ap reads_rest means.2
+means_reads (named.convolve word false) command means = ap reads_rest means.2
 
 same_texts : (a b : NamedTexts) → Some a ≡ Some b → a ≡ b
 same_texts a b e = cc

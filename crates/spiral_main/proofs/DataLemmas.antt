@@ -24,7 +24,7 @@ pub record RunsOver (IsText : List (List ℕ) → List ℕ → Type 0) (size mod
   pub write_fault : status ≡ WriteFault → (read : List ℕ) × (rest : List ℕ) × (text : List ℕ) × (bytes ≡ read ++ rest)
       × (list_all is_good (tokens read) ≡ true) × ((closed_part read ≡ read) ⊎ (rest ≡ [])) × IsText (vectors_of size modulus (tokens read)) text × AppendsPrefix before after text
 
-reads_vectors : (size modulus : ℕ) (old new : Fed) (read : List ℕ) (ended : Type 0) (vectors : List (List ℕ)) (result : Result (Unit {0}) StreamFault)
+pub reads_vectors : (size modulus : ℕ) (old new : Fed) (read : List ℕ) (ended : Type 0) (vectors : List (List ℕ)) (result : Result (Unit {0}) StreamFault)
     → Reads size modulus old new read ended vectors result → (ts : List (List ℕ)) × (vectors_of size modulus ts ≡ vectors)
 reads_vectors size modulus old new read ended vectors (Ok u) s = (tokens read, s.4)
 reads_vectors size modulus old new read ended vectors (Err (stream.Truncated have need)) s = (tokens read, s.6)

@@ -13,6 +13,8 @@ pub mod PlanLemmas
 pub mod RightCalls
 pub mod Accounts
 pub mod CompiledLemmas
+pub mod ConvolvedLemmas
+pub mod OneConvolution
 pub mod DataLemmas
 pub mod ListedLemmas
 pub mod OneExecution

@@ -1,5 +1,5 @@
 -- The words and the bytes of a call determine its status.
-use Rattle.std.proofs.Common.{◌≡◌, ◌≤◌, ℕ, Bool, true, false, List, Ok, Err, Result, refl, sym, ap, ap₂, subst, ◌∙◌, arith, inl, inr}
+use Rattle.std.proofs.Common.{◌≡◌, ◌≤◌, ◌⊎◌, ℕ, Bool, true, false, List, Ok, Err, Result, refl, sym, ap, ap₂, subst, ◌∙◌, arith, inl, inr}
 use Rattle.matrix_meaning.specs.declared.Request.{Request}
 use Rattle.request_text.specs.Schedule.{Plan}
 use Rattle.spiral_words.specs.Asked.{IsAsked}
@@ -14,7 +14,8 @@ use Rattle.tree_model.specs.Cost.{cost_of}
 use Rattle.plan_cert.proofs.OneVerdict.{one_verdict}
 use Rattle.spiral_status.specs.declared.status.Status.{Status}
 use Rattle.spiral_main.specs.Checked.{IsChecked, status_of_verdict}
-use Rattle.spiral_main.specs.Commands.{reads_certificate, takes_formula, takes_request, commanded, scheduled, AskForFormula}
+use Rattle.spiral_main.specs.Commands.{reads_certificate, takes_formula, takes_request, takes_convolution, commanded, scheduled, AskForFormula, AskForConvolution}
+use Rattle.spiral_main.specs.Convolved.{IsConvAnswer}
 use Rattle.spiral_main.specs.Compiled.{IsFormulaAnswer}
 use Rattle.spiral_status.specs.Fault.{status_of_request, status_of_generate}
 use Rattle.spiral_main.specs.Line.{line_of}
@@ -22,6 +23,7 @@ use Rattle.spiral_main.specs.Outcome.{spelt, IsRefused, IsShutOut, IsAccepted, I
 use Rattle.spiral_main.specs.Line.{data_of}
 use Rattle.spiral_main.specs.Listed.{IsExecution}
 use Rattle.spiral_main.specs.Stage.{given}
+use Rattle.spiral_main.proofs.OneConvolution.{conv_status_once}
 use Rattle.spiral_main.proofs.OneExecution.{execution_status_once}
 use Rattle.spiral_main.proofs.OneFormula.{formula_status_once}
 use Rattle.spiral_main.proofs.PlanLemmas.{candidate_divides}
@@ -117,6 +119,7 @@ accepted_clash (command.Sample seed schedule) r s p q = plan_clash r p.0 q.0 p.1
 accepted_clash (command.Compile modulus) r s p q = plan_clash r p.0 q.0 p.1 q.1
 accepted_clash (command.Apply modulus schedule) r s p q = plan_clash r p.0 q.0 p.1 q.1
 accepted_clash (command.Exec schedule) r s p q = plan_clash r p.0 q.0 p.1 q.1
+accepted_clash (command.Convolve schedule as_code) r s p q = plan_clash r p.0 q.0 p.1 q.1
 
 declined_once : (wanted : Command) (r : Request) (s t : Status) → IsDeclined wanted r s → IsDeclined wanted r t → s ≡ t
 declined_once command.Plan r s t p q = refused_once r s t p q
@@ -131,6 +134,7 @@ declined_once (command.Sample seed schedule) r s t p q = refused_once r s t p q
 declined_once (command.Compile modulus) r s t p q = refused_once r s t p q
 declined_once (command.Apply modulus schedule) r s t p q = refused_once r s t p q
 declined_once (command.Exec schedule) r s t p q = refused_once r s t p q
+declined_once (command.Convolve schedule as_code) r s t p q = refused_once r s t p q
 
 accepted_decided : (wanted : Command) (r : Request) → IsDecided (accepted wanted r)
 accepted_decided wanted r (Ok a) (Ok b) p q = ap done (p.1 ∙ sym q.1)
@@ -158,6 +162,7 @@ data_or_text (command.Sample seed schedule) r vectors s t p q = p
 data_or_text (command.Compile modulus) r vectors s t p q = p
 data_or_text (command.Apply modulus schedule) r vectors s t p q = p
 data_or_text (command.Exec schedule) r vectors s t p q = p
+data_or_text (command.Convolve schedule as_code) r vectors s t p q = p
 
 pub data_or_check : (wanted : Command) (r : Request) (vectors : List (List ℕ)) (s : List ℕ) → IsTextOfData wanted r vectors s → reads_certificate wanted ≡ true → ⊥
 data_or_check (command.Run order) r vectors s p q = absurd (cc)
@@ -172,6 +177,7 @@ data_or_check (command.Sample seed schedule) r vectors s p q = p
 data_or_check (command.Compile modulus) r vectors s p q = p
 data_or_check (command.Apply modulus schedule) r vectors s p q = p
 data_or_check (command.Exec schedule) r vectors s p q = p
+data_or_check (command.Convolve schedule as_code) r vectors s p q = p
 
 pub text_or_check : (wanted : Command) (r : Request) (s : List ℕ) → IsTextOf wanted r s → reads_certificate wanted ≡ true → ⊥
 text_or_check command.Plan r s p q = absurd (cc)
@@ -186,6 +192,7 @@ text_or_check command.Check r s p q = p
 text_or_check (command.Compile modulus) r s p q = p
 text_or_check (command.Apply modulus schedule) r s p q = p
 text_or_check (command.Exec schedule) r s p q = p
+text_or_check (command.Convolve schedule as_code) r s p q = p
 
 checked_once : (r : Request) (bytes : List ℕ) (a b : Status) (s t : List ℕ) → IsChecked r bytes a s → IsChecked r bytes b t → a ≡ b
 checked_once r bytes a b s t (inl p) (inl q) = p.1 ∙ sym q.1
@@ -214,7 +221,7 @@ answer_once words bytes a b s t (inr p) (inr q) =
     settled_once q.0.command q.0.request (room_behind bytes) (data_of bytes) a b s t
     (subst (λ (job : Job). Settles job.command job.request (room_behind bytes) (data_of bytes) a s) same p.2) q.2
 
--- By a request, by a listing or by a formula
+-- By a request, by a listing, by a formula or by a list
 
 -- words that ask for a command that goes by no request order none
 pub no_order : (words : List (List ℕ)) (wanted : Command) (bytes : List ℕ) (r : Result Job Status) → IsAsked words wanted → takes_request wanted ≡ false → ordered words bytes r → ⊥
@@ -232,21 +239,31 @@ no_answer words wanted bytes s t asked other (inr p) = no_order words wanted byt
 pub no_request : (wanted : Command) → takes_formula wanted ≡ true → takes_request wanted ≡ false
 no_request (command.Compile modulus) h = refl
 no_request (command.Apply modulus schedule) h = refl
-no_request command.Plan h = absurd (cc)
-no_request command.Formula h = absurd (cc)
-no_request command.Code h = absurd (cc)
-no_request command.C h = absurd (cc)
-no_request (command.Run order) h = absurd (cc)
-no_request (command.Trace order) h = absurd (cc)
-no_request command.Cert h = absurd (cc)
-no_request command.Check h = absurd (cc)
-no_request (command.Sample seed schedule) h = absurd (cc)
-no_request (command.Exec schedule) h = absurd (cc)
+no_request _ h = absurd (cc)
+
+-- nor one that convolves
+pub no_plain_request : (wanted : Command) → takes_convolution wanted ≡ true → takes_request wanted ≡ false
+no_plain_request (command.Convolve schedule as_code) h = refl
+no_plain_request _ h = absurd (cc)
 
 -- nor by a listing
 pub no_formula : (words : List (List ℕ)) (schedule : Plan) (wanted : Command) → IsAsked words (command.Exec schedule) → AskForFormula words wanted → ⊥
 no_formula words schedule wanted listing formula =
     two_values (takes_formula (command.Exec schedule)) (subst (λ (k : Command). takes_formula k ≡ true) (asked_once words wanted (command.Exec schedule) formula.0 listing) formula.1) refl
+
+pub no_convolution : (words : List (List ℕ)) (schedule : Plan) (wanted : Command) → IsAsked words (command.Exec schedule) → AskForConvolution words wanted → ⊥
+no_convolution words schedule wanted listing convolution =
+    two_values (takes_convolution (command.Exec schedule)) (subst (λ (k : Command). takes_convolution k ≡ true) (asked_once words wanted (command.Exec schedule) convolution.0 listing) convolution.1) refl
+
+by_formula_alone : (wanted : Command) → takes_formula wanted ≡ true → takes_convolution wanted ≡ false
+by_formula_alone (command.Compile modulus) h = refl
+by_formula_alone (command.Apply modulus schedule) h = refl
+by_formula_alone _ h = absurd (cc)
+
+-- none goes by a formula and convolves
+pub no_both : (words : List (List ℕ)) (wanted other : Command) → AskForFormula words wanted → AskForConvolution words other → ⊥
+no_both words wanted other formula convolution =
+    two_values (takes_convolution wanted) (subst (λ (k : Command). takes_convolution k ≡ true) (asked_once words other wanted convolution.0 formula.0) convolution.1) (by_formula_alone wanted formula.1)
 
 exec_same : (s t : Plan) → command.Exec s ≡ command.Exec t → s ≡ t
 exec_same s t e = cc
@@ -255,17 +272,37 @@ exec_same s t e = cc
 pub schedule_asked_once : (words : List (List ℕ)) (s t : Plan) → IsAsked words (command.Exec s) → IsAsked words (command.Exec t) → s ≡ t
 schedule_asked_once words s t p q = exec_same s t (asked_once words (command.Exec s) (command.Exec t) p q)
 
+-- an outcome by a formula or by a list
+abbrev pub IsLaterOutcome : List (List ℕ) → List ℕ → Status → List ℕ → Type 0
+IsLaterOutcome words bytes s t =
+    ((wanted : Command) × AskForFormula words wanted × IsFormulaAnswer wanted bytes s t) ⊎ ((wanted : Command) × AskForConvolution words wanted × IsConvAnswer wanted bytes s t)
+
+-- words for a listing have none
+pub listing_alone : (words : List (List ℕ)) (bytes : List ℕ) (schedule : Plan) (s : Status) (t : List ℕ) → IsAsked words (command.Exec schedule) → IsLaterOutcome words bytes s t → ⊥
+listing_alone words bytes schedule s t asked (inl q) = no_formula words schedule q.0 asked q.1
+listing_alone words bytes schedule s t asked (inr q) = no_convolution words schedule q.0 asked q.1
+
+-- words for a request have none either, and none by a listing
+pub request_alone : (words : List (List ℕ)) (bytes : List ℕ) (a : Status) (s : List ℕ) (b : Status) (t : List ℕ) → IsAnswerToRequest words bytes a s
+    → ((schedule : Plan) × IsAsked words (command.Exec schedule) × IsExecution schedule bytes b t) ⊎ IsLaterOutcome words bytes b t → ⊥
+request_alone words bytes a s b t p (inl q) = no_answer words (command.Exec q.0) bytes a s q.1 refl p
+request_alone words bytes a s b t p (inr (inl q)) = no_answer words q.0 bytes a s q.1.0 (no_request q.0 q.1.1) p
+request_alone words bytes a s b t p (inr (inr q)) = no_answer words q.0 bytes a s q.1.0 (no_plain_request q.0 q.1.1) p
+
 pub one_status : (words : List (List ℕ)) (bytes : List ℕ) (a b : Status) (s t : List ℕ) → IsOutcome words bytes a s → IsOutcome words bytes b t → a ≡ b
 one_status words bytes a b s t (inl p) (inl q) = answer_once words bytes a b s t p q
-one_status words bytes a b s t (inl p) (inr (inl q)) = absurd (no_answer words (command.Exec q.0) bytes a s q.1 refl p)
-one_status words bytes a b s t (inl p) (inr (inr q)) = absurd (no_answer words q.0 bytes a s q.1.0 (no_request q.0 q.1.1) p)
-one_status words bytes a b s t (inr (inl p)) (inl q) = absurd (no_answer words (command.Exec p.0) bytes b t p.1 refl q)
-one_status words bytes a b s t (inr (inr p)) (inl q) = absurd (no_answer words p.0 bytes b t p.1.0 (no_request p.0 p.1.1) q)
-one_status words bytes a b s t (inr (inl p)) (inr (inr q)) = absurd (no_formula words p.0 q.0 p.1 q.1)
-one_status words bytes a b s t (inr (inr p)) (inr (inl q)) = absurd (no_formula words q.0 p.0 q.1 p.1)
-one_status words bytes a b s t (inr (inr p)) (inr (inr q)) =
-    let same : p.0 ≡ q.0 = asked_once words p.0 q.0 p.1.0 q.1.0 in
-    formula_status_once q.0 bytes a b s t (subst (λ (k : Command). IsFormulaAnswer k bytes a s) same p.2) q.2
+one_status words bytes a b s t (inl p) (inr q) = absurd (request_alone words bytes a s b t p q)
+one_status words bytes a b s t (inr p) (inl q) = absurd (request_alone words bytes b t a s q p)
 one_status words bytes a b s t (inr (inl p)) (inr (inl q)) =
     let same : p.0 ≡ q.0 = schedule_asked_once words p.0 q.0 p.1 q.1 in
     execution_status_once q.0 bytes a b s t (subst (λ (k : Plan). IsExecution k bytes a s) same p.2) q.2
+one_status words bytes a b s t (inr (inl p)) (inr (inr q)) = absurd (listing_alone words bytes p.0 b t p.1 q)
+one_status words bytes a b s t (inr (inr p)) (inr (inl q)) = absurd (listing_alone words bytes q.0 a s q.1 p)
+one_status words bytes a b s t (inr (inr (inl p))) (inr (inr (inl q))) =
+    let same : p.0 ≡ q.0 = asked_once words p.0 q.0 p.1.0 q.1.0 in
+    formula_status_once q.0 bytes a b s t (subst (λ (k : Command). IsFormulaAnswer k bytes a s) same p.2) q.2
+one_status words bytes a b s t (inr (inr (inl p))) (inr (inr (inr q))) = absurd (no_both words p.0 q.0 p.1 q.1)
+one_status words bytes a b s t (inr (inr (inr p))) (inr (inr (inl q))) = absurd (no_both words q.0 p.0 q.1 p.1)
+one_status words bytes a b s t (inr (inr (inr p))) (inr (inr (inr q))) =
+    let same : p.0 ≡ q.0 = asked_once words p.0 q.0 p.1.0 q.1.0 in
+    conv_status_once q.0 bytes a b s t (subst (λ (k : Command). IsConvAnswer k bytes a s) same p.2) q.2

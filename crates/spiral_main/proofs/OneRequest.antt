@@ -9,14 +9,14 @@ use Rattle.grammar.specs.Grammar.{Judges, IsStuck}
 use Rattle.request_text.specs.declared.fault.Field.{Field}
 use Rattle.request_text.specs.declared.fault.Field.TheVariants.{Size, Mod, Root, Procs, Line, Lanes, Unroll, Budget, Weight}
 use Rattle.request_text.specs.declared.fault.RequestFault.{RequestFault}
-use Rattle.request_text.specs.declared.fault.RequestFault.TheVariants.{Syntax, Range, Shape, LanesLine}
+use Rattle.request_text.specs.declared.fault.RequestFault.TheVariants.{Syntax, Range, Shape, LanesLine, NotUnit}
 use Rattle.request_text.specs.Line.{request_line}
 use Rattle.request_text.specs.Limits.{◌>>◌, within, below, shaped, divided, judged}
 use Rattle.request_text.specs.Answer.{IsFaultOf, Answers}
 use Rattle.request_text.proofs.Line.{line_judges}
 
 -- a text spells one value
-spelt_once : {S A : Type 0} (L : List S → A → Type 0) (text : List S) (r : Result A ℕ) (a b : A) → Judges L text r → L text a → L text b → a ≡ b
+pub spelt_once : {S A : Type 0} (L : List S → A → Type 0) (text : List S) (r : Result A ℕ) (a b : A) → Judges L text r → L text a → L text b → a ≡ b
 spelt_once L text (Ok value) a b j p q = j.1 a p ∙ sym (j.1 b q)
 spelt_once L text (Err left) a b j p q = absurd (j.1.nothing a p)
 
@@ -58,7 +58,7 @@ divided_ok procs line lanes h = cases (nat_le procs 1) refl
         let more : 1 < procs = grind (arith, common_steps) in
         ap (λ n. cond (n == 0) passed (Err (LanesLine lanes line))) (h more)
 
-judged_ok : (r : Request) → IsInRange r → judged r ≡ Ok r
+pub judged_ok : (r : Request) → IsInRange r → judged r ≡ Ok r
 unfolding judged
 judged_ok r v =
     then_ok (within Size r.size 1 65536) _ r (within_ok Size r.size 1 65536 v.size)
@@ -75,10 +75,10 @@ judged_ok r v =
 
 -- ---- what is answered for a line
 
-abbrev faulty : RequestFault → Result Request RequestFault
+abbrev pub faulty : RequestFault → Result Request RequestFault
 faulty fault = Err fault
 
-faulty_same : (f g : RequestFault) → faulty f ≡ faulty g → f ≡ g
+pub faulty_same : (f g : RequestFault) → faulty f ≡ faulty g → f ≡ g
 faulty_same f g e = cc
 
 fault_clash : (line : List ℕ) (r : Request) (fault : RequestFault) → request_line line r → IsInRange r → IsFaultOf line fault → ⊥
@@ -91,6 +91,7 @@ answer_clash line r (Syntax at) p q = q.nothing r p.0
 answer_clash line r (Range field value) p q = fault_clash line r (Range field value) p.0 p.1 q
 answer_clash line r (Shape size) p q = fault_clash line r (Shape size) p.0 p.1 q
 answer_clash line r (LanesLine lanes length) p q = fault_clash line r (LanesLine lanes length) p.0 p.1 q
+answer_clash line r (NotUnit gcd) p q = q
 
 -- a line is stuck, or spells a request with this fault
 abbrev IsFaulty : List ℕ → RequestFault → Type 0
@@ -101,6 +102,7 @@ faulty_by line (Syntax at) p = inl (at, refl, p)
 faulty_by line (Range field value) p = inr p
 faulty_by line (Shape size) p = inr p
 faulty_by line (LanesLine lanes length) p = inr p
+faulty_by line (NotUnit gcd) p = absurd p
 
 stuck_once : (line : List ℕ) (a b : ℕ) → IsStuck request_line line a → IsStuck request_line line b → a ≡ b
 stuck_once line a b p q =

@@ -19,6 +19,7 @@ use Rattle.spiral_status.specs.declared.status.Status.{Status}
 use Rattle.spiral_main.specs.Checked.{IsChecked, verdict_text}
 use Rattle.spiral_main.specs.Commands.{prints_one_text}
 use Rattle.spiral_main.specs.Compiled.{IsFormulaAnswer}
+use Rattle.spiral_main.specs.Convolved.{IsConvAnswer}
 use Rattle.spiral_main.specs.Line.{data_of}
 use Rattle.spiral_main.specs.Listed.{IsExecution}
 use Rattle.spiral_main.specs.Outcome.{Job, ordered, product, IsTextOf, IsTextOfData, Settles, IsAnswerToRequest, IsOutcome, room_behind}
@@ -26,9 +27,10 @@ use Rattle.spiral_main.specs.Sample.{sample_vector, weighted_sum, sample_text}
 use Rattle.spiral_words.proofs.OneCommand.{asked_once}
 use Rattle.spiral_main.proofs.OneTable.{table_once}
 use Rattle.spiral_main.proofs.OneTree.{chosen_once}
+use Rattle.spiral_main.proofs.OneConvolution.{conv_text_once}
 use Rattle.spiral_main.proofs.OneExecution.{execution_text_once}
 use Rattle.spiral_main.proofs.OneFormula.{formula_text_once}
-use Rattle.spiral_main.proofs.OneOutcome.{ordered_decided, data_or_text, data_or_check, text_or_check, no_answer, no_formula, no_request, schedule_asked_once}
+use Rattle.spiral_main.proofs.OneOutcome.{ordered_decided, data_or_text, data_or_check, text_or_check, no_both, listing_alone, request_alone, schedule_asked_once}
 use Rattle.spiral_main.proofs.Stages.{done_same, done_ended}
 
 planned_once : (r : Request) (t u : Breakdown) → IsPlanned r (Ok t) → IsPlanned r (Ok u) → t ≡ u
@@ -48,6 +50,7 @@ text_once command.Check r s t h p q = absurd p
 text_once (command.Compile modulus) r s t h p q = absurd p
 text_once (command.Apply modulus schedule) r s t h p q = absurd p
 text_once (command.Exec schedule) r s t h p q = absurd p
+text_once (command.Convolve schedule as_code) r s t h p q = absurd p
 text_once (command.Sample seed schedule) r s t h p q =
     p.2
     ∙ ap (λ (tree : Breakdown). sample_text (weighted_sum r.modulus (product r (sample_vector r.modulus r.size seed))) (cost_of r tree) (loads_of r tree) (stores_of r tree)) (planned_once r p.0 q.0 p.1 q.1)
@@ -67,6 +70,7 @@ data_text_once (command.Sample seed schedule) r vectors s t h p q = absurd p
 data_text_once (command.Compile modulus) r vectors s t h p q = absurd p
 data_text_once (command.Apply modulus schedule) r vectors s t h p q = absurd p
 data_text_once (command.Exec schedule) r vectors s t h p q = absurd p
+data_text_once (command.Convolve schedule as_code) r vectors s t h p q = absurd p
 
 checked_text_once : (r : Request) (bytes : List ℕ) (a b : Status) (s t : List ℕ) → IsChecked r bytes a s → IsChecked r bytes b t → s ≡ t
 checked_text_once r bytes a b s t (inl p) (inl q) = p.2 ∙ sym q.2
@@ -104,16 +108,20 @@ answer_text_once words bytes wanted a b s t asked h (inr p) (inr q) =
 pub one_text : (words : List (List ℕ)) (bytes : List ℕ) (wanted : Command) (a b : Status) (s t : List ℕ) → IsAsked words wanted → prints_one_text wanted ≡ true
     → IsOutcome words bytes a s → IsOutcome words bytes b t → s ≡ t
 one_text words bytes wanted a b s t asked h (inl p) (inl q) = answer_text_once words bytes wanted a b s t asked h p q
-one_text words bytes wanted a b s t asked h (inl p) (inr (inl q)) = absurd (no_answer words (command.Exec q.0) bytes a s q.1 refl p)
-one_text words bytes wanted a b s t asked h (inl p) (inr (inr q)) = absurd (no_answer words q.0 bytes a s q.1.0 (no_request q.0 q.1.1) p)
-one_text words bytes wanted a b s t asked h (inr (inl p)) (inl q) = absurd (no_answer words (command.Exec p.0) bytes b t p.1 refl q)
-one_text words bytes wanted a b s t asked h (inr (inr p)) (inl q) = absurd (no_answer words p.0 bytes b t p.1.0 (no_request p.0 p.1.1) q)
-one_text words bytes wanted a b s t asked h (inr (inl p)) (inr (inr q)) = absurd (no_formula words p.0 q.0 p.1 q.1)
-one_text words bytes wanted a b s t asked h (inr (inr p)) (inr (inl q)) = absurd (no_formula words q.0 p.0 q.1 p.1)
-one_text words bytes wanted a b s t asked h (inr (inr p)) (inr (inr q)) =
-    let same : p.0 ≡ q.0 = asked_once words p.0 q.0 p.1.0 q.1.0 in
-    let own : wanted ≡ q.0 = asked_once words wanted q.0 asked q.1.0 in
-    formula_text_once q.0 bytes a b s t (subst (λ (k : Command). prints_one_text k ≡ true) own h) (subst (λ (k : Command). IsFormulaAnswer k bytes a s) same p.2) q.2
+one_text words bytes wanted a b s t asked h (inl p) (inr q) = absurd (request_alone words bytes a s b t p q)
+one_text words bytes wanted a b s t asked h (inr p) (inl q) = absurd (request_alone words bytes b t a s q p)
 one_text words bytes wanted a b s t asked h (inr (inl p)) (inr (inl q)) =
     let same : p.0 ≡ q.0 = schedule_asked_once words p.0 q.0 p.1 q.1 in
     execution_text_once q.0 bytes a b s t (subst (λ (k : Plan). IsExecution k bytes a s) same p.2) q.2
+one_text words bytes wanted a b s t asked h (inr (inl p)) (inr (inr q)) = absurd (listing_alone words bytes p.0 b t p.1 q)
+one_text words bytes wanted a b s t asked h (inr (inr p)) (inr (inl q)) = absurd (listing_alone words bytes q.0 a s q.1 p)
+one_text words bytes wanted a b s t asked h (inr (inr (inl p))) (inr (inr (inl q))) =
+    let same : p.0 ≡ q.0 = asked_once words p.0 q.0 p.1.0 q.1.0 in
+    let own : wanted ≡ q.0 = asked_once words wanted q.0 asked q.1.0 in
+    formula_text_once q.0 bytes a b s t (subst (λ (k : Command). prints_one_text k ≡ true) own h) (subst (λ (k : Command). IsFormulaAnswer k bytes a s) same p.2) q.2
+one_text words bytes wanted a b s t asked h (inr (inr (inl p))) (inr (inr (inr q))) = absurd (no_both words p.0 q.0 p.1 q.1)
+one_text words bytes wanted a b s t asked h (inr (inr (inr p))) (inr (inr (inl q))) = absurd (no_both words q.0 p.0 q.1 p.1)
+one_text words bytes wanted a b s t asked h (inr (inr (inr p))) (inr (inr (inr q))) =
+    let same : p.0 ≡ q.0 = asked_once words p.0 q.0 p.1.0 q.1.0 in
+    let own : wanted ≡ q.0 = asked_once words wanted q.0 asked q.1.0 in
+    conv_text_once q.0 bytes a b s t (subst (λ (k : Command). prints_one_text k ≡ true) own h) (subst (λ (k : Command). IsConvAnswer k bytes a s) same p.2) q.2

@@ -77,6 +77,7 @@ plan_accepted (command.Sample seed schedule) request other p = p
 plan_accepted (command.Compile modulus) request other p = p
 plan_accepted (command.Apply modulus schedule) request other p = p
 plan_accepted (command.Exec schedule) request other p = p
+plan_accepted (command.Convolve schedule as_code) request other p = p
 
 pub plan_declined : (wanted : Command) (request : Request) (status : Status) → reads_certificate wanted ≡ false → IsRefused request status → IsDeclined wanted request status
 plan_declined command.Plan request status other p = p
@@ -91,6 +92,7 @@ plan_declined (command.Sample seed schedule) request status other p = p
 plan_declined (command.Compile modulus) request status other p = p
 plan_declined (command.Apply modulus schedule) request status other p = p
 plan_declined (command.Exec schedule) request status other p = p
+plan_declined (command.Convolve schedule as_code) request status other p = p
 
 -- a command has a text of the request alone, or reads its input to its end
 pub text_alone : (wanted : Command) → has_text wanted ≡ true → reads_certificate wanted ≡ false
@@ -106,6 +108,7 @@ text_alone (command.Sample seed schedule) h = refl
 text_alone (command.Compile modulus) h = refl
 text_alone (command.Apply modulus schedule) h = refl
 text_alone (command.Exec schedule) h = refl
+text_alone (command.Convolve schedule as_code) h = refl
 
 -- a command that a refusal ends before its output
 pub performs_refused : (wanted : Command) (request : Request) (room : ℕ) (bytes : List ℕ) (left out : Option (List ℕ)) (status : Status)

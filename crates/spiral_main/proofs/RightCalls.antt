@@ -10,22 +10,24 @@ use Rattle.request_text.specs.Schedule.{Plan}
 use Rattle.spiral_words.specs.declared.Command.{Command}
 use Rattle.spiral_words.specs.declared.Command.TheVariants as command
 use Rattle.spiral_status.specs.declared.status.Status.{Status}
-use Rattle.spiral_status.specs.declared.status.Status.TheVariants.{Success, Usage, Syntax, Range, Shape, LanesLine, Turn, NoDivide, OverBudget, BadNumber, Truncated, ReadFault, WriteFault, NoMemory, TooLong, Unread, Wrong, FormulaShape, FormulaTooDeep, ListingSyntax, Address, Register, LineShared, OverSteps}
+use Rattle.spiral_status.specs.declared.status.Status.TheVariants.{Success, Usage, Syntax, Range, Shape, LanesLine, NotUnit, Turn, NotPrincipal, NoDivide, OverBudget, BadNumber, Truncated, ReadFault, WriteFault, NoMemory, TooLong, Unread, Wrong, FormulaShape, FormulaTooDeep, ListingSyntax, Address, Register, LineShared, OverSteps}
 use Rattle.spiral_status.specs.declared.status.Status.TheVariants as status
 use Rattle.spiral_main.specs.Checked.{IsChecked, status_of_verdict}
-use Rattle.spiral_main.specs.Commands.{reads_certificate}
+use Rattle.spiral_main.specs.Commands.{reads_certificate, takes_convolution}
+use Rattle.spiral_main.specs.Convolved.{conv_in, list_status, conv_status, SettlesConv, IsConvAnswer}
 use Rattle.spl_ast.specs.Formula.{Formula, size_of}
 use Rattle.spiral_main.specs.Compiled.{formula_in, SettlesFormula, IsFormulaAnswer}
 use Rattle.spiral_status.specs.Fault.{status_of_stream}
 use Rattle.spiral_main.specs.Line.{data_of}
 use Rattle.spiral_main.specs.Listed.{runnable, room_behind_listing, IsAnswerOfProgram, IsExecution}
 use Rattle.spiral_main.specs.Outcome.{Job, IsTextOfData, Settles, IsAnswerToRequest, IsOutcome, room_behind, Accounts}
-use Rattle.spiral_main.specs.Right.{AreRightData, AreWholeVectors, IsRightRest, IsRightRequest, IsRightCall, Succeeds}
+use Rattle.spiral_main.specs.Right.{AreRightData, AreRightVectors, BeginWithList, AreWholeVectors, IsRightRest, IsRightRequest, IsRightCall, Succeeds}
 use Rattle.stream_run.specs.Stream.{data_answer}
 use Rattle.spiral_words.proofs.OneCommand.{asked_once}
+use Rattle.spiral_main.proofs.OneConvolution.{conv_decided}
 use Rattle.spiral_main.proofs.OneExecution.{runnable_decided}
 use Rattle.spiral_main.proofs.OneFormula.{formula_decided}
-use Rattle.spiral_main.proofs.OneOutcome.{ordered_decided, no_order, no_answer, no_formula, no_request, schedule_asked_once}
+use Rattle.spiral_main.proofs.OneOutcome.{ordered_decided, no_order, no_answer, no_formula, no_request, no_plain_request, no_convolution, no_both, listing_alone, schedule_asked_once}
 use Rattle.spiral_main.proofs.Stages.{done_same, done_ended}
 use Rattle.stream_run.proofs.StreamLemmas.{right_answer}
 
@@ -43,6 +45,7 @@ data_right (command.Sample seed schedule) r room bytes vectors text right p = ab
 data_right (command.Compile modulus) r room bytes vectors text right p = absurd p
 data_right (command.Apply modulus schedule) r room bytes vectors text right p = absurd p
 data_right (command.Exec schedule) r room bytes vectors text right p = absurd p
+data_right (command.Convolve schedule as_code) r room bytes vectors text right p = absurd p
 
 check_right : (wanted : Command) (r : Request) (room : ℕ) (bytes : List ℕ) (s : Status) (text : List ℕ) → IsRightRest wanted r room bytes → reads_certificate wanted ≡ true → IsChecked r bytes s text → s ≡ Success
 check_right command.Check r room bytes s text right h (inl p) = absurd (omega (arith, p.0, right.few))
@@ -58,6 +61,7 @@ check_right (command.Sample seed schedule) r room bytes s text right h p = absur
 check_right (command.Compile modulus) r room bytes s text right h p = absurd (cc)
 check_right (command.Apply modulus schedule) r room bytes s text right h p = absurd (cc)
 check_right (command.Exec schedule) r room bytes s text right h p = absurd (cc)
+check_right (command.Convolve schedule as_code) r room bytes s text right h p = absurd (cc)
 
 settled_right : (wanted : Command) (r : Request) (room : ℕ) (bytes : List ℕ) (s : Status) (text : List ℕ) → IsRightRest wanted r room bytes → Settles wanted r room bytes s text → s ≡ Success
 settled_right wanted r room bytes s text right (inl p) = p.0 ∙ ap status_of_stream (data_right wanted r room bytes _ text right p.1)
@@ -95,17 +99,40 @@ formula_success wanted bytes formula s text orders right (inr p) =
     settled_formula wanted formula (room_behind bytes) (data_of bytes) s text right
     (subst (λ (f : Formula). SettlesFormula wanted f (room_behind bytes) (data_of bytes) s text) same p.2)
 
+list_right : (wanted : Command) (request : Request) (room : ℕ) (bytes : List ℕ) → takes_convolution wanted ≡ true → AreRightVectors wanted request room bytes
+    → list_status wanted (data_answer request.size room bytes) ≡ Success
+list_right (command.Convolve schedule true) request room bytes h right = refl
+list_right (command.Convolve schedule false) request room bytes h right = ap status_of_stream (right_answer request.size room bytes right.few right.good right.whole)
+list_right _ request room bytes h right = absurd (cc)
+
+conv_success : (wanted : Command) (bytes : List ℕ) (request : Request) (s : Status) (text : List ℕ) → takes_convolution wanted ≡ true → conv_in wanted bytes (Ok request)
+    → BeginWithList request (room_behind bytes) (data_of bytes) → AreRightVectors wanted request (room_behind bytes) (data_of bytes) → IsConvAnswer wanted bytes s text → s ≡ Success
+conv_success wanted bytes request s text h orders list right (inl p) = absurd (done_ended request s (conv_decided wanted bytes (Ok request) (Err s) orders p.0))
+conv_success wanted bytes request s text h orders list right (inr p) =
+    let same : p.0 ≡ request = done_same p.0 request (conv_decided wanted bytes (Ok p.0) (Ok request) p.1 orders) in
+    let settles = subst (λ (r : Request). SettlesConv wanted r (room_behind bytes) (data_of bytes) s text) same p.2 in
+    settles.0 ∙ ap (conv_status wanted request.size (data_answer request.size (room_behind bytes) (data_of bytes))) list.2
+    ∙ list_right wanted request (room_behind bytes) (data_of bytes) h right
+
 right_success : (words : List (List ℕ)) (bytes : List ℕ) (s : Status) (text : List ℕ) → IsRightCall words bytes → IsOutcome words bytes s text → s ≡ Success
 right_success words bytes s text (inl right) (inl p) = answer_success words bytes s text right p
 right_success words bytes s text (inl right) (inr (inl p)) = absurd (no_order words (command.Exec p.0) bytes (Ok right.job) p.1 refl right.asks)
-right_success words bytes s text (inl right) (inr (inr p)) = absurd (no_order words p.0 bytes (Ok right.job) p.1.0 (no_request p.0 p.1.1) right.asks)
+right_success words bytes s text (inl right) (inr (inr (inl p))) = absurd (no_order words p.0 bytes (Ok right.job) p.1.0 (no_request p.0 p.1.1) right.asks)
+right_success words bytes s text (inl right) (inr (inr (inr p))) = absurd (no_order words p.0 bytes (Ok right.job) p.1.0 (no_plain_request p.0 p.1.1) right.asks)
 right_success words bytes s text (inr (inl right)) (inl p) = absurd (no_answer words (command.Exec right.schedule) bytes s text right.asked refl p)
-right_success words bytes s text (inr (inl right)) (inr (inr p)) = absurd (no_formula words right.schedule p.0 right.asked p.1)
-right_success words bytes s text (inr (inr right)) (inl p) = absurd (no_answer words right.wanted bytes s text right.asked.0 (no_request right.wanted right.asked.1) p)
-right_success words bytes s text (inr (inr right)) (inr (inl p)) = absurd (no_formula words p.0 right.wanted p.1 right.asked)
-right_success words bytes s text (inr (inr right)) (inr (inr p)) =
+right_success words bytes s text (inr (inl right)) (inr (inr p)) = absurd (listing_alone words bytes right.schedule s text right.asked p)
+right_success words bytes s text (inr (inr (inl right))) (inl p) = absurd (no_answer words right.wanted bytes s text right.asked.0 (no_request right.wanted right.asked.1) p)
+right_success words bytes s text (inr (inr (inl right))) (inr (inl p)) = absurd (no_formula words p.0 right.wanted p.1 right.asked)
+right_success words bytes s text (inr (inr (inl right))) (inr (inr (inl p))) =
     let same : p.0 ≡ right.wanted = asked_once words p.0 right.wanted p.1.0 right.asked.0 in
     formula_success right.wanted bytes right.formula s text right.orders right.rest (subst (λ (k : Command). IsFormulaAnswer k bytes s text) same p.2)
+right_success words bytes s text (inr (inr (inl right))) (inr (inr (inr p))) = absurd (no_both words right.wanted p.0 right.asked p.1)
+right_success words bytes s text (inr (inr (inr right))) (inl p) = absurd (no_answer words right.wanted bytes s text right.asked.0 (no_plain_request right.wanted right.asked.1) p)
+right_success words bytes s text (inr (inr (inr right))) (inr (inl p)) = absurd (no_convolution words p.0 right.wanted p.1 right.asked)
+right_success words bytes s text (inr (inr (inr right))) (inr (inr (inl p))) = absurd (no_both words p.0 right.wanted p.1 right.asked)
+right_success words bytes s text (inr (inr (inr right))) (inr (inr (inr p))) =
+    let same : p.0 ≡ right.wanted = asked_once words p.0 right.wanted p.1.0 right.asked.0 in
+    conv_success right.wanted bytes right.request s text right.asked.1 right.orders right.list right.rest (subst (λ (k : Command). IsConvAnswer k bytes s text) same p.2)
 right_success words bytes s text (inr (inl right)) (inr (inl p)) =
     let same : p.0 ≡ right.schedule = schedule_asked_once words p.0 right.schedule p.1 right.asked in
     execution_success right.schedule bytes right.program s text right.runs right.rest (subst (λ (k : Plan). IsExecution k bytes s text) same p.2)
@@ -120,6 +147,8 @@ memory_or (Shape size) = inr (λ e. cc)
 memory_or (LanesLine lanes line) = inr (λ e. cc)
 memory_or (Turn q p) = inr (λ e. cc)
 memory_or (status.Root power) = inr (λ e. cc)
+memory_or (NotUnit gcd) = inr (λ e. cc)
+memory_or (NotPrincipal k) = inr (λ e. cc)
 memory_or NoDivide = inr (λ e. cc)
 memory_or (OverBudget cost budget) = inr (λ e. cc)
 memory_or (BadNumber token) = inr (λ e. cc)

@@ -11,7 +11,7 @@ use Rattle.request_text.specs.Turns.{turns_of}
 use Rattle.par_machine.proofs.Schedules.{turns_there}
 use Rattle.spiral_words.specs.declared.Command.{Command}
 use Rattle.spiral_words.specs.declared.Command.TheVariants as command
-use Rattle.spiral_main.specs.Commands.{takes_formula, takes_listing, takes_request}
+use Rattle.spiral_main.specs.Commands.{takes_convolution, takes_formula, takes_listing, takes_request}
 use Rattle.spiral_main.specs.Steps.{IsGoodCode}
 use Rattle.stream_run.specs.Stream.{HasNoStranger}
 
@@ -21,20 +21,13 @@ left_ended held None h = tt
 left_ended [] (Some bytes) h = h
 left_ended (x ∷ xs) (Some bytes) h = absurd (cc)
 
--- a command that goes neither by a listing nor by a formula goes by a request
-pub goes_by_request : (wanted : Command) → takes_listing wanted ≡ false → takes_formula wanted ≡ false → takes_request wanted ≡ true
-goes_by_request command.Plan listing formula = refl
-goes_by_request command.Formula listing formula = refl
-goes_by_request command.Code listing formula = refl
-goes_by_request command.C listing formula = refl
-goes_by_request (command.Run order) listing formula = refl
-goes_by_request (command.Trace order) listing formula = refl
-goes_by_request command.Cert listing formula = refl
-goes_by_request command.Check listing formula = refl
-goes_by_request (command.Sample seed schedule) listing formula = refl
-goes_by_request (command.Compile modulus) listing formula = absurd (cc)
-goes_by_request (command.Apply modulus schedule) listing formula = absurd (cc)
-goes_by_request (command.Exec schedule) listing formula = absurd (cc)
+-- a command that goes neither by a listing nor by a formula, and does not convolve, goes by a request
+pub goes_by_request : (wanted : Command) → takes_listing wanted ≡ false → takes_formula wanted ≡ false → takes_convolution wanted ≡ false → takes_request wanted ≡ true
+goes_by_request (command.Compile modulus) listing formula convolution = absurd (cc)
+goes_by_request (command.Apply modulus schedule) listing formula convolution = absurd (cc)
+goes_by_request (command.Exec schedule) listing formula convolution = absurd (cc)
+goes_by_request (command.Convolve schedule as_code) listing formula convolution = absurd (cc)
+goes_by_request _ listing formula convolution = refl
 
 -- a good program has the request's processors
 pub good_procs : (request : Request) (code : Code) → IsGoodCode request code → code.procs ≡ request.procs

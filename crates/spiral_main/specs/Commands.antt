@@ -6,7 +6,7 @@ use Rattle.request_text.specs.Schedule.{Plan as Turns}
 use Rattle.request_text.specs.Turns.{named}
 use Rattle.spiral_words.specs.Asked.{IsAsked, IsUsage}
 use Rattle.spiral_words.specs.declared.Command.{Command}
-use Rattle.spiral_words.specs.declared.Command.TheVariants.{Plan, Formula, Cert, Check, Code, C, Run, Trace, Sample, Compile, Apply, Exec}
+use Rattle.spiral_words.specs.declared.Command.TheVariants.{Plan, Formula, Cert, Check, Code, C, Run, Trace, Sample, Compile, Apply, Exec, Convolve}
 use Rattle.spiral_main.specs.Orders.{procs_of}
 use Rattle.spiral_main.specs.Stage.{Stage}
 use Rattle.spiral_status.specs.declared.status.Status.{Status}
@@ -18,6 +18,7 @@ reads_data (Run order) = true
 reads_data (Trace order) = true
 reads_data (Apply modulus schedule) = true
 reads_data (Exec schedule) = true
+reads_data (Convolve schedule false) = true
 reads_data _ = false
 
 -- the commands that go by a request, which the first line of the input spells
@@ -25,6 +26,7 @@ abbrev pub takes_request : Command → Bool
 takes_request (Compile modulus) = false
 takes_request (Apply modulus schedule) = false
 takes_request (Exec schedule) = false
+takes_request (Convolve schedule as_code) = false
 takes_request _ = true
 
 -- the commands that go by a formula, which the first line of the input spells
@@ -37,6 +39,11 @@ takes_formula _ = false
 abbrev pub takes_listing : Command → Bool
 takes_listing (Exec schedule) = true
 takes_listing _ = false
+
+-- the command that goes by a request for convolutions and by a list
+abbrev pub takes_convolution : Command → Bool
+takes_convolution (Convolve schedule as_code) = true
+takes_convolution _ = false
 
 -- the command that judges a certificate
 abbrev pub reads_certificate : Command → Bool
@@ -63,6 +70,7 @@ prints_one_text Code = false
 prints_one_text C = false
 prints_one_text (Trace order) = false
 prints_one_text (Compile modulus) = false
+prints_one_text (Convolve schedule true) = false
 prints_one_text _ = true
 
 -- the command that the words ask for, if it goes by a request
@@ -86,6 +94,10 @@ AreJudged words status = (status ≡ NoMemory) ⊎ (((status ≡ Usage) × IsUsa
 abbrev pub AskForFormula : List (List ℕ) → Command → Type 0
 AskForFormula words command = IsAsked words command × (takes_formula command ≡ true)
 
+-- the words ask for this command, which convolves
+abbrev pub AskForConvolution : List (List ℕ) → Command → Type 0
+AskForConvolution words command = IsAsked words command × (takes_convolution command ≡ true)
+
 -- the words ask for a command that reads its input to its end
 abbrev pub AskForRest : List (List ℕ) → Type 0
 AskForRest words = (command : Command) × IsAsked words command × (reads_rest command ≡ true)
@@ -97,6 +109,7 @@ procs_named (Trace order) = procs_of order
 procs_named (Sample seed schedule) = named schedule
 procs_named (Apply modulus schedule) = named schedule
 procs_named (Exec schedule) = named schedule
+procs_named (Convolve schedule as_code) = named schedule
 procs_named _ = []
 
 -- the first of them that is not there

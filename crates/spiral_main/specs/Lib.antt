@@ -1,6 +1,8 @@
+pub mod Asking
 pub mod Checked
 pub mod Commands
 pub mod Compiled
+pub mod Convolved
 pub mod Line
 pub mod Listed
 pub mod Outcome

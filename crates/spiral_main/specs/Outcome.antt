@@ -33,8 +33,10 @@ use Rattle.spiral_words.specs.declared.Command.TheVariants as command
 use Rattle.spiral_status.specs.declared.status.Status.{Status}
 use Rattle.spiral_status.specs.declared.status.Status.TheVariants.{Success, ReadFault, WriteFault}
 use Rattle.spiral_main.specs.Checked.{certificate_limit, IsJudged, IsChecked}
-use Rattle.spiral_main.specs.Commands.{reads_certificate, commanded, AskForRequest, AskForFormula, scheduled}
+use Rattle.spiral_main.specs.Commands.{reads_certificate, commanded, AskForRequest, AskForFormula, AskForConvolution}
 use Rattle.spiral_status.specs.Fault.{status_of_request, status_of_generate, status_of_stream}
+use Rattle.spiral_main.specs.Asking.{asked_by}
+use Rattle.spiral_main.specs.Convolved.{IsConvAnswer, IsBrokenConv, IsCutConv}
 use Rattle.spiral_main.specs.Compiled.{IsFormulaAnswer, IsBrokenFormula, IsCutFormula}
 use Rattle.spiral_main.specs.Line.{line_of, data_of, IsPartOfLine, HasEnded}
 pub use Rattle.spiral_main.specs.Line.{room_behind}
@@ -76,10 +78,7 @@ IsDeclined _ request status = IsRefused request status
 
 -- the request for the command, of which each turn is of one of its processors
 abbrev pub requested : Command → List ℕ → Stage Request
-requested command bytes = do
-  line ← given (line_of bytes)
-  request ← spelt line
-  given (scheduled command request)
+requested = asked_by spelt
 
 -- what is to be done
 pub record Job : Type 0 where
@@ -174,12 +173,13 @@ IsAnswerToRequest words bytes status text =
     (ordered words bytes (Err status) × (text ≡ []))
     ⊎ ((job : Job) × ordered words bytes (Ok job) × Settles job.command job.request (room_behind bytes) (data_of bytes) status text)
 
--- The status and the text, by a request, by a listing or by a formula
+-- The status and the text, by a request, by a listing, by a formula or by a list
 abbrev pub IsOutcome : List (List ℕ) → List ℕ → Status → List ℕ → Type 0
 IsOutcome words bytes status text =
     IsAnswerToRequest words bytes status text
     ⊎ (((schedule : Turns) × IsAsked words (command.Exec schedule) × IsExecution schedule bytes status text)
-    ⊎ ((wanted : Command) × AskForFormula words wanted × IsFormulaAnswer wanted bytes status text))
+    ⊎ (((wanted : Command) × AskForFormula words wanted × IsFormulaAnswer wanted bytes status text)
+    ⊎ ((wanted : Command) × AskForConvolution words wanted × IsConvAnswer wanted bytes status text)))
 
 -- What a fault of the outside leaves
 
@@ -194,13 +194,14 @@ pub record IsOrder (words : List (List ℕ)) (read : List ℕ) (ended : Type 0) 
   pub line : HasEnded read ended
   pub asks : ordered words read (Ok job)
 
--- The bytes that were read show no fault: they are a part of the first line, and nothing is written, or a job and a part of what stands behind it, or as much of what is executed, or of a formula and its data
+-- The bytes that were read show no fault: they are a part of the first line, and nothing is written, or a job and a part of what stands behind it, or as much of what is executed, of a formula and its data, or of a list and the vectors behind it
 abbrev pub IsBrokenOff : List (List ℕ) → List ℕ → Type 0 → List ℕ → Type 0
 IsBrokenOff words read ended text =
     (AskForRequest words × IsPartOfLine read × (text ≡ []))
     ⊎ (((job : Job) × IsOrder words read ended job × BreaksOff job.command job.request (data_of read) text)
     ⊎ (((schedule : Turns) × IsAsked words (command.Exec schedule) × IsBrokenExecution schedule read ended text)
-    ⊎ ((wanted : Command) × AskForFormula words wanted × IsBrokenFormula wanted read ended text)))
+    ⊎ (((wanted : Command) × AskForFormula words wanted × IsBrokenFormula wanted read ended text)
+    ⊎ ((wanted : Command) × AskForConvolution words wanted × IsBrokenConv wanted read ended text))))
 
 -- The text to which a command has come by the bytes that it read behind the first line, where this is left. Of data no token counts that what is left may go on
 abbrev pub ComesTo : Command → Request → List ℕ → List ℕ → List ℕ → Type 0
@@ -215,7 +216,8 @@ abbrev pub IsCutOff : List (List ℕ) → List ℕ → List ℕ → List ℕ →
 IsCutOff words read left text =
     ((job : Job) × IsOrder words read (left ≡ []) job × ComesTo job.command job.request (data_of read) left text)
     ⊎ (((schedule : Turns) × IsAsked words (command.Exec schedule) × IsCutExecution schedule read left text)
-    ⊎ ((wanted : Command) × AskForFormula words wanted × IsCutFormula wanted read left text))
+    ⊎ (((wanted : Command) × AskForFormula words wanted × IsCutFormula wanted read left text)
+    ⊎ ((wanted : Command) × AskForConvolution words wanted × IsCutConv wanted read left text)))
 
 -- Status and output of a run, by all the bytes of its input and by what the source has left of them
 pub record Accounts (words : List (List ℕ)) (bytes : List ℕ) (left before after : Option (List ℕ)) (status : Status) : Type 0 where

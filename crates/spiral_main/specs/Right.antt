@@ -1,5 +1,5 @@
 -- Calls that are right in all that the program asks of them, and their success.
-use Rattle.std.specs.Prelude.{◌≡◌, ◌⊎◌, ℕ, ◌≤◌, ◌%◌, true, List, length, Ok}
+use Rattle.std.specs.Prelude.{◌≡◌, ◌⊎◌, ℕ, ◌≤◌, ◌%◌, true, List, length, Ok, ◌∷◌}
 use Rattle.std.specs.List.{list_all}
 use Rattle.std.specs.declared.option.Option.{Option}
 use Rattle.std.specs.Io.KnownBytes.{Appends}
@@ -17,9 +17,11 @@ use Rattle.spiral_words.specs.declared.Command.TheVariants as command
 use Rattle.spiral_status.specs.declared.status.Status.{Status}
 use Rattle.spiral_status.specs.declared.status.Status.TheVariants.{Success}
 use Rattle.spiral_main.specs.Checked.{certificate_limit}
-use Rattle.spiral_main.specs.Commands.{AskForFormula}
+use Rattle.spiral_main.specs.Commands.{AskForFormula, AskForConvolution}
 use Rattle.spiral_main.specs.Compiled.{formula_in}
+use Rattle.spiral_main.specs.Convolved.{conv_in}
 use Rattle.spiral_main.specs.Line.{data_of}
+use Rattle.stream_run.specs.Stream.{data_vectors}
 use Rattle.spiral_main.specs.Listed.{runnable, room_behind_listing}
 use Rattle.spiral_main.specs.Outcome.{Job, ordered, room_behind, IsOutcome}
 
@@ -69,8 +71,26 @@ pub record IsRightFormula (words : List (List ℕ)) (bytes : List ℕ) : Type 0 
   pub orders : formula_in wanted bytes (Ok formula)
   pub rest : AreRightData wanted formula (room_behind bytes) (data_of bytes)
 
+-- the first vector of the data is there
+abbrev pub BeginWithList : Request → ℕ → List ℕ → Type 0
+BeginWithList request room bytes = (h : List ℕ) × (later : List (List ℕ)) × (data_vectors request.size request.modulus room bytes ≡ h ∷ later)
+
+-- the data are right for a command that convolves; for the listing those behind the list don't matter
+abbrev pub AreRightVectors : Command → Request → ℕ → List ℕ → Type 0
+AreRightVectors (command.Convolve schedule false) request room bytes = AreWholeVectors request.size room bytes
+AreRightVectors _ request room bytes = Unit {0}
+
+-- The words ask for `convolve`, the first line spells a request for convolutions, the schedule names the one processor alone, the root has the size and its power sums are 0, the cost is within the budget, and the data begin with a list and are right
+pub record IsRightConvolution (words : List (List ℕ)) (bytes : List ℕ) : Type 0 where
+  pub wanted : Command
+  pub asked : AskForConvolution words wanted
+  pub request : Request
+  pub orders : conv_in wanted bytes (Ok request)
+  pub list : BeginWithList request (room_behind bytes) (data_of bytes)
+  pub rest : AreRightVectors wanted request (room_behind bytes) (data_of bytes)
+
 abbrev pub IsRightCall : List (List ℕ) → List ℕ → Type 0
-IsRightCall words bytes = IsRightRequest words bytes ⊎ (IsRightExecution words bytes ⊎ IsRightFormula words bytes)
+IsRightCall words bytes = IsRightRequest words bytes ⊎ (IsRightExecution words bytes ⊎ (IsRightFormula words bytes ⊎ IsRightConvolution words bytes))
 
 -- the status is Success, and the output took the whole text
 pub record Succeeds (words : List (List ℕ)) (bytes : List ℕ) (before after : Option (List ℕ)) (status : Status) : Type 0 where

@@ -22,10 +22,9 @@ use Rattle.spiral_status.specs.declared.status.Status.{Status}
 use Rattle.spiral_status.specs.declared.status.Status.TheVariants.{Success, Usage, ReadFault, WriteFault}
 use Rattle.spiral_main.specs.Compiled.{IsFormulaAnswer, IsBrokenFormula, IsCutFormula}
 use Rattle.spiral_status.specs.Fault.{status_of_part}
-use Rattle.spiral_main.specs.Line.{data_of, IsPartOfLine}
 use Rattle.spiral_main.specs.Listed.{listing_limit, loaded, IsExecution, IsBrokenExecution, IsCutExecution}
 use Rattle.spiral_status.specs.Status.{IsDefined}
-use Rattle.spiral_main.specs.Outcome.{requested, IsAccepted, IsDeclined, Settles, BreaksOff, ComesTo, Accounts}
+use Rattle.spiral_main.specs.Outcome.{IsAccepted, IsDeclined, Settles, BreaksOff, ComesTo, Accounts}
 
 -- a status that ends a run before the output and the data
 pub record IsEarly (status : Status) : Type 0 where
@@ -39,18 +38,6 @@ pub record IsRefusal (status : Status) : Type 0 where
   pub read : status ≢ ReadFault
   pub write : status ≢ WriteFault
   pub usage : status ≢ Usage
-
--- the request for the command, by the bytes that were read and those that are left; or why there is none
-abbrev pub AsksBy : Command → List ℕ → List ℕ → ℕ → Result Request Status → Type 0
-AsksBy command read rest taken (Ok request) = (taken ≡ length read)
-    × ((more : List ℕ) → (rest ≡ [] → more ≡ []) → requested command (read ++ more) (Ok request) × (data_of (read ++ more) ≡ more))
-AsksBy command read rest taken (Err status) = (IsDefined status → requested command (read ++ rest) (Err status)) × (status ≡ ReadFault → IsPartOfLine read)
-
--- the same over a source that tells its bytes
-abbrev pub Asks : Command → Option (List ℕ) → Option (List ℕ) → ℕ → Result Request Status → Type 0
-Asks command None after taken result = Unit {0}
-Asks command (Some bytes) None taken result = ⊥
-Asks command (Some bytes) (Some rest) taken result = (read : List ℕ) × (bytes ≡ read ++ rest) × AsksBy command read rest taken result
 
 -- the code of a program that is good for the request
 abbrev pub IsGoodCode : Request → Code → Type 0

@@ -7,7 +7,9 @@ ghost use Rattle.spiral_words.specs.Asked.{IsAsked};
 ghost use Rattle.spiral_main.specs.Commands.{commanded, AreJudged, NamesNoStranger, first_stranger, procs_named};
 ghost use Rattle.spiral_main.specs.Orders.{procs_of};
 ghost use Rattle.spiral_status.specs.Status.{IsDefined};
-ghost use Rattle.spiral_main.specs.Steps.{IsEarly, Asks};
+ghost use Rattle.spiral_main.specs.Asking.{Asks};
+ghost use Rattle.spiral_main.specs.Outcome.{spelt};
+ghost use Rattle.spiral_main.specs.Steps.{IsEarly};
 
 use crate::Status;
 use crate::line::read_line;
@@ -25,7 +27,7 @@ pub(crate) fn ask<I: Source>(
     input: &mut I,
 ) -> Result<Request, Status>
     requires fresh { feed.old.taken ≡ 0 }
-    ensures told { Asks command.now (to_come feed.old (I.left input.old)) (to_come feed.new (I.left input.new)) feed.new.taken result }
+    ensures told { Asks spelt command.now (to_come feed.old (I.left input.old)) (to_come feed.new (I.left input.new)) feed.new.taken result }
     ensures within { OnOk result (feed.new.taken ≤ 257) }
     ensures request { IfOk result IsInRange }
     ensures turns { IfOk result (λ request. NamesNoStranger command.now request.procs) }
@@ -76,8 +78,8 @@ fn stranger_in(order: &Order, p: u64) -> Option<u64>
     }
 }
 
-// The first stranger to so many processors that the words of the command name.
-fn stranger(command: &Command, p: u64) -> Option<u64>
+/// The first stranger to so many processors that the words of the command name.
+pub(crate) fn stranger(command: &Command, p: u64) -> Option<u64>
     ensures { result ≡ first_stranger (procs_named command.now) p }
 {
     match command {
@@ -86,6 +88,7 @@ fn stranger(command: &Command, p: u64) -> Option<u64>
         Command::Sample { schedule, .. } => schedule.stranger(p),
         Command::Apply { schedule, .. } => schedule.stranger(p),
         Command::Exec { schedule } => schedule.stranger(p),
+        Command::Convolve { schedule, .. } => schedule.stranger(p),
         _ => None,
     }
 }

@@ -15,6 +15,7 @@ mod apply;
 mod ask;
 mod check;
 mod compile;
+mod convolve;
 mod data;
 mod events;
 mod exec;

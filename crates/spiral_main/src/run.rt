@@ -5,7 +5,7 @@ ghost use Rattle.std.specs.Io.KnownBytes.{Appends, IsAtEnd};
 ghost use Rattle.matrix_meaning.specs.Valid.{IsInRange};
 ghost use Rattle.io_edge.specs.Faults.{Reports};
 ghost use Rattle.io_edge.specs.Feed.{to_come, limit};
-ghost use Rattle.spiral_main.specs.Commands.{reads_rest, takes_formula, takes_listing, takes_request, has_text, AskForRest, AskForCommand, AreJudged, NamesNoStranger};
+ghost use Rattle.spiral_main.specs.Commands.{reads_rest, takes_convolution, takes_formula, takes_listing, takes_request, has_text, AskForRest, AskForCommand, AreJudged, NamesNoStranger};
 ghost use Rattle.spiral_main.specs.Outcome.{Accounts, Notes};
 ghost use Rattle.spiral_main.specs.Stage.{status_of};
 ghost use Rattle.spiral_status.specs.Status.{note_line};
@@ -15,6 +15,7 @@ use crate::Status;
 use crate::apply::by_formula;
 use crate::ask::{ask, asked};
 use crate::check::check;
+use crate::convolve::convolve;
 use crate::data::{run, trace};
 use crate::exec::exec;
 use crate::texts::text_of;
@@ -94,6 +95,13 @@ fn takes_formula(command: &Command) -> bool
     matches!(command, Command::Compile { .. } | Command::Apply { .. })
 }
 
+// Whether the command convolves.
+fn takes_convolution(command: &Command) -> bool
+    ensures { result ≡ takes_convolution command.now }
+{
+    matches!(command, Command::Convolve { .. })
+}
+
 // Does what the words and the input ask for.
 fn work<I: Source, O: Sink>(
     alloc: Global,
@@ -117,6 +125,9 @@ fn work<I: Source, O: Sink>(
     if takes_formula(&command) {
         return by_formula(alloc, &command, &mut feed, input, output);
     }
+    if takes_convolution(&command) {
+        return convolve(alloc, &command, &mut feed, input, output);
+    }
     let request = ask(&command, &mut feed, input)?;
     perform(alloc, &command, &request, &mut feed, input, output)
 }
@@ -137,7 +148,9 @@ fn ending(ended: Result<(), Status>) -> Status
 /// behind it are the data of `run` and `trace`, numbers in tokens, of which every vector has as many as the request's size,
 /// or the certificate that `check` judges. `exec` has no request: the lines before the first empty line of its input are a
 /// listing, and what stands behind that line are the data of its program. Nor have `compile` and `apply`: the first line of
-/// their input is a formula, and what stands behind it are the data of `apply`.
+/// their input is a formula, and what stands behind it are the data of `apply`. The first line of `convolve` is a request for
+/// convolutions, and the first vector of its data is the list with which it convolves the others; for the listing it reads
+/// nothing behind that list.
 pub fn spiral_run<I: Source, O: Sink, E: Sink>(
     alloc: Global,
     words: &Vec<String>,
@@ -148,7 +161,7 @@ pub fn spiral_run<I: Source, O: Sink, E: Sink>(
     // Where the input tells its bytes, they and the words account for the status and for what the output took. Where a
     // read failed, that is the whole text of what the input gave.
     ensures told { IfSome (I.left input.old) (λ bytes. Accounts (map string_bytes words.now.items) bytes (I.left input.new) (O.taken output.old) (O.taken output.new) result) }
-    // `run`, `trace`, `check`, `exec` and `apply` have read their input to its end where they succeed.
+    // `run`, `trace`, `check`, `exec`, `apply` and `convolve` without `--code` have read their input to its end where they succeed.
     ensures end { result ≡ Status.Success → AskForRest (map string_bytes words.now.items) → IsAtEnd (I.left input.new) }
 
     // A fault has its cause and is not swallowed, also where nothing is told.

@@ -24,6 +24,7 @@ use Rattle.data_stream.specs.declared.DataFault.TheVariants as data_fault
 use Rattle.data_stream.proofs.TokensLemmas.{not_ended}
 use Rattle.data_stream.proofs.TokenLemmas.{both_left, both_right}
 use Rattle.data_stream.proofs.VectorLemmas.{closed_after, over_behind}
+pub use Rattle.stream_run.specs.Progress.{StreamProgress}
 use Rattle.stream_run.specs.Stream.{group_vectors, vectors_of, texts, turn_lines, state_behind, good_front, bad_after, answer_of, vectors_seen, data_answer, data_vectors, Answers, ToldAnswers, Reads, Writes, Streams}
 use Rattle.stream_run.specs.declared.stream.StreamFault.{StreamFault}
 use Rattle.stream_run.specs.StreamFault.{stream_fault}
@@ -52,19 +53,6 @@ texts-push text vectors x = flat_map-append text vectors (x ∷ []) ∙ ap (λ l
 pub state_behind-push : {S : Type 0} (leaves : List ℕ → S) (state : S) (vectors : List (List ℕ)) (x : List ℕ) → state_behind leaves state (vectors ++ x ∷ []) ≡ leaves x
 state_behind-push leaves state [] x = refl
 state_behind-push leaves state (v ∷ vectors) x = state_behind-push leaves (leaves v) vectors x
-
--- the bytes that were read so far, and their vectors
-pub record StreamProgress (before after : Option (List ℕ)) (old new : ℕ) (ended : Bool) (size modulus done : ℕ) (vectors : List (List ℕ)) : Type 0 where
-  pub bytes : List ℕ
-  pub ts : List (List ℕ)
-  pub consumed : Consumes before after bytes
-  pub taken : new ≡ old + length bytes
-  pub are_tokens : AreTokens bytes ts ended
-  pub good : list_all is_good ts ≡ true
-  pub count : length ts ≡ done
-  pub whole : (n : ℕ) → (done + n) % size ≡ n % size
-  pub splits : (more : List (List ℕ)) → vectors_of size modulus (ts ++ more) ≡ vectors ++ vectors_of size modulus more
-  pub closed : ended ≡ false → closed_part bytes ≡ bytes
 
 pub no_stream : (a : Option (List ℕ)) (old : ℕ) (ended : Bool) (size modulus : ℕ) → StreamProgress a a old old ended size modulus 0 []
 no_stream a old ended size modulus = record {
@@ -287,7 +275,7 @@ no_rest size (suc have) h =
     let not_zero : (suc have == 0) ≡ false = grind arith in
     ap (λ b. cond {A = Result (Unit {0}) StreamFault} b (Ok tt) (Err (Truncated (suc have) size))) not_zero
 
-seen_front : (room : ℕ) (read rest : List ℕ) → length read ≤ room → take room (read ++ rest) ≡ read ++ take (room - length read) rest
+pub seen_front : (room : ℕ) (read rest : List ℕ) → length read ≤ room → take room (read ++ rest) ≡ read ++ take (room - length read) rest
 seen_front room read rest h = ap (λ n. take n (read ++ rest)) (omega arith) ∙ take-append-add read rest (room - length read)
 
 -- what a run answers by the bytes that it read, it answers by all bytes

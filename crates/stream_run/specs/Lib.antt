@@ -1,3 +1,4 @@
 pub mod StreamFault
 pub mod Stream
+pub mod Progress
 pub mod BufferedText

@@ -2,7 +2,9 @@
 #![tactic(auto)]
 
 mod buffered;
+mod first;
 mod stream;
 
 pub use buffered::run_buffered;
-pub use stream::{StreamFault, run_stream, transform};
+pub use first::read_first;
+pub use stream::{StreamFault, run_stream, run_vectors, transform};

@@ -5,6 +5,8 @@ ghost use Rattle.io_edge.specs.Faults.{HasCause, Reports};
 ghost use Rattle.io_edge.specs.Feed.{to_come, limit};
 ghost use Rattle.io_edge.specs.Taken.{WritesAll};
 ghost use Rattle.request_text.specs.Turns.{turns_of};
+ghost use Rattle.data_stream.specs.Vectors.{IsReady};
+ghost use Rattle.stream_run.specs.Progress.{StreamsOn};
 ghost use Rattle.stream_run.specs.Stream.{HasNoStranger, turn_lines, run_text, Streams};
 
 use data_stream::{DataFault, Next, Vectors, write_vector};
@@ -164,9 +166,52 @@ pub fn run_stream<I: Source, O: Sink>(
     ensures read { Reports (I.faults input.old) (I.faults input.new) (IsErrOf result StreamFault.ReadFault) }
     ensures write { Reports (O.faults output.old) (O.faults output.new) (IsErrOf result StreamFault.WriteFault) }
 {
+    let mut vectors = Vectors::new(machine.size());
+    run_vectors(
+        machine,
+        schedule,
+        lines,
+        &mut vectors,
+        feed,
+        input,
+        output,
+        vector,
+    )
+}
+
+/// Goes on as `run_stream` does, behind vectors that were read before: tokens are counted from where these began. The slice
+/// is room for a vector, which has at least one number.
+pub fn run_vectors<I: Source, O: Sink>(
+    machine: &mut Machine,
+    schedule: &Schedule,
+    lines: bool,
+    vectors: &mut Vectors,
+    feed: &mut Feed,
+    input: &mut I,
+    output: &mut O,
+    vector: &mut [u64],
+) -> Result<(), StreamFault>
+    requires some { 0 < vectors.old.size }
+    requires cut { vectors.old.size ≡ machine.old.code.size }
+    requires size { length vector.old ≡ machine.old.code.size }
+    requires no_stranger { HasNoStranger schedule.now machine.old.code.procs }
+    requires ready { IsReady vectors.old feed.old (to_come feed.old (I.left input.old)) }
+
+    // What it read, wrote and left, also of a source that doesn't tell its bytes.
+    ensures streams { StreamsOn (run_text lines machine.old.code (turns_of schedule.now machine.old.code.procs))
+        (λ x. runs machine.old.code x (turns_of schedule.now machine.old.code.procs))
+        machine.old.code.modulus vectors.old feed.old feed.new
+        (to_come feed.old (I.left input.old)) (to_come feed.new (I.left input.new))
+        (O.taken output.old) (O.taken output.new) machine.old.state machine.new.state result }
+    ensures code { machine.new.code ≡ machine.old.code }
+    ensures within { result ≢ Err StreamFault.TooLong → feed.new.taken ≤ limit }
+    ensures empty { IsErrOf result StreamFault.ReadFault → feed.new.held ≡ [] }
+
+    // A fault has its cause, and is not swallowed.
+    ensures read { Reports (I.faults input.old) (I.faults input.new) (IsErrOf result StreamFault.ReadFault) }
+    ensures write { Reports (O.faults output.old) (O.faults output.new) (IsErrOf result StreamFault.WriteFault) }
+{
     let modulus = machine.modulus();
-    let size = machine.size();
-    let mut vectors = Vectors::new(size);
     while let Next::Vector = vectors.next(&modulus, feed, input, vector)? {
         write_run(machine, schedule, lines, output, vector)?;
     }

@@ -4,9 +4,12 @@ use Rattle.io_edge.specs.Feed.{to_come, limit}
 use Rattle.spiral_words.specs.Asked.{IsAsked}
 use Rattle.spiral_words.specs.declared.Command.{Command}
 use Rattle.spiral_main.specs.Stage.{status_of}
-use Rattle.spiral_main.specs.Steps.{Asks, ToldComputes, ToldExecutes}
+use Rattle.spiral_main.specs.Asking.{Asks}
+use Rattle.spiral_main.specs.Convolved.{ToldConvolves}
+use Rattle.spiral_main.specs.Outcome.{spelt}
+use Rattle.spiral_main.specs.Steps.{ToldComputes, ToldExecutes}
 use Rattle.spiral_main.proofs.AskLemmas.{reads_same}
-use Rattle.spiral_main.proofs.Accounts.{accounted, accounted_words, accounted_line, executed_accounts, computed_accounts, nothing_held, prepend_nothing, performs_by_source, executes_by_source, computes_by_source}
+use Rattle.spiral_main.proofs.Accounts.{accounted, accounted_words, accounted_line, executed_accounts, computed_accounts, convolved_accounts, nothing_held, prepend_nothing, performs_by_source, executes_by_source, computes_by_source, convolves_by_source}
 use Rattle.data_stream.proofs.TokensLemmas.{reports_none}
 use Rattle.spiral_main.proofs.OutcomeLemmas.{reports_after}
 use Rattle.spiral_main.proofs.RunLemmas.{goes_by_request, left_ended}
@@ -66,6 +69,31 @@ returns-then-takes_formula-clause-after g c = λ _. (c.in_ok-command.command, c.
 pub returns-then-takes_formula-clause-words : goal.returns-then-takes_formula-clause-words
 returns-then-takes_formula-clause-words g c = inr (inr (c.by_formula.ensures.usage, (c.in_ok-command.command, c.in_ok-command.ensures.command)))
 
+pub returns-then-takes_convolution-clause-told : goal.returns-then-takes_convolution-clause-told
+returns-then-takes_convolution-clause-told g c =
+    let words = map (string_bytes {Z = Global}) c.args.words.now.items in
+    let taken = g.O.Sink.taken in
+    let left = g.I.Source.left c.args.input.now in
+    let now = g.I.Source.left c.convolve.new.input in
+    let command = c.in_ok-command.command in
+    let start : to_come c.in_ok-feed.feed left ≡ left = ap (λ f. to_come f left) c.in_ok-feed.ensures ∙ prepend_nothing left in
+    let told = subst (λ b. ToldConvolves command b (to_come c.convolve.new.feed now) (taken c.args.output.now) (taken c.convolve.new.output) (status_of c.convolve.result)) start c.convolve.ensures.told in
+    convolved_accounts words command left now (taken c.args.output.now) (taken c.convolve.new.output) (status_of c.convolve.result)
+    (c.in_ok-command.ensures.command, sym c.takes_convolution.ensures ∙ c.if-takes_convolution.true)
+    (convolves_by_source command left c.convolve.new.feed now (taken c.args.output.now) (taken c.convolve.new.output) (status_of c.convolve.result) c.convolve.ensures.empty told)
+
+pub returns-then-takes_convolution-clause-end : goal.returns-then-takes_convolution-clause-end
+returns-then-takes_convolution-clause-end g c = λ success other.
+    let words = map (string_bytes {Z = Global}) c.args.words.now.items in
+    let same = reads_same words c.in_ok-command.command other.0 c.in_ok-command.ensures.command other.1 in
+    left_ended c.convolve.new.feed.held (g.I.Source.left c.convolve.new.input) (c.convolve.ensures.end success (same ∙ other.2))
+
+pub returns-then-takes_convolution-clause-after : goal.returns-then-takes_convolution-clause-after
+returns-then-takes_convolution-clause-after g c = λ _. (c.in_ok-command.command, c.in_ok-command.ensures.command)
+
+pub returns-then-takes_convolution-clause-words : goal.returns-then-takes_convolution-clause-words
+returns-then-takes_convolution-clause-words g c = inr (inr (c.convolve.ensures.usage, (c.in_ok-command.command, c.in_ok-command.ensures.command)))
+
 pub returns-in_err-request-clause-told : goal.returns-in_err-request-clause-told
 returns-in_err-request-clause-told g c =
     let words = map (string_bytes {Z = Global}) c.args.words.now.items in
@@ -75,9 +103,9 @@ returns-in_err-request-clause-told g c =
     let command = c.in_ok-command.command in
     let fault = c.in_err-request.field-0.0 in
     let start : to_come c.in_ok-feed.feed left ≡ left = ap (λ f. to_come f left) c.in_ok-feed.ensures ∙ prepend_nothing left in
-    let told = subst (λ b. Asks command b reached c.ask.new.feed.taken (Err fault)) start c.in_err-request.ensures.told in
+    let told = subst (λ b. Asks spelt command b reached c.ask.new.feed.taken (Err fault)) start c.in_err-request.ensures.told in
     let p = err_from_is_err_and c.from_residual-in_err-request.result c.from_residual-in_err-request.ensures.1 in
-    rw (p.1, p.2) (accounted_line words left reached now c.ask.new.feed.taken command (g.O.Sink.taken c.args.output.now) fault (c.in_ok-command.ensures.command, goes_by_request command c.in_default.ensures (sym c.takes_formula.ensures ∙ c.if-takes_formula.false)) told c.in_err-request.ensures.others.2
+    rw (p.1, p.2) (accounted_line words left reached now c.ask.new.feed.taken command (g.O.Sink.taken c.args.output.now) fault (c.in_ok-command.ensures.command, goes_by_request command c.in_default.ensures (sym c.takes_formula.ensures ∙ c.if-takes_formula.false) (sym c.takes_convolution.ensures ∙ c.if-takes_convolution.false)) told c.in_err-request.ensures.others.2
     (λ e. nothing_held c.ask.new.feed now (c.in_err-request.ensures.empty (ap (λ s. Err s) e))))
 
 pub returns-in_err-request-clause-after : goal.returns-in_err-request-clause-after
@@ -97,11 +125,11 @@ returns-clause-told g c =
     let command = c.in_ok-command.command in
     let request = c.in_ok-request.request in
     let start : to_come c.in_ok-feed.feed left ≡ left = ap (λ f. to_come f left) c.in_ok-feed.ensures ∙ prepend_nothing left in
-    let told = subst (λ b. Asks command b reached c.ask.new.feed.taken (Ok request)) start c.in_ok-request.ensures.told in
+    let told = subst (λ b. Asks spelt command b reached c.ask.new.feed.taken (Ok request)) start c.in_ok-request.ensures.told in
     let now = g.I.Source.left c.perform.new.input in
     let status = status_of c.perform.result in
     let performed = performs_by_source command request (limit - c.ask.new.feed.taken) reached c.perform.new.feed now (taken c.args.output.now) (taken c.perform.new.output) status c.perform.ensures.empty c.perform.ensures.told in
-    accounted words left reached now c.ask.new.feed.taken command request (taken c.args.output.now) (taken c.perform.new.output) status (c.in_ok-command.ensures.command, goes_by_request command c.in_default.ensures (sym c.takes_formula.ensures ∙ c.if-takes_formula.false)) told performed
+    accounted words left reached now c.ask.new.feed.taken command request (taken c.args.output.now) (taken c.perform.new.output) status (c.in_ok-command.ensures.command, goes_by_request command c.in_default.ensures (sym c.takes_formula.ensures ∙ c.if-takes_formula.false) (sym c.takes_convolution.ensures ∙ c.if-takes_convolution.false)) told performed
 
 pub returns-clause-end : goal.returns-clause-end
 returns-clause-end g c = λ success other.

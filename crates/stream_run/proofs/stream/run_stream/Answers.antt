@@ -1,134 +1,37 @@
-use Rattle.std.proofs.Common.{◌≡◌, ◌<◌, ◌+◌, ◌++◌, ◌∷◌, [], Ok, Err, false, refl, sym, ap, subst, ◌∙◌, arith}
-use Rattle.std.proofs.lemmas.Result.{err_from_is_err_and}
-use Rattle.std.proofs.KnownBytes.{Appends-nil}
-use Rattle.std.specs.Io.KnownBytes.{IsAtEnd}
-use Rattle.icode.specs.Machine.{Code, runs}
+use Rattle.std.proofs.Common.{◌≡◌, ◌<◌, [], false, refl, sym, ap, subst, ◌∙◌, arith}
+use Rattle.icode.specs.Machine.{runs}
 use Rattle.request_text.specs.Turns.{turns_of}
 use Rattle.io_edge.specs.Feed.{to_come}
-use Rattle.data_stream.specs.Reading.{GivesVector}
 use Rattle.data_stream.specs.Vectors.{Cut, IsReady}
-use Rattle.data_stream.proofs.TokenLemmas.{not_true}
-use Rattle.data_stream.proofs.TokensLemmas.{not_ended, reports_none}
-use Rattle.data_stream.proofs.VectorLemmas.{vector_counted}
+use Rattle.data_stream.proofs.TokensLemmas.{not_ended}
+use Rattle.stream_run.specs.Progress.{StreamsBehind}
 use Rattle.stream_run.specs.Stream.{run_text}
-use Rattle.stream_run.specs.StreamFault.{stream_fault}
-use Rattle.stream_run.specs.declared.stream.StreamFault.TheVariants.{WriteFault}
-use Rattle.stream_run.proofs.StreamLemmas.{StreamProgress, no_stream, stream_push, stream_unwritten, stream_end, stream_fault_at, state_behind-push, texts_more, texts_cut, writes_fault, fault_within, streamed}
+use Rattle.stream_run.proofs.ProgressLemmas.{come_none, streams_new}
 use Rattle.stream_run.proofs.stream.run_stream.Goals as goal
 
-pub loop-machine-init : goal.loop-machine-init
-loop-machine-init g c =
+pub run_vectors-requires : goal.run_vectors-requires
+run_vectors-requires g c =
     let start = to_come c.args.feed.now (g.I.Source.left c.args.input.now) in
-    let taken = c.args.feed.now.taken in
-    let code = c.args.machine.now.code in
-    let turns = turns_of c.args.schedule.now code.procs in
+    let size : c.new-vectors.result.size ≡ c.size.result = ap (λ (v : Cut). v.size) c.new-vectors.ensures in
     record {
-      seen = [];
-      progress = subst (λ (v : Cut). StreamProgress start start taken taken v.ended code.size code.modulus v.done []) (sym c.new-vectors.ensures) (no_stream start taken false code.size code.modulus);
-      wrote = Appends-nil (g.O.Sink.taken c.args.output.now);
-      stands = refl;
+      some = omega (arith, size, c.size.ensures.some);
+      cut = size ∙ c.size.ensures.value;
+      size = c.requires.size;
+      no_stranger = c.requires.no_stranger;
       ready = subst (λ v. IsReady v c.args.feed.now start) (sym c.new-vectors.ensures)
           (record { few = omega arith; counted = omega arith; within = λ e. absurd (not_ended false refl e); end = λ e. absurd (not_ended false refl e) });
-      begun = λ _. refl;
-      size = ap (λ (v : Cut). v.size) c.new-vectors.ensures ∙ c.size-size.ensures.value;
-      code = refl;
-      reads = refl;
-      writes = refl;
     }
-
-pub loop-machine-smaller : goal.loop-machine-smaller
-loop-machine-smaller g c =
-    let before = c.loop-machine in
-    let some : 0 < c.args.machine.now.code.size = omega (arith, c.size-size.ensures.some, c.size-size.ensures.value) in
-    let code = c.args.machine.now.code in
-    let turns = turns_of c.args.schedule.now code.procs in
-    let answer = rw (c.in-Vector.is, before.invariant.size, c.modulus-modulus.ensures) at c.in_ok-next.ensures.answer in
-    let rises = vector_counted before.feed c.next.new.feed c.next.new.self.ended code.size code.modulus before.vectors.done answer.0 c.next.new.vector answer.3 in
-    omega (arith, rises, c.in_ok-next.ensures.within (λ e. cc), some)
-
-pub loop-machine-preserved : goal.loop-machine-preserved
-loop-machine-preserved g c =
-    let before = c.loop-machine in
-    let some : 0 < c.args.machine.now.code.size = omega (arith, c.size-size.ensures.some, c.size-size.ensures.value) in
-    let inv = before.invariant in
-    let code = c.args.machine.now.code in
-    let turns = turns_of c.args.schedule.now code.procs in
-    let taken = g.O.Sink.taken in
-    let x = c.next.new.vector in
-    let answer = rw (c.in-Vector.is, inv.size, c.modulus-modulus.ensures) at c.in_ok-next.ensures.answer in
-    let done : c.next.new.self.done ≡ before.vectors.done + code.size = rw c.in-Vector.is at c.in_ok-next.ensures.done refl ∙ ap (λ n. before.vectors.done + n) inv.size in
-    record {
-      seen = inv.seen ++ x ∷ [];
-      progress = rw done (stream_push _ _ _ c.args.feed.now.taken before.feed c.next.new.feed before.vectors.ended c.next.new.self.ended code.size code.modulus before.vectors.done inv.seen answer.0 x
-          some inv.progress answer.1 (λ e. (answer.2 e, (c.next.ensures.once e).1)) answer.3);
-      wrote = texts_more (run_text c.args.lines code turns) (taken c.args.output.now) (taken before.output) (taken c.write_run.new.output) inv.seen x
-          (run_text c.args.lines before.machine.code (turns_of c.args.schedule.now before.machine.code.procs) x)
-          (ap (λ (k : Code). run_text c.args.lines k (turns_of c.args.schedule.now k.procs) x) inv.code) inv.wrote c.in_ok-write_run.ensures.bytes;
-      stands = c.in_ok-write_run.ensures.state ∙ ap (λ (k : Code). runs k x (turns_of c.args.schedule.now k.procs)) inv.code ∙ sym (state_behind-push (λ y. runs code y turns) c.args.machine.now.state inv.seen x);
-      ready = rw c.in-Vector.is at c.in_ok-next.ensures.ready refl;
-      begun = λ over. absurd (omega (arith, over, c.in_ok-next.ensures.within (λ e. cc)));
-      size = c.next.ensures.size ∙ inv.size;
-      code = c.write_run.ensures.code ∙ inv.code;
-      reads = reports_none _ _ _ c.in_ok-next.ensures.cause (λ e. cc) ∙ inv.reads;
-      writes = c.in_ok-write_run.ensures.cause.ok ∙ inv.writes;
-    }
-
-pub returns-in_err-next-clause-streams : goal.returns-in_err-next-clause-streams
-returns-in_err-next-clause-streams g c =
-    let before = c.loop-machine in
-    let some : 0 < c.args.machine.now.code.size = omega (arith, c.size-size.ensures.some, c.size-size.ensures.value) in
-    let inv = before.invariant in
-    let code = c.args.machine.now.code in
-    let turns = turns_of c.args.schedule.now code.procs in
-    let x = c.next.new.vector in
-    let fault = c.in_err-next.field-0.0 in
-    let start = to_come c.args.feed.now (g.I.Source.left c.args.input.now) in
-    let reached = to_come c.next.new.feed (g.I.Source.left c.next.new.source) in
-    let answer = c.in_err-next.ensures.answer in
-    let given = subst (λ n. GivesVector n code.modulus before.vectors.done before.feed c.next.new.feed answer.0 c.next.new.self.ended x (Err fault)) inv.size
-    (subst (λ m. GivesVector before.vectors.size m before.vectors.done before.feed c.next.new.feed answer.0 c.next.new.self.ended x (Err fault)) c.modulus-modulus.ensures answer.3) in
-    let going : before.vectors.ended ≡ false = not_true before.vectors.ended (λ e. let other = (c.next.ensures.once e).0 in cc c.in_err-next.was) in
-    let p = err_from_is_err_and c.from_residual.result c.from_residual.ensures.1 in
-    let out = stream_fault_at start _ reached c.args.feed.now before.feed c.next.new.feed before.vectors.ended c.next.new.self.ended code.size code.modulus before.vectors.done inv.seen
-    (IsAtEnd reached) answer.0 x fault some inv.progress inv.begun answer.1 going given c.next.ensures.end in
-    rw (p.1, p.2) (streamed (run_text c.args.lines code turns) (λ y. runs code y turns) code.size code.modulus c.args.feed.now c.next.new.feed start reached (g.O.Sink.taken c.args.output.now) (g.O.Sink.taken before.output)
-    c.args.machine.now.state before.machine.state (Err (stream_fault fault)) (inv.progress.bytes ++ answer.0) inv.seen out.0 out.1
-    (fault_within fault _ c.in_err-next.ensures.within) (writes_fault fault _ _ _ inv.wrote) (λ _. inv.stands))
-
-pub returns-in_err-write_run-clause-streams : goal.returns-in_err-write_run-clause-streams
-returns-in_err-write_run-clause-streams g c =
-    let before = c.loop-machine in
-    let some : 0 < c.args.machine.now.code.size = omega (arith, c.size-size.ensures.some, c.size-size.ensures.value) in
-    let inv = before.invariant in
-    let code = c.args.machine.now.code in
-    let turns = turns_of c.args.schedule.now code.procs in
-    let taken = g.O.Sink.taken in
-    let x = c.next.new.vector in
-    let start = to_come c.args.feed.now (g.I.Source.left c.args.input.now) in
-    let reached = to_come c.next.new.feed (g.I.Source.left c.next.new.source) in
-    let answer = rw (c.in-Vector.is, inv.size, c.modulus-modulus.ensures) at c.in_ok-next.ensures.answer in
-    let p = err_from_is_err_and c.from_residual-in_err-write_run.result c.from_residual-in_err-write_run.ensures.1 in
-    let pushed = stream_push start _ reached c.args.feed.now.taken before.feed c.next.new.feed before.vectors.ended c.next.new.self.ended code.size code.modulus before.vectors.done inv.seen answer.0 x
-    some inv.progress answer.1 (λ e. (answer.2 e, (c.next.ensures.once e).1)) answer.3 in
-    let reads = stream_unwritten start reached c.args.feed.now c.next.new.feed c.next.new.self.ended code.size code.modulus (before.vectors.done + code.size) (inv.seen ++ x ∷ []) (IsAtEnd reached) some pushed c.next.ensures.end in
-    rw (p.1, p.2) (streamed (run_text c.args.lines code turns) (λ y. runs code y turns) code.size code.modulus c.args.feed.now c.next.new.feed start reached (taken c.args.output.now) (taken c.write_run.new.output)
-    c.args.machine.now.state c.write_run.new.machine.state (Err WriteFault) pushed.bytes (inv.seen ++ x ∷ []) pushed.consumed reads (λ _. c.in_ok-next.ensures.within (λ e. cc))
-    (texts_cut (run_text c.args.lines code turns) (taken c.args.output.now) (taken before.output) (taken c.write_run.new.output) inv.seen x
-    (run_text c.args.lines before.machine.code (turns_of c.args.schedule.now before.machine.code.procs) x)
-    (ap (λ (k : Code). run_text c.args.lines k (turns_of c.args.schedule.now k.procs) x) inv.code) inv.wrote c.in_err-write_run.ensures.bytes)
-    (λ other. absurd (other refl)))
 
 pub returns-clause-streams : goal.returns-clause-streams
 returns-clause-streams g c =
-    let before = c.loop-machine in
-    let some : 0 < c.args.machine.now.code.size = omega (arith, c.size-size.ensures.some, c.size-size.ensures.value) in
-    let inv = before.invariant in
+    let start = to_come c.args.feed.now (g.I.Source.left c.args.input.now) in
     let code = c.args.machine.now.code in
     let turns = turns_of c.args.schedule.now code.procs in
-    let start = to_come c.args.feed.now (g.I.Source.left c.args.input.now) in
-    let reached = to_come c.next.new.feed (g.I.Source.left c.next.new.source) in
-    let answer = rw c.in_default.is at c.in_ok-next.ensures.answer in
-    let out = stream_end start _ reached c.args.feed.now before.feed c.next.new.feed before.vectors.ended c.next.new.self.ended code.size code.modulus before.vectors.done inv.seen
-    (IsAtEnd reached) answer.0 c.next.new.vector some inv.progress answer.1 (λ e. (answer.2 e, (c.next.ensures.once e).1)) answer.3 c.next.ensures.end in
-    streamed (run_text c.args.lines code turns) (λ y. runs code y turns) code.size code.modulus c.args.feed.now c.next.new.feed start reached (g.O.Sink.taken c.args.output.now) (g.O.Sink.taken before.output)
-    c.args.machine.now.state before.machine.state (Ok tt) (inv.progress.bytes ++ answer.0) inv.seen out.0 out.1 (λ _. c.in_ok-next.ensures.within (λ e. cc)) inv.wrote (λ _. inv.stands)
+    let taken = g.O.Sink.taken in
+    let reached = to_come c.run_vectors.new.feed (g.I.Source.left c.run_vectors.new.input) in
+    let size : c.new-vectors.result.size ≡ code.size = ap (λ (v : Cut). v.size) c.new-vectors.ensures ∙ c.size.ensures.value in
+    let all = c.run_vectors.ensures.streams c.args.feed.now start [] (come_none code.modulus c.size.result c.new-vectors.result c.args.feed.now start c.new-vectors.ensures) in
+    streams_new (run_text c.args.lines code turns) (λ x. runs code x turns) code.size code.modulus c.args.feed.now c.run_vectors.new.feed start reached
+    (taken c.args.output.now) (taken c.run_vectors.new.output) c.args.machine.now.state c.run_vectors.new.machine.state c.run_vectors.result
+    (subst (λ n. StreamsBehind [] (run_text c.args.lines code turns) (λ x. runs code x turns) n code.modulus c.args.feed.now c.run_vectors.new.feed start reached
+    (taken c.args.output.now) (taken c.run_vectors.new.output) c.args.machine.now.state c.run_vectors.new.machine.state c.run_vectors.result) size all)
