@@ -14,16 +14,18 @@ use passes::{Factors, Merged, Multiplier, Nest};
 use perm_algebra::{Affine, copy};
 use std::alloc::Global;
 
-/// The passes of `first`, the diagonal after the last of them, and the passes of `second`, in one phase: the value at a place
-/// multiplies the item that the last pass stores there. Phases have barriers for several processors alone.
+/// The passes of `first`, the diagonal after the last of them, and the passes of `second`: the value at a place multiplies
+/// the item that the last pass stores there. All are in one phase, for one processor, which needs no barrier between them.
 pub fn join(
     alloc: Global,
     first: Merged,
     diagonal: Vec<u64>,
     second: Merged,
 ) -> Result<Merged, NoMemory>
-    ensures joined { IfOk result (λ all. plain_merged all ≡ joined (plain_merged first) diagonal.items (plain_merged second)) }
-    ensures meaning { IfOk result (λ all. AreInTurn (plain_merged first) diagonal.items (plain_merged second) (plain_merged all)) }
+    ensures joined { IfOk result (λ all.
+        plain_merged all ≡ joined (plain_merged first) diagonal.items (plain_merged second)) }
+    ensures meaning { IfOk result (λ all.
+        AreInTurn (plain_merged first) diagonal.items (plain_merged second) (plain_merged all)) }
 {
     let Merged {
         size,
@@ -46,11 +48,11 @@ pub fn join(
 }
 
 fn in_one_phase(alloc: Global, phases: Vec<Vec<Vec<Nest>>>) -> Result<Vec<Vec<Nest>>, NoMemory>
-    ensures { IfOk result (λ passes. plain_passes passes.items ≡ all_passes (plain_phases phases.items)) }
+    ensures { IfOk result (λ passes.
+        plain_passes passes.items ≡ all_passes (plain_phases phases.items)) }
 {
     let mut passes = Vec::new(alloc);
-    for phase in phases {
-        let mut phase = phase;
+    for mut phase in phases {
         passes.append(&mut phase)?;
     }
     Ok(passes)
@@ -61,7 +63,8 @@ fn multiply_last(
     passes: Vec<Vec<Nest>>,
     diagonal: Vec<u64>,
 ) -> Result<Vec<Vec<Nest>>, NoMemory>
-    ensures { IfOk result (λ changed. plain_passes changed.items ≡ multiplied_last diagonal.items (plain_passes passes.items)) }
+    ensures { IfOk result (λ changed.
+        plain_passes changed.items ≡ multiplied_last diagonal.items (plain_passes passes.items)) }
 {
     let mut passes = passes;
     match passes.pop() {
@@ -75,7 +78,8 @@ fn multiply_last(
 
 // The last nest takes the values, and each other one a copy of them.
 fn multiply_pass(alloc: Global, nests: Vec<Nest>, values: Vec<u64>) -> Result<Vec<Nest>, NoMemory>
-    ensures { IfOk result (λ changed. map plain_nest changed.items ≡ map (with_values values.items) (map plain_nest nests.items)) }
+    ensures { IfOk result (λ changed.
+        map plain_nest changed.items ≡ map (with_values values.items) (map plain_nest nests.items)) }
 {
     let mut nests = nests;
     match nests.pop() {
