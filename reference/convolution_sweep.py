@@ -97,7 +97,8 @@ conv 6 mod 9 root 1
 conv 6 mod 9 root 8 unroll 65
 """
 
-# Sizes for which h has few items that are not 0. The listing of the last has a table of so many values.
+# Sizes for which h has few items that are not 0. The listing of the last is longer than `exec` takes one.
+LONGEST = 2**20
 LARGE = ["conv 4096 mod 40961 root 18088", "conv 65536 mod 65537 root 3"]
 
 PRIMES = [(17, 3), (97, 5), (257, 3), (2161, 23), (12289, 11), (65537, 3), (998244353, 3), (2**61 - 1, 37)]
@@ -244,7 +245,7 @@ def convolution_swept(sweep, line, numbers):
         agrees_with_itself(request, h, x)
         sweep.count(listing_is_right(listing, request, h, x), f"the listing of {line}")
         faulty_data(sweep, line, h, x)
-    run = convolved(asked)[1]
+    run = convolved(asked)[1] if len(listing) <= LONGEST else (13, f"more than {LONGEST} bytes")
     sweep.compare(f"exec --schedule seed:{numbers.next()}:20", f"{listing}\n{separated(numbers, x + other)}", run)
 
 
