@@ -1,16 +1,15 @@
 -- The functions that lead to factors can be simplified at every word.
-use Rattle.std.proofs.Common.{◌≡◌, ℕ, ◌+◌, ◌*◌, ◌/◌, ◌%◌, ◌^◌, ◌<◌, ◌≤◌, arith, refl, sym, ap, ◌∙◌, List, [], ◌∷◌, ◌++◌, subst, mod-lt, div-lt_iff_lt-mul}
+use Rattle.std.proofs.Common.{◌≡◌, ℕ, ◌*◌, ◌/◌, ◌%◌, ◌^◌, ◌<◌, ◌≤◌, arith, sym, List, [], ◌∷◌, ◌++◌, subst, mod-lt, div-lt_iff_lt-mul}
 use Rattle.std.proofs.Math.Nat.{mul-le-mul_right}
 use Rattle.index_fn.specs.Mapping.{Mapping, at, IsDefinedAt}
 use Rattle.operators.proofs.Lists.{factor_positive}
-use Rattle.passes.specs.Good.{IsFormed}
 use Rattle.passes.specs.Merge.{back_of, backs_of, factor_places}
 use Rattle.passes.specs.Nest.{PlainFactors, factor_count, inner_of}
 use Rattle.passes.proofs.Keeps.{inner-formed, left_positive, right_positive}
 use Rattle.sum_limits.specs.Leading.{CanCarry}
 use Rattle.tensor_paths.specs.declared.Tensor.TheVariants.{Blocks, Columns}
 use Rattle.tensor_paths.specs.Path.{Path, size_under}
-use Rattle.term_merge.specs.Known.{AreSteps, IsDefinedBelow}
+use Rattle.term_merge.specs.Known.{AreSteps}
 
 inner-below : (path : Path) (n i : ℕ) → i < size_under path n → at (inner_of path n) i < n
 inner-below [] n i below = below

@@ -11,3 +11,4 @@ pub mod Sided
 pub mod States
 pub mod Merged
 pub mod Depths
+pub mod Changes

@@ -1,5 +1,5 @@
 -- Passes that take a function: their tests, and what is known of them.
-use Rattle.std.proofs.Common.{◌≡◌, ℕ, zero, suc, ◌+◌, ◌^◌, ◌<◌, ◌≤◌, Bool, true, false, arith, refl, sym, ap, ap₂, ◌∙◌, List, [], ◌∷◌, ◌++◌, length, subst, Option, Some, None}
+use Rattle.std.proofs.Common.{◌≡◌, ℕ, zero, suc, ◌+◌, ◌<◌, Bool, true, false, arith, refl, sym, ap, ap₂, ◌∙◌, List, [], ◌∷◌, length, subst, Some}
 use Rattle.std.specs.Prelude.{map, get_or, ◌&&◌}
 use Rattle.std.specs.List.{list_all}
 use Rattle.index_fn.specs.Mapping.{Mapping}
@@ -10,7 +10,6 @@ use Rattle.passes.specs.Good.{IsFormed}
 use Rattle.passes.specs.Merge.{all_simplified, most, limits_of, is_limited, is_multiplier_within, is_within, loads_have_room, stores_have_room, can_gather, can_scatter, carries_sum, is_free, gathered, scattered, multiplied}
 use Rattle.passes.specs.Nest.{PlainFactors, PlainNest}
 use Rattle.passes.proofs.Walk.{and-left, and-right}
-use Rattle.sum_limits.specs.Leading.{can_lead}
 use Rattle.term_merge.specs.Known.{AreReady, IsReadyNest, IsReadyPass, IsKnownPass}
 use Rattle.term_merge.specs.Tests.{can_load, can_store}
 use Rattle.term_merge.specs.Views.{multiplied_by}

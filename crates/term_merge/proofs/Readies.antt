@@ -1,22 +1,21 @@
 -- New passes, and copy passes, are of words.
-use Rattle.std.proofs.Common.{◌≡◌, ℕ, zero, suc, ◌+◌, ◌-◌, ◌*◌, ◌^◌, ◌<◌, ◌≤◌, Bool, true, false, arith, refl, sym, ap, ap₂, ◌∙◌, List, [], ◌∷◌, ◌++◌, length, subst}
+use Rattle.std.proofs.Common.{◌≡◌, ℕ, suc, ◌+◌, ◌-◌, ◌*◌, ◌^◌, ◌<◌, ◌≤◌, true, arith, refl, sym, ap, List, [], ◌∷◌, ◌++◌, length, subst}
 use Rattle.std.specs.Prelude.{map}
 use Rattle.std.specs.List.{range_with_len}
 use Rattle.index_fn.specs.Mapping.{Mapping, at}
 use Rattle.operators.specs.Sum.{list_below}
 use Rattle.perm_algebra.specs.Affine.{Sum, constant, variable, remainder, quotient, scaled, joined}
-use Rattle.perm_algebra.specs.Room.{HasCounts, IsReady}
+use Rattle.perm_algebra.specs.Room.{HasCounts}
 use Rattle.passes.specs.Good.{IsFormed}
-use Rattle.passes.specs.Limits.{AreSeveral}
-use Rattle.passes.specs.Merge.{most, Merging, Taking, can_gather, can_scatter, gathered, scattered, place_sum, items_in, items_out, new_nest, one_loop, copying, take_gathers, copy_by, copies_before, settled, with_pass, back_of, from_end, ended}
+use Rattle.passes.specs.Merge.{most, can_gather, can_scatter, gathered, scattered, place_sum, items_in, items_out, new_nest, one_loop, copying, copy_by, from_end}
 use Rattle.passes.specs.Nest.{PlainNest}
 use Rattle.passes.specs.Work.{PlainWork, kernel, rows, horner, tile, copy, work_size, HasWords}
-use Rattle.passes.proofs.Limited.{IsRound, few-round, round-word, table-within, copying-within}
+use Rattle.passes.proofs.Limited.{few-round, round-word, table-within, copying-within}
 use Rattle.passes.proofs.Natural.{sound-place_sum}
 use Rattle.passes.proofs.Walk.{chosen}
 use Rattle.tensor_paths.specs.declared.Tensor.TheVariants.{Blocks, Columns}
 use Rattle.tensor_paths.specs.Path.{Path, count_of, size_under}
-use Rattle.term_merge.specs.Known.{AreReady, IsReadyPass, AreReadyPasses, IsKnownPass, HasRoom, IsStep, AreSteps}
+use Rattle.term_merge.specs.Known.{AreReady, IsReadyPass, IsKnownPass, HasRoom, IsStep, AreSteps}
 use Rattle.term_merge.proofs.Passes.{known-gathered, known-scattered}
 
 -- ---- the variables of new nests

@@ -1,5 +1,5 @@
 -- Passes side by side are of words where both sides are.
-use Rattle.std.proofs.Common.{◌≡◌, ℕ, ◌+◌, ◌<◌, ◌≤◌, arith, refl, sym, ap, ap₂, ◌∙◌, subst, List, [], ◌∷◌, ◌++◌, length, length-append, Option, Some, None}
+use Rattle.std.proofs.Common.{◌≡◌, ℕ, ◌+◌, arith, subst, List, [], ◌∷◌, ◌++◌, length, length-append, Option, Some, None}
 use Rattle.std.specs.Prelude.{map}
 use Rattle.perm_algebra.specs.Affine.{Sum, constant, variable, remainder, quotient, IsSound, joined}
 use Rattle.perm_algebra.specs.Room.{HasCounts, IsReady}

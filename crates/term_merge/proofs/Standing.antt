@@ -1,14 +1,15 @@
 -- Passes of two parts can stand side by side.
-use Rattle.std.proofs.Common.{◌≡◌, ℕ, ◌+◌, ◌^◌, ◌<◌, ◌≤◌, Bool, true, arith, refl, sym, List, [], ◌∷◌, length, inl, inr, subst}
-use Rattle.std.specs.Prelude.{All, map, ◌&&◌}
+use Rattle.std.proofs.Common.{◌≡◌, ℕ, ◌+◌, ◌^◌, ◌<◌, ◌≤◌, Bool, true, arith, refl, sym, ap, ap₂, ◌∙◌, List, [], ◌∷◌, ◌++◌, length, inl, inr, subst, length-append, append-nil, Option, Some, None}
+use Rattle.std.specs.Prelude.{map, reverse, Vec, ◌&&◌}
 use Rattle.std.specs.List.{list_all}
 use Rattle.std.proofs.lemmas.Bool.{cases_eq}
 use Rattle.std.proofs.lemmas.Bool.Decides.{nat_tests}
-use Rattle.std.proofs.lemmas.List.Elements.{All-nil, All-cons}
-use Rattle.perm_algebra.specs.Affine.{constant, variable}
+use Rattle.std.proofs.lemmas.List.{map-append, reverse-append, reverse-reverse}
+use Rattle.perm_algebra.specs.Affine.{Sum, constant, variable, remainder, quotient, joined}
+use Rattle.perm_algebra.specs.Room.{constant_of}
 use Rattle.passes.specs.Limits.{AreSeveral, AreWithin}
-use Rattle.passes.specs.Merge.{is_limited, is_multiplier_within, is_within, items_in, limits_of, new_nest, one_loop}
-use Rattle.passes.specs.Nest.{PlainNest}
+use Rattle.passes.specs.Merge.{is_limited, is_multiplier_within, is_within, items_in, lifted, limits_of, new_nest, one_loop, renumbered, renumbered_places}
+use Rattle.passes.specs.Nest.{PlainMultiplier, PlainNest}
 use Rattle.passes.specs.Views.{plain_nest}
 use Rattle.passes.specs.declared.nest.Nest.{Nest}
 use Rattle.passes.specs.Work.{copy}
@@ -17,7 +18,9 @@ use Rattle.passes.proofs.Within.{both-true, constant-small, limited}
 use Rattle.tensor_paths.specs.declared.Tensor.TheVariants.{Blocks}
 use Rattle.tensor_paths.specs.Path.{Path, size_under}
 use Rattle.term_merge.specs.Known.{AreReadyPasses, IsReadyNest, IsReadyPass}
-use Rattle.term_merge.specs.Lifted.{AllLift, AreLifted, CanLift, CanStand}
+use Rattle.term_merge.specs.Lifted.{AllFit, AllLift, AreLifted, AreRaised, CanLift, CanStand, SumsFit, behind, counts_under}
+use Rattle.term_merge.specs.Views.{from_last, plain_pass, plain_passes}
+use Rattle.std.proofs.Common.{Global}
 use Rattle.term_merge.proofs.Items.{low-of, variable-item}
 use Rattle.term_merge.proofs.Lifting.{can-lift}
 
@@ -85,8 +88,78 @@ can_stand n k path several some high =
       second = (can-lift 64 k (n + k) n path (copies (one_loop k)) several (let a = some.0 in omega (arith, a)) high (omega arith) right.within right.ready, tt);
     }
 
--- ---- one by one
+-- ---- from the end
 
-pub each_lift : (path : Path) (n before : ℕ) (zs : List Nest) → AllLift path n before (map plain_nest zs) → All (λ z. CanLift path n before (plain_nest z)) zs
-each_lift path n before [] h = All-nil (λ z. CanLift path n before (plain_nest z))
-each_lift path n before (z ∷ zs) h = All-cons (λ z. CanLift path n before (plain_nest z)) z zs h.0 (each_lift path n before zs h.1)
+-- the last of a list is the first of the other way round
+pub last-first : (xs ys : List (Vec Nest Global)) (x : Vec Nest Global) → xs ≡ ys ++ x ∷ [] → from_last xs ≡ plain_pass x ∷ from_last ys
+last-first xs ys x is = ap from_last is ∙ ap plain_passes (reverse-append ys (x ∷ []))
+
+-- nothing came from the end
+pub same-first : (xs ys : List (Vec Nest Global)) → xs ≡ ys ++ [] → from_last xs ≡ from_last ys
+same-first xs ys is = ap from_last (is ∙ append-nil ys)
+
+pub twice-turned : (xs ys : List (Vec Nest Global)) → ys ≡ reverse xs → from_last ys ≡ plain_passes xs
+twice-turned xs ys is = ap from_last is ∙ ap plain_passes (reverse-reverse xs)
+
+pub shorter : (A : Type 0) (xs ys : List A) (x : A) → xs ≡ ys ++ x ∷ [] → length ys + 1 ≡ length xs
+shorter A xs ys x is = sym (ap length is ∙ length-append ys (x ∷ []))
+
+pub as-long : (A : Type 0) (xs ys : List A) → xs ≡ ys ++ [] → length ys ≡ length xs
+as-long A xs ys is = sym (ap length (is ∙ append-nil ys))
+
+lift-front : (path : Path) (n before : ℕ) (zs : List PlainNest) (z : PlainNest) → AllLift path n before (zs ++ z ∷ []) → AllLift path n before zs
+lift-front path n before [] z h = tt
+lift-front path n before (y ∷ ys) z h = (h.0, lift-front path n before ys z h.1)
+
+lift-last : (path : Path) (n before : ℕ) (zs : List PlainNest) (z : PlainNest) → AllLift path n before (zs ++ z ∷ []) → CanLift path n before z
+lift-last path n before [] z h = h.0
+lift-last path n before (y ∷ ys) z h = lift-last path n before ys z h.1
+
+pub front-lifts : (path : Path) (n before : ℕ) (xs ys : List Nest) (x : Nest) → xs ≡ ys ++ x ∷ [] → AllLift path n before (map plain_nest xs) → AllLift path n before (map plain_nest ys)
+front-lifts path n before xs ys x is h = lift-front path n before (map plain_nest ys) (plain_nest x) (subst (AllLift path n before) (ap (map plain_nest) is ∙ map-append plain_nest ys (x ∷ [])) h)
+
+pub last-lifts : (path : Path) (n before : ℕ) (xs ys : List Nest) (x : Nest) → xs ≡ ys ++ x ∷ [] → AllLift path n before (map plain_nest xs) → CanLift path n before (plain_nest x)
+last-lifts path n before xs ys x is h = lift-last path n before (map plain_nest ys) (plain_nest x) (subst (AllLift path n before) (ap (map plain_nest) is ∙ map-append plain_nest ys (x ∷ [])) h)
+
+-- ---- under no tensors
+
+as-it-is : (e : Sum) → renumbered 0 e ≡ e
+as-it-is (constant c) = refl
+as-it-is (variable f d rest) = ap₂ (λ a b. variable f a b) (let is : d + 0 ≡ d = omega arith in is) (as-it-is rest)
+as-it-is (remainder f of m rest) = ap₂ (λ a b. remainder f a m b) (as-it-is of) (as-it-is rest)
+as-it-is (quotient f of m rest) = ap₂ (λ a b. quotient f a m b) (as-it-is of) (as-it-is rest)
+
+same-sums : (before : ℕ) (es : List Sum) → map (joined (constant before)) es ≡ map (λ e. joined (constant before) (renumbered 0 e)) es
+same-sums before [] = refl
+same-sums before (e ∷ es) = ap₂ (λ (x : Sum) xs. x ∷ xs) (ap (joined (constant before)) (sym (as-it-is e))) (same-sums before es)
+
+same-numbers : (es : List Sum) → es ≡ map (renumbered 0) es
+same-numbers [] = refl
+same-numbers (e ∷ es) = ap₂ (λ (x : Sum) xs. x ∷ xs) (sym (as-it-is e)) (same-numbers es)
+
+same-factors : (o : Option PlainMultiplier) → o ≡ renumbered_places 0 o
+same-factors None = refl
+same-factors (Some d) = ap (λ es. Some (record { factors = d.factors; places = es })) (same-numbers d.places)
+
+pub behind-lifted : (path : Path) (n before : ℕ) (zs : List PlainNest) → length path ≡ 0 → map (behind before) zs ≡ map (lifted path n before) zs
+behind-lifted (t ∷ path) n before zs none = absurd (omega (arith, none))
+behind-lifted [] n before zs none = each zs
+  where
+    each : (xs : List PlainNest) → map (behind before) xs ≡ map (lifted [] n before) xs
+    each [] = refl
+    each (z ∷ xs) =
+        ap₂ (λ (y : PlainNest) ys. y ∷ ys)
+        (ap (λ es. record { counts = z.counts; work = z.work; gathers = es; multiplier = z.multiplier; scatters = map (joined (constant before)) z.scatters }) (same-sums before z.gathers)
+        ∙ ap (λ o. record { counts = z.counts; work = z.work; gathers = map (λ e. joined (constant before) (renumbered 0 e)) z.gathers; multiplier = o; scatters = map (joined (constant before)) z.scatters }) (same-factors z.multiplier)
+        ∙ ap (λ es. record { counts = z.counts; work = z.work; gathers = map (λ e. joined (constant before) (renumbered 0 e)) z.gathers; multiplier = renumbered_places 0 z.multiplier; scatters = es }) (same-sums before z.scatters))
+        (each xs)
+
+sums-fit : (counts : List ℕ) (n before : ℕ) (es : List Sum) → AreRaised counts [] n before es → SumsFit before es
+sums-fit counts n before [] h = tt
+sums-fit counts n before (e ∷ es) h = (subst (λ x. before + constant_of x < 2 ^ 64) (as-it-is e) h.0.joins, sums-fit counts n before es h.1)
+
+pub all-fit : (path : Path) (n before : ℕ) (zs : List PlainNest) → length path ≡ 0 → AllLift path n before zs → AllFit before zs
+all-fit (t ∷ path) n before zs none h = absurd (omega (arith, none))
+all-fit [] n before [] none h = tt
+all-fit [] n before (z ∷ zs) none h =
+    (sums-fit (counts_under [] z) n before z.gathers h.0.gathers, sums-fit (counts_under [] z) n before z.scatters h.0.scatters, all-fit [] n before zs none h.1)

@@ -1,5 +1,5 @@
 -- What is known of a state of merging stays known, part by part of a term.
-use Rattle.std.proofs.Common.{◌≡◌, ℕ, ◌+◌, ◌-◌, ◌*◌, ◌^◌, ◌<◌, ◌≤◌, true, arith, sym, subst, List, [], ◌∷◌, ◌++◌, length}
+use Rattle.std.proofs.Common.{◌≡◌, ℕ, ◌+◌, ◌-◌, ◌^◌, ◌<◌, ◌≤◌, true, arith, sym, subst, List, [], ◌∷◌, ◌++◌, length}
 use Rattle.std.specs.Prelude.{map, ◌&&◌}
 use Rattle.index_fn.specs.Mapping.{Mapping}
 use Rattle.perm_algebra.specs.Affine.{Sum, constant}
@@ -7,7 +7,7 @@ use Rattle.perm_algebra.specs.Room.{IsReady}
 use Rattle.perm_algebra.proofs.Counted.{ready-simplified}
 use Rattle.passes.specs.Good.{IsFormed, IsGoodTerm}
 use Rattle.passes.specs.Limits.{HasSeveral}
-use Rattle.passes.specs.Merge.{most, Merging, Taking, limits_of, all_simplified, can_gather, can_scatter, can_multiply, gathered, scattered, multiplied, suits, copying, new_nest, items_in, back_of, take_gathers, copy_by, copies_before, settled, with_pass, factor_places, with_copy, with_diagonal, with_scatter, is_within}
+use Rattle.passes.specs.Merge.{most, Merging, Taking, limits_of, all_simplified, can_gather, can_scatter, can_multiply, gathered, multiplied, suits, copying, new_nest, items_in, back_of, take_gathers, copy_by, copies_before, settled, with_pass, factor_places, with_copy, with_diagonal, with_scatter, is_within}
 use Rattle.passes.specs.Nest.{PlainFactors, spread, factor_count, PlainNest}
 use Rattle.passes.specs.Term.{nest, move}
 use Rattle.passes.specs.Work.{PlainWork, copy, work_size, HasWords}
@@ -20,7 +20,7 @@ use Rattle.tensor_paths.specs.Path.{Path, size_under}
 use Rattle.term_merge.specs.Known.{AreReady, IsReadyPass, IsKnownPass, AreKnownPasses, HasRoom, IsStep, AreSteps}
 use Rattle.term_merge.proofs.Carries.{carry-places}
 use Rattle.term_merge.proofs.Passes.{known-gathered, known-scattered}
-use Rattle.term_merge.proofs.Readies.{ready-new, ready-in, ready-constants, low, deep, known-copying, known-by}
+use Rattle.term_merge.proofs.Readies.{ready-new, ready-in, ready-constants, low, known-copying, known-by}
 
 -- ---- new nests
 

@@ -1,10 +1,10 @@
 -- Places within the limits: what simplification asks of them.
-use Rattle.std.proofs.Common.{◌≡◌, ℕ, zero, suc, ◌+◌, ◌^◌, ◌<◌, ◌≤◌, Bool, true, false, arith, refl, sym, ap, ap₂, ◌∙◌, List, [], ◌∷◌, ◌++◌, length, inl, inr, subst}
-use Rattle.std.specs.Prelude.{map, take, get_or, ◌&&◌, slice_index, nat_lt}
+use Rattle.std.proofs.Common.{◌≡◌, ℕ, zero, suc, ◌+◌, ◌^◌, ◌<◌, ◌≤◌, Bool, true, false, arith, refl, sym, ap, ap₂, ◌∙◌, List, [], ◌∷◌, ◌++◌, length, subst}
+use Rattle.std.specs.Prelude.{map, take, get_or, ◌&&◌, nat_lt}
 use Rattle.std.specs.List.{list_all}
 use Rattle.std.proofs.lemmas.Bool.Decides.{nat_tests}
 use Rattle.std.proofs.lemmas.List.{map-append, take_more}
-use Rattle.index_fn.specs.Mapping.{Mapping, IsDefinedAt}
+use Rattle.index_fn.specs.Mapping.{Mapping}
 use Rattle.perm_algebra.specs.Affine.{Sum, constant, variable, remainder, quotient, IsSound, top, value, simplified}
 use Rattle.perm_algebra.specs.Fits.{InRange, IsAffine, Stays}
 use Rattle.perm_algebra.specs.Room.{HasCounts, IsReady, has_room}
@@ -12,7 +12,7 @@ use Rattle.perm_algebra.proofs.AffineLaws.{value-le-top}
 use Rattle.passes.specs.Merge.{is_limited, are_small, is_divided, total}
 use Rattle.passes.proofs.Limited.{tested}
 use Rattle.passes.proofs.Walk.{and-left, and-right}
-use Rattle.term_merge.specs.Known.{AreReady, IsDefinedBelow}
+use Rattle.term_merge.specs.Known.{AreReady}
 use Rattle.sum_limits.specs.Leading.{can_lead}
 
 word-true : (n : ℕ) → nat_lt n (2 ^ 64) ≡ true → n < 2 ^ 64

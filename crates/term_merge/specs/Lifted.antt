@@ -5,7 +5,7 @@ use Rattle.passes.specs.Nest.{PlainMultiplier, PlainNest}
 use Rattle.passes.specs.Work.{HasWords, work_size}
 use Rattle.perm_algebra.specs.Affine.{Sum, constant, joined, value}
 use Rattle.perm_algebra.specs.Fits.{IsAffine, Stays}
-use Rattle.perm_algebra.specs.Room.{CanJoin, HasCounts}
+use Rattle.perm_algebra.specs.Room.{CanJoin, HasCounts, constant_of}
 use Rattle.tensor_paths.specs.Path.{Path, count_of}
 use Rattle.term_merge.specs.Placed.{CanName}
 
@@ -46,6 +46,19 @@ AllLift path n before (z ∷ zs) = CanLift path n before z × AllLift path n bef
 abbrev pub AreLifted : Path → ℕ → ℕ → List (List PlainNest) → Type 0
 AreLifted path n before [] = Unit {0}
 AreLifted path n before (zs ∷ ps) = AllLift path n before zs × AreLifted path n before ps
+
+-- the same nest behind so many words
+abbrev pub behind : ℕ → PlainNest → PlainNest
+behind before z = record { counts = z.counts; work = z.work; gathers = map (joined (constant before)) z.gathers; multiplier = z.multiplier; scatters = map (joined (constant before)) z.scatters }
+
+-- each place is a word there
+abbrev pub SumsFit : ℕ → List Sum → Type 0
+SumsFit before [] = Unit {0}
+SumsFit before (e ∷ es) = (before + constant_of e < 2 ^ 64) × SumsFit before es
+
+abbrev pub AllFit : ℕ → List PlainNest → Type 0
+AllFit before [] = Unit {0}
+AllFit before (z ∷ zs) = SumsFit before z.gathers × SumsFit before z.scatters × AllFit before zs
 
 -- two parts, of n and of k words, and copies of either
 pub record CanStand (path : Path) (n k : ℕ) : Type 0 where

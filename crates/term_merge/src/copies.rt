@@ -8,6 +8,7 @@ ghost use Rattle.term_merge.specs.Views.{plain_pass, plain_passes};
 
 use crate::nests::{copying, copying_words};
 use crate::places::gathered;
+use crate::state::Change;
 use index_fn::Index;
 use memory::NoMemory;
 use passes::Nest;
@@ -46,9 +47,9 @@ fn copy_by(alloc: Global, f: &Index, limits: Limits) -> Result<Vec<Nest>, NoMemo
     ensures { IfOk result (λ zs. map plain_nest zs.items ≡ copy_by (most limits.room) limits.size (mapping_of f.now)) }
 {
     let natural = copying(alloc, limits.size)?;
-    match gathered(alloc, f, &natural, limits)? {
-        Some(pass) => Ok(pass),
-        None => {
+    match gathered(alloc, f, natural, limits)? {
+        Change::Made(pass) => Ok(pass),
+        Change::Refused(_) => {
             let pass = copying_words(alloc, limits.size, f)?;
             Ok(pass)
         }
@@ -72,12 +73,12 @@ fn copies_before(
             let passes = with_first(pass, Vec::new(alloc))?;
             Ok(passes)
         }
-        Some((f, rest)) => match gathered(alloc, f, &pass, limits)? {
-            Some(pass) => {
+        Some((f, rest)) => match gathered(alloc, f, pass, limits)? {
+            Change::Made(pass) => {
                 let passes = copies_before(alloc, pass, rest, limits)?;
                 Ok(passes)
             }
-            None => {
+            Change::Refused(pass) => {
                 let copies = copy_by(alloc, f, limits)?;
                 let before = copies_before(alloc, copies, rest, limits)?;
                 let passes = with_first(pass, before)?;
@@ -124,12 +125,12 @@ pub(crate) fn taken(
             let passes = with_first(pass, Vec::new(alloc))?;
             Ok(passes)
         }
-        Some((f, rest)) => match gathered(alloc, f, &pass, limits)? {
-            Some(pass) => {
+        Some((f, rest)) => match gathered(alloc, f, pass, limits)? {
+            Change::Made(pass) => {
                 let passes = taken(alloc, pass, rest, limits)?;
                 Ok(passes)
             }
-            None => {
+            Change::Refused(pass) => {
                 let before = settled(alloc, waiting, limits)?;
                 let passes = with_first(pass, before)?;
                 Ok(passes)

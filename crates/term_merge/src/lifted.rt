@@ -1,16 +1,15 @@
 // Nests of a part, under tensors behind the words before it.
-ghost use Rattle.std.specs.Prelude.{◌≡◌, ◌-◌, ◌++◌, IfOk, All, length, map, slice_index};
+ghost use Rattle.std.specs.Prelude.{◌≡◌, ◌+◌, ◌-◌, ◌^◌, ◌<◌, ◌++◌, IfOk, All, length, map, slice_index};
 ghost use Rattle.std.specs.Option.{option_map};
 ghost use Rattle.passes.specs.Merge.{lifted, place_sum, renumbered, renumbered_places};
 ghost use Rattle.passes.specs.Views.{plain_multiplier, plain_nest};
 ghost use Rattle.passes.specs.Work.{HasWords};
 ghost use Rattle.perm_algebra.specs.Affine.{constant, joined};
-ghost use Rattle.perm_algebra.specs.Room.{HasCounts};
+ghost use Rattle.perm_algebra.specs.Room.{HasCounts, constant_of};
 ghost use Rattle.perm_algebra.specs.Views.{plain_sum};
 ghost use Rattle.tensor_paths.specs.Path.{count_of};
-ghost use Rattle.term_merge.specs.Lifted.{CanLift, CanRaise, IsCounted, counts_under};
+ghost use Rattle.term_merge.specs.Lifted.{AllFit, CanLift, CanRaise, IsCounted, SumsFit, behind, counts_under};
 
-use crate::nests::copied_factors;
 use crate::placed::{placed, renumbered};
 use memory::NoMemory;
 use passes::{Multiplier, Nest, counts, limits};
@@ -25,17 +24,23 @@ pub(crate) fn lifted(
     path: &[Tensor],
     size: u64,
     before: u64,
-    nest: &Nest,
+    nest: Nest,
 ) -> Result<Nest, NoMemory>
-    requires { CanLift path.now size before (plain_nest nest.now) }
-    ensures { IfOk result (λ z. plain_nest z ≡ lifted path.now size before (plain_nest nest.now)) }
+    requires { CanLift path.now size before (plain_nest nest) }
+    ensures { IfOk result (λ z. plain_nest z ≡ lifted path.now size before (plain_nest nest)) }
 {
     let counts = counts_round(alloc, path, &nest.counts)?;
-    let limits = limits_under(alloc, path, nest)?;
-    let gathers = all_raised(alloc, &limits, path, size, before, &nest.gathers)?;
-    let multiplier = counted_on(alloc, &limits, path.len() as u64, &nest.multiplier)?;
-    let scatters = all_raised(alloc, &limits, path, size, before, &nest.scatters)?;
-    let work = nest.work.copied(alloc)?;
+    let limits = limits_under(alloc, path, &nest)?;
+    let Nest {
+        work,
+        gathers,
+        multiplier,
+        scatters,
+        ..
+    } = nest;
+    let gathers = all_raised(alloc, &limits, path, size, before, &gathers)?;
+    let multiplier = counted_on(alloc, &limits, path.len() as u64, multiplier)?;
+    let scatters = all_raised(alloc, &limits, path, size, before, &scatters)?;
     Ok(Nest {
         counts,
         work,
@@ -107,16 +112,16 @@ fn counted_on(
     alloc: Global,
     limits: &[u64],
     by: u64,
-    multiplier: &Option<Multiplier>,
+    multiplier: Option<Multiplier>,
 ) -> Result<Option<Multiplier>, NoMemory>
-    requires { IsCounted (length limits.now - by) (option_map plain_multiplier multiplier.now) }
-    ensures { IfOk result (λ d. option_map plain_multiplier d ≡ renumbered_places by (option_map plain_multiplier multiplier.now)) }
+    requires { IsCounted (length limits.now - by) (option_map plain_multiplier multiplier) }
+    ensures { IfOk result (λ d. option_map plain_multiplier d ≡ renumbered_places by (option_map plain_multiplier multiplier)) }
 {
     match multiplier {
         None => Ok(None),
         Some(multiplier) => {
-            let factors = copied_factors(alloc, &multiplier.factors)?;
             let places = all_renumbered(alloc, limits, by, &multiplier.places)?;
+            let factors = multiplier.factors;
             Ok(Some(Multiplier { factors, places }))
         }
     }
@@ -136,4 +141,44 @@ fn all_renumbered(
         higher.push(renumbered(alloc, limits, by, sum)?)?;
     }
     Ok(higher)
+}
+
+/// Nests of a part that begins behind so many words.
+pub(crate) fn raise_nests(before: u64, nests: &mut [Nest])
+    requires { AllFit before (map plain_nest nests.old) }
+    ensures { map plain_nest nests.new ≡ map (behind before) (map plain_nest nests.old) }
+{
+    match nests.split_first_mut() {
+        None => (),
+        Some((nest, rest)) => {
+            raise_sums(before, &mut nest.gathers);
+            raise_sums(before, &mut nest.scatters);
+            raise_nests(before, rest);
+        }
+    }
+}
+
+fn raise_sums(before: u64, sums: &mut [Affine])
+    requires { SumsFit before (map plain_sum sums.old) }
+    ensures { map plain_sum sums.new ≡ map (joined (constant before)) (map plain_sum sums.old) }
+{
+    match sums.split_first_mut() {
+        None => (),
+        Some((sum, rest)) => {
+            raise(before, sum);
+            raise_sums(before, rest);
+        }
+    }
+}
+
+fn raise(before: u64, sum: &mut Affine)
+    requires { before + constant_of (plain_sum sum.old) < 2 ^ 64 }
+    ensures { plain_sum sum.new ≡ joined (constant before) (plain_sum sum.old) }
+{
+    match sum {
+        Affine::Constant(c) => *c += before,
+        Affine::Variable(_, _, rest) => raise(before, rest),
+        Affine::Remainder(_, _, _, rest) => raise(before, rest),
+        Affine::Quotient(_, _, _, rest) => raise(before, rest),
+    }
 }

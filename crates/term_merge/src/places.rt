@@ -2,6 +2,7 @@
 ghost use Rattle.std.specs.Prelude.{◌≡◌, ◌^◌, ◌≤◌, ◌∷◌, ◌++◌, [], All, IfOk, None, Some, Vec, false, length, map, slice_index, true};
 ghost use Rattle.std.specs.List.{list_all};
 ghost use Rattle.index_fn.specs.Index.{mapping_of};
+ghost use Rattle.index_fn.specs.Mapping.{Mapping};
 ghost use Rattle.passes.specs.Good.{IsFormed};
 ghost use Rattle.passes.specs.Merge.{can_gather, can_scatter, gathered, is_limited, is_within, limits_of, most, scattered};
 ghost use Rattle.passes.specs.Views.{plain_nest};
@@ -10,15 +11,18 @@ ghost use Rattle.perm_algebra.specs.Affine.{simplified};
 ghost use Rattle.perm_algebra.specs.Views.{plain_sum};
 ghost use Rattle.term_merge.specs.Known.{AreReady, IsDefinedBelow, IsKnownPass, IsReadyNest, IsReadyPass};
 ghost use Rattle.sum_limits.specs.Leading.{can_lead};
-ghost use Rattle.term_merge.specs.Tests.{can_load, can_store};
+ghost use Rattle.term_merge.specs.Tests.{can_load, can_store, loads_by, stores_by};
+ghost use Rattle.term_merge.specs.Views.{plain_sums};
+ghost use Rattle.term_merge.specs.declared.state.Change.TheVariants.{Made, Refused};
 
-use crate::nests::copied_nest;
+use crate::state::Change;
 use index_fn::Index;
 use memory::NoMemory;
 use passes::{Nest, limits};
 use perm_algebra::Affine;
 use smallvec::SmallVec;
 use std::alloc::Global;
+use std::mem;
 use sum_limits::{Limits, simplify_within};
 
 /// The function at each of these places, if all of them are within the limits.
@@ -56,138 +60,172 @@ pub(crate) fn limits_of(alloc: Global, nest: &Nest) -> Result<SmallVec<u64, 10>,
     Ok(limits)
 }
 
-// A nest with a gather in its loads.
-fn gathered_nest(
+// Where a gather leads the loads of a nest, if that is within the limits.
+fn loads_by(
     alloc: Global,
     f: &Index,
     nest: &Nest,
     limits: Limits,
-) -> Result<Option<Nest>, NoMemory>
+) -> Result<Option<Vec<Affine>>, NoMemory>
     requires formed { IsFormed (mapping_of f.now) }
     requires defined { IsDefinedBelow limits.size (mapping_of f.now) }
     requires size { limits.size ≤ 2 ^ 20 }
     requires ready { IsReadyNest (plain_nest nest.now) }
     requires within { list_all (is_limited limits.room limits.size (limits_of (plain_nest nest.now))) (plain_nest nest.now).gathers ≡ true }
-    ensures some { IfOk result (λ r. (z : Nest) → r ≡ Some z → (can_load limits.room limits.size (mapping_of f.now) (plain_nest nest.now) ≡ true) × (plain_nest z ∷ [] ≡ gathered (mapping_of f.now) (plain_nest nest.now ∷ []))) }
+    ensures some { IfOk result (λ r. (es : Vec Affine Global) → r ≡ Some es → (can_load limits.room limits.size (mapping_of f.now) (plain_nest nest.now) ≡ true) × (plain_sums es ≡ loads_by (mapping_of f.now) (plain_nest nest.now))) }
     ensures none { IfOk result (λ r. r ≡ None → can_load limits.room limits.size (mapping_of f.now) (plain_nest nest.now) ≡ false) }
 {
     let counts = limits_of(alloc, nest)?;
-    match simplified_sums(alloc, f, &nest.gathers, &counts, limits)? {
-        None => Ok(None),
-        Some(gathers) => {
-            let mut other = copied_nest(alloc, nest)?;
-            other.gathers = gathers;
-            Ok(Some(other))
-        }
-    }
+    let places = simplified_sums(alloc, f, &nest.gathers, &counts, limits)?;
+    Ok(places)
 }
 
-// A pass with a gather in its loads, if that is within the limits.
-fn gathered_nests(
+// The same of all nests of a pass.
+fn all_loads_by(
     alloc: Global,
     f: &Index,
     nests: &[Nest],
     limits: Limits,
-) -> Result<Option<Vec<Nest>>, NoMemory>
+) -> Result<Option<Vec<Vec<Affine>>>, NoMemory>
     requires formed { IsFormed (mapping_of f.now) }
     requires defined { IsDefinedBelow limits.size (mapping_of f.now) }
     requires size { limits.size ≤ 2 ^ 20 }
     requires known { IsKnownPass limits.room limits.size (map plain_nest nests.now) }
-    ensures some { IfOk result (λ r. (zs : Vec Nest Global) → r ≡ Some zs → (list_all (can_load limits.room limits.size (mapping_of f.now)) (map plain_nest nests.now) ≡ true) × (map plain_nest zs.items ≡ gathered (mapping_of f.now) (map plain_nest nests.now))) }
+    ensures some { IfOk result (λ r. (ess : Vec (Vec Affine Global) Global) → r ≡ Some ess → (list_all (can_load limits.room limits.size (mapping_of f.now)) (map plain_nest nests.now) ≡ true) × (map plain_sums ess.items ≡ map (loads_by (mapping_of f.now)) (map plain_nest nests.now))) }
     ensures none { IfOk result (λ r. r ≡ None → list_all (can_load limits.room limits.size (mapping_of f.now)) (map plain_nest nests.now) ≡ false) }
 {
-    let mut changed = Vec::new(alloc);
+    let mut all = Vec::new(alloc);
     for nest in nests {
-        match gathered_nest(alloc, f, nest, limits)? {
+        match loads_by(alloc, f, nest, limits)? {
             None => return Ok(None),
-            Some(nest) => changed.push(nest)?,
+            Some(places) => all.push(places)?,
         }
     }
-    Ok(Some(changed))
+    Ok(Some(all))
+}
+
+// These places become those of the loads.
+fn put_loads(nests: &mut [Nest], loads: &mut [Vec<Affine>])
+    ensures { (f : Mapping) → map plain_sums loads.old ≡ map (loads_by f) (map plain_nest nests.old) → map plain_nest nests.new ≡ gathered f (map plain_nest nests.old) }
+{
+    match nests.split_first_mut() {
+        None => (),
+        Some((nest, nests)) => match loads.split_first_mut() {
+            None => (),
+            Some((places, loads)) => {
+                mem::swap(&mut nest.gathers, places);
+                put_loads(nests, loads);
+            }
+        },
+    }
 }
 
 /// A pass with a gather in its loads, if that is within the limits.
 pub(crate) fn gathered(
     alloc: Global,
     f: &Index,
-    nests: &[Nest],
+    nests: Vec<Nest>,
     limits: Limits,
-) -> Result<Option<Vec<Nest>>, NoMemory>
+) -> Result<Change, NoMemory>
     requires formed { IsFormed (mapping_of f.now) }
     requires defined { IsDefinedBelow limits.size (mapping_of f.now) }
     requires size { limits.size ≤ 2 ^ 20 }
-    requires known { IsKnownPass limits.room limits.size (map plain_nest nests.now) }
-    ensures some { IfOk result (λ r. (zs : Vec Nest Global) → r ≡ Some zs → (can_gather (most limits.room) limits.size (mapping_of f.now) (map plain_nest nests.now) ≡ true) × (map plain_nest zs.items ≡ gathered (mapping_of f.now) (map plain_nest nests.now))) }
-    ensures none { IfOk result (λ r. r ≡ None → can_gather (most limits.room) limits.size (mapping_of f.now) (map plain_nest nests.now) ≡ false) }
+    requires known { IsKnownPass limits.room limits.size (map plain_nest nests.items) }
+    ensures made { IfOk result (λ r. (zs : Vec Nest Global) → r ≡ Made zs → (can_gather (most limits.room) limits.size (mapping_of f.now) (map plain_nest nests.items) ≡ true) × (map plain_nest zs.items ≡ gathered (mapping_of f.now) (map plain_nest nests.items))) }
+    ensures refused { IfOk result (λ r. (zs : Vec Nest Global) → r ≡ Refused zs → (can_gather (most limits.room) limits.size (mapping_of f.now) (map plain_nest nests.items) ≡ false) × (map plain_nest zs.items ≡ map plain_nest nests.items)) }
 {
-    let changed = gathered_nests(alloc, f, nests, limits)?;
-    Ok(changed)
+    match all_loads_by(alloc, f, &nests, limits)? {
+        None => Ok(Change::Refused(nests)),
+        Some(places) => {
+            let mut nests = nests;
+            let mut places = places;
+            put_loads(&mut nests, &mut places);
+            Ok(Change::Made(nests))
+        }
+    }
 }
 
-// A nest with a scatter in its stores.
-fn scattered_nest(
+// Where a scatter leads the stores of a nest, if that is within the limits.
+fn stores_by(
     alloc: Global,
     f: &Index,
     nest: &Nest,
     limits: Limits,
-) -> Result<Option<Nest>, NoMemory>
+) -> Result<Option<Vec<Affine>>, NoMemory>
     requires formed { IsFormed (mapping_of f.now) }
     requires defined { IsDefinedBelow limits.size (mapping_of f.now) }
     requires size { limits.size ≤ 2 ^ 20 }
     requires ready { IsReadyNest (plain_nest nest.now) }
     requires within { list_all (is_limited limits.room limits.size (limits_of (plain_nest nest.now))) (plain_nest nest.now).scatters ≡ true }
-    ensures some { IfOk result (λ r. (z : Nest) → r ≡ Some z → (can_store limits.room limits.size (mapping_of f.now) (plain_nest nest.now) ≡ true) × (plain_nest z ∷ [] ≡ scattered (mapping_of f.now) (plain_nest nest.now ∷ []))) }
+    ensures some { IfOk result (λ r. (es : Vec Affine Global) → r ≡ Some es → (can_store limits.room limits.size (mapping_of f.now) (plain_nest nest.now) ≡ true) × (plain_sums es ≡ stores_by (mapping_of f.now) (plain_nest nest.now))) }
     ensures none { IfOk result (λ r. r ≡ None → can_store limits.room limits.size (mapping_of f.now) (plain_nest nest.now) ≡ false) }
 {
     let counts = limits_of(alloc, nest)?;
-    match simplified_sums(alloc, f, &nest.scatters, &counts, limits)? {
-        None => Ok(None),
-        Some(scatters) => {
-            let mut other = copied_nest(alloc, nest)?;
-            other.scatters = scatters;
-            Ok(Some(other))
-        }
-    }
+    let places = simplified_sums(alloc, f, &nest.scatters, &counts, limits)?;
+    Ok(places)
 }
 
-// A pass with a scatter in its stores, if that is within the limits.
-fn scattered_nests(
+// The same of all nests of a pass.
+fn all_stores_by(
     alloc: Global,
     f: &Index,
     nests: &[Nest],
     limits: Limits,
-) -> Result<Option<Vec<Nest>>, NoMemory>
+) -> Result<Option<Vec<Vec<Affine>>>, NoMemory>
     requires formed { IsFormed (mapping_of f.now) }
     requires defined { IsDefinedBelow limits.size (mapping_of f.now) }
     requires size { limits.size ≤ 2 ^ 20 }
     requires known { IsKnownPass limits.room limits.size (map plain_nest nests.now) }
-    ensures some { IfOk result (λ r. (zs : Vec Nest Global) → r ≡ Some zs → (list_all (can_store limits.room limits.size (mapping_of f.now)) (map plain_nest nests.now) ≡ true) × (map plain_nest zs.items ≡ scattered (mapping_of f.now) (map plain_nest nests.now))) }
+    ensures some { IfOk result (λ r. (ess : Vec (Vec Affine Global) Global) → r ≡ Some ess → (list_all (can_store limits.room limits.size (mapping_of f.now)) (map plain_nest nests.now) ≡ true) × (map plain_sums ess.items ≡ map (stores_by (mapping_of f.now)) (map plain_nest nests.now))) }
     ensures none { IfOk result (λ r. r ≡ None → list_all (can_store limits.room limits.size (mapping_of f.now)) (map plain_nest nests.now) ≡ false) }
 {
-    let mut changed = Vec::new(alloc);
+    let mut all = Vec::new(alloc);
     for nest in nests {
-        match scattered_nest(alloc, f, nest, limits)? {
+        match stores_by(alloc, f, nest, limits)? {
             None => return Ok(None),
-            Some(nest) => changed.push(nest)?,
+            Some(places) => all.push(places)?,
         }
     }
-    Ok(Some(changed))
+    Ok(Some(all))
+}
+
+// These places become those of the stores.
+fn put_stores(nests: &mut [Nest], stores: &mut [Vec<Affine>])
+    ensures { (f : Mapping) → map plain_sums stores.old ≡ map (stores_by f) (map plain_nest nests.old) → map plain_nest nests.new ≡ scattered f (map plain_nest nests.old) }
+{
+    match nests.split_first_mut() {
+        None => (),
+        Some((nest, nests)) => match stores.split_first_mut() {
+            None => (),
+            Some((places, stores)) => {
+                mem::swap(&mut nest.scatters, places);
+                put_stores(nests, stores);
+            }
+        },
+    }
 }
 
 /// A pass with a scatter in its stores, if that is within the limits.
 pub(crate) fn scattered(
     alloc: Global,
     f: &Index,
-    nests: &[Nest],
+    nests: Vec<Nest>,
     limits: Limits,
-) -> Result<Option<Vec<Nest>>, NoMemory>
+) -> Result<Change, NoMemory>
     requires formed { IsFormed (mapping_of f.now) }
     requires defined { IsDefinedBelow limits.size (mapping_of f.now) }
     requires size { limits.size ≤ 2 ^ 20 }
-    requires known { IsKnownPass limits.room limits.size (map plain_nest nests.now) }
-    ensures some { IfOk result (λ r. (zs : Vec Nest Global) → r ≡ Some zs → (can_scatter (most limits.room) limits.size (mapping_of f.now) (map plain_nest nests.now) ≡ true) × (map plain_nest zs.items ≡ scattered (mapping_of f.now) (map plain_nest nests.now))) }
-    ensures none { IfOk result (λ r. r ≡ None → can_scatter (most limits.room) limits.size (mapping_of f.now) (map plain_nest nests.now) ≡ false) }
+    requires known { IsKnownPass limits.room limits.size (map plain_nest nests.items) }
+    ensures made { IfOk result (λ r. (zs : Vec Nest Global) → r ≡ Made zs → (can_scatter (most limits.room) limits.size (mapping_of f.now) (map plain_nest nests.items) ≡ true) × (map plain_nest zs.items ≡ scattered (mapping_of f.now) (map plain_nest nests.items))) }
+    ensures refused { IfOk result (λ r. (zs : Vec Nest Global) → r ≡ Refused zs → (can_scatter (most limits.room) limits.size (mapping_of f.now) (map plain_nest nests.items) ≡ false) × (map plain_nest zs.items ≡ map plain_nest nests.items)) }
 {
-    let changed = scattered_nests(alloc, f, nests, limits)?;
-    Ok(changed)
+    match all_stores_by(alloc, f, &nests, limits)? {
+        None => Ok(Change::Refused(nests)),
+        Some(places) => {
+            let mut nests = nests;
+            let mut places = places;
+            put_stores(&mut nests, &mut places);
+            Ok(Change::Made(nests))
+        }
+    }
 }

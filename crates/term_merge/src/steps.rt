@@ -10,7 +10,7 @@ use crate::backs::back_of;
 use crate::copies::{settled, taken, with_before, with_first};
 use crate::firsts::{FirstPass, from_end, parted};
 use crate::places::scattered;
-use crate::state::Merging;
+use crate::state::{Change, Merging};
 use index_fn::Index;
 use memory::NoMemory;
 use passes::Nest;
@@ -89,12 +89,12 @@ fn scattered_last(
             let next = with_gather(Merging { waiting, passes }, back_of(alloc, f)?)?;
             Ok(next)
         }
-        Some(FirstPass { first, others }) => match scattered(alloc, f, &first, limits)? {
-            Some(pass) => {
+        Some(FirstPass { first, others }) => match scattered(alloc, f, first, limits)? {
+            Change::Made(pass) => {
                 let passes = with_first(pass, others)?;
                 Ok(Merging { waiting, passes })
             }
-            None => {
+            Change::Refused(first) => {
                 let passes = with_first(first, others)?;
                 let next = with_gather(Merging { waiting, passes }, back_of(alloc, f)?)?;
                 Ok(next)
@@ -126,13 +126,13 @@ pub(crate) fn ended(
             }
             Some(FirstPass { first, others }) => {
                 let back = back_of(alloc, f)?;
-                match scattered(alloc, &back, &first, limits)? {
-                    Some(pass) => {
+                match scattered(alloc, &back, first, limits)? {
+                    Change::Made(pass) => {
                         let passes = with_first(pass, others)?;
                         let passes = ended(alloc, rest, passes, limits)?;
                         Ok(passes)
                     }
-                    None => {
+                    Change::Refused(first) => {
                         let turned = from_end(alloc, waiting)?;
                         let after = settled(alloc, &turned, limits)?;
                         let passes = with_before(after, with_first(first, others)?)?;

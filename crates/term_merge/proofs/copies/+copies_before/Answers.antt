@@ -10,17 +10,16 @@ copies_before-requires t c =
     let room = c.args.limits.room in
     let n = c.args.limits.size in
     let steps = subst (λ fs. AreSteps n (map mapping_of fs)) c.in-Some.ensures.cases.0 c.requires.steps in
-    let known = subst (λ zs. IsKnownPass room n (map plain_nest zs)) (sym c.deref.ensures.value) c.requires.known in
-    let made = c.in_ok-pass-in-Some.ensures.some c.in-Some-2.pass c.in-Some-2.is in (
+    let made = c.in_ok-pass-in-Some.ensures.made c.in-Made.pass c.in-Made.is in (
       omega (arith, c.decreases, c.in-Some.ensures.cases.1),
-      (c.requires.room, (known-more room n c.requires.room (mapping_of c.in-Some.f.now) (map plain_nest c.deref.result.now) (map plain_nest c.in-Some-2.pass.items) steps.0 made.0 made.1 known, steps.1)),
+      (c.requires.room, (known-more room n c.requires.room (mapping_of c.in-Some.f.now) (map plain_nest c.args.pass.items) (map plain_nest c.in-Made.pass.items) steps.0 made.0 made.1 c.requires.known, steps.1)),
     )
 
-pub copies_before-requires-in-None-2 : goal.copies_before-requires-in-None-2
-copies_before-requires-in-None-2 t c =
+pub copies_before-requires-in-Refused : goal.copies_before-requires-in-Refused
+copies_before-requires-in-Refused t c =
     let room = c.args.limits.room in
     let n = c.args.limits.size in
     let steps = subst (λ fs. AreSteps n (map mapping_of fs)) c.in-Some.ensures.cases.0 c.requires.steps in (
       omega (arith, c.decreases, c.in-Some.ensures.cases.1),
-      (c.requires.room, (subst (IsKnownPass room n) (sym c.in_ok-copies-in-None-2.ensures) (known-by room n c.requires.room (mapping_of c.in-Some.f.now) steps.0), steps.1)),
+      (c.requires.room, (subst (IsKnownPass room n) (sym c.in_ok-copies-in-Refused.ensures) (known-by room n c.requires.room (mapping_of c.in-Some.f.now) steps.0), steps.1)),
     )

@@ -1,4 +1,4 @@
-use Rattle.std.specs.Prelude.{◌≡◌, true, ◌&&◌, map, take}
+use Rattle.std.specs.Prelude.{◌≡◌, true, map, take}
 use Rattle.index_fn.specs.Index.{mapping_of}
 use Rattle.passes.specs.Merge.{can_multiply, multiplied}
 use Rattle.passes.specs.Views.{plain_factors, plain_nest}

@@ -1,4 +1,4 @@
-use Rattle.std.proofs.Common.{rules, ◌≡◌, sym, ap, ap₂, ◌∙◌, subst, arith, length, ◌-◌, ◌+◌}
+use Rattle.std.proofs.Common.{rules, ◌≡◌, sym, ap, ◌∙◌, subst, arith, length, ◌-◌, ◌+◌}
 use Rattle.passes.specs.Good.{IsGoodTerm}
 use Rattle.passes.specs.Limits.{HasSeveral}
 use Rattle.passes.specs.Merge.{sides}

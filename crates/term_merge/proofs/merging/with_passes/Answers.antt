@@ -1,7 +1,6 @@
-use Rattle.std.proofs.Common.{◌≡◌, sym, ap, ap₂, ◌∙◌, subst, map, List, ◌∷◌, [], ◌++◌}
+use Rattle.std.proofs.Common.{sym, ap, ap₂, ◌∙◌, subst, map, ◌++◌}
 use Rattle.index_fn.specs.Index.{mapping_of}
 use Rattle.passes.specs.Merge.{Merging, most, with_pass, with_passes}
-use Rattle.passes.specs.Nest.{PlainNest}
 use Rattle.passes.specs.Views.{plain_nest}
 use Rattle.term_merge.specs.Known.{AreKnownPasses}
 use Rattle.term_merge.specs.Views.{plain_merging, plain_pass, plain_passes}

@@ -1,16 +1,37 @@
-use Rattle.std.proofs.Common.{sym, ◌∙◌, map}
+use Rattle.std.proofs.Common.{sym, ap, ◌∙◌, map}
+use Rattle.std.proofs.lemmas.List.{with_items_is}
+use Rattle.std.specs.List.{list_all}
 use Rattle.index_fn.specs.Index.{mapping_of}
+use Rattle.passes.specs.Merge.{gathered}
 use Rattle.passes.specs.Views.{plain_nest}
+use Rattle.term_merge.specs.Tests.{can_load, loads_by}
+use Rattle.term_merge.specs.Views.{plain_sums}
+use Rattle.term_merge.proofs.Changes.{nests_in}
 use Rattle.term_merge.proofs.Passes.{gather-tests}
 use Rattle.term_merge.proofs.places.gathered.Goals as goal
 
-pub returns-clause-some : goal.returns-clause-some
-returns-clause-some c = λ zs is.
-    let made = c.in_ok-changed.ensures.some zs is in (
-      sym (gather-tests c.args.limits.room c.args.limits.size (mapping_of c.args.f.now) (map plain_nest c.args.nests.now) c.requires.known.within) ∙ made.0,
-      made.1,
+pub returns-in-None-clause-refused : goal.returns-in-None-clause-refused
+returns-in-None-clause-refused c = λ zs is.
+    let room = c.args.limits.room in
+    let n = c.args.limits.size in
+    let f = mapping_of c.args.f.now in (
+      sym (gather-tests room n f (map plain_nest c.args.nests.items) c.requires.known.within)
+          ∙ ap (λ xs. list_all (can_load room n f) (map plain_nest xs)) (sym c.deref.ensures.value)
+          ∙ c.in_ok-all_loads_by.ensures.none c.in-None.is,
+      ap nests_in (sym is),
     )
 
-pub returns-clause-none : goal.returns-clause-none
-returns-clause-none c = λ is.
-    sym (gather-tests c.args.limits.room c.args.limits.size (mapping_of c.args.f.now) (map plain_nest c.args.nests.now) c.requires.known.within) ∙ c.in_ok-changed.ensures.none is
+pub returns-in-Some-clause-made : goal.returns-in-Some-clause-made
+returns-in-Some-clause-made c = λ zs is.
+    let room = c.args.limits.room in
+    let n = c.args.limits.size in
+    let f = mapping_of c.args.f.now in
+    let made = c.in_ok-all_loads_by.ensures.some c.in-Some.places c.in-Some.is in (
+      sym (gather-tests room n f (map plain_nest c.args.nests.items) c.requires.known.within)
+          ∙ ap (λ xs. list_all (can_load room n f) (map plain_nest xs)) (sym c.deref.ensures.value)
+          ∙ made.0,
+      ap nests_in (sym is)
+          ∙ ap (map plain_nest) (with_items_is c.args.nests c.put_loads.new.nests (c.put_loads.auto.nests ∙ c.deref_mut.ensures.len))
+          ∙ c.put_loads.ensures f (ap (map plain_sums) c.deref_mut-in-Some.ensures.value ∙ made.1 ∙ ap (λ xs. map (loads_by f) (map plain_nest xs)) (c.deref.ensures.value ∙ sym c.deref_mut.ensures.value))
+          ∙ ap (λ xs. gathered f (map plain_nest xs)) c.deref_mut.ensures.value,
+    )
