@@ -44,7 +44,7 @@ fn carried_sums(
     ensures some { IfOk result (λ r. (es : Vec Affine Global) → r ≡ Some es → (list_all (carries_sum limits.room limits.size count (slice_index counts.now) (map mapping_of functions.now)) (map plain_sum sums.now) ≡ true) × (map plain_sum es.items ≡ map (all_simplified (slice_index counts.now) (map mapping_of functions.now)) (map plain_sum sums.now))) }
     ensures none { IfOk result (λ r. r ≡ None → list_all (carries_sum limits.room limits.size count (slice_index counts.now) (map mapping_of functions.now)) (map plain_sum sums.now) ≡ false) }
 {
-    let mut places = Vec::new(alloc);
+    let mut places = Vec::with_capacity(alloc, sums.len())?;
     for sum in sums {
         match carry_within(alloc, functions, sum, counts, limits, count)? {
             None => return Ok(None),

@@ -80,7 +80,7 @@ fn all_raised(
     requires { All (λ e. CanRaise (length limits.now) (slice_index limits.now) path.now size before (plain_sum e)) sums.now }
     ensures { IfOk result (λ es. map plain_sum es.items ≡ map (λ e. place_sum path.now size 0 (joined (constant before) (renumbered (length path.now) e))) (map plain_sum sums.now)) }
 {
-    let mut places = Vec::new(alloc);
+    let mut places = Vec::with_capacity(alloc, sums.len())?;
     for sum in sums {
         let place = raised(alloc, limits, path, size, before, sum)?;
         places.push(place)?;

@@ -234,7 +234,7 @@ fn copied_multiplier(
 pub(crate) fn copied_sums(alloc: Global, sums: &[Affine]) -> Result<Vec<Affine>, NoMemory>
     ensures { IfOk result (λ es. map plain_sum es.items ≡ map plain_sum sums.now) }
 {
-    let mut others = Vec::new(alloc);
+    let mut others = Vec::with_capacity(alloc, sums.len())?;
     for sum in sums {
         let other = copy(alloc, sum)?;
         others.push(other)?;

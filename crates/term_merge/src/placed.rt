@@ -22,7 +22,7 @@ pub(crate) fn all_placed(
     requires { All (λ e. CanName (length counts.now) (slice_index counts.now) path.now size 0 (plain_sum e)) items.now }
     ensures { IfOk result (λ places. map plain_sum places.items ≡ map (place_sum path.now size 0) (map plain_sum items.now)) }
 {
-    let mut places = Vec::new(alloc);
+    let mut places = Vec::with_capacity(alloc, items.len())?;
     for item in items {
         let one = placed(alloc, counts, path, size, 0, copy(alloc, item)?)?;
         places.push(one)?;

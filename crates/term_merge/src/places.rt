@@ -41,7 +41,7 @@ fn simplified_sums(
     ensures some { IfOk result (λ r. (es : Vec Affine Global) → r ≡ Some es → (list_all (can_lead limits.room limits.size (slice_index counts.now) (mapping_of f.now)) (map plain_sum sums.now) ≡ true) × (map plain_sum es.items ≡ map (simplified (slice_index counts.now) (mapping_of f.now)) (map plain_sum sums.now))) }
     ensures none { IfOk result (λ r. r ≡ None → list_all (can_lead limits.room limits.size (slice_index counts.now) (mapping_of f.now)) (map plain_sum sums.now) ≡ false) }
 {
-    let mut places = Vec::new(alloc);
+    let mut places = Vec::with_capacity(alloc, sums.len())?;
     for sum in sums {
         match simplify_within(alloc, f, sum, counts, limits)? {
             None => return Ok(None),
