@@ -1,13 +1,11 @@
 -- A program of a tree's joined passes is one for convolutions.
-use Rattle.std.proofs.Common.{◌≡◌, ℕ, suc, ◌+◌, ◌*◌, ◌^◌, ◌<◌, ◌≤◌, List, [], All, length, refl, sym, ap, ap₂, ◌∙◌, arith, subst}
-use Rattle.std.specs.Prelude.{slice_index}
+use Rattle.std.proofs.Common.{◌≡◌, ℕ, ◌+◌, ◌*◌, ◌<◌, List, [], All, length, sym, ap, ap₂, ◌∙◌, arith}
 use Rattle.std.proofs.lemmas.List.{length-map}
-use Rattle.convolution.specs.Convolution.{convolution, convolution_factor, IsPrincipal}
+use Rattle.convolution.specs.Convolution.{IsPrincipal}
 use Rattle.convolution.specs.Request.{IsConvRequest}
 use Rattle.formula_lower.specs.Merged.{tree_merged}
-use Rattle.generate.specs.Good.{IsVector}
 use Rattle.icode.specs.declared.program.Program.{Program}
-use Rattle.icode.specs.Machine.{padded, results, weighted, whole_counts, words_at}
+use Rattle.icode.specs.Machine.{padded, results, words_at}
 use Rattle.icode.specs.Program.{code_of, plain_program}
 use Rattle.icode.proofs.Lists.{code_is}
 use Rattle.icode.proofs.Runs.{memory_of_runs}
@@ -16,21 +14,19 @@ use Rattle.inverse_costs.proofs.Costs.{inverse_costs}
 use Rattle.inverse_costs.proofs.Requests.{inverse_is_valid, inverse_admits}
 use Rattle.inverse_costs.proofs.Traffic.{inverse_loads, whole-same}
 use Rattle.joined_passes.specs.Joined.{joined}
-use Rattle.joined_passes.specs.Laws.{CanJoin, CountsBoth, JoinedCanProgram, JoinedCounts, JoinedMeans}
+use Rattle.joined_passes.specs.Laws.{CountsBoth, JoinedCanProgram, JoinedCounts, JoinedMeans}
 use Rattle.matrix_meaning.specs.declared.Request.{Request}
 use Rattle.matrix_meaning.specs.Valid.{IsValid}
-use Rattle.pass_programs.specs.Contract.{CanProgram, Performs, all_passes}
+use Rattle.pass_programs.specs.Contract.{CanProgram, Performs}
 use Rattle.passes.specs.Good as passes
 use Rattle.passes.specs.Merged.{PlainMerged}
 use Rattle.tree_model.specs.Admissible.{IsAdmissible}
 use Rattle.tree_model.specs.Breakdown.{Breakdown}
-use Rattle.tree_model.specs.Cost.{cost_of, mul_cost_of}
-use Rattle.tree_model.specs.Passes.{loads_of, stores_of, whole_passes}
+use Rattle.tree_model.specs.Passes.{whole_passes}
 use Rattle.tree_passes.specs.Laws.{machine_of}
 use Rattle.tree_passes.proofs.TreesCanProgram.{trees_can_program}
 use Rattle.convolver.specs.Convolver.{IsConvolver}
 use Rattle.convolver.specs.Factors.{factors_of}
-use Rattle.convolver.specs.Planned.{conv_cost}
 use Rattle.convolver.proofs.Meaning.{joined-convolve}
 use Rattle.convolver.proofs.Totals.{tree-totals}
 use Rattle.convolver.proofs.Trees.{tree-small}

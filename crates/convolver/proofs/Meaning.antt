@@ -1,8 +1,7 @@
 -- Joined passes of a tree compute the convolution.
-use Rattle.std.proofs.Common.{◌≡◌, ℕ, ◌+◌, ◌*◌, ◌%◌, ◌<◌, ◌≤◌, List, length, refl, sym, ap, ◌∙◌, arith, subst, mod-lt}
+use Rattle.std.proofs.Common.{◌≡◌, ℕ, ◌*◌, ◌%◌, ◌<◌, List, refl, sym, ap, ◌∙◌, arith, subst, mod-lt}
 use Rattle.std.specs.Prelude.{slice_index}
 use Rattle.convolution.specs.Convolution.{convolution, convolution_factor, IsPrincipal}
-use Rattle.convolution.specs.Inverse.{inverse_root}
 use Rattle.convolution.specs.Request.{IsConvRequest}
 use Rattle.convolution.proofs.ConvolutionLaw.{convolution_by_diagonal}
 use Rattle.formula_lower.specs.Merged.{tree_merged}
@@ -20,7 +19,6 @@ use Rattle.operators.specs.Sum.{list_below}
 use Rattle.operators.proofs.Lists.{at-list_below, length-list_below, list_below-same}
 use Rattle.passes.specs.Good.{IsVector}
 use Rattle.passes.specs.Merged.{merged_on}
-use Rattle.pass_programs.specs.Contract.{all_passes}
 use Rattle.tree_model.specs.Admissible.{IsAdmissible}
 use Rattle.tree_model.specs.Breakdown.{Breakdown}
 use Rattle.tree_passes.proofs.Lean.{root-whole}

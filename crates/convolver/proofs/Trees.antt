@@ -1,8 +1,7 @@
 -- The merged passes of a tree for one processor and one lane: how many they are, and that the last of them has no diagonal.
-use Rattle.std.proofs.Common.{◌≡◌, ℕ, ◌+◌, ◌*◌, ◌^◌, ◌<◌, ◌≤◌, Bool, true, false, List, [], ◌∷◌, length, map, refl, sym, ap, ◌∙◌, arith, subst, Option, Some, None, if◌then◌else◌, nat_le}
-use Rattle.std.specs.Prelude.{sum_by, max}
+use Rattle.std.proofs.Common.{◌≡◌, ℕ, ◌*◌, ◌^◌, ◌<◌, ◌≤◌, List, [], ◌∷◌, length, map, refl, sym, ap, ◌∙◌, arith, subst, Option, Some, None, if◌then◌else◌, nat_le}
+use Rattle.std.specs.Prelude.{sum_by}
 use Rattle.std.specs.Option.{option_map}
-use Rattle.std.proofs.lemmas.List.{length-map}
 use Rattle.std.proofs.lemmas.List.Elements.{All-nil, All-cons}
 use Rattle.std.proofs.lemmas.List.Sums.{sum_by-cons}
 use Rattle.formula_lower.specs.Merged.{tree_merged}
@@ -23,7 +22,7 @@ use Rattle.passes.specs.Nest.{PlainNest}
 use Rattle.sigma_lower.specs.Work.{PlainWork, transforming, tiling}
 use Rattle.tree_model.specs.Admissible.{IsAdmissible}
 use Rattle.tree_model.specs.Breakdown.{Breakdown}
-use Rattle.tree_model.specs.Passes.{passes_of, tiled_passes, whole_passes}
+use Rattle.tree_model.specs.Passes.{passes_of, tiled_passes}
 use Rattle.tree_model.proofs.PassLaws.{IsPlainAtEnd, IsPlainPass, passes_plain}
 use Rattle.tree_passes.specs.Laws.{machine_of}
 use Rattle.tree_passes.proofs.Bounds.{actions-few}

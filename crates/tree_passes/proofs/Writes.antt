@@ -11,7 +11,7 @@ use Rattle.kernel_gen.specs.Kernel.{kernel_cost, kernel_of}
 use Rattle.kernel_gen.proofs.Kernels.{firsts, kernel-does}
 use Rattle.kernel_gen.proofs.NodeCosts.{kernel-short}
 use Rattle.kernel_gen.proofs.Pieces.{DoesAt}
-use Rattle.kernel_gen.proofs.RequestNodes.{root-of}
+use Rattle.kernel_gen.proofs.RequestNodes.{any-root}
 use Rattle.loop_merge.specs.Merge.{PlainPass, through}
 use Rattle.loop_merge.specs.Nests.{loop_work, loop_of, taken_of}
 use Rattle.loop_merge.specs.Placed.{IsLimitedPass}
@@ -271,7 +271,7 @@ module _ (c : Request) (p : PlainPass) (valid : IsValid c) (known : IsKnown c p)
           let small : n ≤ 64 = short-size n c.unroll (kernel-short c n e) valid.in_range.unroll.1 in
           let price : kernel_cost 1 c.modulus c.kind t root + n ≤ 8192 = small_kernel n (kernel_cost 1 c.modulus c.kind t root) small (cost-le c.modulus c.kind t root node.formed) in
           let does : DoesAt c.modulus c.lanes 0 1 n (kernel_cost 1 c.modulus c.kind t root) (firsts n) n made (transform c.kind c.modulus n root) =
-          kernel-does c.modulus c.lanes 0 1 c.kind t root valid.in_range.modulus.0 some-lanes node.formed (root-of c t valid node.divides) in
+          kernel-does c.modulus c.lanes 0 1 c.kind t root valid.in_range.modulus.0 some-lanes node.formed (any-root c t valid node.divides) in
           let next : made.next ≡ n + operations made.acts = does.next_is in
           let counted : operations made.acts ≡ kernel_cost 1 c.modulus c.kind t root = sym (weight_of_one made.acts) ∙ does.costs in
           let used = with-le y.multiplier made.next n in

@@ -1,4 +1,4 @@
-use Rattle.std.proofs.Common.{◌≡◌, ◌<◌, All, List, length, refl, sym, ap, ◌∙◌, subst}
+use Rattle.std.proofs.Common.{◌≡◌, ◌<◌, All, length, refl, sym, ap, ◌∙◌, subst}
 use Rattle.icode.specs.Program.{plain_program}
 use Rattle.inverse_costs.proofs.Requests.{inverse_is_valid}
 use Rattle.joined_passes.proofs.Counts.{joined_counts}
@@ -11,7 +11,7 @@ use Rattle.passes.specs.Views.{plain_merged}
 use Rattle.tree_model.specs.Breakdown.{breakdown_of}
 use Rattle.convolver.specs.Factors.{factors_of}
 use Rattle.convolver.proofs.Chain.{can-emit, conv-performs, joined-same, planned-valid}
-use Rattle.convolver.proofs.Goodness.{can-convolve, conv_merged, is-convolver}
+use Rattle.convolver.proofs.Goodness.{can-convolve, is-convolver}
 use Rattle.convolver.proofs.program.generate_conv.Goals as goal
 
 pub new-backward-requires : goal.new-backward-requires
