@@ -32,11 +32,7 @@ use std::alloc::Global;
 use stream_run::{read_first, run_vectors};
 
 // The request for convolutions that the first line of the input spells, for the command.
-fn ask_conv<I: Source>(
-    command: &Command,
-    feed: &mut Feed,
-    input: &mut I,
-) -> Result<Request, Status>
+fn ask_conv<I: Source>(command: &Command, feed: &mut Feed, input: &mut I) -> Result<Request, Status>
     requires fresh { feed.old.taken ≡ 0 }
     ensures told { Asks conv_spelt command.now (to_come feed.old (I.left input.old))
         (to_come feed.new (I.left input.new)) feed.new.taken result }
