@@ -6,7 +6,6 @@ use Rattle.std.specs.Io.KnownBytes.{Consumes, IsAtEnd}
 use Rattle.matrix_meaning.specs.declared.Request.{Request}
 use Rattle.request_text.specs.declared.RequestFault.{RequestFault}
 use Rattle.request_text.specs.declared.RequestFault.TheVariants as request
-use Rattle.request_text.specs.Answer.{Answers}
 use Rattle.io_edge.specs.declared.FeedFault.{FeedFault}
 use Rattle.io_edge.specs.declared.FeedFault.TheVariants as feed
 use Rattle.spiral_words.specs.declared.Command.{Command}
@@ -19,8 +18,6 @@ use Rattle.spiral_main.specs.Commands.{reads_rest, first_stranger, procs_named, 
 use Rattle.spiral_status.specs.Fault.{status_of_line, status_of_request}
 use Rattle.spiral_main.specs.Line.{first_line, line_of, IsWholeLine, GivesLine}
 use Rattle.spiral_main.specs.Asking.{Asks}
-use Rattle.spiral_main.specs.Convolved.{conv_spelt}
-use Rattle.spiral_main.specs.Outcome.{spelt}
 use Rattle.spiral_main.specs.Stage.{Stage}
 
 -- a line of at most 256 bytes, and a longer one

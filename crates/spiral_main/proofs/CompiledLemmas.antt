@@ -1,5 +1,5 @@
 -- What `compile` and `apply` come to.
-use Rattle.std.proofs.Common.{◌≡◌, ◌≢◌, ◌⊎◌, ◌<◌, ◌≤◌, ◌+◌, ◌-◌, ◌/◌, ℕ, true, false, List, [], ◌∷◌, ◌++◌, None, Some, Ok, Err, Result, nat_le, length, cond, refl, sym, ap, subst, ◌∙◌, arith, append_assoc, append-nil, length-append, inl, inr}
+use Rattle.std.proofs.Common.{◌≡◌, ◌≢◌, ◌⊎◌, ◌<◌, ◌≤◌, ◌+◌, ◌-◌, ◌/◌, ℕ, true, false, List, [], ◌++◌, None, Some, Ok, Err, Result, nat_le, length, cond, refl, sym, ap, subst, ◌∙◌, arith, append_assoc, append-nil, length-append, inl, inr}
 use Rattle.std.proofs.lemmas.Grind.{common_steps}
 use Rattle.std.proofs.KnownBytes.{Appends-nil, Consumes-trans, Consumes-kept}
 use Rattle.std.proofs.Math.Nat.{div-mul-le_self}
@@ -8,7 +8,7 @@ use Rattle.std.specs.List.{All, list_all, list_any}
 use Rattle.std.specs.declared.option.Option.{Option}
 use Rattle.std.specs.Io.KnownBytes.{Appends, Consumes, IsAtEnd}
 use Rattle.icode.specs.Machine.{Code, State, results, runs}
-use Rattle.icode.specs.Program.{plain_program, code_of}
+use Rattle.icode.specs.Program.{code_of}
 use Rattle.icode.specs.declared.program.Program.{Program}
 use Rattle.icode.proofs.Below.{below_from_all}
 use Rattle.formula_code.specs.Code.{IsCodeOf}
@@ -34,12 +34,12 @@ use Rattle.spiral_status.specs.declared.status.Status.{Status}
 use Rattle.spiral_status.specs.declared.status.Status.TheVariants.{Success, Turn, ReadFault, WriteFault, NoMemory, TooLong}
 use Rattle.stream_run.specs.declared.stream.StreamFault.{StreamFault}
 use Rattle.spiral_main.specs.Commands.{admitted, first_stranger, procs_named}
-use Rattle.spiral_main.specs.Compiled.{formula_limit, formula_line, written, formed, formula_in, IsAppliedText, IsFormulaListing, IsPartOfFormula, IsCompiledText, IsFormulaCode, GivesText}
+use Rattle.spiral_main.specs.Compiled.{formula_limit, formula_line, written, formed, formula_in, IsAppliedText, IsCompiledText, IsFormulaCode, GivesText}
 use Rattle.spiral_status.specs.Fault.{status_of_spl, status_of_stream, status_of_text}
 use Rattle.spiral_main.specs.Line.{is_line_end, first_line, data_of, room_behind, HasEnded, IsWholeLine}
 use Rattle.spiral_status.specs.Status.{IsDefined}
 use Rattle.spiral_main.specs.Steps.{IsRefusal, Computes, ToldComputes}
-use Rattle.stream_run.specs.Stream.{run_text, lines, texts, vectors_of, data_answer, data_vectors, HasNoStranger, Streams}
+use Rattle.stream_run.specs.Stream.{run_text, lines, vectors_of, data_answer, data_vectors, HasNoStranger, Streams}
 use Rattle.spiral_main.proofs.Accounts.{none_read, none_left, none_cut, still_ended}
 use Rattle.spiral_main.proofs.DataLemmas.{RunsOver, runs_over}
 use Rattle.spiral_main.proofs.LineLemmas.{line_there}

@@ -1,18 +1,17 @@
 -- What `convolve` comes to.
-use Rattle.std.proofs.Common.{◌≡◌, ◌≢◌, ◌⊎◌, ◌<◌, ◌≤◌, ◌+◌, ◌*◌, ◌-◌, ◌/◌, ℕ, zero, suc, true, false, List, [], ◌∷◌, ◌++◌, None, Some, Ok, Err, Result, length, take, drop, refl, sym, ap, subst, ◌∙◌, arith, append_assoc, length-append, inl, inr}
+use Rattle.std.proofs.Common.{◌≡◌, ◌≢◌, ◌⊎◌, ◌<◌, ◌≤◌, ◌+◌, ◌*◌, ◌-◌, ◌/◌, ℕ, zero, suc, true, false, List, [], ◌∷◌, ◌++◌, None, Some, Ok, Err, Result, length, drop, refl, sym, ap, subst, ◌∙◌, arith, append_assoc, length-append, inl, inr}
 use Rattle.std.proofs.KnownBytes.{Appends-nil, Consumes-trans}
 use Rattle.std.proofs.Math.Nat.{div-mul-le_self}
 use Rattle.std.proofs.lemmas.List.Elements.{All-from_get_or}
 use Rattle.std.proofs.lemmas.List.{length-drop}
-use Rattle.std.specs.List.{All, list_all}
+use Rattle.std.specs.List.{All}
 use Rattle.std.specs.declared.option.Option.{Option}
-use Rattle.std.specs.Io.KnownBytes.{Appends, Consumes, IsAtEnd}
+use Rattle.std.specs.Io.KnownBytes.{Appends, IsAtEnd}
 use Rattle.convolution.specs.Convolution.{convolution}
-use Rattle.convolver.specs.Convolver.{IsConvolver}
 use Rattle.convolver.specs.Planned.{IsConvPlanned}
 use Rattle.convolver.specs.declared.ConvFault.{ConvFault}
 use Rattle.convolver.specs.declared.ConvFault.TheVariants as conv
-use Rattle.data_stream.specs.Data.{tokens, closed_part, is_good}
+use Rattle.data_stream.specs.Data.{tokens}
 use Rattle.data_stream.specs.Vectors.{Cut}
 use Rattle.icode.specs.Machine.{Code, results}
 use Rattle.icode.specs.Program.{plain_program, code_of}
@@ -27,11 +26,11 @@ use Rattle.request_text.specs.Turns.{turns_of}
 use Rattle.spiral_words.specs.declared.Command.{Command}
 use Rattle.spiral_words.specs.declared.Command.TheVariants as command
 use Rattle.spiral_status.specs.declared.status.Status.{Status}
-use Rattle.spiral_status.specs.declared.status.Status.TheVariants.{Success, ReadFault, WriteFault}
+use Rattle.spiral_status.specs.declared.status.Status.TheVariants.{Success, WriteFault}
 use Rattle.spiral_status.specs.Fault.{status_of_conv, status_of_fault, status_of_stream}
 use Rattle.spiral_status.specs.Status.{IsDefined}
 use Rattle.spiral_main.specs.Asking.{asked_by, AsksBy, Asks}
-use Rattle.spiral_main.specs.Convolved.{conv_spelt, IsConvolvable, IsConvRefused, conv_in, conv_lines, IsListText, IsConvText, list_status, conv_status, SettlesConv, IsConvOver, GoesOnBehind, BreaksOffConv, ComesToConv, ConvolvesData, ToldConvolvesData, Convolves, ToldConvolves, IsListProgram}
+use Rattle.spiral_main.specs.Convolved.{conv_spelt, IsConvolvable, IsConvRefused, conv_lines, IsConvText, conv_status, SettlesConv, IsConvOver, GoesOnBehind, BreaksOffConv, ComesToConv, ConvolvesData, ToldConvolvesData, Convolves, ToldConvolves, IsListProgram}
 use Rattle.spiral_main.specs.Line.{data_of, room_behind, HasEnded}
 use Rattle.spiral_main.specs.Steps.{IsRefusal}
 use Rattle.spiral_main.proofs.Accounts.{none_read, none_left, none_cut, still_ended}
@@ -39,7 +38,7 @@ use Rattle.spiral_main.proofs.DataLemmas.{reads_vectors}
 use Rattle.spiral_main.proofs.LineLemmas.{line_there}
 use Rattle.spiral_main.proofs.OutcomeLemmas.{lines_equal}
 use Rattle.stream_run.specs.Progress.{HasCome, ReadsData, StreamsBehind, StreamsOn, lacking, HasNoVector}
-use Rattle.stream_run.specs.Stream.{run_text, lines, group_vectors, vectors_of, data_answer, data_vectors, HasNoStranger, Reads, Writes}
+use Rattle.stream_run.specs.Stream.{run_text, lines, group_vectors, vectors_of, data_answer, data_vectors, HasNoStranger, Writes}
 use Rattle.stream_run.specs.declared.stream.StreamFault.{StreamFault}
 use Rattle.stream_run.specs.declared.stream.StreamFault.TheVariants as stream
 use Rattle.stream_run.proofs.ProgressLemmas.{vectors_begin, come_unwritten}

@@ -1,5 +1,5 @@
 -- What `convolve` answers for its words and bytes is one.
-use Rattle.std.proofs.Common.{◌≡◌, ◌≢◌, ◌⊎◌, ◌<◌, ◌≤◌, ◌+◌, ◌*◌, ℕ, Bool, true, false, List, [], ◌∷◌, Ok, Err, Result, nat_lt, refl, sym, ap, ap₂, subst, ◌∙◌, arith, inl, inr}
+use Rattle.std.proofs.Common.{◌≡◌, ◌⊎◌, ◌<◌, ◌≤◌, ℕ, Bool, true, false, List, [], ◌∷◌, Ok, Err, nat_lt, refl, sym, ap, ap₂, subst, ◌∙◌, arith, inl, inr}
 use Rattle.std.proofs.lemmas.Grind.{common_steps}
 use Rattle.std.proofs.lemmas.Nat.Gcd.{same_from_IsGcd}
 use Rattle.std.specs.Int.{IsGcd}
@@ -26,9 +26,9 @@ use Rattle.tree_model.specs.Breakdown.{Breakdown}
 use Rattle.tree_model.specs.Cost.{cost_of}
 use Rattle.spiral_main.specs.Asking.{asked_by}
 use Rattle.spiral_main.specs.Commands.{prints_one_text, scheduled}
-use Rattle.spiral_main.specs.Convolved.{conv_spelt, IsConvolvable, convolvable, conv_in, IsListText, IsConvText, SettlesConv, IsConvAnswer}
+use Rattle.spiral_main.specs.Convolved.{conv_spelt, convolvable, conv_in, IsListText, IsConvText, SettlesConv, IsConvAnswer}
 use Rattle.spiral_main.specs.Line.{line_of, data_of, room_behind}
-use Rattle.spiral_main.specs.Stage.{Stage, given}
+use Rattle.spiral_main.specs.Stage.{given}
 use Rattle.spiral_main.proofs.OneRequest.{spelt_once, faulty, faulty_same, judged_ok}
 use Rattle.spiral_main.proofs.Stages.{IsDecided, done, ended, done_same, ended_same, done_ended, given_decided, bind_decided}
 use Rattle.stream_run.specs.Stream.{data_vectors}

@@ -1,5 +1,5 @@
 -- The bytes of a call of `compile` or `apply` determine its status, and of `apply` its text.
-use Rattle.std.proofs.Common.{◌≡◌, ◌≢◌, ◌-◌, ◌≤◌, ℕ, true, List, length, Ok, Err, Result, refl, sym, ap, ap₂, subst, ◌∙◌, arith, inl, inr}
+use Rattle.std.proofs.Common.{◌≡◌, ◌≢◌, ℕ, true, List, Ok, Err, Result, refl, sym, ap, ap₂, subst, ◌∙◌, arith, inl, inr}
 use Rattle.grammar.specs.Stops.{Stop, Lost, Fault}
 use Rattle.spl_ast.specs.Formula.{Formula}
 use Rattle.spl_text.specs.Answer.{IsFirst, IsLeft}

@@ -1,5 +1,5 @@
 -- The words and the bytes of a call determine its text, but for the commands that print a program.
-use Rattle.std.proofs.Common.{◌≡◌, ℕ, true, List, [], ◌∷◌, ◌++◌, Ok, Err, refl, sym, ap, subst, ◌∙◌, arith, inl, inr}
+use Rattle.std.proofs.Common.{◌≡◌, ℕ, true, List, [], ◌∷◌, ◌++◌, Ok, Err, sym, ap, subst, ◌∙◌, arith, inl, inr}
 use Rattle.matrix_meaning.specs.declared.Request.{Request}
 use Rattle.request_text.specs.Schedule.{Plan}
 use Rattle.spiral_words.specs.declared.Command.{Command}

@@ -1,5 +1,5 @@
 -- What the program answers for its words and the bytes of its input, and what it writes.
-use Rattle.std.specs.Prelude.{◌≡◌, ◌⊎◌, ℕ, ◌-◌, ◌≤◌, true, List, [], ◌∷◌, ◌++◌, length, Some, Ok, Err}
+use Rattle.std.specs.Prelude.{◌≡◌, ◌⊎◌, ℕ, ◌≤◌, true, List, [], ◌∷◌, ◌++◌, length, Some, Ok, Err}
 use Rattle.std.specs.List.{list_all}
 use Rattle.std.specs.declared.option.Option.{Option}
 use Rattle.std.specs.Io.KnownBytes.{Appends, Consumes, IsAtEnd}
@@ -38,12 +38,12 @@ use Rattle.spiral_status.specs.Fault.{status_of_request, status_of_generate, sta
 use Rattle.spiral_main.specs.Asking.{asked_by}
 use Rattle.spiral_main.specs.Convolved.{IsConvAnswer, IsBrokenConv, IsCutConv}
 use Rattle.spiral_main.specs.Compiled.{IsFormulaAnswer, IsBrokenFormula, IsCutFormula}
-use Rattle.spiral_main.specs.Line.{line_of, data_of, IsPartOfLine, HasEnded}
+use Rattle.spiral_main.specs.Line.{data_of, IsPartOfLine, HasEnded}
 pub use Rattle.spiral_main.specs.Line.{room_behind}
 use Rattle.spiral_main.specs.Listed.{IsExecution, IsBrokenExecution, IsCutExecution}
 use Rattle.spiral_main.specs.Orders.{traced_text}
 use Rattle.spiral_main.specs.Sample.{sample_vector, weighted_sum, sample_text}
-use Rattle.spiral_main.specs.Stage.{Stage, given, ◌>>=◌}
+use Rattle.spiral_main.specs.Stage.{Stage, ◌>>=◌}
 use Rattle.spiral_status.specs.Status.{IsDefined}
 use Rattle.stream_run.specs.Stream.{texts, lines, vectors_of, data_answer, data_vectors}
 

@@ -40,7 +40,8 @@ fn ask_conv<I: Source>(command: &Command, feed: &mut Feed, input: &mut I) -> Res
     ensures request { IfOk result IsConvRequest }
     ensures turns { IfOk result (λ request. NamesNoStranger command.now request.procs) }
     ensures empty { IsErrOf result Status.ReadFault → feed.new.held ≡ [] }
-    ensures read { Reports (I.faults input.old) (I.faults input.new) (IsErrOf result Status.ReadFault) }
+    ensures read { Reports (I.faults input.old) (I.faults input.new)
+        (IsErrOf result Status.ReadFault) }
     ensures others { IfErr result (λ status.
         (status ≢ Status.Success) × (status ≢ Status.Usage) × (status ≢ Status.WriteFault)) }
 {
@@ -62,16 +63,20 @@ fn listed_program<I: Source>(
     requires within { feed.old.taken ≤ limit }
     ensures program { IfOk result (λ made. IsListProgram request.now made.2.items made.0) }
     ensures come { IfOk result (λ made. HasCome request.now.modulus made.1 feed.old feed.new
-        (to_come feed.old (I.left input.old)) (to_come feed.new (I.left input.new)) (made.2.items ∷ [])) }
-    ensures ready { IfOk result (λ made. IsReady made.1 feed.new (to_come feed.new (I.left input.new))) }
+        (to_come feed.old (I.left input.old)) (to_come feed.new (I.left input.new))
+        (made.2.items ∷ [])) }
+    ensures ready { IfOk result (λ made.
+        IsReady made.1 feed.new (to_come feed.new (I.left input.new))) }
     ensures cut { IfOk result (λ made. made.1.size ≡ request.now.size) }
     ensures room { IfOk result (λ made. vec_len made.2 ≡ request.now.size) }
     ensures within { OnOk result (feed.new.taken ≤ limit) }
     ensures told { IfErr result (λ status. (wanted : SpecCommand) (out : Option (List ℕ)) →
-        ToldConvolvesData wanted request.now (limit - feed.old.taken) (to_come feed.old (I.left input.old))
+        ToldConvolvesData wanted request.now (limit - feed.old.taken)
+        (to_come feed.old (I.left input.old))
         (to_come feed.new (I.left input.new)) out out status) }
     ensures empty { IsErrOf result Status.ReadFault → feed.new.held ≡ [] }
-    ensures read { Reports (I.faults input.old) (I.faults input.new) (IsErrOf result Status.ReadFault) }
+    ensures read { Reports (I.faults input.old) (I.faults input.new)
+        (IsErrOf result Status.ReadFault) }
     ensures others { IfErr result (λ status.
         (status ≢ Status.Success) × (status ≢ Status.Usage) × (status ≢ Status.WriteFault)) }
 {
@@ -95,14 +100,18 @@ fn print_convolver<I: Source, O: Sink>(
 ) -> Result<(), Status>
     requires request { IsConvRequest request.now }
     requires within { feed.old.taken ≤ limit }
-    ensures told { ToldConvolvesData (Command.Convolve schedule.now true) request.now (limit - feed.old.taken)
-        (to_come feed.old (I.left input.old)) (to_come feed.new (I.left input.new))
+    ensures told { ToldConvolvesData (Command.Convolve schedule.now true) request.now
+        (limit - feed.old.taken) (to_come feed.old (I.left input.old))
+        (to_come feed.new (I.left input.new))
         (O.taken output.old) (O.taken output.new) (status_of result) }
     ensures empty { status_of result ≡ Status.ReadFault → feed.new.held ≡ [] }
     ensures usage { status_of result ≢ Status.Usage }
-    ensures read { Reports (I.faults input.old) (I.faults input.new) (status_of result ≡ Status.ReadFault) }
-    ensures write { Reports (O.faults output.old) (O.faults output.new) (status_of result ≡ Status.WriteFault) }
-    ensures memory { status_of result ≡ Status.NoMemory → Appends (O.taken output.old) (O.taken output.new) [] }
+    ensures read { Reports (I.faults input.old) (I.faults input.new)
+        (status_of result ≡ Status.ReadFault) }
+    ensures write { Reports (O.faults output.old) (O.faults output.new)
+        (status_of result ≡ Status.WriteFault) }
+    ensures memory { status_of result ≡ Status.NoMemory
+        → Appends (O.taken output.old) (O.taken output.new) [] }
 {
     let (program, _, _) = listed_program(alloc, request, feed, input)?;
     let listing = print_listing(alloc, &program)?;
@@ -122,15 +131,20 @@ fn run_convolver<I: Source, O: Sink>(
     requires request { IsConvRequest request.now }
     requires turns { HasNoStranger schedule.now 1 }
     requires within { feed.old.taken ≤ limit }
-    ensures told { ToldConvolvesData (Command.Convolve schedule.now false) request.now (limit - feed.old.taken)
-        (to_come feed.old (I.left input.old)) (to_come feed.new (I.left input.new))
+    ensures told { ToldConvolvesData (Command.Convolve schedule.now false) request.now
+        (limit - feed.old.taken) (to_come feed.old (I.left input.old))
+        (to_come feed.new (I.left input.new))
         (O.taken output.old) (O.taken output.new) (status_of result) }
-    ensures end { status_of result ≡ Status.Success → IsAtEnd (to_come feed.new (I.left input.new)) }
+    ensures end { status_of result ≡ Status.Success
+        → IsAtEnd (to_come feed.new (I.left input.new)) }
     ensures empty { status_of result ≡ Status.ReadFault → feed.new.held ≡ [] }
     ensures usage { status_of result ≢ Status.Usage }
-    ensures read { Reports (I.faults input.old) (I.faults input.new) (status_of result ≡ Status.ReadFault) }
-    ensures write { Reports (O.faults output.old) (O.faults output.new) (status_of result ≡ Status.WriteFault) }
-    ensures memory { status_of result ≡ Status.NoMemory → Appends (O.taken output.old) (O.taken output.new) [] }
+    ensures read { Reports (I.faults input.old) (I.faults input.new)
+        (status_of result ≡ Status.ReadFault) }
+    ensures write { Reports (O.faults output.old) (O.faults output.new)
+        (status_of result ≡ Status.WriteFault) }
+    ensures memory { status_of result ≡ Status.NoMemory
+        → Appends (O.taken output.old) (O.taken output.new) [] }
 {
     let (program, mut vectors, mut list) = listed_program(alloc, request, feed, input)?;
     let mut machine = Machine::new(alloc, &program)?;
@@ -167,9 +181,12 @@ fn convolve_for<I: Source, O: Sink>(
         → IsAtEnd (to_come feed.new (I.left input.new)) }
     ensures empty { status_of result ≡ Status.ReadFault → feed.new.held ≡ [] }
     ensures usage { status_of result ≢ Status.Usage }
-    ensures read { Reports (I.faults input.old) (I.faults input.new) (status_of result ≡ Status.ReadFault) }
-    ensures write { Reports (O.faults output.old) (O.faults output.new) (status_of result ≡ Status.WriteFault) }
-    ensures memory { status_of result ≡ Status.NoMemory → Appends (O.taken output.old) (O.taken output.new) [] }
+    ensures read { Reports (I.faults input.old) (I.faults input.new)
+        (status_of result ≡ Status.ReadFault) }
+    ensures write { Reports (O.faults output.old) (O.faults output.new)
+        (status_of result ≡ Status.WriteFault) }
+    ensures memory { status_of result ≡ Status.NoMemory
+        → Appends (O.taken output.old) (O.taken output.new) [] }
 {
     match command {
         Command::Convolve {
@@ -201,9 +218,12 @@ pub(crate) fn convolve<I: Source, O: Sink>(
         → IsAtEnd (to_come feed.new (I.left input.new)) }
     ensures empty { status_of result ≡ Status.ReadFault → feed.new.held ≡ [] }
     ensures usage { status_of result ≢ Status.Usage }
-    ensures read { Reports (I.faults input.old) (I.faults input.new) (status_of result ≡ Status.ReadFault) }
-    ensures write { Reports (O.faults output.old) (O.faults output.new) (status_of result ≡ Status.WriteFault) }
-    ensures memory { status_of result ≡ Status.NoMemory → Appends (O.taken output.old) (O.taken output.new) [] }
+    ensures read { Reports (I.faults input.old) (I.faults input.new)
+        (status_of result ≡ Status.ReadFault) }
+    ensures write { Reports (O.faults output.old) (O.faults output.new)
+        (status_of result ≡ Status.WriteFault) }
+    ensures memory { status_of result ≡ Status.NoMemory
+        → Appends (O.taken output.old) (O.taken output.new) [] }
 {
     let request = ask_conv(command, feed, input)?;
     convolve_for(alloc, command, &request, feed, input, output)

@@ -1,4 +1,4 @@
-use Rattle.std.proofs.Common.{◌≡◌, ◌+◌, ◌≤◌, ◌-◌, false, length}
+use Rattle.std.proofs.Common.{◌≡◌, ◌≤◌, ◌-◌, false, length}
 use Rattle.std.specs.List.{list_any}
 use Rattle.std.specs.Io.KnownBytes.{Consumes}
 use Rattle.io_edge.specs.Feed.{to_come}

@@ -1,6 +1,5 @@
-use Rattle.std.proofs.Common.{◌≡◌, ◌<◌, ◌++◌, ◌∷◌, [], Ok, Err, false, refl, sym, ap, subst, ◌∙◌, arith, length}
+use Rattle.std.proofs.Common.{◌≡◌, [], Ok, Err, false, refl, ap, subst, arith, length}
 use Rattle.io_edge.specs.Feed.{to_come}
-use Rattle.data_stream.specs.Reading.{GivesVector}
 use Rattle.data_stream.specs.Vectors.{Cut}
 use Rattle.stream_run.specs.Progress.{ReadsData}
 use Rattle.stream_run.specs.StreamFault.{stream_fault}

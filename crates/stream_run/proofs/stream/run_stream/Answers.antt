@@ -1,4 +1,4 @@
-use Rattle.std.proofs.Common.{◌≡◌, ◌<◌, [], false, refl, sym, ap, subst, ◌∙◌, arith}
+use Rattle.std.proofs.Common.{◌≡◌, [], false, refl, sym, ap, subst, ◌∙◌, arith}
 use Rattle.icode.specs.Machine.{runs}
 use Rattle.request_text.specs.Turns.{turns_of}
 use Rattle.io_edge.specs.Feed.{to_come}

@@ -1,4 +1,4 @@
-use Rattle.std.proofs.Common.{◌≡◌, ◌<◌, ◌+◌, ◌++◌, ◌∷◌, [], List, ℕ, Ok, Err, false, refl, sym, ap, subst, ◌∙◌, arith, append-nil, append_assoc}
+use Rattle.std.proofs.Common.{◌≡◌, ◌<◌, ◌++◌, ◌∷◌, [], Ok, Err, false, refl, sym, ap, subst, ◌∙◌, arith, append-nil, append_assoc}
 use Rattle.std.proofs.lemmas.Result.{err_from_is_err_and}
 use Rattle.std.proofs.KnownBytes.{Appends-nil}
 use Rattle.icode.specs.Machine.{Code, runs}
@@ -8,7 +8,7 @@ use Rattle.data_stream.specs.Reading.{GivesVector}
 use Rattle.data_stream.proofs.TokenLemmas.{not_true}
 use Rattle.data_stream.proofs.TokensLemmas.{reports_none}
 use Rattle.data_stream.proofs.VectorLemmas.{vector_counted}
-use Rattle.stream_run.specs.Progress.{HasCome, ReadsData, StreamsBehind}
+use Rattle.stream_run.specs.Progress.{HasCome, ReadsData}
 use Rattle.stream_run.specs.Stream.{run_text}
 use Rattle.stream_run.specs.StreamFault.{stream_fault}
 use Rattle.stream_run.specs.declared.stream.StreamFault.TheVariants.{WriteFault}
