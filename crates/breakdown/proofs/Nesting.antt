@@ -57,7 +57,7 @@ nesting_below c (node rule a b) (suc k) tree below =
           (nesting_below c b k tree.2 (half_second (size_of a) (size_of b) k tree.0.left below)),
     )
 
-pub printable : (c : Request) (t : Breakdown) → IsWellFormed c.kind t → size_of t ≤ 65536 → IsPrintable (expansion c t)
+pub printable : (c : Request) (t : Breakdown) → IsWellFormed c.kind t → size_of t ≤ 1048576 → IsPrintable (expansion c t)
 printable c t tree small = record {
   complete = complete c t;
   shallow = omega (arith, nesting_below c t 17 tree (omega arith));

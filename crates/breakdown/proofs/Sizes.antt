@@ -49,7 +49,7 @@ second_below zero s n pos h = absurd (omega arith)
 second_below (suc r) s n pos h = let more : suc r * s ≡ s + r * s = omega arith in omega arith
 
 pub second_size : (r s : ℕ) → IsSize (r * s) → IsSize s
-second_size r s h = (positive_second r s h.0, second_below r s 65536 (positive_first r s h.0) h.1)
+second_size r s h = (positive_second r s h.0, second_below r s 1048576 (positive_first r s h.0) h.1)
 
 pub first_size : (r s : ℕ) → IsSize (r * s) → IsSize r
 first_size r s h = second_size s r (omega arith, omega arith)

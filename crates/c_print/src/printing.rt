@@ -258,7 +258,7 @@ fn put_numbered(
 
 /// The number of words of an array.
 pub fn array_words(size: u64, line: u64) -> u64
-    requires size { size ≤ 65536 }
+    requires size { size ≤ 1048576 }
     requires line { (1 ≤ line) × (line ≤ 64) }
     ensures value { result ≡ whole_lines size line }
     ensures bound { result < 2 ^ 32 }

@@ -67,5 +67,5 @@ module _ (c : Request) (dft : c.kind ≡ Dft) (valid : IsValid c) where
       let is = h.size in
       let high = valid.in_range.size.1 in
       let modest = cost-modest t (subst (λ k. IsWellFormed k t) dft h.well_formed) in
-      let square : d * d ≤ 65536 * 65536 = mul-le-mul {n₁ = d} {m₁ = d} {n₂ = 65536} {m₂ = 65536} (omega (arith, is, high)) (omega (arith, is, high)) in
+      let square : d * d ≤ 1048576 * 1048576 = mul-le-mul {n₁ = d} {m₁ = d} {n₂ = 1048576} {m₂ = 1048576} (omega (arith, is, high)) (omega (arith, is, high)) in
       omega (arith, modest, square)

@@ -36,8 +36,8 @@ use Rattle.tree_passes.proofs.Writes.{few-registers}
 pub record AreSmall (c : Request) (ps : List (List PlainNest)) : Type 0 where
   pub free : LastHas IsFree ps
   pub registers : (ds : List ℕ) → LastHas (λ zs. pass_registers (machine_of c) (map (with_values ds) zs) < 2 ^ 20) ps
-  pub nests : sum_by length ps ≤ 18
-  pub actions : most_actions (machine_of c) ps ≤ 2 ^ 40 * 18
+  pub nests : sum_by length ps ≤ 22
+  pub actions : most_actions (machine_of c) ps ≤ 2 ^ 44 * 22
 
 no-diagonal : (k : ℕ) (w : PlainWork) (o : Option PlainDiagonal) → IsPlainPass (counted_as k w (has_diagonal o)) → o ≡ None
 no-diagonal k w None h = refl

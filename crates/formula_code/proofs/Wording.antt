@@ -35,7 +35,7 @@ small-wrapped (Columns c ∷ path) n f h = (small-wrapped path n f h, tt)
 le-times : (a b : ℕ) → 0 < a → b ≤ a * b
 le-times a b h = let more : b ≤ b * a = le-mul_of_pos_right {m = a} b h in omega arith
 
-defined-wrapped : (path : Path) (n : ℕ) (f : Mapping) → IsClosed n f → size_under path n ≤ 65536 → IsDefinedBelow (size_under path n) (wrapped path n f)
+defined-wrapped : (path : Path) (n : ℕ) (f : Mapping) → IsClosed n f → size_under path n ≤ 1048576 → IsDefinedBelow (size_under path n) (wrapped path n f)
 defined-wrapped [] n f h high i below = h.defined i below
 defined-wrapped (Blocks c ∷ path) n f h high i below =
     let size = size_under path n in
@@ -49,7 +49,7 @@ defined-wrapped (Columns c ∷ path) n f h high i below =
     let within : size ≤ size * c = le-mul_of_pos_right {m = c} size positive in
     (defined-wrapped path n f h (omega arith) (i / c) ((div-lt_iff_lt-mul positive).1 below), tt, omega (arith, wrapped-below (Columns c ∷ path) n f h.below i below))
 
-numbers-wrapped : (path : Path) (n : ℕ) (f : Mapping) → size_under path n ≤ 65536 → HasSmallFactors f → IsClosed n f → IsClosed n (back_of f) → HasNumbers (size_under path n) (wrapped path n f)
+numbers-wrapped : (path : Path) (n : ℕ) (f : Mapping) → size_under path n ≤ 1048576 → HasSmallFactors f → IsClosed n f → IsClosed n (back_of f) → HasNumbers (size_under path n) (wrapped path n f)
 numbers-wrapped path n f high small there back =
     record {
       small = small-wrapped path n f small;
@@ -59,7 +59,7 @@ numbers-wrapped path n f high small there back =
 
 -- ---- the permutations themselves
 
-strided-closed : (r s : ℕ) → 1 ≤ r → 1 ≤ s → r * s ≤ 65536 → IsClosed (r * s) (Strided r s) × IsClosed (r * s) (back_of (Strided r s))
+strided-closed : (r s : ℕ) → 1 ≤ r → 1 ≤ s → r * s ≤ 1048576 → IsClosed (r * s) (Strided r s) × IsClosed (r * s) (back_of (Strided r s))
 strided-closed r s h g small =
     let move = strided-move r s h g small in
     let turned : s * r ≡ r * s = mul_comm s r in (
@@ -88,7 +88,7 @@ in-closed r s h =
       thomas_in-closed r s (let a = h.left in omega (arith, a)) (let b = h.right in omega (arith, b)) small,
       record {
         defined = λ i below.
-            let word : u * i ≤ 65536 * 65536 = mul-le u i 65536 65536 (omega (arith, inverse-within r s n, small)) (omega (arith, below, small)) in
+            let word : u * i ≤ 1048576 * 1048576 = mul-le u i 1048576 1048576 (omega (arith, inverse-within r s n, small)) (omega (arith, below, small)) in
             let rest : (0 + u * i) % n < n = mod-lt (0 + u * i) (omega (arith, below)) in
             let lead : 0 * 0 + (0 + u * i) % n ≡ (0 + u * i) % n = omega arith in (
               (omega (arith, word), (tt, tt, omega (arith, lead, rest, small))),
@@ -113,14 +113,14 @@ hadamard-words : (n : ℕ) (path : Path) (k : ℕ) → AreWords n (hadamard_term
 hadamard-words n path zero = tt
 hadamard-words n path (suc k) = (hadamard-words n (path ++ Blocks 2 ∷ []) k, omega arith)
 
-fourier-words : (size : ℕ) (path : Path) (n w : ℕ) → n ≤ 65536 → AreWords size (fourier_term path n w)
+fourier-words : (size : ℕ) (path : Path) (n w : ℕ) → n ≤ 1048576 → AreWords size (fourier_term path n w)
 fourier-words size path n w low =
     elim (cases_lt 8 n) [
       | inl long ↦ let is : fourier_term path n w ≡ nest path (horner w n) = grind (arith, nat_tests) in subst (AreWords size) (sym is) tt
       | inr short ↦ let is : fourier_term path n w ≡ nest path (kernel Dft w (leaf n)) = grind (arith, nat_tests) in subst (AreWords size) (sym is) (omega (arith, low))
     ]
 
-term-words : (m : ℕ) (path : Path) (f : Formula) → size_under path (size_of f) ≤ 65536 → IsShaped f → AreWords (size_under path (size_of f)) (term_of m path f)
+term-words : (m : ℕ) (path : Path) (f : Formula) → size_under path (size_of f) ≤ 1048576 → IsShaped f → AreWords (size_under path (size_of f)) (term_of m path f)
 term-words m path (Identity n) high shaped = tt
 term-words m path (Fourier n w) high shaped = let low = shaped.0.1 in fourier-words (size_under path n) path n w low
 term-words m path (Hadamard n) high shaped = hadamard-words (size_under path n) path (halvings n n)
@@ -129,7 +129,7 @@ term-words m path (Diagonal c) high shaped = tt
 term-words m path (Stride n r) high shaped =
     let whole : r * (n / r) ≡ n = mul_comm r (n / r) ∙ shaped.2 in
     let count : 1 ≤ n / r = left_positive (n / r) r (omega (arith, shaped.2, shaped.0.0)) in
-    let small : r * (n / r) ≤ 65536 = omega (arith, whole, shaped.0.1) in
+    let small : r * (n / r) ≤ 1048576 = omega (arith, whole, shaped.0.1) in
     let closed = strided-closed r (n / r) shaped.1.0 count small in
     let size : size_under path (r * (n / r)) ≡ size_under path n = ap (size_under path) whole in
     subst (λ z. HasNumbers z (wrapped path (r * (n / r)) (Strided r (n / r)))) size (numbers-wrapped path (r * (n / r)) (Strided r (n / r)) (omega (arith, size, high)) tt closed.0 closed.1)

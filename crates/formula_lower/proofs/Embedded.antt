@@ -70,7 +70,7 @@ scat-good v path n f some vectors twice h g =
     let other = laned-move v path n (back_of f) some vectors g in
     (there, subst (IsMove v (size_under path n)) (sym (back-wrapped path n f)) other, flip (size_under path n) (at (wrapped path n f)) (at (back_of (wrapped path n f))) there.permutes)
 
-core-good : (c : Request) (v : ℕ) (path : Path) (k : PlainCore) → 0 < size_under path (core_size k) → IsGoodCore k → core_size k ≤ 65536 → MovesBy v path k → IsGoodTerm v (size_under path (core_size k)) (core_term c path k)
+core-good : (c : Request) (v : ℕ) (path : Path) (k : PlainCore) → 0 < size_under path (core_size k) → IsGoodCore k → core_size k ≤ 1048576 → MovesBy v path k → IsGoodTerm v (size_under path (core_size k)) (core_term c path k)
 core-good c v path (piece t) some h low moves =
     let work = pick-work c.modulus c.kind (node_root c (size_of t)) t (is_kernel c (size_of t)) in (work.nested v path, ap (size_under path) work.size)
 core-good c v path (turns r s) some h low moves = laned-move v path (r * s) (Strided r s) some moves (strided-move r s (omega (arith, h.0)) (omega (arith, h.1)) low)
@@ -85,8 +85,8 @@ core-good c v path (thomas_out r s) some h low moves =
 -- the sizes of a step
 pub record AreSizes (c : Request) (path : Path) (k : PlainCore) : Type 0 where
   pub some : 0 < size_under path (core_size k)
-  pub high : size_under path (core_size k) ≤ 65536
-  pub low : core_size k ≤ 65536
+  pub high : size_under path (core_size k) ≤ 1048576
+  pub low : core_size k ≤ 1048576
 
 sizes-of : (c : Request) (s : PlainStep) → IsValid c → IsGood c s → AreSizes c s.path s.core
 sizes-of c s valid h =

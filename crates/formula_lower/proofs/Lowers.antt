@@ -160,7 +160,7 @@ diagonal-lowers m path c =
     lowers-as m path (length c) (diag path (values reduced)) (scale m (length c) (slice_index reduced)) (scale m (length c) (slice_index c)) (λ y w. residues-scale m c y)
     (subst (λ n. Lowers m (size_under path n) (diag path (values reduced)) (under path n (scale m n (slice_index reduced)))) size (diag-lowers m path (values reduced)))
 
-pub coprime : (r s : ℕ) → 2 ≤ r → 2 ≤ s → IsGcd r s 1 → r * s ≤ 65536 → AreCoprime r s
+pub coprime : (r s : ℕ) → 2 ≤ r → 2 ≤ s → IsGcd r s 1 → r * s ≤ 1048576 → AreCoprime r s
 coprime r s h g gcd small = record { left = omega arith; right = omega arith; gcd = gcd; small = small }
 
 pub lowers : LowerKeeps
@@ -178,7 +178,7 @@ lowers m path (Diagonal c) positive some shaped = diagonal-lowers m path c
 lowers m path (Stride n r) positive some shaped =
     let whole : r * (n / r) ≡ n = mul_comm r (n / r) ∙ shaped.2 in
     let count : 1 ≤ n / r = left_positive (n / r) r (omega (arith, shaped.2, shaped.0.0)) in
-    let high : r * (n / r) ≤ 65536 = omega (arith, whole, shaped.0.1) in
+    let high : r * (n / r) ≤ 1048576 = omega (arith, whole, shaped.0.1) in
     subst (λ z. Lowers m (size_under path z) (gath (wrapped path (r * (n / r)) (Strided r (n / r)))) (under path z (gather z (stride r (n / r))))) whole
     (gath-lowers m path (r * (n / r)) (Strided r (n / r)) (subst (λ z. 0 < size_under path z) (sym whole) some) (strided-move r (n / r) shaped.1.0 count high))
 lowers m path (Permutation k) positive some shaped = move-lowers m path k shaped.1.below

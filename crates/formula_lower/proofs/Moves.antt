@@ -53,7 +53,7 @@ move-wrapped path n f positive h =
 
 -- ---- the permutations themselves
 
-pub strided-move : (r s : ℕ) → 1 ≤ r → 1 ≤ s → r * s ≤ 65536 → IsMove 0 (r * s) (Strided r s)
+pub strided-move : (r s : ℕ) → 1 ≤ r → 1 ≤ s → r * s ≤ 1048576 → IsMove 0 (r * s) (Strided r s)
 strided-move r s h g small =
     let turned : s * r ≡ r * s = mul_comm s r in
     record { vectors = moves-no-words _; back_vectors = moves-no-words _; there = record { formed = (h, g, omega arith); no_list = tt }; back = record { formed = (g, h, omega arith); no_list = tt }; permutes = turns-permute r s }

@@ -91,7 +91,7 @@ back-lowers m path r s some h =
 
 -- ---- steps
 
-pub core-lowers : (c : Request) (path : Path) (k : PlainCore) → 0 < size_under path (core_size k) → IsGoodCore k → size_under path (core_size k) ≤ 65536 → core_size k ≤ 65536 →
+pub core-lowers : (c : Request) (path : Path) (k : PlainCore) → 0 < size_under path (core_size k) → IsGoodCore k → size_under path (core_size k) ≤ 1048576 → core_size k ≤ 1048576 →
     Lowers c.modulus (size_under path (core_size k)) (core_term c path k) (under path (core_size k) (core_on c k))
 core-lowers c path (piece t) some h high low = work-lowers c.modulus path c.kind (size_of t) (node_root c (size_of t)) (node_work c t) (pick-work c.modulus c.kind (node_root c (size_of t)) t (is_kernel c (size_of t)))
 core-lowers c path (turns r s) some h high low = gath-lowers c.modulus path (r * s) (Strided r s) some (strided-move r s (omega (arith, h.0)) (omega (arith, h.1)) low)
@@ -102,7 +102,7 @@ core-lowers c path (thomas_out r s) some h high low = back-lowers c.modulus path
 gather-keeps : (m n : ℕ) (f : ℕ → ℕ) (y : List ℕ) → ((i : ℕ) → i < n → f i < n) → IsVector m n y → IsVector m n (gather n f y)
 gather-keeps m n f y stay v = vector-below m n _ (λ i below. v.residues (f i) (stay i below))
 
-core-keeps : (c : Request) (k : PlainCore) (y : List ℕ) → 0 < c.modulus → IsGoodCore k → core_size k ≤ 65536 → IsVector c.modulus (core_size k) y → IsVector c.modulus (core_size k) (core_on c k y)
+core-keeps : (c : Request) (k : PlainCore) (y : List ℕ) → 0 < c.modulus → IsGoodCore k → core_size k ≤ 1048576 → IsVector c.modulus (core_size k) y → IsVector c.modulus (core_size k) (core_on c k y)
 core-keeps c (piece t) y positive h low v = vector-below c.modulus (size_of t) _ (λ i below. mod-lt _ positive)
 core-keeps c (turns r s) y positive h low v = gather-keeps c.modulus (r * s) _ y (strided-move r s (omega (arith, h.0)) (omega (arith, h.1)) low).permutes.there_below v
 core-keeps c (steps.twiddles r s) y positive h low v = vector-below c.modulus (r * s) _ (λ i below. mod-lt _ positive)

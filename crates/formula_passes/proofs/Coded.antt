@@ -90,15 +90,15 @@ copies-least (c ∷ counts) h =
     let both : 2 * 2 ^ length counts ≤ c * copies_in counts = mul-le-mul {n₁ = 2} {m₁ = 2 ^ length counts} {n₂ = c} {m₂ = copies_in counts} h.0 rest in
     let same = pow-succ' 2 (length counts) in omega (arith, both, same)
 
-few-loops : (counts : List ℕ) → AreMany counts → copies_in counts ≤ 65536 → length counts ≤ 16
+few-loops : (counts : List ℕ) → AreMany counts → copies_in counts ≤ 1048576 → length counts ≤ 20
 few-loops counts h high =
     let least = copies-least counts h in
-    elim (cases_lt 16 (length counts)) [
-      | inl long ↦ let great : 2 ^ 17 ≤ 2 ^ length counts = pow_mono {i = 17} {j = length counts} (omega (arith, long)) in absurd (omega (arith, great, least, high))
+    elim (cases_lt 20 (length counts)) [
+      | inl long ↦ let great : 2 ^ 21 ≤ 2 ^ length counts = pow_mono {i = 21} {j = length counts} (omega (arith, long)) in absurd (omega (arith, great, least, high))
       | inr short ↦ short
     ]
 
-small-counts : (counts : List ℕ) → AreMany counts → copies_in counts ≤ 65536 → All (λ c. (1 ≤ c) × (c < 2 ^ 32)) counts
+small-counts : (counts : List ℕ) → AreMany counts → copies_in counts ≤ 1048576 → All (λ c. (1 ≤ c) × (c < 2 ^ 32)) counts
 small-counts [] h high = All-nil (λ c. (1 ≤ c) × (c < 2 ^ 32))
 small-counts (c ∷ counts) h high =
     let some = some-copies counts h.1 in
@@ -160,23 +160,23 @@ stores-le (copy d) = omega arith
 
 -- ---- nests
 
-module _ (m n : ℕ) (high : n ≤ 65536) where
+module _ (m n : ℕ) (high : n ≤ 1048576) where
   module _ (z : PlainNest) (made : IsMade m z) (good : IsGoodNest 0 m n z) (loads : list_all (is_limited 64 n (limits_of z)) z.gathers ≡ true) (stores : list_all (is_limited 64 n (limits_of z)) z.scatters ≡ true)
       (factors : is_multiplier_within 64 (limits_of z) z.multiplier ≡ true) (room : copies_in z.counts * work_size z.work ≤ n) where
     items : 0 < work_size z.work
     items = some-items z.work made.work
 
-    few-copies : copies_in z.counts ≤ 65536
+    few-copies : copies_in z.counts ≤ 1048576
     few-copies = let one : copies_in z.counts * 1 ≤ copies_in z.counts * work_size z.work = mul-le-mul_left (copies_in z.counts) items in omega (arith, one, room, high)
 
-    few-items : work_size z.work ≤ 65536
+    few-items : work_size z.work ≤ 1048576
     few-items = let one : 1 * work_size z.work ≤ copies_in z.counts * work_size z.work = mul-le-mul_right (work_size z.work) (some-copies z.counts made.counts) in omega (arith, one, room, high)
 
     loops : loop_counts (plain_machine n m) z ≡ z.counts
     loops = no-frame n m z.work z.counts
 
-    shallow : length (loop_counts (plain_machine n m) z) ≤ 16
-    shallow = subst (λ counts. length counts ≤ 16) (sym loops) (few-loops z.counts made.counts few-copies)
+    shallow : length (loop_counts (plain_machine n m) z) ≤ 20
+    shallow = subst (λ counts. length counts ≤ 20) (sym loops) (few-loops z.counts made.counts few-copies)
 
     -- what a diagonal needs
     diagonal : (d : PlainMultiplier) → z.multiplier ≡ Some d → HasDiagonal m z.work (Some d)

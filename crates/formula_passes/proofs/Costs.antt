@@ -107,7 +107,7 @@ multiplier-le : (o : Option PlainMultiplier) (w : PlainWork) → multiplier_cost
 multiplier-le None w = omega arith
 multiplier-le (Some d) w = omega arith
 
-spread-le : (copies n cost more loads : ℕ) → n ≤ 65536 → cost ≤ 2 * (n * n) → more ≤ n → loads ≤ n * n → copies * (cost + more) + copies * loads ≤ copies * n * 196609
+spread-le : (copies n cost more loads : ℕ) → n ≤ 1048576 → cost ≤ 2 * (n * n) → more ≤ n → loads ≤ n * n → copies * (cost + more) + copies * loads ≤ copies * n * 196609
 spread-le copies n cost more loads small low one each =
     let all : cost + more + loads ≤ n * (3 * n + 1) = omega (arith, low, one, each) in
     let bound : n * (3 * n + 1) ≤ n * 196609 = mul-le-mul_left n (omega (arith, small)) in
@@ -119,7 +119,7 @@ spread-le copies n cost more loads small low one each =
 -- where each nest has few items a copy
 abbrev pub AreSmall : List PlainNest → Type 0
 AreSmall [] = Unit {0}
-AreSmall (z ∷ zs) = (work_size z.work ≤ 65536) × AreSmall zs
+AreSmall (z ∷ zs) = (work_size z.work ≤ 1048576) × AreSmall zs
 
 pub pass-modest : (m : ℕ) (zs : List PlainNest) → AreMade m zs → AreSmall zs → pass_cost 1 m zs + pass_loads zs ≤ items_of (map (copies_of m) zs) * 196609
 pass-modest m [] made small = omega arith

@@ -81,15 +81,15 @@ term-formed m path (Pending a) some shaped = term-formed m path a some shaped
 
 -- so many steps, direct sums and tables
 record IsCounted (f : Formula) (s d t : ℕ) : Type 0 where
-  steps : s ≤ 17 * (parts_of f + 1)
+  steps : s ≤ 21 * (parts_of f + 1)
   sums : d ≤ parts_of f
   makers : d + t ≤ parts_of f + 1
 
-halvings-few : (n : ℕ) → n ≤ 65536 → IsPowerOfTwo n → halvings n n ≤ 16
+halvings-few : (n : ℕ) → n ≤ 1048576 → IsPowerOfTwo n → halvings n n ≤ 20
 halvings-few n high (e, whole) =
     let steps : halvings n n ≡ e = ap (λ z. halvings z z) whole ∙ halvings-power e (2 ^ e) (power-above e) in
-    elim (cases_lt 16 e) [
-      | inl long ↦ let great : 2 ^ 17 ≤ 2 ^ e = pow_mono {i = 17} {j = e} (omega (arith, long)) in absurd (omega (arith, great, whole, high))
+    elim (cases_lt 20 e) [
+      | inl long ↦ let great : 2 ^ 21 ≤ 2 ^ e = pow_mono {i = 21} {j = e} (omega (arith, long)) in absurd (omega (arith, great, whole, high))
       | inr short ↦ omega (arith, steps, short)
     ]
 
@@ -150,7 +150,7 @@ term-counted m path (Pending a) shaped =
 
 -- ---- all passes
 
-small-nests : (m : ℕ) (zs : List PlainNest) → AreMade m zs → items_of (map (copies_of m) zs) ≤ 65536 → AreSmall zs
+small-nests : (m : ℕ) (zs : List PlainNest) → AreMade m zs → items_of (map (copies_of m) zs) ≤ 1048576 → AreSmall zs
 small-nests m [] made high = tt
 small-nests m (z ∷ zs) made high =
     let one : 1 * work_size z.work ≤ copies_in z.counts * work_size z.work = mul-le-mul_right (work_size z.work) (some-copies z.counts made.0.counts) in
@@ -160,7 +160,7 @@ all-one : (P : List PlainNest → Type 0) (ps : List (List PlainNest)) (zs : Lis
 all-one P [] zs h one = All-cons P zs [] one (All-nil P)
 all-one P (ys ∷ ps) zs h one = All-cons P ys (ps ++ zs ∷ []) (All-head P ys ps h) (all-one P ps zs (All-tail P ys ps h) one)
 
-module _ (m n : ℕ) (large : 2 ≤ m) (some : 0 < n) (high : n ≤ 65536) where
+module _ (m n : ℕ) (large : 2 ≤ m) (some : 0 < n) (high : n ≤ 1048576) where
   all-items : (zs : List PlainNest) → IsGoodPass 0 m n zs → items_of (map (copies_of m) zs) ≡ n
   all-items zs good = items-once n (map (copies_of m) zs) (all-inside 0 m n zs good.nests) good.once
 

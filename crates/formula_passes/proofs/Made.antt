@@ -42,7 +42,7 @@ AreResidues m factors = (i : ℕ) → factor_at m factors i < m
 pub record IsDiagonal (m : ℕ) (factors : PlainFactors) : Type 0 where
   pub residues : AreResidues m factors
   pub some : 0 < factor_count factors
-  pub few : factor_count factors ≤ 65536
+  pub few : factor_count factors ≤ 1048576
 
 abbrev pub HasDiagonal : ℕ → PlainWork → Option PlainMultiplier → Type 0
 HasDiagonal m w None = Unit {0}

@@ -65,7 +65,7 @@ several-loop n some =
       | inr several ↦ let is : one_loop n ≡ Blocks n ∷ [] = grind (arith, nat_tests) in subst AreSeveral (sym is) (omega (arith, some, several), tt)
     ]
 
-module _ (m n : ℕ) (some : 0 < n) (high : n ≤ 65536) where
+module _ (m n : ℕ) (some : 0 < n) (high : n ≤ 1048576) where
   copying-made : AreMade m (copying n)
   copying-made = new-made m n (one_loop n) (copy 1) (omega arith) (several-loop n some) (copying-good 0 m n)
 
@@ -151,7 +151,7 @@ module _ (m n : ℕ) (some : 0 < n) (high : n ≤ 65536) where
   made-passes room st (zs ∷ []) moves before h = made-pass room st zs moves before h.0
   made-passes room st (zs ∷ ys ∷ ps) moves before h = (h.0, made-passes room st (ys ∷ ps) moves before h.1)
 
-made-sides : (m k l : ℕ) (path : Path) (ps qs : List (List PlainNest)) → 0 < k → k ≤ 65536 → 0 < l → l ≤ 65536 → AreSeveral path → AllMade m ps → AllMade m qs → AllMade m (sides path k l ps qs)
+made-sides : (m k l : ℕ) (path : Path) (ps qs : List (List PlainNest)) → 0 < k → k ≤ 1048576 → 0 < l → l ≤ 1048576 → AreSeveral path → AllMade m ps → AllMade m qs → AllMade m (sides path k l ps qs)
 made-sides m k l path [] [] some small more low several h g = tt
 made-sides m k l path (zs ∷ ps) [] some small more low several h g = (made-side m path k l zs (copying l) several h.0 (copying-made m l more low), made-sides m k l path ps [] some small more low several h.1 tt)
 made-sides m k l path [] (ys ∷ qs) some small more low several h g = (made-side m path k l (copying k) ys several (copying-made m k some small) g.0, made-sides m k l path [] qs some small more low several tt g.1)
@@ -165,7 +165,7 @@ pub record IsCodable (m n : ℕ) (t : PlainTerm) : Type 0 where
   pub several : HasSeveral t
   pub formula : IsFormulaTerm m t
 
-made-merged : (m n : ℕ) (room : Room) (st : Merging) (t : PlainTerm) → 0 < m → 0 < n → n ≤ 65536 → IsGoodTerm 0 n t → HasSeveral t → IsFormulaTerm m t → Stands 0 m n st → AllMade m st.passes → AllMade m (merged room n st t).passes
+made-merged : (m n : ℕ) (room : Room) (st : Merging) (t : PlainTerm) → 0 < m → 0 < n → n ≤ 1048576 → IsGoodTerm 0 n t → HasSeveral t → IsFormulaTerm m t → Stands 0 m n st → AllMade m st.passes → AllMade m (merged room n st t).passes
 made-merged m n room st same positive some high good several form stands before = before
 made-merged m n room st (gath f) positive some high good several form stands before = before
 made-merged m n room st (scat f) positive some high good several form stands before = made-scatter m n some high room st.waiting st.passes f good.0.there before
@@ -183,8 +183,8 @@ made-merged m n room st (beside path k a l b) positive some high good several fo
     let inner = less room (length path) in
     let least = inner-least path (k + l) (let size = good.2 in omega (arith, size, some)) in
     let size = good.2 in
-    let left : k ≤ 65536 = omega (arith, least, size, high) in
-    let right : l ≤ 65536 = omega (arith, least, size, high) in
+    let left : k ≤ 1048576 = omega (arith, least, size, high) in
+    let right : l ≤ 1048576 = omega (arith, least, size, high) in
     let one = merged-reaches 0 m k inner nothing a positive good.0 good.3 (nothing-stands 0 m k) in
     let two = merged-reaches 0 m l inner nothing b positive good.1 good.4 (nothing-stands 0 m l) in
     let first = merged inner k nothing a in
@@ -193,12 +193,12 @@ made-merged m n room st (beside path k a l b) positive some high good several fo
     let qs = made-ended m l good.1 right inner (from_end second.waiting) second.passes (moves-end 0 l second.waiting two.stands.moves) (made-merged m l inner nothing b positive good.1 right good.4 several.2 form.1 (nothing-stands 0 m l) tt) in
     made-passes m n some high room st _ stands.moves before (made-sides m k l path _ _ good.0 left good.1 right several.0 ps qs)
 
-made-any : (m n : ℕ) (ps : List (List PlainNest)) → 0 < n → n ≤ 65536 → AllMade m ps → AllMade m (if_any n ps)
+made-any : (m n : ℕ) (ps : List (List PlainNest)) → 0 < n → n ≤ 1048576 → AllMade m ps → AllMade m (if_any n ps)
 made-any m n [] some high h = (copying-made m n some high, tt)
 made-any m n (zs ∷ ps) some high h = h
 
 -- all nests of its passes
-pub passes-made : (m n : ℕ) (room : Room) (t : PlainTerm) → 0 < m → 0 < n → n ≤ 65536 → IsCodable m n t → AllMade m (passes_within room n t)
+pub passes-made : (m n : ℕ) (room : Room) (t : PlainTerm) → 0 < m → 0 < n → n ≤ 1048576 → IsCodable m n t → AllMade m (passes_within room n t)
 passes-made m n room t positive some high h =
     let all = merged room n nothing t in
     let reached = merged-reaches 0 m n room nothing t positive some h.good (nothing-stands 0 m n) in

@@ -114,7 +114,7 @@ abbrev pub are_phases_within : ℕ → List PlainBody → Bool
 are_phases_within m phases = nat_lt 0 (length phases) && list_all (λ body. is_body_within m body 0) phases
 
 pub record IsHeaderWithin (size modulus procs line lanes regs : ℕ) : Type 0 where
-  pub of_size : (1 ≤ size) × (size ≤ 65536)
+  pub of_size : (1 ≤ size) × (size ≤ 1048576)
   pub of_modulus : (2 ≤ modulus) × (modulus < 2 ^ 62)
   pub of_procs : (1 ≤ procs) × (procs ≤ 16)
   pub of_line : (1 ≤ line) × (line ≤ 64)

@@ -14,7 +14,7 @@ divisor-below n d some divides =
       | inr more ↦ more
     ]
 
-pub node_below : (c : Request) (t : Breakdown) → IsValid c → c.size % size_of t ≡ 0 → size_of t ≤ 65536
+pub node_below : (c : Request) (t : Breakdown) → IsValid c → c.size % size_of t ≡ 0 → size_of t ≤ 1048576
 node_below c t valid divides =
     let size = valid.in_range.size in
     let below = divisor-below c.size (size_of t) (omega arith) divides in

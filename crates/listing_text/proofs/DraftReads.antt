@@ -122,7 +122,7 @@ between_from low high n h = and_from (leb low n) (leb n high) (le-leb low n h.0)
 
 pub within_from : (h : Header) → IsHeaderWithin h.size h.modulus h.procs h.line h.lanes h.regs → is_header_within h ≡ true
 within_from h w =
-    and_from (is_between 1 65536 h.size) (is_between 2 (2 ^ 62 - 1) h.modulus && (is_between 1 16 h.procs && (is_between 1 64 h.line && (is_between 1 16 h.lanes && ltb h.regs (2 ^ 20))))) (between_from 1 65536 h.size w.of_size)
+    and_from (is_between 1 1048576 h.size) (is_between 2 (2 ^ 62 - 1) h.modulus && (is_between 1 16 h.procs && (is_between 1 64 h.line && (is_between 1 16 h.lanes && ltb h.regs (2 ^ 20))))) (between_from 1 1048576 h.size w.of_size)
     (and_from (is_between 2 (2 ^ 62 - 1) h.modulus) (is_between 1 16 h.procs && (is_between 1 64 h.line && (is_between 1 16 h.lanes && ltb h.regs (2 ^ 20)))) (between_from 2 (2 ^ 62 - 1) h.modulus (w.of_modulus.0, omega (arith, w.of_modulus.1)))
     (and_from (is_between 1 16 h.procs) (is_between 1 64 h.line && (is_between 1 16 h.lanes && ltb h.regs (2 ^ 20))) (between_from 1 16 h.procs w.of_procs)
     (and_from (is_between 1 64 h.line) (is_between 1 16 h.lanes && ltb h.regs (2 ^ 20)) (between_from 1 64 h.line w.of_line)

@@ -181,14 +181,14 @@ between low high n h = let both = and_parts (leb low n) (leb n high) h in (leb-t
 
 pub header_limits : (h : Header) → is_header_within h ≡ true → IsHeaderWithin h.size h.modulus h.procs h.line h.lanes h.regs
 header_limits h w =
-    let a = and_parts (is_between 1 65536 h.size) (is_between 2 (2 ^ 62 - 1) h.modulus && (is_between 1 16 h.procs && (is_between 1 64 h.line && (is_between 1 16 h.lanes && ltb h.regs (2 ^ 20))))) w in
+    let a = and_parts (is_between 1 1048576 h.size) (is_between 2 (2 ^ 62 - 1) h.modulus && (is_between 1 16 h.procs && (is_between 1 64 h.line && (is_between 1 16 h.lanes && ltb h.regs (2 ^ 20))))) w in
     let b = and_parts (is_between 2 (2 ^ 62 - 1) h.modulus) (is_between 1 16 h.procs && (is_between 1 64 h.line && (is_between 1 16 h.lanes && ltb h.regs (2 ^ 20)))) a.1 in
     let c = and_parts (is_between 1 16 h.procs) (is_between 1 64 h.line && (is_between 1 16 h.lanes && ltb h.regs (2 ^ 20))) b.1 in
     let d = and_parts (is_between 1 64 h.line) (is_between 1 16 h.lanes && ltb h.regs (2 ^ 20)) c.1 in
     let e = and_parts (is_between 1 16 h.lanes) (ltb h.regs (2 ^ 20)) d.1 in
     let modulus = between 2 (2 ^ 62 - 1) h.modulus b.0 in
     record {
-      of_size = between 1 65536 h.size a.0;
+      of_size = between 1 1048576 h.size a.0;
       of_modulus = (modulus.0, omega (arith, modulus.1));
       of_procs = between 1 16 h.procs c.0;
       of_line = between 1 64 h.line d.0;

@@ -100,7 +100,7 @@ fn is_between(low: u64, high: u64, number: u64) -> bool
 fn is_header_within(header: Header) -> bool
     ensures { result ≡ is_header_within header }
 {
-    is_between(1, 65_536, header.size)
+    is_between(1, 1_048_576, header.size)
         && (is_between(2, (1 << 62) - 1, header.modulus)
             && (is_between(1, 16, header.procs)
                 && (is_between(1, 64, header.line)

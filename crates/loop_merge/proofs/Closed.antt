@@ -43,7 +43,7 @@ inner-below (Blocks c ∷ path) n i below =
 inner-below (Columns c ∷ path) n i below =
     let positive : 0 < c = factor_positive (size_under path n) c i below in omega (arith, inner-below path n (i / c) ((div-lt_iff_lt-mul positive).1 below))
 
-inner-defined : (path : Path) (n : ℕ) → n ≤ 65536 → (i : ℕ) → i < size_under path n → IsDefinedAt (inner_of path n) i
+inner-defined : (path : Path) (n : ℕ) → n ≤ 1048576 → (i : ℕ) → i < size_under path n → IsDefinedAt (inner_of path n) i
 inner-defined [] n high i below = tt
 inner-defined (Blocks c ∷ path) n high i below =
     let positive : 0 < size_under path n = factor_positive c (size_under path n) i below in
@@ -52,12 +52,12 @@ inner-defined (Columns c ∷ path) n high i below =
     let positive : 0 < c = factor_positive (size_under path n) c i below in
     (inner-defined path n high (i / c) ((div-lt_iff_lt-mul positive).1 below), tt, omega (arith, inner-below (Columns c ∷ path) n i below))
 
-pub closed-inner : (size : ℕ) (path : Path) (n : ℕ) → size ≤ 65536 → size_under path n ≡ size → n ≤ size → IsClosed size (inner_of path n)
+pub closed-inner : (size : ℕ) (path : Path) (n : ℕ) → size ≤ 1048576 → size_under path n ≡ size → n ≤ size → IsClosed size (inner_of path n)
 closed-inner size path n high e within =
     subst (λ m. IsClosed m (inner_of path n)) e (record { defined = inner-defined path n (omega arith); below = λ i below. omega (arith, inner-below path n i below) })
 
 -- a function of n words under tensors that make so many
-pub closed-under : (c : Request) (size : ℕ) (path : Path) (n : ℕ) (f : Mapping) → size ≤ 65536 → size_under path n ≡ size → IsClosed n f → IsClosed size (wrapped path n f)
+pub closed-under : (c : Request) (size : ℕ) (path : Path) (n : ℕ) (f : Mapping) → size ≤ 1048576 → size_under path n ≡ size → IsClosed n f → IsClosed size (wrapped path n f)
 closed-under c size path n f high e h = closed-wrapped (record c { size = size }) path n f high e h
 
 pub strided-closed : (r s : ℕ) → IsClosed (r * s) (Strided r s)

@@ -73,7 +73,7 @@ simplified-placed (Columns c ∷ path) n (u ∷ us) f e cs h fits =
     ∙ ap (λ z. joined (scaled c z) u) (simplified-placed path n us f e cs h.1 fits)
 
 -- a function under tensors has room at a place under them, where it has room at the inner place
-pub room-placed : (path : Path) (n : ℕ) (us : List Sum) (f : Mapping) (e : Sum) (cs : ℕ → ℕ) → AreCopies path us cs → Fits n e cs → Fits n (simplified cs f e) cs → size_under path n ≤ 65536 → HasRoomFor cs f e →
+pub room-placed : (path : Path) (n : ℕ) (us : List Sum) (f : Mapping) (e : Sum) (cs : ℕ → ℕ) → AreCopies path us cs → Fits n e cs → Fits n (simplified cs f e) cs → size_under path n ≤ 1048576 → HasRoomFor cs f e →
     HasRoomFor cs (wrapped path n f) (placed path n us e)
 room-placed [] n us f e cs h fits made high room = room
 room-placed (t ∷ path) n [] f e cs h fits made high room = absurd h
@@ -124,7 +124,7 @@ simplified-wrapped path n d f e cs h fits =
     ∙ simplified-placed path n (variables_of path d) f e cs (counts-copies path n d cs h) fits
     ∙ sym (place_sum-placed path n d (simplified cs f e))
 
-pub room-wrapped : (path : Path) (n d : ℕ) (f : Mapping) (e : Sum) (cs : ℕ → ℕ) → AreCounts path n d cs → Fits n e cs → Fits n (simplified cs f e) cs → size_under path n ≤ 65536 → HasRoomFor cs f e →
+pub room-wrapped : (path : Path) (n d : ℕ) (f : Mapping) (e : Sum) (cs : ℕ → ℕ) → AreCounts path n d cs → Fits n e cs → Fits n (simplified cs f e) cs → size_under path n ≤ 1048576 → HasRoomFor cs f e →
     HasRoomFor cs (wrapped path n f) (place_sum path n d e)
 room-wrapped path n d f e cs h fits made high room =
     subst (HasRoomFor cs (wrapped path n f)) (sym (place_sum-placed path n d e)) (room-placed path n (variables_of path d) f e cs (counts-copies path n d cs h) fits made high room)

@@ -30,7 +30,7 @@ inner-place (Columns c ∷ path) n d e cs h fits =
     ∙ inner-place path n (d + 1) e cs h.2 fits
 
 -- and every number on the way to it fits 64 bits
-pub room-inner : (path : Path) (n d : ℕ) (e : Sum) (cs : ℕ → ℕ) → AreCounts path n d cs → Fits n e cs → n ≤ 65536 → size_under path n ≤ 65536 → HasRoomFor cs (inner_of path n) (place_sum path n d e)
+pub room-inner : (path : Path) (n d : ℕ) (e : Sum) (cs : ℕ → ℕ) → AreCounts path n d cs → Fits n e cs → n ≤ 1048576 → size_under path n ≤ 1048576 → HasRoomFor cs (inner_of path n) (place_sum path n d e)
 room-inner [] n d e cs h fits low high = tt
 room-inner (Blocks c ∷ path) n d e cs h fits low high =
     let size = size_under path n in

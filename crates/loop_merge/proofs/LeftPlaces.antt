@@ -158,7 +158,7 @@ module _ (size p v m s : ℕ) (h : AreShares size p v m s) where
   limited-whole : (cs : ℕ → ℕ) (sp : Spread cs 0) (e g y : Sum) (k n : ℕ) → 0 < n → 2 ^ k * n ≤ m → g ≡ placed whole m (sp.lane ∷ sp.column ∷ []) y → Fits size g cs → levels y ≤ levels e + k → parts y ≤ parts e + 2 * k → IsWithinLimits cs size e g
   limited-whole cs sp e g y k n positive weight is fits deep long =
       let us : List Sum = sp.lane ∷ sp.column ∷ [] in
-      let small : length (left_path p v s) + k ≤ 16 = exponent_small (length (left_path p v s) + k) n size positive (weights k n weight) h.whole.high in
+      let small : length (left_path p v s) + k ≤ 20 = exponent_small (length (left_path p v s) + k) n size positive (weights k n weight) h.whole.high in
       record {
         fits = fits;
         levels = omega (arith, ap levels is, levels-placed whole m us y sp.flat, deep, small);
@@ -166,14 +166,14 @@ module _ (size p v m s : ℕ) (h : AreShares size p v m s) where
       }
 
   -- the item of its copy, at the place in all copies
-  inner-whole : (cs : ℕ → ℕ) (sp : Spread cs 0) (path : Path) (n : ℕ) (y : Sum) → Fits m y cs → n ≤ 65536 → HasRoomFor cs (inner_of path n) y → Fits n (simplified cs (inner_of path n) y) cs →
+  inner-whole : (cs : ℕ → ℕ) (sp : Spread cs 0) (path : Path) (n : ℕ) (y : Sum) → Fits m y cs → n ≤ 1048576 → HasRoomFor cs (inner_of path n) y → Fits n (simplified cs (inner_of path n) y) cs →
       (simplified cs (inner_of (Columns s ∷ path) n) (placed whole m (sp.lane ∷ sp.column ∷ []) y) ≡ simplified cs (inner_of path n) y) × HasRoomFor cs (inner_of (Columns s ∷ path) n) (placed whole m (sp.lane ∷ sp.column ∷ []) y)
   inner-whole cs sp path n y fits low room made =
       let u : Sum = joined (scaled v sp.column) sp.lane in
       let z : Sum = simplified cs (inner_of path n) y in
       let fit : Fits s u cs = subst (λ i. Fits i u cs) (mul_comm (s / v) v ∙ tiles_fill size p v m s h) (parts-fit (s / v) v sp.column sp.lane cs h.lanes sp.copies.1.0 sp.copies.0) in
       let some : 0 < s = omega (arith, h.right) in
-      let high : s ≤ 65536 = omega (arith, columns_high size p v m s h) in
+      let high : s ≤ 1048576 = omega (arith, columns_high size p v m s h) in
       let same : placed whole m (sp.lane ∷ sp.column ∷ []) y ≡ joined (scaled s y) u =
       placed-columns v (s / v) [] m sp.lane sp.column [] y ∙ ap (λ c. joined (scaled c y) u) (tiles_fill size p v m s h) in
       let apart = divided-joined s y u cs some fit.proper fit.small in
@@ -207,10 +207,10 @@ module _ (size p v m s : ℕ) (h : AreShares size p v m s) where
       let stays = part.stays cs d e counts fits in
       let lead = part-leads cs q.path o.places n (m * p) e sp fills (mul_comm m p) stays in
       let carried : Carries cs rc e z part.exponent = subst (λ g. Carries cs rc e g part.exponent) (all_simplified-append cs o.places (inner_of o.path rc) inner) (part.carries cs d e counts fits) in
-      let high : rc ≤ 65536 = omega (arith, within, rows_high size p v m s h) in
+      let high : rc ≤ 1048576 = omega (arith, within, rows_high size p v m s h) in
       let at_item = inner-whole cs sp o.path rc y (stays-end cs m o.places inner stays) high (part.room cs d e counts fits) carried.fits in
       let is : all_simplified cs (places ++ item ∷ []) from ≡ z = all_simplified-append cs places item from ∙ ap (simplified cs item) lead.is ∙ at_item.0 in
-      let small : part.exponent ≤ 16 = exponent_small part.exponent n rc (counts-positive q.path n d cs counts) part.weight high in (
+      let small : part.exponent ≤ 20 = exponent_small part.exponent n rc (counts-positive q.path n d cs counts) part.weight high in (
         limited-by cs rc e (all_simplified cs (places ++ item ∷ []) from) z part.exponent small is carried,
         all_room-append cs places item from (stays-room cs size places from lead.stays) (subst (HasRoomFor cs item) (sym lead.is) at_item.1),
       )

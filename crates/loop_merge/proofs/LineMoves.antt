@@ -62,7 +62,7 @@ flipped ts r s us u e cs h f g =
     simplified-within ts (r * s) us (Strided r s) (joined (scaled s u) e) cs h (parts-fit r s u e cs (some-of s e cs g) f g)
     ∙ ap (placed ts (r * s) us) (turned-joined r s u e cs (some-of s e cs g) g.proper g.small)
 
-pub flipped-room : (ts : Path) (r s : ℕ) (us : List Sum) (u e : Sum) (cs : ℕ → ℕ) → AreCopies ts us cs → Fits r u cs → Fits s e cs → size_under ts (r * s) ≤ 65536 → r * s ≤ 65536 →
+pub flipped-room : (ts : Path) (r s : ℕ) (us : List Sum) (u e : Sum) (cs : ℕ → ℕ) → AreCopies ts us cs → Fits r u cs → Fits s e cs → size_under ts (r * s) ≤ 1048576 → r * s ≤ 1048576 →
     HasRoomFor cs (wrapped (within_all ts []) (r * s) (Strided r s)) (placed ts (r * s) us (joined (scaled s u) e))
 flipped-room ts r s us u e cs h f g high small =
     let turned = turned-joined r s u e cs (some-of s e cs g) g.proper g.small in
@@ -85,7 +85,7 @@ dealt-one : (p v k m : ℕ) (q l j e : Sum) (cs : ℕ → ℕ) → p ≡ 1 → F
 dealt-one p v k m q l j e cs one f =
     ap (λ g. joined (scaled v (joined (scaled k g) j)) l) (one-copy (Blocks p) [] m q [] e cs one f ∙ sym (one-copy (Columns p) [] m q [] e cs one f))
 
-pub dealt-leads : (p v k m n size : ℕ) (q l j e : Sum) (cs : ℕ → ℕ) → AreThree cs p v k q l j → Fits m e cs → size ≡ p * m → size_under (Blocks p ∷ Columns v ∷ Columns k ∷ []) m ≡ n → n ≤ 65536 → p * m ≤ 65536 →
+pub dealt-leads : (p v k m n size : ℕ) (q l j e : Sum) (cs : ℕ → ℕ) → AreThree cs p v k q l j → Fits m e cs → size ≡ p * m → size_under (Blocks p ∷ Columns v ∷ Columns k ∷ []) m ≡ n → n ≤ 1048576 → p * m ≤ 1048576 →
     LeadsTo cs n (if p == 1 then [] else wrapped (within_all (Columns v ∷ Columns k ∷ []) []) size (Strided p m) ∷ []) (placed (Blocks p ∷ Columns v ∷ Columns k ∷ []) m (q ∷ l ∷ j ∷ []) e)
     (placed (Columns v ∷ Columns k ∷ Columns p ∷ []) m (l ∷ j ∷ q ∷ []) e)
 dealt-leads p v k m n size q l j e cs three fits sized whole high small =
@@ -98,7 +98,7 @@ dealt-leads p v k m n size q l j e cs three fits sized whole high small =
     let around : size_under (Columns v ∷ Columns k ∷ Columns p ∷ []) m ≡ n = omega (arith, whole) in
     let at_to : Fits n to cs = subst (λ i. Fits i to cs) around (placed-fits (Columns v ∷ Columns k ∷ Columns p ∷ []) m (l ∷ j ∷ q ∷ []) e cs (three.lane, (three.other, (three.processor, tt))) fits) in
     let lines : AreCopies (Columns v ∷ Columns k ∷ []) (l ∷ j ∷ []) cs = (three.lane, (three.other, tt)) in
-    let inside : size_under (Columns v ∷ Columns k ∷ []) (p * m) ≤ 65536 = omega (arith, whole, high) in
+    let inside : size_under (Columns v ∷ Columns k ∷ []) (p * m) ≤ 1048576 = omega (arith, whole, high) in
     leads-pick cs n (p == 1) (wrapped (within_all (Columns v ∷ Columns k ∷ []) []) size (Strided p m) ∷ []) from to (λ one. leads-none cs n from to at_from (swapped ∙ dealt-one p v k m q l j e cs (is-one p one) three.processor))
     (subst (λ i. LeadsTo cs n (wrapped (within_all (Columns v ∷ Columns k ∷ []) []) i (Strided p m) ∷ []) from to) (sym sized)
     (leads-step cs n (wrapped (within_all (Columns v ∷ Columns k ∷ []) []) (p * m) (Strided p m)) [] from mid to to swapped at_mid
@@ -108,7 +108,7 @@ dealt-leads p v k m n size q l j e cs three fits sized whole high small =
 
 -- ---- the root's permutation: of vectors in each processor's block, and of lines between processors
 
-pub turned-leads : (p v k s n : ℕ) (q l j e : Sum) (cs : ℕ → ℕ) → AreThree cs p v k q l j → Fits s e cs → size_under (Blocks p ∷ Columns v ∷ Blocks k ∷ []) s ≡ n → n ≤ 65536 → p * s ≤ 65536 → k * s ≤ 65536 →
+pub turned-leads : (p v k s n : ℕ) (q l j e : Sum) (cs : ℕ → ℕ) → AreThree cs p v k q l j → Fits s e cs → size_under (Blocks p ∷ Columns v ∷ Blocks k ∷ []) s ≡ n → n ≤ 1048576 → p * s ≤ 1048576 → k * s ≤ 1048576 →
     LeadsTo cs n (wrapped (within_all (Blocks p ∷ Columns v ∷ []) []) (k * s) (Strided k s) ∷ (if p == 1 then [] else wrapped (within_all (Columns v ∷ Columns k ∷ []) []) (p * s) (Strided p s) ∷ []))
     (placed (Blocks p ∷ Columns v ∷ Blocks k ∷ []) s (q ∷ l ∷ j ∷ []) e) (placed (Columns v ∷ Columns k ∷ Columns p ∷ []) s (l ∷ j ∷ q ∷ []) e)
 turned-leads p v k s n q l j e cs three fits whole high lines rows =
@@ -154,7 +154,7 @@ tile-item v k = ap constant (omega (arith, div-add-mod' k v))
 pub number-fits : (n k : ℕ) (cs : ℕ → ℕ) → k < n → Fits n (constant k) cs
 number-fits n k cs below = record { proper = tt; small = below; plain = tt }
 
-pub grouped-leads : (p v r t n size : ℕ) (q g i : Sum) (k : ℕ) (cs : ℕ → ℕ) → Fits p q cs → Fits r g cs → Fits t i cs → k < v * v → size ≡ t * v → size_under (Blocks p ∷ Blocks r ∷ Blocks t ∷ []) (v * v) ≡ n → n ≤ 65536 → t * v ≤ 65536 →
+pub grouped-leads : (p v r t n size : ℕ) (q g i : Sum) (k : ℕ) (cs : ℕ → ℕ) → Fits p q cs → Fits r g cs → Fits t i cs → k < v * v → size ≡ t * v → size_under (Blocks p ∷ Blocks r ∷ Blocks t ∷ []) (v * v) ≡ n → n ≤ 1048576 → t * v ≤ 1048576 →
     LeadsTo cs n (wrapped (within_all (Columns v ∷ Blocks p ∷ Blocks r ∷ []) []) size (Strided t v) ∷ []) (placed (Blocks p ∷ Blocks r ∷ Blocks t ∷ []) (v * v) (q ∷ g ∷ i ∷ []) (constant k))
     (placed (Columns v ∷ Blocks p ∷ Blocks r ∷ []) (t * v) (constant (k % v) ∷ q ∷ g ∷ []) (joined (scaled t (constant (k / v))) i))
 grouped-leads p v r t n size q g i k cs fq fg fi below sized whole high small =

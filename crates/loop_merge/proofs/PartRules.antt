@@ -11,7 +11,7 @@ use Rattle.tree_model.specs.Breakdown.{Breakdown, node, size_of, IsWellFormed, A
 -- so many words, at least one, that a request may have
 pub record IsSize (size : ℕ) : Type 0 where
   pub low : 1 ≤ size
-  pub high : size ≤ 65536
+  pub high : size ≤ 1048576
 
 -- r * s of them under the path, in parts of r and s
 pub record IsRuleIn (kind : Kind) (size : ℕ) (rule : Rule) (path : Path) (r s : ℕ) : Type 0 where
@@ -19,7 +19,7 @@ pub record IsRuleIn (kind : Kind) (size : ℕ) (rule : Rule) (path : Path) (r s 
   pub left : 2 ≤ r
   pub right : 2 ≤ s
   pub allowed : AllowsRule kind rule r s
-  pub small : r * s ≤ 65536
+  pub small : r * s ≤ 1048576
   pub within : r * s ≤ size
   pub whole : IsSize size
 

@@ -179,7 +179,7 @@ gathering-push size path waiting t n two g =
 -- with a permutation before a rule's right part
 gathering-mapped : (size : ℕ) (path : Path) (waiting : List Mapping) (f : Mapping) (r s : ℕ) → 2 ≤ r →
     ((d : ℕ) (e : Sum) (cs : ℕ → ℕ) → cs d ≡ r → Fits s e cs → IsOneMore cs (r * s) e (simplified cs f (tensor_sum (Blocks r) s d e))) →
-    ((d : ℕ) (e : Sum) (cs : ℕ → ℕ) → cs d ≡ r → Fits s e cs → HasRoomFor cs f (tensor_sum (Blocks r) s d e)) → size_under path (r * s) ≡ size → size ≤ 65536 →
+    ((d : ℕ) (e : Sum) (cs : ℕ → ℕ) → cs d ≡ r → Fits s e cs → HasRoomFor cs f (tensor_sum (Blocks r) s d e)) → size_under path (r * s) ≡ size → size ≤ 1048576 →
     Gathering size path waiting (r * s) → Gathering size (path ++ Blocks r ∷ []) (wrapped path (r * s) f ∷ waiting) s
 gathering-mapped size path waiting f r s two step room whole high g =
     record {
@@ -339,7 +339,7 @@ pub multiplied-is : (path : Path) (r s : ℕ) (places : List Mapping) (d : Plain
     ◌≡◌ {A = PlainDiagonal} (record { path = path; rows = r; cols = s; places = places }) d
 multiplied-is path r s places d e = cc
 
-scattering-multiplies : (size : ℕ) (path : Path) (r s : ℕ) (p : PlainPass) → r * s ≤ 65536 → size_under path (r * s) ≤ 65536 → Scattering size path (r * s) p →
+scattering-multiplies : (size : ℕ) (path : Path) (r s : ℕ) (p : PlainPass) → r * s ≤ 1048576 → size_under path (r * s) ≤ 1048576 → Scattering size path (r * s) p →
     Multiplying size (multiplied path r s p) (record { path = path; rows = r; cols = s; places = p.afters })
 scattering-multiplies size path r s p low high h =
     record {
@@ -388,7 +388,7 @@ placed-back kind size path r s [] rule h = tt
 placed-back kind size path r s (p ∷ []) rule h = (back-one kind size path r s p rule h.0, tt)
 placed-back kind size path r s (p ∷ q ∷ ps) rule h = (lift-one size path (Columns s) r p rule.right h.0, placed-back kind size path r s (q ∷ ps) rule h.1)
 
-pub placed-multiplied : (size : ℕ) (path : Path) (r s : ℕ) (ps : List PlainPass) → r * s ≤ 65536 → size_under path (r * s) ≤ 65536 → r * s ≤ size → ArePlaced size path (r * s) ps → ArePlaced size path (r * s) (at_last (multiplied path r s) ps)
+pub placed-multiplied : (size : ℕ) (path : Path) (r s : ℕ) (ps : List PlainPass) → r * s ≤ 1048576 → size_under path (r * s) ≤ 1048576 → r * s ≤ size → ArePlaced size path (r * s) ps → ArePlaced size path (r * s) (at_last (multiplied path r s) ps)
 placed-multiplied size path r s [] low under within h = tt
 placed-multiplied size path r s (p ∷ []) low under within h = (
   record {
@@ -450,20 +450,20 @@ counts-positive [] n d cs h = h
 counts-positive (Blocks c ∷ path) n d cs h = counts-positive path n (d + 1) cs h.2
 counts-positive (Columns c ∷ path) n d cs h = counts-positive path n (d + 1) cs h.2
 
-pub exponent_small : (k d n : ℕ) → 0 < d → 2 ^ k * d ≤ n → n ≤ 65536 → k ≤ 16
+pub exponent_small : (k d n : ℕ) → 0 < d → 2 ^ k * d ≤ n → n ≤ 1048576 → k ≤ 20
 exponent_small k d n positive weight high =
-    elim (cases_lt 16 k) [
+    elim (cases_lt 20 k) [
       | inl large ↦
-          let low : 2 ^ 17 ≤ 2 ^ k = pow_mono {i = 17} {j = k} (omega arith) in
+          let low : 2 ^ 21 ≤ 2 ^ k = pow_mono {i = 21} {j = k} (omega arith) in
           let least : 1 * 2 ^ k ≤ d * 2 ^ k = mul-le-mul_right (2 ^ k) positive in
           let turned : d * 2 ^ k ≡ 2 ^ k * d = mul_comm d (2 ^ k) in absurd (omega arith)
       | inr small ↦ small
     ]
 
-pub limited-by : (cs : ℕ → ℕ) (size : ℕ) (e g h : Sum) (k : ℕ) → k ≤ 16 → g ≡ h → Carries cs size e h k → IsWithinLimits cs size e g
+pub limited-by : (cs : ℕ → ℕ) (size : ℕ) (e g h : Sum) (k : ℕ) → k ≤ 20 → g ≡ h → Carries cs size e h k → IsWithinLimits cs size e g
 limited-by cs size e g h k small is c = record { fits = rw is c.fits; levels = rw is (omega (arith, c.levels)); parts = rw is (omega (arith, c.parts)) }
 
-limited_pass : (c : Request) (p : PlainPass) → c.size ≤ 65536 → IsPlacedPass c.size [] c.size p → IsLimitedPass c p
+limited_pass : (c : Request) (p : PlainPass) → c.size ≤ 1048576 → IsPlacedPass c.size [] c.size p → IsLimitedPass c p
 limited_pass c p high h cs e counts fits name =
     let n = work_size p.work in
     let positive : 0 < n = counts-positive p.path n 0 cs counts in
@@ -481,7 +481,7 @@ limited_pass c p high h cs e counts fits name =
           all_room-append cs d.places (inner_of d.path (d.rows * d.cols)) (place_sum p.path n 0 e) (stays-room cs c.size d.places (place_sum p.path n 0 e) (m.stays cs 0 e counts fits)) (m.room cs 0 e counts fits);
     }
 
-pub all_limited : (c : Request) (ps : List PlainPass) → c.size ≤ 65536 → ArePlaced c.size [] c.size ps → AllLimited c ps
+pub all_limited : (c : Request) (ps : List PlainPass) → c.size ≤ 1048576 → ArePlaced c.size [] c.size ps → AllLimited c ps
 all_limited c [] high h = tt
 all_limited c (p ∷ ps) high h = (limited_pass c p high h.0, all_limited c ps high h.1)
 

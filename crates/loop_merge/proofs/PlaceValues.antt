@@ -98,7 +98,7 @@ inner-formed (Columns c ∷ path) n positive =
 whole_positive : (kind : Kind) (size : ℕ) (rule : Rule) (path : Path) (r s : ℕ) → IsRuleIn kind size rule path r s → 0 < size_under path (r * s)
 whole_positive kind size rule path r s h = omega (arith, h.fills, h.whole.low)
 
-pub strided-formed : (r s : ℕ) → 0 < r → 0 < s → r * s ≤ 65536 → IsFormed (Strided r s)
+pub strided-formed : (r s : ℕ) → 0 < r → 0 < s → r * s ≤ 1048576 → IsFormed (Strided r s)
 strided-formed r s h g small = record { formed = (h, g, omega arith); no_list = tt }
 
 waiting_formed : (kind : Kind) (size : ℕ) (rule : Rule) (path : Path) (r s : ℕ) (waiting : List Mapping) → IsRuleIn kind size rule path r s → AreFormed waiting → AreFormed (rule_waiting rule path r s waiting)

@@ -169,7 +169,7 @@ place-below : (path : Path) (n d : ℕ) (e : Sum) (cs : ℕ → ℕ) → AreCoun
 place-below path n d e cs h fits sound vs range =
     omega (arith, (place_sum-fits path n d e cs h fits).small, value-le-top (place_sum path n d e) vs cs (sound-place_sum path n d e sound) (λ i. in_range_at cs vs i range))
 
-can_name : (counts : List ℕ) (path : Path) (n d : ℕ) (e : Sum) → AreCounts path n d (slice_index counts) → Fits n e (slice_index counts) → IsSound e → IsAffine (length counts) (slice_index counts) e → size_under path n ≤ 65536 → d + length path ≤ 65536 → d + length path ≤ length counts →
+can_name : (counts : List ℕ) (path : Path) (n d : ℕ) (e : Sum) → AreCounts path n d (slice_index counts) → Fits n e (slice_index counts) → IsSound e → IsAffine (length counts) (slice_index counts) e → size_under path n ≤ 1048576 → d + length path ≤ 1048576 → d + length path ≤ length counts →
     CanName (length counts) (slice_index counts) path n d e
 can_name counts [] n d e h fits sound affine high low long = tt
 can_name counts (Blocks c ∷ path) n d e h fits sound affine high low long =
@@ -212,7 +212,7 @@ can_name counts (Columns c ∷ path) n d e h fits sound affine high low long =
 
 -- ---- a pass
 
-reaches : (counts : List ℕ) (fs : List Mapping) (path : Path) (w : PlainWork) (es : List Sum) → AreCounts path (work_size w) 0 (slice_index counts) → length path ≤ length counts → size_under path (work_size w) ≤ 65536 → AreFormed fs →
+reaches : (counts : List ℕ) (fs : List Mapping) (path : Path) (w : PlainWork) (es : List Sum) → AreCounts path (work_size w) 0 (slice_index counts) → length path ≤ length counts → size_under path (work_size w) ≤ 1048576 → AreFormed fs →
     AreClosed (size_under path (work_size w)) fs → ((e : Sum) → IsItem counts w e → AllRoom (slice_index counts) fs (place_sum path (work_size w) 0 e)) → AreItems counts w es → ReachesAll counts fs path (work_size w) es
 reaches counts fs path w [] h long high formed closed room items = tt
 reaches counts fs path w (e ∷ es) h long high formed closed room items =
@@ -259,7 +259,7 @@ shaped_facts c p valid shared shape =
       column = λ e. variable-item c counts p.work (length p.path + 1) e (long_work c p.work valid shared e) (ap cs (omega arith) ∙ at-column p.path n) (omega arith);
     }
 
-has_words : (c : Request) (w : PlainWork) → IsShapedWork c w → work_size w ≤ 65536 → HasWords w
+has_words : (c : Request) (w : PlainWork) → IsShapedWork c w → work_size w ≤ 1048576 → HasWords w
 has_words c (transforming t) h low = word_sizes c.kind t h.0 (omega arith)
 has_words c (tiling v) h low = omega arith
 
@@ -270,9 +270,9 @@ reachable c p valid shared shape formed closed limited =
     let counts : List ℕ = counts_of p in
     let cs : ℕ → ℕ = slice_index counts in
     let low : 1 ≤ c.size = valid.in_range.size.0 in
-    let high : c.size ≤ 65536 = valid.in_range.size.1 in
+    let high : c.size ≤ 1048576 = valid.in_range.size.1 in
     let facts : ShapedPass c p = shaped_facts c p valid shared shape in
-    let under : size_under p.path n ≤ 65536 = omega (arith, shape.fills) in
+    let under : size_under p.path n ≤ 1048576 = omega (arith, shape.fills) in
     let long : length counts ≡ length p.path + 2 = facts.long in
     let rows : AreItems counts p.work (items_of c p.work (length p.path)) = items-are c counts p.work (length p.path) facts.row in
     let columns : AreItems counts p.work (items_of c p.work (length p.path + 1)) = items-are c counts p.work (length p.path + 1) facts.column in

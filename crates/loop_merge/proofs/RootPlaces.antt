@@ -77,7 +77,7 @@ functions-if size true fs h = functions-none size
 functions-if size false fs h = h
 
 -- a stride permutation under tensors
-strided-good : (c : Request) (size : ℕ) (ts : Path) (n a b : ℕ) → IsSize size → n ≡ a * b → size_under ts n ≡ size → 0 < a → 0 < b → a * b ≤ 65536 → AreGoodFunctions size (wrapped (within_all ts []) n (Strided a b) ∷ [])
+strided-good : (c : Request) (size : ℕ) (ts : Path) (n a b : ℕ) → IsSize size → n ≡ a * b → size_under ts n ≡ size → 0 < a → 0 < b → a * b ≤ 1048576 → AreGoodFunctions size (wrapped (within_all ts []) n (Strided a b) ∷ [])
 strided-good c size ts n a b whole is fills left right small =
     let path : Path = within_all ts [] in
     let under : size_under path n ≡ size = size-all ts n ∙ fills in
@@ -205,7 +205,7 @@ module _ (c : Request) (p v r s : ℕ) (h : AreShares c.size p v r s) where
   -- the right part with the root's diagonal after it, on one lane
   multiplied_tree : (ps : List PlainPass) → ArePlaced size [] size ps → HaveGoodPlaces c ps → HaveGoodPlaces c (at_last (multiplied [] r s) ps)
   multiplied_tree ps placed_passes good =
-      let low : r * s ≤ 65536 = omega (arith, h.product, h.whole.high) in
+      let low : r * s ≤ 1048576 = omega (arith, h.product, h.whole.high) in
       record {
         limited = all_limited c (at_last (multiplied [] r s) ps) h.whole.high
             (subst (λ n. ArePlaced size [] n (at_last (multiplied [] r s) ps)) h.product (placed-multiplied size [] r s ps low low (omega (arith, h.product)) (subst (λ n. ArePlaced size [] n ps) (sym h.product) placed_passes)));

@@ -68,24 +68,24 @@ module _ (size p v r s : ℕ) (h : AreShares size p v r s) where
       let more : r / p / v ≤ r / p / v * (p * v) = le-mul_of_pos_right {m = p * v} (r / p / v) (positive-product p v h.procs h.lanes) in
       let is : r ≡ r / p / v * (p * v) = h.rows ∙ omega arith in omega (arith, is, more)
 
-  pub lines_small : p * s ≤ 65536
+  pub lines_small : p * s ≤ 1048576
   lines_small = let more : p * s ≤ r * s = mul-le-mul_right s procs_rows in omega (arith, h.product, h.whole.high, more)
 
-  pub dealt_small : p * r ≤ 65536
+  pub dealt_small : p * r ≤ 1048576
   dealt_small = let more : p * r ≤ s * r = mul-le-mul_right r procs_columns in let turned : s * r ≡ r * s = mul_comm s r in omega (arith, h.product, h.whole.high, more, turned)
 
-  pub vectors_small : r / p / v * s ≤ 65536
+  pub vectors_small : r / p / v * s ≤ 1048576
   vectors_small = let more : r / p / v * s ≤ r * s = mul-le-mul_right s rows_part in omega (arith, h.product, h.whole.high, more)
 
-  pub tiles_small : s / v * v ≤ 65536
+  pub tiles_small : s / v * v ≤ 1048576
   tiles_small =
       let is : s / v * v ≡ s = mul_comm (s / v) v ∙ tiles_fill in
       let more : 1 * s ≤ r * s = mul-le-mul_right s (omega (arith, h.left)) in omega (arith, is, more, h.product, h.whole.high)
 
-  pub columns_high : s ≤ 65536
+  pub columns_high : s ≤ 1048576
   columns_high = let more : 1 * s ≤ r * s = mul-le-mul_right s (omega (arith, h.left)) in omega (arith, more, h.product, h.whole.high)
 
-  pub rows_high : r ≤ 65536
+  pub rows_high : r ≤ 1048576
   rows_high = let more : r * 1 ≤ r * s = mul-le-mul_left r (omega (arith, h.right)) in omega (arith, more, h.product, h.whole.high)
 
   pub rows_product : p * (v * (r / p / v)) * s ≡ size

@@ -53,7 +53,7 @@ below-product a b t h = mul-le-mul_left a (omega arith)
 right-le : (r s : ℕ) → 1 ≤ r → s ≤ r * s
 right-le r s h = let more : 1 * s ≤ r * s = mul-le 1 s r s h (omega arith) in omega arith
 
-pub thomas_in-room : (r s d : ℕ) (e : Sum) (cs : ℕ → ℕ) → cs d ≡ r → 2 ≤ r → 2 ≤ s → r * s ≤ 65536 → Fits s e cs → HasRoomFor cs (ThomasIn r s) (tensor_sum (Blocks r) s d e)
+pub thomas_in-room : (r s d : ℕ) (e : Sum) (cs : ℕ → ℕ) → cs d ≡ r → 2 ≤ r → 2 ≤ s → r * s ≤ 1048576 → Fits s e cs → HasRoomFor cs (ThomasIn r s) (tensor_sum (Blocks r) s d e)
 thomas_in-room r s d e cs count two_r two_s small f =
     let v = variable 1 d (constant 0) in
     let fit = variable-fits r d cs count two_r in
@@ -65,7 +65,7 @@ thomas_in-room r s d e cs count two_r two_s small f =
       subst (λ (z : Divided). CanMix cs (r * s) s r z.quot z.rem) (sym apart) (can_mix (r * s) s r v e cs (omega arith) (omega arith) fit.proper f.proper (omega arith)),
     )
 
-pub strided-room : (r s : ℕ) (u e : Sum) (cs : ℕ → ℕ) → r * s ≤ 65536 → Fits r u cs → Fits s e cs → HasRoomFor cs (Strided r s) (joined (scaled s u) e)
+pub strided-room : (r s : ℕ) (u e : Sum) (cs : ℕ → ℕ) → r * s ≤ 1048576 → Fits r u cs → Fits s e cs → HasRoomFor cs (Strided r s) (joined (scaled s u) e)
 strided-room r s u e cs small fit f =
     let some : 0 < s = omega (arith, f.small) in
     let apart = divided-joined s u e cs some f.proper f.small in
@@ -77,10 +77,10 @@ strided-room r s u e cs small fit f =
       subst (λ (z : Divided). CanJoin (scaled r z.rem) z.quot) (sym apart) (can_join (scaled r e) u cs (omega (arith, top-scaled r e cs, fit.small))),
     )
 
-pub turns-room : (r s d : ℕ) (e : Sum) (cs : ℕ → ℕ) → cs d ≡ r → 2 ≤ r → 2 ≤ s → r * s ≤ 65536 → Fits s e cs → HasRoomFor cs (Strided r s) (tensor_sum (Blocks r) s d e)
+pub turns-room : (r s d : ℕ) (e : Sum) (cs : ℕ → ℕ) → cs d ≡ r → 2 ≤ r → 2 ≤ s → r * s ≤ 1048576 → Fits s e cs → HasRoomFor cs (Strided r s) (tensor_sum (Blocks r) s d e)
 turns-room r s d e cs count two_r two_s small f = strided-room r s (variable 1 d (constant 0)) e cs small (variable-fits r d cs count two_r) f
 
-pub thomas_back-room : (r s u w d : ℕ) (e : Sum) (cs : ℕ → ℕ) → cs d ≡ s → 2 ≤ r → 2 ≤ s → r * s ≤ 65536 → 0 < u → u < r * s → 0 < w → w < r * s → Fits r e cs →
+pub thomas_back-room : (r s u w d : ℕ) (e : Sum) (cs : ℕ → ℕ) → cs d ≡ s → 2 ≤ r → 2 ≤ s → r * s ≤ 1048576 → 0 < u → u < r * s → 0 < w → w < r * s → Fits r e cs →
     HasRoomFor cs (ThomasBack r s u w) (tensor_sum (Columns s) r d e)
 thomas_back-room r s u w d e cs count two_r two_s small pu bu pw bw f =
     let v = variable 1 d (constant 0) in
@@ -88,8 +88,8 @@ thomas_back-room r s u w d e cs count two_r two_s small pu bu pw bw f =
     let apart = divided-joined s e v cs (omega arith) fit.proper fit.small in
     let size : s ≤ r * s = right-le r s (omega arith) in
     let rows : r ≤ r * s = le-mul_of_pos_right {m = s} r (omega arith) in
-    let one : u * top e cs ≤ 65536 * 65536 = mul-le u (top e cs) 65536 65536 (omega arith) (omega (arith, f.small)) in
-    let other : w * top v cs ≤ 65536 * 65536 = mul-le w (top v cs) 65536 65536 (omega arith) (omega (arith, fit.small)) in (
+    let one : u * top e cs ≤ 1048576 * 1048576 = mul-le u (top e cs) 1048576 1048576 (omega arith) (omega (arith, f.small)) in
+    let other : w * top v cs ≤ 1048576 * 1048576 = mul-le w (top v cs) 1048576 1048576 (omega arith) (omega (arith, fit.small)) in (
       can_divide s e v cs (omega arith) (omega arith) fit.proper fit.small,
       subst (λ (z : Divided). CanMix cs (r * s) u w z.quot z.rem) (sym apart) (can_mix (r * s) u w e v cs pu pw f.proper fit.proper (omega arith)),
     )

@@ -36,7 +36,7 @@ module _ (size p v r s : ℕ) (h : AreShares size p v r s) where
   tile_wide = wide-all three (h.procs, (rows_some size p v r s h, (tiles_some size p v r s h, tt)))
 
   -- few tensors
-  tile_short : length (tile_path p v r s) ≤ 16
+  tile_short : length (tile_path p v r s) ≤ 20
   tile_short =
       exponent_small (length (tile_path p v r s)) (v * v) size (positive-product v v h.lanes h.lanes) (omega (arith, weight-wide (tile_path p v r s) (v * v) tile_wide, tile_fills)) h.whole.high
 

@@ -62,7 +62,7 @@ simplified-within ts n us f e cs h fits =
     ∙ simplified-placed (within_all ts []) n (kept ts us) f e cs (copies-within ts us cs h) fits
     ∙ sym (placed-within ts n us (simplified cs f e) cs h)
 
-pub room-within : (ts : Path) (n : ℕ) (us : List Sum) (f : Mapping) (e : Sum) (cs : ℕ → ℕ) → AreCopies ts us cs → Fits n e cs → Fits n (simplified cs f e) cs → size_under ts n ≤ 65536 → HasRoomFor cs f e →
+pub room-within : (ts : Path) (n : ℕ) (us : List Sum) (f : Mapping) (e : Sum) (cs : ℕ → ℕ) → AreCopies ts us cs → Fits n e cs → Fits n (simplified cs f e) cs → size_under ts n ≤ 1048576 → HasRoomFor cs f e →
     HasRoomFor cs (wrapped (within_all ts []) n f) (placed ts n us e)
 room-within ts n us f e cs h fits made high room =
     subst (HasRoomFor cs (wrapped (within_all ts []) n f)) (sym (placed-within ts n us e cs h))

@@ -42,8 +42,8 @@ diagonal_sum cs p d e = all_simplified cs (diagonal_places d) (place_sum p.path 
 -- what a place may be, for a list of so many items: below its size, with no quotient, and not too deep or long
 pub record IsWithinLimits (cs : ℕ → ℕ) (size : ℕ) (e g : Sum) : Type 0 where
   pub fits : Fits size g cs
-  pub levels : levels g ≤ levels e + 16
-  pub parts : parts g ≤ parts e + 32
+  pub levels : levels g ≤ levels e + 20
+  pub parts : parts g ≤ parts e + 40
 
 -- the places of a pass are within the limits
 pub record ArePlacesLimited (c : Request) (p : PlainPass) (cs : ℕ → ℕ) (e : Sum) : Type 0 where

@@ -65,7 +65,7 @@ most_actions h (zs ∷ ps) = pass_cost 1 h.modulus zs + pass_loads zs + 2 * h.si
 
 -- a machine that programs may be for
 pub record IsHost (h : PlainMachine) : Type 0 where
-  pub size : (1 ≤ h.size) × (h.size ≤ 65536)
+  pub size : (1 ≤ h.size) × (h.size ≤ 1048576)
   pub modulus : (2 ≤ h.modulus) × (h.modulus < 2 ^ 62)
   pub procs : (1 ≤ h.procs) × (h.procs ≤ 16)
   pub line : (1 ≤ h.line) × (h.line ≤ 64)

@@ -33,7 +33,7 @@ pub record IsPlainPass (n m : ℕ) (zs : List PlainNest) : Type 0 where
 
 -- some passes of which a program can be made
 pub record ArePlainPasses (n m : ℕ) (ps : List (List PlainNest)) : Type 0 where
-  pub size : (1 ≤ n) × (n ≤ 65536)
+  pub size : (1 ≤ n) × (n ≤ 1048576)
   pub modulus : (2 ≤ m) × (m < 2 ^ 62)
   pub some : 0 < length ps
   pub passes : All (IsPlainPass n m) (in_order ps)

@@ -30,7 +30,7 @@ divided procs line lanes = if nat_le procs 1 then Ok tt else (if line % lanes ==
 
 -- no size is greater
 abbrev pub most_size : ℕ
-most_size = 65536
+most_size = 1048576
 
 -- the request, or its first fault: the first field in order that is out of its limits, then its shape, then its
 -- lanes and line

@@ -11,7 +11,7 @@ use grammar::{Cursor, Stuck};
 use matrix_meaning::{Kind, Request};
 
 /// No size is greater.
-const MOST_SIZE: u64 = 65_536;
+const MOST_SIZE: u64 = 1_048_576;
 
 /// The size up to which kernels are unrolled, where the line names none.
 pub(crate) const UNROLL: u64 = 8;

@@ -21,7 +21,7 @@ le-mul_left r s h = let more : 1 * s ≤ r * s = mul-le 1 s r s h (omega arith) 
 
 -- ---- under tensors
 
-wrapped-defined : (path : Path) (n : ℕ) (f : Mapping) → IsClosed n f → size_under path n ≤ 65536 → (i : ℕ) → i < size_under path n → IsDefinedAt (wrapped path n f) i
+wrapped-defined : (path : Path) (n : ℕ) (f : Mapping) → IsClosed n f → size_under path n ≤ 1048576 → (i : ℕ) → i < size_under path n → IsDefinedAt (wrapped path n f) i
 wrapped-defined [] n f h high i below = h.defined i below
 wrapped-defined (Blocks c ∷ path) n f h high i below =
     let size = size_under path n in
@@ -35,7 +35,7 @@ wrapped-defined (Columns c ∷ path) n f h high i below =
     let within : size ≤ size * c = le-mul_of_pos_right {m = c} size positive in
     (wrapped-defined path n f h (omega arith) (i / c) ((div-lt_iff_lt-mul positive).1 below), tt, omega (arith, wrapped-below (Columns c ∷ path) n f h.below i below))
 
-pub closed-wrapped : (c : Request) (path : Path) (n : ℕ) (f : Mapping) → c.size ≤ 65536 → size_under path n ≡ c.size → IsClosed n f → IsClosed c.size (wrapped path n f)
+pub closed-wrapped : (c : Request) (path : Path) (n : ℕ) (f : Mapping) → c.size ≤ 1048576 → size_under path n ≡ c.size → IsClosed n f → IsClosed c.size (wrapped path n f)
 closed-wrapped c path n f high e h =
     subst (λ m. IsClosed m (wrapped path n f)) e (record { defined = wrapped-defined path n f h (omega arith); below = wrapped-below path n f h.below })
 
@@ -51,7 +51,7 @@ wrapped-formed (Columns c ∷ path) n f h positive =
 
 -- ---- the permutations of a rule
 
-pub thomas_in-closed : (r s : ℕ) → 0 < r → 0 < s → r * s ≤ 65536 → IsClosed (r * s) (ThomasIn r s)
+pub thomas_in-closed : (r s : ℕ) → 0 < r → 0 < s → r * s ≤ 1048576 → IsClosed (r * s) (ThomasIn r s)
 thomas_in-closed r s pr ps high =
     record {
       defined = λ i below.
@@ -60,15 +60,15 @@ thomas_in-closed r s pr ps high =
       below = λ i below. mod-lt _ (mul-lt 0 0 r s pr ps);
     }
 
-pub thomas_back-closed : (r s u v : ℕ) → 0 < r → 0 < s → r * s ≤ 65536 → u < r * s → v < r * s → IsClosed (r * s) (ThomasBack r s u v)
+pub thomas_back-closed : (r s u v : ℕ) → 0 < r → 0 < s → r * s ≤ 1048576 → u < r * s → v < r * s → IsClosed (r * s) (ThomasBack r s u v)
 thomas_back-closed r s u v pr ps high pu pv =
     record {
       defined = λ i below.
           let row : i / s < r = (div-lt_iff_lt-mul ps).1 below in
           let rows : r ≤ r * s = le-mul_of_pos_right {m = s} r ps in
           let columns : s ≤ r * s = le-mul_left r s pr in
-          let one : i / s * u ≤ 65536 * 65536 = mul-le (i / s) u 65536 65536 (omega arith) (omega arith) in
-          let other : i % s * v ≤ 65536 * 65536 = mul-le (i % s) v 65536 65536 (omega (arith, mod-lt i ps)) (omega arith) in
+          let one : i / s * u ≤ 1048576 * 1048576 = mul-le (i / s) u 1048576 1048576 (omega arith) (omega arith) in
+          let other : i % s * v ≤ 1048576 * 1048576 = mul-le (i % s) v 1048576 1048576 (omega (arith, mod-lt i ps)) (omega arith) in
           (below, omega arith);
       below = λ i below. mod-lt _ (mul-lt 0 0 r s pr ps);
     }

@@ -52,7 +52,7 @@ pub coprime_sizes : (kind : Kind) (r s : ℕ) → AllowsRule kind Gt r s → IsG
 coprime_sizes Dft r s h = h
 coprime_sizes Wht r s h = absurd h
 
-good_rule : (c : Request) (rule : Rule) (path : Path) (r s : ℕ) (left right : List PlainStep) → size_under path (r * s) ≡ c.size → 0 < r → 0 < s → (AllowsRule c.kind rule r s) → r * s ≤ 65536 →
+good_rule : (c : Request) (rule : Rule) (path : Path) (r s : ℕ) (left right : List PlainStep) → size_under path (r * s) ≡ c.size → 0 < r → 0 < s → (AllowsRule c.kind rule r s) → r * s ≤ 1048576 →
     AreGood c left → AreGood c right → AreGood c (rule_steps rule path r s left right)
 good_rule c Gt path r s left right e h g allowed small on_left on_right =
     let both : AreCoprime r s = record { left = h; right = g; gcd = coprime_sizes c.kind r s allowed; small = small } in
@@ -74,7 +74,7 @@ good_steps c path (node rule a b) valid h e =
     let r = size_of a in
     let s = size_of b in
     let low : 1 ≤ c.size = valid.in_range.size.0 in
-    let high : c.size ≤ 65536 = valid.in_range.size.1 in
+    let high : c.size ≤ 1048576 = valid.in_range.size.1 in
     let within : r * s ≤ c.size = part-le (copies_of path) (r * s) c.size (sym (size_under-copies path (r * s)) ∙ e) low in
     good_pick c (is_kernel c (r * s)) _ _ (record { size = e; core = words_of c path (node rule a b) valid h e }, tt)
     (good_rule c rule path r s _ _ e (omega (arith, h.0.left)) (omega (arith, h.0.right)) h.0.allowed (omega arith)

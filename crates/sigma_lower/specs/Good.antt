@@ -11,7 +11,7 @@ pub record AreCoprime (r s : ℕ) : Type 0 where
   pub left : 0 < r
   pub right : 0 < s
   pub gcd : IsGcd r s 1
-  pub small : r * s ≤ 65536
+  pub small : r * s ≤ 1048576
 
 abbrev pub IsGoodCore : PlainCore → Type 0
 IsGoodCore (piece t) = HasWordSizes t

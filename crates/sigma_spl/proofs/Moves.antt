@@ -27,7 +27,7 @@ part-le (suc q) d n e h = omega (arith, suc-mul q d)
 pub right_positive : (a b : ℕ) → 0 < a * b → 0 < b
 right_positive a b h = elim (eq-zero-or-pos b) [ inl none ↦ absurd (let gone : a * b ≡ 0 = ap (λ x. a * x) none ∙ mul-zero a in omega arith) | inr positive ↦ positive ]
 
-pub has_room : (path : Path) (n : ℕ) → 0 < size_under path n → size_under path n ≤ 65536 → HasRoom path n
+pub has_room : (path : Path) (n : ℕ) → 0 < size_under path n → size_under path n ≤ 1048576 → HasRoom path n
 has_room [] n positive high = omega arith
 has_room (Blocks c ∷ path) n positive high =
     let size = size_under path n in

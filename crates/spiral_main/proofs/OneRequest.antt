@@ -61,7 +61,7 @@ divided_ok procs line lanes h = cases (nat_le procs 1) refl
 pub judged_ok : (r : Request) → IsInRange r → judged r ≡ Ok r
 unfolding judged
 judged_ok r v =
-    then_ok (within Size r.size 1 65536) _ r (within_ok Size r.size 1 65536 v.size)
+    then_ok (within Size r.size 1 1048576) _ r (within_ok Size r.size 1 1048576 v.size)
     (then_ok (within Mod r.modulus 2 (2 ^ 62 - 1)) _ r (within_ok Mod r.modulus 2 (2 ^ 62 - 1) v.modulus)
     (then_ok (below Root r.root r.modulus) _ r (below_ok Root r.root r.modulus v.root)
     (then_ok (within Procs r.procs 1 16) _ r (within_ok Procs r.procs 1 16 v.procs)

@@ -64,7 +64,7 @@ left_distributes m k f a b h e =
     record {
       shaped = (
         (s.0.0, s.1, s.2),
-        (s.0.1, s.1, subst (λ n. (1 ≤ n * k) × (n * k ≤ 65536)) sizes s.2),
+        (s.0.1, s.1, subst (λ n. (1 ≤ n * k) × (n * k ≤ 1048576)) sizes s.2),
         ap (λ n. n * k) sizes,
       );
       same = left_of_product m k a b s.0.1 sizes s.1.0;
@@ -81,7 +81,7 @@ right_distributes m k f a b h e =
     record {
       shaped = (
         (s.0, s.1.0, s.2),
-        (s.0, s.1.1, subst (λ n. (1 ≤ k * n) × (k * n ≤ 65536)) sizes s.2),
+        (s.0, s.1.1, subst (λ n. (1 ≤ k * n) × (k * n ≤ 1048576)) sizes s.2),
         ap (λ n. k * n) sizes,
       );
       same = right_of_product m k a b s.1.1 sizes;

@@ -4,9 +4,9 @@ use Rattle.std.specs.Int.{IsGcd}
 use Rattle.matrix_meaning.specs.Kind.{IsPowerOfTwo}
 use Rattle.spl_ast.specs.Formula.{Formula, Identity, Fourier, Hadamard, Twiddles, Diagonal, Stride, Permutation, GoodThomasIn, GoodThomasOut, Product, TensorLeft, TensorRight, DirectSum, Pending, size_of}
 
--- from 1 to 65,536
+-- from 1 to 1,048,576
 abbrev pub IsSize : ℕ → Type 0
-IsSize n = (1 ≤ n) × (n ≤ 65536)
+IsSize n = (1 ≤ n) × (n ≤ 1048576)
 
 -- a number that counts modulo m
 abbrev pub IsRingValue : ℕ → Type 0

@@ -23,7 +23,7 @@ pub struct Spl {
     pub node: Node,
 }
 
-/// The outermost step of a formula. A size or factor is 1 to 65,536, a ring value is below 2^62.
+/// The outermost step of a formula. A size or factor is 1 to 1,048,576, a ring value is below 2^62.
 #[cycle(spl)]
 #[derive(Drop)]
 pub enum Node {
@@ -80,7 +80,7 @@ impl Model for Spl {
 
 impl Spl {
     /// The greatest size.
-    pub const MAX_SIZE: u64 = 65536;
+    pub const MAX_SIZE: u64 = 1048576;
 
     /// The number of rows.
     #[tactic(auto, using(crate::proofs::Vectors::size_is_size))]

@@ -16,9 +16,9 @@ pub read_spells : {A : Type 0} (C : List ℕ → Type 0) (L : List ℕ → A →
 read_spells C L read reader place x e =
     let took = subst (λ r. Answers C L place r) e (reader.each place) in (took.text, took.spelt)
 
-pub factor_bound : (place next : Place ℕ) (n : ℕ) → positive_at 65537 place ≡ Ok (n, next) → IsSize n
+pub factor_bound : (place next : Place ℕ) (n : ℕ) → positive_at 1048577 place ≡ Ok (n, next) → IsSize n
 factor_bound place next n e =
-    let found = read_spells NoDigit (positive 65537) (positive_at 65537) (positive_reader 65537 (omega arith) (omega arith)) place (n, next) e in
+    let found = read_spells NoDigit (positive 1048577) (positive_at 1048577) (positive_reader 1048577 (omega arith) (omega arith)) place (n, next) e in
     (found.1.0, omega (arith, found.1.1))
 
 pub value_bound : (place next : Place ℕ) (v : ℕ) → number_at (2 ^ 62) place ≡ Ok (v, next) → IsRingValue v

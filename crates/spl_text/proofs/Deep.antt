@@ -94,7 +94,7 @@ comma_took place x e =
 
 factor_took : (place : Place ℕ) (x : ℕ × Place ℕ) → factor_at place ≡ Ok x → IsFactor x.0 × (place.rest ≡ decimal x.0 ++ x.1.rest)
 factor_took place x e =
-    let took = subst (λ r. places.Answers NoDigit (positive 65537) place r) e (factors.each place) in
+    let took = subst (λ r. places.Answers NoDigit (positive 1048577) place r) e (factors.each place) in
     ((took.spelt.0, took.spelt.1), took.whole ∙ ap (λ z. z ++ x.1.rest) took.spelt.2)
 
 head_took : (place : Place ℕ) (x : Head × Place ℕ) → one_of_at heads place ≡ Ok x → one_of heads (head_word x.0) x.0 × (place.rest ≡ head_word x.0 ++ x.1.rest)

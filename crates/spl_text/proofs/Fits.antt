@@ -15,11 +15,11 @@ use Rattle.spl_text.proofs.Strays.{is_among-push}
 allowed : (b : Bool) (x y : ℕ) → b ≡ true → refused_if (not b) x y ≡ None
 allowed b x y e = ap (λ c. refused_if (not c) x y) e
 
-small_enough : (n : ℕ) → n ≤ 65536 → refused_if (ltb 65536 n) n 65536 ≡ None
-small_enough n h = by_test (ltb 65536 n) refl
+small_enough : (n : ℕ) → n ≤ 1048576 → refused_if (ltb 1048576 n) n 1048576 ≡ None
+small_enough n h = by_test (ltb 1048576 n) refl
   where
-    by_test : (b : Bool) → ltb 65536 n ≡ b → refused_if b n 65536 ≡ None
-    by_test true e = let large : 65536 < n = ltb-true 65536 n e in absurd (omega arith)
+    by_test : (b : Bool) → ltb 1048576 n ≡ b → refused_if b n 1048576 ≡ None
+    by_test true e = let large : 1048576 < n = ltb-true 1048576 n e in absurd (omega arith)
     by_test false e = refl
 
 divides : (n r : ℕ) → IsMultiple n r → eqb (n % r) 0 ≡ true
@@ -70,4 +70,4 @@ no_misfit (Pending a) s = refl
 
 pub not_refused : (f : Formula) → IsShaped f → refusal f ≡ None
 not_refused f s =
-    ap (λ o. or_else o (refused_if (ltb 65536 (size_of f)) (size_of f) 65536)) (no_misfit f s) ∙ small_enough (size_of f) (size_is_size f s).1
+    ap (λ o. or_else o (refused_if (ltb 1048576 (size_of f)) (size_of f) 1048576)) (no_misfit f s) ∙ small_enough (size_of f) (size_is_size f s).1

@@ -11,21 +11,21 @@ use Rattle.spl_text.specs.Spelling.{more_text, values_text, spelling, IsFactor, 
 
 abbrev pub one_size : List ℕ → ℕ → Type 0
 one_size = do
-  n ← positive 65537
+  n ← positive 1048577
   word (codes ")")
   pure n
 
 abbrev pub two_sizes : List ℕ → ℕ × ℕ → Type 0
 two_sizes = do
-  n ← positive 65537
+  n ← positive 1048577
   word (codes ",")
-  r ← positive 65537
+  r ← positive 1048577
   word (codes ")")
   pure (n, r)
 
 abbrev pub size_value : List ℕ → ℕ × ℕ → Type 0
 size_value = do
-  n ← positive 65537
+  n ← positive 1048577
   word (codes ",")
   w ← number (2 ^ 62)
   word (codes ")")
@@ -33,9 +33,9 @@ size_value = do
 
 abbrev pub sizes_value : List ℕ → ℕ × ℕ × ℕ → Type 0
 sizes_value = do
-  n ← positive 65537
+  n ← positive 1048577
   word (codes ",")
-  s ← positive 65537
+  s ← positive 1048577
   word (codes ",")
   w ← number (2 ^ 62)
   word (codes ")")
@@ -88,11 +88,11 @@ arguments head.Times = two_formulas Product
 arguments head.Left = do
   a ← spells
   word (codes ",")
-  k ← positive 65537
+  k ← positive 1048577
   word (codes ")")
   pure (TensorLeft a k)
 arguments head.Right = do
-  k ← positive 65537
+  k ← positive 1048577
   word (codes ",")
   a ← spells
   word (codes ")")
@@ -325,23 +325,23 @@ pub comma : {A : Type 0} (next : List ℕ → A → Type 0) (v : List ℕ) (x : 
 comma next v x l = follows (word (codes ",")) _ (codes ",") v tt x refl l
 
 pub to_one_size : (n : ℕ) → IsFactor n → one_size (decimal n ++ codes ")") n
-to_one_size n h = follows (positive 65537) _ (decimal n) (codes ")") n n (h.0, h.1, refl) (closing n)
+to_one_size n h = follows (positive 1048577) _ (decimal n) (codes ")") n n (h.0, h.1, refl) (closing n)
 
 pub to_two_sizes : (n r : ℕ) → IsFactor n → IsFactor r → two_sizes (decimal n ++ (codes "," ++ (decimal r ++ codes ")"))) (n, r)
 to_two_sizes n r h k =
-    follows (positive 65537) _ (decimal n) (codes "," ++ (decimal r ++ codes ")")) n (n, r) (h.0, h.1, refl)
-    (comma _ (decimal r ++ codes ")") (n, r) (follows (positive 65537) _ (decimal r) (codes ")") r (n, r) (k.0, k.1, refl) (closing (n, r))))
+    follows (positive 1048577) _ (decimal n) (codes "," ++ (decimal r ++ codes ")")) n (n, r) (h.0, h.1, refl)
+    (comma _ (decimal r ++ codes ")") (n, r) (follows (positive 1048577) _ (decimal r) (codes ")") r (n, r) (k.0, k.1, refl) (closing (n, r))))
 
 pub to_size_value : (n w : ℕ) → IsFactor n → IsValue w → size_value (decimal n ++ (codes "," ++ (decimal w ++ codes ")"))) (n, w)
 to_size_value n w h k =
-    follows (positive 65537) _ (decimal n) (codes "," ++ (decimal w ++ codes ")")) n (n, w) (h.0, h.1, refl)
+    follows (positive 1048577) _ (decimal n) (codes "," ++ (decimal w ++ codes ")")) n (n, w) (h.0, h.1, refl)
     (comma _ (decimal w ++ codes ")") (n, w) (follows (number (2 ^ 62)) _ (decimal w) (codes ")") w (n, w) (k, refl) (closing (n, w))))
 
 pub to_sizes_value : (n s w : ℕ) → IsFactor n → IsFactor s → IsValue w → sizes_value (decimal n ++ (codes "," ++ (decimal s ++ (codes "," ++ (decimal w ++ codes ")"))))) (n, s, w)
 to_sizes_value n s w h k j =
-    follows (positive 65537) _ (decimal n) (codes "," ++ (decimal s ++ (codes "," ++ (decimal w ++ codes ")")))) n (n, s, w) (h.0, h.1, refl)
+    follows (positive 1048577) _ (decimal n) (codes "," ++ (decimal s ++ (codes "," ++ (decimal w ++ codes ")")))) n (n, s, w) (h.0, h.1, refl)
     (comma _ (decimal s ++ (codes "," ++ (decimal w ++ codes ")"))) (n, s, w)
-    (follows (positive 65537) _ (decimal s) (codes "," ++ (decimal w ++ codes ")")) s (n, s, w) (k.0, k.1, refl)
+    (follows (positive 1048577) _ (decimal s) (codes "," ++ (decimal w ++ codes ")")) s (n, s, w) (k.0, k.1, refl)
     (comma _ (decimal w ++ codes ")") (n, s, w) (follows (number (2 ^ 62)) _ (decimal w) (codes ")") w (n, s, w) (j, refl) (closing (n, s, w))))))
 
 to_many : (xs : List ℕ) → AreValues xs → many item (more_text xs) xs
@@ -381,10 +381,10 @@ spelt_by_heads (Product a b) h = to_arguments head.Times _ (Product a b) (to_two
 spelt_by_heads (TensorLeft a k) h =
     to_arguments head.Left _ (TensorLeft a k)
     (follows spells _ (spelling a) (codes "," ++ (decimal k ++ codes ")")) a (TensorLeft a k) (h.0, refl)
-    (comma _ (decimal k ++ codes ")") (TensorLeft a k) (follows (positive 65537) _ (decimal k) (codes ")") k (TensorLeft a k) (h.1.0, h.1.1, refl) (closing (TensorLeft a k)))))
+    (comma _ (decimal k ++ codes ")") (TensorLeft a k) (follows (positive 1048577) _ (decimal k) (codes ")") k (TensorLeft a k) (h.1.0, h.1.1, refl) (closing (TensorLeft a k)))))
 spelt_by_heads (TensorRight k a) h =
     to_arguments head.Right _ (TensorRight k a)
-    (follows (positive 65537) _ (decimal k) (codes "," ++ (spelling a ++ codes ")")) k (TensorRight k a) (h.0.0, h.0.1, refl)
+    (follows (positive 1048577) _ (decimal k) (codes "," ++ (spelling a ++ codes ")")) k (TensorRight k a) (h.0.0, h.0.1, refl)
     (comma _ (spelling a ++ codes ")") (TensorRight k a) (follows spells _ (spelling a) (codes ")") a (TensorRight k a) (h.1, refl) (closing (TensorRight k a)))))
 spelt_by_heads (DirectSum a b) h = to_arguments head.Sum _ (DirectSum a b) (to_two_formulas DirectSum a b h.0 h.1)
 spelt_by_heads (Pending a) h = absurd h

@@ -18,7 +18,7 @@ some_values : (xs : List ℕ) → 1 ≤ length xs → ((i : ℕ) → i < length 
 some_values [] pos h = omega arith
 some_values (x ∷ xs) pos h = (h 0 (omega arith), are_values xs (λ i l. h (suc i) (omega arith)))
 
-factor_first : (r s : ℕ) → 2 ≤ r → 2 ≤ s → r * s ≤ 65536 → IsFactor r
+factor_first : (r s : ℕ) → 2 ≤ r → 2 ≤ s → r * s ≤ 1048576 → IsFactor r
 factor_first r s low_r low_s small =
     let more : r * 2 ≤ r * s = mul-le-mul_left r low_s in (omega arith, omega arith)
 

@@ -40,7 +40,7 @@ close_again : (place : Place ℕ) (v : List ℕ) → place.rest ≡ codes ")" ++
 close_again place v e = again Anything (word (codes ")")) close_at close place (codes ")") v tt refl tt e
 
 factor_again : (n : ℕ) (place : Place ℕ) (v : List ℕ) → IsFactor n → NoDigit v → place.rest ≡ decimal n ++ v → (q : Place ℕ) × (factor_at place ≡ Ok (n, q)) × (q.rest ≡ v)
-factor_again n place v h c e = again NoDigit (positive 65537) factor_at factors place (decimal n) v n (h.0, h.1, refl) c e
+factor_again n place v h c e = again NoDigit (positive 1048577) factor_at factors place (decimal n) v n (h.0, h.1, refl) c e
 
 made_again : {A : Type 0} (L : List ℕ → A → Type 0) (read : Place ℕ → Result (A × Place ℕ) ℕ) (make : A → Formula) → IsReader Anything L read
     → (x : A) (text v : List ℕ) (place : Place ℕ) → L text x → place.rest ≡ text ++ v → Gets (made_at read make place) (make x) v

@@ -28,8 +28,8 @@ any L = behind_anything Anything L
 
 -- ---- numbers
 
-pub factors : places.IsReader NoDigit (positive 65537) (positive_at 65537)
-factors = positive_reader 65537 (omega arith) (omega arith)
+pub factors : places.IsReader NoDigit (positive 1048577) (positive_at 1048577)
+factors = positive_reader 1048577 (omega arith) (omega arith)
 
 ring_values : places.IsReader NoDigit (number (2 ^ 62)) (number_at (2 ^ 62))
 ring_values = number_reader (2 ^ 62) (omega arith) (omega arith)
@@ -182,7 +182,7 @@ one_formula : by_heads (spelling one) one
 unfolding spells
 one_formula = to_heads (spelling one) one (one_spelt, refl)
 
-pub one_factor : (0 < 1) × (1 < 65537)
+pub one_factor : (0 < 1) × (1 < 1048577)
 one_factor = (omega arith, omega arith)
 
 -- each head has some arguments
@@ -203,12 +203,12 @@ some_arguments head.Left u l = (
   spelling one ++ (codes "," ++ (decimal 1 ++ codes ")")),
   TensorLeft one 1,
   follows spells _ (spelling one) (codes "," ++ (decimal 1 ++ codes ")")) one (TensorLeft one 1) (one_spelt, refl)
-      (comma _ (decimal 1 ++ codes ")") (TensorLeft one 1) (follows (positive 65537) _ (decimal 1) (codes ")") 1 (TensorLeft one 1) (one_factor.0, one_factor.1, refl) (closing (TensorLeft one 1)))),
+      (comma _ (decimal 1 ++ codes ")") (TensorLeft one 1) (follows (positive 1048577) _ (decimal 1) (codes ")") 1 (TensorLeft one 1) (one_factor.0, one_factor.1, refl) (closing (TensorLeft one 1)))),
 )
 some_arguments head.Right u l = (
   decimal 1 ++ (codes "," ++ (spelling one ++ codes ")")),
   TensorRight 1 one,
-  follows (positive 65537) _ (decimal 1) (codes "," ++ (spelling one ++ codes ")")) 1 (TensorRight 1 one) (one_factor.0, one_factor.1, refl)
+  follows (positive 1048577) _ (decimal 1) (codes "," ++ (spelling one ++ codes ")")) 1 (TensorRight 1 one) (one_factor.0, one_factor.1, refl)
       (comma _ (spelling one ++ codes ")") (TensorRight 1 one) (follows spells _ (spelling one) (codes ")") one (TensorRight 1 one) (one_spelt, refl) (closing (TensorRight 1 one)))),
 )
 

@@ -3,7 +3,7 @@ use Rattle.std.specs.Prelude.{ℕ, ◌^◌, List, ◌∷◌, codes, Result}
 use Rattle.grammar.specs.Reading.{Place, ◌>>=◌, ◌>>◌, pure_at, word_at, number_at, positive_at, named_number_at, all_at}
 
 abbrev pub factor_at : Place ℕ → Result (ℕ × Place ℕ) ℕ
-factor_at = positive_at 65537
+factor_at = positive_at 1048577
 
 abbrev pub value_at : Place ℕ → Result (ℕ × Place ℕ) ℕ
 value_at = number_at (2 ^ 62)

@@ -50,7 +50,7 @@ or_else None other = other
 
 -- the same, and then for its size
 abbrev pub refusal : Formula → Option (ℕ × ℕ)
-refusal f = or_else (misfit f) (refused_if (nat_lt 65536 (size_of f)) (size_of f) 65536)
+refusal f = or_else (misfit f) (refused_if (nat_lt 1048576 (size_of f)) (size_of f) 1048576)
 
 -- a fault that the text shows, at a place by how much of the text is left there
 pub data TextFault : Type 0 where

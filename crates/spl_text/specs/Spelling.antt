@@ -38,7 +38,7 @@ spelling (Pending a) = []
 
 -- a size or a factor
 abbrev pub IsFactor : ℕ → Type 0
-IsFactor n = (0 < n) × (n < 65537)
+IsFactor n = (0 < n) × (n < 1048577)
 
 abbrev pub IsValue : ℕ → Type 0
 IsValue v = v < 2 ^ 62

@@ -15,7 +15,7 @@ use std::alloc::Global;
 
 /// The fault of a part whose size is over the limit.
 fn oversize(place: usize, size: u64) -> Halt
-    ensures { result ≡ halts.Shape place size 65536 }
+    ensures { result ≡ halts.Shape place size 1048576 }
 {
     Halt::Shape {
         left: place,

@@ -33,7 +33,7 @@ pub enum SplFault {
     /// The part that begins at this place does not fit, for these two numbers: the columns and rows of a product's
     /// factors; a size and what does not divide it; factors of a Good-Thomas step that are not coprime, or one of them
     /// 1; a size of `WHT` that is no power of two, and 2; the length of a `PERM` and its first entry that is too large
-    /// or stood before; a size over 65,536, and 65,536.
+    /// or stood before; a size over 1,048,576, and 1,048,576.
     #[error("the part at byte {at} does not fit: {left} and {right}")]
     Shape { at: u64, left: u64, right: u64 },
     #[error("out of memory")]

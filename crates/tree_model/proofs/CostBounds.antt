@@ -50,13 +50,13 @@ modest_node r s x y z hr hs hx hy hz =
     omega arith
 
 -- a modest cost is a `u64`
-pub modest_fits : (d x n : ℕ) → IsModest d x → d ≤ n → n ≤ 65536 → x < 2 ^ 64
+pub modest_fits : (d x n : ℕ) → IsModest d x → d ≤ n → n ≤ 1048576 → x < 2 ^ 64
 modest_fits d x n h le small =
-    let small_size : d ≤ 65536 = omega arith in
-    let square : d * d ≤ 65536 * 65536 = mul-le-mul {n₁ = d} {m₁ = d} {n₂ = 65536} {m₂ = 65536} small_size small_size in
+    let small_size : d ≤ 1048576 = omega arith in
+    let square : d * d ≤ 1048576 * 1048576 = mul-le-mul {n₁ = d} {m₁ = d} {n₂ = 1048576} {m₂ = 1048576} small_size small_size in
     omega arith
 
 -- the sums on the way to a node's cost
-pub node_fits : (r s x y z n : ℕ) → 2 ≤ r → 2 ≤ s → IsModest r x → IsModest s y → z ≤ 1000 * (r * s) → r * s ≤ n → n ≤ 65536 → s * x + r * y + z < 2 ^ 64
+pub node_fits : (r s x y z n : ℕ) → 2 ≤ r → 2 ≤ s → IsModest r x → IsModest s y → z ≤ 1000 * (r * s) → r * s ≤ n → n ≤ 1048576 → s * x + r * y + z < 2 ^ 64
 node_fits r s x y z n hr hs hx hy hz le small =
     modest_fits (r * s) (s * x + r * y + z) n (modest_node r s x y z hr hs hx hy hz) le small

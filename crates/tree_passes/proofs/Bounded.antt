@@ -11,14 +11,14 @@ use Rattle.perm_algebra.proofs.Sizes.{positive-product}
 abbrev pub IsBounded : (ℕ → ℕ) → ℕ → ℕ → Sum → Type 0
 IsBounded cs m n (constant c) = c < n
 IsBounded cs m n (variable f d rest) = (f < n) × (2 ≤ cs d) × (d < m) × IsBounded cs m n rest
-IsBounded cs m n (remainder f of k rest) = (0 < f) × (f < n) × (2 ≤ k) × (k ≤ 65536) × IsBounded cs m 65537 of × IsBounded cs m n rest
+IsBounded cs m n (remainder f of k rest) = (0 < f) × (f < n) × (2 ≤ k) × (k ≤ 1048576) × IsBounded cs m 1048577 of × IsBounded cs m n rest
 IsBounded cs m n (quotient f of k rest) = IsBounded cs m n rest
 
 -- the same with no bound at the outer level
 abbrev pub IsTame : (ℕ → ℕ) → ℕ → Sum → Type 0
 IsTame cs m (constant c) = Unit {0}
 IsTame cs m (variable f d rest) = (2 ≤ cs d) × (d < m) × IsTame cs m rest
-IsTame cs m (remainder f of k rest) = (2 ≤ k) × (k ≤ 65536) × IsBounded cs m 65537 of × IsTame cs m rest
+IsTame cs m (remainder f of k rest) = (2 ≤ k) × (k ≤ 1048576) × IsBounded cs m 1048577 of × IsTame cs m rest
 IsTame cs m (quotient f of k rest) = IsTame cs m rest
 
 pub bounded-tame : (cs : ℕ → ℕ) (m n : ℕ) (e : Sum) → IsBounded cs m n e → IsTame cs m e
@@ -161,7 +161,7 @@ pub record AreBounded (cs : ℕ → ℕ) (m a s : ℕ) (z : Divided) : Type 0 wh
   pub quot : IsBounded cs m a z.quot
   pub rem : IsBounded cs m s z.rem
 
-pub divided-bounded : (cs : ℕ → ℕ) (m a s : ℕ) (e : Sum) → 0 < a → 2 ≤ s → s ≤ 65536 → a * s ≤ 65537 → IsBounded cs m (a * s) e → AreBounded cs m a s (divided cs s e)
+pub divided-bounded : (cs : ℕ → ℕ) (m a s : ℕ) (e : Sum) → 0 < a → 2 ≤ s → s ≤ 1048576 → a * s ≤ 1048577 → IsBounded cs m (a * s) e → AreBounded cs m a s (divided cs s e)
 divided-bounded cs m a s e some two small whole h =
     elim (cases_lt (top (rest_of s e) cs) s) [
       | inl fits ↦
@@ -170,7 +170,7 @@ divided-bounded cs m a s e some two small whole h =
       | inr over ↦
           let is : divided cs s e ≡ record { quot = quotient 1 e s (constant 0); rem = remainder 1 e s (constant 0) } = grind (arith, nat_tests) in
           subst (AreBounded cs m a s) (sym is)
-          (record { quot = some; rem = (omega arith, omega arith, two, small, bounded-more cs m (a * s) 65537 e whole h, omega arith) })
+          (record { quot = some; rem = (omega arith, omega arith, two, small, bounded-more cs m (a * s) 1048577 e whole h, omega arith) })
     ]
 
 -- ---- modulo n
@@ -208,7 +208,7 @@ mods-bounded cs m n (quotient f of k rest) positive h =
           subst (IsBounded cs m n) (sym is) inner
     ]
 
-pub reduced-bounded : (cs : ℕ → ℕ) (m n : ℕ) (e : Sum) → 2 ≤ n → n ≤ 65536 → IsTame cs m e → IsBounded cs m n (reduced cs n e)
+pub reduced-bounded : (cs : ℕ → ℕ) (m n : ℕ) (e : Sum) → 2 ≤ n → n ≤ 1048576 → IsTame cs m e → IsBounded cs m n (reduced cs n e)
 reduced-bounded cs m n e two small h =
     let low : IsBounded cs m n (mods n e) = mods-bounded cs m n e (omega arith) h in
     elim (cases_lt (top (mods n e) cs) n) [
@@ -217,5 +217,5 @@ reduced-bounded cs m n e two small h =
           subst (IsBounded cs m n) (sym is) low
       | inr over ↦
           let is : reduced cs n e ≡ remainder 1 (mods n e) n (constant 0) = grind (arith, nat_tests) in
-          subst (IsBounded cs m n) (sym is) (omega arith, omega arith, two, small, bounded-more cs m n 65537 (mods n e) (omega arith) low, omega arith)
+          subst (IsBounded cs m n) (sym is) (omega arith, omega arith, two, small, bounded-more cs m n 1048577 (mods n e) (omega arith) low, omega arith)
     ]

@@ -84,13 +84,13 @@ multiplier-le weight None w = omega arith
 multiplier-le weight (Some d) w = omega arith
 
 -- for each item twice as many operations as there are items, and one for a diagonal
-spread : (copies n size cost more loads : ℕ) → copies * n ≡ size → size ≤ 65536 → n ≤ 65536 → cost ≤ 2 * (n * n) → more ≤ 1 * n → loads ≤ n * n → copies * (cost + more) + 0 + (copies * loads + 0) + 2 * size ≤ 2 ^ 40
+spread : (copies n size cost more loads : ℕ) → copies * n ≡ size → size ≤ 1048576 → n ≤ 1048576 → cost ≤ 2 * (n * n) → more ≤ 1 * n → loads ≤ n * n → copies * (cost + more) + 0 + (copies * loads + 0) + 2 * size ≤ 2 ^ 44
 spread copies n size cost more loads whole high small low one each =
     let all : cost + more + loads ≤ n * (3 * n + 1) = omega (arith, low, one, each) in
     let product : copies * (cost + more + loads) ≤ copies * (n * (3 * n + 1)) = mul-le-mul_left copies all in
     let turned : copies * (n * (3 * n + 1)) ≡ copies * n * (3 * n + 1) = omega arith in
     let same : copies * n * (3 * n + 1) ≡ size * (3 * n + 1) = ap (λ x. x * (3 * n + 1)) whole in
-    let bound : size * (3 * n + 1) ≤ 65536 * 196609 = mul-le-mul {n₁ = size} {m₁ = 3 * n + 1} {n₂ = 65536} {m₂ = 196609} high (omega (arith, small)) in
+    let bound : size * (3 * n + 1) ≤ 1048576 * 3145729 = mul-le-mul {n₁ = size} {m₁ = 3 * n + 1} {n₂ = 1048576} {m₂ = 3145729} high (omega (arith, small)) in
     let cut : copies * (cost + more + loads) ≡ copies * (cost + more) + copies * loads = omega arith in
     omega (arith, product, turned, same, bound, cut, high)
 
@@ -110,7 +110,7 @@ module _ (c : Request) (valid : IsValid c) where
       (λ t is e kind. record { operations = omega arith; loads = omega arith })
       (λ v is. record { operations = omega arith; loads = square-le (v * v) })
 
-  pass-actions : (p : PlainPass) → IsKnown c p → pass_cost 1 c.modulus (one_nest (loop_of c p)) + pass_loads (one_nest (loop_of c p)) + 2 * c.size ≤ 2 ^ 40
+  pass-actions : (p : PlainPass) → IsKnown c p → pass_cost 1 c.modulus (one_nest (loop_of c p)) + pass_loads (one_nest (loop_of c p)) + 2 * c.size ≤ 2 ^ 44
   pass-actions p known =
       let w = loop_work c p.work in
       let n = works.work_size w in
@@ -121,7 +121,7 @@ module _ (c : Request) (valid : IsValid c) where
       ap (λ x. x * n) (copies-are p.path) ∙ ap (λ x. copies_of p.path * x) (loop-size c p.work) ∙ sym (size_under-copies p.path (work_size p.work)) ∙ known.shaped.fills in
       spread (copies_in (map count_of p.path)) n c.size (work_cost 1 c.modulus w) (multiplier_cost 1 z.multiplier w) (work_loads w) whole high (n-small c p valid known) m.operations (multiplier-le 1 z.multiplier w) m.loads
 
-  pub actions-few : (ps : List PlainPass) → AllKnown c ps → most_actions (machine_of c) (nests_in c ps) ≤ 2 ^ 40 * length ps
+  pub actions-few : (ps : List PlainPass) → AllKnown c ps → most_actions (machine_of c) (nests_in c ps) ≤ 2 ^ 44 * length ps
   actions-few [] known = omega arith
   actions-few (p ∷ ps) known =
       let first = pass-actions p known.0 in

@@ -54,16 +54,16 @@ has_passes c (node rule a b) formed =
       small = λ one. let both = mul-le 2 2 (size_of a) (size_of b) two_r two_s in absurd (omega arith);
     }
 
--- powers of two up to 65536
-exponent-small : (k n : ℕ) → 2 ^ k ≤ n → n ≤ 65536 → k ≤ 16
+-- powers of two up to 1048576
+exponent-small : (k n : ℕ) → 2 ^ k ≤ n → n ≤ 1048576 → k ≤ 20
 exponent-small k n low high =
-    elim (cases_lt 16 k) [
-      | inl large ↦ let great : 2 ^ 17 ≤ 2 ^ k = pow_mono {i = 17} {j = k} (omega arith) in absurd (omega arith)
+    elim (cases_lt 20 k) [
+      | inl large ↦ let great : 2 ^ 21 ≤ 2 ^ k = pow_mono {i = 21} {j = k} (omega arith) in absurd (omega arith)
       | inr small ↦ small
     ]
 
--- a tree of at most 65536 words has at most 16 passes, and so have the parts of a node together
-few_passes : (c : Request) (t : Breakdown) → IsWellFormed c.kind t → size_of t ≤ 65536 → length (passes_of c 1 t) ≤ 16
+-- a tree of at most 1048576 words has at most 20 passes, and so have the parts of a node together
+few_passes : (c : Request) (t : Breakdown) → IsWellFormed c.kind t → size_of t ≤ 1048576 → length (passes_of c 1 t) ≤ 20
 few_passes c t formed high =
     let h = has_passes c t formed in
     let is = h.is 1 in
@@ -72,8 +72,8 @@ few_passes c t formed high =
       | inr one ↦ let few = h.small one in omega arith
     ]
 
-few_parts : (c : Request) (rule : Rule) (a b : Breakdown) → IsWellFormed c.kind (node rule a b) → size_of a * size_of b ≤ 65536 →
-    length (passes_of c (size_of a) b) + length (passes_of c (size_of b) a) ≤ 16
+few_parts : (c : Request) (rule : Rule) (a b : Breakdown) → IsWellFormed c.kind (node rule a b) → size_of a * size_of b ≤ 1048576 →
+    length (passes_of c (size_of a) b) + length (passes_of c (size_of b) a) ≤ 20
 few_parts c rule a b formed high =
     let left = has_passes c a formed.1 in
     let right = has_passes c b formed.2 in
@@ -85,9 +85,9 @@ few_parts c rule a b formed high =
 
 pub record AreFew (passes : List Pass) : Type 0 where
   pub some : 1 ≤ length passes
-  pub few : length passes ≤ 18
+  pub few : length passes ≤ 22
 
-few_tiled : (c : Request) (t : Breakdown) → IsWellFormed c.kind t → size_of t ≤ 65536 → AreFew (tiled_passes c t)
+few_tiled : (c : Request) (t : Breakdown) → IsWellFormed c.kind t → size_of t ≤ 1048576 → AreFew (tiled_passes c t)
 few_tiled c (leaf d) formed high = record { some = omega arith; few = omega arith }
 few_tiled c (node Gt a b) formed high =
     let h = has_passes c (node Gt a b) formed in
@@ -103,7 +103,7 @@ few_tiled c (node Split a b) formed high =
     let all = length-append (passes_of c (size_of a) b) (Pass.tiles false ∷ passes_of c (size_of b) a) in
     record { some = omega arith; few = omega arith }
 
-few_whole : (c : Request) (t : Breakdown) → IsWellFormed c.kind t → size_of t ≤ 65536 → AreFew (whole_passes c t)
+few_whole : (c : Request) (t : Breakdown) → IsWellFormed c.kind t → size_of t ≤ 1048576 → AreFew (whole_passes c t)
 few_whole c t formed high = by_lanes (nat_le c.lanes 1)
   where
     by_lanes : (b : Bool) → AreFew (if b then passes_of c 1 t else tiled_passes c t)
@@ -117,7 +117,7 @@ few_whole c t formed high = by_lanes (nat_le c.lanes 1)
 -- the merged passes of a tree, which are as many
 pub record AreFewMerged (ps : List PlainPass) : Type 0 where
   pub some : 1 ≤ length ps
-  pub few : length ps ≤ 18
+  pub few : length ps ≤ 22
 
 pub few_merged : (c : Request) (t : Breakdown) → IsValid c → IsAdmissible c t → map counted (merged_of c t) ≡ whole_passes c t → AreFewMerged (merged_of c t)
 few_merged c t valid admissible counts =

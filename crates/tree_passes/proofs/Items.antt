@@ -129,7 +129,7 @@ module _ (c : Request) (p : PlainPass) (valid : IsValid c) (shape : IsShaped c c
   abbrev m : ℕ
   m = length p.path + 2
 
-  high : c.size ≤ 65536
+  high : c.size ≤ 1048576
   high = valid.in_range.size.1
 
   fills : size_under p.path n ≡ c.size
@@ -138,7 +138,7 @@ module _ (c : Request) (p : PlainPass) (valid : IsValid c) (shape : IsShaped c c
   counts : AreCounts p.path n 0 cs
   counts = counts-from p.path n 0 cs (n ∷ n ∷ []) sized.wide some (λ i. ap cs (omega arith))
 
-  low : (d : ℕ) → cs d ≤ 65536
+  low : (d : ℕ) → cs d ≤ 1048576
   low = limits-low p.path n sized.wide some (omega (arith, fills, high))
 
   limits : (e : Sum) → IsItem p cs m n e → LimitsAt c p cs n e
@@ -150,7 +150,7 @@ module _ (c : Request) (p : PlainPass) (valid : IsValid c) (shape : IsShaped c c
   natural : (e : Sum) → IsItem p cs m n e → IsBounded cs m c.size (place_sum p.path n 0 e)
   natural e item = subst (λ k. IsBounded cs m k (place_sum p.path n 0 e)) fills (place-bounded cs m p.path n 0 e (omega arith) some counts item.bounded)
 
-  coded : (size : ℕ) (e g : Sum) → size ≤ 65536 → IsItem p cs m n e → IsWithinLimits cs size e g → IsBounded cs m size g → CanBeCoded cs g
+  coded : (size : ℕ) (e g : Sum) → size ≤ 1048576 → IsItem p cs m n e → IsWithinLimits cs size e g → IsBounded cs m size g → CanBeCoded cs g
   coded size e g small item within bounded =
       let few = within.parts in
       let flat = within.levels in
@@ -171,7 +171,7 @@ module _ (c : Request) (p : PlainPass) (valid : IsValid c) (shape : IsShaped c c
   scatters-coded = places-coded p.afters _ sized.afters (λ e item. (limits e item).scatters) (items-out c p valid shape frame)
 
   -- the diagonal's size
-  pub factors-few : (d : PlainDiagonal) → p.diagonal ≡ Some d → (2 ≤ d.rows * d.cols) × (d.rows * d.cols ≤ 65536)
+  pub factors-few : (d : PlainDiagonal) → p.diagonal ≡ Some d → (2 ≤ d.rows * d.cols) × (d.rows * d.cols ≤ 1048576)
   factors-few d is =
       let s = sized.multiplies d is in
       let two = s.two in

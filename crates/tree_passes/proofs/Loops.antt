@@ -17,10 +17,10 @@ under-positive path n wide h = omega (arith, under-least path n wide h)
 
 -- a tensor's count, and the size under it
 record FitsUnder (t : Tensor) (path : Path) (n : ℕ) : Type 0 where
-  count : count_of t ≤ 65536
-  rest : size_under path n ≤ 65536
+  count : count_of t ≤ 1048576
+  rest : size_under path n ≤ 1048576
 
-fits-under : (t : Tensor) (path : Path) (n : ℕ) → IsWide (t ∷ path) → 0 < n → size_under (t ∷ path) n ≤ 65536 → FitsUnder t path n
+fits-under : (t : Tensor) (path : Path) (n : ℕ) → IsWide (t ∷ path) → 0 < n → size_under (t ∷ path) n ≤ 1048576 → FitsUnder t path n
 fits-under (Blocks c) path n wide h high =
     let count : c ≤ c * size_under path n = le-mul_of_pos_right {m = size_under path n} c (under-positive path n wide.1 h) in
     let rest : size_under path n ≤ size_under path n * c = le-mul_of_pos_right {m = c} (size_under path n) (omega (arith, wide.0)) in
@@ -32,9 +32,9 @@ fits-under (Columns c) path n wide h high =
 
 -- what a loop's count may be
 abbrev pub IsCount : ℕ → Type 0
-IsCount k = (2 ≤ k) × (k ≤ 65536)
+IsCount k = (2 ≤ k) × (k ≤ 1048576)
 
-pub loop-counts : (path : Path) (n : ℕ) → IsWide path → 0 < n → size_under path n ≤ 65536 → All IsCount (map count_of path)
+pub loop-counts : (path : Path) (n : ℕ) → IsWide path → 0 < n → size_under path n ≤ 1048576 → All IsCount (map count_of path)
 loop-counts [] n wide h high = All-nil IsCount
 loop-counts (t ∷ path) n wide h high =
     let f = fits-under t path n wide h high in
@@ -55,7 +55,7 @@ length-tensors [] = refl
 length-tensors (t ∷ path) = ap suc (length-tensors path)
 
 -- what the variables of a nest run below
-pub limits-low : (path : Path) (n : ℕ) → IsWide path → 0 < n → size_under path n ≤ 65536 → (i : ℕ) → slice_index (map count_of path ++ n ∷ n ∷ []) i ≤ 65536
+pub limits-low : (path : Path) (n : ℕ) → IsWide path → 0 < n → size_under path n ≤ 1048576 → (i : ℕ) → slice_index (map count_of path ++ n ∷ n ∷ []) i ≤ 1048576
 limits-low [] n wide h high zero = high
 limits-low [] n wide h high (suc zero) = high
 limits-low [] n wide h high (suc (suc i)) = omega arith
@@ -73,10 +73,10 @@ path-weight (Columns c ∷ path) n wide h =
     let more : 2 ^ suc (length path) ≤ c * size_under path n = twice (length path) c (size_under path n) wide.0 (path-weight path n wide.1 h) in
     subst (λ x. 2 ^ suc (length path) ≤ x) (sym turned) more
 
-pub weight-small : (k : ℕ) → 2 ^ k ≤ 65536 → k ≤ 16
+pub weight-small : (k : ℕ) → 2 ^ k ≤ 1048576 → k ≤ 20
 weight-small k h =
-    elim (cases_lt 16 k) [
-      | inl large ↦ let low : 2 ^ 17 ≤ 2 ^ k = pow_mono {i = 17} {j = k} (omega arith) in absurd (omega arith)
+    elim (cases_lt 20 k) [
+      | inl large ↦ let low : 2 ^ 21 ≤ 2 ^ k = pow_mono {i = 21} {j = k} (omega arith) in absurd (omega arith)
       | inr small ↦ small
     ]
 

@@ -63,11 +63,11 @@ factor-small : (k d n : ℕ) → 0 < d → k * d ≡ n → k ≤ n
 factor-small k d n some is = let more : k ≤ k * d = le-mul_of_pos_right {m = d} k some in omega arith
 
 -- a sum of multiples of both parts, modulo n
-mixed-bounded : (cs : ℕ → ℕ) (m n r s a b : ℕ) (z : Divided) → 2 ≤ n → n ≤ 65536 → AreBounded cs m r s z → IsTame cs m (joined (scaled a z.quot) (scaled b z.rem))
+mixed-bounded : (cs : ℕ → ℕ) (m n r s a b : ℕ) (z : Divided) → 2 ≤ n → n ≤ 1048576 → AreBounded cs m r s z → IsTame cs m (joined (scaled a z.quot) (scaled b z.rem))
 mixed-bounded cs m n r s a b z two small h =
     tame-joined cs m (scaled a z.quot) (scaled b z.rem) (tame-scaled cs m a z.quot (bounded-tame cs m r z.quot h.quot)) (tame-scaled cs m b z.rem (bounded-tame cs m s z.rem h.rem))
 
-taken-apart : (cs : ℕ → ℕ) (m n r s : ℕ) (e : Sum) → n ≤ 65536 → 0 < r → 2 ≤ s → r * s ≡ n → IsBounded cs m n e → AreBounded cs m r s (divided cs s e)
+taken-apart : (cs : ℕ → ℕ) (m n r s : ℕ) (e : Sum) → n ≤ 1048576 → 0 < r → 2 ≤ s → r * s ≡ n → IsBounded cs m n e → AreBounded cs m r s (divided cs s e)
 taken-apart cs m n r s e small some two is h =
     let low : s ≤ n = divisor-small r s n some is in
     divided-bounded cs m r s e some two (omega arith) (omega arith) (subst (λ k. IsBounded cs m k e) (sym is) h)
@@ -81,7 +81,7 @@ paired-bounded : (cs : ℕ → ℕ) (m n k c d : ℕ) (a e : Sum) → 0 < d → 
 paired-bounded cs m n k c d a e some same is h g =
     subst (λ i. IsBounded cs m n (joined (scaled i a) e)) (sym same) (subst (λ i. IsBounded cs m i (joined (scaled d a) e)) is (bounded-parts cs m k d a e some h g))
 
-pub simplified-bounded : (cs : ℕ → ℕ) (m n : ℕ) (f : Mapping) (e : Sum) → n ≤ 65536 → IsSized n f → IsBounded cs m n e → IsBounded cs m n (simplified cs f e)
+pub simplified-bounded : (cs : ℕ → ℕ) (m n : ℕ) (f : Mapping) (e : Sum) → n ≤ 1048576 → IsSized n f → IsBounded cs m n e → IsBounded cs m n (simplified cs f e)
 simplified-bounded cs m n Same e small sized h = h
 simplified-bounded cs m n (Always value) e small sized h = absurd sized
 simplified-bounded cs m n (Line base by) e small sized h = absurd sized
@@ -112,12 +112,12 @@ simplified-bounded cs m n (Paired f c g d) e small sized h =
     (simplified-bounded cs m d g (divided cs d e).rem (omega arith) sized.6 apart.rem)
 simplified-bounded cs m n (After f g) e small sized h = absurd sized
 
-pub all-bounded : (cs : ℕ → ℕ) (m n : ℕ) (fs : List Mapping) (e : Sum) → n ≤ 65536 → AreSized n fs → IsBounded cs m n e → IsBounded cs m n (all_simplified cs fs e)
+pub all-bounded : (cs : ℕ → ℕ) (m n : ℕ) (fs : List Mapping) (e : Sum) → n ≤ 1048576 → AreSized n fs → IsBounded cs m n e → IsBounded cs m n (all_simplified cs fs e)
 all-bounded cs m n [] e small sized h = h
 all-bounded cs m n (f ∷ fs) e small sized h = all-bounded cs m n fs (simplified cs f e) small sized.1 (simplified-bounded cs m n f e small sized.0 h)
 
 -- which item of its copy stands there
-pub inner-bounded : (cs : ℕ → ℕ) (m : ℕ) (path : Path) (n : ℕ) (e : Sum) → IsWide path → 2 ≤ n → size_under path n ≤ 65536 → IsBounded cs m (size_under path n) e → IsBounded cs m n (simplified cs (inner_of path n) e)
+pub inner-bounded : (cs : ℕ → ℕ) (m : ℕ) (path : Path) (n : ℕ) (e : Sum) → IsWide path → 2 ≤ n → size_under path n ≤ 1048576 → IsBounded cs m (size_under path n) e → IsBounded cs m n (simplified cs (inner_of path n) e)
 inner-bounded cs m [] n e wide two small h = h
 inner-bounded cs m (Blocks c ∷ path) n e wide two small h =
     let size = size_under path n in

@@ -14,50 +14,50 @@ use Rattle.perm_algebra.specs.Room.{constant_of}
 use Rattle.tree_passes.proofs.Bounded.{IsBounded}
 
 -- a part before others
-part-le : (b : Bool) (f more p : ℕ) → f ≤ 65536 → more ≤ p * 65536 → (if b then f + more else more) ≤ (1 + p) * 65536
+part-le : (b : Bool) (f more p : ℕ) → f ≤ 1048576 → more ≤ p * 1048576 → (if b then f + more else more) ≤ (1 + p) * 1048576
 part-le true f more p low rest = omega arith
 part-le false f more p low rest = omega arith
 
-low-product : (a b : ℕ) → a ≤ 65536 → b ≤ 65536 → a * b ≤ 4294967296
-low-product a b h g = mul-le a b 65536 65536 h g
+low-product : (a b : ℕ) → a ≤ 1048576 → b ≤ 1048576 → a * b ≤ 1099511627776
+low-product a b h g = mul-le a b 1048576 1048576 h g
 
-module _ (cs : ℕ → ℕ) (m : ℕ) (low : (d : ℕ) → cs d ≤ 65536) where
-  factor-le : (n d : ℕ) (e : Sum) → n ≤ 65537 → HasNoQuotient e → IsBounded cs m n e → factor_at d e ≤ parts e * 65536
+module _ (cs : ℕ → ℕ) (m : ℕ) (low : (d : ℕ) → cs d ≤ 1048576) where
+  factor-le : (n d : ℕ) (e : Sum) → n ≤ 1048577 → HasNoQuotient e → IsBounded cs m n e → factor_at d e ≤ parts e * 1048576
   factor-le n d (constant c) small plain h = omega arith
   factor-le n d (variable f x rest) small plain h = part-le (d == x) f (factor_at d rest) (parts rest) (let below = h.0 in omega arith) (factor-le n d rest small plain h.3)
   factor-le n d (remainder f of k rest) small plain h = let below = factor-le n d rest small plain.1 h.5 in omega arith
   factor-le n d (quotient f of k rest) small plain h = absurd plain
 
-  constant-le : (n : ℕ) (e : Sum) → n ≤ 65537 → HasNoQuotient e → IsBounded cs m n e → constant_of e ≤ 65536
+  constant-le : (n : ℕ) (e : Sum) → n ≤ 1048577 → HasNoQuotient e → IsBounded cs m n e → constant_of e ≤ 1048576
   constant-le n (constant c) small plain h = omega arith
   constant-le n (variable f x rest) small plain h = constant-le n rest small plain h.3
   constant-le n (remainder f of k rest) small plain h = constant-le n rest small plain.1 h.5
   constant-le n (quotient f of k rest) small plain h = absurd plain
 
-  top-le : (n : ℕ) (e : Sum) → n ≤ 65537 → HasNoQuotient e → IsBounded cs m n e → top e cs ≤ 65536 + parts e * 4294967296
+  top-le : (n : ℕ) (e : Sum) → n ≤ 1048577 → HasNoQuotient e → IsBounded cs m n e → top e cs ≤ 1048576 + parts e * 1099511627776
   top-le n (constant c) small plain h = omega arith
   top-le n (variable f x rest) small plain h =
       let count = low x in
       let factor = h.0 in
-      let part : f * (cs x - 1) ≤ 4294967296 = low-product f (cs x - 1) (omega arith) (omega arith) in
+      let part : f * (cs x - 1) ≤ 1099511627776 = low-product f (cs x - 1) (omega arith) (omega arith) in
       let more = top-le n rest small plain h.3 in
       omega (arith, part, more)
   top-le n (remainder f of k rest) small plain h =
       let factor = h.1 in
       let divisor = h.3 in
-      let part : f * (k - 1) ≤ 4294967296 = low-product f (k - 1) (omega arith) (omega arith) in
+      let part : f * (k - 1) ≤ 1099511627776 = low-product f (k - 1) (omega arith) (omega arith) in
       let more = top-le n rest small plain.1 h.5 in
       omega (arith, part, more)
   top-le n (quotient f of k rest) small plain h = absurd plain
 
-  has-small : (n : ℕ) (e : Sum) → n ≤ 65537 → HasNoQuotient e → IsBounded cs m n e → parts e ≤ 64 → HasSmall e
+  has-small : (n : ℕ) (e : Sum) → n ≤ 1048577 → HasNoQuotient e → IsBounded cs m n e → parts e ≤ 64 → HasSmall e
   has-small n e small plain h few =
       record {
         constant_is = let below = constant-le n e small plain h in omega arith;
         factors = λ d. let below = factor-le n d e small plain h in omega (arith, below, few);
       }
 
-  divides-small : (n : ℕ) (e : Sum) → n ≤ 65537 → HasNoQuotient e → IsBounded cs m n e → parts e ≤ 64 → DividesSmall e
+  divides-small : (n : ℕ) (e : Sum) → n ≤ 1048577 → HasNoQuotient e → IsBounded cs m n e → parts e ≤ 64 → DividesSmall e
   divides-small n (constant c) small plain h few = tt
   divides-small n (variable f x rest) small plain h few = divides-small n rest small plain h.3 (omega (arith, few))
   divides-small n (remainder f of k rest) small plain h few =
@@ -66,33 +66,33 @@ module _ (cs : ℕ → ℕ) (m : ℕ) (low : (d : ℕ) → cs d ≤ 65536) where
       let divisor = h.3 in (
         (h.0, omega arith),
         (omega arith, omega arith),
-        has-small 65537 of (omega arith) plain.0 h.4 (omega (arith, few)),
-        divides-small 65537 of (omega arith) plain.0 h.4 (omega (arith, few)),
+        has-small 1048577 of (omega arith) plain.0 h.4 (omega (arith, few)),
+        divides-small 1048577 of (omega arith) plain.0 h.4 (omega (arith, few)),
         divides-small n rest small plain.1 h.5 (omega (arith, few)),
       )
   divides-small n (quotient f of k rest) small plain h few = absurd plain
 
-  top-word : (n : ℕ) (e : Sum) → n ≤ 65537 → HasNoQuotient e → IsBounded cs m n e → parts e ≤ 64 → top e cs < 2 ^ 64
+  top-word : (n : ℕ) (e : Sum) → n ≤ 1048577 → HasNoQuotient e → IsBounded cs m n e → parts e ≤ 64 → top e cs < 2 ^ 64
   top-word n e small plain h few = let below = top-le n e small plain h in omega (arith, below, few)
 
-  divides-words : (n : ℕ) (e : Sum) → n ≤ 65537 → HasNoQuotient e → IsBounded cs m n e → parts e ≤ 64 → DividesWords cs e
+  divides-words : (n : ℕ) (e : Sum) → n ≤ 1048577 → HasNoQuotient e → IsBounded cs m n e → parts e ≤ 64 → DividesWords cs e
   divides-words n (constant c) small plain h few = tt
   divides-words n (variable f x rest) small plain h few = divides-words n rest small plain h.3 (omega (arith, few))
   divides-words n (remainder f of k rest) small plain h few = (
-    top-word 65537 of (omega arith) plain.0 h.4 (omega (arith, few)),
-    divides-words 65537 of (omega arith) plain.0 h.4 (omega (arith, few)),
+    top-word 1048577 of (omega arith) plain.0 h.4 (omega (arith, few)),
+    divides-words 1048577 of (omega arith) plain.0 h.4 (omega (arith, few)),
     divides-words n rest small plain.1 h.5 (omega (arith, few)),
   )
   divides-words n (quotient f of k rest) small plain h few = absurd plain
 
-  can-write : (n : ℕ) (e : Sum) → n ≤ 65537 → HasNoQuotient e → IsBounded cs m n e → parts e ≤ 64 → CanWrite e
+  can-write : (n : ℕ) (e : Sum) → n ≤ 1048577 → HasNoQuotient e → IsBounded cs m n e → parts e ≤ 64 → CanWrite e
   can-write n (constant c) small plain h few = tt
   can-write n (variable f x rest) small plain h few =
       (λ d. let below = factor-le n d (variable f x rest) small plain h in omega (arith, below, few), can-write n rest small plain h.3 (omega (arith, few)))
-  can-write n (remainder f of k rest) small plain h few = (can-write 65537 of (omega arith) plain.0 h.4 (omega (arith, few)), can-write n rest small plain.1 h.5 (omega (arith, few)))
+  can-write n (remainder f of k rest) small plain h few = (can-write 1048577 of (omega arith) plain.0 h.4 (omega (arith, few)), can-write n rest small plain.1 h.5 (omega (arith, few)))
   can-write n (quotient f of k rest) small plain h few = absurd plain
 
-  pub bounded-coded : (n : ℕ) (e : Sum) → n ≤ 65537 → HasNoQuotient e → IsBounded cs m n e → parts e ≤ 64 → levels e ≤ 64 → CanBeCoded cs e
+  pub bounded-coded : (n : ℕ) (e : Sum) → n ≤ 1048577 → HasNoQuotient e → IsBounded cs m n e → parts e ≤ 64 → levels e ≤ 64 → CanBeCoded cs e
   bounded-coded n e small plain h few flat =
       record {
         small = record { whole = has-small n e small plain h few; divided = divides-small n e small plain h few; few = few; flat = flat };

@@ -80,7 +80,7 @@ pub record IsNode (c : Request) (t : Breakdown) : Type 0 where
   pub formed : IsWellFormed c.kind t
   pub divides : c.size % size_of t ≡ 0
   pub some : 0 < size_of t
-  pub small : size_of t ≤ 65536
+  pub small : size_of t ≤ 1048576
 
 module _ (c : Request) (p : PlainPass) (valid : IsValid c) (shape : IsShaped c c.size p) (frame : IsFramed c p) where
   module _ (t : Breakdown) (is : p.work ≡ transforming t) where

@@ -175,7 +175,7 @@ module _ (c : Request) (p : PlainPass) (valid : IsValid c) (known : IsKnown c p)
 
   -- ---- statements
 
-  high : c.size ≤ 65536
+  high : c.size ≤ 1048576
   high = valid.in_range.size.1
 
   fills : size_under p.path (works.work_size w) ≡ c.size
@@ -184,19 +184,19 @@ module _ (c : Request) (p : PlainPass) (valid : IsValid c) (known : IsKnown c p)
   all-counts : All IsCount (map count_of p.path)
   all-counts = loop-counts p.path (works.work_size w) known.sized.wide known.loop.some (omega (arith, fills, high))
 
-  few-loops : length p.path ≤ 16
+  few-loops : length p.path ≤ 20
   few-loops =
       let weight = path-weight p.path (works.work_size w) known.sized.wide known.loop.some in
       weight-small (length p.path) (omega (arith, weight, fills, high))
 
-  shallow : length (loop_counts h z) ≤ 16
+  shallow : length (loop_counts h z) ≤ 20
   shallow =
       let dropped = length-drop (first_loop h w) (map count_of p.path) in
       let all = length-tensors p.path in
       let few = few-loops in
       omega (arith, dropped, all, few)
 
-  pub n-small : works.work_size w ≤ 65536
+  pub n-small : works.work_size w ≤ 1048576
   n-small = let least = under-least p.path (works.work_size w) known.sized.wide known.loop.some in omega (arith, least, fills, high)
 
   -- the nest with other work
