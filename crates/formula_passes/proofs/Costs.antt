@@ -1,9 +1,11 @@
 -- The registers, operations, loads and tables of a formula's passes.
-use Rattle.std.proofs.Common.{◌≡◌, ℕ, zero, suc, ◌+◌, ◌-◌, ◌*◌, ◌^◌, ◌<◌, ◌≤◌, Bool, true, false, List, [], ◌∷◌, length, map, sym, ap, ◌∙◌, arith, Option, Some, None, if◌then◌else◌}
-use Rattle.std.specs.Prelude.{◌==◌, max}
-use Rattle.std.proofs.Math.Nat.{mul-le-mul, mul-le-mul_left}
+use Rattle.std.proofs.Common.{◌≡◌, ℕ, zero, suc, ◌+◌, ◌-◌, ◌*◌, ◌/◌, ◌^◌, ◌<◌, ◌≤◌, Bool, true, false, List, [], ◌∷◌, length, map, sym, subst, ap, ◌∙◌, arith, Option, Some, None, if◌then◌else◌}
+use Rattle.std.specs.Prelude.{◌==◌, max, nat_le, nat_lt}
+use Rattle.std.proofs.Math.Nat.{mul-le-mul, mul-le-mul_left, mul-le-mul_right}
 use Rattle.code_laws.specs.Lanes.{operations}
 use Rattle.code_laws.proofs.ByLane.{weight_of_one}
+use Rattle.formula_lower.specs.Operations as formulas
+use Rattle.formula_lower.specs.Terms.{halvings}
 use Rattle.kernel_gen.specs.Kernel.{AllowsRoot, kernel_cost, kernel_of, product_cost, products_cost}
 use Rattle.kernel_gen.proofs.Kernels.{firsts}
 use Rattle.kernel_gen.proofs.Pieces.{DoesAt}
@@ -21,6 +23,8 @@ use Rattle.passes.specs.Counts.{copies_in, multiplier_cost}
 use Rattle.passes.specs.Nest.{PlainMultiplier, PlainNest, copies_of}
 use Rattle.passes.specs.Work.{PlainWork, kernel, rows, horner, tile, copy, work_size}
 use Rattle.passes.proofs.Counting.{items_of}
+use Rattle.spl_ast.specs.Formula.{Formula, Identity, Fourier, Hadamard, Twiddles, Diagonal, Stride, Permutation, GoodThomasIn, GoodThomasOut, Product, TensorLeft, TensorRight, DirectSum, Pending, size_of, parts_of}
+use Rattle.spl_ast.specs.Shape.{IsShaped}
 use Rattle.tree_model.specs.Breakdown.{leaf, node}
 use Rattle.formula_passes.proofs.Counted.{work_tables, diagonal_tables, nests_tables, all_tables}
 use Rattle.formula_passes.proofs.Made.{IsFormulaWork, AreMade}
@@ -90,50 +94,67 @@ square-le : (n : ℕ) → n ≤ n * n
 square-le zero = omega arith
 square-le (suc n) = omega arith
 
--- for each item of a copy twice as many operations as it has items, and as many loads
-record IsModest (m : ℕ) (w : PlainWork) : Type 0 where
-  operations : work_cost 1 m w ≤ 2 * (work_size w * work_size w)
-  loads : work_loads w ≤ work_size w * work_size w
+-- each copy loads at most so many words as it has operations and items
+loads-le : (m : ℕ) (w : PlainWork) → IsFormulaWork w → work_loads w ≤ work_cost 1 m w + work_size w
+loads-le m (kernel kind root t) work = omega arith
+loads-le m (rows root d) work = absurd work
+loads-le m (horner root d) work = omega arith
+loads-le m (tile v) work = absurd work
+loads-le m (copy d) work = omega arith
 
-modest : (m : ℕ) (w : PlainWork) → IsFormulaWork w → IsModest m w
-modest m (kernel kind root (leaf d)) work = let price = leaf-cost m d root kind in record { operations = omega (arith, price); loads = square-le d }
-modest m (kernel kind root (node rule a b)) work = absurd work
-modest m (rows root d) work = absurd work
-modest m (horner root d) work = record { operations = omega arith; loads = omega arith }
-modest m (tile v) work = absurd work
-modest m (copy d) work = record { operations = omega arith; loads = square-le d }
-
-multiplier-le : (o : Option PlainMultiplier) (w : PlainWork) → multiplier_cost 1 o w ≤ work_size w
-multiplier-le None w = omega arith
-multiplier-le (Some d) w = omega arith
-
-spread-le : (copies n cost more loads : ℕ) → n ≤ 1048576 → cost ≤ 2 * (n * n) → more ≤ n → loads ≤ n * n → copies * (cost + more) + copies * loads ≤ copies * n * 196609
-spread-le copies n cost more loads small low one each =
-    let all : cost + more + loads ≤ n * (3 * n + 1) = omega (arith, low, one, each) in
-    let bound : n * (3 * n + 1) ≤ n * 196609 = mul-le-mul_left n (omega (arith, small)) in
-    let product : copies * (cost + more + loads) ≤ copies * (n * 196609) = mul-le-mul_left copies (omega (arith, all, bound)) in
-    let cut : copies * (cost + more + loads) ≡ copies * (cost + more) + copies * loads = omega arith in
-    let turned : copies * (n * 196609) ≡ copies * n * 196609 = omega arith in
-    omega (arith, product, cut, turned)
-
--- where each nest has few items a copy
-abbrev pub AreSmall : List PlainNest → Type 0
-AreSmall [] = Unit {0}
-AreSmall (z ∷ zs) = (work_size z.work ≤ 1048576) × AreSmall zs
-
-pub pass-modest : (m : ℕ) (zs : List PlainNest) → AreMade m zs → AreSmall zs → pass_cost 1 m zs + pass_loads zs ≤ items_of (map (copies_of m) zs) * 196609
-pass-modest m [] made small = omega arith
-pass-modest m (z ∷ zs) made small =
+pub pass-loads-le : (m : ℕ) (zs : List PlainNest) → AreMade m zs → pass_loads zs ≤ pass_cost 1 m zs + items_of (map (copies_of m) zs)
+pass-loads-le m [] made = omega arith
+pass-loads-le m (z ∷ zs) made =
     let copies = copies_in z.counts in
-    let size = work_size z.work in
-    let cost = work_cost 1 m z.work in
-    let more = multiplier_cost 1 z.multiplier z.work in
-    let loads = work_loads z.work in
-    let w = modest m z.work made.0.work in
-    let first : copies * (cost + more) + copies * loads ≤ copies * size * 196609 = spread-le copies size cost more loads small.0 w.operations (multiplier-le z.multiplier z.work) w.loads in
-    let rest = pass-modest m zs made.1 small.1 in
-    let cut : (copies * size + items_of (map (copies_of m) zs)) * 196609 ≡ copies * size * 196609 + items_of (map (copies_of m) zs) * 196609 = omega arith in
-    omega (arith, first, rest, cut)
+    let cost = work_cost 1 m z.work + multiplier_cost 1 z.multiplier z.work in
+    let one = loads-le m z.work made.0.work in
+    let each : work_loads z.work ≤ cost + work_size z.work = omega (arith, one) in
+    let first : copies * work_loads z.work ≤ copies * (cost + work_size z.work) = mul-le-mul_left copies each in
+    let cut : copies * (cost + work_size z.work) ≡ copies * cost + copies * work_size z.work = omega arith in
+    let rest = pass-loads-le m zs made.1 in
+    omega (arith, first, cut, rest)
+
+-- ---- operations of a formula
+
+either-le : (b : Bool) (x y z : ℕ) → x ≤ z → y ≤ z → (if b then x else y) ≤ z
+either-le true x y z first second = first
+either-le false x y z first second = second
+
+halvings-le : (b n : ℕ) → halvings b n ≤ b
+halvings-le zero n = omega arith
+halvings-le (suc b) n = let rest = halvings-le b (n / 2) in either-le (nat_lt n 2) 0 (suc (halvings b (n / 2))) (suc b) (omega arith) (omega (arith, rest))
+
+under-le : (k s p x : ℕ) → x ≤ 2 * (s * s) * p → k * x ≤ 2 * ((k * s) * (k * s)) * p
+under-le k s p x h =
+    let one : k * x ≤ k * (2 * (s * s) * p) = mul-le-mul_left k h in
+    let more : k * (2 * (s * s) * p) ≤ k * k * (2 * (s * s) * p) = mul-le-mul_right (2 * (s * s) * p) (square-le k) in
+    let turned : k * k * (2 * (s * s) * p) ≡ 2 * ((k * s) * (k * s)) * p = omega arith in
+    omega (arith, one, more, turned)
+
+-- for each of its parts at most twice as many as a matrix of its size has entries
+pub operations-le : (m : ℕ) (f : Formula) → IsShaped f → formulas.operations 1 m f ≤ 2 * (size_of f * size_of f) * (parts_of f + 1)
+operations-le m (Identity n) shaped = omega arith
+operations-le m (Fourier n w) shaped =
+    let short = leaf-size n (products_cost 1 m 0 (entry_of Dft m w) n n) (products-le m n (entry_of Dft m w)) in
+    either-le (nat_le n 8) (n * (n - 1) + products_cost 1 m 0 (entry_of Dft m w) n n) ((1 + 1) * n * n) (2 * (n * n) * (0 + 1)) (omega (arith, short)) (omega arith)
+operations-le m (Hadamard n) shaped = let each : n * halvings n n ≤ n * n = mul-le-mul_left n (halvings-le n n) in omega (arith, each)
+operations-le m (Twiddles n s w) shaped = let square = square-le n in omega (arith, square)
+operations-le m (Diagonal c) shaped = let square = square-le (length c) in omega (arith, square)
+operations-le m (Stride n r) shaped = omega arith
+operations-le m (Permutation k) shaped = omega arith
+operations-le m (GoodThomasIn r s) shaped = omega arith
+operations-le m (GoodThomasOut r s) shaped = omega arith
+operations-le m (Product a b) shaped =
+    let first = operations-le m a shaped.0 in
+    let second = subst (λ n. formulas.operations 1 m b ≤ 2 * (n * n) * (parts_of b + 1)) (sym shaped.2) (operations-le m b shaped.1) in
+    omega (arith, first, second)
+operations-le m (TensorLeft a k) shaped = let all = under-le k (size_of a) (parts_of a + 1) (formulas.operations 1 m a) (operations-le m a shaped.0) in omega (arith, all)
+operations-le m (TensorRight k a) shaped = let all = under-le k (size_of a) (parts_of a + 1) (formulas.operations 1 m a) (operations-le m a shaped.1) in omega (arith, all)
+operations-le m (DirectSum a b) shaped =
+    let first = operations-le m a shaped.0 in
+    let second = operations-le m b shaped.1 in
+    omega (arith, first, second)
+operations-le m (Pending a) shaped = let inner = operations-le m a shaped in omega (arith, inner)
 
 -- ---- tables
 

@@ -1,33 +1,34 @@
 -- Programs can be made of the passes of every formula.
 use Rattle.std.proofs.Common.{◌≡◌, ℕ, zero, suc, ◌+◌, ◌*◌, ◌%◌, ◌^◌, ◌<◌, ◌≤◌, true, List, [], ◌∷◌, ◌++◌, All, length, map, refl, sym, ap, ◌∙◌, arith, subst, inl, inr, mod-lt}
 use Rattle.std.specs.Prelude.{slice_index}
-use Rattle.std.proofs.Math.Nat.{mul-le-mul, mul-le-mul_right}
+use Rattle.std.proofs.Math.Nat.{mul-le-mul}
 use Rattle.std.proofs.Math.Pow.{pow_mono}
 use Rattle.std.proofs.lemmas.Bool.{cases_lt}
 use Rattle.std.proofs.lemmas.Bool.Decides.{nat_tests}
 use Rattle.std.proofs.lemmas.List.Elements.{All-nil, All-cons, All-head, All-tail}
+use Rattle.formula_lower.specs.Operations.{operations}
 use Rattle.formula_lower.specs.Terms.{one_more, halvings, hadamard_term, fourier_term, term_of}
 use Rattle.formula_lower.proofs.Compiling.{formulas_compile}
 use Rattle.formula_lower.proofs.Lowers.{halvings-power, power-above, lowers}
 use Rattle.formula_lower.proofs.Several.{term-several}
 use Rattle.formula_passes.specs.Laws.{FormulasCanProgram}
-use Rattle.formula_passes.proofs.Coded.{plain-nests, some-copies}
-use Rattle.formula_passes.proofs.Costs.{AreSmall, pass-few, pass-modest, passes-grown}
+use Rattle.formula_passes.proofs.Coded.{plain-nests}
+use Rattle.formula_passes.proofs.Costs.{operations-le, pass-few, pass-loads-le, passes-grown}
 use Rattle.formula_passes.proofs.Counted.{all_tables, tables-append, sums_in, makers_in, steps_in, passes-few}
 use Rattle.formula_passes.proofs.Made.{AreMade, AllMade}
 use Rattle.formula_passes.proofs.Merging.{IsFormulaTerm, passes-made}
 use Rattle.matrix_meaning.specs.declared.Kind.TheVariants.{Dft}
 use Rattle.matrix_meaning.specs.Kind.{IsPowerOfTwo}
-use Rattle.pass_actions.specs.Costs.{pass_cost, pass_loads}
+use Rattle.pass_actions.specs.Costs.{work_cost}
 use Rattle.pass_actions.specs.Machine.{plain_machine}
 use Rattle.pass_programs.specs.Contract.{most_actions}
-use Rattle.passes.specs.Counts.{copies_in}
+use Rattle.passes.specs.Counts.{passes_cost}
 use Rattle.passes.specs.Good.{AreGoodPasses, IsGoodPass}
 use Rattle.passes.specs.Limits.{AreWithin}
 use Rattle.passes.specs.Merge.{most, if_any, is_within, passes_of}
 use Rattle.passes.specs.Nest.{PlainNest, copies_of}
 use Rattle.passes.specs.Term.{nest}
-use Rattle.passes.specs.Work.{kernel, horner, work_size}
+use Rattle.passes.specs.Work.{kernel, horner}
 use Rattle.passes.proofs.Counting.{items_of, items-once}
 use Rattle.passes.proofs.Nests.{all-inside}
 use Rattle.program_laws.specs.Plain.{IsPlainPass, in_order}
@@ -150,12 +151,6 @@ term-counted m path (Pending a) shaped =
 
 -- ---- all passes
 
-small-nests : (m : ℕ) (zs : List PlainNest) → AreMade m zs → items_of (map (copies_of m) zs) ≤ 1048576 → AreSmall zs
-small-nests m [] made high = tt
-small-nests m (z ∷ zs) made high =
-    let one : 1 * work_size z.work ≤ copies_in z.counts * work_size z.work = mul-le-mul_right (work_size z.work) (some-copies z.counts made.0.counts) in
-    (omega (arith, one, high), small-nests m zs made.1 (omega (arith, high)))
-
 all-one : (P : List PlainNest → Type 0) (ps : List (List PlainNest)) (zs : List PlainNest) → All P ps → P zs → All P (ps ++ zs ∷ [])
 all-one P [] zs h one = All-cons P zs [] one (All-nil P)
 all-one P (ys ∷ ps) zs h one = All-cons P ys (ps ++ zs ∷ []) (All-head P ys ps h) (all-one P ps zs (All-tail P ys ps h) one)
@@ -175,22 +170,25 @@ module _ (m n : ℕ) (large : 2 ≤ m) (some : 0 < n) (high : n ≤ 1048576) whe
 
   -- ---- actions
 
-  pass-actions : (zs : List PlainNest) → AreMade m zs → IsGoodPass 0 m n zs → pass_cost 1 m zs + pass_loads zs + 2 * n ≤ 2 ^ 34
-  pass-actions zs made good =
-      let items = all-items zs good in
-      let modest = pass-modest m zs made (small-nests m zs made (omega (arith, items, high))) in
-      omega (arith, modest, items, high)
-
   actions-append : (ps qs : List (List PlainNest)) → most_actions (plain_machine n m) (ps ++ qs) ≡ most_actions (plain_machine n m) ps + most_actions (plain_machine n m) qs
   actions-append [] qs = omega arith
   actions-append (zs ∷ ps) qs = let rest = actions-append ps qs in omega (arith, rest)
 
-  passes-actions : (ps : List (List PlainNest)) → AllMade m ps → AreGoodPasses 0 m n ps → most_actions (plain_machine n m) (in_order ps) ≤ 2 ^ 34 * length ps
+  -- operations as often again for the loads, and three actions a word
+  passes-actions : (ps : List (List PlainNest)) → AllMade m ps → AreGoodPasses 0 m n ps → most_actions (plain_machine n m) (in_order ps) ≤ 2 * passes_cost 1 (work_cost 1 m) ps + 3 * n * length ps
   passes-actions [] made good = omega arith
   passes-actions (zs ∷ ps) made good =
-      let first = pass-actions zs made.0 good.0 in
+      let loads = pass-loads-le m zs made.0 in
+      let items = all-items zs good.0 in
       let rest = passes-actions ps made.1 good.1 in
-      let both = actions-append (in_order ps) (zs ∷ []) in omega (arith, first, rest, both)
+      let both = actions-append (in_order ps) (zs ∷ []) in omega (arith, loads, items, rest, both)
+
+few-actions : (n parts steps cost long : ℕ) → n ≤ 1048576 → parts ≤ 65536 → cost ≤ 2 * (n * n) * (parts + 1) → steps ≤ 21 * (parts + 1) → long ≤ steps + 1 → 2 * cost + 3 * n * long < 2 ^ 59
+few-actions n parts steps cost long high few low short most =
+    let square : n * n ≤ 1048576 * 1048576 = mul-le-mul {n₁ = n} {m₁ = n} {n₂ = 1048576} {m₂ = 1048576} high high in
+    let all : n * n * (parts + 1) ≤ 1099511627776 * 65537 = mul-le-mul {n₁ = n * n} {m₁ = parts + 1} {n₂ = 1099511627776} {m₂ = 65537} (omega (arith, square)) (omega (arith, few)) in
+    let words : n * long ≤ 1048576 * 1376279 = mul-le-mul {n₁ = n} {m₁ = long} {n₂ = 1048576} {m₂ = 1376279} high (omega (arith, few, short, most)) in
+    omega (arith, low, all, words)
 
 -- ---- tables
 
@@ -223,6 +221,9 @@ formulas_can_program m f two below shaped few =
     let counted = passes-few (most 64) n t in
     let counts = term-counted m [] f shaped in
     let actions = passes-actions m n two some size.1 ps made compiled.good in
+    let price : passes_cost 1 (work_cost 1 m) ps ≡ operations 1 m f = compiled.cost 1 in
+    let modest = operations-le m f shaped in
+    let short = few-actions n (parts_of f) (steps_in t) (passes_cost 1 (work_cost 1 m) ps) (length ps) size.1 few (omega (arith, price, modest)) counts.steps counted.long in
     let tables = passes-grown m (in_order ps) [] in
     let same = tables-order ps in
     let product = few-product (sums_in t + 1) (makers_in t) (omega (arith, counts.makers, few)) in
@@ -231,6 +232,6 @@ formulas_can_program m f two below shaped few =
       modulus = (two, below);
       some = some-any n _;
       passes = plain-passes m n two some size.1 ps made compiled.good compiled.limits;
-      few = omega (arith, actions, counted.long, counts.steps, few);
+      few = omega (arith, actions, short);
       tables = omega (arith, tables, same, counted.tables, product);
     }
