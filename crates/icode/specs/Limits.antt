@@ -2,6 +2,7 @@
 use Rattle.std.specs.Prelude.{ℕ, ◌+◌, ◌*◌, ◌^◌, ◌<◌, ◌≤◌, List, Bool, true, ◌&&◌, nat_lt, nat_le, max, length, IsTrue}
 use Rattle.std.specs.List.{list_all}
 use Rattle.icode.specs.Plain.{PlainExpr, PlainParts, PlainPart, PlainOp, PlainStmt, PlainBody, PlainProgram, Sum, NoParts, AndParts, Proc, Var, Product, Rem, Quot, Load, Store, Zero, Add, Sub, Neg, MulConst, MulTable, Tile, Loop, Do, NoStmts, AndStmts}
+use Rattle.operators.specs.Sizes.{max_size}
 
 -- numbers of expressions, loops, registers and tables
 abbrev pub is_small : ℕ → Bool
@@ -114,7 +115,7 @@ abbrev pub are_phases_within : ℕ → List PlainBody → Bool
 are_phases_within m phases = nat_lt 0 (length phases) && list_all (λ body. is_body_within m body 0) phases
 
 pub record IsHeaderWithin (size modulus procs line lanes regs : ℕ) : Type 0 where
-  pub of_size : (1 ≤ size) × (size ≤ 1048576)
+  pub of_size : (1 ≤ size) × (size ≤ max_size)
   pub of_modulus : (2 ≤ modulus) × (modulus < 2 ^ 62)
   pub of_procs : (1 ≤ procs) × (procs ≤ 16)
   pub of_line : (1 ≤ line) × (line ≤ 64)

@@ -14,6 +14,7 @@ use Rattle.listing_text.specs.declared.drafts.Refusal.{Refusal}
 use Rattle.listing_text.specs.declared.drafts.Refusal.TheVariants as refusals
 use Rattle.listing_text.specs.Reading.{above_all}
 use Rattle.listing_text.specs.Acts.{PlainAct, Open, Close, Do, act_line_at}
+use Rattle.operators.specs.Sizes.{max_size}
 
 -- ---- the lines outside of phases
 
@@ -33,7 +34,7 @@ is_between low high n = nat_le low n && nat_le n high
 
 abbrev pub is_header_within : Header → Bool
 is_header_within h =
-    is_between 1 1048576 h.size && (is_between 2 (2 ^ 62 - 1) h.modulus && (is_between 1 16 h.procs && (is_between 1 64 h.line && (is_between 1 16 h.lanes && nat_lt h.regs (2 ^ 20)))))
+    is_between 1 max_size h.size && (is_between 2 (2 ^ 62 - 1) h.modulus && (is_between 1 16 h.procs && (is_between 1 64 h.line && (is_between 1 16 h.lanes && nat_lt h.regs (2 ^ 20)))))
 
 abbrev pub outside_words : List (List ℕ × Bool)
 outside_words = (codes "phase\n", true) ∷ (codes "table ", false) ∷ []

@@ -17,6 +17,7 @@ use crate::draft::{Draft, Header, Level};
 use crate::limits::{is_op_within, is_small_positive};
 use grammar::{Cursor, ReadError, Stuck};
 use icode::program::{Op, Stmt};
+use operators::MAX_SIZE;
 use std::alloc::{AllocError, AllocFailed, Global};
 
 /// Why a line is not taken.
@@ -100,7 +101,7 @@ fn is_between(low: u64, high: u64, number: u64) -> bool
 fn is_header_within(header: Header) -> bool
     ensures { result ≡ is_header_within header }
 {
-    is_between(1, 1_048_576, header.size)
+    is_between(1, MAX_SIZE, header.size)
         && (is_between(2, (1 << 62) - 1, header.modulus)
             && (is_between(1, 16, header.procs)
                 && (is_between(1, 64, header.line)

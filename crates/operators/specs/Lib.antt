@@ -1,4 +1,5 @@
 pub mod Identities
 pub mod Loop
 pub mod Operator
+pub mod Sizes
 pub mod Sum

@@ -3,4 +3,7 @@
 
 mod laws;
 
+/// No list that a transform is of has more items.
+pub const MAX_SIZE: u64 = 1_048_576;
+
 pub use laws::{lane_identities, loop_identities, processor_identities};

@@ -9,6 +9,7 @@ use Rattle.icode.specs.declared.action.Action.{Action}
 use Rattle.icode.specs.declared.action.Action.TheVariants.{Load, Store}
 use Rattle.icode.specs.declared.program.Array.{Array}
 use Rattle.icode.specs.declared.program.Array.TheVariants.{X}
+use Rattle.operators.specs.Sizes.{max_size}
 use Rattle.pass_programs.specs.Conditions.{CanWritePass}
 use Rattle.pass_actions.specs.Laws.{IsLoadedBy, IsStoredBy}
 use Rattle.pass_actions.specs.Machine.{PlainMachine}
@@ -65,7 +66,7 @@ most_actions h (zs ∷ ps) = pass_cost 1 h.modulus zs + pass_loads zs + 2 * h.si
 
 -- a machine that programs may be for
 pub record IsHost (h : PlainMachine) : Type 0 where
-  pub size : (1 ≤ h.size) × (h.size ≤ 1048576)
+  pub size : (1 ≤ h.size) × (h.size ≤ max_size)
   pub modulus : (2 ≤ h.modulus) × (h.modulus < 2 ^ 62)
   pub procs : (1 ≤ h.procs) × (h.procs ≤ 16)
   pub line : (1 ≤ h.line) × (h.line ≤ 64)

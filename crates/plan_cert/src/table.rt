@@ -9,6 +9,7 @@ ghost use Rattle.plan_cert.specs.Table.{IsRootOf, IsChosenRow};
 use crate::certificate::Row;
 use crate::rows::is_wanted;
 use memory::NoMemory;
+use operators::MAX_SIZE;
 use plan_search::{Plan, Row as Planned, best_row};
 use std::alloc::Global;
 use tree_model::{Ctx, Rule, Tree};
@@ -44,7 +45,7 @@ fn add_row(c: &Ctx, rows: &mut Vec<Row>, d: u64, plan: &Option<Plan>) -> Result<
     ensures below { OnOk result (HasRowsBelow c.now rows.new.items (d + 1) (length rows.new.items)) }
     ensures chosen { OnOk result (All (IsChosenRow c.now) rows.new.items) }
 {
-    prove!(c.request().size <= Ctx::MAX_SIZE);
+    prove!(c.request().size <= MAX_SIZE);
     let Some(plan) = plan else { unreachable!() };
     if is_wanted(c, d) {
         rows.push(row_of(c, d, plan))?;
@@ -59,7 +60,7 @@ fn row_of(c: &Ctx, d: u64, plan: &Plan) -> Row
     ensures size { result.size ≡ d }
     ensures chosen { IsChosenRow c.now result }
 {
-    prove!(c.request().size <= Ctx::MAX_SIZE);
+    prove!(c.request().size <= MAX_SIZE);
     let (rule, left, right) = root_of(&plan.tree);
     Row {
         size: d,

@@ -8,6 +8,7 @@ ghost use Rattle.plan_search.specs.Search.{IsPlan, IsNoWorse, IsBestOf, AnyTree,
 use crate::plan::Plan;
 use matrix_meaning::Kind;
 use memory::NoMemory;
+use operators::MAX_SIZE;
 use ring_mod::is_coprime;
 use std::alloc::Global;
 use std::cmp::Ordering;
@@ -118,7 +119,7 @@ fn beats(c: &Ctx, next: &Plan, best: &Plan) -> bool
     requires size { size_of (breakdown_of next.now.tree) ≤ c.now.size }
     ensures { MatchBool result (IsNoWorse c.now (breakdown_of next.now.tree) (breakdown_of best.now.tree)) (IsNoWorse c.now (breakdown_of best.now.tree) (breakdown_of next.now.tree)) }
 {
-    prove!(c.request().size <= Ctx::MAX_SIZE);
+    prove!(c.request().size <= MAX_SIZE);
     match next.cost.cmp(&best.cost) {
         Ordering::Less => true,
         Ordering::Equal => before(&next.tree, &best.tree),

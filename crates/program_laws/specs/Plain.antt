@@ -1,5 +1,6 @@
 -- Passes for one processor and one lane, such as those of a formula.
 use Rattle.std.specs.Prelude.{◌≡◌, ℕ, ◌^◌, ◌<◌, ◌≤◌, List, [], ◌∷◌, ◌++◌, length, map, All}
+use Rattle.operators.specs.Sizes.{max_size}
 use Rattle.passes.specs.Copies.{IsInside, StoreOnce}
 use Rattle.passes.specs.Merged.{PlainMerged, merged_on}
 use Rattle.passes.specs.Nest.{PlainNest, copies_of, passes_on}
@@ -33,7 +34,7 @@ pub record IsPlainPass (n m : ℕ) (zs : List PlainNest) : Type 0 where
 
 -- some passes of which a program can be made
 pub record ArePlainPasses (n m : ℕ) (ps : List (List PlainNest)) : Type 0 where
-  pub size : (1 ≤ n) × (n ≤ 1048576)
+  pub size : (1 ≤ n) × (n ≤ max_size)
   pub modulus : (2 ≤ m) × (m < 2 ^ 62)
   pub some : 0 < length ps
   pub passes : All (IsPlainPass n m) (in_order ps)

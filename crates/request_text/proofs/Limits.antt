@@ -10,9 +10,10 @@ use Rattle.request_text.specs.declared.fault.Field.TheVariants.{Size, Mod, Root,
 use Rattle.request_text.specs.declared.fault.RequestFault.{RequestFault}
 use Rattle.request_text.specs.declared.fault.RequestFault.TheVariants.{Syntax, Range, Shape, LanesLine, NotUnit}
 use Rattle.request_text.specs.Line.{request_line}
-use Rattle.request_text.specs.Limits.{◌>>◌, within, below, shaped, divided, most_size, judged}
+use Rattle.request_text.specs.Limits.{◌>>◌, within, below, shaped, divided, judged}
 use Rattle.request_text.specs.Answer.{Answers}
 use Rattle.matrix_meaning.specs.Valid.{IsInRange, HasShape}
+use Rattle.operators.specs.Sizes.{max_size}
 
 pub passes : {A : Type 0} (t : Result (Unit {0}) RequestFault) (n : Result A RequestFault) (q : A) → (t >> n) ≡ Ok q → (t ≡ Ok tt) × (n ≡ Ok q)
 passes (Ok x) n q e = (refl, e)
@@ -47,7 +48,7 @@ divided_is procs line lanes e more = cases (leb procs 1) refl e
 pub in_range : (r q : Request) → judged r ≡ Ok q → IsInRange r × (r ≡ q)
 unfolding judged
 in_range r q e =
-    let s1 = passes (within Size r.size 1 most_size) _ q e in
+    let s1 = passes (within Size r.size 1 max_size) _ q e in
     let s2 = passes (within Mod r.modulus 2 (2 ^ 62 - 1)) _ q s1.1 in
     let s3 = passes (below Root r.root r.modulus) _ q s2.1 in
     let s4 = passes (within Procs r.procs 1 16) _ q s3.1 in
@@ -59,7 +60,7 @@ in_range r q e =
     let s10 = passes (shaped r.kind r.size) _ q s9.1 in
     let s11 = passes (divided r.procs r.line r.lanes) _ q s10.1 in (
       record {
-        size = within_is Size r.size 1 most_size s1.0;
+        size = within_is Size r.size 1 max_size s1.0;
         modulus = within_is Mod r.modulus 2 (2 ^ 62 - 1) s2.0;
         root = below_is Root r.root r.modulus s3.0;
         procs = within_is Procs r.procs 1 16 s4.0;
@@ -91,7 +92,7 @@ guard_only P false f h = h
 pub judged_only : (P : RequestFault → Type 0) (r : Request) → ((field : Field) (value : ℕ) → P (Range field value)) → Only P (shaped r.kind r.size) → Only P (divided r.procs r.line r.lanes) → Only P (judged r)
 unfolding judged
 judged_only P r range shape lanes =
-    then_only P (within Size r.size 1 most_size) _ (guard_only P _ _ (range _ _))
+    then_only P (within Size r.size 1 max_size) _ (guard_only P _ _ (range _ _))
     (then_only P (within Mod r.modulus 2 (2 ^ 62 - 1)) _ (guard_only P _ _ (range _ _))
     (then_only P (below Root r.root r.modulus) _ (guard_only P _ _ (range _ _))
     (then_only P (within Procs r.procs 1 16) _ (guard_only P _ _ (range _ _))

@@ -4,6 +4,7 @@ use Rattle.std.specs.Int.{is_power_of_two}
 use Rattle.matrix_meaning.specs.declared.Kind.{Kind}
 use Rattle.matrix_meaning.specs.declared.Kind.TheVariants.{Dft, Wht}
 use Rattle.matrix_meaning.specs.declared.Request.{Request}
+use Rattle.operators.specs.Sizes.{max_size}
 use Rattle.request_text.specs.declared.fault.Field.{Field}
 use Rattle.request_text.specs.declared.fault.Field.TheVariants.{Size, Mod, Root, Procs, Line, Lanes, Unroll, Budget, Weight}
 use Rattle.request_text.specs.declared.fault.RequestFault.{RequestFault}
@@ -28,15 +29,11 @@ shaped Wht size = if is_power_of_two size then Ok tt else Err (Shape size)
 abbrev pub divided : ℕ → ℕ → ℕ → Result (Unit {0}) RequestFault
 divided procs line lanes = if nat_le procs 1 then Ok tt else (if line % lanes == 0 then Ok tt else Err (LanesLine lanes line))
 
--- no size is greater
-abbrev pub most_size : ℕ
-most_size = 1048576
-
 -- the request, or its first fault: the first field in order that is out of its limits, then its shape, then its
 -- lanes and line
 unfoldable pub judged : Request → Result Request RequestFault
 judged r = do
-  within Size r.size 1 most_size
+  within Size r.size 1 max_size
   within Mod r.modulus 2 (2 ^ 62 - 1)
   below Root r.root r.modulus
   within Procs r.procs 1 16

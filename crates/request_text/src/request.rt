@@ -9,9 +9,7 @@ ghost use Rattle.request_text.specs.Reading.{request_at, root_at};
 use crate::fault::{Field, RequestFault};
 use grammar::{Cursor, Stuck};
 use matrix_meaning::{Kind, Request};
-
-/// No size is greater.
-const MOST_SIZE: u64 = 1_048_576;
+use operators::MAX_SIZE;
 
 /// The size up to which kernels are unrolled, where the line names none.
 pub(crate) const UNROLL: u64 = 8;
@@ -123,7 +121,7 @@ fn divided(procs: u64, line: u64, lanes: u64) -> Result<(), RequestFault>
 pub(crate) fn checked(request: Request) -> Result<Request, RequestFault>
     ensures { result ≡ judged request }
 {
-    within(Field::Size, request.size, 1, MOST_SIZE)?;
+    within(Field::Size, request.size, 1, MAX_SIZE)?;
     within(Field::Mod, request.modulus, 2, (1 << 62) - 1)?;
     below(Field::Root, request.root, request.modulus)?;
     within(Field::Procs, request.procs, 1, 16)?;

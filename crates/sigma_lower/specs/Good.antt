@@ -2,6 +2,7 @@
 use Rattle.std.specs.Prelude.{◌≡◌, ℕ, ◌*◌, ◌<◌, ◌≤◌, List, [], ◌∷◌}
 use Rattle.std.specs.Int.{IsGcd}
 use Rattle.matrix_meaning.specs.declared.Request.{Request}
+use Rattle.operators.specs.Sizes.{max_size}
 use Rattle.steps.specs.Meaning.{core_size}
 use Rattle.steps.specs.Step.{PlainCore, piece, turns, twiddles, thomas_in, thomas_out, PlainStep}
 use Rattle.tensor_paths.specs.Path.{size_under}
@@ -11,7 +12,7 @@ pub record AreCoprime (r s : ℕ) : Type 0 where
   pub left : 0 < r
   pub right : 0 < s
   pub gcd : IsGcd r s 1
-  pub small : r * s ≤ 1048576
+  pub small : r * s ≤ max_size
 
 abbrev pub IsGoodCore : PlainCore → Type 0
 IsGoodCore (piece t) = HasWordSizes t

@@ -2,11 +2,12 @@
 use Rattle.std.specs.Prelude.{◌≡◌, ℕ, ◌+◌, ◌*◌, ◌/◌, ◌^◌, ◌<◌, ◌≤◌, List, length, slice_index, All}
 use Rattle.std.specs.Int.{IsGcd}
 use Rattle.matrix_meaning.specs.Kind.{IsPowerOfTwo}
+use Rattle.operators.specs.Sizes.{max_size}
 use Rattle.spl_ast.specs.Formula.{Formula, Identity, Fourier, Hadamard, Twiddles, Diagonal, Stride, Permutation, GoodThomasIn, GoodThomasOut, Product, TensorLeft, TensorRight, DirectSum, Pending, size_of}
 
--- from 1 to 1,048,576
+-- there is a list of this size, and it is not too long
 abbrev pub IsSize : ℕ → Type 0
-IsSize n = (1 ≤ n) × (n ≤ 1048576)
+IsSize n = (1 ≤ n) × (n ≤ max_size)
 
 -- a number that counts modulo m
 abbrev pub IsRingValue : ℕ → Type 0

@@ -79,9 +79,6 @@ impl Model for Spl {
 }
 
 impl Spl {
-    /// The greatest size.
-    pub const MAX_SIZE: u64 = 1048576;
-
     /// The number of rows.
     #[tactic(auto, using(crate::proofs::Vectors::size_is_size))]
     pub fn rows(&self) -> u64

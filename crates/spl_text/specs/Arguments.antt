@@ -1,9 +1,10 @@
 -- The numbers behind the head of a part, up to its closing parenthesis.
 use Rattle.std.specs.Prelude.{ℕ, ◌^◌, List, ◌∷◌, codes, Result}
 use Rattle.grammar.specs.Reading.{Place, ◌>>=◌, ◌>>◌, pure_at, word_at, number_at, positive_at, named_number_at, all_at}
+use Rattle.operators.specs.Sizes.{max_size}
 
 abbrev pub factor_at : Place ℕ → Result (ℕ × Place ℕ) ℕ
-factor_at = positive_at 1048577
+factor_at = positive_at (max_size + 1)
 
 abbrev pub value_at : Place ℕ → Result (ℕ × Place ℕ) ℕ
 value_at = number_at (2 ^ 62)

@@ -2,6 +2,7 @@
 use Rattle.std.specs.Prelude.{ℕ, zero, suc, ◌%◌, List, [], ◌∷◌, ◌++◌, length, Bool, true, false, not, ◌&&◌, ◌||◌, nat_lt, ◌==◌, if◌then◌else◌, Option, Some, None}
 use Rattle.std.specs.Int.{is_power_of_two}
 use Rattle.std.specs.Option.{option_map}
+use Rattle.operators.specs.Sizes.{max_size}
 use Rattle.spl_ast.specs.Formula.{Formula, Identity, Fourier, Hadamard, Twiddles, Diagonal, Stride, Permutation, GoodThomasIn, GoodThomasOut, Product, TensorLeft, TensorRight, DirectSum, Pending, size_of}
 
 -- a number from 2 to n divides both
@@ -50,7 +51,7 @@ or_else None other = other
 
 -- the same, and then for its size
 abbrev pub refusal : Formula → Option (ℕ × ℕ)
-refusal f = or_else (misfit f) (refused_if (nat_lt 1048576 (size_of f)) (size_of f) 1048576)
+refusal f = or_else (misfit f) (refused_if (nat_lt max_size (size_of f)) (size_of f) max_size)
 
 -- a fault that the text shows, at a place by how much of the text is left there
 pub data TextFault : Type 0 where

@@ -1,6 +1,7 @@
 -- The text of a formula.
 use Rattle.std.specs.Prelude.{◌≡◌, ℕ, ◌^◌, ◌<◌, List, [], ◌∷◌, ◌++◌, codes, decimal}
 use Rattle.grammar.specs.Grammar.{◌>>=◌, pure, word, optional}
+use Rattle.operators.specs.Sizes.{max_size}
 use Rattle.spl_ast.specs.Formula.{Formula, Identity, Fourier, Hadamard, Twiddles, Diagonal, Stride, Permutation, GoodThomasIn, GoodThomasOut, Product, TensorLeft, TensorRight, DirectSum, Pending}
 
 -- numbers with commas before them
@@ -38,7 +39,7 @@ spelling (Pending a) = []
 
 -- a size or a factor
 abbrev pub IsFactor : ℕ → Type 0
-IsFactor n = (0 < n) × (n < 1048577)
+IsFactor n = (0 < n) × (n < max_size + 1)
 
 abbrev pub IsValue : ℕ → Type 0
 IsValue v = v < 2 ^ 62

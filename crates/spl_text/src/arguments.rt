@@ -8,6 +8,7 @@ ghost use Rattle.spl_text.specs.Arguments.{factor_at, value_at, one_size_at, two
 
 use grammar::{Cursor, ReadError, Stuck};
 use memory::NoMemory;
+use operators::MAX_SIZE;
 use spl_ast::Spl;
 use std::alloc::Global;
 
@@ -20,7 +21,7 @@ pub fn factor(cursor: &mut Cursor) -> Result<u64, Stuck>
     ensures gives { Gives result cursor.new (factor_at cursor.old) }
     ensures size { IfOk result IsSize }
 {
-    cursor.positive(Spl::MAX_SIZE)
+    cursor.positive(MAX_SIZE)
 }
 
 /// A ring value.

@@ -9,6 +9,7 @@ ghost use Rattle.spl_text.specs.Fault.{are_coprime, first_stray};
 
 use crate::reading::Halt;
 use memory::NoMemory;
+use operators::MAX_SIZE;
 use ring_mod::is_coprime;
 use spl_ast::Spl;
 use std::alloc::Global;
@@ -20,7 +21,7 @@ fn oversize(place: usize, size: u64) -> Halt
     Halt::Shape {
         left: place,
         first: size,
-        second: Spl::MAX_SIZE,
+        second: MAX_SIZE,
     }
 }
 
@@ -93,7 +94,7 @@ pub fn diagonal(place: usize, values: Vec<u64>) -> Result<Spl, Halt>
     ensures { Judged result place (Diagonal values.items) }
 {
     let size = values.len() as u64;
-    if size > Spl::MAX_SIZE {
+    if size > MAX_SIZE {
         return Err(oversize(place, size));
     }
     Ok(Spl::diagonal(values))
@@ -108,7 +109,7 @@ pub fn permutation(alloc: Global, place: usize, places: Vec<u64>) -> Result<Spl,
     if let Some(stray) = first_stray(alloc, &places)? {
         return Err(misfit(place, size, stray));
     }
-    if size > Spl::MAX_SIZE {
+    if size > MAX_SIZE {
         return Err(oversize(place, size));
     }
     Ok(Spl::permutation(places))
@@ -146,7 +147,7 @@ pub fn good_thomas_in(place: usize, r: u64, s: u64) -> Result<Spl, Halt>
     if !are_factors(r, s) {
         return Err(misfit(place, r, s));
     }
-    if r * s > Spl::MAX_SIZE {
+    if r * s > MAX_SIZE {
         return Err(oversize(place, r * s));
     }
     Ok(Spl::good_thomas_in(r, s))
@@ -160,7 +161,7 @@ pub fn good_thomas_out(place: usize, r: u64, s: u64) -> Result<Spl, Halt>
     if !are_factors(r, s) {
         return Err(misfit(place, r, s));
     }
-    if r * s > Spl::MAX_SIZE {
+    if r * s > MAX_SIZE {
         return Err(oversize(place, r * s));
     }
     Ok(Spl::good_thomas_out(r, s))
@@ -199,7 +200,7 @@ pub fn tensor_left(alloc: Global, place: usize, a: Spl, k: u64) -> Result<Spl, H
     ensures { Judged result place (TensorLeft a k) }
 {
     let size = a.rows() * k;
-    if size > Spl::MAX_SIZE {
+    if size > MAX_SIZE {
         return Err(oversize(place, size));
     }
     let f = Spl::tensor_left(alloc, a, k)?;
@@ -211,7 +212,7 @@ pub fn tensor_right(alloc: Global, place: usize, k: u64, a: Spl) -> Result<Spl, 
     ensures { Judged result place (TensorRight k a) }
 {
     let size = k * a.rows();
-    if size > Spl::MAX_SIZE {
+    if size > MAX_SIZE {
         return Err(oversize(place, size));
     }
     let f = Spl::tensor_right(alloc, k, a)?;
@@ -222,7 +223,7 @@ pub fn direct_sum(alloc: Global, place: usize, a: Spl, b: Spl) -> Result<Spl, Ha
     ensures { Judged result place (DirectSum a b) }
 {
     let size = a.rows() + b.rows();
-    if size > Spl::MAX_SIZE {
+    if size > MAX_SIZE {
         return Err(oversize(place, size));
     }
     let f = Spl::direct_sum(alloc, a, b)?;

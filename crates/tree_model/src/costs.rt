@@ -8,6 +8,7 @@ ghost use Rattle.tree_model.specs.Cost.{is_kernel, mul_cost_of, node_root, produ
 use crate::context::Ctx;
 use crate::tree::{Rule, Tree};
 use matrix_meaning::Kind;
+use operators::MAX_SIZE;
 use ring_mod::Modulus;
 
 /// The cost of a tree that stands for a node of its size.
@@ -55,7 +56,7 @@ fn join(c: &Ctx, rule: Rule, a: SizedCost, b: SizedCost) -> SizedCost
     ensures cost { result.cost ≡ node_cost c.now rule a.size b.size a.cost b.cost }
     ensures modest { IsModest result.size result.cost }
 {
-    prove!(c.request().size <= Ctx::MAX_SIZE);
+    prove!(c.request().size <= MAX_SIZE);
     SizedCost {
         size: a.size * b.size,
         cost: node_cost(c, rule, a.size, b.size, a.cost, b.cost),
@@ -90,7 +91,7 @@ pub fn node_cost(c: &Ctx, rule: Rule, r: u64, s: u64, x: u64, y: u64) -> u64
     ensures value { result ≡ node_cost c.now rule r s x y }
     ensures modest { IsModest (r * s) result }
 {
-    prove!(c.request().size <= Ctx::MAX_SIZE);
+    prove!(c.request().size <= MAX_SIZE);
     let extra = rule_cost(c, rule, r, s);
     s * x + r * y + extra
 }
@@ -103,7 +104,7 @@ fn rule_cost(c: &Ctx, rule: Rule, r: u64, s: u64) -> u64
     ensures value { result ≡ rule_cost c.now rule r s }
     ensures bound { result ≤ 1000 * (r * s) }
 {
-    prove!(c.request().size <= Ctx::MAX_SIZE);
+    prove!(c.request().size <= MAX_SIZE);
     match rule {
         Rule::Gt | Rule::Split => 0,
         Rule::Ct => {

@@ -9,6 +9,7 @@ ghost use Rattle.tree_model.specs.Passes.{passes_cost, passes_of, whole_passes, 
 use crate::context::Ctx;
 use crate::costs::is_kernel;
 use crate::tree::Tree;
+use operators::MAX_SIZE;
 
 /// How many passes an admissible tree becomes.
 pub fn pass_count(c: &Ctx, t: &Tree) -> u64
@@ -149,7 +150,7 @@ fn joined(c: &Ctx, a: Traffic, b: Traffic) -> Traffic
     ensures few_passes { result.passes ≤ result.size }
     ensures few_loads { result.loads ≤ c.now.size * result.size }
 {
-    prove!(c.request().size <= Ctx::MAX_SIZE);
+    prove!(c.request().size <= MAX_SIZE);
     Traffic {
         size: a.size * b.size,
         passes: b.passes + a.passes,
