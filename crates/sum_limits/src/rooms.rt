@@ -35,19 +35,19 @@ pub fn simplify_in_room(
     if let Affine::Constant(number) = arg {
         return Ok(Some(at_number(f, *number, counts)));
     }
-    let sum = match f {
-        Index::Identity => Some(copy(alloc, arg)?),
-        Index::Constant(value) => Some(Affine::Constant(*value)),
-        Index::Stride(base, step) => line(alloc, counts, *base, *step, arg)?,
-        Index::StridePermutation(r, s) => turn(alloc, counts, *r, *s, arg)?,
+    match f {
+        Index::Identity => Ok(Some(copy(alloc, arg)?)),
+        Index::Constant(value) => Ok(Some(Affine::Constant(*value))),
+        Index::Stride(base, step) => Ok(line(alloc, counts, *base, *step, arg)?),
+        Index::StridePermutation(r, s) => Ok(turn(alloc, counts, *r, *s, arg)?),
         Index::ThomasIn(r, s) => {
             let by = Multiples { quot: *s, rem: *r };
-            mixed(alloc, counts, *r, *s, by, arg)?
+            Ok(mixed(alloc, counts, *r, *s, by, arg)?)
         }
-        Index::ThomasOut(r, s) => remainders(alloc, counts, *r, *s, arg)?,
+        Index::ThomasOut(r, s) => Ok(remainders(alloc, counts, *r, *s, arg)?),
         Index::ThomasBack(r, s, e, g) => {
             let by = Multiples { quot: *e, rem: *g };
-            mixed(alloc, counts, *r, *s, by, arg)?
+            Ok(mixed(alloc, counts, *r, *s, by, arg)?)
         }
         Index::Explicit(_) => unreachable!(),
         Index::Tensor(f, c, g, d) => {
@@ -60,16 +60,15 @@ pub fn simplify_in_room(
             let Some(right) = simplify_in_room(alloc, g, &rem, counts)? else {
                 return Ok(None);
             };
-            scale_and_join(alloc, counts, *c, left, right)?
+            Ok(scale_and_join(alloc, counts, *c, left, right)?)
         }
         Index::Composed(f, g) => {
             let Some(inner) = simplify_in_room(alloc, g, arg, counts)? else {
                 return Ok(None);
             };
-            simplify_in_room(alloc, f, &inner, counts)?
+            Ok(simplify_in_room(alloc, f, &inner, counts)?)
         }
-    };
-    Ok(sum)
+    }
 }
 
 // The function at a number is a number, and every number on the way fits.
