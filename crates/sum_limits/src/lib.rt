@@ -112,6 +112,9 @@ pub fn is_within(counts: &[u64], sum: &Affine, limits: Limits) -> bool
     requires { IsAffine (length counts.now) (slice_index counts.now) (plain_sum sum.now) }
     ensures { IsTrue result ↔ (is_limited limits.room limits.size (slice_index counts.now) (plain_sum sum.now) ≡ true) }
 {
+    if let Affine::Constant(number) = sum {
+        return *number < limits.size && is_small(*number);
+    }
     if !is_short(sum, limits.room) || !is_flat(sum, 64) || greatest_factor(sum) >= limits.size {
         return false;
     }

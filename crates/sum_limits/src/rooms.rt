@@ -1,7 +1,7 @@
-ghost use Rattle.std.specs.Prelude.{◌≡◌, ℕ, ◌+◌, ◌*◌, ◌/◌, ◌%◌, ◌^◌, ◌<◌, ◌≤◌, IfOk, Some, None, true, false, length, slice_index};
+ghost use Rattle.std.specs.Prelude.{◌≡◌, ℕ, ◌+◌, ◌*◌, ◌/◌, ◌%◌, ◌^◌, ◌<◌, ◌≤◌, ◌&&◌, IfOk, Some, None, true, false, length, slice_index};
 ghost use Rattle.index_fn.specs.Index.{mapping_of};
 ghost use Rattle.index_fn.specs.Mapping.{IsDefinedAt, IsWellFormed, Line, Strided, ThomasOut, at};
-ghost use Rattle.perm_algebra.specs.Affine.{HasNoList, divided, joined, mods, reduced, scaled, simplified, value};
+ghost use Rattle.perm_algebra.specs.Affine.{HasNoList, constant, divided, joined, mods, reduced, scaled, simplified, value};
 ghost use Rattle.perm_algebra.specs.Fits.{Agree, InRange, IsAffine, Stays};
 ghost use Rattle.perm_algebra.specs.Room.{can_divide, can_join, can_mix, can_scale, constant_of, has_room, has_top};
 ghost use Rattle.perm_algebra.specs.Views.{plain_sum};
@@ -32,40 +32,22 @@ pub fn simplify_in_room(
     ensures affine { IfOk result (λ r. (sum : Affine) → r ≡ Some sum → IsAffine (length counts.now) (slice_index counts.now) (plain_sum sum)) }
     ensures fits { IfOk result (λ r. (sum : Affine) → r ≡ Some sum → Stays (slice_index counts.now) (value (plain_sum sum))) }
 {
+    if let Affine::Constant(number) = arg {
+        return Ok(Some(at_number(f, *number, counts)));
+    }
     match f {
-        Index::Identity => {
-            let sum = copy(alloc, arg)?;
-            Ok(Some(sum))
-        }
+        Index::Identity => Ok(Some(copy(alloc, arg)?)),
         Index::Constant(value) => Ok(Some(Affine::Constant(*value))),
-        Index::Stride(base, step) => {
-            let Some(multiple) = scale_in_room(alloc, counts, *step, copy(alloc, arg)?)? else {
-                return Ok(None);
-            };
-            let sum = join_in_room(alloc, counts, Affine::Constant(*base), multiple)?;
-            Ok(sum)
-        }
-        Index::StridePermutation(r, s) => {
-            let sum = turn(alloc, counts, *r, *s, arg)?;
-            Ok(sum)
-        }
+        Index::Stride(base, step) => Ok(line(alloc, counts, *base, *step, arg)?),
+        Index::StridePermutation(r, s) => Ok(turn(alloc, counts, *r, *s, arg)?),
         Index::ThomasIn(r, s) => {
-            let Some(parts) = divide_in_room(alloc, counts, arg, *s)? else {
-                return Ok(None);
-            };
-            let sum = mix(alloc, counts, parts, *s, *r, *r * *s)?;
-            Ok(sum)
+            let by = Multiples { quot: *s, rem: *r };
+            Ok(mixed(alloc, counts, *r, *s, by, arg)?)
         }
-        Index::ThomasOut(r, s) => {
-            let sum = remainders(alloc, counts, *r, *s, arg)?;
-            Ok(sum)
-        }
+        Index::ThomasOut(r, s) => Ok(remainders(alloc, counts, *r, *s, arg)?),
         Index::ThomasBack(r, s, e, g) => {
-            let Some(parts) = divide_in_room(alloc, counts, arg, *s)? else {
-                return Ok(None);
-            };
-            let sum = mix(alloc, counts, parts, *e, *g, *r * *s)?;
-            Ok(sum)
+            let by = Multiples { quot: *e, rem: *g };
+            Ok(mixed(alloc, counts, *r, *s, by, arg)?)
         }
         Index::Explicit(_) => unreachable!(),
         Index::Tensor(f, c, g, d) => {
@@ -78,20 +60,53 @@ pub fn simplify_in_room(
             let Some(right) = simplify_in_room(alloc, g, &rem, counts)? else {
                 return Ok(None);
             };
-            let Some(left) = scale_in_room(alloc, counts, *c, left)? else {
-                return Ok(None);
-            };
-            let sum = join_in_room(alloc, counts, left, right)?;
-            Ok(sum)
+            Ok(scale_and_join(alloc, counts, *c, left, right)?)
         }
         Index::Composed(f, g) => {
             let Some(inner) = simplify_in_room(alloc, g, arg, counts)? else {
                 return Ok(None);
             };
-            let sum = simplify_in_room(alloc, f, &inner, counts)?;
-            Ok(sum)
+            Ok(simplify_in_room(alloc, f, &inner, counts)?)
         }
     }
+}
+
+// The function at a number is a number, and every number on the way fits.
+fn at_number(f: &Index, number: u64, counts: &[u64]) -> Affine
+    requires formed { IsWellFormed (mapping_of f.now) }
+    requires no_list { HasNoList (mapping_of f.now) }
+    requires defined { (vs : ℕ → ℕ) → InRange (slice_index counts.now) vs → IsDefinedAt (mapping_of f.now) number }
+    ensures some { plain_sum result ≡ simplified (slice_index counts.now) (mapping_of f.now) (constant number) }
+    ensures room { has_room (slice_index counts.now) (mapping_of f.now) (constant number) ≡ true }
+    ensures value { Agree (slice_index counts.now) (value (plain_sum result)) (λ vs. at (mapping_of f.now) number) }
+    ensures affine { IsAffine (length counts.now) (slice_index counts.now) (plain_sum result) }
+    ensures fits { Stays (slice_index counts.now) (value (plain_sum result)) }
+{
+    let _count = counts.len();
+    Affine::Constant(f.at(number))
+}
+
+// A base, and a multiple of the place.
+fn line(
+    alloc: Global,
+    counts: &[u64],
+    base: u64,
+    step: u64,
+    arg: &Affine,
+) -> Result<Option<Affine>, NoMemory>
+    requires affine { IsAffine (length counts.now) (slice_index counts.now) (plain_sum arg.now) }
+    requires fits { Stays (slice_index counts.now) (λ vs. base + step * value (plain_sum arg.now) vs) }
+    ensures some { IfOk result (λ r. (sum : Affine) → r ≡ Some sum → plain_sum sum ≡ simplified (slice_index counts.now) (Line base step) (plain_sum arg.now)) }
+    ensures room { IfOk result (λ r. (sum : Affine) → r ≡ Some sum → has_room (slice_index counts.now) (Line base step) (plain_sum arg.now) ≡ true) }
+    ensures none { IfOk result (λ r. r ≡ None → has_room (slice_index counts.now) (Line base step) (plain_sum arg.now) ≡ false) }
+    ensures value { IfOk result (λ r. (sum : Affine) → r ≡ Some sum → Agree (slice_index counts.now) (value (plain_sum sum)) (λ vs. base + step * value (plain_sum arg.now) vs)) }
+    ensures affine { IfOk result (λ r. (sum : Affine) → r ≡ Some sum → IsAffine (length counts.now) (slice_index counts.now) (plain_sum sum)) }
+{
+    let Some(multiple) = scale_in_room(alloc, counts, step, copy(alloc, arg)?)? else {
+        return Ok(None);
+    };
+    let sum = join_in_room(alloc, counts, Affine::Constant(base), multiple)?;
+    Ok(sum)
 }
 
 // `r` times the remainder by `s`, and the quotient.
@@ -117,10 +132,7 @@ fn turn(
     let Some(Parts { quot, rem }) = divide_in_room(alloc, counts, arg, s)? else {
         return Ok(None);
     };
-    let Some(rem) = scale_in_room(alloc, counts, r, rem)? else {
-        return Ok(None);
-    };
-    let sum = join_in_room(alloc, counts, rem, quot)?;
+    let sum = scale_and_join(alloc, counts, r, rem, quot)?;
     Ok(sum)
 }
 
@@ -149,37 +161,68 @@ fn remainders(
     let Some(Parts { quot: _, rem: last }) = divide_in_room(alloc, counts, arg, s)? else {
         return Ok(None);
     };
-    let Some(first) = scale_in_room(alloc, counts, s, rem)? else {
-        return Ok(None);
-    };
-    let sum = join_in_room(alloc, counts, first, last)?;
+    let sum = scale_and_join(alloc, counts, s, rem, last)?;
     Ok(sum)
 }
 
-// `a` times the quotient and `b` times the remainder, modulo `n`.
+// What the quotient and the remainder are multiplied by.
+#[derive(Clone, Copy)]
+struct Multiples {
+    quot: u64,
+    rem: u64,
+}
+
+// These multiples of the quotient and of the remainder by `s`, modulo `r * s`.
+fn mixed(
+    alloc: Global,
+    counts: &[u64],
+    r: u64,
+    s: u64,
+    by: Multiples,
+    arg: &Affine,
+) -> Result<Option<Affine>, NoMemory>
+    requires divisor { 0 < s }
+    requires modulus { 0 < r * s }
+    requires size { r * s < 2 ^ 64 }
+    requires affine { IsAffine (length counts.now) (slice_index counts.now) (plain_sum arg.now) }
+    requires fits { Stays (slice_index counts.now) (value (plain_sum arg.now)) }
+    requires mixed { Stays (slice_index counts.now) (λ vs. by.quot * (value (plain_sum arg.now) vs / s) + by.rem * (value (plain_sum arg.now) vs % s)) }
+    ensures some { IfOk result (λ made. (sum : Affine) → made ≡ Some sum → plain_sum sum ≡ reduced (slice_index counts.now) (r * s) (joined (scaled by.quot (divided (slice_index counts.now) s (plain_sum arg.now)).quot) (scaled by.rem (divided (slice_index counts.now) s (plain_sum arg.now)).rem))) }
+    ensures room { IfOk result (λ made. (sum : Affine) → made ≡ Some sum → (can_divide (slice_index counts.now) s (plain_sum arg.now) && can_mix (slice_index counts.now) (r * s) by.quot by.rem (divided (slice_index counts.now) s (plain_sum arg.now)).quot (divided (slice_index counts.now) s (plain_sum arg.now)).rem) ≡ true) }
+    ensures none { IfOk result (λ made. made ≡ None → (can_divide (slice_index counts.now) s (plain_sum arg.now) && can_mix (slice_index counts.now) (r * s) by.quot by.rem (divided (slice_index counts.now) s (plain_sum arg.now)).quot (divided (slice_index counts.now) s (plain_sum arg.now)).rem) ≡ false) }
+    ensures value { IfOk result (λ made. (sum : Affine) → made ≡ Some sum → Agree (slice_index counts.now) (value (plain_sum sum)) (λ vs. (by.quot * (value (plain_sum arg.now) vs / s) + by.rem * (value (plain_sum arg.now) vs % s)) % (r * s))) }
+    ensures affine { IfOk result (λ made. (sum : Affine) → made ≡ Some sum → IsAffine (length counts.now) (slice_index counts.now) (plain_sum sum)) }
+{
+    let Some(parts) = divide_in_room(alloc, counts, arg, s)? else {
+        return Ok(None);
+    };
+    let sum = mix(alloc, counts, parts, by, r * s)?;
+    Ok(sum)
+}
+
+// These multiples of the quotient and of the remainder, modulo `n`.
 fn mix(
     alloc: Global,
     counts: &[u64],
     parts: Parts,
-    a: u64,
-    b: u64,
+    by: Multiples,
     n: u64,
 ) -> Result<Option<Affine>, NoMemory>
     requires divisor { 0 < n }
     requires quot { IsAffine (length counts.now) (slice_index counts.now) (plain_sum parts.quot) }
     requires rem { IsAffine (length counts.now) (slice_index counts.now) (plain_sum parts.rem) }
-    requires fits { Stays (slice_index counts.now) (λ vs. a * value (plain_sum parts.quot) vs + b * value (plain_sum parts.rem) vs) }
-    ensures some { IfOk result (λ r. (sum : Affine) → r ≡ Some sum → plain_sum sum ≡ reduced (slice_index counts.now) n (joined (scaled a (plain_sum parts.quot)) (scaled b (plain_sum parts.rem)))) }
-    ensures room { IfOk result (λ r. (sum : Affine) → r ≡ Some sum → can_mix (slice_index counts.now) n a b (plain_sum parts.quot) (plain_sum parts.rem) ≡ true) }
-    ensures none { IfOk result (λ r. r ≡ None → can_mix (slice_index counts.now) n a b (plain_sum parts.quot) (plain_sum parts.rem) ≡ false) }
-    ensures value { IfOk result (λ r. (sum : Affine) → r ≡ Some sum → Agree (slice_index counts.now) (value (plain_sum sum)) (λ vs. (a * value (plain_sum parts.quot) vs + b * value (plain_sum parts.rem) vs) % n)) }
+    requires fits { Stays (slice_index counts.now) (λ vs. by.quot * value (plain_sum parts.quot) vs + by.rem * value (plain_sum parts.rem) vs) }
+    ensures some { IfOk result (λ r. (sum : Affine) → r ≡ Some sum → plain_sum sum ≡ reduced (slice_index counts.now) n (joined (scaled by.quot (plain_sum parts.quot)) (scaled by.rem (plain_sum parts.rem)))) }
+    ensures room { IfOk result (λ r. (sum : Affine) → r ≡ Some sum → can_mix (slice_index counts.now) n by.quot by.rem (plain_sum parts.quot) (plain_sum parts.rem) ≡ true) }
+    ensures none { IfOk result (λ r. r ≡ None → can_mix (slice_index counts.now) n by.quot by.rem (plain_sum parts.quot) (plain_sum parts.rem) ≡ false) }
+    ensures value { IfOk result (λ r. (sum : Affine) → r ≡ Some sum → Agree (slice_index counts.now) (value (plain_sum sum)) (λ vs. (by.quot * value (plain_sum parts.quot) vs + by.rem * value (plain_sum parts.rem) vs) % n)) }
     ensures affine { IfOk result (λ r. (sum : Affine) → r ≡ Some sum → IsAffine (length counts.now) (slice_index counts.now) (plain_sum sum)) }
 {
     let Parts { quot, rem } = parts;
-    let Some(quot) = scale_in_room(alloc, counts, a, quot)? else {
+    let Some(quot) = scale_in_room(alloc, counts, by.quot, quot)? else {
         return Ok(None);
     };
-    let Some(rem) = scale_in_room(alloc, counts, b, rem)? else {
+    let Some(rem) = scale_in_room(alloc, counts, by.rem, rem)? else {
         return Ok(None);
     };
     let Some(both) = join_in_room(alloc, counts, quot, rem)? else {
@@ -264,6 +307,30 @@ fn scale_in_room(
     }
     let multiple = scale_sum(alloc, counts, k, sum)?;
     Ok(Some(multiple))
+}
+
+// `k` times a sum, and another, if each factor and the constant fit.
+fn scale_and_join(
+    alloc: Global,
+    counts: &[u64],
+    k: u64,
+    a: Affine,
+    b: Affine,
+) -> Result<Option<Affine>, NoMemory>
+    requires affine { IsAffine (length counts.now) (slice_index counts.now) (plain_sum a) }
+    requires affine_too { IsAffine (length counts.now) (slice_index counts.now) (plain_sum b) }
+    requires fits { Stays (slice_index counts.now) (λ vs. k * value (plain_sum a) vs + value (plain_sum b) vs) }
+    ensures some { IfOk result (λ r. (c : Affine) → r ≡ Some c → plain_sum c ≡ joined (scaled k (plain_sum a)) (plain_sum b)) }
+    ensures room { IfOk result (λ r. (c : Affine) → r ≡ Some c → (can_scale k (plain_sum a) && can_join (scaled k (plain_sum a)) (plain_sum b)) ≡ true) }
+    ensures none { IfOk result (λ r. r ≡ None → (can_scale k (plain_sum a) && can_join (scaled k (plain_sum a)) (plain_sum b)) ≡ false) }
+    ensures value { IfOk result (λ r. (c : Affine) → r ≡ Some c → Agree (slice_index counts.now) (value (plain_sum c)) (λ vs. k * value (plain_sum a) vs + value (plain_sum b) vs)) }
+    ensures affine { IfOk result (λ r. (c : Affine) → r ≡ Some c → IsAffine (length counts.now) (slice_index counts.now) (plain_sum c)) }
+{
+    let Some(multiple) = scale_in_room(alloc, counts, k, a)? else {
+        return Ok(None);
+    };
+    let sum = join_in_room(alloc, counts, multiple, b)?;
+    Ok(sum)
 }
 
 // The sum of two sums, if its constant fits.
