@@ -33,7 +33,7 @@ apply --mod 17; RIGHT(2,L(6,4)); 16; -; formula shape at byte 8: 6 and 4
 apply --mod 17; WHT(6)/; 16; -; formula shape at byte 0: 6 and 2
 apply --mod 17; I(0); 3; -; syntax at byte 2
 apply --mod 17; I(2/1 2; 3; -; syntax at byte 3
-apply --mod 17; I(65537)/; 3; -; syntax at byte 6
+apply --mod 17; I(1048577)/; 3; -; syntax at byte 8
 apply --mod 17; I(2) /1 2; 3; -; syntax at byte 4
 compile --mod 17; -; 3; -; syntax at byte 0
 compile --mod 17; /I(2)/; 3; -; syntax at byte 0

@@ -100,7 +100,7 @@ run --schedule turns:; dft 4 mod 17 root 4/1 2 3 4/; 2; -; usage
 run --schedule rr:1000001; dft 4 mod 17 root 4/1 2 3 4/; 2; -; usage
 run; -; 3; -; syntax at byte 0
 run; dft 4 mod 17/; 3; -; syntax at byte 12
-run; dft 70000 mod 17 root 1/; 4; -; size 70000 is out of range
+run; dft 1048577 mod 17 root 1/; 4; -; size 1048577 is out of range
 run; dft 2 mod 4611686018427387904 root 1/; 4; -; mod 4611686018427387904 is out of range
 run; wht 6 mod 5/; 4; -; wht size 6 is not a power of two
 run; dft 4 mod 17 root 3/1 2 3 4/; 6; -; root to the size is 13, not 1

@@ -89,7 +89,7 @@ for (int l = 0; l < V; l++) A[0+q*1+(0+v0*1)%2*4 + l] = r[8][l];
 
 // Every form, and numbers at their limits; most registers are not there, which only a run would refuse.
 const LIMITS: &str =
-    "program size 65536 mod 4611686018427387903 procs 16 line 64 lanes 16 regs 1048575
+    "program size 1048576 mod 4611686018427387903 procs 16 line 64 lanes 16 regs 1048575
 table 0 values 0
 table 1 values 4611686018427387902 1
 phase
@@ -201,7 +201,7 @@ const TEXTS: &str = "\
 /* program size 2 mod 15 procs 1 line 1 lanes 1 regs 5 */\r~|1
 /* program size 2 mod 15 procs 1 line 1 lanes 1 regs 5 */~|2
 /* program size 0 mod 15 procs 1 line 1 lanes 1 regs 5 */~|1
-/* program size 65537 mod 15 procs 1 line 1 lanes 1 regs 5 */~|1
+/* program size 1048577 mod 15 procs 1 line 1 lanes 1 regs 5 */~|1
 /* program size 2 mod 4611686018427387904 procs 1 line 1 lanes 1 regs 5 */~|1
 /* program size 2 mod 15 procs 17 line 1 lanes 1 regs 5 */~|1
 /* program size 2 mod 15 procs 1 line 65 lanes 1 regs 5 */~|1

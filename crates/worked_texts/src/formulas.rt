@@ -9,7 +9,7 @@ use std::test::Fail;
 
 // A text, and the fault where it is no formula.
 const FAULTS: &str = "\
-I(65536)|None
+I(1048576)|None
 DFT(12,4611686018427387903)~|None
 WHT(4)|None
 L(6,2)|None
@@ -23,7 +23,7 @@ RIGHT(3,SUM(PERM(0),DIAG(3,4)))|None
 |Some(Syntax { at: 0 })
 I(2|Some(Syntax { at: 3 })
 I(0)|Some(Syntax { at: 2 })
-I(65537)|Some(Syntax { at: 6 })
+I(1048577)|Some(Syntax { at: 8 })
 I(2)x|Some(Syntax { at: 4 })
 I(2)~~|Some(Syntax { at: 5 })
 DFT(2,4611686018427387904)|Some(Syntax { at: 24 })
@@ -37,11 +37,11 @@ L(6,4)|Some(Shape { at: 0, left: 6, right: 4 })
 T(6,4,1)|Some(Shape { at: 0, left: 6, right: 4 })
 GTIN(4,6)|Some(Shape { at: 0, left: 4, right: 6 })
 GTOUT(1,6)|Some(Shape { at: 0, left: 1, right: 6 })
-GTIN(257,256)|Some(Shape { at: 0, left: 65792, right: 65536 })
+GTIN(1025,1024)|Some(Shape { at: 0, left: 1049600, right: 1048576 })
 WHT(6)|Some(Shape { at: 0, left: 6, right: 2 })
 PERM(2,0,2,1)|Some(Shape { at: 0, left: 4, right: 2 })
 PERM(0,3,1)|Some(Shape { at: 0, left: 3, right: 3 })
-SUM(I(65536),I(1))|Some(Shape { at: 0, left: 65537, right: 65536 })
+SUM(I(1048576),I(1))|Some(Shape { at: 0, left: 1048577, right: 1048576 })
 ";
 
 fn fault_of(alloc: Global, text: &str) -> Result<String, Fail> {
@@ -87,7 +87,7 @@ TIMES(GTOUT(3,4),TIMES(LEFT(DFT(3,9),4),TIMES(RIGHT(3,WHT(4)),GTIN(3,4))))
 TIMES(T(12,4,7),L(12,3))
 RIGHT(3,LEFT(I(2),5))
 DIAG(0)
-I(65536)
+I(1048576)
 TIMES(LEFT(DFT(2,16),2),L(4,2))
 ";
 
