@@ -3,7 +3,7 @@
 ghost use Rattle.std.specs.Prelude.{◌<◌};
 
 use crate::call::{AMPLE, Outside, Seen, call, output_of};
-use crate::rows::answers_as;
+use crate::rows::all_answer;
 use std::alloc::Global;
 use std::test::Fail;
 
@@ -98,28 +98,22 @@ exec; conv 4 mod 17 root 4/1 2 0 0/; 18; -; listing syntax at line 1
 
 #[test]
 fn convolutions(rt: HostRuntime) -> Result<(), Fail> {
-    for row in RESULTS.lines() {
-        answers_as(&rt, rt.alloc(), row)?;
-    }
-    Ok(())
+    all_answer(&rt, rt.alloc(), RESULTS)
 }
 
 #[test]
 fn listed_convolutions(rt: HostRuntime) -> Result<(), Fail> {
-    for row in CODES.lines() {
-        answers_as(&rt, rt.alloc(), row)?;
-    }
-    Ok(())
+    all_answer(&rt, rt.alloc(), CODES)
 }
 
 #[test]
 fn refused_convolutions(rt: HostRuntime) -> Result<(), Fail> {
-    for rows in [REFUSALS, OTHERS] {
-        for row in rows.lines() {
-            answers_as(&rt, rt.alloc(), row)?;
-        }
-    }
-    Ok(())
+    all_answer(&rt, rt.alloc(), REFUSALS)
+}
+
+#[test]
+fn lines_of_other_commands(rt: HostRuntime) -> Result<(), Fail> {
+    all_answer(&rt, rt.alloc(), OTHERS)
 }
 
 // The listing is run on other vectors as a stranger's is.

@@ -1,10 +1,11 @@
 // Formulas: what is read, refused, printed, applied and rewritten.
 
-use crate::rows::{halves, spelled};
+use crate::rows::{check, number, spelled};
 use ring_mod::Modulus;
 use spl_ast::{Distribute, Node, Spl, rewrite};
 use spl_text::{print_spl, read_spl};
 use std::alloc::Global;
+use std::fmt::Write;
 use std::test::Fail;
 
 // A text, and the fault where it is no formula.
@@ -48,14 +49,13 @@ fn fault_of(alloc: Global, text: &str) -> Result<String, Fail> {
     Ok(format!(in alloc; "{:?}", read_spl(alloc, text.as_bytes()).err())?)
 }
 
+fn fault_answer(alloc: Global, text: &str) -> Result<String, Fail> {
+    fault_of(alloc, &spelled(alloc, text)?)
+}
+
 #[test]
 fn kinds_and_faults(rt: HostRuntime) -> Result<(), Fail> {
-    for row in FAULTS.lines() {
-        let (text, wanted) = halves(row)?;
-        let answer = fault_of(rt.alloc(), &spelled(rt.alloc(), text)?)?;
-        assert_eq!(rt; answer.as_str(), wanted, "{row}");
-    }
-    Ok(())
+    check(&rt, rt.alloc(), FAULTS, fault_answer)
 }
 
 // RIGHT(1,RIGHT(1,.. I(1)..)).
@@ -71,13 +71,19 @@ fn nested(alloc: Global, depth: u64) -> Result<String, Fail> {
     Ok(text)
 }
 
+// A depth, and the fault where the formula is too deep.
+const DEPTHS: &str = "\
+127|None
+128|Some(TooDeep { at: 1025 })
+";
+
+fn depth_answer(alloc: Global, depth: &str) -> Result<String, Fail> {
+    fault_of(alloc, &nested(alloc, number(depth)?)?)
+}
+
 #[test]
 fn depth(rt: HostRuntime) -> Result<(), Fail> {
-    let alloc = rt.alloc();
-    assert_eq!(rt; fault_of(alloc, &nested(alloc, 127)?)?.as_str(), "None");
-    let answer = fault_of(alloc, &nested(alloc, 128)?)?;
-    assert_eq!(rt; answer.as_str(), "Some(TooDeep { at: 1025 })");
-    Ok(())
+    check(&rt, rt.alloc(), DEPTHS, depth_answer)
 }
 
 // Formulas that are printed as they were read.
@@ -91,13 +97,15 @@ I(1048576)
 TIMES(LEFT(DFT(2,16),2),L(4,2))
 ";
 
+fn printed(alloc: Global, text: &str) -> Result<Vec<u8>, Fail> {
+    let formula = read_spl(alloc, text.as_bytes()).ok().ok_or("a formula")?;
+    Ok(print_spl(alloc, &formula)?)
+}
+
 #[test]
 fn printed_as_read(rt: HostRuntime) -> Result<(), Fail> {
-    let alloc = rt.alloc();
     for text in TEXTS.lines() {
-        let formula = read_spl(alloc, text.as_bytes()).ok().ok_or("a formula")?;
-        let printed = print_spl(alloc, &formula)?;
-        assert_eq!(rt; printed.as_slice(), text.as_bytes());
+        assert_eq!(rt; printed(rt.alloc(), text)?.as_slice(), text.as_bytes());
     }
     Ok(())
 }
@@ -111,7 +119,7 @@ fn product(alloc: Global, formula: &str, modulus: u64, x: &[u64]) -> Result<Stri
     let y = Spl::apply_plain(alloc, &m, &formula, x)?;
     let mut text = format!(in alloc; "{} rows:", formula.rows())?;
     for value in &y {
-        text.push_str(format!(in alloc; " {value}")?.as_str())?;
+        write!(text, " {value}")?;
     }
     Ok(text)
 }
