@@ -9,8 +9,7 @@ use icode::action::Action;
 use icode::program::Program;
 use par_machine::{Machine, Turned};
 use request_text::{Schedule, read_schedule};
-use std::alloc::Global;
-use std::fmt;
+use std::alloc::{AllocError, Global};
 use std::fmt::Write;
 use std::test::Fail;
 
@@ -231,7 +230,7 @@ fn actions_by_number(rt: HostRuntime) -> Result<(), Fail> {
 }
 
 // The action's word and numbers, on one lane.
-fn write_action(text: &mut String, action: &Action) -> fmt::Result {
+fn write_action(text: &mut String, action: &Action) -> Result<(), AllocError> {
     match *action {
         Action::Load { register, address } => write!(text, "ld {register} {address}, "),
         Action::Store { address, register } => write!(text, "st {address} {register}, "),

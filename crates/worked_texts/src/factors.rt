@@ -3,8 +3,7 @@
 use crate::contexts::{context, tree_of};
 use crate::rows::check;
 use smp_rewrite::{Factor, to_smp};
-use std::alloc::Global;
-use std::fmt;
+use std::alloc::{AllocError, Global};
 use std::fmt::Write;
 use std::test::Fail;
 use steps::{Core, Step};
@@ -28,7 +27,7 @@ dft 16 mod 17 root 3 procs 2 line 2 lanes 2|before L(2,4); lanes L(1,4); lanes l
 dft 16 mod 17 root 3 line 3 lanes 3|not admissible
 ";
 
-fn write_path(text: &mut String, path: &[Tensor]) -> fmt::Result {
+fn write_path(text: &mut String, path: &[Tensor]) -> Result<(), AllocError> {
     for tensor in path {
         match tensor {
             Tensor::Blocks(count) => write!(text, "b{count} ")?,
@@ -38,7 +37,7 @@ fn write_path(text: &mut String, path: &[Tensor]) -> fmt::Result {
     Ok(())
 }
 
-fn write_core(text: &mut String, core: &Core) -> fmt::Result {
+fn write_core(text: &mut String, core: &Core) -> Result<(), AllocError> {
     match core {
         Core::Piece(tree) => write!(text, "{tree}"),
         Core::Turns { rows, cols } => write!(text, "L({rows},{cols})"),
@@ -48,14 +47,14 @@ fn write_core(text: &mut String, core: &Core) -> fmt::Result {
     }
 }
 
-fn write_step(text: &mut String, word: &str, step: &Step) -> fmt::Result {
+fn write_step(text: &mut String, word: &str, step: &Step) -> Result<(), AllocError> {
     write!(text, "{word} ")?;
     write_path(text, &step.path)?;
     write_core(text, &step.core)?;
     write!(text, "; ")
 }
 
-fn write_block(text: &mut String, factor: &Factor) -> fmt::Result {
+fn write_block(text: &mut String, factor: &Factor) -> Result<(), AllocError> {
     match factor {
         Factor::Blocks(step) => write_step(text, "blocks", step),
         Factor::Diagonals(step) => write_step(text, "diagonals", step),
@@ -64,20 +63,20 @@ fn write_block(text: &mut String, factor: &Factor) -> fmt::Result {
     }
 }
 
-fn write_blocks(text: &mut String, factors: &[Factor]) -> fmt::Result {
+fn write_blocks(text: &mut String, factors: &[Factor]) -> Result<(), AllocError> {
     for factor in factors {
         write_block(text, factor)?;
     }
     Ok(())
 }
 
-fn write_tiles(text: &mut String, path: &[Tensor]) -> fmt::Result {
+fn write_tiles(text: &mut String, path: &[Tensor]) -> Result<(), AllocError> {
     write!(text, "tiles ")?;
     write_path(text, path)?;
     write!(text, "; ")
 }
 
-fn write_lane_factor(text: &mut String, factor: &VecFactor) -> fmt::Result {
+fn write_lane_factor(text: &mut String, factor: &VecFactor) -> Result<(), AllocError> {
     match factor {
         VecFactor::Lanes(step) => write_step(text, "lanes", step),
         VecFactor::Diagonals(step) => write_step(text, "diagonals", step),
@@ -87,7 +86,7 @@ fn write_lane_factor(text: &mut String, factor: &VecFactor) -> fmt::Result {
     }
 }
 
-fn write_lanes(text: &mut String, factors: &[VecFactor]) -> fmt::Result {
+fn write_lanes(text: &mut String, factors: &[VecFactor]) -> Result<(), AllocError> {
     for factor in factors {
         write_lane_factor(text, factor)?;
     }

@@ -4,8 +4,7 @@ use crate::contexts::{context, tree_of};
 use crate::rows::check;
 use icode::action::Action;
 use kernel_gen::{Kernel, kernel};
-use std::alloc::Global;
-use std::fmt;
+use std::alloc::{AllocError, Global};
 use std::fmt::Write;
 use std::test::Fail;
 use tree_model::admissible;
@@ -17,7 +16,7 @@ dft 4 mod 17 root 4; ct 2 2|add 4 0 2, sub 5 0 2, add 6 1 3, sub 7 1 3, mul 8 7 
 ";
 
 // The action by its word and numbers, on one lane.
-fn write_action(text: &mut String, action: &Action) -> fmt::Result {
+fn write_action(text: &mut String, action: &Action) -> Result<(), AllocError> {
     match *action {
         Action::Add {
             register,
@@ -39,7 +38,7 @@ fn write_action(text: &mut String, action: &Action) -> fmt::Result {
     }
 }
 
-fn write_kernel(text: &mut String, made: &Kernel) -> fmt::Result {
+fn write_kernel(text: &mut String, made: &Kernel) -> Result<(), AllocError> {
     for action in &made.actions {
         write_action(text, action)?;
     }

@@ -10,8 +10,7 @@ use memory::NoMemory;
 use passes::{Merged, Nest};
 use perm_algebra::Affine;
 use sigma_lower::lower;
-use std::alloc::Global;
-use std::fmt;
+use std::alloc::{AllocError, Global};
 use std::fmt::Write;
 use std::test::Fail;
 use tree_model::{Ctx, Tree, admissible};
@@ -38,14 +37,14 @@ fn merged_tree(alloc: Global, c: &Ctx, tree: &Tree) -> Result<Merged, NoMemory>
     merge(alloc, c, &formulas)
 }
 
-fn write_sums(text: &mut String, word: &str, sums: &[Affine]) -> fmt::Result {
+fn write_sums(text: &mut String, word: &str, sums: &[Affine]) -> Result<(), AllocError> {
     for sum in sums {
         write!(text, " {word} {sum}")?;
     }
     Ok(())
 }
 
-fn write_nest(text: &mut String, nest: &Nest) -> fmt::Result {
+fn write_nest(text: &mut String, nest: &Nest) -> Result<(), AllocError> {
     write_sums(text, "ld", &nest.gathers)?;
     if let Some(multiplier) = &nest.multiplier {
         write_sums(text, "mul", &multiplier.places)?;

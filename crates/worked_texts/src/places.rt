@@ -7,8 +7,7 @@ ghost use Rattle.perm_algebra.specs.Views.{plain_sum};
 use icode::program::{Expr, Part};
 use perm_algebra::Affine;
 use program_emit::{Frame, place_expr};
-use std::alloc::Global;
-use std::fmt;
+use std::alloc::{AllocError, Global};
 use std::fmt::Write;
 use std::test::Fail;
 
@@ -31,7 +30,7 @@ fn five_and_parts(alloc: Global) -> Result<Affine, Fail>
 }
 
 // The constant and the variables of a place.
-fn write_variables(text: &mut String, place: &Expr) -> fmt::Result {
+fn write_variables(text: &mut String, place: &Expr) -> Result<(), AllocError> {
     write!(text, "{}", place.constant)?;
     for part in &place.parts {
         match part {
@@ -44,7 +43,7 @@ fn write_variables(text: &mut String, place: &Expr) -> fmt::Result {
 }
 
 // A place whose remainders and quotients are of constants and variables.
-fn write_part(text: &mut String, part: &Part) -> fmt::Result {
+fn write_part(text: &mut String, part: &Part) -> Result<(), AllocError> {
     match part {
         Part::Proc { factor } => write!(text, "+q*{factor}"),
         Part::Var { depth, factor } => write!(text, "+v{depth}*{factor}"),

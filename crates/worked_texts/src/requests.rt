@@ -2,8 +2,7 @@
 
 use crate::rows::{check, number, numbers, spelled};
 use request_text::{Mix, Schedule, read_conv, read_mix, read_request, read_schedule};
-use std::alloc::Global;
-use std::fmt;
+use std::alloc::{AllocError, Global};
 use std::fmt::Write;
 use std::test::Fail;
 
@@ -229,7 +228,7 @@ seq; 1|Syntax { at: 0 }
 mix:d0,t1,d; 1|Syntax { at: 11 }
 ";
 
-fn write_events(text: &mut String, mix: &Mix) -> fmt::Result {
+fn write_events(text: &mut String, mix: &Mix) -> Result<(), AllocError> {
     for place in 0..mix.len() {
         write!(text, "{:?} ", mix.event_at(place))?;
     }
