@@ -62,7 +62,8 @@ fn answers_as(rt: &impl Abort, alloc: Global, row: &str) -> Result<(), Fail> {
     let text = row.replace(alloc, "/", "\n")?;
     let (streams, rest) = field(&text)?;
     let (input, wanted) = field(rest)?;
-    let seen = streamed(alloc, &outside(streams)?, input)?;
+    let outside = outside(streams)?;
+    let seen = streamed(alloc, &outside, input)?;
     assert_eq!(rt; seen.as_str(), wanted, "{row}");
     Ok(())
 }
