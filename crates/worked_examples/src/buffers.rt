@@ -1,6 +1,6 @@
 // Runs and traces with store buffers, under turns and drains.
 
-use crate::rows::answers_as;
+use crate::rows::all_answer;
 use std::test::Fail;
 
 // Rows as in `rows`. They leave what runs without buffers leave.
@@ -45,11 +45,16 @@ plan --buffers; dft 4 mod 17 root 4/; 2; -; usage
 ";
 
 #[test]
-fn answers_with_buffers(rt: HostRuntime) -> Result<(), Fail> {
-    for rows in [RUNS, TRACES, REFUSALS] {
-        for row in rows.lines() {
-            answers_as(&rt, rt.alloc(), row)?;
-        }
-    }
-    Ok(())
+fn runs_with_buffers(rt: HostRuntime) -> Result<(), Fail> {
+    all_answer(&rt, rt.alloc(), RUNS)
+}
+
+#[test]
+fn traces_with_buffers(rt: HostRuntime) -> Result<(), Fail> {
+    all_answer(&rt, rt.alloc(), TRACES)
+}
+
+#[test]
+fn refusals_of_buffers(rt: HostRuntime) -> Result<(), Fail> {
+    all_answer(&rt, rt.alloc(), REFUSALS)
 }

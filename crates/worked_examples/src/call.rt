@@ -43,18 +43,34 @@ fn list(alloc: Global, call: Option<u64>) -> Result<Vec<u64>, Fail> {
     Ok(calls)
 }
 
-/// The call of these words, which are joined by spaces, on this input.
-pub(crate) fn call(alloc: Global, line: &str, input: &[u8], outside: &Outside) -> Result<Seen, Fail>
-    requires { 0 < outside.now.step }
-{
+/// The words of a line, between its spaces.
+fn words_of(alloc: Global, line: &str) -> Result<Vec<String>, Fail> {
     let mut words = Vec::new(alloc);
     for word in line.split(' ') {
         words.push(word.to_string(alloc)?)?;
     }
-    let read_fails = list(alloc, outside.read_fails)?;
-    let mut source = MemSource::new(input.to_vec(alloc)?, outside.step, read_fails);
-    let write_fails = list(alloc, outside.write_fails)?;
-    let mut output = MemSink::new(alloc, outside.room, write_fails)?;
+    Ok(words)
+}
+
+fn source_of(alloc: Global, input: &[u8], outside: &Outside) -> Result<MemSource, Fail>
+    requires { 0 < outside.now.step }
+{
+    let fails = list(alloc, outside.read_fails)?;
+    Ok(MemSource::new(input.to_vec(alloc)?, outside.step, fails))
+}
+
+fn sink_of(alloc: Global, outside: &Outside) -> Result<MemSink, Fail> {
+    let fails = list(alloc, outside.write_fails)?;
+    Ok(MemSink::new(alloc, outside.room, fails)?)
+}
+
+/// The call of these words, which are joined by spaces, on this input.
+pub(crate) fn call(alloc: Global, line: &str, input: &[u8], outside: &Outside) -> Result<Seen, Fail>
+    requires { 0 < outside.now.step }
+{
+    let words = words_of(alloc, line)?;
+    let mut source = source_of(alloc, input, outside)?;
+    let mut output = sink_of(alloc, outside)?;
     let mut note = MemSink::new(alloc, outside.note_room, Vec::new(alloc))?;
     let status = spiral_run(alloc, &words, &mut source, &mut output, &mut note);
     Ok(Seen {
@@ -71,4 +87,15 @@ pub(crate) fn output_of(seen: &Seen) -> Result<&str, Fail> {
             .ok()
             .ok_or("a text")?,
     )
+}
+
+/// What the call notes, as text.
+pub(crate) fn note_of(seen: &Seen) -> Result<&str, Fail> {
+    Ok(std::str::from_utf8(seen.note.bytes()).ok().ok_or("a text")?)
+}
+
+/// The code, the output and the note of a call, as rows have them.
+pub(crate) fn told(alloc: Global, seen: &Seen) -> Result<String, Fail> {
+    let (output, note) = (output_of(seen)?, note_of(seen)?);
+    Ok(format!(in alloc; "{}; {output}; {note}", seen.code)?)
 }

@@ -1,6 +1,7 @@
 // What the check says of listings.
 
 use crate::programs::nested;
+use crate::rows::check;
 use code_check::verify;
 use listing_text::read_listing;
 use std::alloc::Global;
@@ -47,27 +48,29 @@ fn answer(alloc: Global, listing: &str) -> Result<String, Fail> {
     }
 }
 
-#[test]
-fn verdicts(rt: HostRuntime) -> Result<(), Fail> {
-    let alloc = rt.alloc();
-    for row in ROWS.lines() {
-        let (word, rest) = row.split_once(": ").ok_or("a word")?;
-        let (listing, wanted) = rest.split_once('|').ok_or("an answer")?;
-        let answer = answer(alloc, &listing.replace(alloc, "~", "\n")?)?;
-        assert_eq!(rt; answer.as_str(), wanted, "{word}");
-    }
-    Ok(())
+fn row_answer(alloc: Global, question: &str) -> Result<String, Fail> {
+    let (_, listing) = question.split_once(": ").ok_or("a word")?;
+    answer(alloc, &listing.replace(alloc, "~", "\n")?)
 }
 
-// No loop round nothing is walked.
+#[test]
+fn verdicts(rt: HostRuntime) -> Result<(), Fail> {
+    check(&rt, rt.alloc(), ROWS, row_answer)
+}
+
+// The statements inside the loops, and the answer. No loop round nothing is walked.
+const LOOPS: &str = "\
+|passes
+zero r0~|more than 100000000 actions
+";
+
+fn loops_answer(alloc: Global, statements: &str) -> Result<String, Fail> {
+    let header = "size 4 mod 17 procs 2 line 1 lanes 1 regs 1";
+    let text = nested(alloc, header, &statements.replace(alloc, "~", "\n")?)?;
+    answer(alloc, &format!(in alloc; "{text}zero r0\nend\n")?)
+}
+
 #[test]
 fn loops_in_loops(rt: HostRuntime) -> Result<(), Fail> {
-    let alloc = rt.alloc();
-    let header = "size 4 mod 17 procs 2 line 1 lanes 1 regs 1";
-    for (statements, wanted) in [("", "passes"), ("zero r0\n", "more than 100000000 actions")] {
-        let mut text = nested(alloc, header, statements)?;
-        text.push_str("zero r0\nend\n")?;
-        assert_eq!(rt; answer(alloc, &text)?.as_str(), wanted);
-    }
-    Ok(())
+    check(&rt, rt.alloc(), LOOPS, loops_answer)
 }

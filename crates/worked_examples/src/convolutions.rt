@@ -2,9 +2,10 @@
 
 ghost use Rattle.std.specs.Prelude.{◌<◌};
 
-use crate::call::{AMPLE, Outside, Seen, call, output_of};
-use crate::rows::answers_as;
+use crate::call::{AMPLE, Outside, Seen, call, note_of, output_of};
+use crate::rows::all_answer;
 use std::alloc::Global;
+use std::process::Abort;
 use std::test::Fail;
 
 // Rows as those of requests: the words behind the program's name, the input, the code, the output and the note.
@@ -98,28 +99,22 @@ exec; conv 4 mod 17 root 4/1 2 0 0/; 18; -; listing syntax at line 1
 
 #[test]
 fn convolutions(rt: HostRuntime) -> Result<(), Fail> {
-    for row in RESULTS.lines() {
-        answers_as(&rt, rt.alloc(), row)?;
-    }
-    Ok(())
+    all_answer(&rt, rt.alloc(), RESULTS)
 }
 
 #[test]
 fn listed_convolutions(rt: HostRuntime) -> Result<(), Fail> {
-    for row in CODES.lines() {
-        answers_as(&rt, rt.alloc(), row)?;
-    }
-    Ok(())
+    all_answer(&rt, rt.alloc(), CODES)
 }
 
 #[test]
 fn refused_convolutions(rt: HostRuntime) -> Result<(), Fail> {
-    for rows in [REFUSALS, OTHERS] {
-        for row in rows.lines() {
-            answers_as(&rt, rt.alloc(), row)?;
-        }
-    }
-    Ok(())
+    all_answer(&rt, rt.alloc(), REFUSALS)
+}
+
+#[test]
+fn lines_of_other_commands(rt: HostRuntime) -> Result<(), Fail> {
+    all_answer(&rt, rt.alloc(), OTHERS)
 }
 
 // The listing is run on other vectors as a stranger's is.
@@ -139,14 +134,10 @@ fn convolution_by_its_listing(rt: HostRuntime) -> Result<(), Fail> {
 // A line of 257 bytes is not read.
 #[test]
 fn long_lines(rt: HostRuntime) -> Result<(), Fail> {
-    let alloc = rt.alloc();
-    let line = "c".repeat(alloc, 257)?;
-    let seen = call(alloc, "spiral convolve", line.as_bytes(), &AMPLE)?;
+    let line = "c".repeat(rt.alloc(), 257)?;
+    let seen = call(rt.alloc(), "spiral convolve", line.as_bytes(), &AMPLE)?;
     assert_eq!(rt; seen.code, 13);
-    assert_eq!(rt;
-        seen.note.bytes(),
-        b"spiral: more than 256 bytes\n".as_slice()
-    );
+    assert_eq!(rt; note_of(&seen)?, "spiral: more than 256 bytes\n");
     Ok(())
 }
 
@@ -157,44 +148,62 @@ fn failing(alloc: Global, words: &str, outside: &Outside) -> Result<Seen, Fail>
     call(alloc, words, input, outside)
 }
 
-// A read that fails leaves the lines of the vectors before it. Behind h the listing needs none.
+fn fail_read(rt: &impl Abort, alloc: Global, fails: u64, wanted: &str) -> Result<(), Fail> {
+    let outside = Outside {
+        step: 7,
+        read_fails: Some(fails),
+        ..AMPLE
+    };
+    let seen = failing(alloc, "spiral convolve", &outside)?;
+    assert_eq!(rt; seen.code, 10, "{fails}");
+    assert_eq!(rt; output_of(&seen)?, wanted, "{fails}");
+    Ok(())
+}
+
+// A read that fails leaves the lines of the vectors before it.
 #[test]
 fn failing_reads(rt: HostRuntime) -> Result<(), Fail> {
-    let alloc = rt.alloc();
     for (fails, wanted) in [(0, ""), (3, ""), (6, "9 4 7 10\n")] {
-        let outside = Outside {
-            step: 7,
-            read_fails: Some(fails),
-            ..AMPLE
-        };
-        let seen = failing(alloc, "spiral convolve", &outside)?;
-        assert_eq!(rt; seen.code, 10, "{fails}");
-        assert_eq!(rt; output_of(&seen)?, wanted, "{fails}");
+        fail_read(&rt, rt.alloc(), fails, wanted)?;
     }
+    Ok(())
+}
+
+// Behind h the listing needs none.
+#[test]
+fn a_read_that_the_listing_does_not_need(rt: HostRuntime) -> Result<(), Fail> {
     let outside = Outside {
         step: 29,
         read_fails: Some(1),
         ..AMPLE
     };
-    assert_eq!(rt; failing(alloc, "spiral convolve --code", &outside)?.code, 0);
+    let seen = failing(rt.alloc(), "spiral convolve --code", &outside)?;
+    assert_eq!(rt; seen.code, 0);
+    Ok(())
+}
+
+fn fail_write(rt: &impl Abort, alloc: Global, words: &str) -> Result<(), Fail> {
+    let outside = Outside {
+        write_fails: Some(0),
+        ..AMPLE
+    };
+    let seen = failing(alloc, words, &outside)?;
+    assert_eq!(rt; seen.code, 11, "{words}");
+    assert!(rt; seen.output.bytes().is_empty(), "{words}");
     Ok(())
 }
 
 // A write that fails leaves a front of the text.
 #[test]
 fn failing_writes(rt: HostRuntime) -> Result<(), Fail> {
-    let alloc = rt.alloc();
-    for words in ["spiral convolve", "spiral convolve --code"] {
-        let outside = Outside {
-            write_fails: Some(0),
-            ..AMPLE
-        };
-        let seen = failing(alloc, words, &outside)?;
-        assert_eq!(rt; seen.code, 11, "{words}");
-        assert!(rt; seen.output.bytes().is_empty(), "{words}");
-    }
+    fail_write(&rt, rt.alloc(), "spiral convolve")?;
+    fail_write(&rt, rt.alloc(), "spiral convolve --code")
+}
+
+#[test]
+fn a_sink_that_is_full(rt: HostRuntime) -> Result<(), Fail> {
     let outside = Outside { room: 12, ..AMPLE };
-    let seen = failing(alloc, "spiral convolve", &outside)?;
+    let seen = failing(rt.alloc(), "spiral convolve", &outside)?;
     assert_eq!(rt; seen.code, 11);
     assert_eq!(rt; output_of(&seen)?, "9 4 7 10\n4 1");
     Ok(())

@@ -2,10 +2,11 @@
 
 ghost use Rattle.std.specs.Prelude.{◌<◌};
 
-use crate::call::{AMPLE, Outside, Seen, call, output_of};
-use crate::rows::answers_as;
+use crate::call::{AMPLE, Outside, Seen, call, note_of, output_of};
+use crate::rows::{all_answer, field, lines_of};
 use listing_text::read_listing;
 use std::alloc::Global;
+use std::process::Abort;
 use std::test::Fail;
 
 // Rows as those of requests: the words behind the program's name, the input, the code, the output and the note.
@@ -33,7 +34,7 @@ apply --mod 17; RIGHT(2,L(6,4)); 16; -; formula shape at byte 8: 6 and 4
 apply --mod 17; WHT(6)/; 16; -; formula shape at byte 0: 6 and 2
 apply --mod 17; I(0); 3; -; syntax at byte 2
 apply --mod 17; I(2/1 2; 3; -; syntax at byte 3
-apply --mod 17; I(65537)/; 3; -; syntax at byte 6
+apply --mod 17; I(1048577)/; 3; -; syntax at byte 8
 apply --mod 17; I(2) /1 2; 3; -; syntax at byte 4
 compile --mod 17; -; 3; -; syntax at byte 0
 compile --mod 17; /I(2)/; 3; -; syntax at byte 0
@@ -50,83 +51,107 @@ apply --mod 17 --schedule mix:t0; I(2)/; 2; -; usage
 
 #[test]
 fn applied_formulas(rt: HostRuntime) -> Result<(), Fail> {
-    for row in RESULTS.lines() {
-        answers_as(&rt, rt.alloc(), row)?;
-    }
-    Ok(())
+    all_answer(&rt, rt.alloc(), RESULTS)
 }
 
 #[test]
 fn refused_formulas(rt: HostRuntime) -> Result<(), Fail> {
-    for row in REFUSALS.lines() {
-        answers_as(&rt, rt.alloc(), row)?;
-    }
-    Ok(())
+    all_answer(&rt, rt.alloc(), REFUSALS)
 }
 
 // What `compile` writes for a formula is a listing, which `exec` runs on the data as `apply` does.
+// The listing that `compile` writes.
+fn compiled(alloc: Global, modulus: &str, input: &str) -> Result<String, Fail> {
+    let line = format!(in alloc; "spiral compile --mod {modulus}")?;
+    let seen = call(alloc, &line, input.as_bytes(), &AMPLE)?;
+    if seen.code != 0 || read_listing(alloc, seen.output.bytes()).is_err() {
+        return Err(Fail::from("a listing"));
+    }
+    Ok(output_of(&seen)?.to_string(alloc)?)
+}
+
+// What `exec` makes of the listing and the data.
+fn executed(alloc: Global, listing: &str, input: &str) -> Result<String, Fail> {
+    let data = match input.split_once('\n') {
+        Some((_, data)) => data,
+        None => "",
+    };
+    let given = format!(in alloc; "{listing}\n{data}")?;
+    let seen = call(alloc, "spiral exec", given.as_bytes(), &AMPLE)?;
+    Ok(output_of(&seen)?.to_string(alloc)?)
+}
+
+fn applied(alloc: Global, words: &str, input: &str) -> Result<String, Fail> {
+    let line = format!(in alloc; "spiral {words}")?;
+    let seen = call(alloc, &line, input.as_bytes(), &AMPLE)?;
+    Ok(output_of(&seen)?.to_string(alloc)?)
+}
+
+fn executes_as_applied(rt: &impl Abort, alloc: Global, row: &str) -> Result<(), Fail> {
+    let (words, rest) = field(row)?;
+    let (input, _) = field(rest)?;
+    let input = lines_of(alloc, input)?;
+    let modulus = words.split(' ').nth(2).ok_or("a modulus")?;
+    let run = executed(alloc, &compiled(alloc, modulus, &input)?, &input)?;
+    let wanted = applied(alloc, words, &input)?;
+    assert_eq!(rt; run.as_str(), wanted.as_str(), "{row}");
+    Ok(())
+}
+
 #[test]
 fn compiled_formulas(rt: HostRuntime) -> Result<(), Fail> {
-    let alloc = rt.alloc();
     for row in RESULTS.lines() {
-        let mut fields = row.split("; ");
-        let words = fields.next().ok_or("words")?;
-        let input = fields.next().ok_or("an input")?.replace(alloc, "/", "\n")?;
-        let modulus = words.split(' ').nth(2).ok_or("a modulus")?;
-        let line = format!(in alloc; "spiral compile --mod {modulus}")?;
-        let compiled = call(alloc, &line, input.as_bytes(), &AMPLE)?;
-        assert_eq!(rt; compiled.code, 0, "{row}");
-        assert!(rt;
-            read_listing(alloc, compiled.output.bytes()).is_ok(),
-            "{row}"
-        );
-        let data = match input.split_once('\n') {
-            Some((_, data)) => data,
-            None => "",
-        };
-        let given = format!(in alloc; "{}\n{data}", output_of(&compiled)?)?;
-        let run = call(alloc, "spiral exec", given.as_bytes(), &AMPLE)?;
-        let wanted = call(
-            alloc,
-            &format!(in alloc; "spiral {words}")?,
-            input.as_bytes(),
-            &AMPLE,
-        )?;
-        assert_eq!(rt; output_of(&run)?, output_of(&wanted)?, "{row}");
+        executes_as_applied(&rt, rt.alloc(), row)?;
     }
     Ok(())
 }
 
 // A line of 65,536 bytes is read, and a longer one is not.
 #[test]
-fn long_lines(rt: HostRuntime) -> Result<(), Fail> {
-    let alloc = rt.alloc();
-    let line = "X".repeat(alloc, 65536)?;
-    let read = call(alloc, "spiral compile --mod 17", line.as_bytes(), &AMPLE)?;
+fn longest_lines(rt: HostRuntime) -> Result<(), Fail> {
+    let line = "X".repeat(rt.alloc(), 65536)?;
+    let read = call(
+        rt.alloc(),
+        "spiral compile --mod 17",
+        line.as_bytes(),
+        &AMPLE,
+    )?;
     assert_eq!(rt; read.code, 3);
-    let longer = format!(in alloc; "{line}X")?;
-    let unread = call(alloc, "spiral compile --mod 17", longer.as_bytes(), &AMPLE)?;
+    Ok(())
+}
+
+#[test]
+fn longer_lines(rt: HostRuntime) -> Result<(), Fail> {
+    let line = "X".repeat(rt.alloc(), 65537)?;
+    let unread = call(
+        rt.alloc(),
+        "spiral compile --mod 17",
+        line.as_bytes(),
+        &AMPLE,
+    )?;
     assert_eq!(rt; unread.code, 13);
-    assert_eq!(rt;
-        unread.note.bytes(),
-        b"spiral: more than 65536 bytes\n".as_slice()
-    );
+    assert_eq!(rt; note_of(&unread)?, "spiral: more than 65536 bytes\n");
     Ok(())
 }
 
 // 128 open parts with one more in them.
-#[test]
-fn deep_formulas(rt: HostRuntime) -> Result<(), Fail> {
-    let alloc = rt.alloc();
+fn deep(alloc: Global) -> Result<String, Fail> {
     let fronts = "RIGHT(1,".repeat(alloc, 128)?;
     let ends = ")".repeat(alloc, 128)?;
-    let text = format!(in alloc; "{fronts}I(1){ends}")?;
-    let seen = call(alloc, "spiral compile --mod 17", text.as_bytes(), &AMPLE)?;
+    Ok(format!(in alloc; "{fronts}I(1){ends}")?)
+}
+
+#[test]
+fn deep_formulas(rt: HostRuntime) -> Result<(), Fail> {
+    let text = deep(rt.alloc())?;
+    let seen = call(
+        rt.alloc(),
+        "spiral compile --mod 17",
+        text.as_bytes(),
+        &AMPLE,
+    )?;
     assert_eq!(rt; seen.code, 17);
-    assert_eq!(rt;
-        seen.note.bytes(),
-        b"spiral: formula too deep at byte 1025\n".as_slice()
-    );
+    assert_eq!(rt; note_of(&seen)?, "spiral: formula too deep at byte 1025\n");
     Ok(())
 }
 
@@ -138,24 +163,33 @@ fn failing(alloc: Global, outside: &Outside) -> Result<Seen, Fail>
 }
 
 // A read that fails in the line leaves no output, and so does a write that fails.
+fn fail_read(rt: &impl Abort, alloc: Global, fails: u64) -> Result<(), Fail> {
+    let outside = Outside {
+        step: 6,
+        read_fails: Some(fails),
+        ..AMPLE
+    };
+    let seen = failing(alloc, &outside)?;
+    assert_eq!(rt; seen.code, 10, "{fails}");
+    assert!(rt; seen.output.bytes().is_empty(), "{fails}");
+    Ok(())
+}
+
 #[test]
-fn failing_calls(rt: HostRuntime) -> Result<(), Fail> {
-    let alloc = rt.alloc();
+fn failing_reads(rt: HostRuntime) -> Result<(), Fail> {
     for fails in [0, 1, 5] {
-        let outside = Outside {
-            step: 6,
-            read_fails: Some(fails),
-            ..AMPLE
-        };
-        let seen = failing(alloc, &outside)?;
-        assert_eq!(rt; seen.code, 10, "{fails}");
-        assert!(rt; seen.output.bytes().is_empty(), "{fails}");
+        fail_read(&rt, rt.alloc(), fails)?;
     }
+    Ok(())
+}
+
+#[test]
+fn failing_writes(rt: HostRuntime) -> Result<(), Fail> {
     let outside = Outside {
         write_fails: Some(0),
         ..AMPLE
     };
-    let seen = failing(alloc, &outside)?;
+    let seen = failing(rt.alloc(), &outside)?;
     assert_eq!(rt; seen.code, 11);
     assert!(rt; seen.output.bytes().is_empty());
     Ok(())

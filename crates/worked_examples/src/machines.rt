@@ -4,11 +4,13 @@ ghost use Rattle.std.specs.Prelude.{◌≡◌, ◌<◌, ◌↔◌, All, IfOk, Is
 ghost use Rattle.icode.specs.Program.{Fits, code_of};
 
 use crate::programs::{joined, number, numbers, program};
+use crate::rows::{check, field};
 use icode::action::Action;
 use icode::program::Program;
 use par_machine::{Machine, Turned};
 use request_text::{Schedule, read_schedule};
-use std::alloc::Global;
+use std::alloc::{AllocError, Global};
+use std::fmt::Write;
 use std::test::Fail;
 
 /// Whether the words are an input of the program.
@@ -101,23 +103,22 @@ tiled; 0 1 0 0 0 0 0 0 0 0 0 0 0 0 0 0; rr:5|1 3 9 10 13 5 15 11 16 14 8 7 4 12 
 tiled; 0 1 0 0 0 0 0 0 0 0 0 0 0 0 0 0; seed:9:1000|1 3 9 10 13 5 15 11 16 14 8 7 4 12 2 6 44 24 24 44 24 24
 ";
 
-fn run_answer(alloc: Global, name: &str, input: &str, word: &str) -> Result<String, Fail> {
+fn run_named(alloc: Global, name: &str, input: &str, word: &str) -> Result<String, Fail> {
     let program = program(alloc, name)?;
     let mut machine = machine_with(alloc, &program, &numbers(alloc, input)?)?;
     run(alloc, &mut machine, word)?;
     joined(alloc, &numbers_of(alloc, &machine)?)
 }
 
+fn run_answer(alloc: Global, question: &str) -> Result<String, Fail> {
+    let (name, rest) = field(question)?;
+    let (input, word) = field(rest)?;
+    run_named(alloc, name, input, word)
+}
+
 #[test]
 fn results_of_schedules(rt: HostRuntime) -> Result<(), Fail> {
-    for row in RUNS.lines() {
-        let (question, wanted) = row.split_once('|').ok_or("a row")?;
-        let (name, rest) = question.split_once("; ").ok_or("an input")?;
-        let (input, word) = rest.split_once("; ").ok_or("a schedule")?;
-        let answer = run_answer(rt.alloc(), name, input, word)?;
-        assert_eq!(rt; answer.as_str(), wanted, "{row}");
-    }
-    Ok(())
+    check(&rt, rt.alloc(), RUNS, run_answer)
 }
 
 // 65,536 turns of one processor, named.
@@ -130,23 +131,30 @@ fn as_many_turns_as_can_be_named(rt: HostRuntime) -> Result<(), Fail> {
             word.push_str(",")?;
             word.push_str(proc)?;
         }
-        let answer = run_answer(alloc, "quad", "1 2 3 4", &word)?;
+        let answer = run_named(alloc, "quad", "1 2 3 4", &word)?;
         assert_eq!(rt; answer.as_str(), "10 7 15 6 6 4 4 6 4 4");
     }
     Ok(())
 }
 
-// Any five turns on another input may come before an input is put.
-#[test]
-fn put_after_turns(rt: HostRuntime) -> Result<(), Fail> {
-    let alloc = rt.alloc();
+// What a run leaves of the input behind these turns on another input.
+fn put_after(alloc: Global, turns: &[u64]) -> Result<String, Fail> {
     let quad = program(alloc, "quad")?;
+    let mut machine = machine_with(alloc, &quad, &[16, 5, 9, 7])?;
+    take_turns(&mut machine, turns);
     let input = [1, 2, 3, 4];
     if !is_input(&quad, &input) {
         return Err(Fail::from("an input"));
     }
+    machine.put(&input);
+    run(alloc, &mut machine, "seq")?;
+    joined(alloc, &numbers_of(alloc, &machine)?)
+}
+
+// Any five turns on another input may come before an input is put.
+#[test]
+fn put_after_turns(rt: HostRuntime) -> Result<(), Fail> {
     for turns in 0..32u64 {
-        let mut machine = machine_with(alloc, &quad, &[16, 5, 9, 7])?;
         let procs = [
             turns & 1,
             turns >> 1 & 1,
@@ -154,10 +162,7 @@ fn put_after_turns(rt: HostRuntime) -> Result<(), Fail> {
             turns >> 3 & 1,
             turns >> 4,
         ];
-        take_turns(&mut machine, &procs);
-        machine.put(&input);
-        run(alloc, &mut machine, "seq")?;
-        let answer = joined(alloc, &numbers_of(alloc, &machine)?)?;
+        let answer = put_after(rt.alloc(), &procs)?;
         assert_eq!(rt; answer.as_str(), "10 7 15 6 6 4 4 6 4 4", "after {turns}");
     }
     Ok(())
@@ -182,7 +187,7 @@ fn turn(machine: &mut Machine, proc: u64) -> &'static str
     }
 }
 
-fn turns_answer(alloc: Global, name: &str, input: &str, procs: &str) -> Result<String, Fail> {
+fn turns_named(alloc: Global, name: &str, input: &str, procs: &str) -> Result<String, Fail> {
     let program = program(alloc, name)?;
     let mut machine = machine_with(alloc, &program, &numbers(alloc, input)?)?;
     let mut text = String::new(alloc);
@@ -190,20 +195,19 @@ fn turns_answer(alloc: Global, name: &str, input: &str, procs: &str) -> Result<S
         text.push_str(turn(&mut machine, number(proc)?))?;
     }
     let left = joined(alloc, &numbers_of(alloc, &machine)?)?;
-    text.push_str(format!(in alloc; "{}: {left}", machine.phase())?.as_str())?;
+    write!(text, "{}: {left}", machine.phase())?;
     Ok(text)
+}
+
+fn turns_answer(alloc: Global, question: &str) -> Result<String, Fail> {
+    let (name, rest) = field(question)?;
+    let (input, procs) = field(rest)?;
+    turns_named(alloc, name, input, procs)
 }
 
 #[test]
 fn answers_of_turns(rt: HostRuntime) -> Result<(), Fail> {
-    for row in TURNS.lines() {
-        let (question, wanted) = row.split_once('|').ok_or("a row")?;
-        let (name, rest) = question.split_once("; ").ok_or("an input")?;
-        let (input, procs) = rest.split_once("; ").ok_or("turns")?;
-        let answer = turns_answer(rt.alloc(), name, input, procs)?;
-        assert_eq!(rt; answer.as_str(), wanted, "{row}");
-    }
-    Ok(())
+    check(&rt, rt.alloc(), TURNS, turns_answer)
 }
 
 // The program's words of memory, and its actions by number.
@@ -218,7 +222,7 @@ fn actions_by_number(rt: HostRuntime) -> Result<(), Fail> {
     let mut text = String::new(alloc);
     for index in 0..pair.len(0, 0) {
         let action = pair.action_at(0, 0, index);
-        text.push_str(&action_text(alloc, &action)?)?;
+        write_action(&mut text, &action)?;
     }
     let wanted = "ld 0 0, ld 1 1, add 2 0 1, mul 3 1 4, add 4 0 3, st 2 2, st 3 4, ";
     assert_eq!(rt; text.as_str(), wanted);
@@ -226,20 +230,20 @@ fn actions_by_number(rt: HostRuntime) -> Result<(), Fail> {
 }
 
 // The action's word and numbers, on one lane.
-fn action_text(alloc: Global, action: &Action) -> Result<String, Fail> {
-    Ok(match *action {
-        Action::Load { register, address } => format!(in alloc; "ld {register} {address}, ")?,
-        Action::Store { address, register } => format!(in alloc; "st {address} {register}, ")?,
+fn write_action(text: &mut String, action: &Action) -> Result<(), AllocError> {
+    match *action {
+        Action::Load { register, address } => write!(text, "ld {register} {address}, "),
+        Action::Store { address, register } => write!(text, "st {address} {register}, "),
         Action::Add {
             register,
             left,
             right,
-        } => format!(in alloc; "add {register} {left} {right}, ")?,
+        } => write!(text, "add {register} {left} {right}, "),
         Action::Mul {
             register,
             source,
             factors,
-        } => format!(in alloc; "mul {register} {source} {}, ", factors[0])?,
-        _ => format!(in alloc; "another, ")?,
-    })
+        } => write!(text, "mul {register} {source} {}, ", factors[0]),
+        _ => write!(text, "another, "),
+    }
 }

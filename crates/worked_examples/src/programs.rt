@@ -8,6 +8,7 @@ use code_check::{CheckFault, verify};
 use icode::program::Program;
 use listing_text::read_listing;
 use std::alloc::Global;
+use std::fmt::Write;
 use std::test::Fail;
 
 /// The transform of size 2 with root 4, modulo 15.
@@ -145,7 +146,7 @@ end
 pub(crate) fn nested(alloc: Global, header: &str, statements: &str) -> Result<String, Fail> {
     let mut text = format!(in alloc; "program {header}\nphase\n")?;
     for depth in 0..64u64 {
-        text.push_str(format!(in alloc; "for v{depth} 4294967295\n")?.as_str())?;
+        write!(text, "for v{depth} 4294967295\n")?;
     }
     text.push_str(statements)?;
     for _ in 0..64u64 {
@@ -222,7 +223,7 @@ pub(crate) fn joined(alloc: Global, numbers: &[u64]) -> Result<String, Fail> {
         if !text.is_empty() {
             text.push_str(" ")?;
         }
-        text.push_str(format!(in alloc; "{number}")?.as_str())?;
+        write!(text, "{number}")?;
     }
     Ok(text)
 }

@@ -5,6 +5,7 @@ ghost use Rattle.icode.specs.Program.{Fits, code_of};
 
 use crate::machines::is_input;
 use crate::programs::{joined, numbers, program, sharing_program};
+use crate::rows::{check, field};
 use buffer_machine::{BufMachine, Drained, Event, Turned};
 use icode::program::Program;
 use request_text::{Mix, read_mix};
@@ -72,7 +73,7 @@ quad; 1 2 3 4; mix:d0|empty 0 Some(Turn(0)): 0 0 0 0, 10 7 15 6
 quad; 1 2 3 4; mix:t1,d0,t0,d1|did empty did empty 0 Some(Turn(0)): 0 0 0 0, 10 7 15 6
 ";
 
-fn mix_answer(alloc: Global, program: &Program, input: &str, word: &str) -> Result<String, Fail>
+fn mix_on(alloc: Global, program: &Program, input: &str, word: &str) -> Result<String, Fail>
     requires { Fits program.now }
 {
     let mut machine = machine_with(alloc, program, &numbers(alloc, input)?)?;
@@ -85,17 +86,16 @@ fn mix_answer(alloc: Global, program: &Program, input: &str, word: &str) -> Resu
     Ok(format!(in alloc; "{answers}{phase} {next:?}: {early}, {late}")?)
 }
 
+fn mix_answer(alloc: Global, question: &str) -> Result<String, Fail> {
+    let (name, rest) = field(question)?;
+    let (input, word) = field(rest)?;
+    let program = program(alloc, name)?;
+    mix_on(alloc, &program, input, word)
+}
+
 #[test]
 fn turns_and_drains(rt: HostRuntime) -> Result<(), Fail> {
-    for row in MIXES.lines() {
-        let (question, wanted) = row.split_once('|').ok_or("a row")?;
-        let (name, rest) = question.split_once("; ").ok_or("an input")?;
-        let (input, word) = rest.split_once("; ").ok_or("a mix")?;
-        let program = program(rt.alloc(), name)?;
-        let answer = mix_answer(rt.alloc(), &program, input, word)?;
-        assert_eq!(rt; answer.as_str(), wanted, "{row}");
-    }
-    Ok(())
+    check(&rt, rt.alloc(), MIXES, mix_answer)
 }
 
 // The same of programs that share a line: what is left depends on the events, also where only the drains differ, and where
@@ -108,36 +108,42 @@ flags; 1 2; mix:t0,t0,d0,t1,t1,t0,t1|did did wrote 4 did did did did 0 Some(Turn
 flags; 1 2; mix:t0,t0,t0,t1,t1,t1|did did did did did did 0 Some(Turn(0)): 0 0, 0 0
 ";
 
+fn shared_answer(alloc: Global, question: &str) -> Result<String, Fail> {
+    let (name, rest) = field(question)?;
+    let (input, word) = field(rest)?;
+    let program = sharing_program(alloc, name)?;
+    mix_on(alloc, &program, input, word)
+}
+
 #[test]
 fn turns_and_drains_of_shared_lines(rt: HostRuntime) -> Result<(), Fail> {
-    for row in SHARED.lines() {
-        let (question, wanted) = row.split_once('|').ok_or("a row")?;
-        let (name, rest) = question.split_once("; ").ok_or("an input")?;
-        let (input, word) = rest.split_once("; ").ok_or("a mix")?;
-        let program = sharing_program(rt.alloc(), name)?;
-        let answer = mix_answer(rt.alloc(), &program, input, word)?;
-        assert_eq!(rt; answer.as_str(), wanted, "{row}");
+    check(&rt, rt.alloc(), SHARED, shared_answer)
+}
+
+fn mix_of(alloc: Global, rounds: u64) -> Result<String, Fail> {
+    let mut word = String::from_str(alloc, "mix:")?;
+    for i in 0..rounds {
+        word.push_str(if i == 0 { "t1" } else { ",t1" })?;
+        if i % 3 == 0 {
+            word.push_str(",d0,t0")?;
+        }
+        if i % 5 == 4 {
+            word.push_str(",d1")?;
+        }
     }
-    Ok(())
+    Ok(word)
+}
+
+fn mixed(alloc: Global, rounds: u64) -> Result<String, Fail> {
+    let quad = program(alloc, "quad")?;
+    mix_on(alloc, &quad, "1 2 3 4", &mix_of(alloc, rounds)?)
 }
 
 // The result does not depend on the turns and drains before the completion.
 #[test]
 fn results_of_mixes(rt: HostRuntime) -> Result<(), Fail> {
-    let alloc = rt.alloc();
-    let quad = program(alloc, "quad")?;
     for rounds in 1..40u64 {
-        let mut word = String::from_str(alloc, "mix:")?;
-        for i in 0..rounds {
-            word.push_str(if i == 0 { "t1" } else { ",t1" })?;
-            if i % 3 == 0 {
-                word.push_str(",d0,t0")?;
-            }
-            if i % 5 == 4 {
-                word.push_str(",d1")?;
-            }
-        }
-        let answer = mix_answer(alloc, &quad, "1 2 3 4", &word)?;
+        let answer = mixed(rt.alloc(), rounds)?;
         assert!(rt; answer.as_str().ends_with(", 10 7 15 6"), "after {rounds}");
     }
     Ok(())

@@ -1,6 +1,6 @@
 // Calls whose answers are worked out from the definitions, or by the reference in reference/.
 
-use crate::call::{AMPLE, call};
+use crate::call::{AMPLE, call, told};
 use std::alloc::Global;
 use std::process::Abort;
 use std::test::Fail;
@@ -100,7 +100,7 @@ run --schedule turns:; dft 4 mod 17 root 4/1 2 3 4/; 2; -; usage
 run --schedule rr:1000001; dft 4 mod 17 root 4/1 2 3 4/; 2; -; usage
 run; -; 3; -; syntax at byte 0
 run; dft 4 mod 17/; 3; -; syntax at byte 12
-run; dft 70000 mod 17 root 1/; 4; -; size 70000 is out of range
+run; dft 1048577 mod 17 root 1/; 4; -; size 1048577 is out of range
 run; dft 2 mod 4611686018427387904 root 1/; 4; -; mod 4611686018427387904 is out of range
 run; wht 6 mod 5/; 4; -; wht size 6 is not a power of two
 run; dft 4 mod 17 root 3/1 2 3 4/; 6; -; root to the size is 13, not 1
@@ -188,21 +188,34 @@ check; dft 6 mod 7 root 3 lanes 2/{}; 7; -; no split fits procs, line and lanes
 run; dft 4 mod 17 root 4 procs 17 budget 0/; 4; -; procs 17 is out of range
 ";
 
-// The field with its line ends.
-fn lines_of(alloc: Global, field: &str) -> Result<String, Fail> {
-    if field == "-" {
-        return Ok(String::new(alloc));
-    }
-    Ok(field.replace(alloc, "/", "\n")?)
-}
-
-// The line of a note, where there is one.
-fn note_of(alloc: Global, field: &str) -> Result<String, Fail> {
+/// The field with its line ends.
+pub(crate) fn lines_of(alloc: Global, field: &str) -> Result<String, Fail> {
     Ok(match field {
         "-" => String::new(alloc),
-        "usage" => format!(in alloc; "spiral: {USAGE}\n")?,
-        _ => format!(in alloc; "spiral: {field}\n")?,
+        _ => field.replace(alloc, "/", "\n")?,
     })
+}
+
+/// The first field and the rest.
+pub(crate) fn field(row: &str) -> Result<(&str, &str), Fail> {
+    Ok(row.split_once("; ").ok_or("a field")?)
+}
+
+/// The code, the output and the note, as a call tells them.
+pub(crate) fn wanted(alloc: Global, code: &str, output: &str, note: &str) -> Result<String, Fail> {
+    let output = lines_of(alloc, output)?;
+    Ok(match note {
+        "-" => format!(in alloc; "{code}; {output}; ")?,
+        "usage" => format!(in alloc; "{code}; {output}; spiral: {USAGE}\n")?,
+        _ => format!(in alloc; "{code}; {output}; spiral: {note}\n")?,
+    })
+}
+
+/// The same of a row's fields behind its question.
+pub(crate) fn wanted_of(alloc: Global, answer: &str) -> Result<String, Fail> {
+    let (code, rest) = field(answer)?;
+    let (output, note) = field(rest)?;
+    wanted(alloc, code, output, note)
 }
 
 // The command line of the words.
@@ -213,38 +226,84 @@ fn command_line(alloc: Global, words: &str) -> Result<String, Fail> {
     })
 }
 
-/// The call answers as the row has it.
-pub(crate) fn answers_as(rt: &impl Abort, alloc: Global, row: &str) -> Result<(), Fail> {
-    let mut fields = row.split("; ");
-    let words = fields.next().ok_or("words")?;
-    let input = lines_of(alloc, fields.next().ok_or("an input")?)?;
-    let code = fields.next().ok_or("a code")?;
-    let text = lines_of(alloc, fields.next().ok_or("a text")?)?;
-    let note = note_of(alloc, fields.next().ok_or("a note")?)?;
+fn answer(alloc: Global, words: &str, input: &str) -> Result<String, Fail> {
     let line = command_line(alloc, words)?;
-    let seen = call(alloc, &line, input.as_bytes(), &AMPLE)?;
-    let seen_code = format!(in alloc; "{}", seen.code)?;
-    assert_eq!(rt; seen_code.as_str(), code, "{row}");
-    assert_eq!(rt; seen.output.bytes(), text.as_bytes(), "{row}");
-    assert_eq!(rt; seen.note.bytes(), note.as_bytes(), "{row}");
+    let input = lines_of(alloc, input)?;
+    told(alloc, &call(alloc, &line, input.as_bytes(), &AMPLE)?)
+}
+
+fn answers_as(rt: &impl Abort, alloc: Global, row: &str) -> Result<(), Fail> {
+    let (words, rest) = field(row)?;
+    let (input, rest) = field(rest)?;
+    let seen = answer(alloc, words, input)?;
+    let wanted = wanted_of(alloc, rest)?;
+    assert_eq!(rt; seen.as_str(), wanted.as_str(), "{row}");
+    Ok(())
+}
+
+/// Each call answers as its row has it.
+pub(crate) fn all_answer(rt: &impl Abort, alloc: Global, rows: &str) -> Result<(), Fail> {
+    for row in rows.lines() {
+        answers_as(rt, alloc, row)?;
+    }
+    Ok(())
+}
+
+fn check_row<F: Fn(Global, &str) -> Result<String, Fail>>(
+    rt: &impl Abort,
+    alloc: Global,
+    row: &str,
+    answer: &F,
+) -> Result<(), Fail>
+    requires { F.IsAlwaysCallable answer.now }
+{
+    let (question, wanted) = row.split_once('|').ok_or("a row")?;
+    let answer = answer(alloc, question)?;
+    assert_eq!(rt; answer.as_str(), wanted, "{row}");
+    Ok(())
+}
+
+/// The answer to each row's question, which stands before its stroke, is what stands behind it.
+pub(crate) fn check<F: Fn(Global, &str) -> Result<String, Fail>>(
+    rt: &impl Abort,
+    alloc: Global,
+    rows: &str,
+    answer: F,
+) -> Result<(), Fail>
+    requires { F.IsAlwaysCallable answer }
+{
+    for row in rows.lines() {
+        check_row(rt, alloc, row, &answer)?;
+    }
     Ok(())
 }
 
 #[test]
-fn answers(rt: HostRuntime) -> Result<(), Fail> {
-    let alloc = rt.alloc();
-    for rows in [RESULTS, PLANS, TEXTS, CERTIFICATES, REFUSALS] {
-        for row in rows.lines() {
-            answers_as(&rt, alloc, row)?;
-        }
-    }
-    Ok(())
+fn results(rt: HostRuntime) -> Result<(), Fail> {
+    all_answer(&rt, rt.alloc(), RESULTS)
+}
+
+#[test]
+fn plans(rt: HostRuntime) -> Result<(), Fail> {
+    all_answer(&rt, rt.alloc(), PLANS)
+}
+
+#[test]
+fn texts(rt: HostRuntime) -> Result<(), Fail> {
+    all_answer(&rt, rt.alloc(), TEXTS)
+}
+
+#[test]
+fn certificates(rt: HostRuntime) -> Result<(), Fail> {
+    all_answer(&rt, rt.alloc(), CERTIFICATES)
+}
+
+#[test]
+fn refusals(rt: HostRuntime) -> Result<(), Fail> {
+    all_answer(&rt, rt.alloc(), REFUSALS)
 }
 
 #[test]
 fn answers_for_processors_and_lanes(rt: HostRuntime) -> Result<(), Fail> {
-    for row in SPREAD.lines() {
-        answers_as(&rt, rt.alloc(), row)?;
-    }
-    Ok(())
+    all_answer(&rt, rt.alloc(), SPREAD)
 }

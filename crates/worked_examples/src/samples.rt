@@ -3,11 +3,13 @@
 
 ghost use Rattle.std.specs.Prelude.{◌≡◌, ◌<◌, All, IfOk, vec_len};
 
-use crate::call::{AMPLE, call};
+use crate::call::{AMPLE, call, told};
 use matrix_meaning::{Request, times_plain};
 use request_text::read_request;
 use ring_mod::Modulus;
 use std::alloc::Global;
+use std::fmt::Write;
+use std::process::Abort;
 use std::test::Fail;
 
 // A request, and behind the colon the operations, loads and stores of one transform.
@@ -273,30 +275,41 @@ fn plain_sum(alloc: Global, request: &Request, seed: u64) -> Result<u64, Fail> {
     Ok(sum)
 }
 
-// The text of a sample with this sum, and with the operations, loads and stores of the row.
+// The code and the text of a sample with this sum, and with the operations, loads and stores of the row.
 fn sample_text(alloc: Global, sum: u64, counts: &str) -> Result<String, Fail> {
-    let mut text = format!(in alloc; "sum {sum}\n")?;
+    let mut text = format!(in alloc; "0; sum {sum}\n")?;
     for (name, count) in ["operations", "loads", "stores"]
         .iter()
         .zip(counts.split(' '))
     {
-        text.push_str(format!(in alloc; "{name} {count}\n")?.as_str())?;
+        write!(text, "{name} {count}\n")?;
     }
+    text.push_str("; ")?;
     Ok(text)
+}
+
+fn wanted_of(alloc: Global, seed: u64, line: &str, counts: &str) -> Result<String, Fail> {
+    let request = read_request(line.as_bytes()).map_err(|_| "a request")?;
+    sample_text(alloc, plain_sum(alloc, &request, seed)?, counts)
+}
+
+fn sampled(alloc: Global, seed: u64, line: &str) -> Result<String, Fail> {
+    let words = format!(in alloc; "spiral sample --seed {seed}")?;
+    told(alloc, &call(alloc, &words, line.as_bytes(), &AMPLE)?)
+}
+
+fn is_plain_sum(rt: &impl Abort, alloc: Global, seed: u64, row: &str) -> Result<(), Fail> {
+    let (line, counts) = row.split_once(": ").ok_or("a row")?;
+    let wanted = wanted_of(alloc, seed, line, counts)?;
+    let seen = sampled(alloc, seed, line)?;
+    assert_eq!(rt; seen.as_str(), wanted.as_str(), "{line}");
+    Ok(())
 }
 
 #[test]
 fn samples_are_plain_sums(rt: HostRuntime) -> Result<(), Fail> {
-    let alloc = rt.alloc();
     for (seed, row) in ROWS.lines().enumerate() {
-        let (line, counts) = row.split_once(": ").ok_or("a row")?;
-        let request = read_request(line.as_bytes()).map_err(|_| "a request")?;
-        let sum = plain_sum(alloc, &request, seed as u64)?;
-        let words = format!(in alloc; "spiral sample --seed {seed}")?;
-        let text = sample_text(alloc, sum, counts)?;
-        let seen = call(alloc, &words, line.as_bytes(), &AMPLE)?;
-        assert_eq!(rt; seen.code, 0, "{line}");
-        assert_eq!(rt; seen.output.bytes(), text.as_bytes(), "{line}");
+        is_plain_sum(&rt, rt.alloc(), seed as u64, row)?;
     }
     Ok(())
 }

@@ -2,9 +2,9 @@
 
 ghost use Rattle.std.specs.Prelude.{◌<◌};
 
-use crate::call::{AMPLE, Outside, Seen, call};
+use crate::call::{AMPLE, Outside, call, output_of, told};
 use crate::programs::QUAD;
-use crate::rows::USAGE;
+use crate::rows::{field, lines_of, wanted, wanted_of};
 use std::alloc::Global;
 use std::process::Abort;
 use std::test::Fail;
@@ -54,33 +54,6 @@ regs 6; regs 5; exec --schedule turns:0,2; /1 2 3 4; 20; -; bad register in phas
 -; -; exec run; /1 2 3 4; 2; -; usage
 ";
 
-// The field with its line ends.
-fn lines_of(alloc: Global, field: &str) -> Result<String, Fail> {
-    Ok(match field {
-        "-" => String::new(alloc),
-        _ => field.replace(alloc, "/", "\n")?,
-    })
-}
-
-// The code, the output and the note of a call, as a row has them.
-fn told(alloc: Global, seen: &Seen) -> Result<String, Fail> {
-    let output = std::str::from_utf8(seen.output.bytes())
-        .ok()
-        .ok_or("a text")?;
-    let note = std::str::from_utf8(seen.note.bytes()).ok().ok_or("a text")?;
-    Ok(format!(in alloc; "{}; {output}; {note}", seen.code)?)
-}
-
-// The same as it is wanted.
-fn wanted(alloc: Global, code: &str, output: &str, note: &str) -> Result<String, Fail> {
-    let output = lines_of(alloc, output)?;
-    Ok(match note {
-        "-" => format!(in alloc; "{code}; {output}; ")?,
-        "usage" => format!(in alloc; "{code}; {output}; spiral: {USAGE}\n")?,
-        _ => format!(in alloc; "{code}; {output}; spiral: {note}\n")?,
-    })
-}
-
 fn executed(alloc: Global, words: &str, input: &str) -> Result<String, Fail> {
     let line = format!(in alloc; "spiral {words}")?;
     let seen = call(alloc, &line, input.as_bytes(), &AMPLE)?;
@@ -88,49 +61,55 @@ fn executed(alloc: Global, words: &str, input: &str) -> Result<String, Fail> {
 }
 
 // What `code` writes is run as `run` does it.
+fn listed(alloc: Global, request: &str, words: &str, data: &str) -> Result<String, Fail> {
+    let code = call(alloc, "spiral code", request.as_bytes(), &AMPLE)?;
+    let data = lines_of(alloc, data)?;
+    let input = format!(in alloc; "{}\n{data}", output_of(&code)?)?;
+    executed(alloc, words, &input)
+}
+
+fn listed_as(rt: &impl Abort, alloc: Global, row: &str) -> Result<(), Fail> {
+    let (request, rest) = field(row)?;
+    let (words, rest) = field(rest)?;
+    let (data, output) = field(rest)?;
+    let got = listed(alloc, request, words, data)?;
+    let wanted = wanted(alloc, "0", output, "-")?;
+    assert_eq!(rt; got.as_str(), wanted.as_str(), "{row}");
+    Ok(())
+}
+
 #[test]
 fn listings_of_requests(rt: HostRuntime) -> Result<(), Fail> {
-    let alloc = rt.alloc();
     for row in LISTED.lines() {
-        let mut fields = row.split("; ");
-        let request = fields.next().ok_or("a request")?;
-        let words = fields.next().ok_or("words")?;
-        let data = lines_of(alloc, fields.next().ok_or("a vector")?)?;
-        let output = fields.next().ok_or("an output")?;
-        let code = call(alloc, "spiral code", request.as_bytes(), &AMPLE)?;
-        let listing = std::str::from_utf8(code.output.bytes())
-            .ok()
-            .ok_or("a text")?;
-        let input = format!(in alloc; "{listing}\n{data}")?;
-        let got = executed(alloc, words, &input)?;
-        assert_eq!(rt;
-            got.as_str(),
-            wanted(alloc, "0", output, "-")?.as_str(),
-            "{row}"
-        );
+        listed_as(&rt, rt.alloc(), row)?;
     }
     Ok(())
 }
 
+// The listing with the new part in the place of the old one.
+fn changed(alloc: Global, old: &str, new: &str) -> Result<String, Fail> {
+    let old = lines_of(alloc, old)?;
+    if old.is_empty() {
+        return Ok(QUAD.to_string(alloc)?);
+    }
+    let new = lines_of(alloc, new)?;
+    Ok(QUAD.replacen(alloc, &old, &new, 1)?)
+}
+
+fn changed_answer(alloc: Global, listing: &str, words: &str, behind: &str) -> Result<String, Fail> {
+    let behind = lines_of(alloc, behind)?;
+    executed(alloc, words, &format!(in alloc; "{listing}{behind}")?)
+}
+
 fn answers_as(rt: &impl Abort, alloc: Global, row: &str) -> Result<(), Fail> {
-    let mut fields = row.split("; ");
-    let old = lines_of(alloc, fields.next().ok_or("a part")?)?;
-    let new = lines_of(alloc, fields.next().ok_or("another")?)?;
-    let words = fields.next().ok_or("words")?;
-    let behind = lines_of(alloc, fields.next().ok_or("data")?)?;
-    let code = fields.next().ok_or("a code")?;
-    let output = fields.next().ok_or("an output")?;
-    let note = fields.next().ok_or("a note")?;
-    let listing = match old.is_empty() {
-        true => QUAD.to_string(alloc)?,
-        false => QUAD.replacen(alloc, &old, &new, 1)?,
-    };
-    let got = executed(alloc, words, &format!(in alloc; "{listing}{behind}")?)?;
-    assert_eq!(rt;
-        got.as_str(),
-        wanted(alloc, code, output, note)?.as_str(),
-        "{row}"
-    );
+    let (old, rest) = field(row)?;
+    let (new, rest) = field(rest)?;
+    let (words, rest) = field(rest)?;
+    let (behind, rest) = field(rest)?;
+    let listing = changed(alloc, old, new)?;
+    let got = changed_answer(alloc, &listing, words, behind)?;
+    let wanted = wanted_of(alloc, rest)?;
+    assert_eq!(rt; got.as_str(), wanted.as_str(), "{row}");
     Ok(())
 }
 
@@ -142,19 +121,23 @@ fn changed_listings(rt: HostRuntime) -> Result<(), Fail> {
     Ok(())
 }
 
+fn cut_as(rt: &impl Abort, alloc: Global, text: &str, line: u64) -> Result<(), Fail> {
+    let got = executed(alloc, "exec", text)?;
+    let note = format!(in alloc; "listing syntax at line {line}")?;
+    let lost = wanted(alloc, "18", "-", &note)?;
+    let whole = line == 13 && text.ends_with('\n');
+    let right = if whole { "0; ; " } else { lost.as_str() };
+    assert_eq!(rt; got.as_str(), right, "{text}");
+    Ok(())
+}
+
 // A listing that is cut is lost in the line that is not there whole, but where its first phase has just ended.
 #[test]
 fn cut_listings(rt: HostRuntime) -> Result<(), Fail> {
-    let alloc = rt.alloc();
     let mut line: u64 = 1;
-    let mut text = String::new(alloc);
+    let mut text = String::new(rt.alloc());
     for letter in QUAD.chars() {
-        let got = executed(alloc, "exec", &text)?;
-        let note = format!(in alloc; "listing syntax at line {line}")?;
-        let lost = wanted(alloc, "18", "-", &note)?;
-        let whole = line == 13 && text.ends_with('\n');
-        let right = if whole { "0; ; " } else { lost.as_str() };
-        assert_eq!(rt; got.as_str(), right, "{text}");
+        cut_as(&rt, rt.alloc(), &text, line)?;
         text.push(letter)?;
         if letter == '\n' {
             line = line.saturating_add(1);
@@ -163,47 +146,59 @@ fn cut_listings(rt: HostRuntime) -> Result<(), Fail> {
     Ok(())
 }
 
+fn is_lost(rt: &impl Abort, alloc: Global, input: &str, line: u64) -> Result<(), Fail> {
+    let got = executed(alloc, "exec", input)?;
+    let note = format!(in alloc; "listing syntax at line {line}")?;
+    let lost = wanted(alloc, "18", "-", &note)?;
+    assert_eq!(rt; got.as_str(), lost.as_str(), "{input}");
+    Ok(())
+}
+
 // An input that begins with an empty line, or whose lines end otherwise, has no listing.
 #[test]
 fn other_line_ends(rt: HostRuntime) -> Result<(), Fail> {
-    let alloc = rt.alloc();
-    let first = wanted(alloc, "18", "-", "listing syntax at line 1")?;
-    let last = wanted(alloc, "18", "-", "listing syntax at line 21")?;
     for input in ["", "\n", "\n1 2 3 4", "\n\n", "x"] {
-        assert_eq!(rt;
-            executed(alloc, "exec", input)?.as_str(),
-            first.as_str(),
-            "{input}"
-        );
+        is_lost(&rt, rt.alloc(), input, 1)?;
     }
-    let returns = QUAD.replace(alloc, "\n", "\r\n")?;
-    assert_eq!(rt; executed(alloc, "exec", &returns)?.as_str(), first.as_str());
+    let returns = QUAD.replace(rt.alloc(), "\n", "\r\n")?;
+    is_lost(&rt, rt.alloc(), &returns, 1)
+}
+
+#[test]
+fn other_line_ends_behind(rt: HostRuntime) -> Result<(), Fail> {
     for behind in ["\r\n1 2 3 4", " \n1 2 3 4", "\t\n"] {
-        let input = format!(in alloc; "{QUAD}{behind}")?;
-        assert_eq!(rt;
-            executed(alloc, "exec", &input)?.as_str(),
-            last.as_str(),
-            "{behind}"
-        );
+        let input = format!(in rt.alloc(); "{QUAD}{behind}")?;
+        is_lost(&rt, rt.alloc(), &input, 21)?;
     }
     Ok(())
 }
 
-// At most 2^20 bytes stand before the empty line.
-#[test]
-fn long_listings(rt: HostRuntime) -> Result<(), Fail> {
-    let alloc = rt.alloc();
-    let lost = wanted(alloc, "18", "-", "listing syntax at line 1")?;
-    let long = wanted(alloc, "13", "-", "more than 1048576 bytes")?;
+// 2^20 bytes, the last of them a line end.
+fn long(alloc: Global) -> Result<String, Fail> {
     let mut text = "x".repeat(alloc, 1_048_575)?;
     text.push('\n')?;
-    assert_eq!(rt; executed(alloc, "exec", &text)?.as_str(), lost.as_str());
+    Ok(text)
+}
+
+// At most 2^20 bytes stand before the empty line.
+#[test]
+fn longest_listings(rt: HostRuntime) -> Result<(), Fail> {
+    let mut text = long(rt.alloc())?;
+    is_lost(&rt, rt.alloc(), &text, 1)?;
     text.push('\n')?;
-    assert_eq!(rt; executed(alloc, "exec", &text)?.as_str(), lost.as_str());
+    is_lost(&rt, rt.alloc(), &text, 1)?;
     text.push_str("1 2 3 4")?;
-    assert_eq!(rt; executed(alloc, "exec", &text)?.as_str(), lost.as_str());
-    let input = format!(in alloc; "y{text}")?;
-    assert_eq!(rt; executed(alloc, "exec", &input)?.as_str(), long.as_str());
+    is_lost(&rt, rt.alloc(), &text, 1)
+}
+
+#[test]
+fn longer_listings(rt: HostRuntime) -> Result<(), Fail> {
+    let alloc = rt.alloc();
+    let text = long(alloc)?;
+    let input = format!(in alloc; "y{text}\n1 2 3 4")?;
+    let got = executed(alloc, "exec", &input)?;
+    let wanted = wanted(alloc, "13", "-", "more than 1048576 bytes")?;
+    assert_eq!(rt; got.as_str(), wanted.as_str());
     Ok(())
 }
 
@@ -215,28 +210,37 @@ fn failing(alloc: Global, outside: &Outside) -> Result<String, Fail>
     told(alloc, &seen)
 }
 
+fn fail_as(rt: &impl Abort, alloc: Global, outside: &Outside, wanted: &str) -> Result<(), Fail>
+    requires { 0 < outside.now.step }
+{
+    let seen = failing(alloc, outside)?;
+    assert_eq!(rt; seen.as_str(), wanted);
+    Ok(())
+}
+
+fn fail_read(rt: &impl Abort, alloc: Global, fails: u64) -> Result<(), Fail> {
+    let outside = Outside {
+        step: 30,
+        read_fails: Some(fails),
+        ..AMPLE
+    };
+    fail_as(rt, alloc, &outside, "10; ; spiral: read failed\n")
+}
+
 // A read that fails in the listing leaves no output, and one that fails behind it the lines of whole vectors.
 #[test]
-fn failing_calls(rt: HostRuntime) -> Result<(), Fail> {
-    let alloc = rt.alloc();
-    let read = wanted(alloc, "10", "-", "read failed")?;
+fn failing_reads(rt: HostRuntime) -> Result<(), Fail> {
     for fails in [0, 1, 3, 7] {
-        let outside = Outside {
-            step: 30,
-            read_fails: Some(fails),
-            ..AMPLE
-        };
-        assert_eq!(rt;
-            failing(alloc, &outside)?.as_str(),
-            read.as_str(),
-            "{fails}"
-        );
+        fail_read(&rt, rt.alloc(), fails)?;
     }
-    let write = wanted(alloc, "11", "-", "write failed")?;
+    Ok(())
+}
+
+#[test]
+fn failing_writes(rt: HostRuntime) -> Result<(), Fail> {
     let outside = Outside {
         write_fails: Some(0),
         ..AMPLE
     };
-    assert_eq!(rt; failing(alloc, &outside)?.as_str(), write.as_str());
-    Ok(())
+    fail_as(&rt, rt.alloc(), &outside, "11; ; spiral: write failed\n")
 }

@@ -2,8 +2,9 @@
 
 ghost use Rattle.std.specs.Prelude.{◌<◌, IfOk};
 
-use crate::call::{AMPLE, Outside, Seen, call};
+use crate::call::{AMPLE, Outside, call, note_of, output_of, told};
 use crate::programs::number;
+use crate::rows::field;
 use std::alloc::Global;
 use std::process::Abort;
 use std::test::Fail;
@@ -48,18 +49,22 @@ fn outside(text: &str) -> Result<Outside, Fail>
     Ok(outside)
 }
 
+fn streamed(alloc: Global, outside: &Outside, input: &str) -> Result<String, Fail>
+    requires { 0 < outside.now.step }
+{
+    told(
+        alloc,
+        &call(alloc, "spiral run", input.as_bytes(), outside)?,
+    )
+}
+
 fn answers_as(rt: &impl Abort, alloc: Global, row: &str) -> Result<(), Fail> {
     let text = row.replace(alloc, "/", "\n")?;
-    let mut fields = text.as_str().split("; ");
-    let outside = outside(fields.next().ok_or("streams")?)?;
-    let input = fields.next().ok_or("an input")?;
-    let code = number(fields.next().ok_or("a code")?)?;
-    let output = fields.next().ok_or("an output")?;
-    let note = fields.next().ok_or("a note")?;
-    let seen = call(alloc, "spiral run", input.as_bytes(), &outside)?;
-    assert_eq!(rt; seen.code as u64, code, "{row}");
-    assert_eq!(rt; seen.output.bytes(), output.as_bytes(), "{row}");
-    assert_eq!(rt; seen.note.bytes(), note.as_bytes(), "{row}");
+    let (streams, rest) = field(&text)?;
+    let (input, wanted) = field(rest)?;
+    let outside = outside(streams)?;
+    let seen = streamed(alloc, &outside, input)?;
+    assert_eq!(rt; seen.as_str(), wanted, "{row}");
     Ok(())
 }
 
@@ -101,47 +106,61 @@ fn failing_of(alloc: Global, row: &str) -> Result<Failing, Fail> {
     })
 }
 
+// The code and the output where the read of this number fails.
+fn wanted_at(failing: &Failing, call_number: usize) -> (u8, &str) {
+    let len = failing.input.as_bytes().len();
+    if call_number < 20 {
+        (10, "")
+    } else if call_number < len {
+        (10, failing.early.as_str())
+    } else if call_number == len {
+        (10, failing.late.as_str())
+    } else {
+        (0, failing.text.as_str())
+    }
+}
+
+fn fail_read(rt: &impl Abort, alloc: Global, failing: &Failing, at: usize) -> Result<(), Fail> {
+    let outside = Outside {
+        step: 1,
+        read_fails: Some(at as u64),
+        ..AMPLE
+    };
+    let seen = call(alloc, &failing.line, failing.input.as_bytes(), &outside)?;
+    let (code, wanted) = wanted_at(failing, at);
+    assert_eq!(rt; seen.code, code, "a fault at call {at}");
+    assert_eq!(rt; output_of(&seen)?, wanted, "a fault at call {at}");
+    Ok(())
+}
+
 // Bytes are read one by one, so each call reads the byte of its number, and the call behind the last finds the end.
 fn fail_reads(rt: &impl Abort, alloc: Global, failing: &Failing) -> Result<(), Fail> {
-    let input = failing.input.as_bytes();
-    for call_number in 0..input.len() + 2 {
-        let outside = Outside {
-            step: 1,
-            read_fails: Some(call_number as u64),
-            ..AMPLE
-        };
-        let seen = call(alloc, &failing.line, input, &outside)?;
-        let (code, wanted) = if call_number < 20 {
-            (10, "")
-        } else if call_number < input.len() {
-            (10, failing.early.as_str())
-        } else if call_number == input.len() {
-            (10, failing.late.as_str())
-        } else {
-            (0, failing.text.as_str())
-        };
-        assert_eq!(rt; seen.code, code, "a fault at call {call_number}");
-        assert_eq!(rt;
-            seen.output.bytes(),
-            wanted.as_bytes(),
-            "a fault at call {call_number}"
-        );
+    for at in 0..failing.input.as_bytes().len() + 2 {
+        fail_read(rt, alloc, failing, at)?;
     }
     Ok(())
 }
 
-fn fail_writes(rt: &impl Abort, alloc: Global, failing: &Failing) -> Result<(), Fail> {
+fn fail_write(rt: &impl Abort, alloc: Global, failing: &Failing, room: usize) -> Result<(), Fail> {
+    let outside = Outside {
+        room: room as u64,
+        ..AMPLE
+    };
+    let seen = call(alloc, &failing.line, failing.input.as_bytes(), &outside)?;
     let text = failing.text.as_bytes();
-    for room in 0..text.len() {
-        let outside = Outside {
-            room: room as u64,
-            ..AMPLE
-        };
-        let seen = call(alloc, &failing.line, failing.input.as_bytes(), &outside)?;
-        assert_eq!(rt; seen.code, 11, "room {room}");
-        assert_eq!(rt; seen.output.bytes(), &text[..room], "room {room}");
-        let note = b"spiral: write failed\n";
-        assert_eq!(rt; seen.note.bytes(), note.as_slice(), "room {room}");
+    assert_eq!(rt; seen.code, 11, "room {room}");
+    assert_eq!(rt;
+        seen.output.bytes(),
+        &text[..room.min(text.len())],
+        "room {room}"
+    );
+    assert_eq!(rt; note_of(&seen)?, "spiral: write failed\n", "room {room}");
+    Ok(())
+}
+
+fn fail_writes(rt: &impl Abort, alloc: Global, failing: &Failing) -> Result<(), Fail> {
+    for room in 0..failing.text.as_bytes().len() {
+        fail_write(rt, alloc, failing, room)?;
     }
     Ok(())
 }
@@ -157,87 +176,93 @@ fn each_read_and_each_write_fails(rt: HostRuntime) -> Result<(), Fail> {
 }
 
 // The answer to the first bytes of an input whose line has 19 bytes. A number begins at each second byte behind it.
-fn cut(alloc: Global, len: usize, step: u64) -> Result<Seen, Fail>
+fn cut(alloc: Global, len: usize, step: u64) -> Result<String, Fail>
     requires { 0 < step }
 {
     let outside = Outside { step, ..AMPLE };
     let input = FOUR.as_bytes();
-    call(
-        alloc,
-        "spiral run",
-        &input[..len.min(input.len())],
-        &outside,
-    )
+    let front = &input[..len.min(input.len())];
+    told(alloc, &call(alloc, "spiral run", front, &outside)?)
+}
+
+// What is wanted of them.
+fn wanted_cut(alloc: Global, len: usize) -> Result<String, Fail> {
+    let have = len.saturating_sub(19) / 2;
+    Ok(if len < 19 {
+        format!(in alloc; "3; ; spiral: syntax at byte {len}\n")?
+    } else if have == 0 {
+        "0; ; ".to_string(alloc)?
+    } else if have == 4 {
+        format!(in alloc; "0; {RESULT}; ")?
+    } else {
+        format!(in alloc; "9; ; spiral: input ends with {have} of 4 numbers\n")?
+    })
+}
+
+fn cut_as(rt: &impl Abort, alloc: Global, len: usize) -> Result<(), Fail> {
+    let wanted = wanted_cut(alloc, len)?;
+    let by_bytes = cut(alloc, len, 1)?;
+    assert_eq!(rt; by_bytes.as_str(), wanted.as_str(), "{len} bytes");
+    let at_once = cut(alloc, len, 4096)?;
+    assert_eq!(rt; at_once.as_str(), wanted.as_str(), "{len} bytes");
+    Ok(())
 }
 
 #[test]
 fn inputs_cut_after_each_byte(rt: HostRuntime) -> Result<(), Fail> {
-    let alloc = rt.alloc();
     for len in 0..FOUR.len() {
-        let have = len.saturating_sub(19) / 2;
-        let (code, note) = if len < 19 {
-            (3, format!(in alloc; "spiral: syntax at byte {len}\n")?)
-        } else if have == 0 || have == 4 {
-            (0, String::new(alloc))
-        } else {
-            (
-                9,
-                format!(in alloc; "spiral: input ends with {have} of 4 numbers\n")?,
-            )
-        };
-        for step in [1, 4096] {
-            let seen = cut(alloc, len, step)?;
-            assert_eq!(rt; seen.code, code, "{len} bytes");
-            assert_eq!(rt; seen.note.bytes(), note.as_bytes(), "{len} bytes");
-            let text = if have == 4 { RESULT } else { "" };
-            assert_eq!(rt; seen.output.bytes(), text.as_bytes(), "{len} bytes");
-        }
+        cut_as(&rt, rt.alloc(), len)?;
     }
     Ok(())
 }
 
 // As long as may be, and one byte more.
+fn long_line(alloc: Global, len: usize) -> Result<String, Fail> {
+    let mut line = Vec::new(alloc);
+    line.resize(len, b'x')?;
+    told(alloc, &call(alloc, "spiral run", &line, &AMPLE)?)
+}
+
 #[test]
-fn texts_that_are_too_long(rt: HostRuntime) -> Result<(), Fail> {
-    let alloc = rt.alloc();
-    for (len, code, note) in [
-        (256, 3, "spiral: syntax at byte 0\n"),
-        (257, 13, "spiral: more than 256 bytes\n"),
-    ] {
-        let mut line = Vec::new(alloc);
-        line.resize(len, b'x')?;
-        let seen = call(alloc, "spiral run", &line, &AMPLE)?;
-        assert_eq!(rt; seen.code, code, "{len} bytes");
-        assert_eq!(rt; seen.output.bytes(), b"".as_slice(), "{len} bytes");
-        assert_eq!(rt; seen.note.bytes(), note.as_bytes(), "{len} bytes");
-    }
-    for (len, code, note) in [
-        (65_536, 14, "spiral: certificate unreadable\n"),
-        (65_537, 13, "spiral: more than 65536 bytes\n"),
-    ] {
-        let mut input = b"dft 4 mod 17 root 4\n".to_vec(alloc)?;
-        input.resize(20 + len, b' ')?;
-        let seen = call(alloc, "spiral check", &input, &AMPLE)?;
-        assert_eq!(rt; seen.code, code, "{len} bytes");
-        assert_eq!(rt; seen.output.bytes(), b"".as_slice(), "{len} bytes");
-        assert_eq!(rt; seen.note.bytes(), note.as_bytes(), "{len} bytes");
-    }
+fn lines_that_are_too_long(rt: HostRuntime) -> Result<(), Fail> {
+    let read = long_line(rt.alloc(), 256)?;
+    assert_eq!(rt; read.as_str(), "3; ; spiral: syntax at byte 0\n");
+    let unread = long_line(rt.alloc(), 257)?;
+    assert_eq!(rt; unread.as_str(), "13; ; spiral: more than 256 bytes\n");
     Ok(())
 }
 
-// 65,536 turns of processor 0, named, and one more.
+fn long_certificate(alloc: Global, len: usize) -> Result<String, Fail> {
+    let mut input = b"dft 4 mod 17 root 4\n".to_vec(alloc)?;
+    input.resize(len, b' ')?;
+    told(alloc, &call(alloc, "spiral check", &input, &AMPLE)?)
+}
+
 #[test]
-fn as_many_turns_as_can_be_named(rt: HostRuntime) -> Result<(), Fail> {
-    let alloc = rt.alloc();
+fn certificates_that_are_too_long(rt: HostRuntime) -> Result<(), Fail> {
+    let read = long_certificate(rt.alloc(), 20 + 65_536)?;
+    assert_eq!(rt; read.as_str(), "14; ; spiral: certificate unreadable\n");
+    let unread = long_certificate(rt.alloc(), 20 + 65_537)?;
+    assert_eq!(rt; unread.as_str(), "13; ; spiral: more than 65536 bytes\n");
+    Ok(())
+}
+
+// So many turns of processor 0, named.
+fn named_turns(alloc: Global, turns: u64) -> Result<String, Fail> {
     let input = b"dft 4 mod 17 root 4 procs 2 line 1\n1 2 3 4\n";
     let mut line = String::from_str(alloc, "spiral run --schedule turns:0")?;
-    for _ in 1..65_536 {
+    for _ in 1..turns {
         line.push_str(",0")?;
     }
-    let seen = call(alloc, &line, input, &AMPLE)?;
-    assert_eq!(rt; seen.code, 0);
-    assert_eq!(rt; seen.output.bytes(), RESULT.as_bytes());
-    line.push_str(",0")?;
-    assert_eq!(rt; call(alloc, &line, input, &AMPLE)?.code, 2);
+    told(alloc, &call(alloc, &line, input, &AMPLE)?)
+}
+
+// 65,536 turns, and one more.
+#[test]
+fn as_many_turns_as_can_be_named(rt: HostRuntime) -> Result<(), Fail> {
+    let whole = named_turns(rt.alloc(), 65_536)?;
+    assert_eq!(rt; whole.as_str(), "0; 10 7 15 6\n; ");
+    let more = named_turns(rt.alloc(), 65_537)?;
+    assert!(rt; more.as_str().starts_with("2; "));
     Ok(())
 }

@@ -4,6 +4,7 @@ ghost use Rattle.std.specs.Prelude.{◌≡◌, ◌<◌, All, IfOk, length};
 ghost use Rattle.matrix_meaning.specs.Valid.{IsInRange};
 ghost use Rattle.spl_ast.specs.Nesting.{IsPrintable};
 
+use crate::rows::check;
 use breakdown::expand;
 use generate::{generate, plan};
 use icode::action::Counts;
@@ -191,12 +192,11 @@ fn described(alloc: Global, request: &Request) -> Result<String, Fail>
     }
 }
 
+fn answer(alloc: Global, line: &str) -> Result<String, Fail> {
+    described(alloc, &request_of(line.as_bytes())?)
+}
+
 #[test]
 fn plans_and_refusals(rt: HostRuntime) -> Result<(), Fail> {
-    for row in PRODUCTS.lines() {
-        let (line, wanted) = row.split_once('|').ok_or("a row")?;
-        let answer = described(rt.alloc(), &request_of(line.as_bytes())?)?;
-        assert_eq!(rt; answer.as_str(), wanted, "{line}");
-    }
-    Ok(())
+    check(&rt, rt.alloc(), PRODUCTS, answer)
 }

@@ -1,5 +1,6 @@
 // Requests with a weight: each processor executes its share of the least cost.
 
+use crate::rows::check;
 use crate::ways::request_of;
 use generate::generate;
 use par_machine::Machine;
@@ -37,10 +38,5 @@ fn shares(alloc: Global, line: &str) -> Result<String, Fail> {
 
 #[test]
 fn shares_of_the_least_cost(rt: HostRuntime) -> Result<(), Fail> {
-    for row in SHARES.lines() {
-        let (line, wanted) = row.split_once('|').ok_or("a row")?;
-        let answer = shares(rt.alloc(), line)?;
-        assert_eq!(rt; answer.as_str(), wanted, "{line}");
-    }
-    Ok(())
+    check(&rt, rt.alloc(), SHARES, shares)
 }

@@ -1,11 +1,13 @@
 // C texts: what is printed and read again, the line where a text is none, and single lines.
 
-use crate::listings::{DEPTHS, PAIR, QUAD, place};
-use crate::rows::{halves, number, spelled};
+use crate::listings::{DEPTHS, PAIR, QUAD, depths, place};
+use crate::rows::{check, number, spelled};
 use c_print::{CFault, print_c, read_c, read_c_header, read_c_line, read_c_table};
 use icode::program::Op;
 use listing_text::{Act, print_listing, read_listing};
 use std::alloc::Global;
+use std::fmt::Write;
+use std::process::Abort;
 use std::test::Fail;
 
 const C_TEXT: &str = "/* program size 2 mod 15 procs 1 line 1 lanes 1 regs 5 */
@@ -89,7 +91,7 @@ for (int l = 0; l < V; l++) A[0+q*1+(0+v0*1)%2*4 + l] = r[8][l];
 
 // Every form, and numbers at their limits; most registers are not there, which only a run would refuse.
 const LIMITS: &str =
-    "program size 65536 mod 4611686018427387903 procs 16 line 64 lanes 16 regs 1048575
+    "program size 1048576 mod 4611686018427387903 procs 16 line 64 lanes 16 regs 1048575
 table 0 values 0
 table 1 values 4611686018427387902 1
 phase
@@ -113,41 +115,42 @@ end
 end
 ";
 
+// The C text of a listing.
+fn c_text_of(alloc: Global, listing: &str) -> Result<Vec<u8>, Fail> {
+    let program = read_listing(alloc, listing.as_bytes())
+        .ok()
+        .ok_or("a listing")?;
+    Ok(print_c(alloc, &program)?)
+}
+
+// The listing of a C text.
+fn listing_of(alloc: Global, c_text: &[u8]) -> Result<Vec<u8>, Fail> {
+    let program = read_c(alloc, c_text).ok().ok_or("a C text")?;
+    Ok(print_listing(alloc, &program)?)
+}
+
 #[test]
 fn reads_what_is_printed(rt: HostRuntime) -> Result<(), Fail> {
     for listing in [PAIR, FORMS, LIMITS, QUAD] {
-        let program = read_listing(rt.alloc(), listing.as_bytes())
-            .ok()
-            .ok_or("a listing")?;
-        let printed = print_c(rt.alloc(), &program)?;
-        let back = read_c(rt.alloc(), &printed).ok().ok_or("a C text")?;
-        assert_eq!(rt;
-            print_listing(rt.alloc(), &back)?.as_slice(),
-            listing.as_bytes()
-        );
+        let printed = c_text_of(rt.alloc(), listing)?;
+        let back = listing_of(rt.alloc(), &printed)?;
+        assert_eq!(rt; back.as_slice(), listing.as_bytes());
     }
+    Ok(())
+}
+
+fn agree(rt: &impl Abort, alloc: Global, listing: &str, c_text: &str) -> Result<(), Fail> {
+    let printed = c_text_of(alloc, listing)?;
+    assert_eq!(rt; printed.as_slice(), c_text.as_bytes());
+    let back = listing_of(alloc, c_text.as_bytes())?;
+    assert_eq!(rt; back.as_slice(), listing.as_bytes());
     Ok(())
 }
 
 #[test]
 fn prints_and_reads(rt: HostRuntime) -> Result<(), Fail> {
-    for (listing, c_text) in [(PAIR, C_TEXT), (FORMS, C_FORMS)] {
-        let program = read_listing(rt.alloc(), listing.as_bytes())
-            .ok()
-            .ok_or("a listing")?;
-        assert_eq!(rt;
-            print_c(rt.alloc(), &program)?.as_slice(),
-            c_text.as_bytes()
-        );
-        let program = read_c(rt.alloc(), c_text.as_bytes())
-            .ok()
-            .ok_or("a C text")?;
-        assert_eq!(rt;
-            print_listing(rt.alloc(), &program)?.as_slice(),
-            listing.as_bytes()
-        );
-    }
-    Ok(())
+    agree(&rt, rt.alloc(), PAIR, C_TEXT)?;
+    agree(&rt, rt.alloc(), FORMS, C_FORMS)
 }
 
 // The line where a text is lost, or 0 for a C text.
@@ -201,7 +204,7 @@ const TEXTS: &str = "\
 /* program size 2 mod 15 procs 1 line 1 lanes 1 regs 5 */\r~|1
 /* program size 2 mod 15 procs 1 line 1 lanes 1 regs 5 */~|2
 /* program size 0 mod 15 procs 1 line 1 lanes 1 regs 5 */~|1
-/* program size 65537 mod 15 procs 1 line 1 lanes 1 regs 5 */~|1
+/* program size 1048577 mod 15 procs 1 line 1 lanes 1 regs 5 */~|1
 /* program size 2 mod 4611686018427387904 procs 1 line 1 lanes 1 regs 5 */~|1
 /* program size 2 mod 15 procs 17 line 1 lanes 1 regs 5 */~|1
 /* program size 2 mod 15 procs 1 line 65 lanes 1 regs 5 */~|1
@@ -231,14 +234,14 @@ FRONTFUNCTIONSFUNCTIONS|13
 FRONTFUNCTIONSPHASEfor (int l = 0; l < V; l++) r[9][l] = 0;~}~|0
 ";
 
+fn lost(alloc: Global, text: &str) -> Result<String, Fail> {
+    let text = whole(alloc, text)?;
+    Ok(format!(in alloc; "{}", lost_line(alloc, &text))?)
+}
+
 #[test]
 fn lost_lines(rt: HostRuntime) -> Result<(), Fail> {
-    for row in TEXTS.lines() {
-        let (text, line) = halves(row)?;
-        let text = whole(rt.alloc(), text)?;
-        assert_eq!(rt; lost_line(rt.alloc(), &text), number(line)?, "{row}");
-    }
-    Ok(())
+    check(&rt, rt.alloc(), TEXTS, lost)
 }
 
 // A line inside two loops, the text's line 18, and the line where the text is lost.
@@ -266,22 +269,24 @@ fn inside_loops(alloc: Global, line: &str) -> Result<String, Fail> {
     whole(alloc, &text)
 }
 
+fn lost_inside_loops(alloc: Global, line: &str) -> Result<String, Fail> {
+    let text = inside_loops(alloc, line)?;
+    Ok(format!(in alloc; "{}", lost_line(alloc, &text))?)
+}
+
 #[test]
 fn lines_inside_loops(rt: HostRuntime) -> Result<(), Fail> {
-    for row in LINES.lines() {
-        let (line, lost) = halves(row)?;
-        let text = inside_loops(rt.alloc(), line)?;
-        assert_eq!(rt; lost_line(rt.alloc(), &text), number(lost)?, "{row}");
-    }
-    Ok(())
+    check(&rt, rt.alloc(), LINES, lost_inside_loops)
 }
 
 // A text with so many loops, one inside the other, from line 16 on.
 fn nested_loops(alloc: Global, count: u64) -> Result<String, Fail> {
     let mut text = whole(alloc, "FRONTFUNCTIONSPHASE")?;
     for depth in 0..count {
-        let line = format!(in alloc; "for (uint64_t v{depth} = 0; v{depth} < 2; v{depth}++) {{\n")?;
-        text.push_str(&line)?;
+        write!(
+            text,
+            "for (uint64_t v{depth} = 0; v{depth} < 2; v{depth}++) {{\n"
+        )?;
     }
     for _ in 0..count {
         text.push_str("}\n")?;
@@ -290,24 +295,33 @@ fn nested_loops(alloc: Global, count: u64) -> Result<String, Fail> {
     Ok(text)
 }
 
+// The number of loops, and the line where the text is lost.
+const LOOPS: &str = "\
+64|0
+65|80
+";
+
+fn lost_loop(alloc: Global, count: &str) -> Result<String, Fail> {
+    let text = nested_loops(alloc, number(count)?)?;
+    Ok(format!(in alloc; "{}", lost_line(alloc, &text))?)
+}
+
 #[test]
-fn limits_of_depth(rt: HostRuntime) -> Result<(), Fail> {
-    let alloc = rt.alloc();
-    assert_eq!(rt; lost_line(alloc, &nested_loops(alloc, 64)?), 0);
-    assert_eq!(rt; lost_line(alloc, &nested_loops(alloc, 65)?), 80);
-    for row in DEPTHS.lines() {
-        let (counts, lost) = halves(row)?;
-        let (parentheses, parts) = counts.split_once(' ').ok_or("two numbers")?;
-        let place = place(alloc, number(parentheses)?, number(parts)?)?;
-        let line = format!(in alloc; "for (int l = 0; l < V; l++) r[0][l] = X[{place} + l];")?;
-        let lost = if lost.is_empty() { 0 } else { 18 };
-        assert_eq!(rt;
-            lost_line(alloc, &inside_loops(alloc, &line)?),
-            lost,
-            "{row}"
-        );
-    }
-    Ok(())
+fn limits_of_loops(rt: HostRuntime) -> Result<(), Fail> {
+    check(&rt, rt.alloc(), LOOPS, lost_loop)
+}
+
+fn lost_place(alloc: Global, counts: &str) -> Result<String, Fail> {
+    let (parentheses, parts) = depths(counts)?;
+    let place = place(alloc, parentheses, parts)?;
+    let line = format!(in alloc; "for (int l = 0; l < V; l++) r[0][l] = X[{place} + l];")?;
+    lost_inside_loops(alloc, &line)
+}
+
+#[test]
+fn limits_of_places(rt: HostRuntime) -> Result<(), Fail> {
+    let rows = DEPTHS.replace(rt.alloc(), "LOST", "18")?;
+    check(&rt, rt.alloc(), &rows, lost_place)
 }
 
 // A line, and its numbers without its place and arrays: depth and count of a loop, or registers and factors.
@@ -376,15 +390,14 @@ fn operands_of(op: Op) -> [u64; 3] {
     }
 }
 
+fn line_answer(alloc: Global, line: &str) -> Result<String, Fail> {
+    let line = spelled(alloc, line)?;
+    Ok(format!(in alloc; "{:?}", numbers_of(alloc, line.as_bytes()))?)
+}
+
 #[test]
 fn reads_lines(rt: HostRuntime) -> Result<(), Fail> {
-    for row in READ_LINES.lines() {
-        let (line, wanted) = halves(row)?;
-        let line = spelled(rt.alloc(), line)?;
-        let answer = format!(in rt.alloc(); "{:?}", numbers_of(rt.alloc(), line.as_bytes()))?;
-        assert_eq!(rt; answer.as_str(), wanted, "{row}");
-    }
-    Ok(())
+    check(&rt, rt.alloc(), READ_LINES, line_answer)
 }
 
 // A line, and the table's number, length and last entry.
@@ -405,15 +418,14 @@ fn table_of(alloc: Global, line: &[u8]) -> Option<(u64, u64, u64)> {
     Some((number, entries.len() as u64, *last))
 }
 
+fn table_answer(alloc: Global, line: &str) -> Result<String, Fail> {
+    let line = spelled(alloc, line)?;
+    Ok(format!(in alloc; "{:?}", table_of(alloc, line.as_bytes()))?)
+}
+
 #[test]
 fn reads_tables(rt: HostRuntime) -> Result<(), Fail> {
-    for row in TABLES.lines() {
-        let (line, wanted) = halves(row)?;
-        let line = spelled(rt.alloc(), line)?;
-        let answer = format!(in rt.alloc(); "{:?}", table_of(rt.alloc(), line.as_bytes()))?;
-        assert_eq!(rt; answer.as_str(), wanted, "{row}");
-    }
-    Ok(())
+    check(&rt, rt.alloc(), TABLES, table_answer)
 }
 
 // A first line, and what it says.
@@ -425,13 +437,12 @@ const HEADERS: &str = "\
 program size 5 mod 17 procs 2 line 4 lanes 2 regs 9~|None
 ";
 
+fn header_answer(alloc: Global, line: &str) -> Result<String, Fail> {
+    let line = spelled(alloc, line)?;
+    Ok(format!(in alloc; "{:?}", read_c_header(line.as_bytes()).ok())?)
+}
+
 #[test]
 fn reads_headers(rt: HostRuntime) -> Result<(), Fail> {
-    for row in HEADERS.lines() {
-        let (line, wanted) = halves(row)?;
-        let line = spelled(rt.alloc(), line)?;
-        let answer = format!(in rt.alloc(); "{:?}", read_c_header(line.as_bytes()).ok())?;
-        assert_eq!(rt; answer.as_str(), wanted, "{row}");
-    }
-    Ok(())
+    check(&rt, rt.alloc(), HEADERS, header_answer)
 }

@@ -29,7 +29,7 @@ fn has_shape(kind: Kind, size: u64) -> bool
 fn is_in_range(r: &Request) -> bool
     ensures { IsTrue result → IsInRange r.now }
 {
-    is_between(1, 65536, r.size)
+    is_between(1, 1_048_576, r.size)
         && is_between(2, 4_611_686_018_427_387_903, r.modulus)
         && r.root < r.modulus
         && is_between(1, 16, r.procs)

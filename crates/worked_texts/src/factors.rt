@@ -1,9 +1,10 @@
 // The factors of a transform of size 16, by hand from the identities: a step by four rows of four words.
 
 use crate::contexts::{context, tree_of};
-use crate::rows::halves;
+use crate::rows::check;
 use smp_rewrite::{Factor, to_smp};
-use std::alloc::Global;
+use std::alloc::{AllocError, Global};
+use std::fmt::Write;
 use std::test::Fail;
 use steps::{Core, Step};
 use tensor_paths::Tensor;
@@ -26,96 +27,106 @@ dft 16 mod 17 root 3 procs 2 line 2 lanes 2|before L(2,4); lanes L(1,4); lanes l
 dft 16 mod 17 root 3 line 3 lanes 3|not admissible
 ";
 
-fn path_text(alloc: Global, path: &[Tensor]) -> Result<String, Fail> {
-    let mut text = String::new(alloc);
+fn write_path(text: &mut String, path: &[Tensor]) -> Result<(), AllocError> {
     for tensor in path {
-        let word = match tensor {
-            Tensor::Blocks(count) => format!(in alloc; "b{count} ")?,
-            Tensor::Columns(count) => format!(in alloc; "c{count} ")?,
-        };
-        text.push_str(word.as_str())?;
+        match tensor {
+            Tensor::Blocks(count) => write!(text, "b{count} ")?,
+            Tensor::Columns(count) => write!(text, "c{count} ")?,
+        }
     }
-    Ok(text)
+    Ok(())
 }
 
-fn step_text(alloc: Global, step: &Step) -> Result<String, Fail> {
-    let core = match &step.core {
-        Core::Piece(tree) => format!(in alloc; "{tree}")?,
-        Core::Turns { rows, cols } => format!(in alloc; "L({rows},{cols})")?,
-        Core::Twiddles { rows, cols } => format!(in alloc; "T({rows},{cols})")?,
-        Core::ThomasIn { rows, cols } => format!(in alloc; "GTIN({rows},{cols})")?,
-        Core::ThomasOut { rows, cols } => format!(in alloc; "GTOUT({rows},{cols})")?,
-    };
-    Ok(format!(in alloc; "{}{core}", path_text(alloc, &step.path)?)?)
+fn write_core(text: &mut String, core: &Core) -> Result<(), AllocError> {
+    match core {
+        Core::Piece(tree) => write!(text, "{tree}"),
+        Core::Turns { rows, cols } => write!(text, "L({rows},{cols})"),
+        Core::Twiddles { rows, cols } => write!(text, "T({rows},{cols})"),
+        Core::ThomasIn { rows, cols } => write!(text, "GTIN({rows},{cols})"),
+        Core::ThomasOut { rows, cols } => write!(text, "GTOUT({rows},{cols})"),
+    }
 }
 
-fn blocks_text(alloc: Global, factors: &[Factor]) -> Result<String, Fail> {
-    let mut text = String::new(alloc);
+fn write_step(text: &mut String, word: &str, step: &Step) -> Result<(), AllocError> {
+    write!(text, "{word} ")?;
+    write_path(text, &step.path)?;
+    write_core(text, &step.core)?;
+    write!(text, "; ")
+}
+
+fn write_block(text: &mut String, factor: &Factor) -> Result<(), AllocError> {
+    match factor {
+        Factor::Blocks(step) => write_step(text, "blocks", step),
+        Factor::Diagonals(step) => write_step(text, "diagonals", step),
+        Factor::MoveBefore(step) => write_step(text, "before", step),
+        Factor::MoveAfter(step) => write_step(text, "after", step),
+    }
+}
+
+fn write_blocks(text: &mut String, factors: &[Factor]) -> Result<(), AllocError> {
     for factor in factors {
-        let (word, step) = match factor {
-            Factor::Blocks(step) => ("blocks", step),
-            Factor::Diagonals(step) => ("diagonals", step),
-            Factor::MoveBefore(step) => ("before", step),
-            Factor::MoveAfter(step) => ("after", step),
-        };
-        let line = format!(in alloc; "{word} {}; ", step_text(alloc, step)?)?;
-        text.push_str(line.as_str())?;
+        write_block(text, factor)?;
     }
-    Ok(text)
+    Ok(())
 }
 
-fn lanes_text(alloc: Global, factors: &[VecFactor]) -> Result<String, Fail> {
-    let mut text = String::new(alloc);
-    for factor in factors {
-        let line = match factor {
-            VecFactor::Lanes(step) => format!(in alloc; "lanes {}; ", step_text(alloc, step)?)?,
-            VecFactor::Diagonals(step) => {
-                format!(in alloc; "diagonals {}; ", step_text(alloc, step)?)?
-            }
-            VecFactor::MoveBefore(step) => {
-                format!(in alloc; "before {}; ", step_text(alloc, step)?)?
-            }
-            VecFactor::MoveAfter(step) => format!(in alloc; "after {}; ", step_text(alloc, step)?)?,
-            VecFactor::Tiles(path) => format!(in alloc; "tiles {}; ", path_text(alloc, path)?)?,
-        };
-        text.push_str(line.as_str())?;
+fn write_tiles(text: &mut String, path: &[Tensor]) -> Result<(), AllocError> {
+    write!(text, "tiles ")?;
+    write_path(text, path)?;
+    write!(text, "; ")
+}
+
+fn write_lane_factor(text: &mut String, factor: &VecFactor) -> Result<(), AllocError> {
+    match factor {
+        VecFactor::Lanes(step) => write_step(text, "lanes", step),
+        VecFactor::Diagonals(step) => write_step(text, "diagonals", step),
+        VecFactor::MoveBefore(step) => write_step(text, "before", step),
+        VecFactor::MoveAfter(step) => write_step(text, "after", step),
+        VecFactor::Tiles(path) => write_tiles(text, path),
     }
-    Ok(text)
+}
+
+fn write_lanes(text: &mut String, factors: &[VecFactor]) -> Result<(), AllocError> {
+    for factor in factors {
+        write_lane_factor(text, factor)?;
+    }
+    Ok(())
 }
 
 fn for_processors(alloc: Global, request: &str) -> Result<String, Fail> {
     let tree = tree_of(alloc, "ct 4 4")?;
     let c = context(request)?;
     if !admissible(&c, &tree) {
-        return Ok(format!(in alloc; "not admissible")?);
+        return Ok("not admissible".to_string(alloc)?);
     }
     let formula = to_smp(alloc, &c, &tree)?;
-    let first = blocks_text(alloc, &formula.first)?;
-    let second = blocks_text(alloc, &formula.second)?;
-    Ok(format!(in alloc; "{first}/ {second}")?)
+    let mut text = String::new(alloc);
+    write_blocks(&mut text, &formula.first)?;
+    write!(text, "/ ")?;
+    write_blocks(&mut text, &formula.second)?;
+    Ok(text)
 }
 
 fn for_lanes(alloc: Global, request: &str) -> Result<String, Fail> {
     let tree = tree_of(alloc, "ct 4 4")?;
     let c = context(request)?;
     if !admissible(&c, &tree) {
-        return Ok(format!(in alloc; "not admissible")?);
+        return Ok("not admissible".to_string(alloc)?);
     }
     let formula = vec_of_tree(alloc, &c, &tree)?;
-    let first = lanes_text(alloc, &formula.first)?;
-    let second = lanes_text(alloc, &formula.second)?;
-    Ok(format!(in alloc; "{first}/ {second}")?)
+    let mut text = String::new(alloc);
+    write_lanes(&mut text, &formula.first)?;
+    write!(text, "/ ")?;
+    write_lanes(&mut text, &formula.second)?;
+    Ok(text)
 }
 
 #[test]
-fn factors_of_sixteen(rt: HostRuntime) -> Result<(), Fail> {
-    for row in BLOCKS.lines() {
-        let (request, wanted) = halves(row)?;
-        assert_eq!(rt; for_processors(rt.alloc(), request)?.as_str(), wanted);
-    }
-    for row in LANES.lines() {
-        let (request, wanted) = halves(row)?;
-        assert_eq!(rt; for_lanes(rt.alloc(), request)?.as_str(), wanted);
-    }
-    Ok(())
+fn factors_for_processors(rt: HostRuntime) -> Result<(), Fail> {
+    check(&rt, rt.alloc(), BLOCKS, for_processors)
+}
+
+#[test]
+fn factors_for_lanes(rt: HostRuntime) -> Result<(), Fail> {
+    check(&rt, rt.alloc(), LANES, for_lanes)
 }

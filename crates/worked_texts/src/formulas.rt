@@ -1,15 +1,16 @@
 // Formulas: what is read, refused, printed, applied and rewritten.
 
-use crate::rows::{halves, spelled};
+use crate::rows::{check, number, spelled};
 use ring_mod::Modulus;
 use spl_ast::{Distribute, Node, Spl, rewrite};
 use spl_text::{print_spl, read_spl};
 use std::alloc::Global;
+use std::fmt::Write;
 use std::test::Fail;
 
 // A text, and the fault where it is no formula.
 const FAULTS: &str = "\
-I(65536)|None
+I(1048576)|None
 DFT(12,4611686018427387903)~|None
 WHT(4)|None
 L(6,2)|None
@@ -23,7 +24,7 @@ RIGHT(3,SUM(PERM(0),DIAG(3,4)))|None
 |Some(Syntax { at: 0 })
 I(2|Some(Syntax { at: 3 })
 I(0)|Some(Syntax { at: 2 })
-I(65537)|Some(Syntax { at: 6 })
+I(1048577)|Some(Syntax { at: 8 })
 I(2)x|Some(Syntax { at: 4 })
 I(2)~~|Some(Syntax { at: 5 })
 DFT(2,4611686018427387904)|Some(Syntax { at: 24 })
@@ -37,25 +38,24 @@ L(6,4)|Some(Shape { at: 0, left: 6, right: 4 })
 T(6,4,1)|Some(Shape { at: 0, left: 6, right: 4 })
 GTIN(4,6)|Some(Shape { at: 0, left: 4, right: 6 })
 GTOUT(1,6)|Some(Shape { at: 0, left: 1, right: 6 })
-GTIN(257,256)|Some(Shape { at: 0, left: 65792, right: 65536 })
+GTIN(1025,1024)|Some(Shape { at: 0, left: 1049600, right: 1048576 })
 WHT(6)|Some(Shape { at: 0, left: 6, right: 2 })
 PERM(2,0,2,1)|Some(Shape { at: 0, left: 4, right: 2 })
 PERM(0,3,1)|Some(Shape { at: 0, left: 3, right: 3 })
-SUM(I(65536),I(1))|Some(Shape { at: 0, left: 65537, right: 65536 })
+SUM(I(1048576),I(1))|Some(Shape { at: 0, left: 1048577, right: 1048576 })
 ";
 
 fn fault_of(alloc: Global, text: &str) -> Result<String, Fail> {
     Ok(format!(in alloc; "{:?}", read_spl(alloc, text.as_bytes()).err())?)
 }
 
+fn fault_answer(alloc: Global, text: &str) -> Result<String, Fail> {
+    fault_of(alloc, &spelled(alloc, text)?)
+}
+
 #[test]
 fn kinds_and_faults(rt: HostRuntime) -> Result<(), Fail> {
-    for row in FAULTS.lines() {
-        let (text, wanted) = halves(row)?;
-        let answer = fault_of(rt.alloc(), &spelled(rt.alloc(), text)?)?;
-        assert_eq!(rt; answer.as_str(), wanted, "{row}");
-    }
-    Ok(())
+    check(&rt, rt.alloc(), FAULTS, fault_answer)
 }
 
 // RIGHT(1,RIGHT(1,.. I(1)..)).
@@ -71,13 +71,19 @@ fn nested(alloc: Global, depth: u64) -> Result<String, Fail> {
     Ok(text)
 }
 
+// A depth, and the fault where the formula is too deep.
+const DEPTHS: &str = "\
+127|None
+128|Some(TooDeep { at: 1025 })
+";
+
+fn depth_answer(alloc: Global, depth: &str) -> Result<String, Fail> {
+    fault_of(alloc, &nested(alloc, number(depth)?)?)
+}
+
 #[test]
 fn depth(rt: HostRuntime) -> Result<(), Fail> {
-    let alloc = rt.alloc();
-    assert_eq!(rt; fault_of(alloc, &nested(alloc, 127)?)?.as_str(), "None");
-    let answer = fault_of(alloc, &nested(alloc, 128)?)?;
-    assert_eq!(rt; answer.as_str(), "Some(TooDeep { at: 1025 })");
-    Ok(())
+    check(&rt, rt.alloc(), DEPTHS, depth_answer)
 }
 
 // Formulas that are printed as they were read.
@@ -87,17 +93,19 @@ TIMES(GTOUT(3,4),TIMES(LEFT(DFT(3,9),4),TIMES(RIGHT(3,WHT(4)),GTIN(3,4))))
 TIMES(T(12,4,7),L(12,3))
 RIGHT(3,LEFT(I(2),5))
 DIAG(0)
-I(65536)
+I(1048576)
 TIMES(LEFT(DFT(2,16),2),L(4,2))
 ";
 
+fn printed(alloc: Global, text: &str) -> Result<Vec<u8>, Fail> {
+    let formula = read_spl(alloc, text.as_bytes()).ok().ok_or("a formula")?;
+    Ok(print_spl(alloc, &formula)?)
+}
+
 #[test]
 fn printed_as_read(rt: HostRuntime) -> Result<(), Fail> {
-    let alloc = rt.alloc();
     for text in TEXTS.lines() {
-        let formula = read_spl(alloc, text.as_bytes()).ok().ok_or("a formula")?;
-        let printed = print_spl(alloc, &formula)?;
-        assert_eq!(rt; printed.as_slice(), text.as_bytes());
+        assert_eq!(rt; printed(rt.alloc(), text)?.as_slice(), text.as_bytes());
     }
     Ok(())
 }
@@ -111,7 +119,7 @@ fn product(alloc: Global, formula: &str, modulus: u64, x: &[u64]) -> Result<Stri
     let y = Spl::apply_plain(alloc, &m, &formula, x)?;
     let mut text = format!(in alloc; "{} rows:", formula.rows())?;
     for value in &y {
-        text.push_str(format!(in alloc; " {value}")?.as_str())?;
+        write!(text, " {value}")?;
     }
     Ok(text)
 }

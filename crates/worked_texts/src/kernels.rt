@@ -1,10 +1,11 @@
 // Kernels: their actions, the registers of their outputs, and how many registers they use.
 
 use crate::contexts::{context, tree_of};
-use crate::rows::halves;
+use crate::rows::check;
 use icode::action::Action;
-use kernel_gen::kernel;
-use std::alloc::Global;
+use kernel_gen::{Kernel, kernel};
+use std::alloc::{AllocError, Global};
+use std::fmt::Write;
 use std::test::Fail;
 use tree_model::admissible;
 
@@ -15,54 +16,57 @@ dft 4 mod 17 root 4; ct 2 2|add 4 0 2, sub 5 0 2, add 6 1 3, sub 7 1 3, mul 8 7 
 ";
 
 // The action by its word and numbers, on one lane.
-fn action_text(alloc: Global, action: &Action) -> Result<String, Fail> {
-    Ok(match *action {
+fn write_action(text: &mut String, action: &Action) -> Result<(), AllocError> {
+    match *action {
         Action::Add {
             register,
             left,
             right,
-        } => format!(in alloc; "add {register} {left} {right}")?,
+        } => write!(text, "add {register} {left} {right}, "),
         Action::Sub {
             register,
             left,
             right,
-        } => format!(in alloc; "sub {register} {left} {right}")?,
-        Action::Neg { register, source } => format!(in alloc; "neg {register} {source}")?,
+        } => write!(text, "sub {register} {left} {right}, "),
+        Action::Neg { register, source } => write!(text, "neg {register} {source}, "),
         Action::Mul {
             register,
             source,
             factors,
-        } => format!(in alloc; "mul {register} {source} {}", factors[0])?,
-        _ => format!(in alloc; "another")?,
-    })
+        } => write!(text, "mul {register} {source} {}, ", factors[0]),
+        _ => write!(text, "another, "),
+    }
 }
 
-fn answer(alloc: Global, request: &str, tree: &str) -> Result<String, Fail> {
+fn write_kernel(text: &mut String, made: &Kernel) -> Result<(), AllocError> {
+    for action in &made.actions {
+        write_action(text, action)?;
+    }
+    write!(text, "outputs")?;
+    for output in &made.outputs {
+        write!(text, " {output}")?;
+    }
+    write!(text, ", registers {}", made.regs)
+}
+
+fn kernel_text(alloc: Global, request: &str, tree: &str) -> Result<String, Fail> {
     let c = context(request)?;
     let tree = tree_of(alloc, tree)?;
     if !admissible(&c, &tree) {
-        return Ok(format!(in alloc; "not admissible")?);
+        return Ok("not admissible".to_string(alloc)?);
     }
     let made = kernel(alloc, &c, &tree)?;
     let mut text = String::new(alloc);
-    for action in &made.actions {
-        text.push_str(&action_text(alloc, action)?)?;
-        text.push_str(", ")?;
-    }
-    text.push_str("outputs")?;
-    for output in &made.outputs {
-        text.push_str(format!(in alloc; " {output}")?.as_str())?;
-    }
-    text.push_str(format!(in alloc; ", registers {}", made.regs)?.as_str())?;
+    write_kernel(&mut text, &made)?;
     Ok(text)
+}
+
+fn answer(alloc: Global, question: &str) -> Result<String, Fail> {
+    let (request, tree) = question.split_once("; ").ok_or("a tree")?;
+    kernel_text(alloc, request, tree)
 }
 
 #[test]
 fn kernels(rt: HostRuntime) -> Result<(), Fail> {
-    for row in ROWS.lines() {
-        let (question, wanted) = halves(row)?;
-        let (request, tree) = question.split_once("; ").ok_or("a tree")?;
-        assert_eq!(rt; answer(rt.alloc(), request, tree)?.as_str(), wanted);
-    }
-    Ok(())
+    check(&rt, rt.alloc(), ROWS, answer)
 }

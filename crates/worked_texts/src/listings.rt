@@ -1,8 +1,9 @@
 // Listings: what is read and printed again, and the line where a text is no listing.
 
-use crate::rows::{halves, number, spelled};
+use crate::rows::{check, number, spelled};
 use listing_text::{ListingFault, print_listing, read_listing};
 use std::alloc::Global;
+use std::fmt::Write;
 use std::test::Fail;
 
 // The transform of size 4 with root 4, modulo 17, by its definition.
@@ -59,7 +60,7 @@ end
 
 // Every form, and numbers at their limits.
 const ALL_FORMS: &str =
-    "program size 65536 mod 4611686018427387903 procs 16 line 64 lanes 16 regs 1048575
+    "program size 1048576 mod 4611686018427387903 procs 16 line 64 lanes 16 regs 1048575
 table 0 values 0
 table 1 values 4611686018427387902 1
 phase
@@ -77,14 +78,17 @@ end
 end
 ";
 
+fn printed(alloc: Global, text: &str) -> Result<Vec<u8>, Fail> {
+    let program = read_listing(alloc, text.as_bytes())
+        .ok()
+        .ok_or("a listing")?;
+    Ok(print_listing(alloc, &program)?)
+}
+
 #[test]
 fn printed_as_read(rt: HostRuntime) -> Result<(), Fail> {
     for text in [LEAF, PAIR, QUAD, ALL_FORMS] {
-        let program = read_listing(rt.alloc(), text.as_bytes())
-            .ok()
-            .ok_or("a listing")?;
-        let printed = print_listing(rt.alloc(), &program)?;
-        assert_eq!(rt; printed.as_slice(), text.as_bytes());
+        assert_eq!(rt; printed(rt.alloc(), text)?.as_slice(), text.as_bytes());
     }
     Ok(())
 }
@@ -105,7 +109,7 @@ program size 2 mod 15 procs 1 line 1 lanes 1 regs 5|1
 program size 2 mod 15 procs 1 line 1 lanes 1 regs 5\r~phase~end~|1
 program size 2 mod 15 procs 1 line 1 lanes 1 regs 5~|2
 program size 0 mod 15 procs 1 line 1 lanes 1 regs 5~phase~end~|1
-program size 65537 mod 15 procs 1 line 1 lanes 1 regs 5~phase~end~|1
+program size 1048577 mod 15 procs 1 line 1 lanes 1 regs 5~phase~end~|1
 program size 2 mod 4611686018427387904 procs 1 line 1 lanes 1 regs 5~phase~end~|1
 program size 2 mod 1 procs 1 line 1 lanes 1 regs 5~phase~end~|1
 program size 2 mod 15 procs 17 line 1 lanes 1 regs 5~phase~end~|1
@@ -124,14 +128,14 @@ program size 2 mod 15 procs 1 line 1 lanes 1 regs 5~phase~ld r0 X[0]~|4
 program size 2 mod 15 procs 1 line 1 lanes 1 regs 5~phase~ld r0 X[0]~ld r1 X[01]~end~|4
 ";
 
+fn lost(alloc: Global, text: &str) -> Result<String, Fail> {
+    let text = spelled(alloc, text)?;
+    Ok(format!(in alloc; "{}", lost_line(alloc, &text))?)
+}
+
 #[test]
 fn lost_lines(rt: HostRuntime) -> Result<(), Fail> {
-    for row in TEXTS.lines() {
-        let (text, line) = halves(row)?;
-        let text = spelled(rt.alloc(), text)?;
-        assert_eq!(rt; lost_line(rt.alloc(), &text), number(line)?, "{row}");
-    }
-    Ok(())
+    check(&rt, rt.alloc(), TEXTS, lost)
 }
 
 // Lines inside two loops, from the text's fifth line on, and the line where the text is lost.
@@ -176,14 +180,14 @@ fn inside_loops(alloc: Global, line: &str) -> Result<String, Fail> {
     Ok(format!(in alloc; "{header}\nphase\nfor v0 2\nfor v1 3\n{line}\nend\nend\nend\n")?)
 }
 
+fn lost_inside_loops(alloc: Global, line: &str) -> Result<String, Fail> {
+    let text = inside_loops(alloc, &spelled(alloc, line)?)?;
+    Ok(format!(in alloc; "{}", lost_line(alloc, &text))?)
+}
+
 #[test]
 fn lines_of_a_phase(rt: HostRuntime) -> Result<(), Fail> {
-    for row in LINES.lines() {
-        let (line, lost) = halves(row)?;
-        let text = inside_loops(rt.alloc(), &spelled(rt.alloc(), line)?)?;
-        assert_eq!(rt; lost_line(rt.alloc(), &text), number(lost)?, "{row}");
-    }
-    Ok(())
+    check(&rt, rt.alloc(), LINES, lost_inside_loops)
 }
 
 // A program with so many loops, one inside the other.
@@ -191,7 +195,7 @@ fn nested_loops(alloc: Global, count: u64) -> Result<String, Fail> {
     let header = "program size 2 mod 15 procs 1 line 1 lanes 1 regs 5";
     let mut text = format!(in alloc; "{header}\nphase\n")?;
     for depth in 0..count {
-        text.push_str(format!(in alloc; "for v{depth} 2\n")?.as_str())?;
+        write!(text, "for v{depth} 2\n")?;
     }
     for _ in 0..count {
         text.push_str("end\n")?;
@@ -217,31 +221,47 @@ pub(crate) fn place(alloc: Global, parentheses: u64, parts: u64) -> Result<Strin
     Ok(format!(in alloc; "0{open}{inner}{close}")?)
 }
 
-/// The parentheses and parts of places that are as deep as may be, or deeper.
+/// The numbers of parentheses and of parts in each.
+pub(crate) fn depths(counts: &str) -> Result<(u64, u64), Fail> {
+    let (parentheses, parts) = counts.split_once(' ').ok_or("two numbers")?;
+    Ok((number(parentheses)?, number(parts)?))
+}
+
+/// The parentheses and parts of places that are as deep as may be, or deeper, and the line where the text is lost: 0, or the
+/// line of the place for `LOST`.
 pub(crate) const DEPTHS: &str = "\
-64 0|
-65 0|lost
-0 64|
-0 65|lost
-32 33|lost
+64 0|0
+65 0|LOST
+0 64|0
+0 65|LOST
+32 33|LOST
 ";
 
+fn lost_place(alloc: Global, counts: &str) -> Result<String, Fail> {
+    let (parentheses, parts) = depths(counts)?;
+    let place = place(alloc, parentheses, parts)?;
+    let text = inside_loops(alloc, &format!(in alloc; "ld r0 X[{place}]")?)?;
+    Ok(format!(in alloc; "{}", lost_line(alloc, &text))?)
+}
+
 #[test]
-fn limits_of_depth(rt: HostRuntime) -> Result<(), Fail> {
-    let alloc = rt.alloc();
-    assert_eq!(rt; lost_line(alloc, &nested_loops(alloc, 64)?), 0);
-    assert_eq!(rt; lost_line(alloc, &nested_loops(alloc, 65)?), 67);
-    for row in DEPTHS.lines() {
-        let (counts, lost) = halves(row)?;
-        let (parentheses, parts) = counts.split_once(' ').ok_or("two numbers")?;
-        let place = place(alloc, number(parentheses)?, number(parts)?)?;
-        let line = format!(in alloc; "ld r0 X[{place}]")?;
-        let lost = if lost.is_empty() { 0 } else { 5 };
-        assert_eq!(rt;
-            lost_line(alloc, &inside_loops(alloc, &line)?),
-            lost,
-            "{row}"
-        );
-    }
-    Ok(())
+fn limits_of_places(rt: HostRuntime) -> Result<(), Fail> {
+    let rows = DEPTHS.replace(rt.alloc(), "LOST", "5")?;
+    check(&rt, rt.alloc(), &rows, lost_place)
+}
+
+// The number of loops, and the line where the text is lost.
+const LOOPS: &str = "\
+64|0
+65|67
+";
+
+fn lost_loop(alloc: Global, count: &str) -> Result<String, Fail> {
+    let text = nested_loops(alloc, number(count)?)?;
+    Ok(format!(in alloc; "{}", lost_line(alloc, &text))?)
+}
+
+#[test]
+fn limits_of_loops(rt: HostRuntime) -> Result<(), Fail> {
+    check(&rt, rt.alloc(), LOOPS, lost_loop)
 }

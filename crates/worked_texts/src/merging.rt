@@ -4,12 +4,14 @@ ghost use Rattle.tree_model.specs.Admissible.{IsAdmissible};
 ghost use Rattle.tree_model.specs.Breakdown.{breakdown_of};
 
 use crate::contexts::{context, tree_of};
-use crate::rows::halves;
+use crate::rows::check;
 use loop_merge::merge;
 use memory::NoMemory;
 use passes::{Merged, Nest};
+use perm_algebra::Affine;
 use sigma_lower::lower;
-use std::alloc::Global;
+use std::alloc::{AllocError, Global};
+use std::fmt::Write;
 use std::test::Fail;
 use tree_model::{Ctx, Tree, admissible};
 use vec_rewrite::vec_of_tree;
@@ -35,19 +37,19 @@ fn merged_tree(alloc: Global, c: &Ctx, tree: &Tree) -> Result<Merged, NoMemory>
     merge(alloc, c, &formulas)
 }
 
-fn list_nest(alloc: Global, text: &mut String, nest: &Nest) -> Result<(), Fail> {
-    for sum in &nest.gathers {
-        text.push_str(format!(in alloc; " ld {sum}")?.as_str())?;
-    }
-    if let Some(multiplier) = &nest.multiplier {
-        for sum in &multiplier.places {
-            text.push_str(format!(in alloc; " mul {sum}")?.as_str())?;
-        }
-    }
-    for sum in &nest.scatters {
-        text.push_str(format!(in alloc; " st {sum}")?.as_str())?;
+fn write_sums(text: &mut String, word: &str, sums: &[Affine]) -> Result<(), AllocError> {
+    for sum in sums {
+        write!(text, " {word} {sum}")?;
     }
     Ok(())
+}
+
+fn write_nest(text: &mut String, nest: &Nest) -> Result<(), AllocError> {
+    write_sums(text, "ld", &nest.gathers)?;
+    if let Some(multiplier) = &nest.multiplier {
+        write_sums(text, "mul", &multiplier.places)?;
+    }
+    write_sums(text, "st", &nest.scatters)
 }
 
 fn listing(alloc: Global, merged: &Merged) -> Result<String, Fail> {
@@ -55,14 +57,14 @@ fn listing(alloc: Global, merged: &Merged) -> Result<String, Fail> {
     for phase in &merged.phases {
         for pass in phase {
             for nest in pass {
-                list_nest(alloc, &mut text, nest)?;
+                write_nest(&mut text, nest)?;
             }
         }
     }
     Ok(text)
 }
 
-fn answer(alloc: Global, request: &str, tree: &str) -> Result<String, Fail> {
+fn passes_text(alloc: Global, request: &str, tree: &str) -> Result<String, Fail> {
     let c = context(request)?;
     let tree = tree_of(alloc, tree)?;
     if !admissible(&c, &tree) {
@@ -72,12 +74,12 @@ fn answer(alloc: Global, request: &str, tree: &str) -> Result<String, Fail> {
     listing(alloc, &merged)
 }
 
+fn answer(alloc: Global, question: &str) -> Result<String, Fail> {
+    let (request, tree) = question.split_once("; ").ok_or("a tree")?;
+    passes_text(alloc, request, tree)
+}
+
 #[test]
 fn places_of_passes(rt: HostRuntime) -> Result<(), Fail> {
-    for row in ROWS.lines() {
-        let (question, wanted) = halves(row)?;
-        let (request, tree) = question.split_once("; ").ok_or("a tree")?;
-        assert_eq!(rt; answer(rt.alloc(), request, tree)?.as_str(), wanted);
-    }
-    Ok(())
+    check(&rt, rt.alloc(), ROWS, answer)
 }

@@ -7,7 +7,8 @@ ghost use Rattle.perm_algebra.specs.Views.{plain_sum};
 use icode::program::{Expr, Part};
 use perm_algebra::Affine;
 use program_emit::{Frame, place_expr};
-use std::alloc::Global;
+use std::alloc::{AllocError, Global};
+use std::fmt::Write;
 use std::test::Fail;
 
 // 5 + 3 v2 + 2 v0 + 4 v2 + 2 ((7 + v1 + v0) % 6) + ((v0 + v0) / 3)
@@ -29,45 +30,49 @@ fn five_and_parts(alloc: Global) -> Result<Affine, Fail>
 }
 
 // The constant and the variables of a place.
-fn variables_shown(alloc: Global, place: &Expr) -> Result<String, Fail> {
-    let mut text = format!(in alloc; "{}", place.constant)?;
+fn write_variables(text: &mut String, place: &Expr) -> Result<(), AllocError> {
+    write!(text, "{}", place.constant)?;
     for part in &place.parts {
-        let more = match part {
-            Part::Proc { factor } => format!(in alloc; "+q*{factor}")?,
-            Part::Var { depth, factor } => format!(in alloc; "+v{depth}*{factor}")?,
-            _ => format!(in alloc; "+?")?,
-        };
-        text.push_str(more.as_str())?;
+        match part {
+            Part::Proc { factor } => write!(text, "+q*{factor}")?,
+            Part::Var { depth, factor } => write!(text, "+v{depth}*{factor}")?,
+            _ => write!(text, "+?")?,
+        }
     }
-    Ok(text)
+    Ok(())
 }
 
 // A place whose remainders and quotients are of constants and variables.
+fn write_part(text: &mut String, part: &Part) -> Result<(), AllocError> {
+    match part {
+        Part::Proc { factor } => write!(text, "+q*{factor}"),
+        Part::Var { depth, factor } => write!(text, "+v{depth}*{factor}"),
+        Part::Rem {
+            of,
+            divisor,
+            factor,
+        } => {
+            write!(text, "+(")?;
+            write_variables(text, of)?;
+            write!(text, ")%{divisor}*{factor}")
+        }
+        Part::Quot {
+            of,
+            divisor,
+            factor,
+        } => {
+            write!(text, "+(")?;
+            write_variables(text, of)?;
+            write!(text, ")/{divisor}*{factor}")
+        }
+        _ => write!(text, "+?"),
+    }
+}
+
 fn shown(alloc: Global, place: &Expr) -> Result<String, Fail> {
     let mut text = format!(in alloc; "{}", place.constant)?;
     for part in &place.parts {
-        let more = match part {
-            Part::Proc { factor } => format!(in alloc; "+q*{factor}")?,
-            Part::Var { depth, factor } => format!(in alloc; "+v{depth}*{factor}")?,
-            Part::Rem {
-                of,
-                divisor,
-                factor,
-            } => {
-                let inner = variables_shown(alloc, of)?;
-                format!(in alloc; "+({inner})%{divisor}*{factor}")?
-            }
-            Part::Quot {
-                of,
-                divisor,
-                factor,
-            } => {
-                let inner = variables_shown(alloc, of)?;
-                format!(in alloc; "+({inner})/{divisor}*{factor}")?
-            }
-            _ => format!(in alloc; "+?")?,
-        };
-        text.push_str(more.as_str())?;
+        write_part(&mut text, part)?;
     }
     Ok(text)
 }
@@ -81,38 +86,47 @@ fn places(rt: HostRuntime) -> Result<(), Fail> {
         shared: false,
         first_loop: 0,
     };
-    let place = place_expr(alloc, alone, &sum, 3)?;
-    assert_eq!(rt;
-        shown(alloc, &place)?.as_str(),
-        "5+v0*2+v2*7+(7+v0*1+v1*1)%6*2+(0+v0*2)/3*1"
-    );
-    let place = place_expr(alloc, alone, &Affine::Constant(9), 2)?;
-    assert_eq!(rt; shown(alloc, &place)?.as_str(), "9");
+    let text = shown(alloc, &place_expr(alloc, alone, &sum, 3)?)?;
+    assert_eq!(rt; text.as_str(), "5+v0*2+v2*7+(7+v0*1+v1*1)%6*2+(0+v0*2)/3*1");
+    Ok(())
+}
+
+#[test]
+fn constant_places(rt: HostRuntime) -> Result<(), Fail> {
+    let alloc = rt.alloc();
+    let alone = Frame {
+        shared: false,
+        first_loop: 0,
+    };
+    let text = shown(alloc, &place_expr(alloc, alone, &Affine::Constant(9), 2)?)?;
+    assert_eq!(rt; text.as_str(), "9");
     Ok(())
 }
 
 // By hand: variable 0 is the processor's and variable 1 the lane's, which is left out; that of the only loop is 2.
 #[test]
-fn shared_places(rt: HostRuntime) -> Result<(), Fail> {
+fn places_of_lanes(rt: HostRuntime) -> Result<(), Fail> {
     let alloc = rt.alloc();
     let sum = five_and_parts(alloc)?;
     let lanes = Frame {
         shared: true,
         first_loop: 2,
     };
-    let place = place_expr(alloc, lanes, &sum, 1)?;
-    assert_eq!(rt;
-        shown(alloc, &place)?.as_str(),
-        "5+q*2+v0*7+(7+q*1)%6*2+(0+q*2)/3*1"
-    );
+    let text = shown(alloc, &place_expr(alloc, lanes, &sum, 1)?)?;
+    assert_eq!(rt; text.as_str(), "5+q*2+v0*7+(7+q*1)%6*2+(0+q*2)/3*1");
+    Ok(())
+}
+
+// By hand: variable 0 is the processor's.
+#[test]
+fn shared_places(rt: HostRuntime) -> Result<(), Fail> {
+    let alloc = rt.alloc();
+    let sum = five_and_parts(alloc)?;
     let shared = Frame {
         shared: true,
         first_loop: 1,
     };
-    let place = place_expr(alloc, shared, &sum, 2)?;
-    assert_eq!(rt;
-        shown(alloc, &place)?.as_str(),
-        "5+q*2+v1*7+(7+q*1+v0*1)%6*2+(0+q*2)/3*1"
-    );
+    let text = shown(alloc, &place_expr(alloc, shared, &sum, 2)?)?;
+    assert_eq!(rt; text.as_str(), "5+q*2+v1*7+(7+q*1+v0*1)%6*2+(0+q*2)/3*1");
     Ok(())
 }

@@ -4,12 +4,15 @@ ghost use Rattle.tree_model.specs.Admissible.{IsAdmissible};
 ghost use Rattle.tree_model.specs.Breakdown.{breakdown_of};
 
 use crate::contexts::{is_valid, request};
-use crate::rows::halves;
+use crate::rows::check;
 use matrix_meaning::Request;
+use operators::MAX_SIZE;
 use plan_search::{Plan, PlanError, best, best_by_recursion};
 use plan_text::write_tree;
 use ring_mod::Modulus;
 use std::alloc::Global;
+use std::fmt::Write;
+use std::process::Abort;
 use std::test::Fail;
 use tree_model::{Ctx, Rule, Tree, admissible, before, cost, loads, pass_count, stores};
 
@@ -71,14 +74,13 @@ fn described(alloc: Global, request: &Request) -> Result<String, Fail> {
     }
 }
 
+fn answer(alloc: Global, line: &str) -> Result<String, Fail> {
+    described(alloc, &request(line)?)
+}
+
 #[test]
 fn plans(rt: HostRuntime) -> Result<(), Fail> {
-    for row in PLANS.lines() {
-        let (line, wanted) = halves(row)?;
-        let answer = described(rt.alloc(), &request(line)?)?;
-        assert_eq!(rt; answer.as_str(), wanted, "{line}");
-    }
-    Ok(())
+    check(&rt, rt.alloc(), PLANS, answer)
 }
 
 /// The node with these parts.
@@ -128,9 +130,31 @@ fn is_better(c: &Ctx, tree: &Tree, plan: &Plan) -> bool
     requires tree { IsAdmissible c.now (breakdown_of tree.now) }
     requires plan { IsAdmissible c.now (breakdown_of plan.now.tree) }
 {
-    prove!(c.request().size <= Ctx::MAX_SIZE);
+    prove!(c.request().size <= MAX_SIZE);
     let cost = cost(c, tree);
     cost < plan.cost || cost == plan.cost && before(tree, &plan.tree)
+}
+
+/// The tree and its cost.
+fn with_cost(alloc: Global, tree: &Tree, cost: u64) -> Result<String, Fail> {
+    Ok(format!(in alloc; "{tree} {cost}")?)
+}
+
+/// Whether the plan is among these trees, with its cost, and no tree is better.
+fn is_best_of(alloc: Global, c: &Ctx, plan: &Plan, trees: &[Tree]) -> Result<bool, Fail>
+    requires { IsAdmissible c.now (breakdown_of plan.now.tree) }
+{
+    let chosen = with_cost(alloc, &plan.tree, plan.cost)?;
+    let mut is_there = false;
+    for tree in trees {
+        if admissible(c, tree) {
+            if is_better(c, tree, plan) {
+                return Ok(false);
+            }
+            is_there = is_there || with_cost(alloc, tree, cost(c, tree))? == chosen;
+        }
+    }
+    Ok(is_there)
 }
 
 /// Whether the plan is the first of the cheapest of these trees, and the recursion finds it too.
@@ -141,24 +165,14 @@ fn is_first_and_cheapest(alloc: Global, c: &Ctx, trees: &[Tree]) -> Result<bool,
         return Ok(by_recursion.is_none() && !trees.iter().any(|tree| admissible(c, tree)));
     }
     let plan = answer?;
-    let chosen = format!(in alloc; "{} {}", plan.tree, plan.cost)?;
     let Some(other) = by_recursion else {
         return Ok(false)
     };
-    if format!(in alloc; "{} {}", other.tree, other.cost)? != chosen {
+    let chosen = with_cost(alloc, &plan.tree, plan.cost)?;
+    if with_cost(alloc, &other.tree, other.cost)? != chosen {
         return Ok(false);
     }
-    let mut is_there = false;
-    for tree in trees {
-        if admissible(c, tree) {
-            if is_better(c, tree, &plan) {
-                return Ok(false);
-            }
-            let cost = cost(c, tree);
-            is_there = is_there || format!(in alloc; "{tree} {cost}")? == chosen;
-        }
-    }
-    Ok(is_there)
+    is_best_of(alloc, c, &plan, trees)
 }
 
 /// The request on other processors and lanes, with other limits.
@@ -223,28 +237,37 @@ fn small_requests(alloc: Global, size: u64) -> Result<String, Fail> {
         "10 root 9",
         "17 root 2",
     ] {
-        lines.push_str(format!(in alloc; "dft {size} mod {rest}\n")?.as_str())?;
+        write!(lines, "dft {size} mod {rest}\n")?;
     }
     if size.is_power_of_two() {
-        lines.push_str(format!(in alloc; "wht {size} mod 5\n")?.as_str())?;
+        write!(lines, "wht {size} mod 5\n")?;
     }
     Ok(lines)
 }
 
-// Every tree of small sizes, against the plan.
+// Every tree of these sizes, against the plan.
+fn variants_agree(rt: &impl Abort, alloc: Global, line: &str, trees: &[Tree]) -> Result<(), Fail> {
+    for variant in variants(&request(line)?) {
+        if is_valid(&variant) {
+            let c = Ctx::new(&variant);
+            assert!(rt; is_first_and_cheapest(alloc, &c, trees)?, "{line}");
+        }
+    }
+    Ok(())
+}
+
+fn lines_agree(rt: &impl Abort, alloc: Global, size: u64) -> Result<(), Fail> {
+    let trees = every_tree(alloc, size)?;
+    for line in small_requests(alloc, size)?.lines() {
+        variants_agree(rt, alloc, line, &trees)?;
+    }
+    Ok(())
+}
+
 #[test]
 fn every_small_tree(rt: HostRuntime) -> Result<(), Fail> {
-    let alloc = rt.alloc();
     for size in SIZES {
-        let trees = every_tree(alloc, size)?;
-        for line in small_requests(alloc, size)?.lines() {
-            for variant in variants(&request(line)?) {
-                if is_valid(&variant) {
-                    let c = Ctx::new(&variant);
-                    assert!(rt; is_first_and_cheapest(alloc, &c, &trees)?, "{line}");
-                }
-            }
-        }
+        lines_agree(&rt, rt.alloc(), size)?;
     }
     Ok(())
 }

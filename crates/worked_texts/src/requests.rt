@@ -1,8 +1,9 @@
 // Request lines, and the words of schedules and of turns with drains.
 
-use crate::rows::{halves, number, numbers, spelled};
+use crate::rows::{check, number, numbers, spelled};
 use request_text::{Mix, Schedule, read_conv, read_mix, read_request, read_schedule};
-use std::alloc::Global;
+use std::alloc::{AllocError, Global};
+use std::fmt::Write;
 use std::test::Fail;
 
 // A line, and what it asks for or what is wrong with it. The places of syntax faults come from a matcher of prefixes that
@@ -22,8 +23,8 @@ wht 6 mod 97 procs 2 line 3 lanes 2|Err(Shape { size: 6 })
 wht 16 mod 97 procs 2 line 3 lanes 2|Err(LanesLine { lanes: 2, line: 3 })
 wht 6 mod 10 unroll 99|Err(Range { field: Unroll, value: 99 })
 dft 0 mod 17 root 1|Err(Range { field: Size, value: 0 })
-dft 65537 mod 1 root 1|Err(Range { field: Size, value: 65537 })
-dft 70000 mod 17 root 1|Err(Range { field: Size, value: 70000 })
+dft 1048577 mod 1 root 1|Err(Range { field: Size, value: 1048577 })
+dft 1048577 mod 17 root 1|Err(Range { field: Size, value: 1048577 })
 dft 4 mod 1 root 0|Err(Range { field: Mod, value: 1 })
 dft 2 mod 4611686018427387904 root 1|Err(Range { field: Mod, value: 4611686018427387904 })
 dft 4 mod 17 root 17|Err(Range { field: Root, value: 17 })
@@ -79,15 +80,14 @@ dft 4 mod 17 root 4 unroll 8 bidget 9|Err(Syntax { at: 30 })
 dft 4 mod 17 root 4 budget 99x|Err(Syntax { at: 29 })
 ";
 
+fn line_answer(alloc: Global, line: &str) -> Result<String, Fail> {
+    let line = spelled(alloc, line)?;
+    Ok(format!(in alloc; "{:?}", read_request(line.as_bytes()))?)
+}
+
 #[test]
 fn lines(rt: HostRuntime) -> Result<(), Fail> {
-    for row in LINES.lines() {
-        let (line, wanted) = halves(row)?;
-        let line = spelled(rt.alloc(), line)?;
-        let answer = format!(in rt.alloc(); "{:?}", read_request(line.as_bytes()))?;
-        assert_eq!(rt; answer.as_str(), wanted);
-    }
-    Ok(())
+    check(&rt, rt.alloc(), LINES, line_answer)
 }
 
 // The line of a convolution, and what it asks for or what is wrong with it, by the matcher of fronts in
@@ -96,7 +96,7 @@ const CONVOLUTIONS: &str = "\
 conv 4 mod 17 root 4 unroll 2 budget 21 weight 1000|Ok(Request { kind: Dft, size: 4, modulus: 17, root: 4, procs: 1, line: 1, lanes: 1, unroll: 2, budget: 21, weight: 1000 })
 conv 4 mod 15 root 4|Ok(Request { kind: Dft, size: 4, modulus: 15, root: 4, procs: 1, line: 1, lanes: 1, unroll: 8, budget: 100000000, weight: 1 })
 conv 1 mod 2 root 0|Ok(Request { kind: Dft, size: 1, modulus: 2, root: 0, procs: 1, line: 1, lanes: 1, unroll: 8, budget: 100000000, weight: 1 })
-conv 65536 mod 4611686018427387903 root 4611686018427387902 budget 1000000000000|Ok(Request { kind: Dft, size: 65536, modulus: 4611686018427387903, root: 4611686018427387902, procs: 1, line: 1, lanes: 1, unroll: 8, budget: 1000000000000, weight: 1 })
+conv 1048576 mod 4611686018427387903 root 4611686018427387902 budget 1000000000000|Ok(Request { kind: Dft, size: 1048576, modulus: 4611686018427387903, root: 4611686018427387902, procs: 1, line: 1, lanes: 1, unroll: 8, budget: 1000000000000, weight: 1 })
 conv 4 mod 17 root 4 unroll 64 weight 1|Ok(Request { kind: Dft, size: 4, modulus: 17, root: 4, procs: 1, line: 1, lanes: 1, unroll: 64, budget: 100000000, weight: 1 })
 conv 2 mod 10 root 9|Err(NotUnit { gcd: 2 })
 conv 12 mod 18 root 5|Err(NotUnit { gcd: 6 })
@@ -110,7 +110,7 @@ conv 2 mod 10 root 9 budget 1000000000001 weight 0|Err(Range { field: Budget, va
 conv 2 mod 10 root 9 weight 0|Err(Range { field: Weight, value: 0 })
 conv 2 mod 10 root 9 weight 1001|Err(Range { field: Weight, value: 1001 })
 conv 0 mod 10 root 9|Err(Range { field: Size, value: 0 })
-conv 65537 mod 1 root 1|Err(Range { field: Size, value: 65537 })
+conv 1048577 mod 1 root 1|Err(Range { field: Size, value: 1048577 })
 conv 2 mod 1 root 1|Err(Range { field: Mod, value: 1 })
 conv 2 mod 4611686018427387904 root 1|Err(Range { field: Mod, value: 4611686018427387904 })
 |Err(Syntax { at: 0 })
@@ -143,15 +143,14 @@ conv 4 mod 18446744073709551616 root 4|Err(Syntax { at: 30 })
 conv 4 mod 17 root 4 budget 18446744073709551616|Err(Syntax { at: 47 })
 ";
 
+fn convolution_answer(alloc: Global, line: &str) -> Result<String, Fail> {
+    let line = spelled(alloc, line)?;
+    Ok(format!(in alloc; "{:?}", read_conv(line.as_bytes()))?)
+}
+
 #[test]
 fn convolutions(rt: HostRuntime) -> Result<(), Fail> {
-    for row in CONVOLUTIONS.lines() {
-        let (line, wanted) = halves(row)?;
-        let line = spelled(rt.alloc(), line)?;
-        let answer = format!(in rt.alloc(); "{:?}", read_conv(line.as_bytes()))?;
-        assert_eq!(rt; answer.as_str(), wanted, "{row}");
-    }
-    Ok(())
+    check(&rt, rt.alloc(), CONVOLUTIONS, convolution_answer)
 }
 
 // A word, a number of processors and some places; and the number of turns, those at the places, and the first turn of a
@@ -183,14 +182,14 @@ fn turns(alloc: Global, schedule: &Schedule, procs: u64, places: &[u64]) -> Resu
     for place in places {
         if *place < schedule.len(procs) {
             let turn = schedule.turn_at(*place, procs);
-            text.push_str(format!(in alloc; " {turn}")?.as_str())?;
+            write!(text, " {turn}")?;
         }
     }
-    text.push_str(format!(in alloc; " {:?}", schedule.stranger(procs))?.as_str())?;
+    write!(text, " {:?}", schedule.stranger(procs))?;
     Ok(text)
 }
 
-fn schedule_answer(alloc: Global, word: &str, numbers: &[u64]) -> Result<String, Fail> {
+fn turns_of(alloc: Global, word: &str, numbers: &[u64]) -> Result<String, Fail> {
     let (procs, places) = numbers.split_first().ok_or("a number of processors")?;
     match read_schedule(alloc, word.as_bytes()) {
         Ok(schedule) => turns(alloc, &schedule, *procs, places),
@@ -198,16 +197,14 @@ fn schedule_answer(alloc: Global, word: &str, numbers: &[u64]) -> Result<String,
     }
 }
 
+fn schedule_answer(alloc: Global, question: &str) -> Result<String, Fail> {
+    let (word, rest) = question.split_once("; ").ok_or("numbers")?;
+    turns_of(alloc, word, &numbers(alloc, rest)?)
+}
+
 #[test]
 fn schedules(rt: HostRuntime) -> Result<(), Fail> {
-    for row in SCHEDULES.lines() {
-        let (question, wanted) = halves(row)?;
-        let (word, rest) = question.split_once("; ").ok_or("numbers")?;
-        let numbers = numbers(rt.alloc(), rest)?;
-        let answer = schedule_answer(rt.alloc(), word, &numbers)?;
-        assert_eq!(rt; answer.as_str(), wanted, "{row}");
-    }
-    Ok(())
+    check(&rt, rt.alloc(), SCHEDULES, schedule_answer)
 }
 
 // A word and a number of processors; and the turns and drains, and the first processor that is not there. The places of
@@ -231,32 +228,33 @@ seq; 1|Syntax { at: 0 }
 mix:d0,t1,d; 1|Syntax { at: 11 }
 ";
 
+fn write_events(text: &mut String, mix: &Mix) -> Result<(), AllocError> {
+    for place in 0..mix.len() {
+        write!(text, "{:?} ", mix.event_at(place))?;
+    }
+    Ok(())
+}
+
 fn events(alloc: Global, mix: &Mix, procs: u64) -> Result<String, Fail> {
     let mut text = String::new(alloc);
-    for place in 0..mix.len() {
-        if place < mix.len() {
-            let event = mix.event_at(place);
-            text.push_str(format!(in alloc; "{event:?} ")?.as_str())?;
-        }
-    }
-    text.push_str(format!(in alloc; "{:?}", mix.stranger(procs))?.as_str())?;
+    write_events(&mut text, mix)?;
+    write!(text, "{:?}", mix.stranger(procs))?;
     Ok(text)
 }
 
-fn mix_answer(alloc: Global, word: &str, procs: u64) -> Result<String, Fail> {
+fn events_of(alloc: Global, word: &str, procs: u64) -> Result<String, Fail> {
     match read_mix(alloc, word.as_bytes()) {
         Ok(mix) => events(alloc, &mix, procs),
         Err(fault) => Ok(format!(in alloc; "{fault:?}")?),
     }
 }
 
+fn mix_answer(alloc: Global, question: &str) -> Result<String, Fail> {
+    let (word, procs) = question.split_once("; ").ok_or("a number")?;
+    events_of(alloc, word, number(procs)?)
+}
+
 #[test]
 fn mixes(rt: HostRuntime) -> Result<(), Fail> {
-    for row in MIXES.lines() {
-        let (question, wanted) = halves(row)?;
-        let (word, procs) = question.split_once("; ").ok_or("a number")?;
-        let answer = mix_answer(rt.alloc(), word, number(procs)?)?;
-        assert_eq!(rt; answer.as_str(), wanted, "{row}");
-    }
-    Ok(())
+    check(&rt, rt.alloc(), MIXES, mix_answer)
 }

@@ -8,6 +8,7 @@ use input_rest::{RestFault, read_rest};
 use io_edge::{CountSink, Feed, MemSink, MemSource, WriteFault};
 use ring_mod::Modulus;
 use std::alloc::Global;
+use std::process::Abort;
 use std::test::Fail;
 
 // What is written for the vectors of four numbers, at most two of them, and how the data go on behind them.
@@ -55,18 +56,24 @@ const DATA: &str = "\
 1 2 3 4 -1|1 2 3 4~|Err(BadNumber { token: 5 })
 ";
 
+fn cut_in_steps(rt: &impl Abort, alloc: Global, row: &str, step: u64) -> Result<(), Fail>
+    requires { 0 < step }
+{
+    let (question, wanted) = halves(row)?;
+    let (data, text) = halves(question)?;
+    let (data, text) = (spelled(alloc, data)?, spelled(alloc, text)?);
+    let (output, next) = lines(alloc, data.as_bytes(), step, Vec::new(alloc))?;
+    assert_eq!(rt; output.bytes(), text.as_bytes(), "{row} in steps of {step}");
+    let answer = format!(in alloc; "{next:?}")?;
+    assert_eq!(rt; answer.as_str(), wanted, "{row} in steps of {step}");
+    Ok(())
+}
+
 #[test]
 fn vectors_however_the_source_is_cut(rt: HostRuntime) -> Result<(), Fail> {
-    let alloc = rt.alloc();
     for row in DATA.lines() {
-        let (question, wanted) = halves(row)?;
-        let (data, text) = halves(question)?;
-        let (data, text) = (spelled(alloc, data)?, spelled(alloc, text)?);
         for step in [1, 3, 4096] {
-            let (output, next) = lines(alloc, data.as_bytes(), step, Vec::new(alloc))?;
-            assert_eq!(rt; output.bytes(), text.as_bytes(), "{row} in steps of {step}");
-            let answer = format!(in alloc; "{next:?}")?;
-            assert_eq!(rt; answer.as_str(), wanted, "{row} in steps of {step}");
+            cut_in_steps(&rt, rt.alloc(), row, step)?;
         }
     }
     Ok(())
@@ -91,20 +98,23 @@ fn failing_reads(rt: HostRuntime) -> Result<(), Fail> {
 
 // A short line is one write, and one longer than any buffer on the way is whole.
 #[test]
-fn lines_of_vectors(rt: HostRuntime) -> Result<(), Fail> {
+fn short_lines(rt: HostRuntime) -> Result<(), Fail> {
     let alloc = rt.alloc();
     let mut output = MemSink::new(alloc, 100, vec![in alloc; 1]?)?;
     assert_eq!(rt; write_vector(&mut output, &[1, 22, 333]), Ok(()));
     assert_eq!(rt; write_vector(&mut output, &[4]), Err(WriteFault));
     assert_eq!(rt; output.bytes(), b"1 22 333\n".as_slice());
+    Ok(())
+}
 
+#[test]
+fn long_lines(rt: HostRuntime) {
     let mut output = CountSink::new();
     let long = [18446744073709551615; 1000];
     assert_eq!(rt; write_vector(&mut output, &long), Ok(()));
     assert_eq!(rt; output.count, 21000);
     assert_eq!(rt; write_vector(&mut output, &[]), Ok(()));
     assert_eq!(rt; output.count, 21001);
-    Ok(())
 }
 
 // The rest of this input, behind its first byte, if it has at most four bytes.
@@ -124,17 +134,29 @@ fn rest(
     Ok(read_rest(alloc, &mut feed, &mut source, 4))
 }
 
+fn rests_in_steps(rt: &impl Abort, alloc: Global, step: u64) -> Result<(), Fail>
+    requires { 0 < step }
+{
+    let whole = rest(alloc, b"?abc\n", step, Vec::new(alloc))??;
+    assert_eq!(rt; whole.as_slice(), b"abc\n".as_slice());
+    let none = rest(alloc, b"?", step, Vec::new(alloc))??;
+    assert_eq!(rt; none.as_slice(), b"".as_slice());
+    let long = rest(alloc, b"?abc\n ", step, Vec::new(alloc))?;
+    assert!(rt; long.err() == Some(RestFault::TooLong));
+    Ok(())
+}
+
 #[test]
 fn rests(rt: HostRuntime) -> Result<(), Fail> {
-    let alloc = rt.alloc();
     for step in [1, 3, 100] {
-        let whole = rest(alloc, b"?abc\n", step, Vec::new(alloc))??;
-        assert_eq!(rt; whole.as_slice(), b"abc\n".as_slice());
-        let none = rest(alloc, b"?", step, Vec::new(alloc))??;
-        assert_eq!(rt; none.as_slice(), b"".as_slice());
-        let long = rest(alloc, b"?abc\n ", step, Vec::new(alloc))?;
-        assert!(rt; long.err() == Some(RestFault::TooLong));
+        rests_in_steps(&rt, rt.alloc(), step)?;
     }
+    Ok(())
+}
+
+#[test]
+fn broken_rests(rt: HostRuntime) -> Result<(), Fail> {
+    let alloc = rt.alloc();
     let broken = rest(alloc, b"?abc", 2, vec![in alloc; 1]?)?;
     assert!(rt; broken.err() == Some(RestFault::ReadFault));
     Ok(())

@@ -1,12 +1,13 @@
 // Arithmetic modulo a number, index functions, and sums of loop variables.
 
-use crate::rows::{halves, number};
+use crate::rows::{check, number};
 use convolution::{conv_plain, first_bad_power};
 use index_fn::{Index, compose};
 use matrix_meaning::twiddle_factor;
 use perm_algebra::{Affine, simplify};
 use quick_mod::QuickModulus;
 use ring_mod::{Modulus, gcd};
+use std::alloc::Global;
 use std::test::Fail;
 
 // A call, the modulus and the numbers that it takes, and the value by Python's integers.
@@ -69,38 +70,48 @@ fn value(call: &str, modulus: u64, a: u64, b: u64) -> Option<u64> {
     })
 }
 
+fn answer(alloc: Global, question: &str) -> Result<String, Fail> {
+    let (call, rest) = question.split_once(' ').ok_or("a call")?;
+    let (modulus, rest) = rest.split_once(' ').ok_or("a modulus")?;
+    let (a, b) = rest.split_once(' ').ok_or("two numbers")?;
+    let value = value(call, number(modulus)?, number(a)?, number(b)?);
+    Ok(format!(in alloc; "{value:?}")?)
+}
+
 #[test]
 fn values(rt: HostRuntime) -> Result<(), Fail> {
-    for row in VALUES.lines() {
-        let (question, wanted) = halves(row)?;
-        let (call, rest) = question.split_once(' ').ok_or("a call")?;
-        let (modulus, rest) = rest.split_once(' ').ok_or("a modulus")?;
-        let (a, b) = rest.split_once(' ').ok_or("two numbers")?;
-        let value = value(call, number(modulus)?, number(a)?, number(b)?);
-        let answer = format!(in rt.alloc(); "{value:?}")?;
-        assert_eq!(rt; answer.as_str(), wanted, "{row}");
-    }
-    Ok(())
+    check(&rt, rt.alloc(), VALUES, answer)
 }
 
 // By hand, from the formulas of the permutations.
 #[test]
-fn places_of_permutations(rt: HostRuntime) -> Result<(), Fail> {
-    let alloc = rt.alloc();
+fn places_of_strides(rt: HostRuntime) -> Result<(), Fail> {
     let turn = Index::StridePermutation(2, 3);
-    let turn_back = turn.inverse(alloc)?;
+    let turn_back = turn.inverse(rt.alloc())?;
+    for i in 0..6 {
+        let k = i as usize;
+        assert_eq!(rt; turn.at(i), [0, 2, 4, 1, 3, 5][k]);
+        assert_eq!(rt; turn_back.at(i), [0, 3, 1, 4, 2, 5][k]);
+    }
+    Ok(())
+}
+
+#[test]
+fn places_of_coprime_factors(rt: HostRuntime) {
     let into = Index::ThomasIn(2, 3);
     let out = Index::ThomasOut(2, 3);
     let out_back = Index::ThomasBack(2, 3, 3, 4);
     for i in 0..6 {
         let k = i as usize;
-        assert_eq!(rt; turn.at(i), [0, 2, 4, 1, 3, 5][k]);
-        assert_eq!(rt; turn_back.at(i), [0, 3, 1, 4, 2, 5][k]);
         assert_eq!(rt; into.at(i), [0, 2, 4, 3, 5, 1][k]);
         assert_eq!(rt; out.at(i), [0, 4, 2, 3, 1, 5][k]);
         assert_eq!(rt; out_back.at(i), [0, 4, 2, 3, 1, 5][k]);
     }
-    let composed = compose(alloc, &Index::Stride(1, 2), &Index::Stride(0, 3))?;
+}
+
+#[test]
+fn composed_places(rt: HostRuntime) -> Result<(), Fail> {
+    let composed = compose(rt.alloc(), &Index::Stride(1, 2), &Index::Stride(0, 3))?;
     assert_eq!(rt; composed.at(2), 13);
     Ok(())
 }

@@ -1,6 +1,6 @@
 // Command lines.
 
-use crate::rows::halves;
+use crate::rows::check;
 use request_text::{Event, Mix, Schedule};
 use spiral_words::{Command, Order, Refusal, command_of};
 use std::alloc::Global;
@@ -139,42 +139,51 @@ fn ordered(alloc: Global, name: &str, order: &Order) -> Result<String, Fail> {
     }
 }
 
-fn answer(alloc: Global, line: &str) -> Result<String, Fail> {
-    let mut words = Vec::new(alloc);
-    for word in line.split(' ') {
-        words.push(String::from_str(alloc, word)?)?;
-    }
-    let name = match command_of(alloc, &words) {
-        Ok(Command::Plan) => "plan",
-        Ok(Command::Formula) => "formula",
-        Ok(Command::Code) => "code",
-        Ok(Command::C) => "c",
-        Ok(Command::Run { order }) => return ordered(alloc, "run", &order),
-        Ok(Command::Trace { order }) => return ordered(alloc, "trace", &order),
-        Ok(Command::Cert) => "cert",
-        Ok(Command::Check) => "check",
-        Ok(Command::Sample { seed, schedule }) => {
-            let name = format!(in alloc; "sample {seed}")?;
-            return shown(alloc, &name, &schedule);
+fn sampled(alloc: Global, seed: u64, schedule: &Schedule) -> Result<String, Fail> {
+    let name = format!(in alloc; "sample {seed}")?;
+    shown(alloc, &name, schedule)
+}
+
+fn told(alloc: Global, command: &Command) -> Result<String, Fail> {
+    let name = match command {
+        Command::Plan => "plan",
+        Command::Formula => "formula",
+        Command::Code => "code",
+        Command::C => "c",
+        Command::Cert => "cert",
+        Command::Check => "check",
+        Command::Compile { .. } => "compile",
+        Command::Run { order } => return ordered(alloc, "run", order),
+        Command::Trace { order } => return ordered(alloc, "trace", order),
+        Command::Sample { seed, schedule } => return sampled(alloc, *seed, schedule),
+        Command::Apply { schedule, .. } => return shown(alloc, "apply", schedule),
+        Command::Exec { schedule } => return shown(alloc, "exec", schedule),
+        Command::Convolve { schedule, code } => {
+            let name = if *code { "convolve code" } else { "convolve" };
+            return shown(alloc, name, schedule);
         }
-        Ok(Command::Compile { .. }) => "compile",
-        Ok(Command::Apply { schedule, .. }) => return shown(alloc, "apply", &schedule),
-        Ok(Command::Exec { schedule }) => return shown(alloc, "exec", &schedule),
-        Ok(Command::Convolve { schedule, code }) => {
-            let name = if code { "convolve code" } else { "convolve" };
-            return shown(alloc, name, &schedule);
-        }
-        Err(Refusal::Usage) => "usage",
-        Err(Refusal::NoMemory) => "no memory",
     };
     Ok(name.to_string(alloc)?)
 }
 
+fn words_of(alloc: Global, line: &str) -> Result<Vec<String>, Fail> {
+    let mut words = Vec::new(alloc);
+    for word in line.split(' ') {
+        words.push(String::from_str(alloc, word)?)?;
+    }
+    Ok(words)
+}
+
+fn answer(alloc: Global, line: &str) -> Result<String, Fail> {
+    let words = words_of(alloc, line)?;
+    match command_of(alloc, &words) {
+        Ok(command) => told(alloc, &command),
+        Err(Refusal::Usage) => Ok("usage".to_string(alloc)?),
+        Err(Refusal::NoMemory) => Ok("no memory".to_string(alloc)?),
+    }
+}
+
 #[test]
 fn command_lines(rt: HostRuntime) -> Result<(), Fail> {
-    for row in ROWS.lines() {
-        let (line, wanted) = halves(row)?;
-        assert_eq!(rt; answer(rt.alloc(), line)?.as_str(), wanted, "{line}");
-    }
-    Ok(())
+    check(&rt, rt.alloc(), ROWS, answer)
 }
