@@ -5,7 +5,7 @@ use Rattle.std.proofs.lemmas.List.Elements.{All-cons, All-head, All-tail}
 use Rattle.joined_copies.specs.Joined.{PlainRun, run_of, together, copying_run, before, put_first, with_copies_joined}
 use Rattle.joined_copies.proofs.Alike.{AreAlike, same, then, behind}
 use Rattle.joined_copies.proofs.Loops.{copies_from, AreCounted, AreBelow, word_at, hit_at, loop-stored, loop-hits, counted, words-below, loop-plain}
-use Rattle.joined_copies.proofs.Runs.{IsRun, run-is, together-are}
+use Rattle.joined_copies.proofs.Words.{IsRun, run-is, together-are}
 use Rattle.operators.specs.Sum.{sum_below}
 use Rattle.operators.proofs.Sums.{sum_below-same, sum_below-append}
 use Rattle.pass_actions.specs.Acts.{pass_registers}
@@ -38,22 +38,22 @@ module _ (cs ds : List ℕ) (k n p : ℕ) (first : AreCounted cs k) (second : Ar
   right = copies_from ds (p + k)
 
   abbrev loop : PlainNest
-  loop = copies_from (k + n ∷ []) p
+  loop = copies_from ((k + n) ∷ []) p
 
   meets : (g : ℕ → ℕ) (a b c : ℕ) → a ≡ sum_below (k + n) (λ i. g (p + i)) → b ≡ sum_below k (λ i. g (p + i)) → c ≡ sum_below n (λ i. g (p + k + i)) → a ≡ b + c
   meets g a b c whole one other = whole ∙ sums-meet k n p g ∙ ap₂ (λ u v. u + v) (sym one) (sym other)
 
   stores : (m : ℕ) (x : List ℕ) (w : ℕ) → stored (copies_of m loop) x w ≡ stored (copies_of m left) x w + stored (copies_of m right) x w
-  stores m x w = meets (word_at x w) _ _ _ (loop-stored m (k + n ∷ []) (k + n) p x w refl) (loop-stored m cs k p x w first) (loop-stored m ds n (p + k) x w second)
+  stores m x w = meets (word_at x w) _ _ _ (loop-stored m ((k + n) ∷ []) (k + n) p x w refl) (loop-stored m cs k p x w first) (loop-stored m ds n (p + k) x w second)
 
   reach : (m w : ℕ) → hits (copies_of m loop ∷ []) w ≡ hits (copies_of m left ∷ []) w + hits (copies_of m right ∷ []) w
   reach m w =
-      let whole = loop-hits (k + n ∷ []) (k + n) p w refl in
+      let whole = loop-hits ((k + n) ∷ []) (k + n) p w refl in
       let one = loop-hits cs k p w first in
       let other = loop-hits ds n (p + k) w second in
       let all = meets (hit_at w) _ _ _ whole one other in omega (arith, all)
 
-  copies : copies_in (k + n ∷ []) ≡ copies_in cs + copies_in ds
+  copies : copies_in ((k + n) ∷ []) ≡ copies_in cs + copies_in ds
   copies = let one = counted cs k first in let other = counted ds n second in omega (arith, one, other)
 
   plain : (size m : ℕ) → size ≤ 1048576 → IsPlainNest size m left → IsPlainNest size m right → IsPlainNest size m loop
@@ -70,7 +70,7 @@ module _ (cs ds : List ℕ) (k n p : ℕ) (first : AreCounted cs k) (second : Ar
       record {
         stores = λ m x w. let all = stores m x w in omega (arith, all);
         hit = λ m w. let all = reach m w in omega (arith, all);
-        costs = λ weight cost free. three _ _ _ _ (pass_cost weight cost zs) (no-cost cost (k + n ∷ []) free) (none cost free);
+        costs = λ weight cost free. three _ _ _ _ (pass_cost weight cost zs) (no-cost cost ((k + n) ∷ []) free) (none cost free);
         loads = let all = copies in omega (arith, all);
         registers = λ h. max-one (pass_registers h zs);
         tables = λ m tables. refl;
@@ -89,13 +89,13 @@ module _ (cs ds : List ℕ) (k n p : ℕ) (first : AreCounted cs k) (second : Ar
 
 joined-two : (z y : PlainNest) (zs : List PlainNest) (r s t : PlainRun) → IsRun z r → IsRun y s → t.first ≡ r.first → s.first ≡ r.first + r.count → t.count ≡ r.count + s.count →
     AreAlike (copying_run t ∷ zs) (z ∷ y ∷ zs)
-joined-two z y zs r s t one other begins meets whole =
+joined-two z y zs r s t one other begins met whole =
     let both = joined-alike z.counts y.counts r.count s.count r.first one.counted other.counted zs in
-    let loop : copying_run t ≡ copies_from (r.count + s.count ∷ []) r.first = ap₂ (λ c p. copies_from (c ∷ []) p) whole begins in
-    let right : y ≡ copies_from y.counts (r.first + r.count) = other.is ∙ ap (copies_from y.counts) meets in
+    let loop : copying_run t ≡ copies_from ((r.count + s.count) ∷ []) r.first = ap₂ (λ c p. copies_from (c ∷ []) p) whole begins in
+    let right : y ≡ copies_from y.counts (r.first + r.count) = other.is ∙ ap (copies_from y.counts) met in
     subst (λ a. AreAlike (a ∷ zs) (z ∷ y ∷ zs)) (sym loop)
-    (subst (λ a. AreAlike (copies_from (r.count + s.count ∷ []) r.first ∷ zs) (a ∷ y ∷ zs)) (sym one.is)
-    (subst (λ a. AreAlike (copies_from (r.count + s.count ∷ []) r.first ∷ zs) (copies_from z.counts r.first ∷ a ∷ zs)) (sym right) both))
+    (subst (λ a. AreAlike (copies_from ((r.count + s.count) ∷ []) r.first ∷ zs) (a ∷ y ∷ zs)) (sym one.is)
+    (subst (λ a. AreAlike (copies_from ((r.count + s.count) ∷ []) r.first ∷ zs) (copies_from z.counts r.first ∷ a ∷ zs)) (sym right) both))
 
 put-before : (z y : PlainNest) (ys : List PlainNest) (o : Option PlainRun) → together (run_of z) (run_of y) ≡ o → AreAlike (before o z y ys) (z ∷ y ∷ ys)
 put-before z y ys None is = same (z ∷ y ∷ ys)

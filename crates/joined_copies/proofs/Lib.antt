@@ -2,4 +2,4 @@ pub mod Alike
 pub mod Joining
 pub mod Loops
 pub mod Passes
-pub mod Runs
+pub mod Words

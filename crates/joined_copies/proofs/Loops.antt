@@ -48,7 +48,7 @@ one-times v p = omega arith
 
 -- a sum over their places
 loop-sum : (counts : List ℕ) (n p : ℕ) (g : ℕ → ℕ) → AreCounted counts n → nest_sum (loops_of counts) (λ vs. sum_below 1 (λ k. g (sum_value (places_from counts p) k vs))) ≡ sum_below n (λ i. g (p + i))
-loop-sum [] n p g is = subst (λ c. 0 + g p ≡ sum_below c (λ i. g (p + i))) (sym is) refl
+loop-sum [] n p g is = let same : p ≡ p + 0 = omega arith in subst (λ c. 0 + g p ≡ sum_below c (λ i. g (p + i))) (sym is) (ap (λ a. 0 + g a) same)
 loop-sum (c ∷ []) n p g is =
     sum_below-same c (λ v. 0 + g (1 * v + p)) (λ i. g (p + i)) (λ v below. zero-plus (g (1 * v + p)) ∙ ap g (one-times v p))
     ∙ ap (λ k. sum_below k (λ i. g (p + i))) is
@@ -81,8 +81,8 @@ pub record AreBelow (size n p : ℕ) : Type 0 where
 pub words-below : (size m : ℕ) (counts : List ℕ) (n p : ℕ) → AreCounted counts n → IsPlainNest size m (copies_from counts p) → AreBelow size n p
 words-below size m [] n p is h = let last : p < size = h.inside.stores [] 0 tt (omega arith) in record { some = omega (arith, is); below = omega (arith, is, last) }
 words-below size m (c ∷ []) n p is h =
-    let some : 1 ≤ c = (All-head _ _ _ h.writes.counts).0 in
-    let last : 1 * (c - 1) + p < size = h.inside.stores (c - 1 ∷ []) 0 (omega (arith, some), tt) (omega arith) in
+    let some : 1 ≤ c = (All-head (λ d. (1 ≤ d) × (d < 2 ^ 32)) c [] h.writes.counts).0 in
+    let last : 1 * (c - 1) + p < size = h.inside.stores ((c - 1) ∷ []) 0 (omega (arith, some), tt) (omega arith) in
     record { some = omega (arith, is, some); below = omega (arith, is, some, last) }
 words-below size m (c ∷ d ∷ counts) n p is h = absurd is
 

@@ -1,5 +1,5 @@
 -- A nest that is a run of words is a loop over copies of one word, and two that are together are one.
-use Rattle.std.proofs.Common.{◌≡◌, ℕ, zero, suc, ◌+◌, ◌^◌, ◌<◌, true, false, refl, sym, ap, ◌∙◌, arith, subst, List, [], ◌∷◌, Option, Some, None}
+use Rattle.std.proofs.Common.{◌≡◌, ℕ, zero, suc, ◌+◌, ◌^◌, ◌<◌, true, false, refl, sym, ap, ap₂, ◌∙◌, arith, subst, List, [], ◌∷◌, Option, Some, None}
 use Rattle.std.specs.Prelude.{◌==◌, ◌&&◌, nat_lt, Bool, if◌then◌else◌}
 use Rattle.std.proofs.lemmas.Bool.Decides.{nat_tests}
 use Rattle.joined_copies.specs.Joined.{PlainRun, words_at, same_words, is_word, run_of, together}
@@ -15,13 +15,16 @@ record AreWords (counts : List ℕ) (es : List Sum) (r : PlainRun) : Type 0 wher
   places : es ≡ places_from counts r.first
   counted : AreCounted counts r.count
 
-chosen-words : (f d p c : ℕ) (r : PlainRun) → ◌≡◌ {A = Option PlainRun} (if f == 1 && d == 0 then Some (record { first = p; count = c }) else None) (Some r) → AreWords (c ∷ []) (variable f d (constant p) ∷ []) r
-chosen-words zero d p c r h = absurd (cc)
-chosen-words (suc zero) zero p c r h =
+chosen-words : (one none : Bool) (f d p c : ℕ) (r : PlainRun) → (one ≡ true → f ≡ 1) → (none ≡ true → d ≡ 0) →
+    ◌≡◌ {A = Option PlainRun} (if one && none then Some (record { first = p; count = c }) else None) (Some r) → AreWords (c ∷ []) (variable f d (constant p) ∷ []) r
+chosen-words true true f d p c r factor number h =
     let is : record { first = p; count = c } ≡ r = cc in
-    subst (AreWords (c ∷ []) (variable 1 0 (constant p) ∷ [])) is (record { places = refl; counted = refl })
-chosen-words (suc zero) (suc d) p c r h = absurd (cc)
-chosen-words (suc (suc f)) d p c r h = absurd (cc)
+    subst (AreWords (c ∷ []) (variable f d (constant p) ∷ [])) is (record { places = ap₂ (λ a b. variable a b (constant p) ∷ []) (factor refl) (number refl); counted = refl })
+chosen-words true false f d p c r factor number h = absurd (cc)
+chosen-words false none f d p c r factor number h = absurd (cc)
+
+equal : (a b : ℕ) → (a == b) ≡ true → a ≡ b
+equal a b h = grind (arith, nat_tests)
 
 words-are : (counts : List ℕ) (es : List Sum) (r : PlainRun) → words_at counts es ≡ Some r → AreWords counts es r
 words-are [] [] r h = absurd (cc)
@@ -34,7 +37,7 @@ words-are [] (remainder f of m rest ∷ es) r h = absurd (cc)
 words-are [] (quotient f of m rest ∷ es) r h = absurd (cc)
 words-are (c ∷ []) [] r h = absurd (cc)
 words-are (c ∷ []) (constant p ∷ es) r h = absurd (cc)
-words-are (c ∷ []) (variable f d (constant p) ∷ []) r h = chosen-words f d p c r h
+words-are (c ∷ []) (variable f d (constant p) ∷ []) r h = chosen-words (f == 1) (d == 0) f d p c r (equal f 1) (equal d 0) h
 words-are (c ∷ []) (variable f d (constant p) ∷ e ∷ es) r h = absurd (cc)
 words-are (c ∷ []) (variable f d (variable g e rest) ∷ es) r h = absurd (cc)
 words-are (c ∷ []) (variable f d (remainder g of m rest) ∷ es) r h = absurd (cc)
@@ -76,11 +79,6 @@ free-is : (o : Option PlainMultiplier) → is_free o ≡ true → o ≡ None
 free-is None h = refl
 free-is (Some d) h = absurd (cc)
 
-record IsWordRun (z : PlainNest) (r : PlainRun) : Type 0 where
-  word : is_word z.work ≡ true
-  free : is_free z.multiplier ≡ true
-  both : same_words (words_at z.counts z.gathers) (words_at z.counts z.scatters) ≡ Some r
-
 chosen-run : (a b : Bool) (o : Option PlainRun) (r : PlainRun) → ◌≡◌ {A = Option PlainRun} (if a && b then o else None) (Some r) → (a ≡ true) × (b ≡ true) × (o ≡ Some r)
 chosen-run true true o r h = (refl, refl, h)
 chosen-run true false o r h = absurd (cc)
@@ -93,11 +91,11 @@ nest-is counts w gs o ss p work loads free stores = cc
 pub run-is : (z : PlainNest) (r : PlainRun) → run_of z ≡ Some r → IsRun z r
 run-is z r h =
     let parts = chosen-run (is_word z.work) (is_free z.multiplier) (same_words (words_at z.counts z.gathers) (words_at z.counts z.scatters)) r h in
-    let both = both-are (words_at z.counts z.gathers) (words_at z.counts z.scatters) r parts.1.1 in
+    let both = both-are (words_at z.counts z.gathers) (words_at z.counts z.scatters) r parts.2 in
     let loads = words-are z.counts z.gathers r both.from in
     let stores = words-are z.counts z.scatters both.to both.stored in
     record {
-      is = nest-is z.counts z.work z.gathers z.multiplier z.scatters r.first (word-is z.work parts.0) loads.places (free-is z.multiplier parts.1.0) (stores.places ∙ ap (places_from z.counts) both.same);
+      is = nest-is z.counts z.work z.gathers z.multiplier z.scatters r.first (word-is z.work parts.0) loads.places (free-is z.multiplier parts.1) (stores.places ∙ ap (places_from z.counts) both.same);
       counted = loads.counted;
     }
 
@@ -125,12 +123,9 @@ chosen-together true true r s t at h =
 chosen-together true false r s t at h = absurd (cc)
 chosen-together false low r s t at h = absurd (cc)
 
-equal : (a b : ℕ) → (a == b) ≡ true → b ≡ a
-equal a b h = grind (arith, nat_tests)
-
 pub together-are : (a b : Option PlainRun) (t : PlainRun) → together a b ≡ Some t → AreTogether a b t
 together-are None b t h = absurd (cc)
 together-are (Some r) None t h = absurd (cc)
 together-are (Some r) (Some s) t h =
-    let chosen = chosen-together (r.first + r.count == s.first) (nat_lt (s.first + s.count) (2 ^ 32)) r s t (equal (r.first + r.count) s.first) h in
+    let chosen = chosen-together (r.first + r.count == s.first) (nat_lt (s.first + s.count) (2 ^ 32)) r s t (λ e. sym (equal (r.first + r.count) s.first e)) h in
     record { left = r; right = s; first = refl; second = refl; begins = chosen.begins; meets = chosen.meets; whole = chosen.whole }
