@@ -1,5 +1,5 @@
 -- A program that performs a formula's passes is its code.
-use Rattle.std.proofs.Common.{◌≡◌, ℕ, ◌^◌, ◌<◌, ◌≤◌, List, [], ◌∷◌, ◌++◌, refl, sym, ap, ap₂, ◌∙◌, arith, subst}
+use Rattle.std.proofs.Common.{◌≡◌, ℕ, ◌^◌, ◌<◌, ◌≤◌, List, [], ◌∷◌, ◌++◌, map, refl, sym, ap, ap₂, ◌∙◌, arith, subst, Vec, Global}
 use Rattle.formula_code.specs.Code.{IsCodeOf}
 use Rattle.formula_lower.specs.Terms.{term_of}
 use Rattle.formula_lower.proofs.Lowers.{lowers}
@@ -21,6 +21,8 @@ use Rattle.passes.specs.Limits.{HasSeveral}
 use Rattle.passes.specs.Merge.{passes_of}
 use Rattle.passes.specs.Merged.{PlainMerged}
 use Rattle.passes.specs.Nest.{PlainNest}
+use Rattle.passes.specs.Views.{plain_nest}
+use Rattle.passes.specs.declared.nest.Nest.{Nest}
 use Rattle.passes.specs.Term.{PlainTerm}
 use Rattle.program_emit.specs.Conditions.{machine_for}
 use Rattle.program_laws.specs.Plain.{in_order}
@@ -47,6 +49,10 @@ same-order (zs ∷ ps) = ap (λ qs. qs ++ zs ∷ []) (same-order ps)
 
 abbrev in_phase : ℕ → List (List PlainNest) → PlainMerged
 in_phase n ps = record { size = n; procs = 1; lanes = 1; phases = ps ∷ [] }
+
+-- these phases, on lists of so many words
+abbrev pub phases_of : ℕ → List (Vec (Vec Nest Global) Global) → PlainMerged
+phases_of n phases = record { size = n; procs = 1; lanes = 1; phases = map (λ ps. map (λ zs. map plain_nest zs.items) ps.items) phases }
 
 pub one_phase : (m n : ℕ) (f : Formula) (t : PlainTerm) (ps qs : List (List PlainNest)) → n ≡ size_of f → t ≡ term_of m [] f → ps ≡ merging.in_order (passes_of n t) → qs ≡ all_joined ps →
     in_phase n qs ≡ formula_merged m f
