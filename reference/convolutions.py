@@ -10,7 +10,7 @@ from transforms import Refused, Request, best, powers
 
 # The line: words, numbers (a None), and named numbers that may be left out, each with its value then.
 PARTS = ["conv ", None, " mod ", None, " root ", None, (" unroll ", 8), (" budget ", 10**8), (" weight ", 1)]
-LIMITS = (("size", 1, 65536), ("mod", 2, 2**62 - 1), ("root", 0, None))
+LIMITS = (("size", 1, 2**20), ("mod", 2, 2**62 - 1), ("root", 0, None))
 LIMITS += (("unroll", 2, 64), ("budget", 1, 10**12), ("weight", 1, 1000))
 
 

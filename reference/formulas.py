@@ -4,7 +4,7 @@ from collections import namedtuple
 from math import gcd
 from operator import mul
 
-SIZES, RING, DEEPEST = 65536, 2**62, 128
+SIZES, RING, DEEPEST = 2**20, 2**62, 128
 
 # The arguments of each kind: a size (s), a ring value (r), a list of ring values (R), a formula (F).
 KINDS = {"I": "s", "DFT": "sr", "WHT": "s", "L": "ss", "T": "ssr", "DIAG": "R", "PERM": "R", "GTIN": "ss", "GTOUT": "ss"}

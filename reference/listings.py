@@ -15,7 +15,7 @@ DEEPEST, MOST_PARTS = 64, 64
 Expression = namedtuple("Expression", "constant variables divisions")
 Division = namedtuple("Division", "inner sign divisor factor")
 
-HEADER = (("size", 1, 65536), ("mod", 2, 2**62 - 1), ("procs", 1, 16), ("line", 1, 64), ("lanes", 1, 16))
+HEADER = (("size", 1, 2**20), ("mod", 2, 2**62 - 1), ("procs", 1, 16), ("line", 1, 64), ("lanes", 1, 16))
 MOST_REGISTERS = 2**20 - 1
 
 

@@ -84,6 +84,7 @@ wht 256 mod 4611686018427387903 procs 2 line 8 lanes 2
 # Sizes for which only what needs no plain sum is compared.
 LARGE = ["dft 65536 mod 65537 root 3", "wht 65536 mod 65536", "dft 30030 mod 30031 root 1 budget 1000000000000"]
 LARGE += ["dft 65536 mod 65537 root 3 budget 1000000000000 weight 1000"]
+LARGE += ["wht 1048576 mod 5", "dft 1048576 mod 7340033 root 78125 budget 1000000000"]
 
 UNROLLS = [2, 2, 3, 4, 5, 6, 7, 8, 8, 8, 9, 12, 16, 25, 32, 64]
 WEIGHTS = [1, 2, 5, 1000]

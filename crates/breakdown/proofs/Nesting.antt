@@ -60,5 +60,5 @@ nesting_below c (node rule a b) (suc k) tree below =
 pub printable : (c : Request) (t : Breakdown) → IsWellFormed c.kind t → size_of t ≤ 1048576 → IsPrintable (expansion c t)
 printable c t tree small = record {
   complete = complete c t;
-  shallow = omega (arith, nesting_below c t 17 tree (omega arith));
+  shallow = omega (arith, nesting_below c t 21 tree (omega arith));
 }

@@ -150,7 +150,7 @@ fn put_phases(
 
 // The number of words of an array.
 fn array_words(size: u64, line: u64) -> u64
-    requires size { size ≤ 65536 }
+    requires size { size ≤ 1048576 }
     requires line { (1 ≤ line) × (line ≤ 64) }
     ensures { result ≡ whole_lines size line }
 {
