@@ -1,17 +1,15 @@
 -- Two runs of words that are together do what their one loop does, and so do all of a pass.
-use Rattle.std.proofs.Common.{◌≡◌, ℕ, ◌+◌, ◌*◌, ◌<◌, ◌≤◌, refl, sym, ap, ap₂, ◌∙◌, arith, subst, List, [], ◌∷◌, All, Option, Some, None}
-use Rattle.std.specs.Prelude.{map, max}
+use Rattle.std.proofs.Common.{◌≡◌, ℕ, ◌+◌, ◌*◌, ◌≤◌, refl, sym, ap, ap₂, ◌∙◌, arith, subst, List, [], ◌∷◌, Option, Some, None}
+use Rattle.std.specs.Prelude.{max}
 use Rattle.std.proofs.lemmas.List.Elements.{All-cons, All-head, All-tail}
 use Rattle.joined_copies.specs.Joined.{PlainRun, run_of, together, copying_run, before, put_first, with_copies_joined}
 use Rattle.joined_copies.proofs.Alike.{AreAlike, same, then, behind}
-use Rattle.joined_copies.proofs.Loops.{copies_from, AreCounted, AreBelow, word_at, hit_at, loop-stored, loop-hits, counted, words-below, loop-plain}
+use Rattle.joined_copies.proofs.Loops.{copies_from, AreCounted, word_at, hit_at, loop-stored, loop-hits, counted, words-below, loop-plain}
 use Rattle.joined_copies.proofs.Words.{IsRun, run-is, together-are}
 use Rattle.operators.specs.Sum.{sum_below}
 use Rattle.operators.proofs.Sums.{sum_below-same, sum_below-append}
 use Rattle.pass_actions.specs.Acts.{pass_registers}
-use Rattle.pass_actions.specs.Costs.{pass_loads}
-use Rattle.pass_actions.specs.Machine.{PlainMachine}
-use Rattle.passes.specs.Copies.{all_stored, hits, loops_of, stored}
+use Rattle.passes.specs.Copies.{hits, stored}
 use Rattle.passes.specs.Counts.{CopiesAreFree, copies_in, pass_cost}
 use Rattle.passes.specs.Nest.{PlainNest, copies_of}
 use Rattle.passes.specs.Work.{PlainWork, copy}

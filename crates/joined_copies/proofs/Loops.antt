@@ -1,17 +1,17 @@
 -- What a loop over copies of one word stores, and that a program can be made of it.
-use Rattle.std.proofs.Common.{◌≡◌, ℕ, zero, suc, ◌+◌, ◌*◌, ◌-◌, ◌^◌, ◌<◌, ◌≤◌, true, refl, sym, ap, ap₂, ◌∙◌, arith, subst, List, [], ◌∷◌, length, All, None}
+use Rattle.std.proofs.Common.{◌≡◌, ℕ, zero, suc, ◌+◌, ◌*◌, ◌-◌, ◌^◌, ◌<◌, ◌≤◌, true, sym, ap, ◌∙◌, arith, subst, List, [], ◌∷◌, None}
 use Rattle.std.specs.Prelude.{◌==◌, if◌then◌else◌, IsTrue, slice_index}
 use Rattle.std.proofs.lemmas.Bool.Decides.{nat_tests}
 use Rattle.std.proofs.lemmas.List.Elements.{All-nil, All-cons, All-head}
 use Rattle.icode.specs.Limits.{is_expr_within}
-use Rattle.joined_copies.specs.Joined.{PlainRun, copying_run}
+use Rattle.joined_copies.specs.Joined.{copying_run}
 use Rattle.operators.specs.Sum.{sum_below}
 use Rattle.operators.proofs.Sums.{sum_below-same}
 use Rattle.pass_actions.specs.Machine.{plain_machine}
 use Rattle.pass_programs.specs.Conditions.{AreWithin, CanWrite, CanWriteNest, FitsWord}
 use Rattle.pass_programs.specs.Expressions.{expr_of}
 use Rattle.pass_actions.specs.Machine.{PlainFrame, frame_of}
-use Rattle.passes.specs.Copies.{loops_of, stored, IsInside}
+use Rattle.passes.specs.Copies.{loops_of, stored}
 use Rattle.passes.specs.Counts.{copies_in}
 use Rattle.passes.specs.Merge.{is_limited, limits_of}
 use Rattle.passes.specs.Nest.{PlainNest, copies_of, sum_value}

@@ -1,21 +1,18 @@
 -- Passes whose copies are joined.
-use Rattle.std.proofs.Common.{◌≡◌, ℕ, ◌+◌, ◌*◌, ◌%◌, ◌^◌, ◌<◌, ◌≤◌, refl, sym, ap, ap₂, ◌∙◌, arith, subst, List, [], ◌∷◌, ◌++◌, length, All}
-use Rattle.std.specs.Prelude.{map}
-use Rattle.std.specs.List.{range_with_len}
+use Rattle.std.proofs.Common.{◌≡◌, ℕ, ◌+◌, ◌*◌, ◌%◌, ◌^◌, ◌<◌, ◌≤◌, refl, sym, ap, ap₂, ◌∙◌, subst, List, [], ◌∷◌, ◌++◌, length, All}
 use Rattle.std.proofs.lemmas.List.{map-append, length-map}
 use Rattle.std.proofs.lemmas.List.Elements.{All-nil, All-cons, All-head, All-tail}
 use Rattle.joined_copies.specs.Joined.{with_copies_joined, all_joined}
 use Rattle.joined_copies.specs.Laws.{JoinedMean, JoinedCost, JoinedLoad, JoinedArePlain}
 use Rattle.joined_copies.proofs.Joining.{all-alike}
-use Rattle.operators.specs.Sum.{list_below}
 use Rattle.operators.proofs.Lists.{list_below-same}
-use Rattle.pass_actions.specs.Costs.{pass_loads, work_cost}
+use Rattle.pass_actions.specs.Costs.{work_cost}
 use Rattle.pass_actions.specs.Machine.{plain_machine}
 use Rattle.pass_programs.specs.Contract.{most_actions}
 use Rattle.pass_programs.specs.Program.{tables_through}
 use Rattle.pass_programs.specs.Statements.{tables_after}
 use Rattle.passes.specs.Nest.{PlainNest, nests_on}
-use Rattle.program_laws.specs.Plain.{ArePlainPasses, IsPlainNest, IsPlainPass, in_order}
+use Rattle.program_laws.specs.Plain.{IsPlainPass, in_order}
 
 -- ---- meaning and counts
 

@@ -1,6 +1,5 @@
 -- Copies of words that stand side by side, as one loop.
 use Rattle.std.specs.Prelude.{ℕ, ◌+◌, ◌^◌, ◌==◌, ◌&&◌, nat_lt, Bool, false, if◌then◌else◌, List, [], ◌∷◌, map, Option, Some, None}
-use Rattle.std.specs.Option.{option_map}
 use Rattle.passes.specs.Merge.{is_free}
 use Rattle.passes.specs.Nest.{PlainNest}
 use Rattle.passes.specs.Work.{PlainWork, copy}
