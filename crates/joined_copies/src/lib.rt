@@ -1,5 +1,5 @@
-//! Copies of words that stand side by side in a pass, as one loop. Where one part of a direct sum has more passes than the
-//! other, the shorter one copies its words in each pass that it lacks.
+//! Copies of words that stand side by side in a pass, as one loop. Where one part of a direct sum has more passes than
+//! the other, the shorter one copies its words in each pass that it lacks.
 #![tactic(auto)]
 
 ghost use Rattle.std.specs.Prelude.{◌≡◌, IfOk, OnOk, map, reverse};
@@ -27,7 +27,8 @@ pub fn join_copies(alloc: Global, passes: Vec<Vec<Nest>>) -> Result<Vec<Vec<Nest
 }
 
 fn joined_pass(alloc: Global, nests: Vec<Nest>) -> Result<Vec<Nest>, NoMemory>
-    ensures { IfOk result (λ joined. map plain_nest joined.items ≡ with_copies_joined (map plain_nest nests.items)) }
+    ensures { IfOk result (λ joined.
+        map plain_nest joined.items ≡ with_copies_joined (map plain_nest nests.items)) }
 {
     let mut nests = nests;
     nests.reverse();
@@ -41,7 +42,8 @@ fn joined_pass(alloc: Global, nests: Vec<Nest>) -> Result<Vec<Nest>, NoMemory>
 
 // Puts a nest before others, which stand the last of them first.
 fn put_first(alloc: Global, nest: Nest, others: &mut Vec<Nest>) -> Result<(), NoMemory>
-    ensures { OnOk result (map plain_nest (reverse others.new.items) ≡ put_first (plain_nest nest) (map plain_nest (reverse others.old.items))) }
+    ensures { OnOk result (map plain_nest (reverse others.new.items)
+        ≡ put_first (plain_nest nest) (map plain_nest (reverse others.old.items))) }
 {
     match others.pop() {
         None => {
