@@ -1,5 +1,5 @@
 -- A program that performs a formula's passes is its code.
-use Rattle.std.proofs.Common.{◌≡◌, ℕ, ◌^◌, ◌<◌, ◌≤◌, List, [], ◌∷◌, ◌++◌, refl, sym, ap, ap₂, ◌∙◌, arith, subst}
+use Rattle.std.proofs.Common.{◌≡◌, ℕ, ◌^◌, ◌<◌, ◌≤◌, List, [], ◌∷◌, ◌++◌, map, refl, sym, ap, ap₂, ◌∙◌, arith, subst, Vec, Global}
 use Rattle.formula_code.specs.Code.{IsCodeOf}
 use Rattle.formula_lower.specs.Terms.{term_of}
 use Rattle.formula_lower.proofs.Lowers.{lowers}
@@ -12,6 +12,8 @@ use Rattle.icode.specs.Program.{code_of, plain_program}
 use Rattle.icode.specs.declared.program.Program.{Program}
 use Rattle.icode.proofs.Lists.{code_is}
 use Rattle.icode.proofs.Runs.{memory_of_runs}
+use Rattle.joined_copies.specs.Joined.{all_joined}
+use Rattle.joined_copies.proofs.Passes.{joined-order, joined_are_plain}
 use Rattle.pass_actions.specs.Machine.{plain_machine}
 use Rattle.pass_programs.specs.Contract.{CanProgram, Performs}
 use Rattle.passes.specs.Good.{IsGoodTerm}
@@ -19,6 +21,8 @@ use Rattle.passes.specs.Limits.{HasSeveral}
 use Rattle.passes.specs.Merge.{passes_of}
 use Rattle.passes.specs.Merged.{PlainMerged}
 use Rattle.passes.specs.Nest.{PlainNest}
+use Rattle.passes.specs.Views.{plain_nest}
+use Rattle.passes.specs.declared.nest.Nest.{Nest}
 use Rattle.passes.specs.Term.{PlainTerm}
 use Rattle.program_emit.specs.Conditions.{machine_for}
 use Rattle.program_laws.specs.Plain.{in_order}
@@ -46,14 +50,20 @@ same-order (zs ∷ ps) = ap (λ qs. qs ++ zs ∷ []) (same-order ps)
 abbrev in_phase : ℕ → List (List PlainNest) → PlainMerged
 in_phase n ps = record { size = n; procs = 1; lanes = 1; phases = ps ∷ [] }
 
-pub one_phase : (m n : ℕ) (f : Formula) (t : PlainTerm) (qs : List (List PlainNest)) → n ≡ size_of f → t ≡ term_of m [] f → qs ≡ merging.in_order (passes_of n t) → in_phase n qs ≡ formula_merged m f
-one_phase m n f t qs size is listed =
-    let same : qs ≡ in_order (passes_of (size_of f) (term_of m [] f)) = listed ∙ same-order (passes_of n t) ∙ ap₂ (λ k s. in_order (passes_of k s)) size is in
+-- these phases, on lists of so many words
+abbrev pub phases_of : ℕ → List (Vec (Vec Nest Global) Global) → PlainMerged
+phases_of n phases = record { size = n; procs = 1; lanes = 1; phases = map (λ ps. map (λ zs. map plain_nest zs.items) ps.items) phases }
+
+pub one_phase : (m n : ℕ) (f : Formula) (t : PlainTerm) (ps qs : List (List PlainNest)) → n ≡ size_of f → t ≡ term_of m [] f → ps ≡ merging.in_order (passes_of n t) → qs ≡ all_joined ps →
+    in_phase n qs ≡ formula_merged m f
+one_phase m n f t ps qs size is listed joined =
+    let order : all_joined ps ≡ in_order (all_joined (passes_of n t)) = ap all_joined (listed ∙ same-order (passes_of n t)) ∙ sym (joined-order (passes_of n t)) in
+    let same : qs ≡ in_order (all_joined (passes_of (size_of f) (term_of m [] f))) = joined ∙ order ∙ ap₂ (λ k s. in_order (all_joined (passes_of k s))) size is in
     ap₂ in_phase size same
 
 pub can_emit : (m : ℕ) (f : Formula) (g : PlainMerged) → 2 ≤ m → m < 2 ^ 62 → IsShaped f → parts_of f ≤ 65536 → g ≡ formula_merged m f → CanProgram (machine_for m 1 g) g
 can_emit m f g large small shaped few is =
-    subst (λ h. CanProgram (machine_for m 1 h) h) (sym is) (plain-can (size_of f) m (passes_of (size_of f) (term_of m [] f)) (formulas_can_program m f large small shaped few))
+    subst (λ h. CanProgram (machine_for m 1 h) h) (sym is) (plain-can (size_of f) m (all_joined (passes_of (size_of f) (term_of m [] f))) (joined_are_plain (size_of f) m (passes_of (size_of f) (term_of m [] f)) (formulas_can_program m f large small shaped few)))
 
 -- ---- code
 

@@ -9,6 +9,7 @@ ghost use Rattle.spl_ast.specs.Formula.{parts_of};
 
 use formula_lower::lower_formula;
 use icode::program::Program;
+use joined_copies::join_copies;
 use memory::NoMemory;
 use passes::Merged;
 use program_emit::emit_on;
@@ -30,15 +31,16 @@ pub fn formula_program(alloc: Global, modulus: &Modulus, formula: &Spl) -> Resul
     Ok(program)
 }
 
-// The passes of a formula, as one phase of one processor and one lane.
-#[tactic(auto, using(crate::proofs::Coding::term_good, crate::proofs::Coding::term_several, crate::proofs::Wording::term_words, crate::proofs::Coding::one_phase))]
+// The passes of a formula, with copies joined, as one phase of one processor and one lane.
+#[tactic(auto, using(crate::proofs::Coding::term_good, crate::proofs::Coding::term_several, crate::proofs::Wording::term_words))]
 fn merge_formula(alloc: Global, modulus: &Modulus, formula: &Spl) -> Result<Merged, NoMemory>
     ensures { IfOk result (λ g. plain_merged g ≡ formula_merged modulus.now formula.now) }
 {
     let _modulus = modulus.get();
     let size = formula.rows();
     let term = lower_formula(alloc, modulus, formula)?;
-    let passes = merge_term(alloc, size, term)?;
+    let merged = merge_term(alloc, size, term)?;
+    let passes = join_copies(alloc, merged)?;
     let mut phases = Vec::new(alloc);
     phases.push(passes)?;
     Ok(Merged {

@@ -14,6 +14,8 @@ use Rattle.icode.specs.Plain.{PlainProgram}
 use Rattle.icode.specs.declared.action.Action.{Action}
 use Rattle.icode.specs.declared.program.Array.{Array}
 use Rattle.icode.specs.declared.program.Array.TheVariants.{X}
+use Rattle.joined_copies.specs.Joined.{all_joined}
+use Rattle.joined_copies.proofs.Passes.{joined_mean, joined_cost, joined_are_plain}
 use Rattle.kernel_gen.proofs.Pieces.{weighted-append}
 use Rattle.pass_actions.specs.Costs.{pass_cost, work_cost}
 use Rattle.pass_actions.specs.Machine.{plain_machine}
@@ -48,8 +50,11 @@ module _ (n m weight : ℕ) (counted : 0 < weight) where
   cost-order (zs ∷ ps) = let both = cost-append (in_order ps) (zs ∷ []) in let rest = cost-order ps in omega (arith, both, rest)
 
 module _ (m : ℕ) (f : Formula) (p : PlainProgram) (performs : Performs (plain_machine (size_of f) m) (formula_merged m f) p) where
+  abbrev merged : List (List PlainNest)
+  merged = passes_of (size_of f) (term_of m [] f)
+
   abbrev ps : List (List PlainNest)
-  ps = passes_of (size_of f) (term_of m [] f)
+  ps = all_joined merged
 
   lists-length : length (plain_code p).lists ≡ 1
   lists-length = length-map p.phases _ ∙ performs.phases
@@ -70,10 +75,10 @@ module _ (m : ℕ) (f : Formula) (p : PlainProgram) (performs : Performs (plain_
 pub formulas_compute : FormulasCompute
 formulas_compute m f p two below shaped few performs =
     let compiled = formulas_compile m f (omega (arith, two)) shaped in
-    let plain = plain_programs_perform (size_of f) m (ps m f p performs) (formulas_can_program m f two below shaped few) in
+    let plain = plain_programs_perform (size_of f) m (ps m f p performs) (joined_are_plain (size_of f) m (merged m f p performs) (formulas_can_program m f two below shaped few)) in
     record {
       limits = performs.limits;
       fits = performs.fits;
-      results = λ x vector. performs.results x vector ∙ plain.meaning x ∙ compiled.on x vector;
-      cost = λ weight counted. whole-cost m f p performs weight counted ∙ compiled.cost weight;
+      results = λ x vector. performs.results x vector ∙ plain.meaning x ∙ joined_mean m (size_of f) (merged m f p performs) x ∙ compiled.on x vector;
+      cost = λ weight counted. whole-cost m f p performs weight counted ∙ joined_cost weight (work_cost weight m) (merged m f p performs) (λ d. refl) ∙ compiled.cost weight;
     }

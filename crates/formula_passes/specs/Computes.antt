@@ -6,6 +6,7 @@ use Rattle.icode.specs.Actions.{PlainFits, plain_code}
 use Rattle.icode.specs.Limits.{IsWithinLimits}
 use Rattle.icode.specs.Machine.{results, weighted, whole_counts}
 use Rattle.icode.specs.Plain.{PlainProgram}
+use Rattle.joined_copies.specs.Joined.{all_joined}
 use Rattle.pass_actions.specs.Machine.{plain_machine}
 use Rattle.pass_programs.specs.Contract.{Performs}
 use Rattle.passes.specs.Good.{IsVector}
@@ -16,9 +17,9 @@ use Rattle.spl_ast.specs.Formula.{Formula, size_of, parts_of}
 use Rattle.spl_ast.specs.Meaning.{apply}
 use Rattle.spl_ast.specs.Shape.{IsShaped}
 
--- the merged passes of a formula modulo m, in one phase
+-- the merged passes of a formula modulo m, with copies that stand side by side as one loop, in one phase
 abbrev pub formula_merged : ℕ → Formula → PlainMerged
-formula_merged m f = plain_merged (size_of f) (passes_of (size_of f) (term_of m [] f))
+formula_merged m f = plain_merged (size_of f) (all_joined (passes_of (size_of f) (term_of m [] f)))
 
 -- The program stands within the limits and fits. Run with no turns but those that complete it, it leaves what the formula makes of each vector of residues, in exactly the formula's operations, whatever a product counts
 pub record Computes (m : ℕ) (f : Formula) (p : PlainProgram) : Type 0 where

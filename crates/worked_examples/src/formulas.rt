@@ -18,6 +18,8 @@ apply --mod 17 --schedule rr:3; TIMES(LEFT(DFT(2,16),2),L(4,2))/1 2 3 4; 0; 3 7 
 apply --mod 17 --schedule turns:0,0,0; TIMES(LEFT(DFT(2,16),2),L(4,2))/1 2 3 4; 0; 3 7 16 16/; -
 apply --mod 17; TIMES(LEFT(DFT(2,16),2),TIMES(T(4,2,4),TIMES(RIGHT(2,DFT(2,16)),L(4,2))))/1 2 3 4; 0; 10 7 15 6/; -
 apply --mod 7; SUM(I(1),DIAG(3,5))/1 2 3; 0; 1 6 1/; -
+apply --mod 17; SUM(I(1),SUM(I(2),WHT(2)))/1 2 3 4 5; 0; 1 2 3 9 16/; -
+apply --mod 17; SUM(SUM(TIMES(WHT(2),WHT(2)),I(2)),I(1))/1 2 3 4 5; 0; 2 4 3 4 5/; -
 apply --mod 7; DFT(2,3)/1 1/; 0; 2 4/; -
 apply --mod 5; WHT(4)/1 2 3 4; 0; 0 3 1 0/; -
 apply --mod 2; I(1)/3 4/; 0; 1/0/; -
@@ -25,6 +27,11 @@ apply --mod 100; PERM(2,0,1)/10 20 30; 0; 30 10 20/; -
 apply --mod 100; GTIN(2,3)/0 1 2 3 4 5; 0; 0 2 4 3 5 1/; -
 apply --mod 17; DFT(2,16)/; 0; -; -
 apply --mod 17; DFT(2,16); 0; -; -
+";
+
+// Words that nothing changes are copied in one loop where they stand side by side.
+const LISTINGS: &str = "\
+compile --mod 17; SUM(I(1),SUM(I(2),WHT(2))); 0; program size 5 mod 17 procs 1 line 1 lanes 1 regs 4/phase/for v0 3/ld r0 X[0+v0*1]/st Y[0+v0*1] r0/end/ld r0 X[3]/ld r1 X[4]/add r2 r0 r1/sub r3 r0 r1/st Y[3] r2/st Y[4] r3/end/; -
 ";
 
 const REFUSALS: &str = "\
@@ -52,6 +59,14 @@ apply --mod 17 --schedule mix:t0; I(2)/; 2; -; usage
 #[test]
 fn applied_formulas(rt: HostRuntime) -> Result<(), Fail> {
     all_answer(&rt, rt.alloc(), RESULTS)
+}
+
+#[test]
+fn listed_formulas(rt: HostRuntime) -> Result<(), Fail> {
+    for row in LISTINGS.lines() {
+        answers_as(&rt, rt.alloc(), row)?;
+    }
+    Ok(())
 }
 
 #[test]

@@ -1,0 +1,11 @@
+use Rattle.std.specs.Prelude.{[], ◌∷◌, ◌++◌, map}
+use Rattle.std.proofs.Common.{ap, ◌∙◌}
+use Rattle.passes.specs.Views.{plain_nest, plain_term}
+use Rattle.formula_code.proofs.Coding.{phases_of, one_phase}
+use Rattle.formula_code.proofs.merge_formula.Goals as goal
+
+pub returns : goal.returns
+returns c =
+    ap (phases_of c.rows-size.result) (c.in_ok-push.ensures.items ∙ ap (λ phases. phases ++ c.in_ok-passes.passes ∷ []) c.new-phases.ensures.items)
+    ∙ one_phase c.args.modulus.now c.rows-size.result c.args.formula.now (plain_term c.in_ok-term.term) (map (λ zs. map plain_nest zs.items) c.in_ok-merged.merged.items) (map (λ zs. map plain_nest zs.items) c.in_ok-passes.passes.items)
+    c.rows-size.ensures.value c.in_ok-term.ensures c.in_ok-merged.ensures c.in_ok-passes.ensures
