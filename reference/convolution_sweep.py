@@ -82,7 +82,6 @@ dft 4 mod 17 root 4
 wht 4 mod 17
 conv 0 mod 1 root 5 procs
 conv 0 mod 17 root 1
-conv 65537 mod 17 root 1
 conv 1048577 mod 17 root 1
 conv 4 mod 1 root 0
 conv 4 mod 4611686018427387904 root 0
