@@ -5,7 +5,8 @@ ghost use Rattle.icode.specs.Buffers.{buffered_completion, buffered_finished, bu
 ghost use Rattle.io_edge.specs.Faults.{HasCause};
 ghost use Rattle.io_edge.specs.Taken.{WritesAll};
 ghost use Rattle.buffer_machine.specs.Listed.{HasNoStranger, events_of};
-ghost use Rattle.trace_text.specs.EventLines.{event_line, event_lines, event_trace};
+ghost use Rattle.trace_text.specs.EventCourse.{EventsPassThrough};
+ghost use Rattle.trace_text.specs.EventLines.{completed_events, event_line, event_lines, event_trace};
 
 use crate::text::{Line, drain_line, line_of};
 use buffer_machine::{BufMachine, Event, Events};
@@ -57,6 +58,8 @@ fn write_list<O: Sink>(
     ensures bytes { WritesAll (O.taken output.old) (O.taken output.new) result (event_lines machine.old.code machine.old.state 0 (events_of events.entry machine.old.code.procs)) }
     ensures cause { HasCause (O.faults output.old) (O.faults output.new) result }
     ensures state { OnOk result (machine.new.state ≡ buffered_run machine.old.code machine.old.state (events_of events.entry machine.old.code.procs)) }
+    ensures way { EventsPassThrough machine.old.code machine.old.state
+        (events_of events.entry machine.old.code.procs) machine.new.state }
     ensures code { machine.new.code ≡ machine.old.code }
 {
     let procs = machine.procs();
@@ -77,6 +80,8 @@ fn write_rest<O: Sink>(
     ensures bytes { WritesAll (O.taken output.old) (O.taken output.new) result (event_lines machine.old.code machine.old.state first (buffered_completion machine.old.code machine.old.state)) }
     ensures cause { HasCause (O.faults output.old) (O.faults output.new) result }
     ensures state { OnOk result (machine.new.state ≡ buffered_finished machine.old.code machine.old.state) }
+    ensures way { EventsPassThrough machine.old.code machine.old.state
+        (buffered_completion machine.old.code machine.old.state) machine.new.state }
     ensures code { machine.new.code ≡ machine.old.code }
 {
     let mut number = first;
@@ -103,6 +108,9 @@ pub fn write_events<O: Sink>(
     ensures cause { HasCause (O.faults output.old) (O.faults output.new) result }
     ensures state { OnOk result (machine.new.state ≡ buffered_finished machine.old.code (buffered_run machine.old.code machine.old.state (events_of events.entry machine.old.code.procs))) }
     ensures code { machine.new.code ≡ machine.old.code }
+    // Wherever a fault met it, the machine stands behind a front of these events.
+    ensures way { EventsPassThrough machine.old.code machine.old.state (completed_events machine.old.code
+        machine.old.state (events_of events.entry machine.old.code.procs)) machine.new.state }
 {
     write_list(machine, events, output)?;
     let count = events.len(machine.procs());

@@ -6,6 +6,7 @@ use Rattle.io_edge.specs.Taken.{AppendsPrefix, WritesAll}
 use Rattle.io_edge.proofs.TakenLemmas.{prefix_more, writes_after}
 use Rattle.buffer_machine.specs.Listed.{events_of}
 use Rattle.trace_text.specs.EventLines.{event_lines}
+use Rattle.trace_text.proofs.EventCourses.{events_pass_after, events_pass_more}
 use Rattle.trace_text.proofs.EventLemmas.{event_trace_parts, same_event_rest}
 use Rattle.trace_text.proofs.buffers.write_events.Goals as goal
 
@@ -37,3 +38,17 @@ returns-clause-bytes g c =
     let rest = same_event_rest (λ (text : List ℕ). WritesAll b d c.write_rest.result text) c.write_list.new.machine.code code c.write_list.new.machine.state last c.len-count.result (length events) same c.in_ok-write_list.ensures.state count c.write_rest.ensures.bytes in
     subst (λ (text : List ℕ). WritesAll a d c.write_rest.result text) (sym (event_trace_parts code state events))
     (writes_after a b d (event_lines code state 0 events) (event_lines code last (length events) (buffered_completion code last)) c.write_rest.result c.in_ok-write_list.ensures.bytes rest)
+
+pub returns-in_err-write_list-clause-way : goal.returns-in_err-write_list-clause-way
+returns-in_err-write_list-clause-way g c =
+    let code = c.args.machine.now.code in
+    let state = c.args.machine.now.state in
+    let events = events_of c.args.events code.procs in
+    events_pass_more code state events (buffered_completion code (buffered_run code state events)) c.write_list.new.machine.state c.in_err-write_list.ensures.way
+
+pub returns-clause-way : goal.returns-clause-way
+returns-clause-way g c =
+    let code = c.args.machine.now.code in
+    let state = c.args.machine.now.state in
+    let events = events_of c.args.events code.procs in
+    events_pass_after c.write_list.new.machine.code code c.write_list.new.machine.state state events c.write_rest.new.machine.state c.in_ok-write_list.ensures.code c.in_ok-write_list.ensures.state c.write_rest.ensures.way

@@ -6,6 +6,7 @@ use Rattle.icode.specs.declared.event.Event.{Event}
 use Rattle.icode.specs.Buffers.{Buffered, buffered_completion, buffered_finished, buffered_step, proc_of}
 use Rattle.icode.specs.Machine.{Code}
 use Rattle.trace_text.specs.EventLines.{event_lines}
+use Rattle.trace_text.proofs.EventCourses.{IsReachedBy, events_pass, events_reached_first, events_reached_on}
 use Rattle.trace_text.proofs.EventLemmas.{EventsGo, events_first, events_on, events_wrong}
 use Rattle.trace_text.proofs.buffers.write_rest.Goals as goal
 
@@ -15,6 +16,7 @@ loop-next-init g c =
     let state = c.args.machine.now.state in
     let a = g.O.Sink.taken c.args.output.now in
     record {
+      reached = events_reached_first own state (buffered_completion own state);
       goes = events_first own a a (event_lines own state c.args.first (buffered_completion own state)) (buffered_finished own state) state c.args.first (Appends-nil a) (buffered_completion own state) refl refl;
       code = refl;
       faults = refl;
@@ -50,6 +52,8 @@ loop-next-preserved g c =
     let moved : next ≡ buffered_step own now event = c.in_ok-write_event.ensures.state ∙ ap (λ (k : Code). buffered_step k now event) before.code in
     let r = c.next_event-next-in-Some.result in
     record {
+      reached = subst (IsReachedBy own state (buffered_completion own state) next) (ap (buffered_completion own) (sym moved))
+          (events_reached_on own state (buffered_completion own state) now c.loop-next.machine.code event (buffered_completion own now) (buffered_completion own (buffered_step own now event)) next before.code found.1 c.in_ok-write_event.ensures.state before.reached);
       goes = subst (λ (events : List Event). EventsGo own (taken c.args.output.now) (taken c.write_event.new.output) (event_lines own state c.args.first (buffered_completion own state)) (buffered_finished own state) next (c.loop-next.number + 1) events) (ap (buffered_completion own) (sym moved))
           (events_on own (taken c.args.output.now) (taken c.loop-next.output) (event_lines own state c.args.first (buffered_completion own state)) (buffered_finished own state) now c.loop-next.number (taken c.write_event.new.output)
           c.loop-next.machine.code before.code event (buffered_completion own now) (buffered_completion own (buffered_step own now event)) found.1 next c.in_ok-write_event.ensures.state before.goes c.in_ok-write_event.ensures.bytes);
@@ -59,3 +63,14 @@ loop-next-preserved g c =
       found = subst (λ (k : Code). IfSome r (λ e. (proc_of e < k.procs) × (buffered_completion k next ≡ e ∷ buffered_completion k (buffered_step k next e)))) same c.next_event-next-in-Some.ensures.found;
       none = subst (λ (k : Code). IfNone r (buffered_completion k next ≡ [])) same c.next_event-next-in-Some.ensures.none;
     }
+
+pub returns-in_err-write_event-clause-way : goal.returns-in_err-write_event-clause-way
+returns-in_err-write_event-clause-way g c =
+    let own = c.args.machine.now.code in
+    let state = c.args.machine.now.state in
+    let before = c.loop-next.invariant in
+    let now = c.loop-next.machine.state in
+    let event = c.in-Some.event in
+    let found = rw c.in-Some.is at before.found in
+    events_pass own state (buffered_completion own state) c.write_event.new.machine.state (buffered_completion own (buffered_step own now event))
+    (events_reached_on own state (buffered_completion own state) now c.loop-next.machine.code event (buffered_completion own now) (buffered_completion own (buffered_step own now event)) c.write_event.new.machine.state before.code found.1 c.in_err-write_event.ensures.state before.reached)

@@ -2,6 +2,7 @@ use Rattle.std.proofs.Common.{◌≡◌, ◌+◌, ◌<◌, ◌^◌, [], ◌∷�
 use Rattle.std.specs.Prelude.{IfSome, IfNone}
 use Rattle.icode.specs.Buffers.{buffered_completion, buffered_finished, buffered_step, proc_of}
 use Rattle.trace_text.specs.EventLines.{event_lines}
+use Rattle.trace_text.proofs.EventCourses.{IsReachedBy}
 use Rattle.trace_text.proofs.EventLemmas.{EventsGo}
 use Rattle.trace_text.proofs.buffers.write_rest.Given as goal
 
@@ -11,6 +12,7 @@ invariant-loop-next g l =
     let own = l.fn.machine.code in
     let state = l.fn.machine.state in
     record {
+      reached : IsReachedBy own state (buffered_completion own state) l.machine.state (buffered_completion own l.machine.state);
       goes : EventsGo own (taken l.fn.output) (taken l.output) (event_lines own state l.first (buffered_completion own state)) (buffered_finished own state) l.machine.state l.number (buffered_completion own l.machine.state);
       code : l.machine.code ≡ own;
       faults : g.O.Sink.faults l.output ≡ g.O.Sink.faults l.fn.output;
