@@ -63,10 +63,7 @@ fn applied_formulas(rt: HostRuntime) -> Result<(), Fail> {
 
 #[test]
 fn listed_formulas(rt: HostRuntime) -> Result<(), Fail> {
-    for row in LISTINGS.lines() {
-        answers_as(&rt, rt.alloc(), row)?;
-    }
-    Ok(())
+    all_answer(&rt, rt.alloc(), LISTINGS)
 }
 
 #[test]
@@ -74,8 +71,7 @@ fn refused_formulas(rt: HostRuntime) -> Result<(), Fail> {
     all_answer(&rt, rt.alloc(), REFUSALS)
 }
 
-// What `compile` writes for a formula is a listing, which `exec` runs on the data as `apply` does.
-// The listing that `compile` writes.
+// What `compile` writes for a formula: a listing, which `exec` runs on the data as `apply` does.
 fn compiled(alloc: Global, modulus: &str, input: &str) -> Result<String, Fail> {
     let line = format!(in alloc; "spiral compile --mod {modulus}")?;
     let seen = call(alloc, &line, input.as_bytes(), &AMPLE)?;
