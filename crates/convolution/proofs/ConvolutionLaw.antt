@@ -10,9 +10,9 @@ use Rattle.ring_mod.proofs.InverseLaws.{inverse_mod-times}
 use Rattle.ring_mod.proofs.Powers.{power_mod_of_power, power_mod_times}
 use Rattle.matrix_meaning.specs.declared.Kind.TheVariants.{Dft}
 use Rattle.matrix_meaning.specs.Kind.{transform, entry_of}
-use Rattle.convolution.specs.Inverse.{inverse_root}
+use Rattle.matrix_meaning.specs.Inverse.{inverse_root}
 use Rattle.convolution.specs.Convolution.{IsPrincipal, ConvolutionByTransforms, ConvolutionByDiagonal, entrywise}
-use Rattle.convolution.proofs.InverseTransform.{inverse_transform_is}
+use Rattle.matrix_meaning.proofs.InverseTransform.{inverse_transform_is}
 use Rattle.convolution.proofs.PowerSums.{power_sum-matches, power_sum-differs}
 use Rattle.operators.specs.Sum.{sum_below}
 use Rattle.operators.proofs.Lists.{at-list_below, list_below-same}

@@ -1,4 +1,3 @@
 pub mod ConvolutionLaw
 mod GeometricSums
-pub mod InverseTransform
 mod PowerSums

@@ -7,7 +7,7 @@ use Rattle.operators.specs.Operator.{Operator, scale}
 use Rattle.operators.specs.Sum.{sum_below, list_below}
 use Rattle.matrix_meaning.specs.declared.Kind.TheVariants.{Dft}
 use Rattle.matrix_meaning.specs.Kind.{transform}
-use Rattle.convolution.specs.Inverse.{inverse_root, inverse_transform}
+use Rattle.matrix_meaning.specs.Inverse.{inverse_root, inverse_transform}
 
 -- h times x, cyclically: at the place k the sum over l of the item of h at l times the item of x at (k - l) mod n
 abbrev pub convolution : ℕ → ℕ → List ℕ → Operator

@@ -1,3 +1,2 @@
-pub mod Inverse
 pub mod Convolution
 pub mod Request

@@ -1,6 +1,7 @@
 -- Which requests ask for a cyclic convolution.
 use Rattle.std.specs.Prelude.{◌≡◌}
 use Rattle.std.specs.Int.{IsGcd}
+use Rattle.matrix_meaning.specs.declared.Direction.TheVariants.{Forward}
 use Rattle.matrix_meaning.specs.declared.Kind.TheVariants.{Dft}
 use Rattle.matrix_meaning.specs.declared.Request.{Request}
 use Rattle.matrix_meaning.specs.Valid.{IsInRange}
@@ -9,6 +10,7 @@ use Rattle.matrix_meaning.specs.Valid.{IsInRange}
 pub record IsConvRequest (r : Request) : Type 0 where
   pub in_range : IsInRange r
   pub kind : r.kind ≡ Dft
+  pub direction : r.direction ≡ Forward
   pub procs : r.procs ≡ 1
   pub line : r.line ≡ 1
   pub lanes : r.lanes ≡ 1

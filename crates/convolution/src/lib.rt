@@ -1,10 +1,9 @@
-//! Cyclic convolution by its definition, the inverse transform, and how transforms compute a convolution (Cooley and Tukey,
+//! Cyclic convolution by its definition, and how transforms compute a convolution (Cooley and Tukey,
 //! 1965; for rings Pollard, 1971).
 #![tactic(auto)]
 
 ghost use Rattle.std.specs.Prelude.{◌≡◌, ℕ, ◌+◌, ◌-◌, ◌*◌, ◌%◌, ◌^◌, ◌<◌, ◌≤◌, length, slice_index, vec_len, IfOk, All, MatchOption};
 ghost use Rattle.convolution.specs.Convolution.{convolution, power_sum, ConvolutionByDiagonal, ConvolutionByTransforms, IsPrincipal, IsFirstBadPower};
-ghost use Rattle.convolution.specs.Inverse.{InverseRoot, InverseTransform};
 ghost use Rattle.operators.specs.Sum.{sum_below};
 ghost use Rattle.ring_mod.specs.Residue.{difference_mod, power_mod};
 
@@ -93,13 +92,6 @@ pub fn first_bad_power(modulus: &Modulus, n: u64, w: u64) -> Option<u64>
     }
     None
 }
-
-/// The inverse transform is a transform by the inverse root, divided by the size: a law of the definitions.
-#[tactic(auto, using(crate::proofs::InverseTransform::inverse_transform_is, crate::proofs::InverseTransform::inverse_root_is_root))]
-pub fn inverse_transform()
-    ensures transform { InverseTransform }
-    ensures root { InverseRoot }
-{}
 
 /// Cyclic convolution by transforms, modulo any m at which the power sums of the root are 0 and the size has an inverse: a law of
 /// the definitions.

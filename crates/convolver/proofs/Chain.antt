@@ -5,7 +5,7 @@ use Rattle.convolution.specs.Request.{IsConvRequest}
 use Rattle.formula_lower.specs.Merged.{tree_merged}
 use Rattle.generate.specs.Planned.{has_root, root_power}
 use Rattle.icode.specs.Plain.{PlainProgram}
-use Rattle.inverse_costs.specs.Inverted.{inverted}
+use Rattle.inverse_requests.specs.Inverted.{inverted}
 use Rattle.joined_passes.specs.Joined.{joined}
 use Rattle.matrix_meaning.specs.declared.Kind.TheVariants.{Dft}
 use Rattle.matrix_meaning.specs.declared.Request.{Request}

@@ -9,10 +9,10 @@ use Rattle.icode.specs.Machine.{padded, results, words_at}
 use Rattle.icode.specs.Program.{code_of, plain_program}
 use Rattle.icode.proofs.Lists.{code_is}
 use Rattle.icode.proofs.Runs.{memory_of_runs}
-use Rattle.inverse_costs.specs.Inverted.{inverted}
-use Rattle.inverse_costs.proofs.Costs.{inverse_costs}
-use Rattle.inverse_costs.proofs.Requests.{inverse_is_valid, inverse_admits}
-use Rattle.inverse_costs.proofs.Traffic.{inverse_loads, whole-same}
+use Rattle.inverse_requests.specs.Inverted.{inverted}
+use Rattle.inverse_requests.proofs.Costs.{inverse_costs}
+use Rattle.inverse_requests.proofs.Requests.{inverse_is_valid, inverse_admits}
+use Rattle.inverse_requests.proofs.Traffic.{inverse_loads, whole-same}
 use Rattle.joined_passes.specs.Joined.{joined}
 use Rattle.joined_passes.specs.Laws.{CountsBoth, JoinedCanProgram, JoinedCounts, JoinedMeans}
 use Rattle.matrix_meaning.specs.declared.Request.{Request}

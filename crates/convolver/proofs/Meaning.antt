@@ -6,8 +6,8 @@ use Rattle.convolution.specs.Request.{IsConvRequest}
 use Rattle.convolution.proofs.ConvolutionLaw.{convolution_by_diagonal}
 use Rattle.formula_lower.specs.Merged.{tree_merged}
 use Rattle.formula_lower.proofs.TreesKeep.{trees_keep}
-use Rattle.inverse_costs.specs.Inverted.{inverted}
-use Rattle.inverse_costs.proofs.Requests.{inverse_is_valid, inverse_admits, root-is}
+use Rattle.inverse_requests.specs.Inverted.{inverted}
+use Rattle.inverse_requests.proofs.Requests.{inverse_is_valid, inverse_admits, root-is}
 use Rattle.joined_passes.specs.Joined.{joined}
 use Rattle.joined_passes.specs.Laws.{JoinedMeans}
 use Rattle.matrix_meaning.specs.declared.Kind.TheVariants.{Dft}

@@ -6,9 +6,9 @@ use Rattle.matrix_meaning.specs.Kind.{transform}
 use Rattle.operators.specs.Operator.{Operator}
 use Rattle.operators.specs.Sum.{list_below}
 
--- the transform that a request asks for
-abbrev pub whole_transform : Request → Operator
-whole_transform r = transform r.kind r.modulus r.size r.root
+-- the transform by a request's root
+abbrev pub root_transform : Request → Operator
+root_transform r = transform r.kind r.modulus r.size r.root
 
 -- the transform of a list, divided by the size
 abbrev pub factors_of : Request → List ℕ → List ℕ

@@ -2,17 +2,17 @@
 ghost use Rattle.std.specs.Prelude.{◌≡◌, ◌<◌, Ok, IfOk, All, map, vec_len};
 ghost use Rattle.convolution.specs.Request.{IsConvRequest};
 ghost use Rattle.generate.specs.Good.{IsVector};
-ghost use Rattle.inverse_costs.specs.Inverted.{inverted};
 ghost use Rattle.ring_mod.specs.Residue.{product_mod};
 ghost use Rattle.tree_model.specs.Admissible.{IsAdmissible};
 ghost use Rattle.tree_model.specs.Breakdown.{breakdown_of};
 ghost use Rattle.convolver.specs.Convolver.{IsConvolver};
-ghost use Rattle.convolver.specs.Factors.{factors_of, whole_transform};
+ghost use Rattle.convolver.specs.Factors.{factors_of, root_transform};
 ghost use Rattle.convolver.specs.Planned.{IsConvPlanned};
 
 use breakdown::expand;
 use generate::merge_tree;
 use icode::program::Program;
+use inverse_requests::inverted;
 use joined_passes::join;
 use matrix_meaning::Request;
 use memory::NoMemory;
@@ -46,16 +46,6 @@ pub fn generate_conv(
     Ok(program)
 }
 
-// The request with the inverse root.
-fn inverted(request: &Request) -> Request
-    requires { IsConvRequest request.now }
-    ensures { result ≡ inverted request.now }
-{
-    let modulus = Modulus::new(request.modulus).unwrap();
-    let root = modulus.pow(request.root, request.size - 1);
-    Request { root, ..*request }
-}
-
 // The diagonal between both transforms: the transform of `h`, divided by the size.
 fn list_factors(alloc: Global, c: &Ctx, tree: &Tree, h: &[u64]) -> Result<Vec<u64>, NoMemory>
     requires request { IsConvRequest c.now }
@@ -77,7 +67,7 @@ fn list_factors(alloc: Global, c: &Ctx, tree: &Tree, h: &[u64]) -> Result<Vec<u6
 fn transform_by(alloc: Global, c: &Ctx, tree: &Tree, x: &[u64]) -> Result<Vec<u64>, NoMemory>
     requires tree { IsAdmissible c.now (breakdown_of tree.now) }
     requires vector { IsVector c.now x.now }
-    ensures value { IfOk result (λ y. y.items ≡ whole_transform c.now x.now) }
+    ensures value { IfOk result (λ y. y.items ≡ root_transform c.now x.now) }
     ensures vector { IfOk result (λ y. IsVector c.now y.items) }
 {
     let modulus = Modulus::new(c.request().modulus).unwrap();

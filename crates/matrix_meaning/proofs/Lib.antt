@@ -1,3 +1,4 @@
 pub mod CooleyTukey
 pub mod GoodThomas
+pub mod InverseTransform
 pub mod WalshHadamard

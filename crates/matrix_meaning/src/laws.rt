@@ -1,3 +1,4 @@
+ghost use Rattle.matrix_meaning.specs.Inverse.{InverseRoot, InverseTransform};
 ghost use Rattle.matrix_meaning.specs.Laws.{CooleyTukey, GoodThomas, Split};
 
 /// A Fourier transform whose size is a product, by strides.
@@ -16,4 +17,11 @@ pub fn good_thomas()
 #[tactic(auto, using(crate::proofs::WalshHadamard::split))]
 pub fn split()
     ensures { Split }
+{}
+
+/// The inverse transform is a transform by the inverse root, divided by the size: a law of the definitions.
+#[tactic(auto, using(crate::proofs::InverseTransform::inverse_transform_is, crate::proofs::InverseTransform::inverse_root_is_root))]
+pub fn inverse_transform()
+    ensures transform { InverseTransform }
+    ensures root { InverseRoot }
 {}

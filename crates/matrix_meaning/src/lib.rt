@@ -9,7 +9,7 @@ ghost use Rattle.matrix_meaning.specs.Kind.{entry_of, transform};
 ghost use Rattle.matrix_meaning.specs.Laws.{twiddle};
 ghost use Rattle.operators.specs.Sum.{sum_below};
 
-pub use laws::{cooley_tukey, good_thomas, split};
+pub use laws::{cooley_tukey, good_thomas, inverse_transform, split};
 use memory::NoMemory;
 use ring_mod::Modulus;
 use std::alloc::Global;
@@ -23,10 +23,20 @@ pub enum Kind {
     Wht,
 }
 
+/// Whether a transform is asked for, or the inverse of one.
+#[derive(Clone, Copy, PartialEq, Eq, Debug)]
+pub enum Direction {
+    /// The transform.
+    Forward,
+    /// The Fourier transform by the inverse root, divided by its size.
+    Inverse,
+}
+
 /// What a request line asks for. `root` is 0 for the Walsh-Hadamard transform.
 #[derive(Clone, Copy, PartialEq, Eq, Debug)]
 pub struct Request {
     pub kind: Kind,
+    pub direction: Direction,
     pub size: u64,
     pub modulus: u64,
     pub root: u64,

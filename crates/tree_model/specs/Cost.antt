@@ -1,5 +1,7 @@
 -- How many operations a tree costs.
 use Rattle.std.specs.Prelude.{ℕ, ◌+◌, ◌-◌, ◌*◌, ◌/◌, ◌≤◌, ◌==◌, ◌&&◌, Bool, true, false, if◌then◌else◌, nat_le}
+use Rattle.matrix_meaning.specs.declared.Direction.{Direction}
+use Rattle.matrix_meaning.specs.declared.Direction.TheVariants.{Forward, Inverse}
 use Rattle.matrix_meaning.specs.declared.Kind.{Kind}
 use Rattle.matrix_meaning.specs.declared.Kind.TheVariants.{Dft}
 use Rattle.matrix_meaning.specs.declared.Request.{Request}
@@ -57,3 +59,15 @@ cost_of c (node rule a b) = node_cost c rule (size_of a) (size_of b) (cost_of c 
 -- a cost that a node of size d may have, where a multiplication costs at most 1000
 abbrev pub IsModest : ℕ → ℕ → Type 0
 IsModest d x = x + 1000 * d ≤ 2001 * (d * d)
+
+-- what the inverse costs beside its tree: each item is multiplied once more
+abbrev pub extra_in : Direction → ℕ → ℕ
+extra_in Forward products = 0
+extra_in Inverse products = products
+
+abbrev pub extra_cost : Request → ℕ
+extra_cost c = extra_in c.direction (mul_cost_of c * c.size)
+
+-- what a request costs by a tree
+abbrev pub whole_cost : Request → Breakdown → ℕ
+whole_cost c t = cost_of c t + extra_cost c

@@ -3,11 +3,11 @@ ghost use Rattle.std.specs.Prelude.{◌≡◌, ℕ, ◌+◌, ◌*◌, ◌^◌, �
 ghost use Rattle.operators.specs.Sum.{sum_below};
 ghost use Rattle.ring_mod.specs.Residue.{power_mod};
 ghost use Rattle.tree_model.specs.Breakdown.{breakdown_of, size_of, IsWellFormed};
-ghost use Rattle.tree_model.specs.Cost.{is_kernel, mul_cost_of, node_root, product_cost, products_cost, leaf_cost, rule_cost, node_cost, cost_of, IsModest};
+ghost use Rattle.tree_model.specs.Cost.{is_kernel, extra_cost, mul_cost_of, node_root, product_cost, products_cost, leaf_cost, rule_cost, node_cost, cost_of, IsModest};
 
 use crate::context::Ctx;
 use crate::tree::{Rule, Tree};
-use matrix_meaning::Kind;
+use matrix_meaning::{Direction, Kind};
 use operators::MAX_SIZE;
 use ring_mod::Modulus;
 
@@ -70,6 +70,17 @@ pub fn mul_cost(c: &Ctx) -> u64
     ensures high { result ≤ 1000 }
 {
     c.request().weight
+}
+
+/// What the inverse costs beside its tree: a multiplication for each item. Nothing for the transform itself.
+pub fn extra_cost(c: &Ctx) -> u64
+    ensures value { result ≡ extra_cost c.now }
+    ensures high { result ≤ 1000 * c.now.size }
+{
+    match c.request().direction {
+        Direction::Forward => 0,
+        Direction::Inverse => mul_cost(c) * c.request().size,
+    }
 }
 
 /// Whether a node of size `d` becomes straight-line code.

@@ -14,7 +14,7 @@ mod tree;
 
 pub use admission::{admissible, allows_leaf, allows_node, allows_split};
 pub use context::{Ctx, divides};
-pub use costs::{cost, is_kernel, leaf_cost, mul_cost, node_cost, node_root};
+pub use costs::{cost, extra_cost, is_kernel, leaf_cost, mul_cost, node_cost, node_root};
 pub use order::before;
 pub use passes::{loads, pass_count, passes_do_the_cost, stores};
 pub use tree::{Rule, Tree};

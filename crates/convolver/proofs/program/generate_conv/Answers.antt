@@ -1,6 +1,6 @@
 use Rattle.std.proofs.Common.{◌≡◌, ◌<◌, All, length, refl, sym, ap, ◌∙◌, subst}
 use Rattle.icode.specs.Program.{plain_program}
-use Rattle.inverse_costs.proofs.Requests.{inverse_is_valid}
+use Rattle.inverse_requests.proofs.Requests.{inverse_is_valid}
 use Rattle.joined_passes.proofs.Counts.{joined_counts}
 use Rattle.joined_passes.proofs.Means.{joined_means}
 use Rattle.joined_passes.proofs.Programs.{joined_can_program}

@@ -1,6 +1,6 @@
 -- Trees cost the same by the inverse root.
 use Rattle.std.proofs.Common.{◌≡◌, ℕ, ◌+◌, ◌-◌, ◌*◌, ◌/◌, ◌≤◌, arith, refl, sym, ap, ap₂, ◌∙◌, subst, if◌then◌else◌, nat_le}
-use Rattle.convolution.specs.Inverse.{inverse_root}
+use Rattle.matrix_meaning.specs.Inverse.{inverse_root}
 use Rattle.matrix_meaning.specs.declared.Kind.TheVariants.{Dft}
 use Rattle.matrix_meaning.specs.declared.Request.{Request}
 use Rattle.matrix_meaning.specs.Valid.{IsValid}
@@ -11,9 +11,9 @@ use Rattle.tree_model.specs.declared.tree.Rule.{Rule}
 use Rattle.tree_model.specs.declared.tree.Rule.TheVariants.{Gt, Ct, Split}
 use Rattle.tree_model.specs.Breakdown.{Breakdown, leaf, node, size_of}
 use Rattle.tree_model.specs.Cost.{cost_of, is_kernel, leaf_cost, mul_cost_of, node_root, product_cost, products_cost, rule_cost}
-use Rattle.inverse_costs.specs.Inverted.{inverted, InverseCosts}
-use Rattle.inverse_costs.proofs.Powers.{partners, power_below, same-product}
-use Rattle.inverse_costs.proofs.Requests.{root-is}
+use Rattle.inverse_requests.specs.Inverted.{inverted, InverseCosts}
+use Rattle.inverse_requests.proofs.Powers.{partners, power_below, same-product}
+use Rattle.inverse_requests.proofs.Requests.{root-is}
 
 module _ (c : Request) (dft : c.kind ≡ Dft) (valid : IsValid c) where
   two : 2 ≤ c.modulus

@@ -7,7 +7,7 @@ use Rattle.ring_mod.specs.Residue.{power_mod}
 use Rattle.ring_mod.proofs.Powers.{power_mod_of_power, power_mod-drop, power_mod-zero}
 use Rattle.matrix_meaning.specs.declared.Kind.TheVariants.{Dft}
 use Rattle.matrix_meaning.specs.Kind.{entry_of}
-use Rattle.convolution.specs.Inverse.{inverse_root, InverseTransform, InverseRoot}
+use Rattle.matrix_meaning.specs.Inverse.{inverse_root, InverseTransform, InverseRoot}
 use Rattle.operators.proofs.Matrices.{at-matrix_times}
 use Rattle.operators.proofs.Sums.{mul-sum_below, same-sum_below}
 use Rattle.operators.proofs.Lists.{list_below-same}

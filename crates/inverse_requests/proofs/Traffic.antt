@@ -1,15 +1,17 @@
 -- The passes of a tree are the same by any root, and load and store the same.
 use Rattle.std.proofs.Common.{◌≡◌, ℕ, ◌+◌, ◌*◌, true, false, List, [], ◌∷◌, ◌++◌, length, refl, ap, ap₂, ◌∙◌, if◌then◌else◌, nat_le}
+use Rattle.matrix_meaning.specs.declared.Direction.{Direction}
+use Rattle.matrix_meaning.specs.declared.Direction.TheVariants.{Forward}
 use Rattle.matrix_meaning.specs.declared.Request.{Request}
 use Rattle.tree_model.specs.declared.tree.Rule.TheVariants.{Gt, Ct, Split}
 use Rattle.tree_model.specs.Breakdown.{Breakdown, leaf, node, size_of}
 use Rattle.tree_model.specs.Cost.{is_kernel}
 use Rattle.tree_model.specs.Passes.{Pass, nodes, tiles, twiddle_by, passes_of, node_loads, pass_loads, tiled_passes, loads_in, whole_passes}
-use Rattle.inverse_costs.specs.Inverted.{inverted, InverseLoads, InverseStores}
+use Rattle.inverse_requests.specs.Inverted.{inverted, InverseLoads, InverseStores}
 
-module _ (c : Request) (v : ℕ) where
+module _ (c : Request) (d : Direction) (v : ℕ) where
   abbrev other : Request
-  other = record c { root = v }
+  other = record c { direction = d; root = v }
 
   passes-same : (count : ℕ) (t : Breakdown) → passes_of other count t ≡ passes_of c count t
   passes-same count (leaf d) = refl
@@ -39,7 +41,7 @@ module _ (c : Request) (v : ℕ) where
   loads-same (p ∷ ps) = ap₂ (λ x y. x + y) (pass-same p) (loads-same ps)
 
 pub inverse_loads : InverseLoads
-inverse_loads c t = loads-same c (inverted c).root (whole_passes (inverted c) t) ∙ ap (loads_in c) (whole-same c (inverted c).root t)
+inverse_loads c t = loads-same c Forward (inverted c).root (whole_passes (inverted c) t) ∙ ap (loads_in c) (whole-same c Forward (inverted c).root t)
 
 pub inverse_stores : InverseStores
-inverse_stores c t = ap (λ ps. c.size * length ps) (whole-same c (inverted c).root t)
+inverse_stores c t = ap (λ ps. c.size * length ps) (whole-same c Forward (inverted c).root t)

@@ -1,6 +1,7 @@
--- A request with the inverse root in place of its root.
+-- The request for the transform by the inverse root.
 use Rattle.std.specs.Prelude.{◌≡◌, ◌↔◌}
-use Rattle.convolution.specs.Inverse.{inverse_root}
+use Rattle.matrix_meaning.specs.Inverse.{inverse_root}
+use Rattle.matrix_meaning.specs.declared.Direction.TheVariants.{Forward}
 use Rattle.matrix_meaning.specs.declared.Kind.TheVariants.{Dft}
 use Rattle.matrix_meaning.specs.declared.Request.{Request}
 use Rattle.matrix_meaning.specs.Valid.{IsValid}
@@ -10,7 +11,7 @@ use Rattle.tree_model.specs.Cost.{cost_of}
 use Rattle.tree_model.specs.Passes.{loads_of, stores_of}
 
 abbrev pub inverted : Request → Request
-inverted c = record c { root = inverse_root c.modulus c.size c.root }
+inverted c = record c { direction = Forward; root = inverse_root c.modulus c.size c.root }
 
 -- it is valid
 abbrev pub InverseIsValid : Type 0

@@ -2,7 +2,7 @@
 use Rattle.std.proofs.Common.{◌≡◌, ℕ, zero, suc, ◌+◌, ◌-◌, ◌*◌, ◌%◌, ◌<◌, ◌≤◌, arith, sym, ap, ◌∙◌, mul_comm, mod-lt, subst}
 use Rattle.std.proofs.Math.Nat.{mod-eq_of_lt, mod_self, sub-zero, one-mul}
 use Rattle.std.proofs.lemmas.Bool.Decides.{nat_tests}
-use Rattle.convolution.specs.Inverse.{inverse_root}
+use Rattle.matrix_meaning.specs.Inverse.{inverse_root}
 use Rattle.matrix_meaning.specs.declared.Request.{Request}
 use Rattle.ring_mod.specs.Residue.{power_mod, negation_mod}
 use Rattle.ring_mod.proofs.LastResidue.{last_times}
