@@ -117,7 +117,7 @@ bad_once m n w j k p q = cases (nat_lt j k) (nat_lt k j) refl refl
     cases false true e f = absurd (bad_first m n w k j q p (grind (arith, common_steps)))
     cases false false e f = grind (arith, common_steps)
 
-least_once : (r : Request) (a b : ℕ) → IsLeast r a → IsLeast r b → a ≡ b
+pub least_once : (r : Request) (a b : ℕ) → IsLeast r a → IsLeast r b → a ≡ b
 least_once r a b p q =
     let one : a ≤ cost_of r q.reached.0 = p.bound q.reached.0 q.reached.1 in
     let two : b ≤ cost_of r p.reached.0 = q.bound p.reached.0 p.reached.1 in
