@@ -1,5 +1,5 @@
 -- A request has one table of chosen rows.
-use Rattle.std.proofs.Common.{◌≡◌, ◌<◌, ℕ, zero, suc, List, [], ◌∷◌, length, refl, sym, ap, ap₂, subst, ◌∙◌, arith, ◌⊎◌, inl, inr}
+use Rattle.std.proofs.Common.{◌≡◌, ◌+◌, ◌<◌, ℕ, zero, suc, List, [], ◌∷◌, length, refl, sym, ap, ap₂, subst, ◌∙◌, arith, ◌⊎◌, inl, inr}
 use Rattle.std.specs.Prelude.{Option, All, Any, AllPairs}
 use Rattle.std.specs.List.{slice_index_or}
 use Rattle.matrix_meaning.specs.declared.Request.{Request}
@@ -8,6 +8,7 @@ use Rattle.tree_model.specs.Admissible.{IsChosenFor}
 use Rattle.tree_model.specs.Breakdown.{Breakdown, leaf, node}
 use Rattle.tree_model.specs.Cost.{cost_of}
 use Rattle.plan_cert.specs.declared.certificate.Row.{Row}
+use Rattle.plan_cert.specs.Found.{extra_at}
 use Rattle.plan_cert.specs.Table.{IsRootOf, IsChosenRow, IsTable}
 use Rattle.spiral_main.proofs.OneTree.{chosen_once}
 
