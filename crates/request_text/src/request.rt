@@ -47,14 +47,14 @@ fn root_of(cursor: &mut Cursor, kind: Kind) -> Result<u64, Stuck>
 fn request_of(cursor: &mut Cursor) -> Result<Request, Stuck>
     ensures { Gives result cursor.new (request_at cursor.old) }
 {
-    let asked = asked_of(cursor)?;
+    let (kind, direction) = asked_of(cursor)?;
     let size = cursor.number(u64::MAX)?;
     cursor.word(b" mod ")?;
     let modulus = cursor.number(u64::MAX)?;
-    let root = root_of(cursor, asked.0)?;
+    let root = root_of(cursor, kind)?;
     Ok(Request {
-        kind: asked.0,
-        direction: asked.1,
+        kind,
+        direction,
         size,
         modulus,
         root,
