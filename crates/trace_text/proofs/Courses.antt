@@ -1,12 +1,11 @@
 -- Turns that act.
-use Rattle.std.proofs.Common.{◌≡◌, ℕ, zero, suc, ◌<◌, ◌≤◌, List, [], ◌∷◌, ◌++◌, length, Option, None, Some, Ok, Err, Result, refl, sym, ap, ◌∙◌, subst, arith, append_assoc}
+use Rattle.std.proofs.Common.{◌≡◌, ℕ, zero, suc, ◌<◌, ◌≤◌, List, [], ◌∷◌, ◌++◌, length, Option, None, Some, Ok, Err, Result, refl, sym, ap, ◌∙◌, subst, arith}
 use Rattle.std.specs.Prelude.{OnOk}
 use Rattle.icode.specs.declared.action.Action.{Action}
 use Rattle.icode.specs.declared.event.Turned.TheVariants.{Did}
 use Rattle.icode.specs.Machine.{Code, State, next_action, answer, answer_with, turn, turn_with, run, completion}
-use Rattle.trace_text.specs.Trace.{answer_at, completed}
-use Rattle.trace_text.specs.Course.{PassesThrough, CompletionActs, EachActs}
-use Rattle.trace_text.proofs.Lines.{run-append}
+use Rattle.trace_text.specs.Trace.{answer_at}
+use Rattle.trace_text.specs.Course.{CompletionActs, EachActs}
 
 module _ (code : Code) where
   -- a turn that shortens the completion did an action, since one that does none leaves the state

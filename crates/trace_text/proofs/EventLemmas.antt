@@ -3,7 +3,7 @@ use Rattle.std.proofs.Common.{◌≡◌, ℕ, suc, ◌+◌, List, [], ◌∷◌,
 use Rattle.icode.specs.declared.event.Event.{Event}
 use Rattle.icode.specs.Buffers.{Buffered, buffered_completion, buffered_run, buffered_step}
 use Rattle.icode.specs.Machine.{Code}
-use Rattle.trace_text.specs.EventLines.{completed_events, event_line, event_lines, event_trace}
+use Rattle.trace_text.specs.EventLines.{event_line, event_lines, event_trace}
 use Rattle.trace_text.proofs.Goes.{IsCourse}
 
 module _ (code : Code) where

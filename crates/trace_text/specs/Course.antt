@@ -2,7 +2,7 @@
 use Rattle.std.specs.Prelude.{◌≡◌, ℕ, ◌<◌, ◌≤◌, List, [], ◌∷◌, ◌++◌, length}
 use Rattle.icode.specs.declared.action.Action.{Action}
 use Rattle.icode.specs.declared.event.Turned.TheVariants.{Did}
-use Rattle.icode.specs.Machine.{Code, IsCode, State, answer, turn, run, start}
+use Rattle.icode.specs.Machine.{Code, IsCode, State, answer, turn, start}
 use Rattle.trace_text.specs.Trace.{answer_at, completed}
 
 -- the state is the one after a front of the steps, which are turns or events in runs of theirs

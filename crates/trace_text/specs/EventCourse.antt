@@ -1,5 +1,5 @@
 -- What the events at the end of a run with store buffers do.
-use Rattle.std.specs.Prelude.{◌≡◌, ℕ, List, [], ◌∷◌, ◌++◌}
+use Rattle.std.specs.Prelude.{◌≡◌, ℕ, List, [], ◌∷◌}
 use Rattle.icode.specs.declared.action.Action.{Action}
 use Rattle.icode.specs.declared.event.Drained.TheVariants.{Wrote}
 use Rattle.icode.specs.declared.event.Event.{Event}

@@ -4,8 +4,8 @@ use Rattle.std.specs.declared.option.Option.{Option}
 use Rattle.std.specs.Io.KnownBytes.{Appends}
 use Rattle.io_edge.specs.Taken.{AppendsPrefix}
 
--- the fault met the line of one of the steps: the lines of those before it are written, of its own a front, and it is the last
--- that was done. Steps are turns or events, in runs and lines of theirs; they are numbered from here on.
+-- the fault met the line of one of the steps: the lines of those before it are written, and a front of its own; it is the last
+-- that is done. Steps are turns or events, with runs and lines of theirs, and are numbered from a number on.
 pub record FaultMet {State Step : Type 0} (run : State → List Step → State) (lines : State → ℕ → List Step → List ℕ)
     (s : State) (number : ℕ) (steps : List Step) (t : State) (old new : Option (List ℕ)) : Type 0 where
   pub front : List Step

@@ -105,7 +105,8 @@ fn write_rest<O: Sink>(
 
 /// Does the events of a word and those that complete them, and writes the line of each before the next.
 ///
-/// Events are numbered from 0. After a fault the machine stands behind the event whose line the fault met.
+/// Events are numbered from 0. After a fault the output has the lines of some events and a front of the next one's,
+/// and the machine stands right behind that one.
 pub fn write_events<O: Sink>(
     machine: &mut BufMachine,
     events: Events,
@@ -120,13 +121,12 @@ pub fn write_events<O: Sink>(
     // The machine stands behind a front of these events.
     ensures way { PassesThrough (buffered_run machine.old.code) machine.old.state
         (completed_events machine.old.code machine.old.state
-            (events_of events.entry machine.old.code.procs)) machine.new.state }
-    // The output took the lines before that of the event that the fault met, and a front of that one.
-    // The machine stands right behind that event.
+        (events_of events.entry machine.old.code.procs)) machine.new.state }
+    // After a fault it stands right behind the event whose line was begun last.
     ensures met { OnErr result (FaultMet (buffered_run machine.old.code)
         (event_lines machine.old.code) machine.old.state 0
         (completed_events machine.old.code machine.old.state
-            (events_of events.entry machine.old.code.procs))
+        (events_of events.entry machine.old.code.procs))
         machine.new.state (O.taken output.old) (O.taken output.new)) }
 {
     write_list(machine, events, output)?;

@@ -85,7 +85,8 @@ fn write_rest<O: Sink>(machine: &mut Machine, first: u64, output: &mut O) -> Res
 
 /// Takes the turns of a schedule and those that complete them, and writes the line of each before the next.
 ///
-/// Turns are numbered from 0. After a fault the machine stands behind the turn whose line the fault met.
+/// Turns are numbered from 0. After a fault the output has the lines of some turns and a front of the next one's,
+/// and the machine stands right behind that one.
 pub fn write_turns<O: Sink>(
     machine: &mut Machine,
     schedule: &Schedule,
@@ -100,12 +101,11 @@ pub fn write_turns<O: Sink>(
     // The machine stands behind a front of these turns.
     ensures way { PassesThrough (run machine.old.code) machine.old.state
         (completed machine.old.code machine.old.state
-            (turns_of schedule.now machine.old.code.procs)) machine.new.state }
-    // The output took the lines before that of the turn that the fault met, and a front of that one.
-    // The machine stands right behind that turn.
+        (turns_of schedule.now machine.old.code.procs)) machine.new.state }
+    // After a fault it stands right behind the turn whose line was begun last.
     ensures met { OnErr result (FaultMet (run machine.old.code) (lines_from machine.old.code)
         machine.old.state 0 (completed machine.old.code machine.old.state
-            (turns_of schedule.now machine.old.code.procs))
+        (turns_of schedule.now machine.old.code.procs))
         machine.new.state (O.taken output.old) (O.taken output.new)) }
     // The lines of the completion are those of actions.
     ensures act { OnOk result (CompletionActs machine.old.code machine.old.state (turns_of schedule.now machine.old.code.procs)) }
