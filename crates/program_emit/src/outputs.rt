@@ -1,15 +1,16 @@
 // Stores of a nest, with the products before them.
 ghost use Rattle.std.specs.Prelude.{◌≡◌, ◌+◌, ◌<◌, ◌^◌, IfOk, OnOk, map};
 ghost use Rattle.std.specs.Option.{option_map};
-ghost use Rattle.icode.specs.Plain.{MulTable, Store, plain_body, plain_expr};
+ghost use Rattle.icode.specs.Plain.{MulConst, MulTable, Store, plain_body, plain_expr};
 ghost use Rattle.pass_actions.specs.Acts.{with_multiplier};
-ghost use Rattle.pass_programs.specs.Statements.{do_only, finish_body, followed_by};
+ghost use Rattle.pass_programs.specs.Statements.{do_only, finish_body, followed_by, one_factor, product_op};
 ghost use Rattle.pass_programs.specs.Statements as statements;
 ghost use Rattle.passes.specs.Views.{plain_multiplier, plain_nest};
 ghost use Rattle.perm_algebra.specs.Views.{plain_sum};
 ghost use Rattle.program_emit.specs.Conditions.{CanStore, HasPlaces};
 ghost use Rattle.program_emit.specs.Views.{plain_frame};
 
+use crate::factors::one_factor;
 use crate::host::Frame;
 use crate::places::place_expr;
 use crate::site::{Item, Site};
@@ -49,6 +50,21 @@ fn put_store(out: &mut Vec<Stmt>, array: Array, place: Expr, register: u64) -> R
     Ok(())
 }
 
+// Appends the product of an item's register and a factor.
+fn put_multiple(out: &mut Vec<Stmt>, item: Item, factor: u64) -> Result<(), NoMemory>
+    ensures { OnOk result (plain_body out.new.items ≡ followed_by (plain_body out.old.items) (do_only (MulConst item.free item.from factor))) }
+{
+    put_op(
+        out,
+        Op::MulConst {
+            register: item.free,
+            source: item.from,
+            factor,
+        },
+    )?;
+    Ok(())
+}
+
 // Appends the product of an item's register and entries of a table, of which the first has this place.
 fn put_product(
     out: &mut Vec<Stmt>,
@@ -72,6 +88,33 @@ fn put_product(
     Ok(())
 }
 
+// Appends the product of an item's register and the one factor of a diagonal, or entries of its table.
+fn put_multiplied(
+    alloc: Global,
+    out: &mut Vec<Stmt>,
+    multiplier: &Multiplier,
+    site: Site,
+    step: u64,
+    item: Item,
+) -> Result<(), NoMemory>
+    requires { HasPlaces (item.number + 1) (plain_multiplier multiplier.now).places }
+    ensures { OnOk result (let d = plain_multiplier multiplier.now in let f = plain_frame site.frame in plain_body out.new.items ≡ followed_by (plain_body out.old.items)
+        (do_only (product_op (one_factor d.factors) item.free item.from site.table (statements.place_at f site.open_loops d.places item.number) step))) }
+{
+    let sums = &multiplier.places;
+    match one_factor(&multiplier.factors) {
+        Some(factor) => {
+            put_multiple(out, item, factor)?;
+            Ok(())
+        }
+        None => {
+            let place = place_at(alloc, site.frame, sums, item.number, site.open_loops)?;
+            put_product(out, item, site.table, place, step)?;
+            Ok(())
+        }
+    }
+}
+
 /// Appends the store of an item, multiplied where the nest has a diagonal. The factors of two lanes that lie side by side
 /// stand so many steps apart.
 pub(crate) fn put_output(
@@ -89,7 +132,6 @@ pub(crate) fn put_output(
     let Site {
         frame,
         open_loops,
-        table,
         target,
         ..
     } = site;
@@ -100,8 +142,7 @@ pub(crate) fn put_output(
             Ok(())
         }
         Some(multiplier) => {
-            let entry = place_at(alloc, frame, &multiplier.places, item.number, open_loops)?;
-            put_product(out, item, table, entry, step)?;
+            put_multiplied(alloc, out, multiplier, site, step, item)?;
             put_store(out, target, place, item.free)?;
             Ok(())
         }
