@@ -1,14 +1,13 @@
 -- Formulas with the same summands are alike.
-use Rattle.std.proofs.Common.{◌≡◌, ℕ, ◌+◌, ◌*◌, ◌≤◌, List, ◌++◌, take, drop, ◌∙◌, refl, sym, subst, arith, ap, ap₂, append_assoc, add_assoc}
+use Rattle.std.proofs.Common.{◌≡◌, ℕ, ◌+◌, ◌*◌, ◌++◌, take, drop, ◌∙◌, refl, sym, subst, arith, ap, ap₂, append_assoc, add_assoc}
 use Rattle.std.proofs.lemmas.List.{drop-take, drop-drop, take-take}
 use Rattle.spl_ast.specs.Formula.{Formula, DirectSum, size_of, parts_of}
 use Rattle.spl_ast.specs.Meaning.{apply, IsVector, IsSameMatrix}
 use Rattle.spl_ast.specs.Shape.{IsShaped, IsSize}
 use Rattle.spl_ast.proofs.Contexts.{same_left, same_right, same_product, same_sum, same_refl, same_trans}
 use Rattle.spl_ast.proofs.Vectors.{shaped_size}
-use Rattle.balanced_sums.specs.Grouping.{KnowsSums}
 use Rattle.balanced_sums.specs.Summands.{summands, sum_of}
-use Rattle.balanced_sums.proofs.Grouping.{from_right}
+use Rattle.balanced_sums.proofs.Grouping.{KnowsSums, from_right}
 
 -- ---- numbers
 

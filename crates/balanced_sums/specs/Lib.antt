@@ -1,3 +1,3 @@
-pub mod Grouping
+pub mod Depth
 pub mod Rows
 pub mod Summands
