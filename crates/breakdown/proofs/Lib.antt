@@ -1,5 +1,5 @@
 pub mod Sizes
 pub mod Meaning
 pub mod Nesting
-pub mod Asked
+pub mod Inverse
 

@@ -16,6 +16,7 @@ use std::alloc::Global;
 use tree_model::{Ctx, Tree};
 
 /// The formula of the request by a tree. That of the inverse is of the transform by the inverse root, divided by the size.
+#[tactic(auto, using(crate::proofs::Sizes::whole_divides))]
 pub fn expand_request(alloc: Global, c: &Ctx, t: &Tree) -> Result<Spl, NoMemory>
     requires tree { IsWellFormed c.now.kind (breakdown_of t.now) }
     requires size { size_of (breakdown_of t.now) ≡ c.now.size }
