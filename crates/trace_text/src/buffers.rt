@@ -122,7 +122,7 @@ pub fn write_events<O: Sink>(
     ensures way { PassesThrough (buffered_run machine.old.code) machine.old.state
         (completed_events machine.old.code machine.old.state
         (events_of events.entry machine.old.code.procs)) machine.new.state }
-    // After a fault it stands right behind the event whose line was begun last.
+    // After a fault lines of events are written, then a front of a line, whose event is the last done.
     ensures met { OnErr result (FaultMet (buffered_run machine.old.code)
         (event_lines machine.old.code) machine.old.state 0
         (completed_events machine.old.code machine.old.state

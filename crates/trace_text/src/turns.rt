@@ -102,7 +102,7 @@ pub fn write_turns<O: Sink>(
     ensures way { PassesThrough (run machine.old.code) machine.old.state
         (completed machine.old.code machine.old.state
         (turns_of schedule.now machine.old.code.procs)) machine.new.state }
-    // After a fault it stands right behind the turn whose line was begun last.
+    // After a fault lines of turns are written, then a front of a line, whose turn is the last taken.
     ensures met { OnErr result (FaultMet (run machine.old.code) (lines_from machine.old.code)
         machine.old.state 0 (completed machine.old.code machine.old.state
         (turns_of schedule.now machine.old.code.procs))
