@@ -10,7 +10,7 @@ ghost use Rattle.pass_programs.specs.Contract.{Performs};
 ghost use Rattle.passes.specs.Views.{plain_merged};
 ghost use Rattle.tree_model.specs.Admissible.{IsAdmissible};
 ghost use Rattle.tree_model.specs.Breakdown.{breakdown_of};
-ghost use Rattle.tree_model.specs.Cost.{cost_of};
+ghost use Rattle.tree_model.specs.Cost.{whole_cost};
 ghost use Rattle.tree_passes.specs.Laws.{machine_of};
 ghost use Rattle.generate.specs.Good.{IsGood, IsLean};
 ghost use Rattle.generate.specs.Planned.{IsPlanned, IsAdmitted, IsBarred, IsRooted, has_root, root_power};
@@ -28,7 +28,7 @@ use sigma_lower::lower;
 use smp_rewrite::to_smp;
 use std::alloc::Global;
 use thiserror::Error;
-use tree_model::{Ctx, Tree, divides};
+use tree_model::{Ctx, Tree, divides, extra_cost};
 use vec_rewrite::to_vec;
 
 /// The cheapest tree with its cost, and its program.
@@ -121,26 +121,34 @@ pub fn admit(request: &Request) -> Result<(), GenerateFault>
     Ok(())
 }
 
-/// The cheapest tree of the request, or the first cause to refuse it.
+/// The cheapest tree of the request with the cost of the whole, or the first cause to refuse it.
 pub fn plan(alloc: Global, request: &Request) -> Result<Plan, GenerateFault>
     requires { IsInRange request.now }
     ensures planned { IfOk result (λ plan. IsPlanned request.now (Ok (breakdown_of plan.tree))) }
-    ensures cost { IfOk result (λ plan. plan.cost ≡ cost_of request.now (breakdown_of plan.tree)) }
+    ensures cost { IfOk result (λ plan. plan.cost ≡ whole_cost request.now (breakdown_of plan.tree)) }
     ensures valid { IfOk result (λ plan. IsValid request.now) }
     ensures refused { IfErr result (λ cause. cause ≢ fault.NoMemory → IsPlanned request.now (Err cause)) }
 {
     check_root(request)?;
     let context = Ctx::new(request);
-    let plan = best(alloc, &context, request.budget)?;
-    Ok(plan)
+    // No cost is over this limit.
+    let Plan { tree, cost } = best(alloc, &context, u64::MAX)?;
+    let cost = cost + extra_cost(&context);
+    if cost > request.budget {
+        return Err(GenerateFault::OverBudget {
+            cost,
+            budget: request.budget,
+        });
+    }
+    Ok(Plan { tree, cost })
 }
 
 /// A good program for the request, or the first cause to refuse it.
 pub fn generate(alloc: Global, request: &Request) -> Result<Product, GenerateFault>
     requires { IsInRange request.now }
     ensures planned { IfOk result (λ product. IsPlanned request.now (Ok (breakdown_of product.plan.tree))) }
-    ensures cost { IfOk result (λ product. product.plan.cost ≡ cost_of request.now (breakdown_of product.plan.tree)) }
-    ensures good { IfOk result (λ product. IsGood request.now (cost_of request.now (breakdown_of product.plan.tree)) product.program) }
+    ensures cost { IfOk result (λ product. product.plan.cost ≡ whole_cost request.now (breakdown_of product.plan.tree)) }
+    ensures good { IfOk result (λ product. IsGood request.now (whole_cost request.now (breakdown_of product.plan.tree)) product.program) }
     ensures lean { IfOk result (λ product. IsLean request.now (breakdown_of product.plan.tree) product.program) }
     ensures refused { IfErr result (λ cause. cause ≢ fault.NoMemory → IsPlanned request.now (Err cause)) }
 {
