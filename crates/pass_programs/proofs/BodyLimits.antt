@@ -11,7 +11,8 @@ use Rattle.icode.specs.Limits.{is_small, is_small_positive, is_expr_within, is_o
 use Rattle.icode.specs.Plain.{PlainBody, PlainExpr, PlainOp, NoStmts, AndStmts, Loop, Do, Load, Store, Add, MulTable}
 use Rattle.code_laws.specs.Lanes.{IsArithmetic, AreArithmetic}
 use Rattle.pass_actions.specs.Machine.{PlainFrame}
-use Rattle.pass_programs.specs.Statements.{do_only, finish_body, followed_by, in_a_row, loads_body, loop_value, nested, op_of, place_at, product_place, straight_body}
+use Rattle.pass_programs.specs.Statements.{do_only, finish_body, followed_by, in_a_row, loads_body, loop_value, nested, one_factor, op_of, place_at, product_op, product_place, straight_body}
+use Rattle.pass_programs.proofs.OneFactor.{OneIsBelow}
 use Rattle.passes.specs.Nest.{PlainMultiplier, PlainNest}
 use Rattle.perm_algebra.specs.Affine.{Sum}
 
@@ -66,12 +67,17 @@ module _ (m : ℕ) where
         within-in_a_row n (λ k. do_only (Load k source (place_at f open_loops l.gathers k))) open_loops
         (λ k below. within-do (Load k source (place_at f open_loops l.gathers k)) NoStmts open_loops (both _ _ (small-is k (omega arith)) (h k below)) refl)
 
-    pub finish-within : (step : ℕ) (o : Option PlainMultiplier) (n open_loops table i from free : ℕ) (scatters : List Sum) (target : Array) → step < 2 → i < n → ArePlaces f n open_loops scatters → ((d : PlainMultiplier) → o ≡ Some d → ArePlaces f n open_loops d.places) →
+    factor-within : (o : Option ℕ) (open_loops table from free step : ℕ) (place : PlainExpr) → ((value : ℕ) → o ≡ Some value → value < m) → step < 2 → is_expr_within place open_loops ≡ true → table < 2 ^ 32 → from < 2 ^ 32 → free < 2 ^ 32 →
+        is_op_within m (product_op o free from table place step) open_loops ≡ true
+    factor-within None open_loops table from free step place one near h t u g = both _ _ (small-is free g) (both _ _ (small-is from u) (both _ _ (small-is table t) (both _ _ (test-below step 2 near) h)))
+    factor-within (Some value) open_loops table from free step place one near h t u g = both _ _ (small-is free g) (both _ _ (small-is from u) (test-below value m (one value refl)))
+
+    pub finish-within : (step : ℕ) (o : Option PlainMultiplier) (n open_loops table i from free : ℕ) (scatters : List Sum) (target : Array) → OneIsBelow m o → step < 2 → i < n → ArePlaces f n open_loops scatters → ((d : PlainMultiplier) → o ≡ Some d → ArePlaces f n open_loops d.places) →
         table < 2 ^ 32 → from < 2 ^ 32 → free < 2 ^ 32 → is_body_within m (finish_body f step o scatters open_loops table target i from free) open_loops ≡ true
-    finish-within step None n open_loops table i from free scatters target near below h k t u g = within-do (Store target (place_at f open_loops scatters i) from) NoStmts open_loops (both _ _ (small-is from u) (h i below)) refl
-    finish-within step (Some d) n open_loops table i from free scatters target near below h k t u g =
-        within-do (MulTable free from table (place_at f open_loops d.places i) step) (do_only (Store target (place_at f open_loops scatters i) free)) open_loops
-        (both _ _ (small-is free g) (both _ _ (small-is from u) (both _ _ (small-is table t) (both _ _ (test-below step 2 near) (k d refl i below)))))
+    finish-within step None n open_loops table i from free scatters target one near below h k t u g = within-do (Store target (place_at f open_loops scatters i) from) NoStmts open_loops (both _ _ (small-is from u) (h i below)) refl
+    finish-within step (Some d) n open_loops table i from free scatters target one near below h k t u g =
+        within-do (product_op (one_factor d.factors) free from table (place_at f open_loops d.places i) step) (do_only (Store target (place_at f open_loops scatters i) free)) open_loops
+        (factor-within (one_factor d.factors) open_loops table from free step (place_at f open_loops d.places i) (λ value is. one d value refl is) near (k d refl i below) t u g)
         (within-do (Store target (place_at f open_loops scatters i) free) NoStmts open_loops (both _ _ (small-is free g) (h i below)) refl)
 
   pub term-within : (open_loops table : ℕ) (array : Array) (input entry : PlainExpr) → table < 2 ^ 32 → is_expr_within input open_loops ≡ true → is_expr_within entry open_loops ≡ true →

@@ -16,9 +16,10 @@ use Rattle.operators.proofs.Lists.{length-list_below, at-list_below}
 use Rattle.pass_actions.specs.Acts.{load_at, store_at, factors_at, finish_acts, made_acts, tile_acts, rows_acts, items_acts, term_acts, horner_acts}
 use Rattle.pass_programs.specs.Conditions.{IsInside}
 use Rattle.pass_actions.specs.Machine.{PlainMachine, frame_of, item_of, values_of, loop_counts}
-use Rattle.pass_programs.specs.Statements.{diagonal_of, powers_of, do_only, in_a_row, followed_by, place_at, finish_body, straight_body, op_of, loads_body, made_body, tile_body, rows_body, items_body, loop_value, product_place, term_body, horner_body}
+use Rattle.pass_programs.specs.Statements.{diagonal_of, one_factor, powers_of, product_op, do_only, in_a_row, followed_by, place_at, finish_body, straight_body, op_of, loads_body, made_body, tile_body, rows_body, items_body, loop_value, product_place, term_body, horner_body}
 use Rattle.pass_programs.proofs.Coded.{IsCoded}
 use Rattle.pass_programs.proofs.Emits.{Emits, emits-none, emits-one, emits-append, emits-followed, emits-in_a_row, emits-looped, emits-loop, emits-then}
+use Rattle.pass_programs.proofs.OneFactor.{one-factor}
 use Rattle.pass_programs.proofs.Places.{IsFor, start_of, emits-load, emits-store, emits-product}
 use Rattle.pass_programs.proofs.PlaceNumbers.{loop-value, loop-peak, product-value, product-peak}
 use Rattle.pass_actions.proofs.Rows.{row_acts}
@@ -52,9 +53,9 @@ module _ (c : PlainMachine) (pass : PlainNest) (q : ℕ) where
     pub multiplied : (d : PlainMultiplier) → pass.multiplier ≡ Some d → IsMultipliedAt d step open_loops i us vs k
 
 module _ (c : PlainMachine) (pass : PlainNest) (p : PlainProgram) (here : IsFor c p) (some : 1 ≤ c.lanes) (q : ℕ) (source target : Array) where
-  -- the diagonal's table
+  -- the diagonal's table, where it has one
   abbrev pub HasDiagonal : ℕ → Type 0
-  HasDiagonal table = (d : PlainMultiplier) → pass.multiplier ≡ Some d → slice_index_or p.tables table [] ≡ diagonal_of c.modulus d.factors
+  HasDiagonal table = (d : PlainMultiplier) → pass.multiplier ≡ Some d → one_factor d.factors ≡ None → slice_index_or p.tables table [] ≡ diagonal_of c.modulus d.factors
 
   emits-multiplied : (d : PlainMultiplier) (step open_loops table i from free : ℕ) (us vs : List ℕ) (k : ℕ) → IsMultipliedAt c pass q d step open_loops i us vs k → slice_index_or p.tables table [] ≡ diagonal_of c.modulus d.factors →
       Emits (steps_of_body p (do_only (statements.MulTable free from table (place_at (frame_of c pass.work) open_loops d.places i) step)) us q) (Mul free from (factors_at c pass d q vs k) ∷ [])
@@ -72,18 +73,29 @@ module _ (c : PlainMachine) (pass : PlainNest) (p : PlainProgram) (here : IsFor 
       ap (slice_index (diagonal_of c.modulus d.factors)) (sym (m.apart lane on))
       ∙ at-list_below size entry (entry_place c pass q d vs k lane) (m.below lane on))
 
+  -- by one factor, or by entries of the table
+  emits-factor : (o : Option ℕ) (d : PlainMultiplier) (step open_loops table i from free : ℕ) (us vs : List ℕ) (k : ℕ) → one_factor d.factors ≡ o → IsMultipliedAt c pass q d step open_loops i us vs k →
+      (one_factor d.factors ≡ None → slice_index_or p.tables table [] ≡ diagonal_of c.modulus d.factors) →
+      Emits (steps_of_body p (do_only (product_op o free from table (place_at (frame_of c pass.work) open_loops d.places i) step)) us q) (Mul free from (factors_at c pass d q vs k) ∷ [])
+  emits-factor None d step open_loops table i from free us vs k is m there = emits-multiplied d step open_loops table i from free us vs k m (there is)
+  emits-factor (Some value) d step open_loops table i from free us vs k is m there =
+      emits-one (step_of p (statements.MulConst free from value) us q) (Mul free from (factors_at c pass d q vs k))
+      (ap (λ (n : ℕ). Mul free from (lane_factors n (λ _. value))) here.lanes
+      ∙ ap (λ (g : ℕ → ℕ). Mul free from (lane_factors c.lanes g)) (λ e lane. sym (one-factor c.modulus d.factors value is (entry_place c pass q d vs k lane)) e))
+      (record { numbers = omega arith; place = omega arith })
+
   emits-finish : (o : Option PlainMultiplier) (step open_loops table i from free : ℕ) (us vs : List ℕ) (k : ℕ) →
       IsCoded (frame_of c pass.work) open_loops pass.scatters i us q (store_at c pass q vs k) → store_at c pass q vs k + c.lanes ≤ c.size →
-      ((d : PlainMultiplier) → o ≡ Some d → IsMultipliedAt c pass q d step open_loops i us vs k) → ((d : PlainMultiplier) → o ≡ Some d → slice_index_or p.tables table [] ≡ diagonal_of c.modulus d.factors) →
+      ((d : PlainMultiplier) → o ≡ Some d → IsMultipliedAt c pass q d step open_loops i us vs k) → ((d : PlainMultiplier) → o ≡ Some d → one_factor d.factors ≡ None → slice_index_or p.tables table [] ≡ diagonal_of c.modulus d.factors) →
       Emits (steps_of_body p (finish_body (frame_of c pass.work) step o pass.scatters open_loops table target i from free) us q) (finish_acts c pass o (start_of c target) q vs k from free)
   emits-finish None step open_loops table i from free us vs k coded inside multiplied there =
       emits-store c p here q (frame_of c pass.work) open_loops target pass.scatters i from us (store_at c pass q vs k) coded inside
   emits-finish (Some d) step open_loops table i from free us vs k coded inside multiplied there =
       let f = frame_of c pass.work in
       let place : PlainExpr = place_at f open_loops d.places i in
-      emits-then p q (statements.MulTable free from table place step) (do_only (statements.Store target (place_at f open_loops pass.scatters i) free)) us (Mul free from (factors_at c pass d q vs k))
+      emits-then p q (product_op (one_factor d.factors) free from table place step) (do_only (statements.Store target (place_at f open_loops pass.scatters i) free)) us (Mul free from (factors_at c pass d q vs k))
       (Store (start_of c target + store_at c pass q vs k) free ∷ [])
-      (emits-multiplied d step open_loops table i from free us vs k (multiplied d refl) (there d refl))
+      (emits-factor (one_factor d.factors) d step open_loops table i from free us vs k refl (multiplied d refl) (there d refl))
       (emits-store c p here q f open_loops target pass.scatters i free us (store_at c pass q vs k) coded inside)
 
   emits-stored : (step open_loops table i from free : ℕ) (us vs : List ℕ) (k : ℕ) → IsStoredAt c pass q step open_loops i us vs k → HasDiagonal table →

@@ -5,6 +5,7 @@ pub mod PlainSteps
 mod Coded
 pub mod Emits
 pub mod SharedTables
+pub mod OneFactor
 mod Places
 mod PlaceNumbers
 mod Emitted

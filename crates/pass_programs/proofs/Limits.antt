@@ -17,11 +17,12 @@ use Rattle.pass_actions.specs.Acts.{nest_registers}
 use Rattle.pass_programs.specs.Conditions.{AreWithin, CanWriteNest}
 use Rattle.pass_actions.specs.Laws.{CanRunNest}
 use Rattle.pass_actions.specs.Machine.{PlainMachine, PlainFrame, frame_of, loop_counts}
-use Rattle.pass_programs.specs.Statements.{diagonal_of, powers_of, finish_body, followed_by, horner_body, in_a_row, product_place, loads_body, multiplier_number, nest_body, place_at, powers_number, rows_body, straight_body, tables_of_multiplier, tables_of_nest, tables_of_work, term_body, work_body}
+use Rattle.pass_programs.specs.Statements.{diagonal_of, diagonal_number, one_factor, powers_of, finish_body, followed_by, horner_body, in_a_row, product_place, loads_body, multiplier_number, nest_body, place_at, powers_number, rows_body, straight_body, tables_of_multiplier, tables_of_nest, tables_of_work, term_body, with_diagonal, work_body}
 use Rattle.pass_programs.proofs.BodyLimits.{ArePlaces, both, finish-within, horner-within, loads-within, product-within, small-is, straight-within, term-within, within-do, within-followed, within-in_a_row, within-loop, within-nested}
 use Rattle.pass_actions.proofs.Fillings.{working}
 use Rattle.pass_actions.proofs.KernelActions.{AreOperations, tree-operates}
 use Rattle.pass_actions.proofs.Kernels.{kernel-runs}
+use Rattle.pass_programs.proofs.OneFactor.{OneIsBelow, one-below}
 use Rattle.pass_programs.proofs.SharedTables.{number-small, with_table-longer}
 use Rattle.pass_actions.proofs.StraightCopies.{finish-few}
 use Rattle.passes.specs.Merge.{limits_of}
@@ -34,13 +35,21 @@ places-within cs f n open_loops sums enough h i below = h.within i (constant 0) 
 
 -- ---- tables
 
+diagonal-small : (o : Option ℕ) (ts : List (List ℕ)) (entries : List ℕ) → diagonal_number o ts entries ≤ length ts
+diagonal-small None ts entries = number-small ts entries
+diagonal-small (Some value) ts entries = omega arith
+
 multiplier-small : (m : ℕ) (o : Option PlainMultiplier) (ts : List (List ℕ)) → multiplier_number m o ts ≤ length ts
 multiplier-small m None ts = omega arith
-multiplier-small m (Some d) ts = number-small ts (diagonal_of m d.factors)
+multiplier-small m (Some d) ts = diagonal-small (one_factor d.factors) ts (diagonal_of m d.factors)
+
+diagonal-longer : (o : Option ℕ) (ts : List (List ℕ)) (entries : List ℕ) → length ts ≤ length (with_diagonal o ts entries)
+diagonal-longer None ts entries = with_table-longer ts entries
+diagonal-longer (Some value) ts entries = omega arith
 
 multiplier-longer : (m : ℕ) (o : Option PlainMultiplier) (ts : List (List ℕ)) → length ts ≤ length (tables_of_multiplier m o ts)
 multiplier-longer m None ts = omega arith
-multiplier-longer m (Some d) ts = with_table-longer ts (diagonal_of m d.factors)
+multiplier-longer m (Some d) ts = diagonal-longer (one_factor d.factors) ts (diagonal_of m d.factors)
 
 work-longer : (m : ℕ) (w : PlainWork) (ts : List (List ℕ)) → length ts ≤ length (tables_of_work m w ts)
 work-longer m (kernel kind root t) ts = omega arith
@@ -82,9 +91,9 @@ module _ (c : PlainMachine) (lanes : 0 < c.lanes) (modulus : 2 ≤ c.modulus) (s
       let all : length (loop_counts c z) + 0 ≡ length (loop_counts c z) = omega arith in
       subst (λ (o : ℕ). ArePlaces (frame_of c z.work) n o sums) all (places-within (limits_of z) (frame_of c z.work) n (length (loop_counts c z) + 0) sums enough h)
 
-  rows-within : (z : PlainNest) (n : ℕ) (turn : PlainBody) → let deep = length (loop_counts c z) in deep + 2 < 64 → 0 < n → n < 2 ^ 32 → is_body_within m turn (deep + 2) ≡ true → ArePlaces (frame_of c z.work) 1 (deep + 1) z.scatters →
+  rows-within : (z : PlainNest) (n : ℕ) (turn : PlainBody) → OneIsBelow m z.multiplier → let deep = length (loop_counts c z) in deep + 2 < 64 → 0 < n → n < 2 ^ 32 → is_body_within m turn (deep + 2) ≡ true → ArePlaces (frame_of c z.work) 1 (deep + 1) z.scatters →
       ((d : PlainMultiplier) → z.multiplier ≡ Some d → ArePlaces (frame_of c z.work) 1 (deep + 1) d.places) → is_body_within m (rows_body (frame_of c z.work) z deep n turn table target) deep ≡ true
-  rows-within z n turn shallow some small within places multiplied =
+  rows-within z n turn one shallow some small within places multiplied =
       let f = frame_of c z.work in
       let deep = length (loop_counts c z) in
       let two : deep + 2 ≡ deep + 1 + 1 = omega arith in
@@ -93,7 +102,7 @@ module _ (c : PlainMachine) (lanes : 0 < c.lanes) (modulus : 2 ≤ c.modulus) (s
       (within-do m (statements.Zero 0) (AndStmts (Loop n turn) finish) (deep + 1) refl
       (within-loop m n turn finish (deep + 1) some small (omega arith)
       (subst (λ (o : ℕ). is_body_within m turn o ≡ true) two within)
-      (finish-within m f 0 z.multiplier 1 (deep + 1) table 0 0 3 z.scatters target (omega arith) (omega arith) places multiplied second (omega arith) (omega arith))))
+      (finish-within m f 0 z.multiplier 1 (deep + 1) table 0 0 3 z.scatters target one (omega arith) (omega arith) places multiplied second (omega arith) (omega arith))))
       refl
 
   work-within : (p : PlainNest) (w : PlainWork) → CanRunNest c (working p w) → CanWriteNest c (working p w) → nest_registers c (working p w) w < 2 ^ 20 →
@@ -116,7 +125,7 @@ module _ (c : PlainMachine) (lanes : 0 < c.lanes) (modulus : 2 ≤ c.modulus) (s
       (within-in_a_row m n outputs deep
       (λ k below.
       let out : slice_index made.outs k < made.next = at-AllBelow made.next made.outs k done.below (let sized = done.sized in omega arith) in
-      finish-within m f 0 z.multiplier n deep table k (slice_index made.outs k) (made.next + k) z.scatters target (omega arith) below (alone-within z n z.scatters writes.scatters.0.enough writes.scatters.1)
+      finish-within m f 0 z.multiplier n deep table k (slice_index made.outs k) (made.next + k) z.scatters target (one-below c z can.residues) (omega arith) below (alone-within z n z.scatters writes.scatters.0.enough writes.scatters.1)
       (λ d is. alone-within z n d.places (writes.multiplier d is).0.enough (writes.multiplier d is).1) second (omega arith) (omega arith))))
   work-within p (copy n) can writes few =
       let z : PlainNest = working p (copy n) in
@@ -125,7 +134,7 @@ module _ (c : PlainMachine) (lanes : 0 < c.lanes) (modulus : 2 ≤ c.modulus) (s
       within-in_a_row m n (λ k. AndStmts (Do (statements.Load 0 source (place_at f deep z.gathers k))) (finish_body f 0 z.multiplier z.scatters deep table target k 0 1)) deep
       (λ k below.
       within-do m (statements.Load 0 source (place_at f deep z.gathers k)) (finish_body f 0 z.multiplier z.scatters deep table target k 0 1) deep (both _ _ (small-is 0 (omega arith)) (alone-within z n z.gathers writes.gathers.0.enough writes.gathers.1 k below))
-      (finish-within m f 0 z.multiplier n deep table k 0 1 z.scatters target (omega arith) below (alone-within z n z.scatters writes.scatters.0.enough writes.scatters.1)
+      (finish-within m f 0 z.multiplier n deep table k 0 1 z.scatters target (one-below c z can.residues) (omega arith) below (alone-within z n z.scatters writes.scatters.0.enough writes.scatters.1)
       (λ d is. alone-within z n d.places (writes.multiplier d is).0.enough (writes.multiplier d is).1) second (omega arith) (omega arith)))
   work-within p (tile v) can writes few =
       let z : PlainNest = working p (tile v) in
@@ -138,13 +147,13 @@ module _ (c : PlainMachine) (lanes : 0 < c.lanes) (modulus : 2 ≤ c.modulus) (s
       (within-do m (statements.Tile v 0) (in_a_row v outputs) deep (both _ _ (small-is v (omega arith)) (small-is 0 (omega arith)))
       (within-in_a_row m v outputs deep
       (λ k below.
-      finish-within m f 1 z.multiplier v deep table k (v + k) (v + v + k) z.scatters target (omega arith) below (alone-within z v z.scatters writes.scatters.0.enough writes.scatters.1)
+      finish-within m f 1 z.multiplier v deep table k (v + k) (v + v + k) z.scatters target (one-below c z can.residues) (omega arith) below (alone-within z v z.scatters writes.scatters.0.enough writes.scatters.1)
       (λ d is. alone-within z v d.places (writes.multiplier d is).0.enough (writes.multiplier d is).1) second (omega arith) (omega arith))))
   work-within p (rows root n) can writes few =
       let z : PlainNest = working p (rows root n) in
       let f = frame_of c z.work in
       let deep = length (loop_counts c z) in
-      rows-within z n (term_body (place_at f (deep + 2) z.gathers 0) deep source powers n) writes.shallow can.work.0 writes.items
+      rows-within z n (term_body (place_at f (deep + 2) z.gathers 0) deep source powers n) (one-below c z can.residues) writes.shallow can.work.0 writes.items
       (term-within m (deep + 2) powers source (place_at f (deep + 2) z.gathers 0) (product_place deep n) first (places-within (limits_of z) f 1 (deep + 2) z.gathers writes.gathers.0.enough writes.gathers.1 0 (omega arith)) (product-within deep n can.work.0 writes.items))
       (places-within (limits_of z) f 1 (deep + 1) z.scatters writes.scatters.0.enough writes.scatters.1)
       (λ d is. places-within (limits_of z) f 1 (deep + 1) d.places (writes.multiplier d is).0.enough (writes.multiplier d is).1)
@@ -152,7 +161,7 @@ module _ (c : PlainMachine) (lanes : 0 < c.lanes) (modulus : 2 ≤ c.modulus) (s
       let z : PlainNest = working p (horner root n) in
       let f = frame_of c z.work in
       let deep = length (loop_counts c z) in
-      rows-within z n (horner_body (place_at f (deep + 2) z.gathers 0) deep source powers) writes.shallow can.work writes.items
+      rows-within z n (horner_body (place_at f (deep + 2) z.gathers 0) deep source powers) (one-below c z can.residues) writes.shallow can.work writes.items
       (horner-within m deep powers source (place_at f (deep + 2) z.gathers 0) first (places-within (limits_of z) f 1 (deep + 2) z.gathers writes.gathers.0.enough writes.gathers.1 0 (omega arith)))
       (places-within (limits_of z) f 1 (deep + 1) z.scatters writes.scatters.0.enough writes.scatters.1)
       (λ d is. places-within (limits_of z) f 1 (deep + 1) d.places (writes.multiplier d is).0.enough (writes.multiplier d is).1)

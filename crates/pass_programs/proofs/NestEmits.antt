@@ -12,7 +12,7 @@ use Rattle.pass_actions.specs.Acts.{load_at, store_at, copy_acts, nest_acts, ter
 use Rattle.pass_programs.specs.Conditions.{AreWithin, CanWriteNest}
 use Rattle.pass_actions.specs.Laws.{CanRunNest}
 use Rattle.pass_actions.specs.Machine.{PlainMachine, frame_of, item_of, values_of, loop_counts, lane_step}
-use Rattle.pass_programs.specs.Statements.{diagonal_of, powers_of, multiplier_number, nest_body, nested, place_at, powers_number, table_number, tables_of_multiplier, tables_of_nest, tables_of_work, term_body, horner_body, with_table, work_body}
+use Rattle.pass_programs.specs.Statements.{diagonal_of, diagonal_number, one_factor, powers_of, multiplier_number, nest_body, nested, place_at, powers_number, table_number, tables_of_multiplier, tables_of_nest, tables_of_work, term_body, horner_body, with_diagonal, with_table, work_body}
 use Rattle.pass_programs.proofs.Coded.{IsCoded, coded}
 use Rattle.pass_programs.proofs.Emits.{Emits, emits-nested}
 use Rattle.pass_programs.proofs.Emitted.{IsLoadedAt, IsStoredAt, emits-made, emits-tile, emits-rows, emits-items, emits-term, emits-horner}
@@ -32,15 +32,20 @@ use Rattle.tree_model.specs.Breakdown.{size_of}
 
 -- ---- tables
 
+diagonal-extends : (o : Option ℕ) (ts : List (List ℕ)) (entries : List ℕ) → Extends (with_diagonal o ts entries) ts
+diagonal-extends None ts entries = with_table-extends ts entries
+diagonal-extends (Some value) ts entries = record { last = []; is = sym (append-nil ts) }
+
 pub multiplier-extends : (m : ℕ) (o : Option PlainMultiplier) (ts : List (List ℕ)) → Extends (tables_of_multiplier m o ts) ts
 multiplier-extends m None ts = record { last = []; is = sym (append-nil ts) }
-multiplier-extends m (Some d) ts = with_table-extends ts (diagonal_of m d.factors)
+multiplier-extends m (Some d) ts = diagonal-extends (one_factor d.factors) ts (diagonal_of m d.factors)
 
-pub multiplier-there : (m : ℕ) (o : Option PlainMultiplier) (d : PlainMultiplier) (ts more : List (List ℕ)) → o ≡ Some d →
+pub multiplier-there : (m : ℕ) (o : Option PlainMultiplier) (d : PlainMultiplier) (ts more : List (List ℕ)) → o ≡ Some d → one_factor d.factors ≡ None →
     slice_index_or (tables_of_multiplier m o ts ++ more) (multiplier_number m o ts) [] ≡ diagonal_of m d.factors
-multiplier-there m o d ts more is =
-    subst (λ (z : Option PlainMultiplier). slice_index_or (tables_of_multiplier m z ts ++ more) (multiplier_number m z ts) [] ≡ diagonal_of m d.factors) (sym is)
-    (number-there ts (diagonal_of m d.factors) more)
+multiplier-there m o d ts more is none =
+    let entries = diagonal_of m d.factors in
+    subst (λ (z : Option PlainMultiplier). slice_index_or (tables_of_multiplier m z ts ++ more) (multiplier_number m z ts) [] ≡ entries) (sym is)
+    (subst (λ (o : Option ℕ). slice_index_or (with_diagonal o ts entries ++ more) (diagonal_number o ts entries) [] ≡ entries) (sym none) (number-there ts entries more))
 
 -- ---- places
 
@@ -159,7 +164,7 @@ module _ (c : PlainMachine) (lanes : 0 < c.lanes) (z : PlainNest) (can : CanRunN
 module _ (c : PlainMachine) (lanes : 0 < c.lanes) (modulus : 2 ≤ c.modulus) (program : PlainProgram) (here : IsFor c program) (q : ℕ) (part : q < c.procs) (source target : Array) (powers table : ℕ) where
   -- the tables of a nest
   pub record HasNestTables (z : PlainNest) : Type 0 where
-    pub diagonal : (d : PlainMultiplier) → z.multiplier ≡ Some d → slice_index_or program.tables table [] ≡ diagonal_of c.modulus d.factors
+    pub diagonal : (d : PlainMultiplier) → z.multiplier ≡ Some d → one_factor d.factors ≡ None → slice_index_or program.tables table [] ≡ diagonal_of c.modulus d.factors
     pub rows_there : (root n : ℕ) → z.work ≡ rows root n → slice_index_or program.tables powers [] ≡ powers_of c.modulus root n
     pub horner_there : (root n : ℕ) → z.work ≡ horner root n → slice_index_or program.tables powers [] ≡ powers_of c.modulus root n
 
@@ -262,7 +267,7 @@ module _ (c : PlainMachine) (lanes : 0 < c.lanes) (modulus : 2 ≤ c.modulus) (p
       let table = multiplier_number c.modulus z.multiplier (tables_of_work c.modulus z.work tables) in
       emits-loops c lanes modulus program here q part source target powers table z can writes
       (record {
-        diagonal = λ d is. ap (λ (ts : List (List ℕ)). slice_index_or ts table []) has ∙ multiplier-there c.modulus z.multiplier d (tables_of_work c.modulus z.work tables) more is;
+        diagonal = λ d is none. ap (λ (ts : List (List ℕ)). slice_index_or ts table []) has ∙ multiplier-there c.modulus z.multiplier d (tables_of_work c.modulus z.work tables) more is none;
         rows_there = λ root n is. ap (λ (ts : List (List ℕ)). slice_index_or ts powers []) has ∙ rows-table z.work z.multiplier root n is;
         horner_there = λ root n is. ap (λ (ts : List (List ℕ)). slice_index_or ts powers []) has ∙ horner-table z.work z.multiplier root n is;
       })

@@ -9,7 +9,7 @@ use Rattle.kernel_gen.specs.Making.{Made}
 use Rattle.operators.specs.Sum.{list_below}
 use Rattle.pass_programs.specs.Expressions.{expr_of}
 use Rattle.pass_actions.specs.Machine.{PlainMachine, PlainFrame, frame_of, loop_counts}
-use Rattle.passes.specs.Nest.{PlainFactors, factor_count, factor_at, PlainMultiplier, PlainNest}
+use Rattle.passes.specs.Nest.{PlainFactors, values, twiddles, repeated, spread, factor_count, factor_at, PlainMultiplier, PlainNest}
 use Rattle.passes.specs.Work.{PlainWork, kernel, rows, horner, tile, copy, work_size}
 use Rattle.perm_algebra.specs.Affine.{constant}
 use Rattle.perm_algebra.specs.Affine as affine
@@ -53,6 +53,22 @@ powers_of m root size = list_below size (power_mod m root)
 abbrev pub diagonal_of : ℕ → PlainFactors → List ℕ
 diagonal_of m factors = list_below (factor_count factors) (factor_at m factors)
 
+-- the one factor of a diagonal that repeats it
+abbrev pub one_factor : PlainFactors → Option ℕ
+one_factor (values entries) = None
+one_factor (twiddles r s root) = None
+one_factor (repeated value count) = Some value
+one_factor (spread path factors) = one_factor factors
+
+-- such a diagonal has no table
+abbrev pub with_diagonal : Option ℕ → List (List ℕ) → List ℕ → List (List ℕ)
+with_diagonal None tables entries = with_table tables entries
+with_diagonal (Some value) tables entries = tables
+
+abbrev pub diagonal_number : Option ℕ → List (List ℕ) → List ℕ → ℕ
+diagonal_number None tables entries = table_number tables entries
+diagonal_number (Some value) tables entries = 0
+
 -- the tables after those that a nest uses: its powers, and then its diagonal
 abbrev pub tables_of_work : ℕ → PlainWork → List (List ℕ) → List (List ℕ)
 tables_of_work m (rows root size) tables = with_table tables (powers_of m root size)
@@ -61,7 +77,7 @@ tables_of_work m w tables = tables
 
 abbrev pub tables_of_multiplier : ℕ → Option PlainMultiplier → List (List ℕ) → List (List ℕ)
 tables_of_multiplier m None tables = tables
-tables_of_multiplier m (Some d) tables = with_table tables (diagonal_of m d.factors)
+tables_of_multiplier m (Some d) tables = with_diagonal (one_factor d.factors) tables (diagonal_of m d.factors)
 
 abbrev pub tables_of_nest : ℕ → PlainNest → List (List ℕ) → List (List ℕ)
 tables_of_nest m z tables = tables_of_multiplier m z.multiplier (tables_of_work m z.work tables)
@@ -72,7 +88,7 @@ tables_after m (z ∷ zs) tables = tables_after m zs (tables_of_nest m z tables)
 
 abbrev pub multiplier_number : ℕ → Option PlainMultiplier → List (List ℕ) → ℕ
 multiplier_number m None tables = 0
-multiplier_number m (Some d) tables = table_number tables (diagonal_of m d.factors)
+multiplier_number m (Some d) tables = diagonal_number (one_factor d.factors) tables (diagonal_of m d.factors)
 
 -- ---- statements of a nest
 
@@ -83,11 +99,16 @@ place_at f open_loops sums i = expr_of f open_loops (slice_index_or sums i (cons
 abbrev pub do_only : PlainOp → PlainBody
 do_only op = AndStmts (Do op) NoStmts
 
--- a register is stored, by way of a free one where it is multiplied by entries of the table, which for lanes side by side stand so far apart
+-- a register is multiplied by the one factor, or by entries of the table, which for lanes side by side stand so far apart
+abbrev pub product_op : Option ℕ → ℕ → ℕ → ℕ → PlainExpr → ℕ → PlainOp
+product_op None free from table place step = MulTable free from table place step
+product_op (Some value) free from table place step = MulConst free from value
+
+-- a register is stored, by way of a free one where it is multiplied
 abbrev pub finish_body : PlainFrame → ℕ → Option PlainMultiplier → List affine.Sum → ℕ → ℕ → Array → ℕ → ℕ → ℕ → PlainBody
 finish_body f step None scatters open_loops table target i from free = do_only (Store target (place_at f open_loops scatters i) from)
 finish_body f step (Some d) scatters open_loops table target i from free =
-    AndStmts (Do (MulTable free from table (place_at f open_loops d.places i) step)) (do_only (Store target (place_at f open_loops scatters i) free))
+    AndStmts (Do (product_op (one_factor d.factors) free from table (place_at f open_loops d.places i) step)) (do_only (Store target (place_at f open_loops scatters i) free))
 
 abbrev pub op_of : Action → PlainOp
 op_of (actions.Load r address) = Zero r

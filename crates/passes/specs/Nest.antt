@@ -16,20 +16,23 @@ inner_of [] n = Same
 inner_of (Blocks c ∷ path) n = Paired (Always 0) 0 (inner_of path n) (size_under path n)
 inner_of (Columns c ∷ path) n = Paired (inner_of path n) 1 (Always 0) c
 
--- the factors of a diagonal: these values, the twiddles of a ct of size rows * cols by this root, or those of a diagonal under tensors
+-- the factors of a diagonal: these values, the twiddles of a ct of size rows * cols by this root, one value so many times, or those of a diagonal under tensors
 pub data PlainFactors : Type 0 where
   values : (entries : List ℕ) → PlainFactors
   twiddles : (rows cols root : ℕ) → PlainFactors
+  repeated : (value count : ℕ) → PlainFactors
   spread : (path : Path) (factors : PlainFactors) → PlainFactors
 
 abbrev pub factor_count : PlainFactors → ℕ
 factor_count (values entries) = length entries
 factor_count (twiddles r s root) = r * s
+factor_count (repeated v n) = n
 factor_count (spread path factors) = size_under path (factor_count factors)
 
 abbrev pub factor_at : ℕ → PlainFactors → ℕ → ℕ
 factor_at m (values entries) i = slice_index entries i
 factor_at m (twiddles r s root) i = twiddle m s root i
+factor_at m (repeated v n) i = v
 factor_at m (spread path factors) i = factor_at m factors (at (inner_of path (factor_count factors)) i)
 
 -- the place in the diagonal of each item that is stored

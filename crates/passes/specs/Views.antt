@@ -2,10 +2,10 @@
 use Rattle.std.specs.Prelude.{map}
 use Rattle.std.specs.Option.{option_map}
 use Rattle.passes.specs.Merged.{PlainMerged}
-use Rattle.passes.specs.Nest.{PlainFactors, values, twiddles, spread, PlainMultiplier, PlainNest}
+use Rattle.passes.specs.Nest.{PlainFactors, values, twiddles, repeated, spread, PlainMultiplier, PlainNest}
 use Rattle.passes.specs.Work.{PlainWork, kernel, rows, horner, tile, copy}
 use Rattle.passes.specs.declared.nest.Factors.{Factors}
-use Rattle.passes.specs.declared.nest.Factors.TheVariants.{Values, Twiddles, Spread'}
+use Rattle.passes.specs.declared.nest.Factors.TheVariants.{Values, Twiddles, Repeated, Spread'}
 use Rattle.passes.specs.declared.nest.Merged.{Merged}
 use Rattle.passes.specs.declared.nest.Multiplier.{Multiplier}
 use Rattle.passes.specs.declared.nest.Nest.{Nest}
@@ -28,6 +28,7 @@ plain_work (Copy size) = copy size
 abbrev pub plain_factors : Factors → PlainFactors
 plain_factors (Values entries) = values entries.items
 plain_factors (Twiddles r s root) = twiddles r s root
+plain_factors (Repeated value count) = repeated value count
 plain_factors (Spread' path p factors) = spread path.items (plain_factors factors)
 
 abbrev pub plain_multiplier : Multiplier → PlainMultiplier

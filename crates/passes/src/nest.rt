@@ -16,6 +16,11 @@ pub enum Factors {
         cols: u64,
         root: u64,
     },
+    /// This value, so many times.
+    Repeated {
+        value: u64,
+        count: u64,
+    },
     /// Those of a diagonal under the tensors of a path, from the outside in.
     Spread {
         path: Vec<Tensor>,

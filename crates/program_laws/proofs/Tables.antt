@@ -12,7 +12,7 @@ use Rattle.pass_programs.specs.Conditions.{CanWriteNest}
 use Rattle.pass_actions.specs.Laws.{CanRunNest, CanWork}
 use Rattle.pass_actions.specs.Machine.{PlainMachine}
 use Rattle.pass_programs.specs.Program.{tables_through, tables_of_phases}
-use Rattle.pass_programs.specs.Statements.{with_table, is_table, tables_after, tables_of_nest, tables_of_work, tables_of_multiplier, powers_of, diagonal_of}
+use Rattle.pass_programs.specs.Statements.{with_diagonal, with_table, is_table, one_factor, tables_after, tables_of_nest, tables_of_work, tables_of_multiplier, powers_of, diagonal_of}
 use Rattle.pass_actions.proofs.Copies.{nest-can}
 use Rattle.pass_actions.proofs.KernelActions.{power_below}
 use Rattle.passes.specs.Nest.{PlainMultiplier, PlainNest, factor_at, factor_count}
@@ -80,11 +80,15 @@ module _ (c : PlainMachine) (residues : 0 < c.modulus) where
   work-within (tile v) tables can h = h
   work-within (copy n) tables can h = h
 
+  diagonal-within : (o : Option ℕ) (tables : List (List ℕ)) (entries : List ℕ) → IsTableWithin c.modulus residues entries → AreWithin tables → AreWithin (with_diagonal o tables entries)
+  diagonal-within None tables entries one h = with_table-within c.modulus residues tables entries h one
+  diagonal-within (Some value) tables entries one h = h
+
   multiplier-within : (o : Option PlainMultiplier) (tables : List (List ℕ)) → ((d : PlainMultiplier) → o ≡ Some d → 0 < factor_count d.factors) → ((d : PlainMultiplier) → o ≡ Some d → (i : ℕ) → factor_at c.modulus d.factors i < c.modulus) →
       AreWithin tables → AreWithin (tables_of_multiplier c.modulus o tables)
   multiplier-within None tables some small h = h
   multiplier-within (Some d) tables some small h =
-      with_table-within c.modulus residues tables (diagonal_of c.modulus d.factors) h (list-within c.modulus residues (factor_count d.factors) (factor_at c.modulus d.factors) (some d refl) (small d refl))
+      diagonal-within (one_factor d.factors) tables (diagonal_of c.modulus d.factors) (list-within c.modulus residues (factor_count d.factors) (factor_at c.modulus d.factors) (some d refl) (small d refl)) h
 
   nest-within : (z : PlainNest) (tables : List (List ℕ)) → CanRunNest c z → CanWriteNest c z → AreWithin tables → AreWithin (tables_of_nest c.modulus z tables)
   nest-within z tables can writes h = multiplier-within z.multiplier (tables_of_work c.modulus z.work tables) (λ d is. (writes.multiplier d is).2) can.residues (work-within z.work tables can.work h)
