@@ -1,12 +1,12 @@
 -- The statements of works, put together.
-use Rattle.std.proofs.Common.{◌≡◌, ℕ, ◌+◌, ◌≤◌, List, length, get_or, map, sym, ap, ap₂, ◌∙◌, arith, subst}
+use Rattle.std.proofs.Common.{◌≡◌, ℕ, ◌+◌, ◌≤◌, List, length, get_or, map, sym, ap, ◌∙◌, arith, subst}
 use Rattle.std.specs.Prelude.{Option, Some}
 use Rattle.std.proofs.lemmas.List.{get_or-map, length-map}
 use Rattle.icode.specs.declared.program.Array.{Array}
-use Rattle.icode.specs.Plain.{PlainBody, PlainExpr, NoStmts, AndStmts, Do, Store, MulTable}
+use Rattle.icode.specs.Plain.{PlainBody, PlainExpr, PlainOp, AndStmts, Do, Store}
 use Rattle.pass_actions.specs.Machine.{PlainFrame}
 use Rattle.pass_programs.specs.Conditions.{CanWrite}
-use Rattle.pass_programs.specs.Statements.{finish_body, followed_by, place_at}
+use Rattle.pass_programs.specs.Statements.{do_only, finish_body, followed_by, one_factor, place_at, product_op}
 use Rattle.passes.specs.Nest.{PlainMultiplier}
 use Rattle.perm_algebra.specs.Affine.{Sum, constant}
 use Rattle.perm_algebra.specs.Views.{plain_sum}
@@ -24,12 +24,12 @@ writable-at sums i e places is =
 
 module _ (f : PlainFrame) where
   -- a product, and the store of it
-  pub stored-product : (old one two : PlainBody) (o : Option PlainMultiplier) (m : PlainMultiplier) (scatters : List Sum) (place entry : PlainExpr) (step open_loops table : ℕ) (target : Array) (item from free : ℕ) →
-      o ≡ Some m → place ≡ place_at f open_loops scatters item → entry ≡ place_at f open_loops m.places item →
-      one ≡ followed_by old (AndStmts (Do (MulTable free from table entry step)) NoStmts) → two ≡ followed_by one (AndStmts (Do (Store target place free)) NoStmts) →
+  pub stored-product : (old one two : PlainBody) (o : Option PlainMultiplier) (m : PlainMultiplier) (scatters : List Sum) (place : PlainExpr) (step open_loops table : ℕ) (target : Array) (item from free : ℕ) → o ≡ Some m → place ≡ place_at f open_loops scatters item →
+      one ≡ followed_by old (do_only (product_op (one_factor m.factors) free from table (place_at f open_loops m.places item) step)) → two ≡ followed_by one (do_only (Store target place free)) →
       two ≡ followed_by old (finish_body f step o scatters open_loops table target item from free)
-  stored-product old one two o m scatters place entry step open_loops table target item from free is to at first second =
-      second ∙ ap (λ (b : PlainBody). followed_by b (AndStmts (Do (Store target place free)) NoStmts)) first
-      ∙ followed-one old (AndStmts (Do (Store target place free)) NoStmts) (Do (MulTable free from table entry step))
-      ∙ ap₂ (λ (e p : PlainExpr). followed_by old (AndStmts (Do (MulTable free from table e step)) (AndStmts (Do (Store target p free)) NoStmts))) at to
+  stored-product old one two o m scatters place step open_loops table target item from free is to first second =
+      let op : PlainOp = product_op (one_factor m.factors) free from table (place_at f open_loops m.places item) step in
+      second ∙ ap (λ (b : PlainBody). followed_by b (do_only (Store target place free))) first
+      ∙ followed-one old (do_only (Store target place free)) (Do op)
+      ∙ ap (λ (p : PlainExpr). followed_by old (AndStmts (Do op) (do_only (Store target p free)))) to
       ∙ sym (ap (λ (z : Option PlainMultiplier). followed_by old (finish_body f step z scatters open_loops table target item from free)) is)

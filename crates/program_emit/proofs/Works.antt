@@ -12,7 +12,7 @@ use Rattle.pass_programs.specs.Conditions.{CanWritePass}
 use Rattle.pass_programs.specs.Contract.{CanProgram, IsHost, all_passes, most_actions}
 use Rattle.pass_programs.specs.Program.{count_in}
 use Rattle.passes.specs.Merged.{PlainMerged}
-use Rattle.passes.specs.Nest.{PlainFactors, values, twiddles, spread, PlainMultiplier, PlainNest, factor_count}
+use Rattle.passes.specs.Nest.{PlainFactors, values, twiddles, repeated, spread, PlainMultiplier, PlainNest, factor_count}
 use Rattle.passes.specs.Views.{plain_nest}
 use Rattle.passes.specs.Work.{PlainWork, kernel, work_size}
 use Rattle.passes.specs.declared.nest.Nest.{Nest}
@@ -40,6 +40,7 @@ kernel-sized h z kind root t is can =
 can-list : (factors : PlainFactors) → 0 < factor_count factors → factor_count factors < 2 ^ 32 → CanList factors
 can-list (values entries) some small = tt
 can-list (twiddles r s root) some small = (columns-some r s some, small)
+can-list (repeated v n) some small = tt
 can-list (spread path factors) some small =
     let inner = inner-some path (factor_count factors) some in
     let low = inner.1 in (can-list factors inner.0 (omega arith), some, small)

@@ -5,7 +5,7 @@ use Rattle.pass_actions.specs.Laws.{CanRunNest}
 use Rattle.pass_actions.specs.Machine.{PlainMachine}
 use Rattle.pass_programs.specs.Conditions.{CanWrite, CanWriteNest}
 use Rattle.passes.specs.Merged.{PlainMerged}
-use Rattle.passes.specs.Nest.{PlainFactors, values, twiddles, spread, PlainMultiplier, PlainNest, factor_count}
+use Rattle.passes.specs.Nest.{PlainFactors, values, twiddles, repeated, spread, PlainMultiplier, PlainNest, factor_count}
 use Rattle.perm_algebra.specs.Affine.{Sum}
 use Rattle.tensor_paths.specs.Path.{size_under}
 
@@ -23,6 +23,7 @@ pub record CanStore (n : ℕ) (z : PlainNest) : Type 0 where
 abbrev pub CanList : PlainFactors → Type 0
 CanList (values entries) = Unit {0}
 CanList (twiddles r s root) = (0 < s) × (r * s < 2 ^ 32)
+CanList (repeated v n) = Unit {0}
 CanList (spread path factors) = CanList factors × (0 < size_under path (factor_count factors)) × (size_under path (factor_count factors) < 2 ^ 32)
 
 abbrev pub HasFactors : Option PlainMultiplier → Type 0

@@ -3,7 +3,7 @@ ghost use Rattle.std.specs.Prelude.{◌≡◌, ℕ, ◌^◌, ◌<◌, IfOk, leng
 ghost use Rattle.index_fn.specs.Mapping.{at};
 ghost use Rattle.matrix_meaning.specs.Laws.{twiddle};
 ghost use Rattle.operators.specs.Sum.{list_below};
-ghost use Rattle.pass_programs.specs.Statements.{diagonal_of};
+ghost use Rattle.pass_programs.specs.Statements.{diagonal_of, one_factor};
 ghost use Rattle.passes.specs.Nest.{inner_of};
 ghost use Rattle.passes.specs.Views.{plain_factors};
 ghost use Rattle.program_emit.specs.Conditions.{CanList};
@@ -75,6 +75,29 @@ fn spread(alloc: Global, path: &[Tensor], inner: &[u64]) -> Result<Vec<u64>, NoM
     Ok(items)
 }
 
+// A factor, so many times.
+fn repeated(alloc: Global, factor: u64, count: u64) -> Result<Vec<u64>, NoMemory>
+    ensures { IfOk result (λ y. y.items ≡ list_below count (λ _. factor)) }
+{
+    let mut items = Vec::new(alloc);
+    for _ in 0..count {
+        items.push(factor)?;
+    }
+    Ok(items)
+}
+
+/// The one factor of a diagonal that repeats it.
+pub(crate) fn one_factor(factors: &Factors) -> Option<u64>
+    ensures { result ≡ one_factor (plain_factors factors.now) }
+{
+    match factors {
+        Factors::Values(_) => None,
+        Factors::Twiddles { .. } => None,
+        Factors::Repeated { value, .. } => Some(*value),
+        Factors::Spread { factors, .. } => one_factor(factors),
+    }
+}
+
 /// The entries of a diagonal.
 pub(crate) fn diagonal(
     alloc: Global,
@@ -91,6 +114,10 @@ pub(crate) fn diagonal(
         }
         Factors::Twiddles { rows, cols, root } => {
             let entries = twiddles(alloc, modulus, *root, *cols, *rows * *cols)?;
+            Ok(entries)
+        }
+        Factors::Repeated { value, count } => {
+            let entries = repeated(alloc, *value, *count)?;
             Ok(entries)
         }
         Factors::Spread { path, factors } => {

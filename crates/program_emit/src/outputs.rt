@@ -1,15 +1,16 @@
 // Stores of a nest, with the products before them.
 ghost use Rattle.std.specs.Prelude.{◌≡◌, ◌+◌, ◌<◌, ◌^◌, IfOk, OnOk, map};
 ghost use Rattle.std.specs.Option.{option_map};
-ghost use Rattle.icode.specs.Plain.{MulTable, Store, plain_body, plain_expr};
+ghost use Rattle.icode.specs.Plain.{Store, plain_body, plain_expr};
 ghost use Rattle.pass_actions.specs.Acts.{with_multiplier};
-ghost use Rattle.pass_programs.specs.Statements.{do_only, finish_body, followed_by};
+ghost use Rattle.pass_programs.specs.Statements.{do_only, finish_body, followed_by, one_factor, product_op};
 ghost use Rattle.pass_programs.specs.Statements as statements;
 ghost use Rattle.passes.specs.Views.{plain_multiplier, plain_nest};
 ghost use Rattle.perm_algebra.specs.Views.{plain_sum};
 ghost use Rattle.program_emit.specs.Conditions.{CanStore, HasPlaces};
 ghost use Rattle.program_emit.specs.Views.{plain_frame};
 
+use crate::factors::one_factor;
 use crate::host::Frame;
 use crate::places::place_expr;
 use crate::site::{Item, Site};
@@ -49,27 +50,54 @@ fn put_store(out: &mut Vec<Stmt>, array: Array, place: Expr, register: u64) -> R
     Ok(())
 }
 
-// Appends the product of an item's register and entries of a table, of which the first has this place.
+// Appends the product of an item's register and the one factor of a diagonal, or entries of its table.
 fn put_product(
+    alloc: Global,
     out: &mut Vec<Stmt>,
-    item: Item,
-    table: u64,
-    place: Expr,
+    multiplier: &Multiplier,
+    site: Site,
     step: u64,
+    item: Item,
 ) -> Result<(), NoMemory>
-    ensures { OnOk result (plain_body out.new.items ≡ followed_by (plain_body out.old.items) (do_only (MulTable item.free item.from table (plain_expr place) step))) }
+    requires { HasPlaces (item.number + 1) (plain_multiplier multiplier.now).places }
+    ensures { OnOk result (let d = plain_multiplier multiplier.now in plain_body out.new.items ≡ followed_by (plain_body out.old.items)
+        (do_only (product_op (one_factor d.factors) item.free item.from site.table (statements.place_at (plain_frame site.frame) site.open_loops d.places item.number) step))) }
 {
-    put_op(
-        out,
-        Op::MulTable {
-            register: item.free,
-            source: item.from,
-            table,
-            place,
-            step,
-        },
-    )?;
-    Ok(())
+    let register = item.free;
+    let source = item.from;
+    match one_factor(&multiplier.factors) {
+        Some(factor) => {
+            put_op(
+                out,
+                Op::MulConst {
+                    register,
+                    source,
+                    factor,
+                },
+            )?;
+            Ok(())
+        }
+        None => {
+            let place = place_at(
+                alloc,
+                site.frame,
+                &multiplier.places,
+                item.number,
+                site.open_loops,
+            )?;
+            put_op(
+                out,
+                Op::MulTable {
+                    register,
+                    source,
+                    table: site.table,
+                    place,
+                    step,
+                },
+            )?;
+            Ok(())
+        }
+    }
 }
 
 /// Appends the store of an item, multiplied where the nest has a diagonal. The factors of two lanes that lie side by side
@@ -86,22 +114,21 @@ pub(crate) fn put_output(
     ensures { OnOk result (let z = plain_nest nest.now in plain_body out.new.items ≡ followed_by (plain_body out.old.items)
         (finish_body (plain_frame site.frame) step z.multiplier z.scatters site.open_loops site.table site.target item.number item.from item.free)) }
 {
-    let Site {
-        frame,
-        open_loops,
-        table,
-        target,
-        ..
-    } = site;
-    let place = place_at(alloc, frame, &nest.scatters, item.number, open_loops)?;
+    let target = site.target;
+    let place = place_at(
+        alloc,
+        site.frame,
+        &nest.scatters,
+        item.number,
+        site.open_loops,
+    )?;
     match &nest.multiplier {
         None => {
             put_store(out, target, place, item.from)?;
             Ok(())
         }
         Some(multiplier) => {
-            let entry = place_at(alloc, frame, &multiplier.places, item.number, open_loops)?;
-            put_product(out, item, table, entry, step)?;
+            put_product(alloc, out, multiplier, site, step, item)?;
             put_store(out, target, place, item.free)?;
             Ok(())
         }

@@ -2,13 +2,13 @@
 ghost use Rattle.std.specs.Prelude.{◌≡◌, ◌^◌, ◌<◌, IfOk, OnOk};
 ghost use Rattle.std.specs.Option.{option_map};
 ghost use Rattle.icode.specs.Plain.{plain_tables};
-ghost use Rattle.pass_programs.specs.Statements.{multiplier_number, powers_number, powers_of, table_number, tables_of_multiplier, tables_of_work, with_table};
-ghost use Rattle.passes.specs.Views.{plain_multiplier, plain_work};
-ghost use Rattle.program_emit.specs.Conditions.{HasFactors};
+ghost use Rattle.pass_programs.specs.Statements.{diagonal_number, diagonal_of, multiplier_number, one_factor, powers_number, powers_of, table_number, tables_of_multiplier, tables_of_work, with_diagonal, with_table};
+ghost use Rattle.passes.specs.Views.{plain_factors, plain_multiplier, plain_work};
+ghost use Rattle.program_emit.specs.Conditions.{CanList, HasFactors};
 
-use crate::factors::diagonal;
+use crate::factors::{diagonal, one_factor};
 use memory::NoMemory;
-use passes::{Multiplier, Work};
+use passes::{Factors, Multiplier, Work};
 use ring_mod::Modulus;
 use std::alloc::Global;
 
@@ -70,7 +70,28 @@ pub(crate) fn number_powers(
     }
 }
 
-/// The number of the table of a multiplier's diagonal, and 0 where there is no multiplier.
+// The number of the table of a diagonal, and 0 where it repeats one factor.
+fn number_diagonal(
+    alloc: Global,
+    modulus: &Modulus,
+    factors: &Factors,
+    tables: &mut Vec<Vec<u64>>,
+) -> Result<u64, NoMemory>
+    requires { CanList (plain_factors factors.now) }
+    ensures number { IfOk result (λ n. let d = plain_factors factors.now in n ≡ diagonal_number (one_factor d) (plain_tables tables.old.items) (diagonal_of modulus.now d)) }
+    ensures tables { OnOk result (let d = plain_factors factors.now in plain_tables tables.new.items ≡ with_diagonal (one_factor d) (plain_tables tables.old.items) (diagonal_of modulus.now d)) }
+{
+    match one_factor(factors) {
+        Some(_) => Ok(0),
+        None => {
+            let entries = diagonal(alloc, modulus, factors)?;
+            let number = share_table(tables, entries)?;
+            Ok(number)
+        }
+    }
+}
+
+/// The number of the table of a multiplier's diagonal, and 0 where there is no multiplier or no table.
 pub(crate) fn number_multiplier(
     alloc: Global,
     modulus: &Modulus,
@@ -84,8 +105,7 @@ pub(crate) fn number_multiplier(
     match multiplier {
         None => Ok(0),
         Some(multiplier) => {
-            let entries = diagonal(alloc, modulus, &multiplier.factors)?;
-            let number = share_table(tables, entries)?;
+            let number = number_diagonal(alloc, modulus, &multiplier.factors, tables)?;
             Ok(number)
         }
     }

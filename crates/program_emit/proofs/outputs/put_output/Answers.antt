@@ -1,19 +1,16 @@
-use Rattle.std.proofs.Common.{◌+◌, List, map, sym, ap, ◌∙◌, subst}
+use Rattle.std.proofs.Common.{List, map, ap, ◌∙◌}
 use Rattle.std.specs.Option.{option_map}
 use Rattle.icode.specs.Plain.{plain_body, plain_expr}
 use Rattle.pass_programs.specs.Statements.{place_at}
 use Rattle.passes.specs.Views.{plain_multiplier}
 use Rattle.perm_algebra.specs.Views.{plain_sum}
 use Rattle.perm_algebra.specs.declared.Affine.{Affine}
-use Rattle.program_emit.specs.Conditions.{HasPlaces}
 use Rattle.program_emit.specs.Views.{plain_frame}
 use Rattle.program_emit.proofs.StatementRules.{stored-product}
 use Rattle.program_emit.proofs.outputs.put_output.Goals as goal
 
-pub place_at-requires-in-Some : goal.place_at-requires-in-Some
-place_at-requires-in-Some c =
-    subst (λ (xs : List Affine). HasPlaces (c.args.item.number + 1) (map plain_sum xs)) (sym c.deref-in-Some.ensures.value)
-    (c.requires.multiplies (plain_multiplier c.in-Some.multiplier) (ap (option_map plain_multiplier) c.in-Some.is))
+pub put_product-requires : goal.put_product-requires
+put_product-requires c = c.requires.multiplies (plain_multiplier c.in-Some.multiplier) (ap (option_map plain_multiplier) c.in-Some.is)
 
 pub returns-in_ok-put_store-in-Some : goal.returns-in_ok-put_store-in-Some
 returns-in_ok-put_store-in-Some c =
@@ -21,9 +18,8 @@ returns-in_ok-put_store-in-Some c =
     let f = plain_frame s.frame in
     let item = c.args.item in
     stored-product f (plain_body c.args.out.now.items) (plain_body c.put_product.new.out.items) (plain_body c.put_store-in-Some.new.out.items) (option_map plain_multiplier c.args.nest.now.multiplier) (plain_multiplier c.in-Some.multiplier)
-    (map plain_sum c.args.nest.now.scatters.items) (plain_expr c.in_ok-place.place) (plain_expr c.in_ok-entry-in-Some.entry) c.args.step s.open_loops s.table s.target item.number item.from item.free
+    (map plain_sum c.args.nest.now.scatters.items) (plain_expr c.in_ok-place.place) c.args.step s.open_loops s.table s.target item.number item.from item.free
     (ap (option_map plain_multiplier) c.in-Some.is)
     (c.in_ok-place.ensures ∙ ap (λ (xs : List Affine). place_at f s.open_loops (map plain_sum xs) item.number) c.deref.ensures.value)
-    (c.in_ok-entry-in-Some.ensures ∙ ap (λ (xs : List Affine). place_at f s.open_loops (map plain_sum xs) item.number) c.deref-in-Some.ensures.value)
     c.in_ok-put_product-in-Some.ensures
     c.in_ok-put_store-in-Some.ensures
