@@ -1,3 +1,0 @@
-pub mod Multiplied
-pub mod Laws
-pub mod Views
