@@ -1,0 +1,81 @@
+-- The counts of parts of a list of actions, one after another.
+use Rattle.std.proofs.Common.{◌≡◌, ℕ, suc, ◌+◌, ◌-◌, ◌*◌, ◌<◌, List, [], ◌∷◌, ◌++◌, length, flat_map, sym, ap, ap₂, ◌∙◌, arith, subst}
+use Rattle.std.specs.Prelude.{sum_by}
+use Rattle.std.specs.List.{range_with_len}
+use Rattle.std.proofs.lemmas.List.{length-map}
+use Rattle.std.proofs.lemmas.List.Sums.{sum_by-cons}
+use Rattle.icode.specs.Actions.{plain_code}
+use Rattle.icode.specs.Machine.{acts, counts_of, weighted}
+use Rattle.icode.specs.Plain.{PlainProgram}
+use Rattle.icode.specs.declared.action.Action.{Action}
+use Rattle.icode.specs.declared.action.Action.TheVariants.{Load, Store, Zero, Add, Sub, Neg, Mul, Tile}
+use Rattle.icode.specs.declared.program.Array.{Array}
+use Rattle.icode.specs.declared.program.Array.TheVariants.{X}
+use Rattle.pass_actions.specs.Costs.{pass_cost, pass_loads}
+use Rattle.pass_actions.specs.Machine.{PlainMachine}
+use Rattle.pass_programs.specs.Contract.{AreParts, Performs, all_passes, joined}
+use Rattle.pass_programs.specs.Program.{target_of}
+use Rattle.passes.specs.Merged.{PlainMerged}
+use Rattle.passes.specs.Nest.{PlainNest}
+
+record AddUp (lanes : ℕ) (xs ys : List Action) : Type 0 where
+  operations : (counts_of lanes (xs ++ ys)).operations ≡ (counts_of lanes xs).operations + (counts_of lanes ys).operations
+  muls : (counts_of lanes (xs ++ ys)).muls ≡ (counts_of lanes xs).muls + (counts_of lanes ys).muls
+  loads : (counts_of lanes (xs ++ ys)).loads ≡ (counts_of lanes xs).loads + (counts_of lanes ys).loads
+  stores : (counts_of lanes (xs ++ ys)).stores ≡ (counts_of lanes xs).stores + (counts_of lanes ys).stores
+
+add-one : (lanes : ℕ) (x : Action) (xs ys : List Action) → AddUp lanes xs ys → AddUp lanes (x ∷ xs) ys
+add-one lanes (Load r a) xs ys h = record { operations = h.operations; muls = h.muls; loads = let e = h.loads in omega arith; stores = h.stores }
+add-one lanes (Store a r) xs ys h = record { operations = h.operations; muls = h.muls; loads = h.loads; stores = let e = h.stores in omega arith }
+add-one lanes (Zero r) xs ys h = record { operations = h.operations; muls = h.muls; loads = h.loads; stores = h.stores }
+add-one lanes (Add r x y) xs ys h = record { operations = let e = h.operations in omega arith; muls = h.muls; loads = h.loads; stores = h.stores }
+add-one lanes (Sub r x y) xs ys h = record { operations = let e = h.operations in omega arith; muls = h.muls; loads = h.loads; stores = h.stores }
+add-one lanes (Neg r x) xs ys h = record { operations = let e = h.operations in omega arith; muls = h.muls; loads = h.loads; stores = h.stores }
+add-one lanes (Mul r x f) xs ys h = record { operations = let e = h.operations in omega arith; muls = let e = h.muls in omega arith; loads = h.loads; stores = h.stores }
+add-one lanes (Tile r x) xs ys h = record { operations = h.operations; muls = h.muls; loads = h.loads; stores = h.stores }
+
+add-up : (lanes : ℕ) (xs ys : List Action) → AddUp lanes xs ys
+add-up lanes [] ys = record { operations = omega arith; muls = omega arith; loads = omega arith; stores = omega arith }
+add-up lanes (x ∷ xs) ys = add-one lanes x xs ys (add-up lanes xs ys)
+
+apart : (a b x y k : ℕ) → a + b + k * (x + y) ≡ a + k * x + (b + k * y)
+apart a b x y k = omega arith
+
+weighted-append : (lanes weight : ℕ) (xs ys : List Action) → weighted weight (counts_of lanes (xs ++ ys)) ≡ weighted weight (counts_of lanes xs) + weighted weight (counts_of lanes ys)
+weighted-append lanes weight xs ys = let both = add-up lanes xs ys in ap₂ (λ a b. a + (weight - 1) * b) both.operations both.muls ∙ apart _ _ _ _ (weight - 1)
+
+-- so many processors that do as much count what their passes do
+pub record CountsPasses (h : PlainMachine) (ps : List (List PlainNest)) (actions : List Action) : Type 0 where
+  pub operations : (weight : ℕ) → 0 < weight → h.procs * weighted weight (counts_of h.lanes actions) ≡ sum_by (pass_cost weight h.modulus) ps
+  pub loads : h.procs * (counts_of h.lanes actions).loads ≡ sum_by pass_loads ps
+  pub stores : h.procs * (counts_of h.lanes actions).stores ≡ h.size * length ps
+
+module _ (h : PlainMachine) where
+  shares : (p a b x y : ℕ) → p * a ≡ x → p * b ≡ y → p * (a + b) ≡ x + y
+  shares p a b x y first rest = (let out : p * (a + b) ≡ p * a + p * b = omega arith in out) ∙ ap₂ (λ n k. n + k) first rest
+
+  pub parts-count : (t : ℕ) (source : Array) (ps : List (List PlainNest)) (parts : List (List Action)) → AreParts h t source ps parts → CountsPasses h ps (joined parts)
+  parts-count t source [] [] are = record { operations = λ weight some. omega arith; loads = omega arith; stores = omega arith }
+  parts-count t source [] (part ∷ parts) are = absurd are
+  parts-count t source (zs ∷ ps) [] are = absurd are
+  parts-count t source (zs ∷ ps) (part ∷ parts) are =
+      let rest = parts-count (suc t) (target_of t (length ps)) ps parts are.1 in
+      let both = add-up h.lanes part (joined parts) in
+      record {
+        operations = λ weight some.
+            ap (λ n. h.procs * n) (weighted-append h.lanes weight part (joined parts)) ∙ shares h.procs _ _ _ _ (are.0.operations weight some) (rest.operations weight some) ∙ sym (sum_by-cons (pass_cost weight h.modulus) zs ps);
+        loads = ap (λ n. h.procs * n) both.loads ∙ shares h.procs _ _ _ _ are.0.loads rest.loads ∙ sym (sum_by-cons pass_loads zs ps);
+        stores = ap (λ n. h.procs * n) both.stores ∙ shares h.procs _ _ _ _ are.0.stores rest.stores ∙ (let more : (n k : ℕ) → n + n * k ≡ n * suc k = λ n k. omega arith in more h.size (length ps));
+      }
+
+-- what a processor executes in all
+abbrev pub executed : PlainProgram → ℕ → List Action
+executed p q = flat_map (λ phase. acts (plain_code p) phase q) (range_with_len 0 (length (plain_code p).lists))
+
+-- so does each processor of a program that performs them
+pub performed-count : (h : PlainMachine) (g : PlainMerged) (p : PlainProgram) (q : ℕ) → q < h.procs → Performs h g p → CountsPasses h (all_passes g.phases) (executed p q)
+performed-count h g p q low performs =
+    let long : length (plain_code p).lists ≡ length g.phases = length-map p.phases _ ∙ performs.phases in
+    let listed = performs.parts q low in
+    subst (λ n. CountsPasses h (all_passes g.phases) (flat_map (λ phase. acts (plain_code p) phase q) (range_with_len 0 n))) (sym long)
+    (subst (CountsPasses h (all_passes g.phases)) listed.whole (parts-count h 0 X (all_passes g.phases) listed.parts listed.each))

@@ -1,0 +1,88 @@
+-- The places of factors where each item takes the first one.
+use Rattle.std.proofs.Common.{◌≡◌, ℕ, zero, suc, ◌+◌, ◌*◌, ◌%◌, ◌<◌, ◌≤◌, Bool, true, false, List, [], ◌∷◌, refl, sym, ap, ◌∙◌, arith, subst, mod-lt, IsTrue, if◌then◌else◌}
+use Rattle.std.specs.Prelude.{slice_index, slice_index_or}
+use Rattle.std.proofs.lemmas.List.{length-map}
+use Rattle.std.proofs.lemmas.List.Elements.{All-map}
+use Rattle.std.proofs.lemmas.Nat.{mod-mul-add}
+use Rattle.icode.specs.Limits.{is_expr_within}
+use Rattle.icode.specs.Plain.{PlainExpr, PlainParts, Sum, NoParts}
+use Rattle.multiplied_passes.specs.Multiplied.{factor_places}
+use Rattle.multiplied_passes.specs.declared.Pick.TheVariants.{First}
+use Rattle.pass_actions.specs.Laws.{CanWork}
+use Rattle.pass_actions.specs.Machine.{PlainFrame, PlainMachine, item_of, lane_step}
+use Rattle.pass_programs.specs.Conditions.{AreWithin, CanWrite, FitsWord}
+use Rattle.pass_programs.specs.Expressions.{expr_of, variables_of}
+use Rattle.passes.specs.Good.{AreSound, NamesItems, named}
+use Rattle.passes.specs.Nest.{store_place, sum_value}
+use Rattle.passes.specs.Work.{PlainWork, kernel, rows, horner, tile, copy}
+use Rattle.perm_algebra.specs.Affine as affine
+use Rattle.perm_algebra.specs.Affine.{constant, value}
+
+-- ---- their values
+
+-- which of the factors an item takes
+abbrev pub first_place : PlainWork → ℕ → ℕ
+first_place (tile lanes) k = k % lanes
+first_place w k = 0
+
+first-sum : (sums : List affine.Sum) (i : ℕ) → slice_index_or (factor_places First sums) i (constant 0) ≡ constant 0
+first-sum [] i = refl
+first-sum (e ∷ sums) zero = refl
+first-sum (e ∷ sums) (suc i) = first-sum sums i
+
+first-value : (sums : List affine.Sum) (i : ℕ) (vs : List ℕ) → sum_value (factor_places First sums) i vs ≡ 0
+first-value sums i vs = ap (λ e. value e (slice_index vs)) (first-sum sums i)
+
+pub first-is : (w : PlainWork) (sums : List affine.Sum) (vs : List ℕ) (k : ℕ) → store_place w (factor_places First sums) vs k ≡ first_place w k
+first-is (kernel kind root tree) sums vs k = first-value sums k vs
+first-is (rows root size) sums vs k = first-value sums 0 _
+first-is (horner root size) sums vs k = first-value sums 0 _
+first-is (tile lanes) sums vs k = ap (λ v. v + k % lanes) (first-value sums _ vs) ∙ omega arith
+first-is (copy size) sums vs k = first-value sums k vs
+
+-- the lanes of a register take those of their lanes
+pub first-lane : (h : PlainMachine) (w : PlainWork) (lane k : ℕ) → CanWork h w → lane < h.lanes → first_place w (item_of w k lane) ≡ first_place w (item_of w k 0) + lane_step w * lane
+first-lane h (kernel kind root tree) lane k can low = omega arith
+first-lane h (rows root size) lane k can low = omega arith
+first-lane h (horner root size) lane k can low = omega arith
+first-lane h (tile lanes) lane k can low =
+    let at : (k * lanes + lane) % lanes ≡ lane = mod-mul-add k lanes lane (omega (arith, can, low)) in
+    let first : (k * lanes + 0) % lanes ≡ 0 = mod-mul-add k lanes 0 (omega (arith, can, low)) in
+    at ∙ (let once : lane ≡ 0 + 1 * lane = omega arith in once) ∙ ap (λ v. v + 1 * lane) (sym first)
+first-lane h (copy size) lane k can low = omega arith
+
+pub first-below : (h : PlainMachine) (w : PlainWork) (k n : ℕ) → CanWork h w → 0 < h.lanes → h.lanes ≤ n → first_place w k < n
+first-below h (kernel kind root tree) k n can some most = omega (arith, some, most)
+first-below h (rows root size) k n can some most = omega (arith, some, most)
+first-below h (horner root size) k n can some most = omega (arith, some, most)
+first-below h (tile lanes) k n can some most = let below : k % lanes < lanes = mod-lt k (omega (arith, can, some)) in omega (arith, below, can, most)
+first-below h (copy size) k n can some most = omega (arith, some, most)
+
+-- ---- how they are written
+
+first-sound : (sums : List affine.Sum) → AreSound (factor_places First sums)
+first-sound [] = tt
+first-sound (e ∷ sums) = (tt, first-sound sums)
+
+pub first-names : (w : PlainWork) (sums : List affine.Sum) → NamesItems w sums → NamesItems w (factor_places First sums)
+first-names w sums names = record { enough = subst (λ n. named w ≤ n) (sym (length-map sums (λ _. constant 0))) names.enough; sound = first-sound sums }
+
+no-variables : (f : PlainFrame) (n d : ℕ) (parts : PlainParts) → variables_of f n d (constant 0) parts ≡ parts
+no-variables f zero d parts = refl
+no-variables f (suc n) d parts = no-variables f n (d + 1) parts
+
+no-processor : (shared : Bool) (parts : PlainParts) → (if shared then parts else parts) ≡ parts
+no-processor true parts = refl
+no-processor false parts = refl
+
+first-expr : (f : PlainFrame) (open_loops : ℕ) → expr_of f open_loops (constant 0) ≡ Sum 0 NoParts
+first-expr f open_loops = ap (Sum 0) (no-processor f.shared (variables_of f open_loops 0 (constant 0) NoParts) ∙ no-variables f open_loops 0 NoParts)
+
+pub first-within : (cs : ℕ → ℕ) (f : PlainFrame) (open_loops : ℕ) (sums : List affine.Sum) → AreWithin cs f open_loops (factor_places First sums)
+first-within cs f open_loops sums =
+    record {
+      writable = All-map CanWrite (λ _. constant 0) sums (λ k e below. tt);
+      words = All-map (FitsWord cs) (λ _. constant 0) sums (λ k e below. record { whole = omega arith; divided = tt });
+      within = All-map (λ e. IsTrue (is_expr_within (expr_of f open_loops e) open_loops)) (λ _. constant 0) sums
+          (λ k e below. subst (λ (x : PlainExpr). IsTrue (is_expr_within x open_loops)) (sym (first-expr f open_loops)) refl);
+    }

@@ -1,0 +1,3 @@
+pub mod Multiplied
+pub mod Laws
+pub mod Views
