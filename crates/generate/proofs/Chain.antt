@@ -1,15 +1,16 @@
 -- From a tree to its merged passes, and to a request's.
 use Rattle.std.proofs.Common.{◌≡◌, ℕ, List, ap, ap₂, ◌∙◌, refl, subst, sym}
+use Rattle.std.specs.Int.{IsGcd}
 use Rattle.formula_lower.specs.Merged.{tree_merged}
 use Rattle.icode.specs.Plain.{PlainProgram}
 use Rattle.inverse_requests.specs.Inverted.{inverted}
 use Rattle.matrix_meaning.specs.declared.Direction.{Direction}
 use Rattle.matrix_meaning.specs.declared.Direction.TheVariants.{Forward, Inverse}
 use Rattle.matrix_meaning.specs.declared.Request.{Request}
-use Rattle.matrix_meaning.specs.Valid.{IsValid}
+use Rattle.matrix_meaning.specs.declared.Kind.TheVariants.{Dft}
+use Rattle.matrix_meaning.specs.Valid.{AllowsDirection, IsValid}
 use Rattle.multiplied_passes.specs.Multiplied.{multiplied}
 use Rattle.multiplied_passes.specs.declared.Pick.TheVariants.{First}
-use Rattle.pass_actions.specs.Machine.{PlainMachine}
 use Rattle.pass_programs.specs.Contract.{CanProgram, Performs}
 use Rattle.passes.specs.Merged.{PlainMerged}
 use Rattle.passes.specs.Nest.{repeated}
@@ -62,6 +63,10 @@ request-performs r t g m line p same residues words performs =
     (subst (λ n. Performs (machine_for r.modulus n g') g' p) words
     (subst (λ n. Performs (machine_for n line g') g' p) residues
     (subst (λ z. Performs (machine_for m line z) z p) same performs)))
+
+-- what a request for an inverse has
+pub inverse-allowed : (r : Request) → IsValid r → r.direction ≡ Inverse → (r.kind ≡ Dft) × IsGcd r.size r.modulus 1
+inverse-allowed r valid is = subst (λ d. AllowsDirection d r.kind r.size r.modulus) is valid.in_range.direction
 
 -- the passes that are multiplied are those of the inverse
 pub inverse-same : (r c : Request) (t : Breakdown) (f g : PlainMerged) (value m n : ℕ) → c ≡ inverted r → f ≡ tree_merged c t → value ≡ inverse_mod m n → m ≡ r.modulus → n ≡ r.size →

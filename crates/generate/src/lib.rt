@@ -198,7 +198,8 @@ fn merge_inverse(alloc: Global, c: &Ctx, tree: &Tree) -> Result<Merged, NoMemory
         value,
         count: request.size,
     };
-    let passes = merge_tree(alloc, &Ctx::new(&inverted(&request)), tree)?;
+    let backward = Ctx::new(&inverted(&request));
+    let passes = merge_tree(alloc, &backward, tree)?;
     let merged = multiply_last(alloc, passes, Pick::First, factors)?;
     Ok(merged)
 }
