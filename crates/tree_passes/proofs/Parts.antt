@@ -71,7 +71,7 @@ module _ (c : Request) (extra : ℕ) where
 
   extra-last : (behind : ℕ) → extra_before extra behind + extra_in behind ≡ extra
   extra-last zero = omega arith
-  extra-last (suc behind) = refl
+  extra-last (suc behind) = omega arith
 
   record Sums (passes : List Pass) (actions : List Action) : Type 0 where
     operations : c.procs * weighted c.weight (counts_of c.lanes actions) ≡ passes_cost c c.size passes + extra_in (length passes)
