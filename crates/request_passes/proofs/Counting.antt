@@ -1,5 +1,5 @@
 -- The passes by the inverse root count as those by the root, and with a diagonal after the last they have its products more.
-use Rattle.std.proofs.Common.{◌≡◌, ℕ, ◌+◌, ◌*◌, ◌<◌, Bool, List, [], ◌∷◌, length, map, sym, ap, ◌∙◌, arith, subst, if◌then◌else◌}
+use Rattle.std.proofs.Common.{◌≡◌, ℕ, ◌+◌, ◌*◌, List, [], ◌∷◌, length, map, refl, ap, ◌∙◌, arith, if◌then◌else◌}
 use Rattle.inverse_requests.specs.Inverted.{inverted}
 use Rattle.inverse_requests.proofs.Costs.{inverse_costs}
 use Rattle.inverse_requests.proofs.Traffic.{pass-same}
@@ -13,7 +13,7 @@ use Rattle.passes.specs.Nest.{PlainNest}
 use Rattle.tree_model.specs.Cost.{mul_cost_of}
 use Rattle.tree_model.specs.Passes.{Pass, nodes, tiles}
 use Rattle.tree_model.specs.Passes as trees
-use Rattle.tree_passes.specs.Counts.{AllCount, CountsAs, extra_before}
+use Rattle.tree_passes.specs.Counts.{AllCount, extra_before}
 
 -- ---- the inverse root
 
@@ -28,11 +28,11 @@ module _ (r : Request) (dft : r.kind ≡ Dft) (valid : IsValid r) where
   count-by-root [] (pass ∷ passes) h = absurd h
   count-by-root (zs ∷ ps) [] h = absurd h
   count-by-root (zs ∷ ps) (pass ∷ passes) h = (
-      record {
-        operations = h.0.operations ∙ ap (λ n. n + extra_before 0 (length passes)) (cost-same pass);
-        loads = h.0.loads ∙ pass-same r Forward (inverted r).root pass;
-      },
-      count-by-root ps passes h.1,
+    record {
+      operations = h.0.operations ∙ ap (λ n. n + extra_before 0 (length passes)) (cost-same pass);
+      loads = h.0.loads ∙ pass-same r Forward (inverted r).root pass;
+    },
+    count-by-root ps passes h.1,
   )
 
 -- ---- the last pass

@@ -1,12 +1,11 @@
 -- What is known of the merged passes of a request, by its direction.
-use Rattle.std.proofs.Common.{◌≡◌, ℕ, ◌+◌, ◌*◌, ◌^◌, ◌<◌, List, refl, sym, ap, ◌∙◌, arith, subst}
+use Rattle.std.proofs.Common.{◌≡◌, ℕ, ◌*◌, List, refl, sym, ap, ◌∙◌, arith, subst}
 use Rattle.std.specs.Int.{IsGcd}
 use Rattle.formula_lower.specs.Merged.{tree_merged}
 use Rattle.inverse_requests.specs.Inverted.{inverted}
 use Rattle.inverse_requests.proofs.Requests.{inverse_admits, inverse_is_valid}
 use Rattle.inverse_requests.proofs.Traffic.{whole-same}
 use Rattle.matrix_meaning.specs.Asked.{directed}
-use Rattle.matrix_meaning.specs.Inverse.{inverse_root}
 use Rattle.matrix_meaning.specs.Kind.{transform}
 use Rattle.matrix_meaning.specs.declared.Direction.{Direction}
 use Rattle.matrix_meaning.specs.declared.Direction.TheVariants.{Forward, Inverse}
