@@ -5,7 +5,7 @@ use Rattle.pass_programs.specs.Contract.{all_passes}
 use Rattle.passes.specs.Nest.{PlainNest}
 use Rattle.passes.specs.Views.{plain_nest}
 use Rattle.passes.specs.declared.nest.Nest.{Nest}
-use Rattle.joined_passes.specs.Views.{plain_passes, plain_phases}
+use Rattle.multiplied_passes.specs.Views.{plain_passes, plain_phases}
 
 abbrev Pass : Type 0
 Pass = Vec Nest Global

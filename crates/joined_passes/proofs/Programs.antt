@@ -1,18 +1,31 @@
 -- A program can be made of joined passes.
-use Rattle.std.proofs.Common.{◌≡◌, ℕ, ◌^◌, ◌<◌, List, [], ◌∷◌, ◌++◌, length, refl, sym, arith, subst, append-nil, length-append, All}
+use Rattle.std.proofs.Common.{◌≡◌, ℕ, ◌^◌, ◌<◌, List, [], ◌∷◌, ◌++◌, length, map, refl, sym, arith, subst, append-nil, length-append, inl, inr, All}
+use Rattle.std.specs.Prelude.{slice_index}
+use Rattle.std.proofs.lemmas.Bool.{cases_lt}
+use Rattle.std.proofs.lemmas.List.{get_or_past}
 use Rattle.std.proofs.lemmas.List.Elements.{All-nil, All-cons, All-append}
 use Rattle.std.proofs.lemmas.List.Sums.{sum_by-append}
 use Rattle.pass_actions.specs.Machine.{PlainMachine}
 use Rattle.pass_programs.specs.Conditions.{CanWritePass}
 use Rattle.pass_programs.specs.Contract.{AllOwn, CanProgram, IsFirstShared, all_passes, most_actions}
 use Rattle.passes.specs.Merged.{PlainMerged}
-use Rattle.passes.specs.Nest.{PlainNest}
-use Rattle.joined_passes.specs.Joined.{joined, multiplied_last}
+use Rattle.passes.specs.Nest.{PlainNest, values}
+use Rattle.joined_passes.specs.Joined.{joined, with_values}
 use Rattle.joined_passes.specs.Laws.{CanJoin, JoinedCanProgram}
-use Rattle.joined_passes.proofs.Cans.{at-residues, last-can}
 use Rattle.joined_passes.proofs.Counts.{most-joined}
-use Rattle.joined_passes.proofs.Lasts.{length-last}
-use Rattle.joined_passes.proofs.Tables.{nests-last, passes-grown}
+use Rattle.multiplied_passes.specs.Multiplied.{multiplied_last}
+use Rattle.multiplied_passes.specs.declared.Pick.TheVariants.{Own}
+use Rattle.multiplied_passes.proofs.Cans.{last-can}
+use Rattle.multiplied_passes.proofs.Lasts.{length-last}
+use Rattle.multiplied_passes.proofs.Tables.{nests-last, passes-grown}
+
+-- what is listed is below m, and so is what is not
+at-residues : (m : ℕ) (ds : List ℕ) → 0 < m → All (λ d. d < m) ds → (i : ℕ) → slice_index ds i < m
+at-residues m ds some h i =
+    elim (cases_lt i (length ds)) [
+      | inl inside ↦ h i 0 inside
+      | inr past ↦ subst (λ v. v < m) (sym (get_or_past ds i 0 past)) some
+    ]
 
 -- ---- all words are of the one processor
 
@@ -33,7 +46,7 @@ module _ (h : PlainMachine) (g k : PlainMerged) (ds : List ℕ) (can : CanJoin h
   second = all_passes k.phases
 
   abbrev passes : List (List PlainNest)
-  passes = multiplied_last ds first ++ second
+  passes = multiplied_last Own (values ds) first ++ second
 
   one : all_passes (passes ∷ []) ≡ passes
   one = append-nil passes
@@ -42,12 +55,15 @@ module _ (h : PlainMachine) (g k : PlainMerged) (ds : List ℕ) (can : CanJoin h
   all-can =
       let large = can.first.host.modulus in
       let range = can.first.host.size in
-      All-append (CanWritePass h) (multiplied_last ds first) second
-      (last-can h can.lanes (omega (arith, range)) (omega (arith, range)) ds can.size (at-residues h.modulus ds (omega (arith, large)) can.residues) first can.registers can.first.passes)
+      let lanes = can.lanes in
+      let size = can.size in
+      let residues = at-residues h.modulus ds (omega (arith, large)) can.residues in
+      All-append (CanWritePass h) (multiplied_last Own (values ds) first) second
+      (last-can h (omega (arith, lanes)) (omega (arith, range)) Own (values ds) (record { enough = (can.lanes, can.size); number = omega (arith, size, range); residues = residues }) first can.registers can.first.passes)
       can.second.passes
 
   some : 0 < length passes
-  some = let all = length-append (multiplied_last ds first) second in let before = length-last ds first in let any = can.first.some in omega (arith, all, before, any)
+  some = let all = length-append (multiplied_last Own (values ds) first) second in let before = length-last (map (with_values ds)) first in let any = can.first.some in omega (arith, all, before, any)
 
   pub can-joined : CanProgram h (joined g ds k)
   can-joined =
@@ -62,8 +78,8 @@ module _ (h : PlainMachine) (g k : PlainMerged) (ds : List ℕ) (can : CanJoin h
         few = subst (λ ps. most_actions h ps < 2 ^ 59) (sym one) (subst (λ n. n < 2 ^ 59) (sym (most-joined h ds first second can.first.passes can.free)) can.actions);
         tables =
             let grown = passes-grown h.modulus passes [] in
-            let both = sum_by-append length (multiplied_last ds first) second in
-            let same = nests-last ds first in
+            let both = sum_by-append length (multiplied_last Own (values ds) first) second in
+            let same = nests-last Own (values ds) first in
             let few = can.tables in omega (arith, grown, both, same, few);
         shared = (shared-first h can.procs passes, tt);
       }

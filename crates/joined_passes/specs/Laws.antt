@@ -1,26 +1,17 @@
 -- What joined passes do and count, and that a program can be made of them.
-use Rattle.std.specs.Prelude.{◌≡◌, ℕ, ◌+◌, ◌*◌, ◌^◌, ◌<◌, List, [], ◌∷◌, ◌++◌, length, map, slice_index, sum_by, All, None}
+use Rattle.std.specs.Prelude.{◌≡◌, ℕ, ◌+◌, ◌*◌, ◌^◌, ◌<◌, List, ◌++◌, length, map, slice_index, sum_by, All}
 use Rattle.icode.specs.Actions.{plain_code}
 use Rattle.icode.specs.Machine.{weighted, whole_counts}
 use Rattle.icode.specs.Plain.{PlainProgram}
+use Rattle.multiplied_passes.specs.Laws.{more_last}
+pub use Rattle.multiplied_passes.specs.Laws.{IsFree, LastHas}
 use Rattle.operators.specs.Operator.{scale}
 use Rattle.pass_actions.specs.Acts.{pass_registers}
 use Rattle.pass_actions.specs.Costs.{pass_cost, pass_loads}
 use Rattle.pass_actions.specs.Machine.{PlainMachine}
 use Rattle.pass_programs.specs.Contract.{CanProgram, Performs, all_passes, most_actions}
 use Rattle.passes.specs.Merged.{PlainMerged, merged_on}
-use Rattle.passes.specs.Nest.{PlainNest}
 use Rattle.joined_passes.specs.Joined.{joined, with_values}
-
--- there is a last pass, and this holds of it
-abbrev pub LastHas : (List PlainNest → Type 0) → List (List PlainNest) → Type 0
-LastHas P [] = ⊥
-LastHas P (zs ∷ []) = P zs
-LastHas P (zs ∷ ys ∷ ps) = LastHas P (ys ∷ ps)
-
--- no nest multiplies its items
-abbrev pub IsFree : List PlainNest → Type 0
-IsFree zs = All (λ (z : PlainNest). z.multiplier ≡ None) zs
 
 -- ---- what they do
 
@@ -52,12 +43,6 @@ abbrev pub JoinedCanProgram : Type 0
 JoinedCanProgram = (h : PlainMachine) (g k : PlainMerged) (ds : List ℕ) → CanJoin h g ds k → CanProgram h (joined g ds k)
 
 -- ---- what they count
-
--- the last number grown by so many
-abbrev pub more_last : ℕ → List ℕ → List ℕ
-more_last more [] = []
-more_last more (c ∷ []) = (c + more) ∷ []
-more_last more (c ∷ d ∷ cs) = c ∷ more_last more (d ∷ cs)
 
 -- the operations of g and of k, and a product for each word between them; the loads of both; and a store of each word in each pass
 pub record CountsBoth (h : PlainMachine) (g k : PlainMerged) (p : PlainProgram) : Type 0 where

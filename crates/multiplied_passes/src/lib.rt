@@ -17,9 +17,9 @@ use std::alloc::Global;
 /// Which factor of a diagonal each item takes.
 #[derive(Clone, Copy)]
 pub enum Pick {
-    /// That of the place where it is stored.
+    /// That of the place where it is stored: on one lane alone, since all lanes of a kernel have one factor.
     Own,
-    /// The first, on the lanes of a tile the first ones: for factors that are all alike, on any number of lanes.
+    /// The first, or in a tile that of its lane: for factors that are all alike, on any number of lanes.
     First,
 }
 
@@ -55,7 +55,8 @@ fn multiply_last_phase(
     factors: Factors,
 ) -> Result<Vec<Vec<Vec<Nest>>>, NoMemory>
     ensures { IfOk result (λ changed.
-        plain_phases changed.items ≡ on_last (multiplied_last pick (plain_factors factors)) (plain_phases phases.items)) }
+        plain_phases changed.items
+        ≡ on_last (multiplied_last pick (plain_factors factors)) (plain_phases phases.items)) }
 {
     let mut phases = phases;
     match phases.pop() {
@@ -75,7 +76,8 @@ pub fn multiply_last_pass(
     factors: Factors,
 ) -> Result<Vec<Vec<Nest>>, NoMemory>
     ensures { IfOk result (λ changed.
-        plain_passes changed.items ≡ multiplied_last pick (plain_factors factors) (plain_passes passes.items)) }
+        plain_passes changed.items
+        ≡ multiplied_last pick (plain_factors factors) (plain_passes passes.items)) }
 {
     let mut passes = passes;
     match passes.pop() {
@@ -95,7 +97,8 @@ fn multiply_pass(
     factors: Factors,
 ) -> Result<Vec<Nest>, NoMemory>
     ensures { IfOk result (λ changed.
-        map plain_nest changed.items ≡ map (with_factors pick (plain_factors factors)) (map plain_nest nests.items)) }
+        map plain_nest changed.items
+        ≡ map (with_factors pick (plain_factors factors)) (map plain_nest nests.items)) }
 {
     let mut nests = nests;
     match nests.pop() {
@@ -115,7 +118,8 @@ fn multiply_each(
     factors: &Factors,
 ) -> Result<Vec<Nest>, NoMemory>
     ensures { IfOk result (λ changed.
-        map plain_nest changed.items ≡ map (with_factors pick (plain_factors factors.now)) (map plain_nest nests.items)) }
+        map plain_nest changed.items
+        ≡ map (with_factors pick (plain_factors factors.now)) (map plain_nest nests.items)) }
 {
     let mut changed = Vec::new(alloc);
     for nest in nests {
@@ -189,19 +193,20 @@ fn copied_factors(alloc: Global, factors: &Factors) -> Result<Factors, NoMemory>
     }
 }
 
-/// They do what the passes do, and then a product with the factor of each place, modulo any number: a law of the definitions.
+/// Such passes do what they did, and then a product with the factor of each place, modulo any number: a law of the
+/// definitions.
 pub fn multiplied_means()
     ensures { MultipliedMeans }
 {}
 
-/// A program can be made of them, for any processors, where one can be made of the passes and what the diagonal adds is within
-/// its limits: a law of the definitions.
+/// A program can be made of them, for any processors, where one can be made of the passes without factors and what these
+/// add is within its limits: a law of the definitions.
 pub fn multiplied_can_program()
     ensures { MultipliedCanProgram }
 {}
 
-/// Pass by pass they count what the passes do, and a product for each word in the last; so does each processor of their
-/// programs, in equal shares: a law of the definitions.
+/// Pass by pass they count what they did, and in the last a product for each word; so do the processors of their programs,
+/// in equal shares: a law of the definitions.
 pub fn multiplied_counts()
     ensures { MultipliedCounts }
 {}
