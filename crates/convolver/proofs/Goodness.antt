@@ -1,5 +1,5 @@
 -- A program of a tree's joined passes is one for convolutions.
-use Rattle.std.proofs.Common.{◌≡◌, ℕ, ◌+◌, ◌*◌, ◌<◌, List, [], All, length, sym, ap, ap₂, ◌∙◌, arith}
+use Rattle.std.proofs.Common.{◌≡◌, ℕ, ◌+◌, ◌*◌, ◌<◌, List, [], All, length, refl, sym, ap, ap₂, ◌∙◌, arith}
 use Rattle.std.proofs.lemmas.List.{length-map}
 use Rattle.convolution.specs.Convolution.{IsPrincipal}
 use Rattle.convolution.specs.Request.{IsConvRequest}
@@ -13,13 +13,14 @@ use Rattle.inverse_requests.specs.Inverted.{inverted}
 use Rattle.inverse_requests.proofs.Costs.{inverse_costs}
 use Rattle.inverse_requests.proofs.Requests.{inverse_is_valid, inverse_admits}
 use Rattle.inverse_requests.proofs.Traffic.{inverse_loads, whole-same}
-use Rattle.joined_passes.specs.Joined.{joined}
+use Rattle.joined_passes.specs.Joined.{joined, with_values}
 use Rattle.joined_passes.specs.Laws.{CountsBoth, JoinedCanProgram, JoinedCounts, JoinedMeans}
 use Rattle.matrix_meaning.specs.declared.Request.{Request}
 use Rattle.matrix_meaning.specs.Valid.{IsValid}
 use Rattle.pass_programs.specs.Contract.{CanProgram, Performs}
 use Rattle.passes.specs.Good as passes
 use Rattle.passes.specs.Merged.{PlainMerged}
+use Rattle.request_passes.proofs.Small.{tree-small}
 use Rattle.tree_model.specs.Admissible.{IsAdmissible}
 use Rattle.tree_model.specs.Breakdown.{Breakdown}
 use Rattle.tree_model.specs.Passes.{whole_passes}
@@ -29,7 +30,6 @@ use Rattle.convolver.specs.Convolver.{IsConvolver}
 use Rattle.convolver.specs.Factors.{factors_of}
 use Rattle.convolver.proofs.Meaning.{joined-convolve}
 use Rattle.convolver.proofs.Totals.{tree-totals}
-use Rattle.convolver.proofs.Trees.{tree-small}
 
 -- the passes of a convolution
 abbrev pub conv_merged : Request → Breakdown → List ℕ → PlainMerged
@@ -44,8 +44,8 @@ module _ (r : Request) (t : Breakdown) (ds : List ℕ) (request : IsConvRequest 
 
   pub can-convolve : JoinedCanProgram → length ds ≡ r.size → All (λ d. d < r.modulus) ds → CanProgram (machine_of r) (conv_merged r t ds)
   can-convolve can size residues =
-      let first = tree-small r valid t h request.lanes in
-      let second = tree-small (inverted r) valid' t h' request.lanes in
+      let first = tree-small r valid t h in
+      let second = tree-small (inverted r) valid' t h' in
       let few = first.nests in
       let few' = second.nests in
       let low = first.actions in
@@ -59,7 +59,7 @@ module _ (r : Request) (t : Breakdown) (ds : List ℕ) (request : IsConvRequest 
         free = first.free;
         size = size;
         residues = residues;
-        registers = first.registers ds;
+        registers = first.registers (with_values ds) (λ z. refl);
         actions = omega (arith, low, low', most);
         tables = omega (arith, few, few');
       })
@@ -73,7 +73,7 @@ module _ (r : Request) (t : Breakdown) (ds : List ℕ) (request : IsConvRequest 
 
     counts-both : JoinedCounts → CountsBoth (machine_of r) (tree_merged r t) (tree_merged (inverted r) t) (plain_program p)
     counts-both counts =
-        (counts (machine_of r) (tree_merged r t) (tree_merged (inverted r) t) ds (trees_can_program r t valid h) (tree-small r valid t h request.lanes).free).program (plain_program p) request.procs performs
+        (counts (machine_of r) (tree_merged r t) (tree_merged (inverted r) t) ds (trees_can_program r t valid h) (tree-small r valid t h).free).program (plain_program p) request.procs performs
 
     pub is-convolver : JoinedMeans → JoinedCounts → IsPrincipal r.modulus r.size r.root → ds ≡ factors_of r ls → IsConvolver r t ls p
     is-convolver means counts principal listed =

@@ -1,6 +1,4 @@
-pub mod Budget
 pub mod Factors
-pub mod Trees
 pub mod Totals
 pub mod Meaning
 pub mod Goodness

@@ -5,7 +5,6 @@ use Rattle.convolution.specs.Convolution.{convolution, convolution_factor, IsPri
 use Rattle.convolution.specs.Request.{IsConvRequest}
 use Rattle.convolution.proofs.ConvolutionLaw.{convolution_by_diagonal}
 use Rattle.formula_lower.specs.Merged.{tree_merged}
-use Rattle.formula_lower.proofs.TreesKeep.{trees_keep}
 use Rattle.inverse_requests.specs.Inverted.{inverted}
 use Rattle.inverse_requests.proofs.Requests.{inverse_is_valid, inverse_admits, root-is}
 use Rattle.joined_passes.specs.Joined.{joined}
@@ -19,11 +18,11 @@ use Rattle.operators.specs.Sum.{list_below}
 use Rattle.operators.proofs.Lists.{at-list_below, length-list_below, list_below-same}
 use Rattle.passes.specs.Good.{IsVector}
 use Rattle.passes.specs.Merged.{merged_on}
+use Rattle.request_passes.proofs.Small.{tree-small}
 use Rattle.tree_model.specs.Admissible.{IsAdmissible}
 use Rattle.tree_model.specs.Breakdown.{Breakdown}
-use Rattle.tree_passes.proofs.Lean.{root-whole}
+use Rattle.tree_passes.proofs.Lean.{trees-transform}
 use Rattle.convolver.specs.Factors.{factors_of}
-use Rattle.convolver.proofs.Trees.{tree-small}
 
 scale-vector : (m n : ℕ) (f : ℕ → ℕ) (x : List ℕ) → 0 < m → IsVector m n (scale m n f x)
 scale-vector m n f x some =
@@ -41,8 +40,7 @@ scale-listed m n f ds x listed =
 tree-does : (c : Request) (t : Breakdown) (x : List ℕ) → IsValid c → c.kind ≡ Dft → IsAdmissible c t → IsVector c.modulus c.size x →
     merged_on c.modulus (tree_merged c t) x ≡ transform Dft c.modulus c.size c.root x
 tree-does c t x valid dft h vector =
-    trees_keep c t x valid h vector
-    ∙ ap (λ w. transform c.kind c.modulus c.size w x) (root-whole c valid)
+    trees-transform c t x valid h vector
     ∙ ap (λ k. transform k c.modulus c.size c.root x) dft
 
 module _ (r : Request) (t : Breakdown) (ls ds : List ℕ) (request : IsConvRequest r) (valid : IsValid r) (h : IsAdmissible r t) (principal : IsPrincipal r.modulus r.size r.root) where
@@ -61,7 +59,7 @@ module _ (r : Request) (t : Breakdown) (ls ds : List ℕ) (request : IsConvReque
       let k = tree_merged (inverted r) t in
       let valid' = inverse_is_valid r request.kind valid in
       let root = root-is r.kind m r.root n request.in_range.modulus.0 request.kind valid.root in
-      means g k ds (tree-small r valid t h request.lanes).free refl m x some
+      means g k ds (tree-small r valid t h).free refl m x some
       ∙ ap (λ y. merged_on m k (scale m n (slice_index ds) y)) (tree-does r t x valid request.kind h vector)
       ∙ ap (merged_on m k) (scale-listed m n factor ds (transform Dft m n r.root x) listed)
       ∙ tree-does (inverted r) t (scale m n factor (transform Dft m n r.root x)) valid' request.kind ((inverse_admits r t).1 h)

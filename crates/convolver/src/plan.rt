@@ -1,11 +1,11 @@
 // The plan of a convolution.
-ghost use Rattle.std.specs.Prelude.{◌≡◌, ◌≢◌, ◌^◌, ◌<◌, Ok, Err, IfOk, IfErr, OnOk};
+ghost use Rattle.std.specs.Prelude.{◌≡◌, ◌≢◌, Ok, Err, IfOk, IfErr, OnOk};
 ghost use Rattle.convolution.specs.Request.{IsConvRequest};
 ghost use Rattle.generate.specs.Planned.{IsRooted};
 ghost use Rattle.matrix_meaning.specs.Valid.{IsValid};
 ghost use Rattle.tree_model.specs.Admissible.{IsChosen};
 ghost use Rattle.tree_model.specs.Breakdown.{breakdown_of};
-ghost use Rattle.tree_model.specs.Cost.{cost_of};
+ghost use Rattle.tree_model.specs.Cost.{cost_of, IsModest};
 ghost use Rattle.convolver.specs.Planned.{HasPrincipalRoot, IsConvPlanned, conv_cost};
 ghost use Rattle.convolver.specs.declared.fault.ConvFault.TheVariants as fault;
 
@@ -63,7 +63,7 @@ fn cheapest(alloc: Global, request: &Request) -> Result<Plan, NoMemory>
     requires valid { IsValid request.now }
     ensures tree { IfOk result (λ plan. IsChosen request.now (breakdown_of plan.tree)) }
     ensures cost { IfOk result (λ plan. plan.cost ≡ cost_of request.now (breakdown_of plan.tree)) }
-    ensures small { IfOk result (λ plan. plan.cost < 2 ^ 60) }
+    ensures modest { IfOk result (λ plan. IsModest request.now.size plan.cost) }
 {
     let context = Ctx::new(request);
     match best(alloc, &context, u64::MAX) {

@@ -1,12 +1,23 @@
--- From a tree to its merged passes.
-use Rattle.std.proofs.Common.{◌≡◌, ℕ, List, ap, ◌∙◌, subst, sym}
+-- From a tree to its merged passes, and to a request's.
+use Rattle.std.proofs.Common.{◌≡◌, ℕ, List, ap, ap₂, ◌∙◌, refl, subst, sym}
+use Rattle.std.specs.Int.{IsGcd}
 use Rattle.formula_lower.specs.Merged.{tree_merged}
 use Rattle.icode.specs.Plain.{PlainProgram}
+use Rattle.inverse_requests.specs.Inverted.{inverted}
+use Rattle.matrix_meaning.specs.declared.Direction.{Direction}
+use Rattle.matrix_meaning.specs.declared.Direction.TheVariants.{Forward, Inverse}
 use Rattle.matrix_meaning.specs.declared.Request.{Request}
-use Rattle.matrix_meaning.specs.Valid.{IsValid}
+use Rattle.matrix_meaning.specs.declared.Kind.TheVariants.{Dft}
+use Rattle.matrix_meaning.specs.Valid.{AllowsDirection, IsValid}
+use Rattle.multiplied_passes.specs.Multiplied.{multiplied}
+use Rattle.multiplied_passes.specs.declared.Pick.TheVariants.{First}
 use Rattle.pass_programs.specs.Contract.{CanProgram, Performs}
 use Rattle.passes.specs.Merged.{PlainMerged}
+use Rattle.passes.specs.Nest.{repeated}
 use Rattle.program_emit.specs.Conditions.{machine_for}
+use Rattle.request_passes.specs.Merged.{directed_merged, division_by_size, inverse_merged, request_merged}
+use Rattle.request_passes.proofs.Requests.{requests_can_program}
+use Rattle.ring_mod.specs.Inverse.{inverse_mod}
 use Rattle.sigma_lower.specs.Lowered.{sigma_of, sigmas_of}
 use Rattle.sigma_spl.specs.Plain.{PlainSigma}
 use Rattle.smp_rewrite.specs.Cut.{smp_of}
@@ -14,7 +25,6 @@ use Rattle.smp_rewrite.specs.Smp.{PlainSmp}
 use Rattle.tree_model.specs.Admissible.{IsAdmissible}
 use Rattle.tree_model.specs.Breakdown.{Breakdown}
 use Rattle.tree_passes.specs.Laws.{machine_of}
-use Rattle.tree_passes.proofs.TreesCanProgram.{trees_can_program}
 use Rattle.vec_rewrite.specs.Turning.{vec_of}
 use Rattle.vec_rewrite.specs.Vectors.{PlainVec}
 
@@ -27,16 +37,41 @@ pub loops_are : (c : Request) (t : Breakdown) (blocks : PlainSmp) (vectors : Pla
     given ≡ sigma_of c t
 loops_are c t blocks vectors loops given dealt turned lowered handed = handed ∙ lowered ∙ ap (sigmas_of c) (vectors_are c t blocks vectors dealt turned)
 
--- a program can be made of the passes that a tree is merged into
-pub can-emit : (c : Request) (t : Breakdown) (g : PlainMerged) (m line : ℕ) → g ≡ tree_merged c t → m ≡ c.modulus → line ≡ c.line → IsValid c → IsAdmissible c t → CanProgram (machine_for m line g) g
-can-emit c t g m line same residues words valid admissible =
-    subst (λ z. CanProgram (machine_for m line z) z) (sym same)
-    (subst (λ n. CanProgram (machine_for n line (tree_merged c t)) (tree_merged c t)) (sym residues)
-    (subst (λ n. CanProgram (machine_for c.modulus n (tree_merged c t)) (tree_merged c t)) (sym words) (trees_can_program c t valid admissible)))
+-- the machine of a request's passes is the request's
+host-is : (r : Request) (t : Breakdown) → machine_of r ≡ machine_for r.modulus r.line (request_merged r t)
+host-is r t = by r.direction
+  where
+    by : (d : Direction) → machine_of r ≡ machine_for r.modulus r.line (directed_merged d r t)
+    by Forward = refl
+    by Inverse = refl
 
--- and the program performs those of the tree
-pub tree-performs : (c : Request) (t : Breakdown) (g : PlainMerged) (m line : ℕ) (p : PlainProgram) → g ≡ tree_merged c t → m ≡ c.modulus → line ≡ c.line → Performs (machine_for m line g) g p → Performs (machine_of c) (tree_merged c t) p
-tree-performs c t g m line p same residues words performs =
-    subst (λ n. Performs (machine_for c.modulus n (tree_merged c t)) (tree_merged c t) p) words
-    (subst (λ n. Performs (machine_for n line (tree_merged c t)) (tree_merged c t) p) residues
-    (subst (λ z. Performs (machine_for m line z) z p) same performs))
+-- a program can be made of the merged passes of a request
+pub can-emit : (r : Request) (t : Breakdown) (g : PlainMerged) (m line : ℕ) → g ≡ request_merged r t → m ≡ r.modulus → line ≡ r.line → IsValid r → IsAdmissible r t → CanProgram (machine_for m line g) g
+can-emit r t g m line same residues words valid admissible =
+    let g' = request_merged r t in
+    subst (λ z. CanProgram (machine_for m line z) z) (sym same)
+    (subst (λ n. CanProgram (machine_for n line g') g') (sym residues)
+    (subst (λ n. CanProgram (machine_for r.modulus n g') g') (sym words)
+    (subst (λ h. CanProgram h g') (host-is r t) (requests_can_program r t valid admissible))))
+
+-- and the program performs them
+pub request-performs : (r : Request) (t : Breakdown) (g : PlainMerged) (m line : ℕ) (p : PlainProgram) → g ≡ request_merged r t → m ≡ r.modulus → line ≡ r.line → Performs (machine_for m line g) g p →
+    Performs (machine_of r) (request_merged r t) p
+request-performs r t g m line p same residues words performs =
+    let g' = request_merged r t in
+    subst (λ h. Performs h g' p) (sym (host-is r t))
+    (subst (λ n. Performs (machine_for r.modulus n g') g' p) words
+    (subst (λ n. Performs (machine_for n line g') g' p) residues
+    (subst (λ z. Performs (machine_for m line z) z p) same performs)))
+
+-- what a request for an inverse has
+pub inverse-allowed : (r : Request) → IsValid r → r.direction ≡ Inverse → (r.kind ≡ Dft) × IsGcd r.size r.modulus 1
+inverse-allowed r valid is = subst (λ d. AllowsDirection d r.kind r.size r.modulus) is valid.in_range.direction
+
+-- the passes that are multiplied are those of the inverse
+pub inverse-same : (r c : Request) (t : Breakdown) (f g : PlainMerged) (value m n : ℕ) → c ≡ inverted r → f ≡ tree_merged c t → value ≡ inverse_mod m n → m ≡ r.modulus → n ≡ r.size →
+    g ≡ multiplied First (repeated value n) f → g ≡ inverse_merged r t
+inverse-same r c t f g value m n backward first inverts residues size whole =
+    whole
+    ∙ ap₂ (λ v k. multiplied First (repeated v k) f) (inverts ∙ ap₂ inverse_mod residues size) size
+    ∙ ap (multiplied First (division_by_size r)) (first ∙ ap (λ z. tree_merged z t) backward)

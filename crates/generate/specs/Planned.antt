@@ -4,9 +4,9 @@ use Rattle.ring_mod.specs.Residue.{power_mod}
 use Rattle.matrix_meaning.specs.declared.Kind.{Kind}
 use Rattle.matrix_meaning.specs.declared.Kind.TheVariants.{Dft, Wht}
 use Rattle.matrix_meaning.specs.declared.Request.{Request}
-use Rattle.tree_model.specs.Admissible.{CanDivide, IsChosen, IsLeast}
+use Rattle.tree_model.specs.Admissible.{CanDivide, IsChosen, IsLeastWhole}
 use Rattle.tree_model.specs.Breakdown.{Breakdown}
-use Rattle.tree_model.specs.Cost.{cost_of}
+use Rattle.tree_model.specs.Cost.{whole_cost}
 use Rattle.generate.specs.declared.GenerateFault.{GenerateFault}
 use Rattle.generate.specs.declared.GenerateFault.TheVariants.{Root, NoDivide, OverBudget, NoMemory}
 
@@ -23,12 +23,12 @@ has_root Wht power = true
 abbrev pub IsRooted : Request → Type 0
 IsRooted r = has_root r.kind (root_power r) ≡ true
 
--- The tree of the request, which is the first of the cheapest and within the budget; or the first cause to refuse the request
+-- The tree of the request, which is the first of the cheapest, and by which the request is within the budget; or the first cause to refuse the request
 abbrev pub IsPlanned : Request → Result Breakdown GenerateFault → Type 0
-IsPlanned r (Ok t) = IsRooted r × IsChosen r t × (cost_of r t ≤ r.budget)
+IsPlanned r (Ok t) = IsRooted r × IsChosen r t × (whole_cost r t ≤ r.budget)
 IsPlanned r (Err (Root power)) = (has_root r.kind (root_power r) ≡ false) × (power ≡ root_power r)
 IsPlanned r (Err NoDivide) = IsRooted r × (CanDivide r → ⊥)
-IsPlanned r (Err (OverBudget cost budget)) = IsRooted r × IsLeast r cost × (budget ≡ r.budget) × (budget < cost)
+IsPlanned r (Err (OverBudget cost budget)) = IsRooted r × IsLeastWhole r cost × (budget ≡ r.budget) × (budget < cost)
 IsPlanned r (Err NoMemory) = ⊥
 
 -- the root is one of the size, and some tree fits

@@ -4,23 +4,27 @@
 
 ghost use Rattle.std.specs.Prelude.{◌≡◌, ◌≢◌, false, Ok, Err, IfOk, IfErr, IfNone, IfSome, OnOk, OnErr};
 ghost use Rattle.matrix_meaning.specs.Valid.{IsInRange, IsValid};
+ghost use Rattle.matrix_meaning.specs.declared.Direction.TheVariants.{Inverse};
 ghost use Rattle.formula_lower.specs.Merged.{tree_merged};
 ghost use Rattle.icode.specs.Program.{plain_program};
 ghost use Rattle.pass_programs.specs.Contract.{Performs};
 ghost use Rattle.passes.specs.Views.{plain_merged};
+ghost use Rattle.request_passes.specs.Merged.{inverse_merged, request_merged};
 ghost use Rattle.tree_model.specs.Admissible.{IsAdmissible};
 ghost use Rattle.tree_model.specs.Breakdown.{breakdown_of};
-ghost use Rattle.tree_model.specs.Cost.{cost_of};
+ghost use Rattle.tree_model.specs.Cost.{whole_cost};
 ghost use Rattle.tree_passes.specs.Laws.{machine_of};
 ghost use Rattle.generate.specs.Good.{IsGood, IsLean};
 ghost use Rattle.generate.specs.Planned.{IsPlanned, IsAdmitted, IsBarred, IsRooted, has_root, root_power};
 ghost use Rattle.generate.specs.declared.GenerateFault.TheVariants as fault;
 
 use icode::program::Program;
+use inverse_requests::inverted;
 use loop_merge::merge;
-use matrix_meaning::{Kind, Request};
+use matrix_meaning::{Direction, Kind, Request};
 use memory::NoMemory;
-use passes::Merged;
+use multiplied_passes::{Pick, multiply_last};
+use passes::{Factors, Merged};
 use plan_search::{Plan, PlanError, best};
 use program_emit::emit_on;
 use ring_mod::Modulus;
@@ -28,7 +32,7 @@ use sigma_lower::lower;
 use smp_rewrite::to_smp;
 use std::alloc::Global;
 use thiserror::Error;
-use tree_model::{Ctx, Tree, divides};
+use tree_model::{Ctx, Tree, divides, extra_cost};
 use vec_rewrite::to_vec;
 
 /// The cheapest tree with its cost, and its program.
@@ -121,26 +125,34 @@ pub fn admit(request: &Request) -> Result<(), GenerateFault>
     Ok(())
 }
 
-/// The cheapest tree of the request, or the first cause to refuse it.
+/// The cheapest tree of the request with the cost of the whole, or the first cause to refuse it.
 pub fn plan(alloc: Global, request: &Request) -> Result<Plan, GenerateFault>
     requires { IsInRange request.now }
     ensures planned { IfOk result (λ plan. IsPlanned request.now (Ok (breakdown_of plan.tree))) }
-    ensures cost { IfOk result (λ plan. plan.cost ≡ cost_of request.now (breakdown_of plan.tree)) }
+    ensures cost { IfOk result (λ plan. plan.cost ≡ whole_cost request.now (breakdown_of plan.tree)) }
     ensures valid { IfOk result (λ plan. IsValid request.now) }
     ensures refused { IfErr result (λ cause. cause ≢ fault.NoMemory → IsPlanned request.now (Err cause)) }
 {
     check_root(request)?;
     let context = Ctx::new(request);
-    let plan = best(alloc, &context, request.budget)?;
-    Ok(plan)
+    // No cost is over this limit.
+    let Plan { tree, cost } = best(alloc, &context, u64::MAX)?;
+    let cost = cost + extra_cost(&context);
+    if cost > request.budget {
+        return Err(GenerateFault::OverBudget {
+            cost,
+            budget: request.budget,
+        });
+    }
+    Ok(Plan { tree, cost })
 }
 
 /// A good program for the request, or the first cause to refuse it.
 pub fn generate(alloc: Global, request: &Request) -> Result<Product, GenerateFault>
     requires { IsInRange request.now }
     ensures planned { IfOk result (λ product. IsPlanned request.now (Ok (breakdown_of product.plan.tree))) }
-    ensures cost { IfOk result (λ product. product.plan.cost ≡ cost_of request.now (breakdown_of product.plan.tree)) }
-    ensures good { IfOk result (λ product. IsGood request.now (cost_of request.now (breakdown_of product.plan.tree)) product.program) }
+    ensures cost { IfOk result (λ product. product.plan.cost ≡ whole_cost request.now (breakdown_of product.plan.tree)) }
+    ensures good { IfOk result (λ product. IsGood request.now (whole_cost request.now (breakdown_of product.plan.tree)) product.program) }
     ensures lean { IfOk result (λ product. IsLean request.now (breakdown_of product.plan.tree) product.program) }
     ensures refused { IfErr result (λ cause. cause ≢ fault.NoMemory → IsPlanned request.now (Err cause)) }
 {
@@ -150,16 +162,46 @@ pub fn generate(alloc: Global, request: &Request) -> Result<Product, GenerateFau
     Ok(Product { plan, program })
 }
 
-// The program of a tree: its merged passes, written as code.
+// The program of a tree: the merged passes of the request, written as code.
 fn tree_program(alloc: Global, c: &Ctx, tree: &Tree) -> Result<Program, NoMemory>
     requires { IsAdmissible c.now (breakdown_of tree.now) }
-    ensures { IfOk result (λ p. Performs (machine_of c.now) (tree_merged c.now (breakdown_of tree.now)) (plain_program p)) }
+    ensures { IfOk result (λ p. Performs (machine_of c.now) (request_merged c.now (breakdown_of tree.now)) (plain_program p)) }
 {
     let request = c.request();
-    let merged = merge_tree(alloc, c, tree)?;
+    let merged = merge_request(alloc, c, tree)?;
     let modulus = Modulus::new(request.modulus).unwrap();
     let program = emit_on(alloc, &modulus, request.line, &merged)?;
     Ok(program)
+}
+
+// The merged passes of the tree for what the request asks for.
+fn merge_request(alloc: Global, c: &Ctx, tree: &Tree) -> Result<Merged, NoMemory>
+    requires { IsAdmissible c.now (breakdown_of tree.now) }
+    ensures { IfOk result (λ merged. plain_merged merged ≡ request_merged c.now (breakdown_of tree.now)) }
+{
+    match c.request().direction {
+        Direction::Forward => merge_tree(alloc, c, tree),
+        Direction::Inverse => merge_inverse(alloc, c, tree),
+    }
+}
+
+// The passes by the inverse root; the last one multiplies each item that it stores by 1 / n.
+fn merge_inverse(alloc: Global, c: &Ctx, tree: &Tree) -> Result<Merged, NoMemory>
+    requires direction { c.now.direction ≡ Inverse }
+    requires tree { IsAdmissible c.now (breakdown_of tree.now) }
+    ensures { IfOk result (λ merged. plain_merged merged ≡ inverse_merged c.now (breakdown_of tree.now)) }
+{
+    let request = c.request();
+    let modulus = Modulus::new(request.modulus).unwrap();
+    let value = modulus.inverse(request.size).unwrap();
+    let factors = Factors::Repeated {
+        value,
+        count: request.size,
+    };
+    let backward = Ctx::new(&inverted(&request));
+    let passes = merge_tree(alloc, &backward, tree)?;
+    let merged = multiply_last(alloc, passes, Pick::First, factors)?;
+    Ok(merged)
 }
 
 /// The merged passes of a tree: its products of tensors, cut for processors and lanes, become loops, and the loops are

@@ -32,7 +32,7 @@ module _ (c : Request) (d : Direction) (v : ℕ) where
   node-same (leaf d) = refl
   node-same (node rule a b) = refl
 
-  pass-same : (p : Pass) → pass_loads other c.size p ≡ pass_loads c c.size p
+  pub pass-same : (p : Pass) → pass_loads other c.size p ≡ pass_loads c c.size p
   pass-same (nodes count t twiddled) = node-same t
   pass-same (tiles twiddled) = refl
 

@@ -7,7 +7,7 @@ use Rattle.multiplied_passes.specs.Multiplied.{multiplied_last, with_factors}
 use Rattle.multiplied_passes.specs.declared.Pick.{Pick}
 use Rattle.pass_programs.specs.Contract.{all_passes}
 use Rattle.pass_programs.specs.Program.{tables_of_phases, tables_through}
-use Rattle.pass_programs.specs.Statements.{diagonal_of, powers_of, tables_after, tables_of_multiplier, tables_of_nest, tables_of_work}
+use Rattle.pass_programs.specs.Statements.{diagonal_of, one_factor, powers_of, tables_after, tables_of_multiplier, tables_of_nest, tables_of_work, with_diagonal}
 use Rattle.pass_programs.proofs.SharedTables.{with_table-length}
 use Rattle.passes.specs.Nest.{PlainFactors, PlainMultiplier, PlainNest}
 use Rattle.passes.specs.Work.{PlainWork, kernel, rows, horner, tile, copy}
@@ -19,9 +19,13 @@ work-grown m (horner root size) tables = let more = with_table-length tables (po
 work-grown m (tile lanes) tables = omega arith
 work-grown m (copy size) tables = omega arith
 
+diagonal-grown : (o : Option ℕ) (tables : List (List ℕ)) (entries : List ℕ) → length (with_diagonal o tables entries) ≤ length tables + 1
+diagonal-grown None tables entries = let more = with_table-length tables entries in omega (arith, more)
+diagonal-grown (Some value) tables entries = omega arith
+
 multiplier-grown : (m : ℕ) (o : Option PlainMultiplier) (tables : List (List ℕ)) → length (tables_of_multiplier m o tables) ≤ length tables + 1
 multiplier-grown m None tables = omega arith
-multiplier-grown m (Some d) tables = let more = with_table-length tables (diagonal_of m d.factors) in omega (arith, more)
+multiplier-grown m (Some d) tables = let more = diagonal-grown (one_factor d.factors) tables (diagonal_of m d.factors) in omega (arith, more)
 
 pass-grown : (m : ℕ) (zs : List PlainNest) (tables : List (List ℕ)) → length (tables_after m zs tables) ≤ length tables + 2 * length zs
 pass-grown m [] tables = omega arith

@@ -8,7 +8,7 @@ use Rattle.matrix_meaning.specs.Valid.{IsValid}
 use Rattle.pass_actions.specs.Costs.{pass_cost, pass_loads, work_cost, work_loads}
 use Rattle.pass_programs.specs.Contract.{most_actions}
 use Rattle.pass_programs.specs.Program.{tables_of_phases, tables_through}
-use Rattle.pass_programs.specs.Statements.{diagonal_of, is_table, powers_of, tables_of_multiplier, tables_of_nest, tables_of_work, with_table}
+use Rattle.pass_programs.specs.Statements.{diagonal_of, is_table, one_factor, powers_of, tables_of_multiplier, tables_of_nest, tables_of_work, with_diagonal, with_table}
 use Rattle.passes.specs.Counts.{copies_in, multiplier_cost}
 use Rattle.passes.specs.Loops.{nest_of, one_nest}
 use Rattle.passes.specs.Nest.{PlainMultiplier, PlainNest}
@@ -37,6 +37,10 @@ with-grown : (tables : List (List ℕ)) (entries : List ℕ) → length (with_ta
 with-grown [] entries = omega arith
 with-grown (table ∷ tables) entries = grown-pick (is_table table entries) table tables (with_table tables entries) (with-grown tables entries)
 
+diagonal-grown : (o : Option ℕ) (tables : List (List ℕ)) (entries : List ℕ) → length (with_diagonal o tables entries) ≤ suc (length tables)
+diagonal-grown None tables entries = with-grown tables entries
+diagonal-grown (Some value) tables entries = omega arith
+
 work-grown : (m : ℕ) (w : PlainWork) (tables : List (List ℕ)) → length (tables_of_work m w tables) ≤ length tables + 1
 work-grown m (kernel kind root t) tables = omega arith
 work-grown m (rows root size) tables = let more = with-grown tables (powers_of m root size) in omega (arith, more)
@@ -46,7 +50,7 @@ work-grown m (copy size) tables = omega arith
 
 multiplier-grown : (m : ℕ) (o : Option PlainMultiplier) (tables : List (List ℕ)) → length (tables_of_multiplier m o tables) ≤ length tables + 1
 multiplier-grown m None tables = omega arith
-multiplier-grown m (Some d) tables = let more = with-grown tables (diagonal_of m d.factors) in omega (arith, more)
+multiplier-grown m (Some d) tables = let more = diagonal-grown (one_factor d.factors) tables (diagonal_of m d.factors) in omega (arith, more)
 
 nest-grown : (m : ℕ) (z : PlainNest) (tables : List (List ℕ)) → length (tables_of_nest m z tables) ≤ length tables + 2
 nest-grown m z tables =

@@ -1,5 +1,5 @@
 -- The merged passes of a tree count what its passes do in the cost model.
-use Rattle.std.proofs.Common.{◌≡◌, ℕ, ◌+◌, ◌-◌, ◌*◌, ◌/◌, ◌<◌, Bool, true, false, List, [], ◌∷◌, map, refl, sym, ap, ap₂, ◌∙◌, arith, subst, Option, Some, None, if◌then◌else◌}
+use Rattle.std.proofs.Common.{◌≡◌, ℕ, zero, suc, ◌+◌, ◌-◌, ◌*◌, ◌/◌, ◌<◌, Bool, true, false, List, [], ◌∷◌, length, map, refl, sym, ap, ap₂, ◌∙◌, arith, subst, Option, Some, None, if◌then◌else◌}
 use Rattle.std.specs.Prelude.{nat_le}
 use Rattle.std.specs.Option.{option_map}
 use Rattle.std.proofs.lemmas.Bool.Decides.{nat_tests}
@@ -30,7 +30,7 @@ use Rattle.tree_model.specs.Cost.{cost_of, is_kernel, node_root, products_cost}
 use Rattle.tree_model.specs.Passes.{Pass, node_loads, whole_passes}
 use Rattle.tree_model.specs.Passes as trees
 use Rattle.tree_model.proofs.Splits.{product_div}
-use Rattle.tree_passes.specs.Counts.{AllCount, CountsAs, TreesCount}
+use Rattle.tree_passes.specs.Counts.{AllCount, CountsAs, TreesCount, extra_before}
 use Rattle.tree_passes.proofs.Bounds.{copies-are}
 use Rattle.tree_passes.proofs.Known.{AllKnown, tree-known}
 use Rattle.tree_passes.proofs.Owned.{nests_in}
@@ -118,18 +118,25 @@ module _ (c : Request) (p : PlainPass) (valid : IsValid c) (known : IsKnown c p)
       no-copies : (k x : ℕ) → k * 0 + x ≡ x
       no-copies k x = omega arith
 
-  pub pass-counts : CountsAs c (one_nest (loop_of c p)) (counted p)
+  pub pass-counts : CountsAs c 0 (one_nest (loop_of c p)) (counted p)
   pass-counts =
       let all = by-work c p valid known.shaped known.framed With kernel-counts rows-count tile-counts in
-      record { operations = all.0; loads = all.1 }
+      let operations = all.0 in
+      record { operations = omega (arith, operations); loads = all.1 }
+
+-- where there are no extra operations, no pass has any
+pub none-before : (behind : ℕ) → extra_before 0 behind ≡ 0
+none-before zero = refl
+none-before (suc behind) = refl
 
 module _ (c : Request) (valid : IsValid c) where
-  all-count : (ps : List PlainPass) → AllKnown c ps → AllCount c (nests_in c ps) (map counted ps)
+  all-count : (ps : List PlainPass) → AllKnown c ps → AllCount c 0 (nests_in c ps) (map counted ps)
   all-count [] known = tt
-  all-count (p ∷ ps) known = (pass-counts c p valid known.0, all-count ps known.1)
+  all-count (p ∷ ps) known =
+      (subst (λ extra. CountsAs c extra (one_nest (loop_of c p)) (counted p)) (sym (none-before (length (map counted ps)))) (pass-counts c p valid known.0), all-count ps known.1)
 
 pub trees_count : TreesCount
 trees_count c t valid h =
-    let nests : AllCount c (all_passes (nests_of c t).phases) (map counted (merged_of c t)) =
-    subst (λ (ps : List (List PlainNest)). AllCount c ps (map counted (merged_of c t))) (sym (passes-are c (merged_phases c t))) (all-count c valid (merged_of c t) (tree-known c t valid h)) in
-    subst (λ (g : PlainMerged). AllCount c (all_passes g.phases) (whole_passes c t)) (sym (tree_nests c t valid h)) (subst (AllCount c (all_passes (nests_of c t).phases)) (merge_counts c t valid h) nests)
+    let nests : AllCount c 0 (all_passes (nests_of c t).phases) (map counted (merged_of c t)) =
+    subst (λ (ps : List (List PlainNest)). AllCount c 0 ps (map counted (merged_of c t))) (sym (passes-are c (merged_phases c t))) (all-count c valid (merged_of c t) (tree-known c t valid h)) in
+    subst (λ (g : PlainMerged). AllCount c 0 (all_passes g.phases) (whole_passes c t)) (sym (tree_nests c t valid h)) (subst (AllCount c 0 (all_passes (nests_of c t).phases)) (merge_counts c t valid h) nests)

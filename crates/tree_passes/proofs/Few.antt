@@ -1,5 +1,5 @@
 -- A tree has at least one pass, and few.
-use Rattle.std.proofs.Common.{◌≡◌, ℕ, ◌+◌, ◌*◌, ◌^◌, ◌≤◌, Bool, true, false, List, ◌∷◌, length, map, refl, sym, ap, inl, inr, arith, subst, if◌then◌else◌, nat_le, length-append}
+use Rattle.std.proofs.Common.{◌≡◌, ℕ, ◌+◌, ◌*◌, ◌^◌, ◌<◌, ◌≤◌, Bool, true, false, List, ◌∷◌, length, map, refl, sym, ap, inl, inr, arith, subst, if◌then◌else◌, nat_le, length-append}
 use Rattle.std.proofs.lemmas.Nat.{mul-le, pow-add}
 use Rattle.std.proofs.Math.Pow.{pow_mono}
 use Rattle.std.proofs.lemmas.Bool.{cases_lt}
@@ -113,6 +113,14 @@ few_whole c t formed high = by_lanes (nat_le c.lanes 1)
         let some = h.some in
         let few = few_passes c t formed high in record { some = omega arith; few = omega arith }
     by_lanes false = few_tiled c t formed high
+
+pub some_passes : (c : Request) (t : Breakdown) → IsValid c → IsAdmissible c t → 0 < length (whole_passes c t)
+some_passes c t valid admissible =
+    let most = valid.in_range.size in
+    let size = admissible.size in
+    let h = few_whole c t admissible.well_formed (omega arith) in
+    let some = h.some in
+    omega arith
 
 -- the merged passes of a tree, which are as many
 pub record AreFewMerged (ps : List PlainPass) : Type 0 where

@@ -18,4 +18,5 @@ pub mod Few
 pub mod TreesCanProgram
 pub mod Counting
 pub mod Adding
+pub mod Parts
 pub mod Lean

@@ -3,7 +3,7 @@ use Rattle.icode.specs.Program.{plain_program}
 use Rattle.matrix_meaning.specs.declared.Request.{Request}
 use Rattle.passes.specs.Views.{plain_merged}
 use Rattle.tree_model.specs.Breakdown.{breakdown_of}
-use Rattle.generate.proofs.Chain.{can-emit, tree-performs}
+use Rattle.generate.proofs.Chain.{can-emit, request-performs}
 use Rattle.generate.proofs.tree_program.Goals as goal
 
 pub emit_on-requires : goal.emit_on-requires
@@ -19,5 +19,5 @@ returns c =
     let modulus : c.unwrap-modulus.result ≡ c.request-request.result.modulus = rw c.unwrap-modulus.ensures at c.new.ensures.value in
     let residues = modulus ∙ ap (λ (r : Request). r.modulus) c.request-request.ensures.value in
     let words = ap (λ (r : Request). r.line) c.request-request.ensures.value in
-    tree-performs c.args.c.now (breakdown_of c.args.tree.now) (plain_merged c.in_ok-merged.merged) c.unwrap-modulus.result c.request-request.result.line (plain_program c.in_ok-program.program)
+    request-performs c.args.c.now (breakdown_of c.args.tree.now) (plain_merged c.in_ok-merged.merged) c.unwrap-modulus.result c.request-request.result.line (plain_program c.in_ok-program.program)
     c.in_ok-merged.ensures residues words c.in_ok-program.ensures.performs
