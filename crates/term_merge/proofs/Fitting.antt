@@ -1,7 +1,7 @@
 -- Products that stay words.
 use Rattle.std.proofs.Common.{◌≡◌, ℕ, zero, suc, ◌*◌, ◌^◌, ◌<◌, ◌≤◌, arith, [], ◌∷◌, le-mul_of_pos_right}
 use Rattle.std.proofs.Math.Nat.{mul-le-mul}
-use Rattle.passes.specs.Nest.{PlainFactors, values, twiddles, spread, factor_count}
+use Rattle.passes.specs.Nest.{PlainFactors, values, twiddles, repeated, spread, factor_count}
 use Rattle.sigma_spl.specs.Room.{HasRoom}
 use Rattle.tensor_paths.specs.declared.Tensor.TheVariants.{Blocks, Columns}
 use Rattle.tensor_paths.specs.Path.{Path, size_under}
@@ -52,6 +52,7 @@ part_room (Columns c ∷ path) n h high =
 count-fits : (factors : PlainFactors) → 0 < factor_count factors → factor_count factors ≤ 2 ^ 20 → HasCount factors
 count-fits (values entries) some high = tt
 count-fits (twiddles r s root) some high = omega (arith, high)
+count-fits (repeated v n) some high = tt
 count-fits (spread path factors) some high =
     (count-fits factors (part_some path (factor_count factors) some) (part_high path (factor_count factors) some high), part_room path (factor_count factors) some high)
 

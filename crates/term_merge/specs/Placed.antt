@@ -4,7 +4,7 @@ use Rattle.perm_algebra.specs.Affine.{Sum, constant, variable, value, scaled}
 use Rattle.perm_algebra.specs.Fits.{IsAffine, Stays}
 use Rattle.perm_algebra.specs.Room.{CanScale, CanJoin}
 use Rattle.passes.specs.Merge.{place_sum}
-use Rattle.passes.specs.Nest.{PlainFactors, values, twiddles, spread, factor_count}
+use Rattle.passes.specs.Nest.{PlainFactors, values, twiddles, repeated, spread, factor_count}
 use Rattle.sigma_spl.specs.Room.{HasRoom}
 use Rattle.tensor_paths.specs.declared.Tensor.TheVariants.{Blocks, Columns}
 use Rattle.tensor_paths.specs.Path.{Path, size_under}
@@ -30,4 +30,5 @@ AllNamed counts path n (e ∷ es) = CanName (length counts) (slice_index counts)
 abbrev pub HasCount : PlainFactors → Type 0
 HasCount (values entries) = Unit {0}
 HasCount (twiddles r s root) = r * s < 2 ^ 64
+HasCount (repeated v n) = Unit {0}
 HasCount (spread path factors) = HasCount factors × HasRoom path (factor_count factors)

@@ -119,6 +119,7 @@ fn count_in(factors: &Factors) -> u64
     match factors {
         Factors::Values(entries) => entries.len() as u64,
         Factors::Twiddles { rows, cols, .. } => rows * cols,
+        Factors::Repeated { count, .. } => *count,
         Factors::Spread { path, factors } => {
             let count = count_in(factors);
             size_of_whole(path, count)

@@ -253,6 +253,10 @@ pub(crate) fn copied_factors(alloc: Global, factors: &Factors) -> Result<Factors
             cols: *cols,
             root: *root,
         }),
+        Factors::Repeated { value, count } => Ok(Factors::Repeated {
+            value: *value,
+            count: *count,
+        }),
         Factors::Spread { path, factors } => {
             let path = path.as_slice().to_vec(alloc)?;
             let factors = Box::new(alloc, copied_factors(alloc, factors)?)?;
