@@ -1,5 +1,5 @@
 -- The code of a formula is that of every formula with the same summands.
-use Rattle.std.proofs.Common.{◌≡◌, ℕ, ◌+◌, ◌*◌, ◌≤◌, List, ◌∙◌, refl, sym, subst, arith, ap, ap₂, add_assoc}
+use Rattle.std.proofs.Common.{◌≡◌, ℕ, ◌+◌, ◌*◌, ◌≤◌, ◌∙◌, refl, sym, subst, arith, ap, ap₂, add_assoc}
 use Rattle.balanced_sums.specs.Summands.{summands}
 use Rattle.balanced_sums.proofs.Grouping.{KnowsSums}
 use Rattle.balanced_sums.proofs.Sums.{alike, parts_alike}

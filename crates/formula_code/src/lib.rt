@@ -20,15 +20,15 @@ use std::alloc::Global;
 use term_merge::merge_term;
 
 /// The code of a formula modulo m, for one processor of one lane: its listing can be printed, and under every order of
-/// turns it leaves the formula's matrix times the vector. Direct sums are halved first, so that none stands in a long
+/// turns it leaves the formula's matrix times the vector. Direct sums are balanced first, so that none stands in a long
 /// chain of others.
-#[tactic(auto, using(crate::proofs::Regrouped::few_parts, crate::proofs::Regrouped::same_code))]
+#[tactic(auto, using(crate::proofs::Regrouped::few_parts))]
 pub fn formula_program(alloc: Global, modulus: &Modulus, formula: Spl) -> Result<Program, NoMemory>
     requires few { parts_of formula ≤ 65536 }
     ensures code { IfOk result (λ program. IsCodeOf modulus.now formula program) }
 {
-    let halved = balance(alloc, formula)?;
-    let program = code_of_formula(alloc, modulus, &halved)?;
+    let balanced = balance(alloc, formula)?;
+    let program = code_of_formula(alloc, modulus, &balanced)?;
     Ok(program)
 }
 

@@ -1,0 +1,9 @@
+use Rattle.formula_code.proofs.Regrouped.{same_code}
+use Rattle.formula_code.proofs.formula_program.Goals as goal
+
+pub returns : goal.returns
+returns c =
+    record {
+      code = same_code c.args.modulus.now c.args.formula c.in_ok-balanced.balanced c.in_ok-program.program
+          c.in_ok-balanced.ensures.summands (c.in_ok-balanced.ensures.same c.args.modulus.now) c.in_ok-program.ensures.code;
+    }
