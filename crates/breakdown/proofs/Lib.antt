@@ -2,4 +2,3 @@ pub mod Sizes
 pub mod Meaning
 pub mod Nesting
 pub mod Inverse
-
