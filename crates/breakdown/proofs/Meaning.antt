@@ -1,5 +1,5 @@
 -- The formula of a tree is its node's transform.
-use Rattle.std.proofs.Common.{◌≡◌, ℕ, zero, suc, ◌+◌, ◌*◌, ◌/◌, ◌%◌, ◌^◌, ◌<◌, ◌≤◌, List, refl, sym, arith, ap, ap₂, ◌∙◌, mul_comm, mod-eq_of_lt, pow-suc, subst}
+use Rattle.std.proofs.Common.{◌≡◌, ℕ, ◌*◌, ◌/◌, ◌%◌, ◌^◌, ◌<◌, List, refl, sym, arith, ap, ap₂, ◌∙◌, mul_comm, mod-eq_of_lt, pow-suc, subst}
 use Rattle.std.specs.Prelude.{slice_index}
 use Rattle.std.proofs.Math.Nat.{pow-zero, one-mul}
 use Rattle.ring_mod.specs.Residue.{power_mod}

@@ -1,5 +1,5 @@
 -- Sizes of trees and of their formulas.
-use Rattle.std.proofs.Common.{◌≡◌, ℕ, zero, suc, ◌+◌, ◌*◌, ◌/◌, ◌%◌, ◌<◌, ◌≤◌, refl, sym, subst, arith, ap, ap₂, ◌∙◌, mul_comm, mod-eq_of_lt, ⊎_elim}
+use Rattle.std.proofs.Common.{◌≡◌, ℕ, zero, suc, ◌+◌, ◌*◌, ◌/◌, ◌%◌, ◌≤◌, refl, sym, subst, arith, ap, ap₂, ◌∙◌, mul_comm, mod-eq_of_lt, ⊎_elim}
 use Rattle.std.proofs.Math.Nat.{zero-mod, mod_self}
 use Rattle.std.proofs.lemmas.Bool.{cases_lt}
 use Rattle.std.proofs.lemmas.Nat.{div-mul-add}

@@ -1,8 +1,6 @@
-use Rattle.std.proofs.Common.{◌≡◌, ◌*◌, ap, ap₂, ◌∙◌, rules, subst, sym}
+use Rattle.std.proofs.Common.{rules}
 use Rattle.tree_model.specs.Breakdown.{breakdown_of, size_of}
-use Rattle.spl_ast.specs.Formula.{size_of as rows_of}
-use Rattle.breakdown.specs.Expansion.{expansion, HasFactors}
-use Rattle.breakdown.proofs.Sizes.{first_divides, second_divides, product_size, rule_factors, rows_of_expansion, node_expansion}
+use Rattle.breakdown.proofs.Sizes.{first_divides, second_divides, product_size, rule_factors, node_expansion}
 use Rattle.breakdown.proofs.+formula.Goals as goal
 
 pub node_formula-formula-requires : goal.node_formula-formula-requires

@@ -1,8 +1,6 @@
 use Rattle.std.proofs.Common.{subst, sym}
-use Rattle.matrix_meaning.specs.Valid.{IsValid}
 use Rattle.tree_model.specs.Breakdown.{breakdown_of, size_of}
 use Rattle.spl_ast.specs.Nesting.{IsPrintable}
-use Rattle.breakdown.specs.Expansion.{expansion}
 use Rattle.breakdown.specs.Law.{IsNodeTransform}
 use Rattle.breakdown.proofs.Meaning.{whole_meaning}
 use Rattle.breakdown.proofs.Nesting.{printable}
