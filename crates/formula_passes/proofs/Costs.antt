@@ -18,7 +18,7 @@ use Rattle.pass_actions.specs.Costs.{pass_cost, pass_loads, work_cost, work_load
 use Rattle.pass_actions.specs.Machine.{plain_machine}
 use Rattle.pass_actions.proofs.Kernels.{kernel-runs}
 use Rattle.pass_programs.specs.Program.{tables_through}
-use Rattle.pass_programs.specs.Statements.{diagonal_of, is_table, powers_of, tables_after, tables_of_multiplier, tables_of_nest, tables_of_work, with_table}
+use Rattle.pass_programs.specs.Statements.{diagonal_of, is_table, one_factor, powers_of, tables_after, tables_of_multiplier, tables_of_nest, tables_of_work, with_diagonal, with_table}
 use Rattle.passes.specs.Counts.{copies_in, multiplier_cost}
 use Rattle.passes.specs.Nest.{PlainMultiplier, PlainNest, copies_of}
 use Rattle.passes.specs.Work.{PlainWork, kernel, rows, horner, tile, copy, work_size}
@@ -173,9 +173,13 @@ work-grown m (horner root d) tables = let more = with-grown tables (powers_of m 
 work-grown m (tile v) tables = omega arith
 work-grown m (copy d) tables = omega arith
 
+diagonal-grown : (o : Option ℕ) (tables : List (List ℕ)) (entries : List ℕ) → length (with_diagonal o tables entries) ≤ length tables + 1
+diagonal-grown None tables entries = let more = with-grown tables entries in omega (arith, more)
+diagonal-grown (Some value) tables entries = omega arith
+
 multiplier-grown : (m : ℕ) (o : Option PlainMultiplier) (tables : List (List ℕ)) → length (tables_of_multiplier m o tables) ≤ length tables + diagonal_tables o
 multiplier-grown m None tables = omega arith
-multiplier-grown m (Some d) tables = let more = with-grown tables (diagonal_of m d.factors) in omega (arith, more)
+multiplier-grown m (Some d) tables = diagonal-grown (one_factor d.factors) tables (diagonal_of m d.factors)
 
 pass-grown : (m : ℕ) (zs : List PlainNest) (tables : List (List ℕ)) → length (tables_after m zs tables) ≤ length tables + nests_tables zs
 pass-grown m [] tables = omega arith

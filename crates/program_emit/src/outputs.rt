@@ -1,7 +1,7 @@
 // Stores of a nest, with the products before them.
 ghost use Rattle.std.specs.Prelude.{◌≡◌, ◌+◌, ◌<◌, ◌^◌, IfOk, OnOk, map};
 ghost use Rattle.std.specs.Option.{option_map};
-ghost use Rattle.icode.specs.Plain.{Store, plain_body, plain_expr};
+ghost use Rattle.icode.specs.Plain.{MulConst, MulTable, Store, plain_body, plain_expr};
 ghost use Rattle.pass_actions.specs.Acts.{with_multiplier};
 ghost use Rattle.pass_programs.specs.Statements.{do_only, finish_body, followed_by, one_factor, product_op};
 ghost use Rattle.pass_programs.specs.Statements as statements;
@@ -50,8 +50,46 @@ fn put_store(out: &mut Vec<Stmt>, array: Array, place: Expr, register: u64) -> R
     Ok(())
 }
 
-// Appends the product of an item's register and the one factor of a diagonal, or entries of its table.
+// Appends the product of an item's register and a factor.
+fn put_multiple(out: &mut Vec<Stmt>, item: Item, factor: u64) -> Result<(), NoMemory>
+    ensures { OnOk result (plain_body out.new.items ≡ followed_by (plain_body out.old.items) (do_only (MulConst item.free item.from factor))) }
+{
+    put_op(
+        out,
+        Op::MulConst {
+            register: item.free,
+            source: item.from,
+            factor,
+        },
+    )?;
+    Ok(())
+}
+
+// Appends the product of an item's register and entries of a table, of which the first has this place.
 fn put_product(
+    out: &mut Vec<Stmt>,
+    item: Item,
+    table: u64,
+    place: Expr,
+    step: u64,
+) -> Result<(), NoMemory>
+    ensures { OnOk result (plain_body out.new.items ≡ followed_by (plain_body out.old.items) (do_only (MulTable item.free item.from table (plain_expr place) step))) }
+{
+    put_op(
+        out,
+        Op::MulTable {
+            register: item.free,
+            source: item.from,
+            table,
+            place,
+            step,
+        },
+    )?;
+    Ok(())
+}
+
+// Appends the product of an item's register and the one factor of a diagonal, or entries of its table.
+fn put_multiplied(
     alloc: Global,
     out: &mut Vec<Stmt>,
     multiplier: &Multiplier,
@@ -60,41 +98,18 @@ fn put_product(
     item: Item,
 ) -> Result<(), NoMemory>
     requires { HasPlaces (item.number + 1) (plain_multiplier multiplier.now).places }
-    ensures { OnOk result (let d = plain_multiplier multiplier.now in plain_body out.new.items ≡ followed_by (plain_body out.old.items)
-        (do_only (product_op (one_factor d.factors) item.free item.from site.table (statements.place_at (plain_frame site.frame) site.open_loops d.places item.number) step))) }
+    ensures { OnOk result (let d = plain_multiplier multiplier.now in let f = plain_frame site.frame in plain_body out.new.items ≡ followed_by (plain_body out.old.items)
+        (do_only (product_op (one_factor d.factors) item.free item.from site.table (statements.place_at f site.open_loops d.places item.number) step))) }
 {
-    let register = item.free;
-    let source = item.from;
+    let sums = &multiplier.places;
     match one_factor(&multiplier.factors) {
         Some(factor) => {
-            put_op(
-                out,
-                Op::MulConst {
-                    register,
-                    source,
-                    factor,
-                },
-            )?;
+            put_multiple(out, item, factor)?;
             Ok(())
         }
         None => {
-            let place = place_at(
-                alloc,
-                site.frame,
-                &multiplier.places,
-                item.number,
-                site.open_loops,
-            )?;
-            put_op(
-                out,
-                Op::MulTable {
-                    register,
-                    source,
-                    table: site.table,
-                    place,
-                    step,
-                },
-            )?;
+            let place = place_at(alloc, site.frame, sums, item.number, site.open_loops)?;
+            put_product(out, item, site.table, place, step)?;
             Ok(())
         }
     }
@@ -114,21 +129,20 @@ pub(crate) fn put_output(
     ensures { OnOk result (let z = plain_nest nest.now in plain_body out.new.items ≡ followed_by (plain_body out.old.items)
         (finish_body (plain_frame site.frame) step z.multiplier z.scatters site.open_loops site.table site.target item.number item.from item.free)) }
 {
-    let target = site.target;
-    let place = place_at(
-        alloc,
-        site.frame,
-        &nest.scatters,
-        item.number,
-        site.open_loops,
-    )?;
+    let Site {
+        frame,
+        open_loops,
+        target,
+        ..
+    } = site;
+    let place = place_at(alloc, frame, &nest.scatters, item.number, open_loops)?;
     match &nest.multiplier {
         None => {
             put_store(out, target, place, item.from)?;
             Ok(())
         }
         Some(multiplier) => {
-            put_product(alloc, out, multiplier, site, step, item)?;
+            put_multiplied(alloc, out, multiplier, site, step, item)?;
             put_store(out, target, place, item.free)?;
             Ok(())
         }

@@ -78,8 +78,10 @@ fn number_diagonal(
     tables: &mut Vec<Vec<u64>>,
 ) -> Result<u64, NoMemory>
     requires { CanList (plain_factors factors.now) }
-    ensures number { IfOk result (λ n. let d = plain_factors factors.now in n ≡ diagonal_number (one_factor d) (plain_tables tables.old.items) (diagonal_of modulus.now d)) }
-    ensures tables { OnOk result (let d = plain_factors factors.now in plain_tables tables.new.items ≡ with_diagonal (one_factor d) (plain_tables tables.old.items) (diagonal_of modulus.now d)) }
+    ensures number { IfOk result (λ n. let d = plain_factors factors.now in
+        n ≡ diagonal_number (one_factor d) (plain_tables tables.old.items) (diagonal_of modulus.now d)) }
+    ensures tables { OnOk result (let d = plain_factors factors.now in plain_tables tables.new.items ≡
+        with_diagonal (one_factor d) (plain_tables tables.old.items) (diagonal_of modulus.now d)) }
 {
     match one_factor(factors) {
         Some(_) => Ok(0),

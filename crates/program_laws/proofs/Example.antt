@@ -1,22 +1,24 @@
 -- The conditions can be met: a transform of size 2 modulo 5 by the root 3, which is none of its size, by Horner's rule.
 use Rattle.std.proofs.Common.{◌≡◌, ℕ, zero, suc, ◌+◌, ◌*◌, ◌-◌, ◌%◌, ◌^◌, ◌<◌, ◌≤◌, refl, arith, List, [], ◌∷◌, mod-lt, All}
-use Rattle.std.specs.Prelude.{IsTrue, true, false, map, ◌==◌, if◌then◌else◌}
+use Rattle.std.specs.Prelude.{IsTrue, Some, true, false, map, ◌==◌, if◌then◌else◌}
 use Rattle.std.proofs.lemmas.Bool.Decides.{nat_tests}
 use Rattle.std.proofs.lemmas.List.Elements.{All-nil, All-cons}
 use Rattle.icode.specs.Limits.{is_expr_within}
-use Rattle.icode.specs.Plain.{NoStmts, AndStmts, Loop, Do, Load, Store, Zero, Add, MulTable, Sum, NoParts, AndParts, Var, Rem}
+use Rattle.icode.specs.Plain.{NoStmts, AndStmts, Loop, Do, Load, Store, Zero, Add, MulConst, MulTable, Sum, NoParts, AndParts, Var, Rem}
 use Rattle.icode.specs.declared.program.Array.TheVariants.{X, Y}
 use Rattle.passes.specs.Merge.{limits_of, new_nest, items_in}
 use Rattle.passes.specs.Copies.{hits}
-use Rattle.passes.specs.Nest.{PlainNest, copies_of, load_place, store_place}
+use Rattle.passes.specs.Nest.{PlainNest, repeated, spread, copies_of, load_place, store_place}
 use Rattle.index_fn.specs.Mapping.{ThomasIn}
-use Rattle.passes.specs.Work.{horner}
+use Rattle.passes.specs.Work.{copy, horner}
 use Rattle.perm_algebra.specs.Affine as sums
 use Rattle.tensor_paths.specs.Path.{AreInRange}
+use Rattle.tensor_paths.specs.declared.Tensor.TheVariants.{Blocks}
 use Rattle.pass_programs.specs.Conditions.{CanWrite, FitsWord, LoadsEachRow}
 use Rattle.pass_programs.specs.Expressions.{expr_of}
 use Rattle.pass_actions.specs.Machine.{PlainFrame, plain_machine}
 use Rattle.pass_programs.specs.Program.{program_of}
+use Rattle.pass_programs.specs.Statements.{nest_body, tables_of_nest}
 use Rattle.program_laws.proofs.Plain.{plain_programs_perform}
 use Rattle.program_laws.specs.Plain.{ArePlainPasses, IsPlainNest, IsPlainPass, PlainPerforms, plain_merged}
 
@@ -107,6 +109,25 @@ listing :
     NoStmts
     ∷ []
 listing = refl
+
+-- copies of a word times 3: the product has the number, and there is no table
+abbrev tripled : PlainNest
+tripled =
+    record {
+      counts = [];
+      work = copy 1;
+      gathers = sums.constant 0 ∷ [];
+      multiplier = Some (record { factors = spread (Blocks 2 ∷ []) (repeated 3 1); places = sums.constant 0 ∷ [] });
+      scatters = sums.constant 1 ∷ [];
+    }
+
+tripled-listing :
+    nest_body (plain_machine 2 5) tripled [] X Y
+    ≡ AndStmts (Do (Load 0 X (Sum 0 NoParts))) (AndStmts (Do (MulConst 1 0 3)) (AndStmts (Do (Store Y (Sum 1 NoParts) 1)) NoStmts))
+tripled-listing = refl
+
+tripled-tables : tables_of_nest 5 tripled [] ≡ []
+tripled-tables = refl
 
 -- a Good-Thomas permutation, whose place has a quotient before a remainder, is within the limits
 gtin : is_expr_within (expr_of frame 1 (sums.simplified (λ d. 6) (ThomasIn 3 2) (sums.variable 1 0 (sums.constant 0)))) 1 ≡ true
