@@ -2,7 +2,7 @@
 
 from collections import namedtuple
 
-from transforms import COOLEY_TUKEY, GOOD_THOMAS, LEAF, entry, is_kernel, is_plain, powers, tree_size
+from transforms import COOLEY_TUKEY, GOOD_THOMAS, LEAF, entry, forward, is_kernel, is_plain, last_factor, powers, tree_size
 
 # Places: a constant, multiples of variables and of products of two, and multiples of remainders. The processor is the
 # variable of depth -1.
@@ -130,10 +130,12 @@ class Kernel:
 
 
 # Passes, from right to left, each with the loops around it and the places that it loads and stores as functions of its
-# own places. A kernel or long leaf has a tree, and a tile has none. The diagonal multiplies what is stored.
+# own places. A kernel or long leaf has a tree, and a tile has none. The diagonal, or the constant for all, multiplies what
+# is stored.
 
 Pass = namedtuple("Pass", "tree loops loaded stored diagonal phase")
 Diagonal = namedtuple("Diagonal", "table place")
+Constant = namedtuple("Constant", "value")
 
 
 def opened(loops, count):
@@ -261,9 +263,11 @@ class Emitter:
     """The statements of a tree's passes. An equal list of constants is one table."""
 
     def __init__(self, request, tree):
-        self.request, self.tables, self.registers = request, [], 0
+        self.request, self.tables, self.registers = forward(request), [], 0
         phases = [[] for _ in range(phase_count(request))]
-        chain, read = all_passes(request, tree), "X"
+        chain, read = all_passes(self.request, tree), "X"
+        if request.kind == "idft":
+            chain[-1] = chain[-1]._replace(diagonal=Constant(last_factor(request)))
         for at, one in enumerate(chain):
             written = "Y" if at + 1 == len(chain) else "AB"[at % 2]
             phases[one.phase] += nested(one.loops, self.body(one, read, written))
@@ -284,7 +288,10 @@ class Emitter:
     def stores(self, one, written, index, register, fresh, step=0):
         """The statements that store an output, multiplied by the diagonal into a fresh register before."""
         statements = []
-        if one.diagonal:
+        if isinstance(one.diagonal, Constant):
+            statements.append(("mul", fresh, register, one.diagonal.value))
+            register = fresh
+        elif one.diagonal:
             table = self.table(one.diagonal.table)
             statements.append(("mul by", fresh, register, table, one.diagonal.place(index), step))
             register = fresh

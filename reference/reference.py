@@ -15,7 +15,8 @@ from convolutions import convolved
 from emission import Emitter, actions_of, c_text, listing, loads_and_stores, phase_count
 from machine import Machine, run_lines
 from strangers import executed
-from transforms import Refused, admitted, certificate, certificate_rows, formula, read_request, transform, tree_text
+from transforms import Refused, admitted, certificate, certificate_rows, formula, forward, last_factor
+from transforms import read_request, transform, tree_text
 
 
 def vector_of_seed(request, seed):
@@ -28,14 +29,16 @@ def vector_of_seed(request, seed):
 
 def column_weight(request, l):
     """The sum over k of (k+1) times the entry in row k, column l, for a size that is a power of two: by halves, since
-    the lower half's entries times one factor are the upper half's."""
+    the lower half's entries times one ratio are the upper half's."""
     modulus, half = request.modulus, 1
+    if request.kind == "idft":
+        return last_factor(request) * column_weight(forward(request), l) % modulus
     total, weighted = 1, 1
     power = pow(request.root, l, modulus)
     while half < request.size:
-        factor = power if request.kind == "dft" else modulus - 1 if l & half else 1
-        weighted = (weighted + factor * (weighted + half * total)) % modulus
-        total = (total + factor * total) % modulus
+        ratio = power if request.kind == "dft" else modulus - 1 if l & half else 1
+        weighted = (weighted + ratio * (weighted + half * total)) % modulus
+        total = (total + ratio * total) % modulus
         power = power * power % modulus
         half *= 2
     return weighted
@@ -50,13 +53,13 @@ def weighted_sum(request, data):
 
 def sample(request, cost, tree, seed):
     total = weighted_sum(request, vector_of_seed(request, seed))
-    loads, stores = loads_and_stores(request, tree)
+    loads, stores = loads_and_stores(forward(request), tree)
     return f"sum {total}\noperations {cost}\nloads {loads}\nstores {stores}\n"
 
 
 def plan(request, cost, tree):
     phases, each = phase_count(request), cost // request.procs
-    return f"tree {tree_text(request, tree)}\ncost {cost}\nphases {phases}\neach {each}\n"
+    return f"tree {tree_text(forward(request), tree)}\ncost {cost}\nphases {phases}\neach {each}\n"
 
 
 def vectors(request, data):

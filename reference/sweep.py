@@ -12,8 +12,8 @@ from formula_sweep import formulas_swept
 from listings import Lost, read_listing
 from reference import answer, vectors
 from strangers import MOST_ACTIONS, count, executed, parts_of
-from transforms import Refused, admitted, best, certificate, certificate_rows, every_tree, read_request, transform
-from transforms import tree_count
+from transforms import Refused, admitted, best, certificate, certificate_rows, every_tree, extra_cost, forward
+from transforms import read_request, transform, tree_count
 
 # Requests that the documents speak of, and the ends of the limits.
 NAMED = """
@@ -49,6 +49,24 @@ dft 210 mod 211 root 2 unroll 2
 dft 240 mod 241 root 7 unroll 64
 dft 251 mod 503 root 2
 dft 256 mod 257 root 3 unroll 64
+idft 1 mod 2 root 1
+idft 1 mod 17 root 1 weight 3
+idft 1 mod 17 root 1 budget 2 weight 3
+idft 2 mod 10 root 9
+idft 2 mod 15 root 4
+idft 2 mod 4611686018427387903 root 4611686018427387902
+idft 4 mod 17 root 4
+idft 4 mod 17 root 1
+idft 4 mod 17 root 3
+idft 4 mod 17 root 4 budget 12
+idft 4 mod 17 root 4 budget 13
+idft 6 mod 7 root 3 weight 5
+idft 9 mod 19 root 4 unroll 2
+idft 11 mod 23 root 2 unroll 11
+idft 15 mod 31 root 9
+idft 16 mod 17 root 3 unroll 16 weight 2
+idft 30 mod 31 root 3 unroll 2
+idft 36 mod 1369 root 1258
 wht 1 mod 2
 wht 2 mod 2
 wht 4 mod 5
@@ -75,6 +93,14 @@ dft 144 mod 31 root 30 procs 3 line 4 unroll 3
 dft 144 mod 17 root 1 procs 2 line 3 lanes 2
 dft 225 mod 101 root 1 procs 3 line 5 unroll 2
 dft 256 mod 257 root 3 procs 4 line 4 lanes 4
+idft 4 mod 17 root 4 procs 2 line 1
+idft 4 mod 10 root 3 procs 2 line 3 lanes 2
+idft 16 mod 17 root 3 procs 2 line 2 lanes 2
+idft 36 mod 37 root 2 procs 2 line 3 unroll 2
+idft 64 mod 193 root 125 lanes 8 unroll 2
+idft 81 mod 163 root 38 procs 3 line 3 lanes 3 weight 5
+idft 144 mod 31 root 30 procs 3 line 4 unroll 3
+idft 256 mod 257 root 3 procs 4 line 4 lanes 4
 wht 4 mod 5 lanes 2
 wht 16 mod 10 procs 4
 wht 64 mod 97 procs 2 line 4 lanes 4 unroll 2
@@ -84,7 +110,7 @@ wht 256 mod 4611686018427387903 procs 2 line 8 lanes 2
 # Sizes for which only what needs no plain sum is compared.
 LARGE = ["dft 65536 mod 65537 root 3", "wht 65536 mod 65536", "dft 30030 mod 30031 root 1 budget 1000000000000"]
 LARGE += ["dft 65536 mod 65537 root 3 budget 1000000000000 weight 1000"]
-LARGE += ["wht 1048576 mod 5", "dft 1048576 mod 7340033 root 78125 budget 1000000000"]
+LARGE += ["idft 65536 mod 65537 root 3", "wht 1048576 mod 5", "dft 1048576 mod 7340033 root 78125 budget 1000000000"]
 
 UNROLLS = [2, 2, 3, 4, 5, 6, 7, 8, 8, 8, 9, 12, 16, 25, 32, 64]
 WEIGHTS = [1, 2, 5, 1000]
@@ -166,6 +192,12 @@ def spread(numbers):
         return f"{first} procs {procs} line {line} lanes {lanes} unroll {numbers.one_of(UNROLLS)}"
 
 
+def inverse(numbers, make=None):
+    """A request for the inverse of a Fourier transform. Some sizes share a factor with the modulus."""
+    line = (make or numbers.one_of([any_root, any_root, rich_root, power_of_two]))(numbers)
+    return f"i{line}" if line.startswith("dft") else line
+
+
 def weighed(numbers, line):
     """The request with a weight, or with none."""
     return line + numbers.one_of(["", *(f" weight {weight}" for weight in WEIGHTS)])
@@ -173,12 +205,13 @@ def weighed(numbers, line):
 
 def spread_requests():
     numbers = Numbers(5)
-    return SPREAD.split("\n")[1:-1] + [weighed(numbers, spread(numbers)) for _ in range(40)]
+    lines = [spread(numbers) for _ in range(40)] + [inverse(numbers, spread) for _ in range(40)]
+    return SPREAD.split("\n")[1:-1] + [weighed(numbers, line) for line in lines]
 
 
 def requests():
     numbers = Numbers(7)
-    makers = [any_root] * 120 + [rich_root] * 100 + [power_of_two] * 20 + [hadamard] * 30
+    makers = [any_root] * 120 + [rich_root] * 100 + [power_of_two] * 20 + [hadamard] * 30 + [inverse] * 120
     return NAMED.split("\n")[1:-1] + [weighed(numbers, make(numbers)) for make in makers]
 
 
@@ -192,7 +225,7 @@ def straight(numbers):
 
 def requests_at_each_weight():
     numbers = Numbers(13)
-    makers = [any_root] * 20 + [rich_root] * 20 + [straight] * 60 + [hadamard] * 5 + [spread] * 15
+    makers = [any_root] * 20 + [rich_root] * 20 + [straight] * 60 + [hadamard] * 5 + [spread] * 15 + [inverse] * 15
     lines = ["dft 16 mod 17 root 2 unroll 16", *(make(numbers) for make in makers)]
     return [[f"{line} weight {weight}" for weight in WEIGHTS] for line in lines]
 
@@ -271,14 +304,14 @@ def budgets(sweep, line, cost):
 def agrees_with_itself(request, cost, tree, data):
     """The plan is the first of the cheapest of all trees, and the listed program leaves the plain sums at its counts."""
     if request.size <= 24:
-        assert min(every_tree(request, request.size)) == (cost, tree)
+        assert min(every_tree(forward(request), request.size)) == (cost - extra_cost(request), tree)
     if request.size <= 64:
         vector = next(vectors(request, data))
         program = Emitter(request, tree).program
         assert run(program, vector) == transform(request, vector)
         words = [word for _, (word, *_) in actions(program)]
         loads, stores = words.count("ld"), words.count("st")
-        assert (request.lanes * loads, request.lanes * stores) == loads_and_stores(request, tree)
+        assert (request.lanes * loads, request.lanes * stores) == loads_and_stores(forward(request), tree)
         others = words.count("zero") + words.count("tile")
         weighted = len(words) - loads - stores - others + (request.weight - 1) * words.count("mul")
         assert request.lanes * weighted == cost
@@ -394,9 +427,9 @@ def plans(sweep, lines):
     trees = set()
     for line in lines:
         request = read_request(line)
-        if tree_count(request, request.size) < 20_000:
-            cost, tree = best(request, request.size)
-            assert min(every_tree(request, request.size)) == (cost, tree)
+        if tree_count(forward(request), request.size) < 20_000:
+            cost, tree = best(forward(request), request.size)
+            assert min(every_tree(forward(request), request.size)) == (cost, tree)
             trees.add(tree)
         for command in ("plan", "cert"):
             sweep.compare(command, line, wanted(command, line))

@@ -7,7 +7,7 @@ from math import gcd
 from operator import mul
 
 WORDS = ("root", "procs", "line", "lanes", "unroll", "budget", "weight")
-LINE = re.compile(r"(dft|wht) (\d+) mod (\d+)" + "".join(rf"(?: {word} (\d+))?" for word in WORDS))
+LINE = re.compile(r"(dft|idft|wht) (\d+) mod (\d+)" + "".join(rf"(?: {word} (\d+))?" for word in WORDS))
 
 # A request's line. The root of a wht is 0.
 Request = namedtuple("Request", "kind size modulus root procs line lanes unroll budget weight")
@@ -21,6 +21,23 @@ def read_request(line):
     kind, *numbers = LINE.fullmatch(line).groups()
     absent = (None, None, 0, 1, 1, 1, 8, 10**8, 1)
     return Request(kind, *(default if text is None else int(text) for text, default in zip(numbers, absent)))
+
+
+def forward(request):
+    """The request whose trees and passes do the work: for an inverse that of the transform by the inverse root."""
+    if request.kind != "idft":
+        return request
+    return request._replace(kind="dft", root=pow(request.root, request.size - 1, request.modulus))
+
+
+def last_factor(request):
+    """What the inverse multiplies each item by, at last; None for a transform."""
+    return pow(request.size, -1, request.modulus) if request.kind == "idft" else None
+
+
+def extra_cost(request):
+    """What the inverse costs beside its tree."""
+    return request.weight * request.size if request.kind == "idft" else 0
 
 
 def is_plain(request):
@@ -53,6 +70,8 @@ def entry(request, d, k, l):
 def row(request, k):
     """Row k of the request's matrix."""
     size = request.size
+    if request.kind == "idft":
+        return [last_factor(request) * value % request.modulus for value in row(forward(request), k)]
     if request.kind == "wht":
         return [entry(request, size, k, l) for l in range(size)]
     values = powers(request, size)
@@ -177,22 +196,28 @@ def every_tree(request, d):
 
 
 def admitted(request):
-    """The least cost and the chosen tree of a request that is done."""
+    """The least cost and the chosen tree of a request that is done. The tree of an inverse is that of `forward`."""
     if request.procs > 1 and request.line % request.lanes:
         raise Refused(4, f"lanes {request.lanes} do not divide line {request.line}")
+    shared = gcd(request.size, request.modulus)
+    if request.kind == "idft" and shared != 1:
+        raise Refused(15, f"size and modulus share the factor {shared}")
     power = pow(request.root, request.size, request.modulus)
-    if request.kind == "dft" and power != 1:
+    if request.kind != "wht" and power != 1:
         raise Refused(6, f"root to the size is {power}, not 1")
-    choice = best(request, request.size)
+    choice = best(forward(request), request.size)
     if choice is None:
         raise Refused(7, "no split fits procs, line and lanes")
-    if choice[0] > request.budget:
-        raise Refused(8, f"least cost {choice[0]} is over budget {request.budget}")
-    return choice
+    cost, tree = choice[0] + extra_cost(request), choice[1]
+    if cost > request.budget:
+        raise Refused(8, f"least cost {cost} is over budget {request.budget}")
+    return cost, tree
 
 
 def formula(request, tree):
     d = tree_size(tree)
+    if request.kind == "idft":
+        return f"TIMES(RIGHT({d},DIAG({last_factor(request)})),{formula(forward(request), tree)})"
     if tree[0] == LEAF:
         return f"WHT({d})" if request.kind == "wht" else f"DFT({d},{root_of(request, d)})"
     rule, r, left, right = tree
@@ -209,7 +234,8 @@ def certificate_rows(request):
     """Size, least cost, rule and parts of each divisor of the size."""
     for d in range(min(request.size, 2), request.size + 1):
         if request.size % d == 0:
-            cost, tree = best(request, d)
+            cost, tree = best(forward(request), d)
+            cost += extra_cost(request) if d == request.size else 0
             parts = (0, 0) if tree[0] == LEAF else (tree[1], d // tree[1])
             yield d, cost, rule_name(request, tree), *parts
 

@@ -11,7 +11,7 @@ use Rattle.tree_model.specs.Cost.{node_root}
 use Rattle.tree_model.proofs.Sizes.{one_le_size_of}
 use Rattle.spl_ast.specs.Formula.{Formula}
 use Rattle.spl_ast.specs.Nesting.{nesting_of, IsComplete, IsPrintable}
-use Rattle.breakdown.specs.Expansion.{expansion, leaf_formula, rule_formula}
+use Rattle.breakdown.specs.Expansion.{divided, expansion, leaf_formula, rule_formula}
 
 complete-leaf : (kind : Kind) (d w : ℕ) → IsComplete (leaf_formula kind d w)
 complete-leaf Dft d w = tt
@@ -60,5 +60,12 @@ nesting_below c (node rule a b) (suc k) tree below =
 pub printable : (c : Request) (t : Breakdown) → IsWellFormed c.kind t → size_of t ≤ 1048576 → IsPrintable (expansion c t)
 printable c t tree small = record {
   complete = complete c t;
+  shallow = omega (arith, nesting_below c t 21 tree (omega arith));
+}
+
+-- the factor opens at most three parentheses
+pub printable_divided : (c : Request) (t : Breakdown) (m n : ℕ) → IsWellFormed c.kind t → size_of t ≤ 1048576 → IsPrintable (divided m n (expansion c t))
+printable_divided c t m n tree small = record {
+  complete = (tt, complete c t);
   shallow = omega (arith, nesting_below c t 21 tree (omega arith));
 }

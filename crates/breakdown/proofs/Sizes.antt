@@ -1,6 +1,6 @@
 -- Sizes of trees and of their formulas.
 use Rattle.std.proofs.Common.{◌≡◌, ℕ, zero, suc, ◌+◌, ◌*◌, ◌/◌, ◌%◌, ◌<◌, ◌≤◌, refl, sym, subst, arith, ap, ap₂, ◌∙◌, mul_comm, mod-eq_of_lt, ⊎_elim}
-use Rattle.std.proofs.Math.Nat.{zero-mod}
+use Rattle.std.proofs.Math.Nat.{zero-mod, mod_self}
 use Rattle.std.proofs.lemmas.Bool.{cases_lt}
 use Rattle.std.proofs.lemmas.Nat.{div-mul-add}
 use Rattle.ring_mod.proofs.Congruence.{same-from_product}
@@ -73,6 +73,9 @@ second_divides n r s h = first_divides n s r (ap (λ k. n % k) (mul_comm s r) �
 
 divisor_below : (n d : ℕ) → 1 ≤ n → n % d ≡ 0 → d ≤ n
 divisor_below n d pos h = ⊎_elim (λ l. let same : n % d ≡ n = mod-eq_of_lt l in absurd (omega arith)) (λ l. l) (cases_lt n d)
+
+pub whole_divides : (n d : ℕ) → d ≡ n → n % d ≡ 0
+whole_divides n d same = ap (λ k. n % k) same ∙ mod_self n
 
 -- a node has a size
 pub node_size : (c : Request) (t : Breakdown) → IsValid c → IsWellFormed c.kind t → c.size % size_of t ≡ 0 → IsSize (size_of t)

@@ -2,6 +2,8 @@
 //! (Püschel et al., 2005).
 #![tactic(auto)]
 
+mod asked;
+
 ghost use Rattle.std.specs.Prelude.{◌≡◌, ◌*◌, ◌%◌, ◌^◌, ◌<◌, ◌≤◌, IfOk};
 ghost use Rattle.matrix_meaning.specs.declared.Kind.{Kind};
 ghost use Rattle.tree_model.specs.declared.tree.Rule.TheVariants.{Gt, Ct, Split};
@@ -13,13 +15,14 @@ ghost use Rattle.tree_model.specs.Cost.{node_root};
 ghost use Rattle.breakdown.specs.Expansion.{expansion, leaf_formula, rule_formula, HasFactors};
 ghost use Rattle.breakdown.specs.Law.{ExpansionIsTransform, IsNodeTransform, IsWholeTransform};
 
+pub use asked::expand_request;
 use matrix_meaning::{Kind, cooley_tukey, good_thomas, split};
 use spl_ast::{NoMemory, Spl};
 use std::alloc::Global;
 use tree_model::{Ctx, Rule, Tree, node_root};
 
 /// The formula of the tree, down to its leaves. Modulo the request's modulus it is the transform of the tree's node, and
-/// for a tree of the request's size that of the request.
+/// for a tree of the request's size that of the request's root.
 #[tactic(auto, using(crate::proofs::Sizes::rows_of_expansion))]
 pub fn expand(alloc: Global, c: &Ctx, t: &Tree) -> Result<Spl, NoMemory>
     requires tree { IsWellFormed c.now.kind (breakdown_of t.now) }

@@ -7,6 +7,7 @@ ghost use Rattle.formula_passes.specs.Computes.{formula_merged};
 ghost use Rattle.passes.specs.Views.{plain_merged};
 ghost use Rattle.spl_ast.specs.Formula.{parts_of};
 
+use balanced_sums::balance;
 use formula_lower::lower_formula;
 use icode::program::Program;
 use joined_copies::join_copies;
@@ -19,8 +20,20 @@ use std::alloc::Global;
 use term_merge::merge_term;
 
 /// The code of a formula modulo m, for one processor of one lane: its listing can be printed, and under every order of
-/// turns it leaves the formula's matrix times the vector.
-pub fn formula_program(alloc: Global, modulus: &Modulus, formula: &Spl) -> Result<Program, NoMemory>
+/// turns it leaves the formula's matrix times the vector. Direct sums are halved first, so that none stands in a long
+/// chain of others.
+#[tactic(auto, using(crate::proofs::Regrouped::few_parts, crate::proofs::Regrouped::same_code))]
+pub fn formula_program(alloc: Global, modulus: &Modulus, formula: Spl) -> Result<Program, NoMemory>
+    requires few { parts_of formula ≤ 65536 }
+    ensures code { IfOk result (λ program. IsCodeOf modulus.now formula program) }
+{
+    let halved = balance(alloc, formula)?;
+    let program = code_of_formula(alloc, modulus, &halved)?;
+    Ok(program)
+}
+
+// The code of a formula, its direct sums as they stand.
+fn code_of_formula(alloc: Global, modulus: &Modulus, formula: &Spl) -> Result<Program, NoMemory>
     requires few { parts_of formula.now ≤ 65536 }
     ensures code { IfOk result (λ program. IsCodeOf modulus.now formula.now program) }
 {

@@ -1,26 +1,42 @@
 -- The law of the inverse transform, entry by entry.
-use Rattle.std.proofs.Common.{◌≡◌, ◌+◌, ◌-◌, ◌*◌, ◌%◌, arith, sym, ap, ◌∙◌, mul_assoc, mul_comm}
+use Rattle.std.proofs.Common.{◌≡◌, ℕ, List, ◌+◌, ◌-◌, ◌*◌, ◌%◌, arith, sym, ap, subst, ◌∙◌, mul_assoc, mul_comm}
 use Rattle.std.specs.Prelude.{slice_index}
 use Rattle.std.proofs.lemmas.Nat.{mul-mod_first, mul-mod_second}
+use Rattle.std.specs.Int.{IsGcd}
 use Rattle.ring_mod.specs.Inverse.{inverse_mod}
 use Rattle.ring_mod.specs.Residue.{power_mod}
 use Rattle.ring_mod.proofs.Powers.{power_mod_of_power, power_mod-drop, power_mod-zero}
+use Rattle.matrix_meaning.specs.declared.Direction.TheVariants.{Inverse}
+use Rattle.matrix_meaning.specs.declared.Request.{Request}
+use Rattle.matrix_meaning.specs.Valid.{AllowsDirection, IsInRange}
 use Rattle.matrix_meaning.specs.declared.Kind.TheVariants.{Dft}
 use Rattle.matrix_meaning.specs.Kind.{entry_of}
-use Rattle.matrix_meaning.specs.Inverse.{inverse_root, InverseTransform, InverseRoot}
+use Rattle.matrix_meaning.specs.Inverse.{inverse_root, inverse_entry, InverseTransform, InverseRoot}
+use Rattle.operators.specs.Sum.{sum_below}
 use Rattle.operators.proofs.Matrices.{at-matrix_times}
 use Rattle.operators.proofs.Sums.{mul-sum_below, same-sum_below}
 use Rattle.operators.proofs.Lists.{list_below-same}
 
-pub inverse_transform_is : InverseTransform
-inverse_transform_is m n w x =
-    list_below-same n _ _ (λ k row.
+-- a row of the inverse, times a list: 1 / n times the same row by the inverse root
+pub inverse_row : (m n w k : ℕ) (x : List ℕ) →
+    sum_below n (λ l. inverse_entry m n w k l * slice_index x l) % m
+    ≡ (inverse_mod m n * (sum_below n (λ l. entry_of Dft m (inverse_root m n w) k l * slice_index x l) % m)) % m
+inverse_row m n w k x =
     same-sum_below m n _ _ (λ l _.
     mul-mod_first (inverse_mod m n * power_mod m (inverse_root m n w) (k * l)) (slice_index x l) m
     ∙ ap (λ y. y % m) (mul_assoc (inverse_mod m n) (power_mod m (inverse_root m n w) (k * l)) (slice_index x l)))
     ∙ ap (λ y. y % m) (sym (mul-sum_below n (inverse_mod m n) (λ l. power_mod m (inverse_root m n w) (k * l) * slice_index x l)))
     ∙ sym (mul-mod_second (inverse_mod m n) _ m)
+
+pub inverse_transform_is : InverseTransform
+inverse_transform_is m n w x =
+    list_below-same n _ _ (λ k row.
+    inverse_row m n w k x
     ∙ ap (λ y. (inverse_mod m n * y) % m) (sym (at-matrix_times m n (entry_of Dft m (inverse_root m n w)) x k row)))
+
+-- the size of an inverse has an inverse
+pub size_is_unit : (r : Request) → IsInRange r → r.direction ≡ Inverse → IsGcd r.size r.modulus 1
+size_is_unit r in_range inverse = (subst (λ d. AllowsDirection d r.kind r.size r.modulus) inverse in_range.direction).1
 
 pub inverse_root_is_root : InverseRoot
 inverse_root_is_root m n w root =

@@ -3,6 +3,7 @@
 #![tactic(auto)]
 
 mod laws;
+mod plain;
 
 ghost use Rattle.std.specs.Prelude.{◌≡◌, ℕ, ◌*◌, ◌%◌, ◌^◌, ◌<◌, ◌≤◌, length, slice_index, vec_len, IfOk, All};
 ghost use Rattle.matrix_meaning.specs.Kind.{entry_of, transform};
@@ -11,6 +12,7 @@ ghost use Rattle.operators.specs.Sum.{sum_below};
 
 pub use laws::{cooley_tukey, good_thomas, inverse_transform, split};
 use memory::NoMemory;
+pub use plain::asked_plain;
 use ring_mod::Modulus;
 use std::alloc::Global;
 

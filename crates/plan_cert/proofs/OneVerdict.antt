@@ -1,11 +1,11 @@
 -- A text has one verdict.
-use Rattle.std.proofs.Common.{◌≡◌, ℕ, ◌≤◌, List, get_or, None, Some, refl, sym, ap, ◌∙◌, subst, inl, inr, arith}
+use Rattle.std.proofs.Common.{◌≡◌, ℕ, ◌+◌, ◌≤◌, List, get_or, None, Some, refl, sym, ap, ◌∙◌, subst, inl, inr, arith}
 use Rattle.matrix_meaning.specs.declared.Request.{Request}
 use Rattle.plan_cert.specs.declared.certificate.Row.{Row}
 use Rattle.plan_cert.specs.declared.certificate.WrongRow.{WrongRow}
 use Rattle.plan_cert.specs.declared.verdict.Verdict.{Verdict}
 use Rattle.plan_cert.specs.declared.verdict.Verdict.TheVariants.{Least, Unread, Wrong}
-use Rattle.plan_cert.specs.Found.{IsFound}
+use Rattle.plan_cert.specs.Found.{extra_at, IsFound, IsRowCost}
 use Rattle.plan_cert.specs.Certificate.{cost_at, IsRightRow, IsWrong, HasFirstWrong}
 use Rattle.plan_cert.specs.Document.{IsCertificate}
 use Rattle.plan_cert.specs.Verdict.{IsRightCertificate, IsWrongCertificate, IsVerdict}
@@ -17,14 +17,17 @@ found_once c costs d x y h k =
     let other : y ≤ x = k.bound x h.reached in
     omega arith
 
+cost_once : (c : Request) (costs : ℕ → ℕ) (d x y : ℕ) → IsRowCost c costs d x → IsRowCost c costs d y → x ≡ y
+cost_once c costs d x y (a, h, e) (b, k, f) = e ∙ ap (λ n. n + extra_at c d) (found_once c costs d a b h k) ∙ sym f
+
 not_both : (c : Request) (costs : ℕ → ℕ) (row : Row) (w : WrongRow) → IsWrong c costs row w → IsRightRow c costs row → ⊥
-not_both c costs row w (size, given, other, inl found) h = other (found_once c costs row.size w.found row.cost found h.found)
+not_both c costs row w (size, given, other, inl found) h = other (cost_once c costs row.size w.found row.cost found h.found)
 not_both c costs row w (size, given, other, inr (found, e)) h = other (e ∙ h.chosen)
 
 found_same : (c : Request) (costs : ℕ → ℕ) (row : Row) (v w : WrongRow) → IsWrong c costs row v → IsWrong c costs row w → v.found ≡ w.found
-found_same c costs row v w (_, _, other_v, inl f) (_, _, other_w, inl g) = found_once c costs row.size v.found w.found f g
-found_same c costs row v w (_, _, other_v, inl f) (_, _, other_w, inr (g, e)) = absurd (other_v (found_once c costs row.size v.found row.cost f g))
-found_same c costs row v w (_, _, other_v, inr (f, e)) (_, _, other_w, inl g) = absurd (other_w (found_once c costs row.size w.found row.cost g f))
+found_same c costs row v w (_, _, other_v, inl f) (_, _, other_w, inl g) = cost_once c costs row.size v.found w.found f g
+found_same c costs row v w (_, _, other_v, inl f) (_, _, other_w, inr (g, e)) = absurd (other_v (cost_once c costs row.size v.found row.cost f g))
+found_same c costs row v w (_, _, other_v, inr (f, e)) (_, _, other_w, inl g) = absurd (other_w (cost_once c costs row.size w.found row.cost g f))
 found_same c costs row v w (_, _, other_v, inr (f, e)) (_, _, other_w, inr (g, k)) = e ∙ sym k
 
 abbrev wrong_row : ℕ → ℕ → ℕ → WrongRow

@@ -1,13 +1,14 @@
 // Certificates, row by row.
-ghost use Rattle.std.specs.Prelude.{◌≡◌, ℕ, ◌*◌, ◌%◌, ◌<◌, ◌≤◌, ◌⊎◌, ◌↔◌, IsTrue, IfOk, IfErr, OnOk, All};
+ghost use Rattle.std.specs.Prelude.{◌≡◌, ℕ, ◌+◌, ◌*◌, ◌%◌, ◌<◌, ◌≤◌, ◌⊎◌, ◌↔◌, IsTrue, IfOk, IfErr, OnOk, All};
 ghost use Rattle.tree_model.specs.declared.tree.Rule.{Rule};
-ghost use Rattle.tree_model.specs.Admissible.{AllowsLeafAt, IsLeast};
+ghost use Rattle.tree_model.specs.Admissible.{AllowsLeafAt, IsLeastWhole};
 ghost use Rattle.tree_model.specs.Cost.{leaf_cost, IsModest};
-ghost use Rattle.plan_cert.specs.Found.{HasNodeCost, IsChoiceCost, IsFound};
+ghost use Rattle.plan_cert.specs.Found.{extra_at, HasNodeCost, IsChoiceCost, IsFound};
 ghost use Rattle.plan_cert.specs.Certificate.{cost_at, AllowsChoice, choice_cost, HasModestParts, IsRightRow, IsWrong, HasRows, HasFirstWrong};
 
+use operators::MAX_SIZE;
 use plan_search::best_rule;
-use tree_model::{Ctx, Rule, allows_leaf, leaf_cost, node_cost};
+use tree_model::{Ctx, Rule, allows_leaf, extra_cost, leaf_cost, node_cost};
 
 /// The cost of a node of this size, and a choice of that cost: a rule with the sizes of its parts, or a leaf.
 #[derive(Clone, Copy, PartialEq, Eq, Debug)]
@@ -129,6 +130,22 @@ pub(crate) fn leaf_allowed(c: &Ctx, d: u64) -> bool
     allows_leaf(request.kind, d) && (d != request.size || c.is_plain())
 }
 
+/// The cost of a row of size `d` whose choice costs `cost`: in that of the whole size the inverse costs more.
+#[tactic(auto, using(crate::proofs::Extra::modest_fits))]
+pub(crate) fn row_cost(c: &Ctx, d: u64, cost: u64) -> u64
+    requires high { d ≤ c.now.size }
+    requires modest { IsModest d cost }
+    ensures value { result ≡ cost + extra_at c.now d }
+    ensures modest { d < c.now.size → IsModest d result }
+{
+    prove!(c.request().size <= MAX_SIZE);
+    if d == c.request().size {
+        cost + extra_cost(c)
+    } else {
+        cost
+    }
+}
+
 /// Nothing is wrong with the row, or this is.
 pub fn check_row(c: &Ctx, rows: &[Row], row: &Row) -> Result<(), WrongRow>
     requires low { 1 ≤ row.now.size }
@@ -136,10 +153,10 @@ pub fn check_row(c: &Ctx, rows: &[Row], row: &Row) -> Result<(), WrongRow>
     requires allowed { AllowsChoice c.now row.now.size row.now.rule row.now.left row.now.right }
     requires parts { HasModestParts (cost_at rows.now) row.now.size }
     ensures ok { OnOk result (IsRightRow c.now (cost_at rows.now) row.now) }
-    ensures modest { OnOk result (IsModest row.now.size row.now.cost) }
+    ensures modest { OnOk result (row.now.size < c.now.size → IsModest row.now.size row.now.cost) }
     ensures err { IfErr result (IsWrong c.now (cost_at rows.now) row.now) }
 {
-    let found = found_cost(c, rows, row);
+    let found = row_cost(c, row.size, found_cost(c, rows, row));
     if found != row.cost {
         return Err(WrongRow {
             size: row.size,
@@ -147,7 +164,7 @@ pub fn check_row(c: &Ctx, rows: &[Row], row: &Row) -> Result<(), WrongRow>
             found,
         });
     }
-    let chosen = row_choice_cost(c, rows, row);
+    let chosen = row_cost(c, row.size, row_choice_cost(c, rows, row));
     if chosen != row.cost {
         return Err(WrongRow {
             size: row.size,
@@ -163,7 +180,7 @@ pub fn check_rows(c: &Ctx, rows: &[Row]) -> Result<u64, WrongRow>
     requires { HasRows c.now rows.now }
     ensures right { OnOk result (All (IsRightRow c.now (cost_at rows.now)) rows.now) }
     ensures cost { IfOk result (λ cost. cost ≡ cost_at rows.now c.now.size) }
-    ensures least { IfOk result (IsLeast c.now) }
+    ensures least { IfOk result (IsLeastWhole c.now) }
     ensures wrong { IfErr result (HasFirstWrong c.now rows.now) }
 {
     let size = c.request().size;

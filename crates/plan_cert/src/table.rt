@@ -6,7 +6,7 @@ ghost use Rattle.plan_search.specs.Search.{IsBest, IsBestOf, AnyTree};
 ghost use Rattle.plan_cert.specs.Certificate.{IsWanted, HasRows, HasRowsBelow};
 ghost use Rattle.plan_cert.specs.Table.{IsRootOf, IsChosenRow};
 
-use crate::certificate::Row;
+use crate::certificate::{Row, row_cost};
 use crate::rows::is_wanted;
 use memory::NoMemory;
 use operators::MAX_SIZE;
@@ -64,7 +64,7 @@ fn row_of(c: &Ctx, d: u64, plan: &Plan) -> Row
     let (rule, left, right) = root_of(&plan.tree);
     Row {
         size: d,
-        cost: plan.cost,
+        cost: row_cost(c, d, plan.cost),
         rule,
         left,
         right,

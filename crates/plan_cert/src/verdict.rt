@@ -1,7 +1,7 @@
 // What is to be said of a certificate.
 ghost use Rattle.std.specs.Prelude.{◌≡◌, ℕ, option_map, option_and_then, IfOk, IfSome, IsUtf8};
 ghost use Rattle.serde_json.specs.Read.{read};
-ghost use Rattle.tree_model.specs.Admissible.{IsLeast};
+ghost use Rattle.tree_model.specs.Admissible.{IsLeastWhole};
 ghost use Rattle.plan_cert.specs.Document.{document_rows};
 ghost use Rattle.plan_cert.specs.Verdict.{IsVerdict};
 ghost use Rattle.plan_cert.specs.declared.verdict.Verdict.TheVariants.{Least};
@@ -44,7 +44,7 @@ fn text_rows(
 /// Reads a certificate, and checks its rows by the table alone.
 pub fn check_cert(alloc: Global, c: &Ctx, text: &[u8]) -> Result<Verdict, NoMemory>
     ensures verdict { IfOk result (IsVerdict c.now text.now) }
-    ensures least { IfOk result (λ v. (cost : ℕ) → v ≡ Least cost → IsLeast c.now cost) }
+    ensures least { IfOk result (λ v. (cost : ℕ) → v ≡ Least cost → IsLeastWhole c.now cost) }
 {
     let request = c.request();
     let Some(rows) = text_rows(alloc, request.size, request.weight, text)? else {

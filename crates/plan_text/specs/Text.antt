@@ -4,7 +4,7 @@ use Rattle.matrix_meaning.specs.declared.Request.{Request}
 use Rattle.tree_model.specs.declared.tree.Rule.{Rule}
 use Rattle.tree_model.specs.declared.tree.Rule.TheVariants.{Gt, Ct, Split}
 use Rattle.tree_model.specs.Breakdown.{Breakdown, leaf, node}
-use Rattle.tree_model.specs.Cost.{cost_of}
+use Rattle.tree_model.specs.Cost.{whole_cost}
 
 abbrev pub rule_word : Rule → List ℕ
 rule_word Gt = codes "gt("
@@ -24,6 +24,6 @@ phases_of c = if nat_le c.procs 1 then 1 else 2
 abbrev pub plan_text : Request → Breakdown → List ℕ
 plan_text c t =
     codes "tree " ++ (tree_text t
-    ++ (codes "\ncost " ++ (decimal (cost_of c t)
+    ++ (codes "\ncost " ++ (decimal (whole_cost c t)
     ++ (codes "\nphases " ++ (decimal (phases_of c)
-    ++ (codes "\neach " ++ (decimal (cost_of c t / c.procs) ++ codes "\n")))))))
+    ++ (codes "\neach " ++ (decimal (whole_cost c t / c.procs) ++ codes "\n")))))))

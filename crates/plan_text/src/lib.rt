@@ -3,7 +3,7 @@
 
 ghost use Rattle.std.specs.Prelude.{◌≡◌, ◌++◌, ◌<◌, decimal, IfOk, OnOk};
 ghost use Rattle.tree_model.specs.Breakdown.{breakdown_of};
-ghost use Rattle.tree_model.specs.Cost.{cost_of};
+ghost use Rattle.tree_model.specs.Cost.{whole_cost};
 ghost use Rattle.plan_text.specs.Text as texts;
 
 use itoa::Buffer;
@@ -67,7 +67,7 @@ pub fn print_plan(
     cost: u64,
 ) -> Result<Vec<u8>, NoMemory>
     requires procs { 0 < request.now.procs }
-    requires cost { cost ≡ cost_of request.now (breakdown_of tree.now) }
+    requires cost { cost ≡ whole_cost request.now (breakdown_of tree.now) }
     ensures { IfOk result (λ text. text.items ≡ texts.plan_text request.now (breakdown_of tree.now)) }
 {
     let phases = if request.procs <= 1 { 1 } else { 2 };

@@ -1,7 +1,9 @@
 -- What the tests of a request say.
 use Rattle.std.proofs.Common.{◌≡◌, ℕ, ◌-◌, ◌^◌, ◌<◌, ◌≤◌, ◌%◌, Bool, true, false, cond, eqb, ltb, leb, ◌&&◌, List, Result, Ok, Err, refl, sym, subst, arith}
-use Rattle.std.specs.Int.{is_power_of_two}
+use Rattle.std.specs.Int.{is_power_of_two, IsGcd}
 use Rattle.std.proofs.lemmas.Bool.{leb-true, ltb-true, eqb-true, and_parts}
+use Rattle.matrix_meaning.specs.declared.Direction.{Direction}
+use Rattle.matrix_meaning.specs.declared.Direction.TheVariants.{Forward, Inverse}
 use Rattle.matrix_meaning.specs.declared.Kind.{Kind}
 use Rattle.matrix_meaning.specs.declared.Kind.TheVariants.{Dft, Wht}
 use Rattle.matrix_meaning.specs.declared.Request.{Request}
@@ -10,10 +12,11 @@ use Rattle.request_text.specs.declared.fault.Field.TheVariants.{Size, Mod, Root,
 use Rattle.request_text.specs.declared.fault.RequestFault.{RequestFault}
 use Rattle.request_text.specs.declared.fault.RequestFault.TheVariants.{Syntax, Range, Shape, LanesLine, NotUnit}
 use Rattle.request_text.specs.Line.{request_line}
-use Rattle.request_text.specs.Limits.{◌>>◌, within, below, shaped, divided, judged}
+use Rattle.request_text.specs.Limits.{◌>>◌, within, below, shaped, divided, unshared, invertible, limited, judged, IsJudged}
 use Rattle.request_text.specs.Answer.{Answers}
-use Rattle.matrix_meaning.specs.Valid.{IsInRange, HasShape}
+use Rattle.matrix_meaning.specs.Valid.{AllowsDirection, IsInRange, HasShape}
 use Rattle.operators.specs.Sizes.{max_size}
+use Rattle.request_text.proofs.Line.{inverse_is_dft}
 
 pub passes : {A : Type 0} (t : Result (Unit {0}) RequestFault) (n : Result A RequestFault) (q : A) → (t >> n) ≡ Ok q → (t ≡ Ok tt) × (n ≡ Ok q)
 passes (Ok x) n q e = (refl, e)
@@ -45,9 +48,17 @@ divided_is procs line lanes e more = cases (leb procs 1) refl e
     cases true h e = absurd (omega (arith, leb-true procs 1 h, more))
     cases false h e = eqb-true (line % lanes) 0 (guard (eqb (line % lanes) 0) (LanesLine lanes line) e)
 
-pub in_range : (r q : Request) → judged r ≡ Ok q → IsInRange r × (r ≡ q)
-unfolding judged
-in_range r q e =
+pub unshared_is : (size modulus shared : ℕ) → IsGcd size modulus shared → unshared shared ≡ Ok tt → IsGcd size modulus 1
+unshared_is size modulus shared divides e = subst (IsGcd size modulus) (eqb-true shared 1 (guard (eqb shared 1) (NotUnit shared) e)) divides
+
+-- a direction that the line may name is allowed where the test of the factor passes
+allows : (direction : Direction) (kind : Kind) (size modulus shared : ℕ) → (direction ≡ Inverse → kind ≡ Dft) → IsGcd size modulus shared → invertible direction shared ≡ Ok tt → AllowsDirection direction kind size modulus
+allows Forward kind size modulus shared dft divides e = tt
+allows Inverse kind size modulus shared dft divides e = (dft refl, unshared_is size modulus shared divides e)
+
+pub in_range : (r q : Request) → limited r ≡ Ok q → AllowsDirection r.direction r.kind r.size r.modulus → IsInRange r × (r ≡ q)
+unfolding limited
+in_range r q e direction =
     let s1 = passes (within Size r.size 1 max_size) _ q e in
     let s2 = passes (within Mod r.modulus 2 (2 ^ 62 - 1)) _ q s1.1 in
     let s3 = passes (below Root r.root r.modulus) _ q s2.1 in
@@ -71,9 +82,22 @@ in_range r q e =
         weight = within_is Weight r.weight 1 1000 s9.0;
         shape = shaped_is r.kind r.size s10.0;
         lanes_in_line = divided_is r.procs r.line r.lanes s11.0;
+        direction = direction;
       },
       (let same : r ≡ q = cc in same),
     )
+
+pub parts_of : (t : Result Request RequestFault) (n : Result Request RequestFault) (q : Request) → (t >> n) ≡ Ok q → (p : Request) × (t ≡ Ok p) × (n ≡ Ok q)
+parts_of (Ok p) n q e = (p, refl, e)
+parts_of (Err f) n q e = absurd cc
+
+judged_in_range : (text : List ℕ) (r q : Request) (shared : ℕ) → request_line text r → IsGcd r.size r.modulus shared → judged r.direction shared r ≡ Ok q → IsInRange r × (r ≡ q)
+judged_in_range text r q shared l divides e =
+    let s = parts_of (limited r) (invertible r.direction shared >> Ok r) q e in
+    let t = passes (invertible r.direction shared) (Ok r) q s.2 in
+    let direction = allows r.direction r.kind r.size r.modulus shared (inverse_is_dft text r l) divides t.0 in
+    let same : r ≡ q = cc in
+    ((in_range r s.0 s.1 direction).0, same)
 
 -- ---- which faults the tests find
 
@@ -89,9 +113,9 @@ pub guard_only : (P : RequestFault → Type 0) (b : Bool) (f : RequestFault) →
 guard_only P true f h = tt
 guard_only P false f h = h
 
-pub judged_only : (P : RequestFault → Type 0) (r : Request) → ((field : Field) (value : ℕ) → P (Range field value)) → Only P (shaped r.kind r.size) → Only P (divided r.procs r.line r.lanes) → Only P (judged r)
-unfolding judged
-judged_only P r range shape lanes =
+pub limited_only : (P : RequestFault → Type 0) (r : Request) → ((field : Field) (value : ℕ) → P (Range field value)) → Only P (shaped r.kind r.size) → Only P (divided r.procs r.line r.lanes) → Only P (limited r)
+unfolding limited
+limited_only P r range shape lanes =
     then_only P (within Size r.size 1 max_size) _ (guard_only P _ _ (range _ _))
     (then_only P (within Mod r.modulus 2 (2 ^ 62 - 1)) _ (guard_only P _ _ (range _ _))
     (then_only P (below Root r.root r.modulus) _ (guard_only P _ _ (range _ _))
@@ -110,7 +134,7 @@ IsTested (Syntax at) = ⊥
 IsTested (Range field value) = Unit {0}
 IsTested (Shape size) = Unit {0}
 IsTested (LanesLine lanes line) = Unit {0}
-IsTested (NotUnit gcd) = ⊥
+IsTested (NotUnit gcd) = Unit {0}
 
 shaped_test : (kind : Kind) (size : ℕ) → Only IsTested (shaped kind size)
 shaped_test Dft size = tt
@@ -123,14 +147,23 @@ divided_test procs line lanes = cases (leb procs 1)
     cases true = tt
     cases false = guard_only IsTested (eqb (line % lanes) 0) (LanesLine lanes line) tt
 
-judged_test : (r : Request) → Only IsTested (judged r)
-judged_test r = judged_only IsTested r (λ field value. tt) (shaped_test r.kind r.size) (divided_test r.procs r.line r.lanes)
+invertible_test : (direction : Direction) (shared : ℕ) → Only IsTested (invertible direction shared)
+invertible_test Forward shared = tt
+invertible_test Inverse shared = guard_only IsTested (eqb shared 1) (NotUnit shared) tt
+
+judged_test : (direction : Direction) (shared : ℕ) (r : Request) → Only IsTested (judged direction shared r)
+judged_test direction shared r =
+    then_only IsTested (limited r) _
+    (limited_only IsTested r (λ field value. tt) (shaped_test r.kind r.size) (divided_test r.procs r.line r.lanes))
+    (then_only IsTested (invertible direction shared) (Ok r) (invertible_test direction shared) tt)
 
 -- what the tests say of a request that the line spells is the answer for the line
-pub judged_answers : (text : List ℕ) (r : Request) (out : Result Request RequestFault) → request_line text r → out ≡ judged r → Answers text out
-judged_answers text r (Ok q) l e = let s = in_range r q (sym e) in subst (λ x. request_line text x × IsInRange x) s.1 (l, s.0)
-judged_answers text r (Err (Syntax at)) l e = absurd (subst (Only IsTested) (sym e) (judged_test r))
-judged_answers text r (Err (Range field value)) l e = (r, l, sym e)
-judged_answers text r (Err (Shape size)) l e = (r, l, sym e)
-judged_answers text r (Err (LanesLine lanes line)) l e = (r, l, sym e)
-judged_answers text r (Err (NotUnit gcd)) l e = absurd (subst (Only IsTested) (sym e) (judged_test r))
+pub judged_answers : (text : List ℕ) (r : Request) (out : Result Request RequestFault) → request_line text r → IsJudged r.direction r out → Answers text out
+judged_answers text r (Ok q) l j =
+    let s = judged_in_range text r q j.0 l j.1 (sym j.2) in
+    subst (λ x. request_line text x × IsInRange x) s.1 (l, s.0)
+judged_answers text r (Err (Syntax at)) l j = absurd (subst (Only IsTested) (sym j.2) (judged_test r.direction j.0 r))
+judged_answers text r (Err (Range field value)) l j = (r, l, j)
+judged_answers text r (Err (Shape size)) l j = (r, l, j)
+judged_answers text r (Err (LanesLine lanes line)) l j = (r, l, j)
+judged_answers text r (Err (NotUnit gcd)) l j = (r, l, j)

@@ -1,17 +1,15 @@
 // The line of a cyclic convolution.
-ghost use Rattle.std.specs.Prelude.{◌≡◌};
 ghost use Rattle.grammar.specs.Cursor.{Gives, GivesAll};
 ghost use Rattle.grammar.specs.Reading.{whole};
 ghost use Rattle.request_text.specs.ConvLine.{conv_line};
 ghost use Rattle.request_text.specs.ConvReading.{conv_at};
-ghost use Rattle.request_text.specs.ConvLimits.{unshared, judged_with, conv_judged};
 ghost use Rattle.request_text.specs.ConvAnswer.{ConvAnswers};
+ghost use Rattle.request_text.specs.Limits.{IsJudged};
 
 use crate::fault::RequestFault;
 use crate::request::{BUDGET, UNROLL, WEIGHT, checked};
 use grammar::{Cursor, Stuck};
-use matrix_meaning::{Kind, Request};
-use ring_mod::gcd;
+use matrix_meaning::{Direction, Kind, Request};
 
 #[tactic(auto, unfolding(crate::specs::ConvReading::conv_at))]
 fn conv_of(cursor: &mut Cursor) -> Result<Request, Stuck>
@@ -23,6 +21,7 @@ fn conv_of(cursor: &mut Cursor) -> Result<Request, Stuck>
     let root = cursor.named_number(b" root ", u64::MAX)?;
     Ok(Request {
         kind: Kind::Dft,
+        direction: Direction::Forward,
         size,
         modulus,
         root,
@@ -44,39 +43,14 @@ fn whole_conv(text: &[u8]) -> Result<Request, Stuck>
     Ok(request)
 }
 
-/// The greatest factor that size and modulus share is 1.
-fn unshared(shared: u64) -> Result<(), RequestFault>
-    ensures { result ≡ unshared shared }
-{
-    match shared {
-        1 => Ok(()),
-        gcd => Err(RequestFault::NotUnit { gcd }),
-    }
-}
-
-/// The request, or its first fault; the factor that its size and modulus share is asked for last.
-fn checked_with(request: Request, shared: u64) -> Result<Request, RequestFault>
-    ensures { result ≡ judged_with shared request }
-{
-    checked(request)?;
-    unshared(shared)?;
-    Ok(request)
-}
-
-fn checked_conv(request: Request) -> Result<Request, RequestFault>
-    ensures { conv_judged request result }
-{
-    checked_with(request, gcd(request.size, request.modulus))
-}
-
 /// The request that the line of a cyclic convolution spells, for the Fourier transform by which to convolve. The line is
 /// without its end.
 pub fn read_conv(line: &[u8]) -> Result<Request, RequestFault>
     ensures answer { ConvAnswers line.now result }
-    ensures only { (r : Request) → conv_line line.now r → conv_judged r result }
+    ensures only { (r : Request) → conv_line line.now r → IsJudged Direction.Inverse r result }
 {
     match whole_conv(line) {
-        Ok(request) => checked_conv(request),
+        Ok(request) => checked(request, Direction::Inverse),
         Err(stuck) => Err(RequestFault::Syntax {
             at: (line.len() - stuck.left) as u64,
         }),

@@ -61,7 +61,7 @@ pub enum RequestFault {
     /// There are several processors, and the lanes do not divide the line.
     #[error("{lanes} lanes do not divide a line of {line} words")]
     LanesLine { lanes: u64, line: u64 },
-    /// The size of a convolution has no inverse: it and the modulus share this greatest factor, over 1.
+    /// The size of an inverse or of a convolution has no inverse: it and the modulus share this greatest factor, over 1.
     #[error("size and modulus share the factor {gcd}")]
     NotUnit { gcd: u64 },
 }

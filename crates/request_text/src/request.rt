@@ -1,15 +1,16 @@
 ghost use Rattle.std.specs.Prelude.{◌≡◌, ◌≤◌};
-ghost use Rattle.request_text.specs.Limits.{within, below, shaped, divided, judged};
-ghost use Rattle.request_text.specs.Line.{request_line};
+ghost use Rattle.request_text.specs.Limits.{within, below, shaped, divided, unshared, invertible, limited, judged, IsJudged};
+ghost use Rattle.request_text.specs.Line.{kinds, request_line};
 ghost use Rattle.request_text.specs.Answer.{Answers};
 ghost use Rattle.grammar.specs.Cursor.{Gives, GivesAll};
-ghost use Rattle.grammar.specs.Reading.{whole};
+ghost use Rattle.grammar.specs.Reading.{one_of_at, whole};
 ghost use Rattle.request_text.specs.Reading.{request_at, root_at};
 
 use crate::fault::{Field, RequestFault};
 use grammar::{Cursor, Stuck};
-use matrix_meaning::{Kind, Request};
+use matrix_meaning::{Direction, Kind, Request};
 use operators::MAX_SIZE;
+use ring_mod::gcd;
 
 /// The size up to which kernels are unrolled, where the line names none.
 pub(crate) const UNROLL: u64 = 8;
@@ -19,6 +20,16 @@ pub(crate) const BUDGET: u64 = 100_000_000;
 
 /// The weight of a line that names none.
 pub(crate) const WEIGHT: u64 = 1;
+
+fn asked_of(cursor: &mut Cursor) -> Result<(Kind, Direction), Stuck>
+    ensures { Gives result cursor.new (one_of_at kinds cursor.old) }
+{
+    cursor.one_of(&[
+        (b"dft ".as_slice(), (Kind::Dft, Direction::Forward)),
+        (b"idft ".as_slice(), (Kind::Dft, Direction::Inverse)),
+        (b"wht ".as_slice(), (Kind::Wht, Direction::Forward)),
+    ])
+}
 
 fn root_of(cursor: &mut Cursor, kind: Kind) -> Result<u64, Stuck>
     ensures { Gives result cursor.new (root_at kind cursor.old) }
@@ -36,16 +47,14 @@ fn root_of(cursor: &mut Cursor, kind: Kind) -> Result<u64, Stuck>
 fn request_of(cursor: &mut Cursor) -> Result<Request, Stuck>
     ensures { Gives result cursor.new (request_at cursor.old) }
 {
-    let kind = cursor.one_of(&[
-        (b"dft ".as_slice(), Kind::Dft),
-        (b"wht ".as_slice(), Kind::Wht),
-    ])?;
+    let (kind, direction) = asked_of(cursor)?;
     let size = cursor.number(u64::MAX)?;
     cursor.word(b" mod ")?;
     let modulus = cursor.number(u64::MAX)?;
     let root = root_of(cursor, kind)?;
     Ok(Request {
         kind,
+        direction,
         size,
         modulus,
         root,
@@ -116,10 +125,30 @@ fn divided(procs: u64, line: u64, lanes: u64) -> Result<(), RequestFault>
     }
 }
 
-/// The request, or its first fault.
-#[tactic(auto, unfolding(crate::specs::Limits::judged))]
-pub(crate) fn checked(request: Request) -> Result<Request, RequestFault>
-    ensures { result ≡ judged request }
+/// The greatest factor that size and modulus share is 1.
+fn unshared(shared: u64) -> Result<(), RequestFault>
+    ensures { result ≡ unshared shared }
+{
+    match shared {
+        1 => Ok(()),
+        gcd => Err(RequestFault::NotUnit { gcd }),
+    }
+}
+
+/// The size of an inverse shares no factor with the modulus.
+fn invertible(direction: Direction, shared: u64) -> Result<(), RequestFault>
+    ensures { result ≡ invertible direction shared }
+{
+    match direction {
+        Direction::Forward => Ok(()),
+        Direction::Inverse => unshared(shared),
+    }
+}
+
+/// The request, or the first limit that it misses.
+#[tactic(auto, unfolding(crate::specs::Limits::limited))]
+fn limited(request: Request) -> Result<Request, RequestFault>
+    ensures { result ≡ limited request }
 {
     within(Field::Size, request.size, 1, MAX_SIZE)?;
     within(Field::Mod, request.modulus, 2, (1 << 62) - 1)?;
@@ -135,13 +164,29 @@ pub(crate) fn checked(request: Request) -> Result<Request, RequestFault>
     Ok(request)
 }
 
+/// The request, or its first fault; what the direction asks of the factor that size and modulus share is asked last.
+fn judged(request: Request, direction: Direction, shared: u64) -> Result<Request, RequestFault>
+    ensures { result ≡ judged direction shared request }
+{
+    limited(request)?;
+    invertible(direction, shared)?;
+    Ok(request)
+}
+
+/// The same, by the greatest factor that they share.
+pub(crate) fn checked(request: Request, direction: Direction) -> Result<Request, RequestFault>
+    ensures { IsJudged direction request result }
+{
+    judged(request, direction, gcd(request.size, request.modulus))
+}
+
 /// The request that a line spells. The line is without its end.
 pub fn read_request(text: &[u8]) -> Result<Request, RequestFault>
     ensures answer { Answers text.now result }
-    ensures only { (r : Request) → request_line text.now r → result ≡ judged r }
+    ensures only { (r : Request) → request_line text.now r → IsJudged r.direction r result }
 {
     match whole_request(text) {
-        Ok(request) => checked(request),
+        Ok(request) => checked(request, request.direction),
         Err(stuck) => Err(RequestFault::Syntax {
             at: (text.len() - stuck.left) as u64,
         }),

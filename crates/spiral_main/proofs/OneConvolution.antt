@@ -1,7 +1,6 @@
 -- What `convolve` answers for its words and bytes is one.
 use Rattle.std.proofs.Common.{◌≡◌, ◌⊎◌, ◌<◌, ◌≤◌, ℕ, Bool, true, false, List, [], ◌∷◌, Ok, Err, nat_lt, refl, sym, ap, ap₂, subst, ◌∙◌, arith, inl, inr}
 use Rattle.std.proofs.lemmas.Grind.{common_steps}
-use Rattle.std.proofs.lemmas.Nat.Gcd.{same_from_IsGcd}
 use Rattle.std.specs.Int.{IsGcd}
 use Rattle.convolution.specs.Convolution.{IsFirstBadPower}
 use Rattle.convolution.specs.Request.{IsConvRequest}
@@ -9,11 +8,11 @@ use Rattle.convolver.specs.Planned.{IsConvPlanned, both_halves}
 use Rattle.convolver.specs.declared.ConvFault.{ConvFault}
 use Rattle.convolver.specs.declared.ConvFault.TheVariants as conv
 use Rattle.grammar.specs.Grammar.{IsStuck}
+use Rattle.matrix_meaning.specs.declared.Direction.TheVariants.{Inverse}
 use Rattle.matrix_meaning.specs.declared.Request.{Request}
 use Rattle.request_text.specs.ConvAnswer.{IsConvFaultOf, ConvAnswers}
-use Rattle.request_text.specs.ConvLimits.{unshared, judged_with}
 use Rattle.request_text.specs.ConvLine.{conv_line}
-use Rattle.request_text.specs.Limits.{◌>>◌}
+use Rattle.request_text.specs.Limits.{judged}
 use Rattle.request_text.specs.declared.RequestFault.{RequestFault}
 use Rattle.request_text.specs.declared.RequestFault.TheVariants.{Syntax, Range, Shape, LanesLine, NotUnit}
 use Rattle.request_text.proofs.ConvLine.{conv_line_judges}
@@ -29,7 +28,7 @@ use Rattle.spiral_main.specs.Commands.{prints_one_text, scheduled}
 use Rattle.spiral_main.specs.Convolved.{conv_spelt, convolvable, conv_in, IsListText, IsConvText, SettlesConv, IsConvAnswer}
 use Rattle.spiral_main.specs.Line.{line_of, data_of, room_behind}
 use Rattle.spiral_main.specs.Stage.{given}
-use Rattle.spiral_main.proofs.OneRequest.{spelt_once, faulty, faulty_same, judged_ok}
+use Rattle.spiral_main.proofs.OneRequest.{spelt_once, faulty, judged_ok, judged_once, unshared_ok}
 use Rattle.spiral_main.proofs.Stages.{IsDecided, done, ended, done_same, ended_same, done_ended, given_decided, bind_decided}
 use Rattle.stream_run.specs.Stream.{data_vectors}
 
@@ -39,9 +38,8 @@ request_once : (line : List ℕ) (r s : Request) → conv_line line r → conv_l
 request_once line r s p q = spelt_once conv_line line _ r s (conv_line_judges line _ refl) p q
 
 -- a request for convolutions has no fault
-judged_conv : (r : Request) (shared : ℕ) → IsConvRequest r → IsGcd r.size r.modulus shared → judged_with shared r ≡ Ok r
-judged_conv r shared is divides =
-    ap (λ n. judged_with n r) (same_from_IsGcd r.size r.modulus shared 1 divides is.unit) ∙ ap (λ t. t >> (unshared 1 >> Ok r)) (judged_ok r is.in_range)
+judged_conv : (r : Request) (shared : ℕ) → IsConvRequest r → IsGcd r.size r.modulus shared → judged Inverse shared r ≡ Ok r
+judged_conv r shared is divides = judged_ok Inverse shared r is.in_range (unshared_ok r.size r.modulus shared is.unit divides)
 
 fault_clash : (line : List ℕ) (r : Request) (fault : RequestFault) → conv_line line r → IsConvRequest r → IsConvFaultOf line fault → ⊥
 fault_clash line r fault p is q =
@@ -79,10 +77,7 @@ faulty_once line f g (inl p) (inl q) = p.1 ∙ ap Syntax (stuck_once line p.0 q.
 faulty_once line f g (inl p) (inr q) = absurd (p.2.nothing q.0 q.1)
 faulty_once line f g (inr p) (inl q) = absurd (q.2.nothing p.0 p.1)
 faulty_once line f g (inr p) (inr q) =
-    let same : p.0 ≡ q.0 = request_once line p.0 q.0 p.1 q.1 in
-    let divides : IsGcd q.0.size q.0.modulus p.2.0 = subst (λ (r : Request). IsGcd r.size r.modulus p.2.0) same p.2.1 in
-    let shared : p.2.0 ≡ q.2.0 = same_from_IsGcd q.0.size q.0.modulus p.2.0 q.2.0 divides q.2.1 in
-    faulty_same f g (p.2.2 ∙ ap₂ judged_with shared same ∙ sym q.2.2)
+    judged_once (λ r. Inverse) p.0 q.0 f g (request_once line p.0 q.0 p.1 q.1) p.2 q.2
 
 conv_spelt_decided : (line : List ℕ) → IsDecided (conv_spelt line)
 conv_spelt_decided line (Ok a) (Ok b) p q = ap done (request_once line a b p.0 q.0)
@@ -117,7 +112,7 @@ bad_once m n w j k p q = cases (nat_lt j k) (nat_lt k j) refl refl
     cases false true e f = absurd (bad_first m n w k j q p (grind (arith, common_steps)))
     cases false false e f = grind (arith, common_steps)
 
-least_once : (r : Request) (a b : ℕ) → IsLeast r a → IsLeast r b → a ≡ b
+pub least_once : (r : Request) (a b : ℕ) → IsLeast r a → IsLeast r b → a ≡ b
 least_once r a b p q =
     let one : a ≤ cost_of r q.reached.0 = p.bound q.reached.0 q.reached.1 in
     let two : b ≤ cost_of r p.reached.0 = q.bound p.reached.0 p.reached.1 in

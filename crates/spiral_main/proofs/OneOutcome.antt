@@ -23,7 +23,7 @@ use Rattle.spiral_main.specs.Outcome.{spelt, IsRefused, IsShutOut, IsAccepted, I
 use Rattle.spiral_main.specs.Line.{data_of}
 use Rattle.spiral_main.specs.Listed.{IsExecution}
 use Rattle.spiral_main.specs.Stage.{given}
-use Rattle.spiral_main.proofs.OneConvolution.{conv_status_once}
+use Rattle.spiral_main.proofs.OneConvolution.{conv_status_once, least_once}
 use Rattle.spiral_main.proofs.OneExecution.{execution_status_once}
 use Rattle.spiral_main.proofs.OneFormula.{formula_status_once}
 use Rattle.spiral_main.proofs.PlanLemmas.{candidate_divides}
@@ -59,8 +59,8 @@ plan_clash : (r : Request) (t : Breakdown) (fault : GenerateFault) → IsPlanned
 plan_clash r t (generate.Root power) p q = two_values _ p.0 q.0
 plan_clash r t generate.NoDivide p q = q.1 (candidate_divides r t p.1.candidate)
 plan_clash r t (generate.OverBudget cost budget) p q =
-    let least : cost ≤ cost_of r t = q.1.bound t p.1.candidate in
-    absurd (omega (arith, least, p.2, q.2, q.3))
+    let least : q.1.0 ≤ cost_of r t = q.1.1.bound t p.1.candidate in
+    absurd (omega (arith, least, p.2, q.1.2, q.2, q.3))
 plan_clash r t generate.NoMemory p q = q
 
 refusal_once : (r : Request) (f g : GenerateFault) → IsPlanned r (Err f) → IsPlanned r (Err g) → f ≡ g
@@ -70,14 +70,13 @@ refusal_once r (generate.Root power) (generate.OverBudget cost budget) p q = abs
 refusal_once r (generate.Root power) generate.NoMemory p q = absurd q
 refusal_once r generate.NoDivide (generate.Root power) p q = absurd (two_values _ p.0 q.0)
 refusal_once r generate.NoDivide generate.NoDivide p q = refl
-refusal_once r generate.NoDivide (generate.OverBudget cost budget) p q = absurd (p.1 (candidate_divides r q.1.reached.0 q.1.reached.1))
+refusal_once r generate.NoDivide (generate.OverBudget cost budget) p q = absurd (p.1 (candidate_divides r q.1.1.reached.0 q.1.1.reached.1))
 refusal_once r generate.NoDivide generate.NoMemory p q = absurd q
 refusal_once r (generate.OverBudget cost budget) (generate.Root power) p q = absurd (two_values _ p.0 q.0)
-refusal_once r (generate.OverBudget cost budget) generate.NoDivide p q = absurd (q.1 (candidate_divides r p.1.reached.0 p.1.reached.1))
+refusal_once r (generate.OverBudget cost budget) generate.NoDivide p q = absurd (q.1 (candidate_divides r p.1.1.reached.0 p.1.1.reached.1))
 refusal_once r (generate.OverBudget cost budget) (generate.OverBudget other limit) p q =
-    let one : cost ≤ cost_of r q.1.reached.0 = p.1.bound q.1.reached.0 q.1.reached.1 in
-    let two : other ≤ cost_of r p.1.reached.0 = q.1.bound p.1.reached.0 p.1.reached.1 in
-    let same : cost ≡ other = omega (arith, one, two, p.1.reached.2, q.1.reached.2) in
+    let least : p.1.0 ≡ q.1.0 = least_once r p.1.0 q.1.0 p.1.1 q.1.1 in
+    let same : cost ≡ other = omega (arith, least, p.1.2, q.1.2) in
     ap₂ generate.OverBudget same (p.2 ∙ sym q.2)
 refusal_once r (generate.OverBudget cost budget) generate.NoMemory p q = absurd q
 refusal_once r generate.NoMemory g p q = absurd p

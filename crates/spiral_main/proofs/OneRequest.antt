@@ -1,17 +1,21 @@
 -- A request line spells one request or has one fault.
-use Rattle.std.proofs.Common.{◌≡◌, ◌<◌, ◌≤◌, ◌-◌, ◌^◌, ◌%◌, ◌==◌, ◌&&◌, ℕ, Bool, true, false, List, Ok, Err, Result, cond, nat_le, nat_lt, refl, sym, ap, ◌∙◌, arith, ◌⊎◌, inl, inr}
+use Rattle.std.proofs.Common.{◌≡◌, ◌<◌, ◌≤◌, ◌-◌, ◌^◌, ◌%◌, ◌==◌, ◌&&◌, ℕ, Bool, true, false, List, Ok, Err, Result, cond, nat_le, nat_lt, refl, sym, ap, ap₂, subst, ◌∙◌, arith, ◌⊎◌, inl, inr}
 use Rattle.std.proofs.lemmas.Grind.{common_steps}
+use Rattle.std.proofs.lemmas.Nat.Gcd.{same_from_IsGcd}
+use Rattle.std.specs.Int.{IsGcd}
+use Rattle.matrix_meaning.specs.declared.Direction.{Direction}
+use Rattle.matrix_meaning.specs.declared.Direction.TheVariants.{Forward, Inverse}
 use Rattle.matrix_meaning.specs.declared.Kind.{Kind}
 use Rattle.matrix_meaning.specs.declared.Kind.TheVariants.{Dft, Wht}
 use Rattle.matrix_meaning.specs.declared.Request.{Request}
-use Rattle.matrix_meaning.specs.Valid.{IsInRange, HasShape}
+use Rattle.matrix_meaning.specs.Valid.{AllowsDirection, IsInRange, HasShape}
 use Rattle.grammar.specs.Grammar.{Judges, IsStuck}
 use Rattle.request_text.specs.declared.fault.Field.{Field}
 use Rattle.request_text.specs.declared.fault.Field.TheVariants.{Size, Mod, Root, Procs, Line, Lanes, Unroll, Budget, Weight}
 use Rattle.request_text.specs.declared.fault.RequestFault.{RequestFault}
 use Rattle.request_text.specs.declared.fault.RequestFault.TheVariants.{Syntax, Range, Shape, LanesLine, NotUnit}
 use Rattle.request_text.specs.Line.{request_line}
-use Rattle.request_text.specs.Limits.{◌>>◌, within, below, shaped, divided, judged}
+use Rattle.request_text.specs.Limits.{◌>>◌, within, below, shaped, divided, unshared, invertible, limited, judged, IsJudged}
 use Rattle.request_text.specs.Answer.{IsFaultOf, Answers}
 use Rattle.request_text.proofs.Line.{line_judges}
 
@@ -58,9 +62,9 @@ divided_ok procs line lanes h = cases (nat_le procs 1) refl
         let more : 1 < procs = grind (arith, common_steps) in
         ap (λ n. cond (n == 0) passed (Err (LanesLine lanes line))) (h more)
 
-pub judged_ok : (r : Request) → IsInRange r → judged r ≡ Ok r
-unfolding judged
-judged_ok r v =
+limited_ok : (r : Request) → IsInRange r → limited r ≡ Ok r
+unfolding limited
+limited_ok r v =
     then_ok (within Size r.size 1 1048576) _ r (within_ok Size r.size 1 1048576 v.size)
     (then_ok (within Mod r.modulus 2 (2 ^ 62 - 1)) _ r (within_ok Mod r.modulus 2 (2 ^ 62 - 1) v.modulus)
     (then_ok (below Root r.root r.modulus) _ r (below_ok Root r.root r.modulus v.root)
@@ -73,6 +77,17 @@ judged_ok r v =
     (then_ok (shaped r.kind r.size) _ r (shaped_ok r.kind r.size v.shape)
     (then_ok (divided r.procs r.line r.lanes) _ r (divided_ok r.procs r.line r.lanes v.lanes_in_line) refl))))))))))
 
+pub unshared_ok : (n m shared : ℕ) → IsGcd n m 1 → IsGcd n m shared → unshared shared ≡ Ok tt
+unshared_ok n m shared unit divides = ap unshared (same_from_IsGcd n m shared 1 divides unit)
+
+invertible_ok : (direction : Direction) (kind : Kind) (n m shared : ℕ) → AllowsDirection direction kind n m → IsGcd n m shared → invertible direction shared ≡ passed
+invertible_ok Forward kind n m shared h divides = refl
+invertible_ok Inverse kind n m shared h divides = unshared_ok n m shared h.1 divides
+
+-- a request in range has no fault where its direction, or another that is asked for, has none
+pub judged_ok : (direction : Direction) (shared : ℕ) (r : Request) → IsInRange r → invertible direction shared ≡ Ok tt → judged direction shared r ≡ Ok r
+judged_ok direction shared r v e = ap (λ t. t >> (invertible direction shared >> Ok r)) (limited_ok r v) ∙ then_ok (invertible direction shared) (Ok r) r e refl
+
 -- ---- what is answered for a line
 
 abbrev pub faulty : RequestFault → Result Request RequestFault
@@ -81,9 +96,18 @@ faulty fault = Err fault
 pub faulty_same : (f g : RequestFault) → faulty f ≡ faulty g → f ≡ g
 faulty_same f g e = cc
 
+-- the first fault of a request, by the direction that is asked for, is one
+pub judged_once : (asked : Request → Direction) (r s : Request) (f g : RequestFault) → r ≡ s → IsJudged (asked r) r (Err f) → IsJudged (asked s) s (Err g) → f ≡ g
+judged_once asked r s f g same p q =
+    let divides : IsGcd s.size s.modulus p.0 = subst (λ (x : Request). IsGcd x.size x.modulus p.0) same p.1 in
+    let shared : p.0 ≡ q.0 = same_from_IsGcd s.size s.modulus p.0 q.0 divides q.1 in
+    faulty_same f g (p.2 ∙ ap₂ (λ n (x : Request). judged (asked x) n x) shared same ∙ sym q.2)
+
 fault_clash : (line : List ℕ) (r : Request) (fault : RequestFault) → request_line line r → IsInRange r → IsFaultOf line fault → ⊥
 fault_clash line r fault p v q =
-    let e : Ok r ≡ faulty fault = sym (judged_ok r v) ∙ ap judged (request_once line r q.0 p q.1) ∙ q.2 in
+    let s = q.0 in
+    let own : IsInRange s = subst IsInRange (request_once line r s p q.1) v in
+    let e : faulty fault ≡ Ok s = q.2.2 ∙ judged_ok s.direction q.2.0 s own (invertible_ok s.direction s.kind s.size s.modulus q.2.0 own.direction q.2.1) in
     absurd (cc)
 
 pub answer_clash : (line : List ℕ) (r : Request) (fault : RequestFault) → Answers line (Ok r) → Answers line (Err fault) → ⊥
@@ -91,7 +115,7 @@ answer_clash line r (Syntax at) p q = q.nothing r p.0
 answer_clash line r (Range field value) p q = fault_clash line r (Range field value) p.0 p.1 q
 answer_clash line r (Shape size) p q = fault_clash line r (Shape size) p.0 p.1 q
 answer_clash line r (LanesLine lanes length) p q = fault_clash line r (LanesLine lanes length) p.0 p.1 q
-answer_clash line r (NotUnit gcd) p q = q
+answer_clash line r (NotUnit gcd) p q = fault_clash line r (NotUnit gcd) p.0 p.1 q
 
 -- a line is stuck, or spells a request with this fault
 abbrev IsFaulty : List ℕ → RequestFault → Type 0
@@ -102,7 +126,7 @@ faulty_by line (Syntax at) p = inl (at, refl, p)
 faulty_by line (Range field value) p = inr p
 faulty_by line (Shape size) p = inr p
 faulty_by line (LanesLine lanes length) p = inr p
-faulty_by line (NotUnit gcd) p = absurd p
+faulty_by line (NotUnit gcd) p = inr p
 
 stuck_once : (line : List ℕ) (a b : ℕ) → IsStuck request_line line a → IsStuck request_line line b → a ≡ b
 stuck_once line a b p q =
@@ -114,7 +138,7 @@ faulty_once : (line : List ℕ) (f g : RequestFault) → IsFaulty line f → IsF
 faulty_once line f g (inl p) (inl q) = p.1 ∙ ap Syntax (stuck_once line p.0 q.0 p.2 q.2) ∙ sym q.1
 faulty_once line f g (inl p) (inr q) = absurd (p.2.nothing q.0 q.1)
 faulty_once line f g (inr p) (inl q) = absurd (q.2.nothing p.0 p.1)
-faulty_once line f g (inr p) (inr q) = faulty_same f g (sym p.2 ∙ ap judged (request_once line p.0 q.0 p.1 q.1) ∙ q.2)
+faulty_once line f g (inr p) (inr q) = judged_once (λ r. r.direction) p.0 q.0 f g (request_once line p.0 q.0 p.1 q.1) p.2 q.2
 
 pub fault_once : (line : List ℕ) (f g : RequestFault) → Answers line (Err f) → Answers line (Err g) → f ≡ g
 fault_once line f g p q = faulty_once line f g (faulty_by line f p) (faulty_by line g q)

@@ -1,5 +1,5 @@
 -- A request has one table of chosen rows.
-use Rattle.std.proofs.Common.{◌≡◌, ◌<◌, ℕ, zero, suc, List, [], ◌∷◌, length, refl, sym, ap, ap₂, subst, ◌∙◌, arith, ◌⊎◌, inl, inr}
+use Rattle.std.proofs.Common.{◌≡◌, ◌+◌, ◌<◌, ℕ, zero, suc, List, [], ◌∷◌, length, refl, sym, ap, ap₂, subst, ◌∙◌, arith, ◌⊎◌, inl, inr}
 use Rattle.std.specs.Prelude.{Option, All, Any, AllPairs}
 use Rattle.std.specs.List.{slice_index_or}
 use Rattle.matrix_meaning.specs.declared.Request.{Request}
@@ -8,6 +8,7 @@ use Rattle.tree_model.specs.Admissible.{IsChosenFor}
 use Rattle.tree_model.specs.Breakdown.{Breakdown, leaf, node}
 use Rattle.tree_model.specs.Cost.{cost_of}
 use Rattle.plan_cert.specs.declared.certificate.Row.{Row}
+use Rattle.plan_cert.specs.Found.{extra_at}
 use Rattle.plan_cert.specs.Table.{IsRootOf, IsChosenRow, IsTable}
 use Rattle.spiral_main.proofs.OneTree.{chosen_once}
 
@@ -21,7 +22,7 @@ row size cost rule left right = record { size = size; cost = cost; rule = rule; 
 row_once : (c : Request) (x y : Row) → x.size ≡ y.size → IsChosenRow c x → IsChosenRow c y → x ≡ y
 row_once c x y same p q =
     let trees : p.0 ≡ q.0 = chosen_once c x.size p.0 q.0 p.1.chosen (subst (λ n. IsChosenFor c n q.0) (sym same) q.1.chosen) in
-    let costs : x.cost ≡ y.cost = p.1.cost ∙ ap (cost_of c) trees ∙ sym q.1.cost in
+    let costs : x.cost ≡ y.cost = p.1.cost ∙ ap₂ (λ (t : Breakdown) d. cost_of c t + extra_at c d) trees same ∙ sym q.1.cost in
     let roots = roots_same q.0 x.rule y.rule x.left x.right y.left y.right (subst (λ (t : Breakdown). IsRootOf t x.rule x.left x.right) trees p.1.root) q.1.root in
     ap (λ n. row n x.cost x.rule x.left x.right) same
     ∙ ap (λ n. row y.size n x.rule x.left x.right) costs

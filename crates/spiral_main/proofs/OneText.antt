@@ -7,9 +7,9 @@ use Rattle.spiral_words.specs.declared.Command.TheVariants as command
 use Rattle.spiral_words.specs.Asked.{IsAsked}
 use Rattle.generate.specs.Planned.{IsPlanned}
 use Rattle.tree_model.specs.Breakdown.{Breakdown}
-use Rattle.tree_model.specs.Cost.{cost_of}
+use Rattle.tree_model.specs.Cost.{whole_cost}
 use Rattle.tree_model.specs.Passes.{loads_of, stores_of}
-use Rattle.breakdown.specs.Expansion.{expansion}
+use Rattle.breakdown.specs.Expansion.{request_expansion}
 use Rattle.spl_text.specs.Spelling.{spelling}
 use Rattle.plan_text.specs.Text.{plan_text}
 use Rattle.plan_cert.specs.declared.certificate.Row.{Row}
@@ -38,7 +38,7 @@ planned_once r t u p q = chosen_once r r.size t u p.1 q.1
 
 text_once : (wanted : Command) (r : Request) (s t : List ℕ) → prints_one_text wanted ≡ true → IsTextOf wanted r s → IsTextOf wanted r t → s ≡ t
 text_once command.Plan r s t h p q = p.2 ∙ ap (plan_text r) (planned_once r p.0 q.0 p.1 q.1) ∙ sym q.2
-text_once command.Formula r s t h p q = p.2 ∙ ap (λ (tree : Breakdown). spelling (expansion r tree) ++ 10 ∷ []) (planned_once r p.0 q.0 p.1 q.1) ∙ sym q.2
+text_once command.Formula r s t h p q = p.2 ∙ ap (λ (tree : Breakdown). spelling (request_expansion r tree) ++ 10 ∷ []) (planned_once r p.0 q.0 p.1 q.1) ∙ sym q.2
 text_once command.Code r s t h p q = absurd (cc)
 text_once command.C r s t h p q = absurd (cc)
 text_once (command.Run order) r s t h p q = absurd p
@@ -53,7 +53,7 @@ text_once (command.Exec schedule) r s t h p q = absurd p
 text_once (command.Convolve schedule as_code) r s t h p q = absurd p
 text_once (command.Sample seed schedule) r s t h p q =
     p.2
-    ∙ ap (λ (tree : Breakdown). sample_text (weighted_sum r.modulus (product r (sample_vector r.modulus r.size seed))) (cost_of r tree) (loads_of r tree) (stores_of r tree)) (planned_once r p.0 q.0 p.1 q.1)
+    ∙ ap (λ (tree : Breakdown). sample_text (weighted_sum r.modulus (product r (sample_vector r.modulus r.size seed))) (whole_cost r tree) (loads_of r tree) (stores_of r tree)) (planned_once r p.0 q.0 p.1 q.1)
     ∙ sym q.2
 
 data_text_once : (wanted : Command) (r : Request) (vectors : List (List ℕ)) (s t : List ℕ) → prints_one_text wanted ≡ true

@@ -20,7 +20,7 @@ use Rattle.request_text.specs.Schedule.{Plan}
 use Rattle.request_text.specs.Turns.{next_state, state_after, turns_of}
 use Rattle.generate.specs.Good.{IsVector}
 use Rattle.generate.proofs.Goodness.{whole-of}
-use Rattle.tree_model.specs.Cost.{cost_of}
+use Rattle.tree_model.specs.Cost.{whole_cost}
 use Rattle.tree_model.specs.Passes.{loads_of, stores_of}
 use Rattle.spiral_main.specs.Outcome.{product, IsSampleText}
 use Rattle.spiral_main.specs.Sample.{sample_vector, weighted_sum, sample_text, AreCountable}
@@ -103,24 +103,24 @@ sum-weighted weight (suc n) f =
 pub costs : (request : Request) (code after : Code) (vector turns : List ℕ) (state : State) (counts : Counts) → (good : IsGoodCode request code) → IsInRange request → after ≡ code → state ≡ runs code vector turns
     → counts.operations ≡ sum_below after.procs (λ q. (counts_so_far after state q).operations)
     → counts.muls ≡ sum_below after.procs (λ q. (counts_so_far after state q).muls)
-    → weighted request.weight counts ≡ cost_of request good.0
+    → weighted request.weight counts ≡ whole_cost request good.0
 costs request code after vector turns state counts good in_range same ran operations muls =
     let program = good.1 in
     let is : IsCode code = subst IsCode (sym good.4) (code_is (plain_program program)) in
     let apart : (phase : ℕ) → IsApart code phase = λ phase. subst (λ (k : Code). IsApart k phase) (sym good.4) (good.3.apart phase) in
     let whole : (q : ℕ) → counts_so_far code state q ≡ whole_counts code q = λ q. ap (λ s. counts_so_far code s q) ran ∙ counts_of_runs code is vector turns q in
     let some : 0 < (code_of program).procs = omega (arith, good.3.header.procs, in_range.procs.0) in
-    let share : (q : ℕ) → q < (code_of program).procs → (code_of program).procs * weighted request.weight (whole_counts (code_of program) q) ≡ cost_of request good.0 =
+    let share : (q : ℕ) → q < (code_of program).procs → (code_of program).procs * weighted request.weight (whole_counts (code_of program) q) ≡ whole_cost request good.0 =
     λ q below. ap (λ n. n * weighted request.weight (whole_counts (code_of program) q)) good.3.header.procs ∙ good.3.operations q (subst (λ n. q < n) good.3.header.procs below) in
     ap₂ (λ o m. o + (request.weight - 1) * m) operations muls
     ∙ sym (sum-weighted request.weight after.procs (λ q. counts_so_far after state q))
     ∙ ap (λ (k : Code). sum_below k.procs (λ q. weighted request.weight (counts_so_far k state q))) same
     ∙ sum_below-same code.procs _ _ (λ q _. ap (weighted request.weight) (whole q))
     ∙ ap (λ (k : Code). sum_below k.procs (λ q. weighted request.weight (whole_counts k q))) good.4
-    ∙ whole-of (code_of program).procs (cost_of request good.0) (λ q. weighted request.weight (whole_counts (code_of program) q)) some share
+    ∙ whole-of (code_of program).procs (whole_cost request good.0) (λ q. weighted request.weight (whole_counts (code_of program) q)) some share
 
 -- which is counted in 64 bits
-pub cost_fits : (request : Request) (code : Code) (n : ℕ) → (good : IsGoodCode request code) → IsInRange request → n ≡ cost_of request good.0 → n < 2 ^ 64
+pub cost_fits : (request : Request) (code : Code) (n : ℕ) → (good : IsGoodCode request code) → IsInRange request → n ≡ whole_cost request good.0 → n < 2 ^ 64
 cost_fits request code n good in_range is = let within = good.2.2 in let high = in_range.budget.1 in omega arith
 
 -- what the parts of a sample come to
@@ -145,7 +145,7 @@ sampled request code after plan m n seed vector y state sum counts text good in_
     let of_request : m ≡ request.modulus = modulus ∙ ap (λ (k : Code). k.modulus) good.4 ∙ good.3.header.modulus in
     let whole : (q : ℕ) → counts_so_far code state q ≡ whole_counts code q = λ q. ap (λ s. counts_so_far code s q) ran ∙ counts_of_runs code is vector turns q in
     let sum_is = s ∙ ap₂ weighted_sum of_request (times ∙ ap (product request) here) in
-    let operations_is : weighted request.weight counts ≡ cost_of request good.0 = costs request code after vector turns state counts good in_range same ran operations muls in
+    let operations_is : weighted request.weight counts ≡ whole_cost request good.0 = costs request code after vector turns state counts good in_range same ran operations muls in
     let loads_is : counts.loads ≡ loads_of request good.0 =
     loads ∙ ap (λ (k : Code). sum_below k.procs (λ q. (counts_so_far k state q).loads)) same
     ∙ sum_below-same code.procs _ _ (λ q _. ap (λ (c : Counts). c.loads) (whole q)) ∙ ap (λ (k : Code). sum_below k.procs (λ q. (whole_counts k q).loads)) good.4
@@ -157,5 +157,5 @@ sampled request code after plan m n seed vector y state sum counts text good in_
     let text_is =
     t ∙ ap (λ k. sample_text k (weighted request.weight counts) counts.loads counts.stores) sum_is
     ∙ ap (λ k. sample_text (weighted_sum request.modulus (product request (sample_vector request.modulus request.size seed))) k counts.loads counts.stores) operations_is
-    ∙ ap₂ (sample_text (weighted_sum request.modulus (product request (sample_vector request.modulus request.size seed))) (cost_of request good.0)) loads_is stores_is in
+    ∙ ap₂ (sample_text (weighted_sum request.modulus (product request (sample_vector request.modulus request.size seed))) (whole_cost request good.0)) loads_is stores_is in
     (good.0, good.2, text_is)

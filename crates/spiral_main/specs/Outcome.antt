@@ -4,7 +4,7 @@ use Rattle.std.specs.List.{list_all}
 use Rattle.std.specs.declared.option.Option.{Option}
 use Rattle.std.specs.Io.KnownBytes.{Appends, Consumes, IsAtEnd}
 use Rattle.matrix_meaning.specs.declared.Request.{Request}
-use Rattle.matrix_meaning.specs.Kind.{transform}
+use Rattle.matrix_meaning.specs.Asked.{asked_transform}
 use Rattle.icode.specs.declared.program.Program.{Program}
 use Rattle.request_text.specs.declared.RequestFault.{RequestFault}
 use Rattle.request_text.specs.Answer.{Answers}
@@ -14,9 +14,9 @@ use Rattle.generate.specs.Planned.{IsPlanned, IsAdmitted, IsBarred}
 use Rattle.icode.specs.Program.{plain_program, code_of}
 use Rattle.request_text.specs.Schedule.{Plan as Turns}
 use Rattle.tree_model.specs.Breakdown.{Breakdown}
-use Rattle.tree_model.specs.Cost.{cost_of}
+use Rattle.tree_model.specs.Cost.{whole_cost}
 use Rattle.tree_model.specs.Passes.{loads_of, stores_of}
-use Rattle.breakdown.specs.Expansion.{expansion}
+use Rattle.breakdown.specs.Expansion.{request_expansion}
 use Rattle.plan_cert.specs.declared.certificate.Row.{Row}
 use Rattle.plan_cert.specs.Table.{IsTableText}
 use Rattle.plan_text.specs.Text.{plan_text}
@@ -97,13 +97,13 @@ ordered words bytes = do
 
 -- What is written
 
--- the matrix times the vector
+-- what the request asks for: its matrix times the vector
 abbrev pub product : Request → List ℕ → List ℕ
-product r x = transform r.kind r.modulus r.size r.root x
+product r x = asked_transform r x
 
 -- a good program for the request, which executes, loads and stores exactly what the tree does
 abbrev pub IsProgramOf : Request → Breakdown → Program → Type 0
-IsProgramOf request tree program = IsGood request (cost_of request tree) program × IsLean request tree program
+IsProgramOf request tree program = IsGood request (whole_cost request tree) program × IsLean request tree program
 
 -- such a program for the chosen tree
 abbrev pub IsProgramFor : Request → Program → Type 0
@@ -120,7 +120,7 @@ IsCText request text = (program : Program) × IsProgramFor request program × (t
 -- the text has the weighted sum of the matrix times the seed's vector, and what the chosen tree costs, loads and stores
 abbrev pub IsSampleText : Request → ℕ → List ℕ → Type 0
 IsSampleText request seed text = (tree : Breakdown) × IsPlanned request (Ok tree)
-    × (text ≡ sample_text (weighted_sum request.modulus (product request (sample_vector request.modulus request.size seed))) (cost_of request tree) (loads_of request tree) (stores_of request tree))
+    × (text ≡ sample_text (weighted_sum request.modulus (product request (sample_vector request.modulus request.size seed))) (whole_cost request tree) (loads_of request tree) (stores_of request tree))
 
 -- the chosen tree, its cost, the phases and each processor's operations
 abbrev pub IsPlanText : Request → List ℕ → Type 0
@@ -128,7 +128,7 @@ IsPlanText request text = (tree : Breakdown) × IsPlanned request (Ok tree) × (
 
 -- the formula of the chosen tree, and a line end
 abbrev pub IsFormulaText : Request → List ℕ → Type 0
-IsFormulaText request text = (tree : Breakdown) × IsPlanned request (Ok tree) × (text ≡ spelling (expansion request tree) ++ 10 ∷ [])
+IsFormulaText request text = (tree : Breakdown) × IsPlanned request (Ok tree) × (text ≡ spelling (request_expansion request tree) ++ 10 ∷ [])
 
 -- the line of the table with the least cost and the first choice of each size
 abbrev pub IsCertificate : Request → List ℕ → Type 0

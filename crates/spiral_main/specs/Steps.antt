@@ -12,7 +12,7 @@ use Rattle.icode.specs.Program.{code_of}
 use Rattle.generate.specs.Good.{IsGood, IsLean}
 use Rattle.generate.specs.Planned.{IsPlanned}
 use Rattle.tree_model.specs.Breakdown.{Breakdown}
-use Rattle.tree_model.specs.Cost.{cost_of}
+use Rattle.tree_model.specs.Cost.{whole_cost}
 use Rattle.io_edge.specs.Taken.{AppendsPrefix}
 use Rattle.input_rest.specs.declared.RestFault.{RestFault}
 use Rattle.input_rest.specs.Part.{GivesPart}
@@ -41,7 +41,7 @@ pub record IsRefusal (status : Status) : Type 0 where
 
 -- the code of a program that is good for the request
 abbrev pub IsGoodCode : Request → Code → Type 0
-IsGoodCode request code = (tree : Breakdown) × (program : Program) × IsPlanned request (Ok tree) × IsGood request (cost_of request tree) program × (code ≡ code_of program) × IsLean request tree program
+IsGoodCode request code = (tree : Breakdown) × (program : Program) × IsPlanned request (Ok tree) × IsGood request (whole_cost request tree) program × (code ≡ code_of program) × IsLean request tree program
 
 -- status and text of a command for a request, by what its input has left
 abbrev pub Ends : Command → Request → ℕ → List ℕ → Status → List ℕ → Type 0

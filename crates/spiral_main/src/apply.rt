@@ -43,7 +43,7 @@ fn formula_engine(
 {
     let formula = written_formula(alloc, text)?;
     check_turns(schedule.stranger(1), 1)?;
-    let program = formula_program(alloc, modulus, &formula)?;
+    let program = formula_program(alloc, modulus, formula)?;
     let machine = Machine::new(alloc, &program)?;
     let vector = vec![in alloc; 0; program.size as usize]?;
     Ok((machine, vector))

@@ -40,7 +40,7 @@ fn formula_listing(alloc: Global, modulus: &Modulus, text: &[u8]) -> Result<Vec<
     ensures refusal { IfErr result IsRefusal }
 {
     let formula = written_formula(alloc, text)?;
-    let program = formula_program(alloc, modulus, &formula)?;
+    let program = formula_program(alloc, modulus, formula)?;
     let listing = print_listing(alloc, &program)?;
     Ok(listing)
 }

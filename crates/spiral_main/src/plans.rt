@@ -3,13 +3,13 @@ ghost use Rattle.std.specs.Prelude.{◌≡◌, ◌++◌, ◌∷◌, [], Ok, IfOk
 ghost use Rattle.matrix_meaning.specs.Valid.{IsInRange, IsValid};
 ghost use Rattle.generate.specs.Planned.{IsPlanned};
 ghost use Rattle.tree_model.specs.Breakdown.{breakdown_of};
-ghost use Rattle.tree_model.specs.Cost.{cost_of};
+ghost use Rattle.tree_model.specs.Cost.{whole_cost};
 ghost use Rattle.spiral_main.specs.Outcome.{IsRefused, IsAffordable, IsPlanText, IsFormulaText, IsCertificate};
 ghost use Rattle.spiral_status.specs.Status.{IsDefined};
 ghost use Rattle.spiral_main.specs.Steps.{IsRefusal};
 
 use crate::Status;
-use breakdown::expand;
+use breakdown::expand_request;
 use generate::plan;
 use matrix_meaning::Request;
 use memory::NoMemory;
@@ -24,7 +24,7 @@ use tree_model::Ctx;
 fn chosen(alloc: Global, request: &Request) -> Result<Plan, Status>
     requires { IsInRange request.now }
     ensures planned { IfOk result (λ plan. IsPlanned request.now (Ok (breakdown_of plan.tree))) }
-    ensures cost { IfOk result (λ plan. plan.cost ≡ cost_of request.now (breakdown_of plan.tree)) }
+    ensures cost { IfOk result (λ plan. plan.cost ≡ whole_cost request.now (breakdown_of plan.tree)) }
     ensures valid { IfOk result (λ plan. IsValid request.now) }
     ensures affordable { OnOk result (IsAffordable request.now) }
     ensures refused { IfErr result (λ status. IsDefined status → IsRefused request.now status) }
@@ -66,7 +66,7 @@ pub(crate) fn formula(alloc: Global, request: &Request) -> Result<Vec<u8>, Statu
 {
     let plan = chosen(alloc, request)?;
     let context = Ctx::new(request);
-    let formula = expand(alloc, &context, &plan.tree)?;
+    let formula = expand_request(alloc, &context, &plan.tree)?;
     let text = ended(print_spl(alloc, &formula)?)?;
     Ok(text)
 }

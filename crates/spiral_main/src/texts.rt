@@ -7,7 +7,7 @@ ghost use Rattle.listing_text.specs.Listing.{listing_of};
 ghost use Rattle.generate.specs.Good.{IsGood, IsLean};
 ghost use Rattle.generate.specs.Planned.{IsPlanned};
 ghost use Rattle.tree_model.specs.Breakdown.{breakdown_of};
-ghost use Rattle.tree_model.specs.Cost.{cost_of};
+ghost use Rattle.tree_model.specs.Cost.{whole_cost};
 ghost use Rattle.spiral_main.specs.Commands.{has_text, NamesNoStranger};
 ghost use Rattle.spiral_main.specs.Outcome.{IsRefused, IsAffordable, IsProgramFor, IsListing, IsCText, IsTextOf};
 ghost use Rattle.spiral_status.specs.Status.{IsDefined};
@@ -28,7 +28,7 @@ use std::alloc::Global;
 pub(crate) fn good_product(alloc: Global, request: &Request) -> Result<Product, Status>
     requires in_range { IsInRange request.now }
     ensures planned { IfOk result (λ product. IsPlanned request.now (Ok (breakdown_of product.plan.tree))) }
-    ensures good { IfOk result (λ product. IsGood request.now (cost_of request.now (breakdown_of product.plan.tree)) product.program) }
+    ensures good { IfOk result (λ product. IsGood request.now (whole_cost request.now (breakdown_of product.plan.tree)) product.program) }
     ensures lean { IfOk result (λ product. IsLean request.now (breakdown_of product.plan.tree) product.program) }
     ensures program { IfOk result (λ product. IsProgramFor request.now product.program) }
     ensures affordable { OnOk result (IsAffordable request.now) }

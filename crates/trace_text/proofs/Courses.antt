@@ -1,14 +1,11 @@
--- Turns that act, and states on the way.
-use Rattle.std.proofs.Common.{◌≡◌, ℕ, zero, suc, ◌<◌, ◌≤◌, List, [], ◌∷◌, ◌++◌, length, Option, None, Some, Ok, Err, Result, refl, sym, ap, ◌∙◌, subst, arith, append_assoc}
+-- Turns that act.
+use Rattle.std.proofs.Common.{◌≡◌, ℕ, zero, suc, ◌<◌, ◌≤◌, List, [], ◌∷◌, ◌++◌, length, Option, None, Some, Ok, Err, Result, refl, sym, ap, ◌∙◌, subst, arith}
 use Rattle.std.specs.Prelude.{OnOk}
 use Rattle.icode.specs.declared.action.Action.{Action}
 use Rattle.icode.specs.declared.event.Turned.TheVariants.{Did}
 use Rattle.icode.specs.Machine.{Code, State, next_action, answer, answer_with, turn, turn_with, run, completion}
-use Rattle.trace_text.specs.Trace.{answer_at, completed}
-use Rattle.trace_text.specs.Course.{PassesThrough, CompletionActs, EachActs}
-use Rattle.trace_text.proofs.Lines.{run-append}
-
--- Turns that act
+use Rattle.trace_text.specs.Trace.{answer_at}
+use Rattle.trace_text.specs.Course.{CompletionActs, EachActs}
 
 module _ (code : Code) where
   -- a turn that shortens the completion did an action, since one that does none leaves the state
@@ -52,49 +49,3 @@ same_acts own code t s turns e f all =
 pub on_ok : {T E P Q : Type 0} (result : Result T E) → (P → Q) → OnOk result P → OnOk result Q
 on_ok (Ok v) f p = f p
 on_ok (Err e) f p = p
-
--- States on the way
-
--- the state is the one after the turns of a list that stand before these
-pub record IsReached (code : Code) (first : State) (all : List ℕ) (s : State) (turns : List ℕ) : Type 0 where
-  pub past : List ℕ
-  pub whole : all ≡ past ++ turns
-  pub here : s ≡ run code first past
-
-pub reached_first : (code : Code) (s : State) (turns : List ℕ) → IsReached code s turns s turns
-reached_first code s turns = record { past = []; whole = refl; here = refl }
-
--- the next turn, on a machine of the same code
-pub reached_on : (code : Code) (first : State) (all : List ℕ) (s : State) (own : Code) (q : ℕ) (turns rest : List ℕ) (t : State) → own ≡ code → turns ≡ q ∷ rest → t ≡ turn own s q → IsReached code first all s turns → IsReached code first all t rest
-reached_on code first all s own q turns rest t same e moved r =
-    record {
-      past = r.past ++ q ∷ [];
-      whole = r.whole ∙ (ap (λ l. r.past ++ l) e ∙ sym (append_assoc r.past (q ∷ []) rest));
-      here = moved ∙ (ap (λ (k : Code). turn k s q) same ∙ (ap (λ (u : State). turn code u q) r.here ∙ sym (run-append code r.past (q ∷ []) first)));
-    }
-
-pub passes : (code : Code) (first : State) (all : List ℕ) (s : State) (turns : List ℕ) → IsReached code first all s turns → PassesThrough code first all s
-passes code first all s turns r = record { front = r.past; rest = turns; whole = r.whole; after = r.here }
-
--- more turns would have followed
-pub passes_more : (code : Code) (s : State) (xs ys : List ℕ) (t : State) → PassesThrough code s xs t → PassesThrough code s (xs ++ ys) t
-passes_more code s xs ys t p =
-    record {
-      front = p.front;
-      rest = p.rest ++ ys;
-      whole = ap (λ l. l ++ ys) p.whole ∙ append_assoc p.front p.rest ys;
-      after = p.after;
-    }
-
--- a machine that is the same goes on behind the turns
-pub passes_after : (own code : Code) (u s : State) (turns : List ℕ) (t : State) → own ≡ code → u ≡ run code s turns → PassesThrough own u (completion own u) t → PassesThrough code s (completed code s turns) t
-passes_after own code u s turns t e f p =
-    let last : State = run code s turns in
-    let here : PassesThrough code last (completion code last) t =
-    subst (λ (v : State). PassesThrough code v (completion code v) t) f (subst (λ (k : Code). PassesThrough k u (completion k u) t) e p) in
-    record {
-      front = turns ++ here.front;
-      rest = here.rest;
-      whole = ap (λ l. turns ++ l) here.whole ∙ sym (append_assoc turns here.front here.rest);
-      after = here.after ∙ sym (run-append code turns here.front s);
-    }

@@ -2,6 +2,6 @@ pub mod Lines
 pub mod Goes
 pub mod EventLemmas
 mod Courses
-mod EventCourses
+mod FaultLemmas
 mod Settled
 mod EventsAct

@@ -1,11 +1,12 @@
 -- The lines of turns, taken apart.
-use Rattle.std.proofs.Common.{◌≡◌, ℕ, suc, ◌+◌, List, [], ◌∷◌, ◌++◌, length, take, flat_map, refl, sym, ap, ap₂, ◌∙◌, subst, arith, append_assoc}
+use Rattle.std.proofs.Common.{◌≡◌, ℕ, suc, ◌+◌, ◌<◌, List, [], ◌∷◌, ◌++◌, length, take, drop, drop-cons, add-one, flat_map, refl, sym, ap, ap₂, ◌∙◌, subst, arith, append_assoc, append-nil}
 use Rattle.std.specs.Prelude.{slice_index}
 use Rattle.std.specs.List.{range_with_len}
 use Rattle.std.proofs.lemmas.List.{length-append}
 use Rattle.icode.specs.Machine.{Code, State, answer, completion, run, turn}
 use Rattle.trace_text.specs.Trace.{turn_line, line_at, lines_of_turns, completed, trace_of}
 use Rattle.trace_text.specs.From.{lines_from}
+use Rattle.trace_text.proofs.Goes.{IsCourse}
 
 at_end : (xs ys : List ℕ) (y : ℕ) → slice_index (xs ++ (y ∷ ys)) (length xs) ≡ y
 at_end [] ys y = refl
@@ -27,6 +28,9 @@ module _ (code : Code) where
       let e : number + 1 + length xs ≡ number + suc (length xs) = omega arith in
       ap (λ l. line ++ l) (lines_from-append xs ys (turn code s q) (number + 1) ∙ ap (λ n. lines_from code (turn code s q) (number + 1) xs ++ lines_from code (run code (turn code s q) xs) n ys) e)
       ∙ sym (append_assoc line (lines_from code (turn code s q) (number + 1) xs) (lines_from code (run code (turn code s q) xs) (number + suc (length xs)) ys))
+
+  pub turns_course : IsCourse (run code) (lines_from code)
+  turns_course = record { run_none = λ s. refl; no_lines = λ s number. refl; run_on = run-append; lines_on = lines_from-append }
 
   -- the lines of the turns after others
   lines_behind : (s : State) (before rest : List ℕ) → lines_from code (run code s before) (length before) rest ≡ flat_map (line_at code s (before ++ rest)) (range_with_len (length before) (length rest))
@@ -57,3 +61,12 @@ pub same_rest : (P : List ℕ → Type 0) (own code : Code) (t s : State) (n m :
 same_rest P own code t s n m e f h p =
     subst (λ (k : Code). P (lines_from k s m (completion k s))) e
     (subst (λ (u : State). P (lines_from own u m (completion own u))) f (subst (λ i. P (lines_from own t i (completion own t))) h p))
+
+-- the line of one turn, on a machine of the same code
+pub turn_alone : (P : List ℕ → Type 0) (own code : Code) (s : State) (number q : ℕ) → own ≡ code → P (turn_line own.lanes number q (answer own s q)) → P (lines_from code s number (q ∷ []))
+turn_alone P own code s number q e p =
+    subst P (sym (append-nil (turn_line code.lanes number q (answer code s q)))) (subst (λ (k : Code). P (turn_line k.lanes number q (answer k s q))) e p)
+
+-- what is left of a list from a number on
+pub next_of : (turns : List ℕ) (number q : ℕ) → number < length turns → q ≡ slice_index turns number → drop number turns ≡ q ∷ drop (number + 1) turns
+next_of turns number q lt e = drop-cons turns number 0 lt ∙ ap₂ (λ p n. p ∷ drop n turns) (sym e) (sym (add-one number))

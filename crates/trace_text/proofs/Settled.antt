@@ -1,12 +1,10 @@
 -- In each state of a run an action is left, or all phases are done; so each turn of the completion acts.
-use Rattle.std.proofs.Common.{◌≡◌, ℕ, zero, suc, ◌+◌, ◌<◌, ◌≤◌, ◌⊎◌, List, [], ◌∷◌, Bool, true, false, cond, length, Option, None, Some, refl, sym, ap, ◌∙◌, subst, arith, inl, inr, ⊎_elim, length-set}
-use Rattle.std.proofs.lemmas.List.{length-replicate}
+use Rattle.std.proofs.Common.{◌≡◌, ℕ, zero, suc, ◌+◌, ◌<◌, ◌≤◌, ◌⊎◌, List, ◌∷◌, length, refl, sym, ap, ◌∙◌, subst, arith, inl, inr, ⊎_elim}
 use Rattle.std.specs.Prelude.{slice_index}
 use Rattle.std.proofs.lemmas.Bool.{cases_lt, false≢true, le-ltb}
 use Rattle.std.proofs.lemmas.Option.{slice_get-get_or}
-use Rattle.icode.specs.declared.action.Action.{Action}
 use Rattle.icode.specs.declared.action.Action.TheVariants.{Zero}
-use Rattle.icode.specs.Machine.{Code, IsCode, State, acts, is_open, none_done, next_action, first_open, phases_after, moved_on, acted, turn, turn_with, run, start, completion}
+use Rattle.icode.specs.Machine.{Code, IsCode, State, acts, turn, run, start, completion}
 use Rattle.icode.proofs.Completion.{completion_step, completion_past}
 use Rattle.icode.proofs.Open.{IsSettled, not_open, turn_settled, run_settled, starts_settled}
 use Rattle.trace_text.specs.Course.{EachActs}

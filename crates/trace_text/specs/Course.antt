@@ -2,15 +2,15 @@
 use Rattle.std.specs.Prelude.{◌≡◌, ℕ, ◌<◌, ◌≤◌, List, [], ◌∷◌, ◌++◌, length}
 use Rattle.icode.specs.declared.action.Action.{Action}
 use Rattle.icode.specs.declared.event.Turned.TheVariants.{Did}
-use Rattle.icode.specs.Machine.{Code, IsCode, State, answer, turn, run, start}
+use Rattle.icode.specs.Machine.{Code, IsCode, State, answer, turn, start}
 use Rattle.trace_text.specs.Trace.{answer_at, completed}
 
--- the state is the one after a front of the turns
-pub record PassesThrough (code : Code) (s : State) (turns : List ℕ) (t : State) : Type 0 where
-  pub front : List ℕ
-  pub rest : List ℕ
-  pub whole : turns ≡ front ++ rest
-  pub after : t ≡ run code s front
+-- the state is the one after a front of the steps, which are turns or events in runs of theirs
+pub record PassesThrough {State Step : Type 0} (run : State → List Step → State) (s : State) (steps : List Step) (t : State) : Type 0 where
+  pub front : List Step
+  pub rest : List Step
+  pub whole : steps ≡ front ++ rest
+  pub after : t ≡ run s front
 
 -- the turns that complete these each do an action: none waits, and none comes when all phases are done
 abbrev pub CompletionActs : Code → State → List ℕ → Type 0

@@ -1,5 +1,5 @@
--- The course of a run with store buffers: the states that it passes through, and what the events at its end do.
-use Rattle.std.specs.Prelude.{◌≡◌, ℕ, List, [], ◌∷◌, ◌++◌}
+-- What the events at the end of a run with store buffers do.
+use Rattle.std.specs.Prelude.{◌≡◌, ℕ, List, [], ◌∷◌}
 use Rattle.icode.specs.declared.action.Action.{Action}
 use Rattle.icode.specs.declared.event.Drained.TheVariants.{Wrote}
 use Rattle.icode.specs.declared.event.Event.{Event}
@@ -7,13 +7,6 @@ use Rattle.icode.specs.declared.event.Event.TheVariants.{Turn, Drain}
 use Rattle.icode.specs.declared.event.Turned.TheVariants.{Did}
 use Rattle.icode.specs.Buffers.{Buffered, buffered_completion, buffered_run, buffered_start, buffered_step, drain_answer}
 use Rattle.icode.specs.Machine.{Code, IsCode, answer}
-
--- the state is the one after a front of the events
-pub record EventsPassThrough (code : Code) (b : Buffered) (events : List Event) (t : Buffered) : Type 0 where
-  pub front : List Event
-  pub rest : List Event
-  pub whole : events ≡ front ++ rest
-  pub after : t ≡ buffered_run code b front
 
 -- the turn does an action, or the drain writes a store
 abbrev pub EventActs : Code → Buffered → Event → Type 0

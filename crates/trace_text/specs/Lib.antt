@@ -3,3 +3,4 @@ pub mod From
 pub mod Course
 pub mod EventLines
 pub mod EventCourse
+pub mod Faults

@@ -1,12 +1,13 @@
 // The lines of a run with store buffers.
 
-ghost use Rattle.std.specs.Prelude.{◌≡◌, ◌<◌, ◌≤◌, OnOk};
+ghost use Rattle.std.specs.Prelude.{◌≡◌, ◌<◌, ◌≤◌, OnErr, OnOk};
 ghost use Rattle.icode.specs.Buffers.{buffered_completion, buffered_finished, buffered_run, buffered_step, proc_of};
 ghost use Rattle.io_edge.specs.Faults.{HasCause};
 ghost use Rattle.io_edge.specs.Taken.{WritesAll};
 ghost use Rattle.buffer_machine.specs.Listed.{HasNoStranger, events_of};
-ghost use Rattle.trace_text.specs.EventCourse.{EventsPassThrough};
+ghost use Rattle.trace_text.specs.Course.{PassesThrough};
 ghost use Rattle.trace_text.specs.EventLines.{completed_events, event_line, event_lines, event_trace};
+ghost use Rattle.trace_text.specs.Faults.{FaultMet};
 
 use crate::text::{Line, drain_line, line_of};
 use buffer_machine::{BufMachine, Event, Events};
@@ -58,8 +59,12 @@ fn write_list<O: Sink>(
     ensures bytes { WritesAll (O.taken output.old) (O.taken output.new) result (event_lines machine.old.code machine.old.state 0 (events_of events.entry machine.old.code.procs)) }
     ensures cause { HasCause (O.faults output.old) (O.faults output.new) result }
     ensures state { OnOk result (machine.new.state ≡ buffered_run machine.old.code machine.old.state (events_of events.entry machine.old.code.procs)) }
-    ensures way { EventsPassThrough machine.old.code machine.old.state
+    ensures way { PassesThrough (buffered_run machine.old.code) machine.old.state
         (events_of events.entry machine.old.code.procs) machine.new.state }
+    ensures met { OnErr result (FaultMet (buffered_run machine.old.code)
+        (event_lines machine.old.code) machine.old.state 0
+        (events_of events.entry machine.old.code.procs)
+        machine.new.state (O.taken output.old) (O.taken output.new)) }
     ensures code { machine.new.code ≡ machine.old.code }
 {
     let procs = machine.procs();
@@ -80,8 +85,12 @@ fn write_rest<O: Sink>(
     ensures bytes { WritesAll (O.taken output.old) (O.taken output.new) result (event_lines machine.old.code machine.old.state first (buffered_completion machine.old.code machine.old.state)) }
     ensures cause { HasCause (O.faults output.old) (O.faults output.new) result }
     ensures state { OnOk result (machine.new.state ≡ buffered_finished machine.old.code machine.old.state) }
-    ensures way { EventsPassThrough machine.old.code machine.old.state
+    ensures way { PassesThrough (buffered_run machine.old.code) machine.old.state
         (buffered_completion machine.old.code machine.old.state) machine.new.state }
+    ensures met { OnErr result (FaultMet (buffered_run machine.old.code)
+        (event_lines machine.old.code) machine.old.state first
+        (buffered_completion machine.old.code machine.old.state)
+        machine.new.state (O.taken output.old) (O.taken output.new)) }
     ensures code { machine.new.code ≡ machine.old.code }
 {
     let mut number = first;
@@ -96,7 +105,8 @@ fn write_rest<O: Sink>(
 
 /// Does the events of a word and those that complete them, and writes the line of each before the next.
 ///
-/// Events are numbered from 0. After a fault the machine stands where the fault met it.
+/// Events are numbered from 0. After a fault the output has the lines of some events and a front of the next one's,
+/// and the machine stands right behind that one.
 pub fn write_events<O: Sink>(
     machine: &mut BufMachine,
     events: Events,
@@ -108,9 +118,16 @@ pub fn write_events<O: Sink>(
     ensures cause { HasCause (O.faults output.old) (O.faults output.new) result }
     ensures state { OnOk result (machine.new.state ≡ buffered_finished machine.old.code (buffered_run machine.old.code machine.old.state (events_of events.entry machine.old.code.procs))) }
     ensures code { machine.new.code ≡ machine.old.code }
-    // Wherever a fault met it, the machine stands behind a front of these events.
-    ensures way { EventsPassThrough machine.old.code machine.old.state (completed_events machine.old.code
-        machine.old.state (events_of events.entry machine.old.code.procs)) machine.new.state }
+    // The machine stands behind a front of these events.
+    ensures way { PassesThrough (buffered_run machine.old.code) machine.old.state
+        (completed_events machine.old.code machine.old.state
+        (events_of events.entry machine.old.code.procs)) machine.new.state }
+    // After a fault lines of events are written, then a front of a line, whose event is the last done.
+    ensures met { OnErr result (FaultMet (buffered_run machine.old.code)
+        (event_lines machine.old.code) machine.old.state 0
+        (completed_events machine.old.code machine.old.state
+        (events_of events.entry machine.old.code.procs))
+        machine.new.state (O.taken output.old) (O.taken output.new)) }
 {
     write_list(machine, events, output)?;
     let count = events.len(machine.procs());

@@ -1,12 +1,13 @@
 // The lines of a run.
 
-ghost use Rattle.std.specs.Prelude.{◌≡◌, ◌<◌, ◌≤◌, None, OnOk, nat_le};
+ghost use Rattle.std.specs.Prelude.{◌≡◌, ◌<◌, ◌≤◌, None, OnErr, OnOk, nat_le};
 ghost use Rattle.std.specs.List.{find};
 ghost use Rattle.icode.specs.Machine.{answer, completion, finished, run, turn};
 ghost use Rattle.io_edge.specs.Faults.{HasCause};
 ghost use Rattle.io_edge.specs.Taken.{WritesAll};
 ghost use Rattle.request_text.specs.Turns.{named, turns_of};
 ghost use Rattle.trace_text.specs.Course.{CompletionActs, EachActs, PassesThrough};
+ghost use Rattle.trace_text.specs.Faults.{FaultMet};
 ghost use Rattle.trace_text.specs.From.{lines_from};
 ghost use Rattle.trace_text.specs.Trace.{completed, turn_line, trace_of};
 
@@ -43,7 +44,11 @@ fn write_list<O: Sink>(
     ensures bytes { WritesAll (O.taken output.old) (O.taken output.new) result (lines_from machine.old.code machine.old.state 0 (turns_of schedule.now machine.old.code.procs)) }
     ensures cause { HasCause (O.faults output.old) (O.faults output.new) result }
     ensures state { OnOk result (machine.new.state ≡ run machine.old.code machine.old.state (turns_of schedule.now machine.old.code.procs)) }
-    ensures way { PassesThrough machine.old.code machine.old.state (turns_of schedule.now machine.old.code.procs) machine.new.state }
+    ensures way { PassesThrough (run machine.old.code) machine.old.state
+        (turns_of schedule.now machine.old.code.procs) machine.new.state }
+    ensures met { OnErr result (FaultMet (run machine.old.code) (lines_from machine.old.code)
+        machine.old.state 0 (turns_of schedule.now machine.old.code.procs)
+        machine.new.state (O.taken output.old) (O.taken output.new)) }
     ensures code { machine.new.code ≡ machine.old.code }
 {
     let procs = machine.procs();
@@ -60,7 +65,11 @@ fn write_rest<O: Sink>(machine: &mut Machine, first: u64, output: &mut O) -> Res
     ensures bytes { WritesAll (O.taken output.old) (O.taken output.new) result (lines_from machine.old.code machine.old.state first (completion machine.old.code machine.old.state)) }
     ensures cause { HasCause (O.faults output.old) (O.faults output.new) result }
     ensures state { OnOk result (machine.new.state ≡ finished machine.old.code machine.old.state) }
-    ensures way { PassesThrough machine.old.code machine.old.state (completion machine.old.code machine.old.state) machine.new.state }
+    ensures way { PassesThrough (run machine.old.code) machine.old.state
+        (completion machine.old.code machine.old.state) machine.new.state }
+    ensures met { OnErr result (FaultMet (run machine.old.code) (lines_from machine.old.code)
+        machine.old.state first (completion machine.old.code machine.old.state)
+        machine.new.state (O.taken output.old) (O.taken output.new)) }
     ensures act { OnOk result (EachActs machine.old.code machine.old.state (completion machine.old.code machine.old.state)) }
     ensures code { machine.new.code ≡ machine.old.code }
 {
@@ -76,7 +85,8 @@ fn write_rest<O: Sink>(machine: &mut Machine, first: u64, output: &mut O) -> Res
 
 /// Takes the turns of a schedule and those that complete them, and writes the line of each before the next.
 ///
-/// Turns are numbered from 0. After a fault the machine stands where the fault met it.
+/// Turns are numbered from 0. After a fault the output has the lines of some turns and a front of the next one's,
+/// and the machine stands right behind that one.
 pub fn write_turns<O: Sink>(
     machine: &mut Machine,
     schedule: &Schedule,
@@ -88,8 +98,15 @@ pub fn write_turns<O: Sink>(
     ensures cause { HasCause (O.faults output.old) (O.faults output.new) result }
     ensures state { OnOk result (machine.new.state ≡ finished machine.old.code (run machine.old.code machine.old.state (turns_of schedule.now machine.old.code.procs))) }
     ensures code { machine.new.code ≡ machine.old.code }
-    // Wherever a fault met it, the machine stands behind a front of these turns.
-    ensures way { PassesThrough machine.old.code machine.old.state (completed machine.old.code machine.old.state (turns_of schedule.now machine.old.code.procs)) machine.new.state }
+    // The machine stands behind a front of these turns.
+    ensures way { PassesThrough (run machine.old.code) machine.old.state
+        (completed machine.old.code machine.old.state
+        (turns_of schedule.now machine.old.code.procs)) machine.new.state }
+    // After a fault lines of turns are written, then a front of a line, whose turn is the last taken.
+    ensures met { OnErr result (FaultMet (run machine.old.code) (lines_from machine.old.code)
+        machine.old.state 0 (completed machine.old.code machine.old.state
+        (turns_of schedule.now machine.old.code.procs))
+        machine.new.state (O.taken output.old) (O.taken output.new)) }
     // The lines of the completion are those of actions.
     ensures act { OnOk result (CompletionActs machine.old.code machine.old.state (turns_of schedule.now machine.old.code.procs)) }
 {

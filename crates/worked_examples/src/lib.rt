@@ -12,6 +12,8 @@ mod convolutions;
 #[cfg(test)]
 mod formulas;
 #[cfg(test)]
+mod inverses;
+#[cfg(test)]
 mod listings;
 #[cfg(test)]
 mod machines;

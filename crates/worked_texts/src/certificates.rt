@@ -29,6 +29,8 @@ wht 4 mod 5|{\"rows\":[[2,2,\"leaf\",0,0],[4,8,\"split\",2,2]],\"size\":4,\"vers
 wht 4 mod 5 lanes 2|{\"rows\":[[2,2,\"leaf\",0,0],[4,8,\"split\",2,2]],\"size\":4,\"version\":2,\"weight\":1}~|least 8
 dft 4 mod 17 root 4 weight 5|{\"rows\":[[2,2,\"leaf\",0,0],[4,13,\"ct\",2,2]],\"size\":4,\"version\":2,\"weight\":5}~|least 13
 dft 6 mod 7 root 3 weight 5|{\"rows\":[[2,2,\"leaf\",0,0],[3,26,\"leaf\",0,0],[6,58,\"gt\",2,3]],\"size\":6,\"version\":2,\"weight\":5}~|least 58
+idft 4 mod 17 root 4|{\"rows\":[[2,2,\"leaf\",0,0],[4,13,\"ct\",2,2]],\"size\":4,\"version\":2,\"weight\":1}~|least 13
+idft 1 mod 17 root 1 weight 3|{\"rows\":[[1,3,\"leaf\",0,0]],\"size\":1,\"version\":2,\"weight\":3}~|least 3
 ";
 
 // What is said of a text, where it is the request's certificate.
@@ -115,6 +117,9 @@ dft 4 mod 17 root 4 weight 5|{\"rows\":[[2,2,\"leaf\",0,0],[4,13,\"ct\",2,2]],\"
 dft 4 mod 17 root 4 weight 5|{\"rows\":[[2,2,\"leaf\",0,0],[4,13,\"ct\",2,2]],\"size\":4,\"version\":2,\"weight\":5.0}|unread
 dft 4 mod 17 root 4 weight 5|{\"rows\":[[2,2,\"leaf\",0,0],[4,9,\"ct\",2,2]],\"size\":4,\"version\":2,\"weight\":5}|wrong 4 9 13
 dft 4 mod 17 root 4 weight 5|{\"rows\":[[2,2,\"leaf\",0,0],[4,13,\"ct\",2,2]],\"size\":4,\"version\":2,\"weight\":1}|unread
+idft 4 mod 17 root 4|{\"rows\":[[2,2,\"leaf\",0,0],[4,9,\"ct\",2,2]],\"size\":4,\"version\":1}|wrong 4 9 13
+idft 4 mod 17 root 4|{\"rows\":[[2,4,\"leaf\",0,0],[4,13,\"ct\",2,2]],\"size\":4,\"version\":1}|wrong 2 4 2
+idft 4 mod 17 root 4|{\"rows\":[[2,2,\"leaf\",0,0],[4,13,\"leaf\",0,0]],\"size\":4,\"version\":1}|wrong 4 13 20
 ";
 
 fn four_answer(alloc: Global, question: &str) -> Result<String, Fail> {

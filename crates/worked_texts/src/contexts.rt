@@ -1,12 +1,12 @@
 // Requests by their lines, as contexts of trees, and trees by their leaves.
 
 ghost use Rattle.std.specs.Prelude.{IsTrue};
-ghost use Rattle.matrix_meaning.specs.Valid.{IsBetween, HasShape, IsInRange, IsValid};
+ghost use Rattle.matrix_meaning.specs.Valid.{AllowsDirection, IsBetween, HasShape, IsInRange, IsValid};
 
 use crate::rows::numbers;
-use matrix_meaning::{Kind, Request};
+use matrix_meaning::{Direction, Kind, Request};
 use request_text::read_request;
-use ring_mod::Modulus;
+use ring_mod::{Modulus, is_coprime};
 use std::alloc::Global;
 use std::test::Fail;
 use tree_model::{Ctx, Tree};
@@ -26,6 +26,15 @@ fn has_shape(kind: Kind, size: u64) -> bool
     }
 }
 
+fn allows_direction(r: &Request) -> bool
+    ensures { IsTrue result → AllowsDirection r.now.direction r.now.kind r.now.size r.now.modulus }
+{
+    match r.direction {
+        Direction::Forward => true,
+        Direction::Inverse => r.kind == Kind::Dft && is_coprime(r.size, r.modulus),
+    }
+}
+
 fn is_in_range(r: &Request) -> bool
     ensures { IsTrue result → IsInRange r.now }
 {
@@ -40,6 +49,7 @@ fn is_in_range(r: &Request) -> bool
         && is_between(1, 1000, r.weight)
         && has_shape(r.kind, r.size)
         && (r.procs == 1 || r.line % r.lanes == 0)
+        && allows_direction(r)
 }
 
 /// Whether the request is in its limits and has a root.

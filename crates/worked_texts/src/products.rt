@@ -10,7 +10,7 @@ ghost use Rattle.tree_model.specs.Breakdown.{breakdown_of};
 
 use crate::contexts::{context, tree_of};
 use crate::rows::{check, joined, numbers};
-use breakdown::expand;
+use breakdown::{expand, expand_request};
 use matrix_meaning::times_plain;
 use memory::NoMemory;
 use ring_mod::Modulus;
@@ -93,12 +93,17 @@ fn by_definition(alloc: Global, c: &Ctx, x: &[u64]) -> Result<Vec<u64>, Fail>
 fn by_formula(alloc: Global, c: &Ctx, tree: &Tree, x: &[u64]) -> Result<Vec<u64>, Fail>
     requires { IsAdmissible c.now (breakdown_of tree.now) }
 {
-    let m = Modulus::new(c.request().modulus).ok_or("a modulus")?;
     let formula = expand(alloc, c, tree)?;
+    applied(alloc, c, &formula, x)
+}
+
+// What a formula does to the vector.
+fn applied(alloc: Global, c: &Ctx, formula: &Spl, x: &[u64]) -> Result<Vec<u64>, Fail> {
+    let m = Modulus::new(c.request().modulus).ok_or("a modulus")?;
     if formula.cols() != x.len() as u64 || !x.iter().all(|v| *v < m.get()) {
         Err("a vector of the formula")?
     }
-    Ok(Spl::apply_plain(alloc, &m, &formula, x)?)
+    Ok(Spl::apply_plain(alloc, &m, formula, x)?)
 }
 
 fn by_loops(alloc: Global, c: &Ctx, tree: &Tree, x: &[u64]) -> Result<Vec<u64>, Fail>
@@ -141,4 +146,31 @@ fn answer(alloc: Global, question: &str) -> Result<String, Fail> {
 #[test]
 fn products(rt: HostRuntime) -> Result<(), Fail> {
     check(&rt, rt.alloc(), ROWS, answer)
+}
+
+// An inverse, a tree and a vector, and its product: rows of above, turned round. The last has a root with no inverse
+// transform, so it is worked out by hand.
+const INVERSES: &str = "\
+idft 4 mod 17 root 4; ct 2 2; 10 7 15 6|1 2 3 4
+idft 1 mod 2 root 1; leaf 1; 1|1
+idft 6 mod 7 root 3; gt 2 3; 1 3 2 6 4 5|0 1 0 0 0 0
+idft 16 mod 17 root 3 procs 2 line 2; ct 4 4; 1 3 9 10 13 5 15 11 16 14 8 7 4 12 2 6|0 1 0 0 0 0 0 0 0 0 0 0 0 0 0 0
+idft 2 mod 15 root 4; leaf 2; 1 1|1 10
+";
+
+// The product by the formula of the request.
+fn inverse_answer(alloc: Global, question: &str) -> Result<String, Fail> {
+    let (question, x) = question.rsplit_once("; ").ok_or("a vector")?;
+    let (request, leaves) = question.rsplit_once("; ").ok_or("a tree")?;
+    let (c, tree) = (context(request)?, tree_of(alloc, leaves)?);
+    if !admissible(&c, &tree) {
+        return Err(Fail::from("an admissible tree"));
+    }
+    let formula = expand_request(alloc, &c, &tree)?;
+    joined(alloc, &applied(alloc, &c, &formula, &numbers(alloc, x)?)?)
+}
+
+#[test]
+fn inverses(rt: HostRuntime) -> Result<(), Fail> {
+    check(&rt, rt.alloc(), INVERSES, inverse_answer)
 }

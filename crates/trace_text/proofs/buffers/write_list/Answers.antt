@@ -1,14 +1,17 @@
-use Rattle.std.proofs.Common.{◌≡◌, ◌<◌, ◌∙◌, ◌+◌, arith, subst, sym, ap, length, drop}
+use Rattle.std.proofs.Common.{◌∙◌, ◌+◌, arith, subst, sym, ap, drop}
 use Rattle.std.proofs.lemmas.Result.{err_from_is_err_and}
-use Rattle.icode.specs.Buffers.{buffered_run}
+use Rattle.std.specs.Io.KnownBytes.{Appends}
+use Rattle.icode.specs.Buffers.{buffered_run, buffered_step}
 use Rattle.icode.specs.Machine.{Code}
 use Rattle.io_edge.specs.Taken.{AppendsPrefix}
 use Rattle.buffer_machine.specs.Listed.{HasNoStranger, events_of}
 use Rattle.buffer_machine.proofs.Named.{event_there, next_of}
-use Rattle.trace_text.specs.EventCourse.{EventsPassThrough}
 use Rattle.trace_text.specs.EventLines.{event_lines}
-use Rattle.trace_text.proofs.EventCourses.{events_pass, events_reached_on}
-use Rattle.trace_text.proofs.EventLemmas.{events_on, events_wrong}
+use Rattle.trace_text.specs.Faults.{FaultMet}
+use Rattle.trace_text.proofs.EventLemmas.{event_alone, events_course}
+use Rattle.trace_text.proofs.FaultLemmas.{met_passes, met_prefix}
+use Rattle.trace_text.proofs.Goes.{goes_met, goes_on}
+use Rattle.trace_text.proofs.buffers.write_list.Given.{Over}
 use Rattle.trace_text.proofs.buffers.write_list.Goals as goal
 
 pub write_event-requires : goal.write_event-requires
@@ -22,41 +25,46 @@ pub loop-number-preserved : goal.loop-number-preserved
 loop-number-preserved g c =
     let taken = g.O.Sink.taken in
     let code = c.args.machine.now.code in
-    let state = c.args.machine.now.state in
     let events = events_of c.args.events c.procs-procs.result in
     let before = c.loop-number.invariant in
     let number = c.loop-number.number in
+    let now = c.loop-number.machine.state in
+    let own = c.loop-number.machine.code in
     let event = c.event_at-event.result in
     record {
-      reached = events_reached_on code state events c.loop-number.machine.state c.loop-number.machine.code event (drop number events) (drop (number + 1) events) c.write_event.new.machine.state before.code (next_of events number event c.event_at-event.ensures) c.in_ok-write_event.ensures.state before.reached;
-      goes = events_on code (taken c.args.output.now) (taken c.loop-number.output) (event_lines code state 0 events) (buffered_run code state events) c.loop-number.machine.state number (taken c.write_event.new.output)
-          c.loop-number.machine.code before.code event (drop number events) (drop (number + 1) events) (next_of events number event c.event_at-event.ensures) c.write_event.new.machine.state c.in_ok-write_event.ensures.state before.goes c.in_ok-write_event.ensures.bytes;
+      goes = goes_on (events_course code) before.goes (taken c.write_event.new.output) event (drop (number + 1) events) (next_of events number event c.event_at-event.ensures) c.write_event.new.machine.state
+          (c.in_ok-write_event.ensures.state ∙ ap (λ (k : Code). buffered_step k now event) before.code)
+          (event_alone (Appends (taken c.loop-number.output) (taken c.write_event.new.output)) own code now number event before.code c.in_ok-write_event.ensures.bytes);
       code = c.in_ok-write_event.ensures.code ∙ before.code;
       faults = c.in_ok-write_event.ensures.cause.ok ∙ before.faults;
     }
 
-pub returns-in_err-write_event-clause-bytes : goal.returns-in_err-write_event-clause-bytes
-returns-in_err-write_event-clause-bytes g c =
+-- the fault met the line of this event
+met : (g : Over) (c : goal.After-from_residual g) → FaultMet (buffered_run c.args.machine.now.code) (event_lines c.args.machine.now.code) c.args.machine.now.state 0
+    (events_of c.args.events c.args.machine.now.code.procs) c.write_event.new.machine.state (g.O.Sink.taken c.args.output.now) (g.O.Sink.taken c.write_event.new.output)
+met g c =
     let taken = g.O.Sink.taken in
     let code = c.args.machine.now.code in
-    let state = c.args.machine.now.state in
     let events = events_of c.args.events c.procs-procs.result in
     let before = c.loop-number.invariant in
     let number = c.loop-number.number in
+    let now = c.loop-number.machine.state in
+    let own = c.loop-number.machine.code in
     let event = c.event_at-event.result in
+    subst (λ n. FaultMet (buffered_run code) (event_lines code) c.args.machine.now.state 0 (events_of c.args.events n) c.write_event.new.machine.state (taken c.args.output.now) (taken c.write_event.new.output)) c.procs-procs.ensures.value
+    (goes_met (events_course code) before.goes (taken c.write_event.new.output) event (drop (number + 1) events) (next_of events number event c.event_at-event.ensures) c.write_event.new.machine.state
+    (c.in_err-write_event.ensures.state ∙ ap (λ (k : Code). buffered_step k now event) before.code)
+    (event_alone (AppendsPrefix (taken c.loop-number.output) (taken c.write_event.new.output)) own code now number event before.code c.in_err-write_event.ensures.bytes))
+
+pub returns-in_err-write_event-clause-bytes : goal.returns-in_err-write_event-clause-bytes
+returns-in_err-write_event-clause-bytes g c =
     let p = err_from_is_err_and c.from_residual.result c.from_residual.ensures.1 in
-    rw p.1 (subst (λ n. AppendsPrefix (taken c.args.output.now) (taken c.write_event.new.output) (event_lines code state 0 (events_of c.args.events n))) c.procs-procs.ensures.value
-    (events_wrong code (taken c.args.output.now) (taken c.loop-number.output) (event_lines code state 0 events) (buffered_run code state events) c.loop-number.machine.state number (taken c.write_event.new.output)
-    c.loop-number.machine.code before.code event (drop number events) (drop (number + 1) events) (next_of events number event c.event_at-event.ensures) before.goes c.in_err-write_event.ensures.bytes))
+    rw p.1 (met_prefix (events_course c.args.machine.now.code) (met g c))
 
 pub returns-in_err-write_event-clause-way : goal.returns-in_err-write_event-clause-way
-returns-in_err-write_event-clause-way g c =
-    let code = c.args.machine.now.code in
-    let state = c.args.machine.now.state in
-    let events = events_of c.args.events c.procs-procs.result in
-    let before = c.loop-number.invariant in
-    let number = c.loop-number.number in
-    let event = c.event_at-event.result in
-    subst (λ n. EventsPassThrough code state (events_of c.args.events n) c.write_event.new.machine.state) c.procs-procs.ensures.value
-    (events_pass code state events c.write_event.new.machine.state (drop (number + 1) events)
-    (events_reached_on code state events c.loop-number.machine.state c.loop-number.machine.code event (drop number events) (drop (number + 1) events) c.write_event.new.machine.state before.code (next_of events number event c.event_at-event.ensures) c.in_err-write_event.ensures.state before.reached))
+returns-in_err-write_event-clause-way g c = met_passes (events_course c.args.machine.now.code) (met g c)
+
+pub returns-in_err-write_event-clause-met : goal.returns-in_err-write_event-clause-met
+returns-in_err-write_event-clause-met g c =
+    let p = err_from_is_err_and c.from_residual.result c.from_residual.ensures.1 in
+    rw p.1 (met g c)

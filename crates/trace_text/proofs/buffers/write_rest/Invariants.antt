@@ -1,9 +1,8 @@
 use Rattle.std.proofs.Common.{◌≡◌, ◌+◌, ◌<◌, ◌^◌, [], ◌∷◌, length}
 use Rattle.std.specs.Prelude.{IfSome, IfNone}
-use Rattle.icode.specs.Buffers.{buffered_completion, buffered_finished, buffered_step, proc_of}
+use Rattle.icode.specs.Buffers.{buffered_completion, buffered_run, buffered_step, proc_of}
 use Rattle.trace_text.specs.EventLines.{event_lines}
-use Rattle.trace_text.proofs.EventCourses.{IsReachedBy}
-use Rattle.trace_text.proofs.EventLemmas.{EventsGo}
+use Rattle.trace_text.proofs.Goes.{Goes}
 use Rattle.trace_text.proofs.buffers.write_rest.Given as goal
 
 abbrev pub invariant-loop-next : goal.invariant-loop-next
@@ -12,8 +11,7 @@ invariant-loop-next g l =
     let own = l.fn.machine.code in
     let state = l.fn.machine.state in
     record {
-      reached : IsReachedBy own state (buffered_completion own state) l.machine.state (buffered_completion own l.machine.state);
-      goes : EventsGo own (taken l.fn.output) (taken l.output) (event_lines own state l.first (buffered_completion own state)) (buffered_finished own state) l.machine.state l.number (buffered_completion own l.machine.state);
+      goes : Goes (buffered_run own) (event_lines own) (taken l.fn.output) (taken l.output) state l.first (buffered_completion own state) l.machine.state l.number (buffered_completion own l.machine.state);
       code : l.machine.code ≡ own;
       faults : g.O.Sink.faults l.output ≡ g.O.Sink.faults l.fn.output;
       few : l.number + length (buffered_completion own l.machine.state) < 2 ^ 64;

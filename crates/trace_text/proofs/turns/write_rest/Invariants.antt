@@ -1,9 +1,8 @@
 use Rattle.std.proofs.Common.{◌≡◌, ◌+◌, ◌<◌, ◌^◌, [], ◌∷◌, length}
 use Rattle.std.specs.Prelude.{IfSome, IfNone}
-use Rattle.icode.specs.Machine.{completion, finished, turn}
+use Rattle.icode.specs.Machine.{completion, run, turn}
 use Rattle.trace_text.specs.Course.{EachActs}
 use Rattle.trace_text.specs.From.{lines_from}
-use Rattle.trace_text.proofs.Courses.{IsReached}
 use Rattle.trace_text.proofs.Goes.{Goes}
 use Rattle.trace_text.proofs.turns.write_rest.Given as goal
 
@@ -13,9 +12,8 @@ invariant-loop-next g l =
     let own = l.fn.machine.code in
     let state = l.fn.machine.state in
     record {
-      reached : IsReached own state (completion own state) l.machine.state (completion own l.machine.state);
       act : EachActs own l.machine.state (completion own l.machine.state) → EachActs own state (completion own state);
-      goes : Goes own (taken l.fn.output) (taken l.output) (lines_from own state l.first (completion own state)) (finished own state) l.machine.state l.number (completion own l.machine.state);
+      goes : Goes (run own) (lines_from own) (taken l.fn.output) (taken l.output) state l.first (completion own state) l.machine.state l.number (completion own l.machine.state);
       code : l.machine.code ≡ own;
       faults : g.O.Sink.faults l.output ≡ g.O.Sink.faults l.fn.output;
       few : l.number + length (completion own l.machine.state) < 2 ^ 64;

@@ -5,8 +5,9 @@ use Rattle.io_edge.specs.Taken.{AppendsPrefix, WritesAll}
 use Rattle.io_edge.proofs.TakenLemmas.{prefix_more, writes_after}
 use Rattle.request_text.specs.Turns.{turns_of}
 use Rattle.trace_text.specs.From.{lines_from}
-use Rattle.trace_text.proofs.Courses.{passes_more, passes_after, same_acts, on_ok}
-use Rattle.trace_text.proofs.Lines.{trace_parts, same_rest}
+use Rattle.trace_text.proofs.Courses.{same_acts, on_ok}
+use Rattle.trace_text.proofs.FaultLemmas.{met_after, met_more, on_err, passes_after, passes_more}
+use Rattle.trace_text.proofs.Lines.{run-append, same_rest, trace_parts, turns_course}
 use Rattle.trace_text.proofs.turns.write_turns.Goals as goal
 
 pub returns-in_err-write_list-clause-bytes : goal.returns-in_err-write_list-clause-bytes
@@ -43,14 +44,15 @@ returns-in_err-write_list-clause-way g c =
     let code = c.args.machine.now.code in
     let state = c.args.machine.now.state in
     let turns = turns_of c.args.schedule.now code.procs in
-    passes_more code state turns (completion code (run code state turns)) c.write_list.new.machine.state c.in_err-write_list.ensures.way
+    passes_more (run code) state turns (completion code (run code state turns)) c.write_list.new.machine.state c.in_err-write_list.ensures.way
 
 pub returns-clause-way : goal.returns-clause-way
 returns-clause-way g c =
     let code = c.args.machine.now.code in
     let state = c.args.machine.now.state in
     let turns = turns_of c.args.schedule.now code.procs in
-    passes_after c.write_list.new.machine.code code c.write_list.new.machine.state state turns c.write_rest.new.machine.state c.in_ok-write_list.ensures.code c.in_ok-write_list.ensures.state c.write_rest.ensures.way
+    passes_after run completion c.write_list.new.machine.code code c.in_ok-write_list.ensures.code c.write_list.new.machine.state state turns c.in_ok-write_list.ensures.state c.write_rest.new.machine.state
+    (λ xs ys. run-append code xs ys state) c.write_rest.ensures.way
 
 pub returns-clause-act : goal.returns-clause-act
 returns-clause-act g c =
@@ -58,3 +60,24 @@ returns-clause-act g c =
     let state = c.args.machine.now.state in
     let turns = turns_of c.args.schedule.now code.procs in
     on_ok c.write_rest.result (same_acts c.write_list.new.machine.code code c.write_list.new.machine.state state turns c.in_ok-write_list.ensures.code c.in_ok-write_list.ensures.state) c.write_rest.ensures.act
+
+pub returns-in_err-write_list-clause-met : goal.returns-in_err-write_list-clause-met
+returns-in_err-write_list-clause-met g c =
+    let code = c.args.machine.now.code in
+    let state = c.args.machine.now.state in
+    let turns = turns_of c.args.schedule.now code.procs in
+    let p = err_from_is_err_and c.from_residual.result c.from_residual.ensures.1 in
+    rw p.1 (met_more (turns_course code) c.in_err-write_list.ensures.met (completion code (run code state turns)))
+
+pub returns-clause-met : goal.returns-clause-met
+returns-clause-met g c =
+    let taken = g.O.Sink.taken in
+    let code = c.args.machine.now.code in
+    let state = c.args.machine.now.state in
+    let turns = turns_of c.args.schedule.now code.procs in
+    let same = c.in_ok-write_list.ensures.code in
+    let count : c.len-count.result ≡ length turns = c.len-count.ensures.value ∙ ap (λ n. length (turns_of c.args.schedule.now n)) (c.procs.ensures.value ∙ ap (λ (k : Code). k.procs) same) in
+    on_err c.write_rest.result
+    (met_after run completion c.write_list.new.machine.code code same c.write_list.new.machine.state state turns c.in_ok-write_list.ensures.state c.write_rest.new.machine.state
+    lines_from (turns_course code) c.len-count.result count (taken c.args.output.now) (taken c.write_list.new.output) (taken c.write_rest.new.output) c.in_ok-write_list.ensures.bytes)
+    c.write_rest.ensures.met

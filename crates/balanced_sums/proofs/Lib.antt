@@ -1,0 +1,4 @@
+pub mod Grouping
+pub mod Depths
+pub mod Lists
+pub mod Sums
