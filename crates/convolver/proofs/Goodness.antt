@@ -15,6 +15,7 @@ use Rattle.inverse_requests.proofs.Requests.{inverse_is_valid, inverse_admits}
 use Rattle.inverse_requests.proofs.Traffic.{inverse_loads, whole-same}
 use Rattle.joined_passes.specs.Joined.{joined, with_values}
 use Rattle.joined_passes.specs.Laws.{CountsBoth, JoinedCanProgram, JoinedCounts, JoinedMeans}
+use Rattle.matrix_meaning.specs.declared.Direction.TheVariants.{Forward}
 use Rattle.matrix_meaning.specs.declared.Request.{Request}
 use Rattle.matrix_meaning.specs.Valid.{IsValid}
 use Rattle.pass_programs.specs.Contract.{CanProgram, Performs}
@@ -100,7 +101,7 @@ module _ (r : Request) (t : Breakdown) (ds : List ℕ) (request : IsConvRequest 
               let one = first.loads in
               let other = second.loads ∙ inverse_loads r t in
               omega (arith, all, one, other);
-          stores = both.stores ∙ ap₂ (λ a b. r.size * (a + b)) first.number (second.number ∙ ap length (whole-same r (inverted r).root t)) ∙ twice r.size (length (whole_passes r t));
+          stores = both.stores ∙ ap₂ (λ a b. r.size * (a + b)) first.number (second.number ∙ ap length (whole-same r Forward (inverted r).root t)) ∙ twice r.size (length (whole_passes r t));
         }
       where
         twice : (n k : ℕ) → n * (k + k) ≡ 2 * (n * k)

@@ -86,7 +86,8 @@ pub fn wrong_power(request: &Request) -> Option<u64>
     requires { IsInRange request.now }
     ensures rooted { IfNone result (IsRooted request.now) }
     ensures valid { IfNone result (IsValid request.now) }
-    ensures other { IfSome result (λ power. has_root request.now.kind (root_power request.now) ≡ false) }
+    ensures other { IfSome result (λ power.
+        has_root request.now.kind (root_power request.now) ≡ false) }
     ensures power { IfSome result (λ power. power ≡ root_power request.now) }
 {
     if request.kind == Kind::Wht {
@@ -129,9 +130,11 @@ pub fn admit(request: &Request) -> Result<(), GenerateFault>
 pub fn plan(alloc: Global, request: &Request) -> Result<Plan, GenerateFault>
     requires { IsInRange request.now }
     ensures planned { IfOk result (λ plan. IsPlanned request.now (Ok (breakdown_of plan.tree))) }
-    ensures cost { IfOk result (λ plan. plan.cost ≡ whole_cost request.now (breakdown_of plan.tree)) }
+    ensures cost { IfOk result (λ plan.
+        plan.cost ≡ whole_cost request.now (breakdown_of plan.tree)) }
     ensures valid { IfOk result (λ plan. IsValid request.now) }
-    ensures refused { IfErr result (λ cause. cause ≢ fault.NoMemory → IsPlanned request.now (Err cause)) }
+    ensures refused { IfErr result (λ cause.
+        cause ≢ fault.NoMemory → IsPlanned request.now (Err cause)) }
 {
     check_root(request)?;
     let context = Ctx::new(request);
@@ -150,11 +153,17 @@ pub fn plan(alloc: Global, request: &Request) -> Result<Plan, GenerateFault>
 /// A good program for the request, or the first cause to refuse it.
 pub fn generate(alloc: Global, request: &Request) -> Result<Product, GenerateFault>
     requires { IsInRange request.now }
-    ensures planned { IfOk result (λ product. IsPlanned request.now (Ok (breakdown_of product.plan.tree))) }
-    ensures cost { IfOk result (λ product. product.plan.cost ≡ whole_cost request.now (breakdown_of product.plan.tree)) }
-    ensures good { IfOk result (λ product. IsGood request.now (whole_cost request.now (breakdown_of product.plan.tree)) product.program) }
-    ensures lean { IfOk result (λ product. IsLean request.now (breakdown_of product.plan.tree) product.program) }
-    ensures refused { IfErr result (λ cause. cause ≢ fault.NoMemory → IsPlanned request.now (Err cause)) }
+    ensures planned { IfOk result (λ product.
+        IsPlanned request.now (Ok (breakdown_of product.plan.tree))) }
+    ensures cost { IfOk result (λ product.
+        product.plan.cost ≡ whole_cost request.now (breakdown_of product.plan.tree)) }
+    ensures good { IfOk result (λ product.
+        IsGood request.now (whole_cost request.now (breakdown_of product.plan.tree))
+        product.program) }
+    ensures lean { IfOk result (λ product.
+        IsLean request.now (breakdown_of product.plan.tree) product.program) }
+    ensures refused { IfErr result (λ cause.
+        cause ≢ fault.NoMemory → IsPlanned request.now (Err cause)) }
 {
     let plan = plan(alloc, request)?;
     let context = Ctx::new(request);
@@ -165,7 +174,9 @@ pub fn generate(alloc: Global, request: &Request) -> Result<Product, GenerateFau
 // The program of a tree: the merged passes of the request, written as code.
 fn tree_program(alloc: Global, c: &Ctx, tree: &Tree) -> Result<Program, NoMemory>
     requires { IsAdmissible c.now (breakdown_of tree.now) }
-    ensures { IfOk result (λ p. Performs (machine_of c.now) (request_merged c.now (breakdown_of tree.now)) (plain_program p)) }
+    ensures { IfOk result (λ p.
+        Performs (machine_of c.now) (request_merged c.now (breakdown_of tree.now))
+        (plain_program p)) }
 {
     let request = c.request();
     let merged = merge_request(alloc, c, tree)?;
@@ -177,7 +188,8 @@ fn tree_program(alloc: Global, c: &Ctx, tree: &Tree) -> Result<Program, NoMemory
 // The merged passes of the tree for what the request asks for.
 fn merge_request(alloc: Global, c: &Ctx, tree: &Tree) -> Result<Merged, NoMemory>
     requires { IsAdmissible c.now (breakdown_of tree.now) }
-    ensures { IfOk result (λ merged. plain_merged merged ≡ request_merged c.now (breakdown_of tree.now)) }
+    ensures { IfOk result (λ merged.
+        plain_merged merged ≡ request_merged c.now (breakdown_of tree.now)) }
 {
     match c.request().direction {
         Direction::Forward => merge_tree(alloc, c, tree),
@@ -189,7 +201,8 @@ fn merge_request(alloc: Global, c: &Ctx, tree: &Tree) -> Result<Merged, NoMemory
 fn merge_inverse(alloc: Global, c: &Ctx, tree: &Tree) -> Result<Merged, NoMemory>
     requires direction { c.now.direction ≡ Inverse }
     requires tree { IsAdmissible c.now (breakdown_of tree.now) }
-    ensures { IfOk result (λ merged. plain_merged merged ≡ inverse_merged c.now (breakdown_of tree.now)) }
+    ensures { IfOk result (λ merged.
+        plain_merged merged ≡ inverse_merged c.now (breakdown_of tree.now)) }
 {
     let request = c.request();
     let modulus = Modulus::new(request.modulus).unwrap();
@@ -208,7 +221,8 @@ fn merge_inverse(alloc: Global, c: &Ctx, tree: &Tree) -> Result<Merged, NoMemory
 /// merged.
 pub fn merge_tree(alloc: Global, c: &Ctx, tree: &Tree) -> Result<Merged, NoMemory>
     requires { IsAdmissible c.now (breakdown_of tree.now) }
-    ensures { IfOk result (λ merged. plain_merged merged ≡ tree_merged c.now (breakdown_of tree.now)) }
+    ensures { IfOk result (λ merged.
+        plain_merged merged ≡ tree_merged c.now (breakdown_of tree.now)) }
 {
     let blocks = to_smp(alloc, c, tree)?;
     let vectors = to_vec(alloc, c, blocks)?;

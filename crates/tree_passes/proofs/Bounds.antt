@@ -37,10 +37,6 @@ with-grown : (tables : List (List ℕ)) (entries : List ℕ) → length (with_ta
 with-grown [] entries = omega arith
 with-grown (table ∷ tables) entries = grown-pick (is_table table entries) table tables (with_table tables entries) (with-grown tables entries)
 
-diagonal-grown : (o : Option ℕ) (tables : List (List ℕ)) (entries : List ℕ) → length (with_diagonal o tables entries) ≤ suc (length tables)
-diagonal-grown None tables entries = with-grown tables entries
-diagonal-grown (Some value) tables entries = omega arith
-
 work-grown : (m : ℕ) (w : PlainWork) (tables : List (List ℕ)) → length (tables_of_work m w tables) ≤ length tables + 1
 work-grown m (kernel kind root t) tables = omega arith
 work-grown m (rows root size) tables = let more = with-grown tables (powers_of m root size) in omega (arith, more)
@@ -48,9 +44,13 @@ work-grown m (horner root size) tables = let more = with-grown tables (powers_of
 work-grown m (tile lanes) tables = omega arith
 work-grown m (copy size) tables = omega arith
 
+diagonal-grown : (o : Option ℕ) (tables : List (List ℕ)) (entries : List ℕ) → length (with_diagonal o tables entries) ≤ length tables + 1
+diagonal-grown None tables entries = let more = with-grown tables entries in omega (arith, more)
+diagonal-grown (Some value) tables entries = omega arith
+
 multiplier-grown : (m : ℕ) (o : Option PlainMultiplier) (tables : List (List ℕ)) → length (tables_of_multiplier m o tables) ≤ length tables + 1
 multiplier-grown m None tables = omega arith
-multiplier-grown m (Some d) tables = let more = diagonal-grown (one_factor d.factors) tables (diagonal_of m d.factors) in omega (arith, more)
+multiplier-grown m (Some d) tables = diagonal-grown (one_factor d.factors) tables (diagonal_of m d.factors)
 
 nest-grown : (m : ℕ) (z : PlainNest) (tables : List (List ℕ)) → length (tables_of_nest m z tables) ≤ length tables + 2
 nest-grown m z tables =
