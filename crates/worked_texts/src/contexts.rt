@@ -38,6 +38,13 @@ fn allows_direction(r: &Request) -> bool
 fn is_in_range(r: &Request) -> bool
     ensures { IsTrue result → IsInRange r.now }
 {
+    allows_direction(r) && has_limits(r)
+}
+
+fn has_limits(r: &Request) -> bool
+    requires { AllowsDirection r.now.direction r.now.kind r.now.size r.now.modulus }
+    ensures { IsTrue result → IsInRange r.now }
+{
     is_between(1, 1_048_576, r.size)
         && is_between(2, 4_611_686_018_427_387_903, r.modulus)
         && r.root < r.modulus
@@ -49,7 +56,6 @@ fn is_in_range(r: &Request) -> bool
         && is_between(1, 1000, r.weight)
         && has_shape(r.kind, r.size)
         && (r.procs == 1 || r.line % r.lanes == 0)
-        && allows_direction(r)
 }
 
 /// Whether the request is in its limits and has a root.
