@@ -8,7 +8,7 @@ use Rattle.matrix_meaning.specs.Valid.{IsValid}
 use Rattle.pass_actions.specs.Costs.{pass_cost, pass_loads, work_cost, work_loads}
 use Rattle.pass_programs.specs.Contract.{most_actions}
 use Rattle.pass_programs.specs.Program.{tables_of_phases, tables_through}
-use Rattle.pass_programs.specs.Statements.{diagonal_of, is_table, powers_of, tables_of_multiplier, tables_of_nest, tables_of_work, with_table}
+use Rattle.pass_programs.specs.Statements.{diagonal_of, is_table, one_factor, powers_of, tables_of_multiplier, tables_of_nest, tables_of_work, with_diagonal, with_table}
 use Rattle.passes.specs.Counts.{copies_in, multiplier_cost}
 use Rattle.passes.specs.Loops.{nest_of, one_nest}
 use Rattle.passes.specs.Nest.{PlainMultiplier, PlainNest}
@@ -44,9 +44,13 @@ work-grown m (horner root size) tables = let more = with-grown tables (powers_of
 work-grown m (tile lanes) tables = omega arith
 work-grown m (copy size) tables = omega arith
 
+diagonal-grown : (o : Option ℕ) (tables : List (List ℕ)) (entries : List ℕ) → length (with_diagonal o tables entries) ≤ length tables + 1
+diagonal-grown None tables entries = let more = with-grown tables entries in omega (arith, more)
+diagonal-grown (Some value) tables entries = omega arith
+
 multiplier-grown : (m : ℕ) (o : Option PlainMultiplier) (tables : List (List ℕ)) → length (tables_of_multiplier m o tables) ≤ length tables + 1
 multiplier-grown m None tables = omega arith
-multiplier-grown m (Some d) tables = let more = with-grown tables (diagonal_of m d.factors) in omega (arith, more)
+multiplier-grown m (Some d) tables = diagonal-grown (one_factor d.factors) tables (diagonal_of m d.factors)
 
 nest-grown : (m : ℕ) (z : PlainNest) (tables : List (List ℕ)) → length (tables_of_nest m z tables) ≤ length tables + 2
 nest-grown m z tables =
