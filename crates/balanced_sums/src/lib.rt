@@ -36,9 +36,10 @@ pub fn balance(alloc: Global, formula: Spl) -> Result<Spl, NoMemory>
 fn add_summands(alloc: Global, parts: &mut Vec<Spl>, formula: Spl) -> Result<(), NoMemory>
     requires apart { All IsSummand parts.old.items }
     ensures apart { OnOk result (All IsSummand parts.new.items) }
-    ensures summands { OnOk result
-        (flat_map summands parts.new.items ≡ flat_map summands parts.old.items ++ summands formula) }
-    ensures rows { OnOk result (rows_of parts.new.items ≡ rows_of parts.old.items + size_of formula) }
+    ensures summands { OnOk result (flat_map summands parts.new.items
+        ≡ flat_map summands parts.old.items ++ summands formula) }
+    ensures rows { OnOk result
+        (rows_of parts.new.items ≡ rows_of parts.old.items + size_of formula) }
     ensures more { OnOk result (1 + vec_len parts.old ≤ vec_len parts.new) }
 {
     let node = formula.node;
@@ -85,9 +86,10 @@ fn take_sum(alloc: Global, parts: &mut Vec<Spl>, count: usize) -> Result<Spl, No
     requires apart { All IsSummand parts.old.items }
     ensures apart { IfOk result (λ g. All IsSummand parts.new.items) }
     ensures balanced { IfOk result (IsSumOf count) }
-    ensures summands { IfOk result
-        (λ g. flat_map summands parts.old.items ≡ flat_map summands parts.new.items ++ summands g) }
-    ensures rows { IfOk result (λ g. rows_of parts.old.items ≡ rows_of parts.new.items + size_of g) }
+    ensures summands { IfOk result (λ g. flat_map summands parts.old.items
+        ≡ flat_map summands parts.new.items ++ summands g) }
+    ensures rows { IfOk result
+        (λ g. rows_of parts.old.items ≡ rows_of parts.new.items + size_of g) }
     ensures taken { IfOk result (λ g. vec_len parts.old ≡ vec_len parts.new + count) }
 {
     if count == 1 {
