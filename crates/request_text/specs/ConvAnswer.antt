@@ -9,7 +9,7 @@ use Rattle.request_text.specs.declared.fault.RequestFault.TheVariants.{Syntax, R
 use Rattle.request_text.specs.ConvLine.{conv_line}
 use Rattle.request_text.specs.Limits.{IsJudged}
 
--- some request has this line and this first fault: its transform is inverted, too
+-- some request has this line and this first fault. It is judged as an inverse is, since a convolution takes one, too
 abbrev pub IsConvFaultOf : List ℕ → RequestFault → Type 0
 IsConvFaultOf text fault = (r : Request) × conv_line text r × IsJudged Inverse r (Err fault)
 

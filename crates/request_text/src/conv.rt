@@ -43,8 +43,8 @@ fn whole_conv(text: &[u8]) -> Result<Request, Stuck>
     Ok(request)
 }
 
-/// The request that the line of a cyclic convolution spells, for the Fourier transform by which to convolve. The line is
-/// without its end.
+/// The request that the line of a cyclic convolution spells, for the Fourier transform by which to convolve. It is judged
+/// as an inverse is, since a convolution takes one, too. The line is without its end.
 pub fn read_conv(line: &[u8]) -> Result<Request, RequestFault>
     ensures answer { ConvAnswers line.now result }
     ensures only { (r : Request) → conv_line line.now r → IsJudged Direction.Inverse r result }

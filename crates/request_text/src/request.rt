@@ -21,6 +21,7 @@ pub(crate) const BUDGET: u64 = 100_000_000;
 /// The weight of a line that names none.
 pub(crate) const WEIGHT: u64 = 1;
 
+// What the first word asks for.
 fn asked_of(cursor: &mut Cursor) -> Result<(Kind, Direction), Stuck>
     ensures { Gives result cursor.new (one_of_at kinds cursor.old) }
 {
