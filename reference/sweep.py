@@ -7,6 +7,7 @@ import sys
 from math import gcd, lcm
 
 from convolution_sweep import convolutions_swept
+from convolutions import bad_power
 from emission import Emitter, actions, listing, loads_and_stores, run
 from formula_sweep import formulas_swept
 from listings import Lost, read_listing
@@ -339,6 +340,17 @@ def swept(sweep, line, numbers):
         sweep.compare("trace", f"{line}\n{text}", wanted("trace", line, data))
 
 
+def undone(sweep, line, numbers):
+    """The inverse takes the transform of a vector back, where the powers of the root sum to 0. Whether they do."""
+    request = read_request(line)
+    if request.kind != "idft" or not isinstance(wanted("plan", line), str) or bad_power(request):
+        return False
+    data = [numbers.next() % request.modulus for _ in range(request.size)]
+    there = " ".join(map(str, transform(request._replace(kind="dft"), data)))
+    sweep.compare("run", f"{line}\n{there}\n", " ".join(map(str, data)) + "\n")
+    return True
+
+
 def mix(numbers, procs):
     """Turns and drains, of which processors do many at a time."""
     events = []
@@ -441,6 +453,8 @@ def main():
     numbers = Numbers(11)
     for line in requests() + spread_requests():
         swept(sweep, line, numbers)
+    taken_back = [undone(sweep, line, numbers) for line in requests() + spread_requests()]
+    assert sum(taken_back) >= 40, "too few inverses take a transform back"
     for line in filter(is_small, NAMED.split("\n")[1:-1] + spread_requests()):
         runs(sweep, line, numbers)
         strangers(sweep, line, numbers)
