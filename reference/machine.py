@@ -1,6 +1,7 @@
 """The machine, event by event, with store buffers and without: what each event answers, and what a run leaves."""
 
-from emission import action_text, padded, result
+from emission import padded
+from runs import action_text, result
 
 MULTIPLIER, INCREMENT = 6364136223846793005, 1442695040888963407
 

@@ -12,8 +12,9 @@ import argparse
 import sys
 
 from convolutions import convolved
-from emission import Emitter, actions_of, c_text, listing, loads_and_stores, phase_count
+from emission import Emitter, c_text, listing, loads_and_stores, phase_count
 from machine import Machine, run_lines
+from runs import actions_of
 from strangers import executed
 from transforms import Refused, admitted, certificate, certificate_rows, formula, forward, last_factor
 from transforms import read_request, transform, tree_text

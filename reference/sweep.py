@@ -8,10 +8,11 @@ from math import gcd, lcm
 
 from convolution_sweep import convolutions_swept
 from convolutions import bad_power
-from emission import Emitter, actions, listing, loads_and_stores, run
+from emission import Emitter, listing, loads_and_stores
 from formula_sweep import formulas_swept
 from listings import Lost, read_listing
 from reference import answer, vectors
+from runs import actions, run
 from strangers import MOST_ACTIONS, count, executed, parts_of
 from transforms import Refused, admitted, best, certificate, certificate_rows, every_tree, extra_cost, forward
 from transforms import read_request, transform, tree_count
