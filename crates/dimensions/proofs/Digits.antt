@@ -26,6 +26,7 @@ first_digit n s p below = mod-eq_of_lt ((div-lt_iff_lt-mul (factor_positive n s 
 only_digit : (n p : ℕ) → p < n → digit n 1 p ≡ p
 only_digit n p below = ap (λ q. q % n) (div-one p) ∙ mod-eq_of_lt below
 
+-- multiples of the size leave the entry
 entry-later : (ds : List Dimension) (m k l a b : ℕ) → entry_in ds m (a * size_in ds + k) (b * size_in ds + l) ≡ entry_in ds m k l
 entry-later [] m k l a b = refl
 entry-later (d ∷ others) m k l a b =
