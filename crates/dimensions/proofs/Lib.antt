@@ -1,0 +1,4 @@
+pub mod Digits
+pub mod Examples
+pub mod Parts
+pub mod Tensors
