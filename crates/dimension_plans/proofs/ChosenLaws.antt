@@ -1,5 +1,5 @@
 -- The chosen trees of several dimensions are those that are chosen for each.
-use Rattle.std.proofs.Common.{◌≡◌, ◌≢◌, ℕ, zero, suc, ◌+◌, ◌-◌, ◌*◌, ◌≤◌, arith, refl, sym, ap, ap₂, ◌∙◌, subst, List, [], ◌∷◌, mul-le-mul}
+use Rattle.std.proofs.Common.{◌≡◌, ◌≢◌, ℕ, zero, suc, ◌+◌, ◌-◌, ◌*◌, ◌≤◌, arith, refl, sym, ap, ap₂, ◌∙◌, List, [], ◌∷◌, mul-le-mul}
 use Rattle.std.proofs.Math.Nat.{mul-le-mul_left, le_of_mul-le-mul_left}
 use Rattle.std.proofs.lemmas.List.Elements.{All-head, All-tail}
 use Rattle.std.specs.declared.cmp.Ordering.{Ordering}
@@ -11,7 +11,7 @@ use Rattle.dimensions.specs.Transform.{size_in}
 use Rattle.tree_model.specs.Admissible.{IsAdmissible, IsChosen, IsLeast}
 use Rattle.tree_model.specs.Breakdown.{Breakdown}
 use Rattle.tree_model.specs.Cost.{cost_of}
-use Rattle.tree_model.specs.Order.{order_of, ComesBefore}
+use Rattle.tree_model.specs.Order.{order_of}
 use Rattle.tree_model.proofs.OrderLaws.{order_flip, same_from_order}
 use Rattle.dimension_plans.specs.declared.SeveralRequest.{SeveralRequest}
 use Rattle.dimension_plans.specs.Several.{part_of, several_cost, several_order, AreAdmissible, AreChosenFor, ComeBefore, IsLeastFor}
@@ -103,7 +103,7 @@ module _ (r : SeveralRequest) (d : Dimension) (ds : List Dimension) (t : Breakdo
   first_of_both h k [] both same apart = absurd both
   first_of_both h k (u ∷ us) both same apart =
       let costs = parts_same (size_in ds) d.size (cost_of (part_of r d) t) (several_cost r ds ts) (cost_of (part_of r d) u) (several_cost r ds us)
-          others size (h.least u both.0) (k.least us both.1) same in
+      others size (h.least u both.0) (k.least us both.1) same in
       comes_before u us (order_of t u) refl h k both.0 both.1 costs.0 costs.1 apart
 
   chosen_of_both : IsChosen (part_of r d) t → AreChosenFor r ds ts → AreChosenFor r (d ∷ ds) (t ∷ ts)
@@ -173,9 +173,9 @@ module _ (r : SeveralRequest) (d : Dimension) (ds : List Dimension) (size : 1 �
   least_of_parts : (k x y : ℕ) → IsLeast (part_of r d) x → IsLeastFor r ds y → k ≡ size_in ds * x + d.size * y → IsLeastFor r (d ∷ ds) k
   least_of_parts k x y left right is = record {
     reached = (
-        left.reached.0 ∷ right.reached.0,
-        (left.reached.1, right.reached.1),
-        ap₂ (λ a b. size_in ds * a + d.size * b) left.reached.2 right.reached.2 ∙ sym is,
+      left.reached.0 ∷ right.reached.0,
+      (left.reached.1, right.reached.1),
+      ap₂ (λ a b. size_in ds * a + d.size * b) left.reached.2 right.reached.2 ∙ sym is,
     );
     bound = bound_of_both k x y left right is;
   }
@@ -212,8 +212,7 @@ sum_of_reached r (d ∷ ds) k (t ∷ ts) h admitted is bound =
     let later = positive_others d ds h in
     let size = positive_first d ds h in
     let others = size_positive ds later in
-    let right = others_are_least r d ds size others k t ts admitted is bound in
-    (
+    let right = others_are_least r d ds size others k t ts admitted is bound in (
       cost_of (part_of r d) t,
       several_cost r ds ts,
       first_is_least r d ds size others k t ts admitted is bound,

@@ -1,2 +1,3 @@
 pub mod ChosenLaws
+pub mod Examples
 pub mod Plans

@@ -2,7 +2,6 @@
 use Rattle.std.proofs.Common.{◌≡◌, ℕ, zero, suc, ◌+◌, ◌*◌, ◌%◌, ◌^◌, ◌<◌, ◌≤◌, arith, refl, sym, ap, ap₂, ◌∙◌, subst, List, [], ◌∷◌, mul-le-mul, length}
 use Rattle.std.proofs.Math.Nat.{mod-eq_of_lt, mul-le-mul_left}
 use Rattle.std.proofs.lemmas.List.Elements.{All-head, All-tail}
-use Rattle.std.specs.Prelude.{All}
 use Rattle.matrix_meaning.specs.Valid.{IsValid}
 use Rattle.operators.specs.Sizes.{max_size}
 use Rattle.ring_mod.specs.Residue.{power_mod}
@@ -16,13 +15,13 @@ use Rattle.dimension_plans.specs.declared.SeveralRequest.{SeveralRequest}
 use Rattle.dimension_plans.specs.declared.plan.SeveralPlan.{SeveralPlan}
 use Rattle.dimension_plans.specs.Laws.{ArePositive, EachIsChosen}
 use Rattle.dimension_plans.specs.Plans.{trees_of, IsPlanFor, IsSmall}
-use Rattle.dimension_plans.specs.Several.{part_of, whole_of, several_cost, AreChosenFor, IsLeastFor, IsSeveral}
+use Rattle.dimension_plans.specs.Several.{AreValid, part_of, whole_of, several_cost, AreChosenFor, IsLeastFor, IsSeveralRequest}
 use Rattle.dimension_plans.proofs.ChosenLaws.{chosen_of_each, size_positive}
 
 -- ---- the request
 
 -- the request for the whole is valid
-pub whole_valid : (r : SeveralRequest) → IsSeveral r → IsValid (whole_of r)
+pub whole_valid : (r : SeveralRequest) → IsSeveralRequest r → IsValid (whole_of r)
 whole_valid r h =
     let one : 1 % r.modulus ≡ 1 = mod-eq_of_lt (omega (arith, h.whole.modulus.0)) in
     record {
@@ -30,23 +29,19 @@ whole_valid r h =
       root = ap (λ w. power_mod r.modulus w (size_in (listed r.dimensions))) (sym one) ∙ power_mod-one r.modulus (size_in (listed r.dimensions)) ∙ one;
     }
 
--- what is asked for of dimensions
-abbrev pub ArePlannable : SeveralRequest → List Dimension → Type 0
-ArePlannable r ds = All (λ (d : Dimension). (2 ≤ d.size) × IsValid (part_of r d)) ds
+pub valid_positive : (r : SeveralRequest) (ds : List Dimension) → AreValid r ds → ArePositive ds
+valid_positive r ds h = λ k d within. omega (arith, (h k d within).0)
 
-pub plannable_positive : (r : SeveralRequest) (ds : List Dimension) → ArePlannable r ds → ArePositive ds
-plannable_positive r ds h = λ k d within. omega (arith, (h k d within).0)
+pub first_valid : (r : SeveralRequest) (d : Dimension) (ds whole : List Dimension) → whole ≡ d ∷ ds → AreValid r whole → (2 ≤ d.size) × IsValid (part_of r d)
+first_valid r d ds whole e h =
+    All-head (λ (c : Dimension). (2 ≤ c.size) × IsValid (part_of r c)) d ds (subst (λ (es : List Dimension). AreValid r es) e h)
 
-pub first_plannable : (r : SeveralRequest) (d : Dimension) (ds whole : List Dimension) → whole ≡ d ∷ ds → ArePlannable r whole → (2 ≤ d.size) × IsValid (part_of r d)
-first_plannable r d ds whole e h =
-    All-head (λ (c : Dimension). (2 ≤ c.size) × IsValid (part_of r c)) d ds (subst (λ (es : List Dimension). ArePlannable r es) e h)
+pub others_valid : (r : SeveralRequest) (d : Dimension) (ds whole : List Dimension) → whole ≡ d ∷ ds → AreValid r whole → AreValid r ds
+others_valid r d ds whole e h =
+    All-tail (λ (c : Dimension). (2 ≤ c.size) × IsValid (part_of r c)) d ds (subst (λ (es : List Dimension). AreValid r es) e h)
 
-pub others_plannable : (r : SeveralRequest) (d : Dimension) (ds whole : List Dimension) → whole ≡ d ∷ ds → ArePlannable r whole → ArePlannable r ds
-others_plannable r d ds whole e h =
-    All-tail (λ (c : Dimension). (2 ≤ c.size) × IsValid (part_of r c)) d ds (subst (λ (es : List Dimension). ArePlannable r es) e h)
-
-pub others_positive : (r : SeveralRequest) (d : Dimension) (ds whole : List Dimension) → whole ≡ d ∷ ds → ArePlannable r whole → 1 ≤ size_in ds
-others_positive r d ds whole e h = size_positive ds (plannable_positive r ds (others_plannable r d ds whole e h))
+pub others_positive : (r : SeveralRequest) (d : Dimension) (ds whole : List Dimension) → whole ≡ d ∷ ds → AreValid r whole → 1 ≤ size_in ds
+others_positive r d ds whole e h = size_positive ds (valid_positive r ds (others_valid r d ds whole e h))
 
 -- the product of the others is no more than the whole
 pub others_no_more : (d : Dimension) (ds whole : List Dimension) (n : ℕ) → whole ≡ d ∷ ds → 2 ≤ d.size → size_in whole ≤ n → size_in ds ≤ n
@@ -56,21 +51,21 @@ others_no_more d ds whole n e h small =
     omega (arith, small, size, more)
 
 -- the others' product is a `u64`, and 2 at least
-pub others_fit : (r : SeveralRequest) (d : Dimension) (ds : List Dimension) → listed r.dimensions ≡ d ∷ ds → IsSeveral r → size_in ds < 2 ^ 64
+pub others_fit : (r : SeveralRequest) (d : Dimension) (ds : List Dimension) → listed r.dimensions ≡ d ∷ ds → IsSeveralRequest r → size_in ds < 2 ^ 64
 others_fit r d ds e h =
-    let low = others_no_more d ds (listed r.dimensions) max_size e (first_plannable r d ds (listed r.dimensions) e h.parts).0 h.whole.size.1 in
+    let low = others_no_more d ds (listed r.dimensions) max_size e (first_valid r d ds (listed r.dimensions) e h.parts).0 h.whole.size.1 in
     omega (arith, low)
 
-two_by_first : (r : SeveralRequest) (ds : List Dimension) → 1 ≤ length ds → ArePlannable r ds → 2 ≤ size_in ds
+two_by_first : (r : SeveralRequest) (ds : List Dimension) → 1 ≤ length ds → AreValid r ds → 2 ≤ size_in ds
 two_by_first r [] some h = absurd (omega arith)
 two_by_first r (d ∷ ds) some h =
-    let parts = first_plannable r d ds (d ∷ ds) refl h in
+    let parts = first_valid r d ds (d ∷ ds) refl h in
     mul-le-mul {n₁ = 2} {m₁ = 1} {n₂ = d.size} {m₂ = size_in ds} parts.0 (others_positive r d ds (d ∷ ds) refl h)
 
-pub others_two : (r : SeveralRequest) (d : Dimension) (ds : List Dimension) → listed r.dimensions ≡ d ∷ ds → IsSeveral r → 2 ≤ size_in ds
+pub others_two : (r : SeveralRequest) (d : Dimension) (ds : List Dimension) → listed r.dimensions ≡ d ∷ ds → IsSeveralRequest r → 2 ≤ size_in ds
 others_two r d ds e h =
     let many : 2 ≤ length (d ∷ ds) = subst (λ (es : List Dimension). 2 ≤ length es) e h.several in
-    two_by_first r ds (omega (arith, many)) (others_plannable r d ds (listed r.dimensions) e h.parts)
+    two_by_first r ds (omega (arith, many)) (others_valid r d ds (listed r.dimensions) e h.parts)
 
 -- ---- costs
 
@@ -97,16 +92,16 @@ small_fits n x low small =
     let square : n * n ≤ 1048576 * 1048576 = mul-le-mul {n₁ = n} {m₁ = n} {n₂ = 1048576} {m₂ = 1048576} low low in
     omega arith
 
-pub costs_fit : (r : SeveralRequest) (d : Dimension) (ds whole : List Dimension) (x : ℕ) (plan : SeveralPlan) → whole ≡ d ∷ ds → ArePlannable r whole →
+pub costs_fit : (r : SeveralRequest) (d : Dimension) (ds whole : List Dimension) (x : ℕ) (plan : SeveralPlan) → whole ≡ d ∷ ds → AreValid r whole →
     size_in whole ≤ max_size → IsModest d.size x → IsPlanFor r ds plan → size_in ds * x + d.size * plan.cost < 2 ^ 64
 costs_fit r d ds whole x plan e h low modest later =
     small_fits (d.size * size_in ds) (size_in ds * x + d.size * plan.cost) (subst (λ (n : ℕ). n ≤ max_size) (ap size_in e) low)
-    (both_small d.size (size_in ds) x plan.cost (first_plannable r d ds whole e h).0 (others_positive r d ds whole e h) modest later.small)
+    (both_small d.size (size_in ds) x plan.cost (first_valid r d ds whole e h).0 (others_positive r d ds whole e h) modest later.small)
 
 -- ---- plans
 
 pub plan_of_both : (r : SeveralRequest) (d : Dimension) (ds whole : List Dimension) (t : Breakdown) (x : ℕ) (plan more : SeveralPlan) →
-    whole ≡ d ∷ ds → ArePlannable r whole → IsChosen (part_of r d) t → x ≡ cost_of (part_of r d) t → IsModest d.size x → IsPlanFor r ds plan →
+    whole ≡ d ∷ ds → AreValid r whole → IsChosen (part_of r d) t → x ≡ cost_of (part_of r d) t → IsModest d.size x → IsPlanFor r ds plan →
     trees_of more ≡ t ∷ trees_of plan → more.cost ≡ size_in ds * x + d.size * plan.cost → IsPlanFor r whole more
 plan_of_both r d ds whole t x plan more e h chosen cost modest later trees total =
     subst (λ (es : List Dimension). IsPlanFor r es more) (sym e) (record {
@@ -114,13 +109,13 @@ plan_of_both r d ds whole t x plan more e h chosen cost modest later trees total
       cost = total ∙ ap₂ (λ a b. size_in ds * a + d.size * b) cost later.cost ∙ ap (several_cost r (d ∷ ds)) (sym trees);
       small =
           subst (λ (n : ℕ). IsSmall (d.size * size_in ds) n) (sym total)
-          (both_small d.size (size_in ds) x plan.cost (first_plannable r d ds whole e h).0 (others_positive r d ds whole e h) modest later.small);
+          (both_small d.size (size_in ds) x plan.cost (first_valid r d ds whole e h).0 (others_positive r d ds whole e h) modest later.small);
     })
 
-pub chosen_of_plan : (r : SeveralRequest) (ds : List Dimension) (plan : SeveralPlan) → ArePlannable r ds → IsPlanFor r ds plan → AreChosenFor r ds (trees_of plan)
-chosen_of_plan r ds plan h is = chosen_of_each r ds (trees_of plan) (plannable_positive r ds h) is.chosen
+pub chosen_of_plan : (r : SeveralRequest) (ds : List Dimension) (plan : SeveralPlan) → AreValid r ds → IsPlanFor r ds plan → AreChosenFor r ds (trees_of plan)
+chosen_of_plan r ds plan h is = chosen_of_each r ds (trees_of plan) (valid_positive r ds h) is.chosen
 
-pub least_of_plan : (r : SeveralRequest) (ds : List Dimension) (plan : SeveralPlan) → ArePlannable r ds → IsPlanFor r ds plan → IsLeastFor r ds plan.cost
+pub least_of_plan : (r : SeveralRequest) (ds : List Dimension) (plan : SeveralPlan) → AreValid r ds → IsPlanFor r ds plan → IsLeastFor r ds plan.cost
 least_of_plan r ds plan h is =
     let chosen = chosen_of_plan r ds plan h is in
     record {

@@ -35,10 +35,14 @@ part_of r d = record {
 abbrev pub whole_of : SeveralRequest → Request
 whole_of r = record (part_of r (record { size = size_in (listed r.dimensions); root = 1 })) { procs = r.procs; line = r.line; lanes = r.lanes }
 
--- each dimension is that of a valid request for two words at least, and the whole is in range
-pub record IsSeveral (r : SeveralRequest) : Type 0 where
+-- the request for each dimension is valid, and for two words at least
+abbrev pub AreValid : SeveralRequest → List Dimension → Type 0
+AreValid r ds = All (λ d. (2 ≤ d.size) × IsValid (part_of r d)) ds
+
+-- a request of several dimensions, of which each is valid, and the whole is in range
+pub record IsSeveralRequest (r : SeveralRequest) : Type 0 where
   pub several : 2 ≤ length (listed r.dimensions)
-  pub parts : All (λ d. (2 ≤ d.size) × IsValid (part_of r d)) (listed r.dimensions)
+  pub parts : AreValid r (listed r.dimensions)
   pub whole : IsInRange (whole_of r)
 
 -- What trees cost, as by split: the first tree for each place of the other dimensions, and the others for each place of the first

@@ -6,12 +6,11 @@ mod plan;
 ghost use Rattle.std.specs.Prelude.{◌≡◌, ◌<◌, ◌^◌};
 ghost use Rattle.dimensions.specs.Transform.{listed, size_in};
 ghost use Rattle.dimension_plans.specs.Laws.{ChosenByParts, LeastByParts};
-ghost use Rattle.dimension_plans.specs.Several.{IsSeveral, part_of, whole_of};
-
-pub use plan::{SeveralPlan, plan_several};
+ghost use Rattle.dimension_plans.specs.Several.{IsSeveralRequest, part_of, whole_of};
 
 use dimensions::{Dimension, Dimensions};
 use matrix_meaning::{Direction, Kind, Request};
+pub use plan::{SeveralPlan, plan_several};
 
 /// A request for the Fourier transform of several dimensions.
 #[derive(Clone, Copy, PartialEq, Eq, Debug)]
@@ -48,7 +47,7 @@ impl SeveralRequest {
 
     /// A request for as many words, on the processors and lanes of the whole.
     pub fn whole(&self) -> Request
-        requires { IsSeveral self.now }
+        requires { IsSeveralRequest self.now }
         ensures { result ≡ whole_of self.now }
     {
         let size = self.dimensions.size();

@@ -1,5 +1,5 @@
 // The plan of a request of several dimensions.
-ghost use Rattle.std.specs.Prelude.{◌≡◌, ◌+◌, ◌*◌, ◌^◌, ◌<◌, ◌≤◌, ◌↔◌, ◌∷◌, true, All, IfOk, IfErr, IsTrue};
+ghost use Rattle.std.specs.Prelude.{◌≡◌, ◌+◌, ◌*◌, ◌^◌, ◌<◌, ◌≤◌, ◌↔◌, ◌∷◌, true, IfOk, IfErr, IsTrue};
 ghost use Rattle.dimensions.specs.Transform.{listed, listed_others, size_in};
 ghost use Rattle.matrix_meaning.specs.Valid.{IsValid};
 ghost use Rattle.operators.specs.Sizes.{max_size};
@@ -7,7 +7,7 @@ ghost use Rattle.tree_model.specs.Admissible.{IsChosen};
 ghost use Rattle.tree_model.specs.Breakdown.{breakdown_of};
 ghost use Rattle.tree_model.specs.Cost.{cost_of, is_plain, IsModest};
 ghost use Rattle.dimension_plans.specs.Plans.{trees_of, IsPlanFor, SeveralOverBudget};
-ghost use Rattle.dimension_plans.specs.Several.{part_of, several_cost, AreChosen, CanShare, IsSeveral};
+ghost use Rattle.dimension_plans.specs.Several.{several_cost, AreChosen, AreValid, CanShare, IsSeveralRequest};
 
 use crate::SeveralRequest;
 use dimensions::Dimensions;
@@ -26,7 +26,7 @@ pub struct SeveralPlan {
 
 /// The first of the cheapest trees that the request admits, if their cost is within the budget.
 pub fn plan_several(alloc: Global, request: &SeveralRequest) -> Result<SeveralPlan, PlanError>
-    requires { IsSeveral request.now }
+    requires { IsSeveralRequest request.now }
 
     // The trees are the chosen ones, with their cost.
     ensures chosen { IfOk result (λ plan. AreChosen request.now (trees_of plan)) }
@@ -53,7 +53,7 @@ pub fn plan_several(alloc: Global, request: &SeveralRequest) -> Result<SeveralPl
 
 // Whether processors and lanes can share the whole between the first dimension and the others.
 fn can_share(request: &SeveralRequest) -> bool
-    requires { IsSeveral request.now }
+    requires { IsSeveralRequest request.now }
     ensures { IsTrue result ↔ CanShare request.now }
 {
     let whole = Ctx::new(&request.whole());
@@ -72,7 +72,7 @@ fn plan_dimensions(
     request: &SeveralRequest,
     dimensions: &Option<Dimensions>,
 ) -> Result<SeveralPlan, NoMemory>
-    requires parts { All (λ d. (2 ≤ d.size) × IsValid (part_of request.now d)) (listed_others dimensions.now) }
+    requires parts { AreValid request.now (listed_others dimensions.now) }
     requires size { size_in (listed_others dimensions.now) ≤ max_size }
     ensures { IfOk result (IsPlanFor request.now (listed_others dimensions.now)) }
 {
