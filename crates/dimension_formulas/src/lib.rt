@@ -21,8 +21,8 @@ use spl_ast::{NoMemory, Spl};
 use std::alloc::Global;
 use tree_model::{Ctx, Tree};
 
-/// The formula of the request by a tree for each dimension, down to the trees' leaves. It is the request's transform,
-/// modulo its modulus.
+/// The formula of the request by a tree for each dimension, down to the trees' leaves. Modulo the request's modulus it is
+/// the transform of the dimensions.
 pub fn expand_several(
     alloc: Global,
     request: &SeveralRequest,
@@ -30,8 +30,9 @@ pub fn expand_several(
 ) -> Result<Spl, NoMemory>
     requires request { IsSeveralRequest request.now }
     requires trees { AreTrees (listed request.now.dimensions) (map breakdown_of trees.now) }
-    ensures value { IfOk result (λ f. f
-        ≡ several_expansion request.now (listed request.now.dimensions) (map breakdown_of trees.now)) }
+    ensures value { IfOk result (λ f.
+        f ≡ several_expansion request.now (listed request.now.dimensions)
+        (map breakdown_of trees.now)) }
     ensures size { IfOk result (λ f. rows_of f ≡ size_in (listed request.now.dimensions)) }
     ensures meaning { IfOk result (IsSeveralTransform request.now) }
     ensures printable { IfOk result IsPrintable }
