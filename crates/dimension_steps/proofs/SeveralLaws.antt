@@ -1,5 +1,5 @@
 -- The steps of several dimensions do their transform, in as many operations as their trees cost.
-use Rattle.std.proofs.Common.{◌≡◌, ◌≤◌, ℕ, ◌+◌, ◌*◌, ◌/◌, ◌%◌, ◌^◌, List, [], ◌∷◌, ◌++◌, refl, sym, ap, ◌∙◌, arith, pow-suc}
+use Rattle.std.proofs.Common.{◌≡◌, ◌≤◌, ℕ, ◌+◌, ◌*◌, ◌/◌, ◌%◌, ◌^◌, List, [], ◌∷◌, ◌++◌, refl, sym, ap, ◌∙◌, arith, length, pow-suc}
 use Rattle.std.proofs.Math.Nat.{div_self, mod-eq_of_lt, mul-one, one-mul, pow-zero}
 use Rattle.std.proofs.lemmas.List.Elements.{All-head, All-tail}
 use Rattle.matrix_meaning.specs.declared.Kind.TheVariants.{Dft}
@@ -22,7 +22,7 @@ use Rattle.steps.specs.Step.{steps_of}
 use Rattle.steps.proofs.StepCosts.{steps_cost}
 use Rattle.steps.proofs.StepMeanings.{steps_transform}
 use Rattle.dimension_plans.specs.declared.SeveralRequest.{SeveralRequest}
-use Rattle.dimension_plans.specs.Several.{part_of, several_cost}
+use Rattle.dimension_plans.specs.Several.{part_of, several_cost, AreAdmissible, AreValid}
 use Rattle.dimension_steps.specs.Meaning.{operations_in_parts, parts_on, SeveralCost, SeveralTransform}
 use Rattle.dimension_steps.specs.Parts.{PlainPart, part_under, steps_of_several}
 
@@ -75,6 +75,12 @@ several_transform r path d (e ∷ others) (t ∷ ts) x valid h =
     ∙ sym (under-product path (n * s) (on_columns n s first) (on_blocks n s later) x (λ z. length-list_below _ _))
     ∙ sym (under-same path (n * s) _ _ x (dimension_by_dimension r.modulus d (e ∷ others)))
 
+-- the steps under no tensor do the transform
+pub several_do : (r : SeveralRequest) (ds : List Dimension) (ts : List Breakdown) (x : List ℕ) → 2 ≤ length ds → AreValid r ds → AreAdmissible r ds ts →
+    parts_on r (steps_of_several r [] ds ts) x ≡ transform_in ds r.modulus x
+several_do r [] ts x some valid h = absurd (omega arith)
+several_do r (d ∷ others) ts x some valid h = several_transform r [] d others ts x valid h
+
 -- ---- the cost
 
 operations-append : (r : SeveralRequest) (ps qs : List PlainPart) → operations_in_parts r (ps ++ qs) ≡ operations_in_parts r ps + operations_in_parts r qs
@@ -98,3 +104,7 @@ several_steps_cost r path (d ∷ e ∷ others) (t ∷ ts) =
     let left : operations_in_parts r (part_under r columns d t ∷ []) ≡ copies_of path * s * x + 0 =
     ap (λ k. k + 0) (steps_cost (part_of r d) columns t ∙ ap (λ k. k * x) (copies_of-push path (Columns s))) in
     omega (arith, both, right, left)
+
+-- under no tensor they are what the trees cost
+pub several_name_cost : (r : SeveralRequest) (ds : List Dimension) (ts : List Breakdown) → operations_in_parts r (steps_of_several r [] ds ts) ≡ several_cost r ds ts
+several_name_cost r ds ts = let one = several_steps_cost r [] ds ts in omega (arith, one)

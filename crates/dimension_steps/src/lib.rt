@@ -1,15 +1,15 @@
 //! The steps of several dimensions: those of each dimension's tree, under the tensors that take the others' places.
 #![tactic(auto)]
 
-ghost use Rattle.std.specs.Prelude.{◌≡◌, ◌<◌, ◌≤◌, ◌^◌, ◌∷◌, ◌++◌, [], map, IfOk};
-ghost use Rattle.dimensions.specs.Transform.{listed, size_in};
+ghost use Rattle.std.specs.Prelude.{◌≡◌, ◌<◌, ◌≤◌, ◌^◌, ◌∷◌, ◌++◌, [], map, List, IfOk, ℕ};
+ghost use Rattle.dimensions.specs.Transform.{listed, size_in, transform_in};
 ghost use Rattle.matrix_meaning.specs.Valid.{IsValid};
 ghost use Rattle.operators.specs.Sizes.{max_size};
 ghost use Rattle.steps.specs.Views.{plain_step};
 ghost use Rattle.tree_model.specs.Admissible.{IsAdmissible};
 ghost use Rattle.tree_model.specs.Breakdown.{breakdown_of};
-ghost use Rattle.dimension_plans.specs.Several.{part_of, AreAdmissible, AreValid, IsSeveralRequest};
-ghost use Rattle.dimension_steps.specs.Meaning.{SeveralCost, SeveralTransform};
+ghost use Rattle.dimension_plans.specs.Several.{part_of, several_cost, AreAdmissible, AreValid, IsSeveralRequest};
+ghost use Rattle.dimension_steps.specs.Meaning.{operations_in_parts, parts_on, SeveralCost, SeveralTransform};
 ghost use Rattle.dimension_steps.specs.Parts.{part_under, step_under, steps_of_several};
 ghost use Rattle.dimension_steps.specs.Views.{plain_part};
 
@@ -37,7 +37,14 @@ pub fn steps_of_several(
 ) -> Result<Vec<Part>, NoMemory>
     requires request { IsSeveralRequest request.now }
     requires trees { AreAdmissible request.now (listed request.now.dimensions) (map breakdown_of trees.now) }
-    ensures { IfOk result (λ parts. map plain_part parts.items ≡ steps_of_several request.now [] (listed request.now.dimensions) (map breakdown_of trees.now)) }
+    ensures form { IfOk result (λ parts. map plain_part parts.items ≡
+        steps_of_several request.now [] (listed request.now.dimensions) (map breakdown_of trees.now)) }
+    ensures meaning { IfOk result (λ parts. (x : List ℕ) →
+        parts_on request.now (map plain_part parts.items) x
+        ≡ transform_in (listed request.now.dimensions) request.now.modulus x) }
+    ensures operations { IfOk result (λ parts.
+        operations_in_parts request.now (map plain_part parts.items)
+        ≡ several_cost request.now (listed request.now.dimensions) (map breakdown_of trees.now)) }
 {
     let parts = parts_under(alloc, request, &[], &request.dimensions, trees)?;
     Ok(parts)
@@ -54,7 +61,8 @@ fn parts_under(
     requires valid { AreValid request.now (listed dimensions.now) }
     requires size { size_in (listed dimensions.now) ≤ max_size }
     requires trees { AreAdmissible request.now (listed dimensions.now) (map breakdown_of trees.now) }
-    ensures { IfOk result (λ parts. map plain_part parts.items ≡ steps_of_several request.now path.now (listed dimensions.now) (map breakdown_of trees.now)) }
+    ensures { IfOk result (λ parts. map plain_part parts.items ≡
+        steps_of_several request.now path.now (listed dimensions.now) (map breakdown_of trees.now)) }
 {
     let Some((tree, later)) = trees.split_first() else {
         return Ok(Vec::new(alloc));
@@ -85,7 +93,8 @@ fn part_under(
 ) -> Result<Part, NoMemory>
     requires valid { IsValid (part_of request.now dimension.now) }
     requires tree { IsAdmissible (part_of request.now dimension.now) (breakdown_of tree.now) }
-    ensures { IfOk result (λ part. plain_part part ≡ part_under request.now path.now dimension.now (breakdown_of tree.now)) }
+    ensures { IfOk result (λ part. plain_part part ≡
+        part_under request.now path.now dimension.now (breakdown_of tree.now)) }
 {
     let c = Ctx::new(&request.part(dimension));
     let steps = all_under(alloc, path, steps_of_tree(alloc, &c, tree)?)?;
@@ -97,7 +106,8 @@ fn part_under(
 
 // These steps under the tensors of the path.
 fn all_under(alloc: Global, path: &[Tensor], steps: Vec<Step>) -> Result<Vec<Step>, NoMemory>
-    ensures { IfOk result (λ all. map plain_step all.items ≡ map (step_under path.now) (map plain_step steps.items)) }
+    ensures { IfOk result (λ all.
+        map plain_step all.items ≡ map (step_under path.now) (map plain_step steps.items)) }
 {
     let mut all = Vec::new(alloc);
     for step in steps {

@@ -31,7 +31,7 @@ parts_under-requires t c =
         (
           others_no_more c.parts.result.0 others (listed c.args.dimensions.now) max_size e first.0 c.requires.size,
           others_admitted r c.parts.result.0 others (listed c.args.dimensions.now) (breakdown_of c.in-Some.tree.now) (map breakdown_of c.in-Some.later.now)
-          (map breakdown_of c.args.trees.now) e (ap (map breakdown_of) c.in-Some.ensures.cases.0) c.requires.trees,
+              (map breakdown_of c.args.trees.now) e (ap (map breakdown_of) c.in-Some.ensures.cases.0) c.requires.trees,
         ),
       ),
     )
