@@ -43,7 +43,8 @@ root_of_part r d valid =
     ∙ mod-eq_of_lt valid.in_range.root
 
 -- the steps of one dimension's tree do its transform
-part_transform : (r : SeveralRequest) (path : Path) (d : Dimension) (t : Breakdown) (x : List ℕ) → IsValid (part_of r d) → IsAdmissible (part_of r d) t →
+part_transform : (r : SeveralRequest) (path : Path) (d : Dimension) (t : Breakdown) (x : List ℕ) →
+    IsValid (part_of r d) → IsAdmissible (part_of r d) t →
     all_on (part_of r d) (steps_of (part_of r d) path t) x ≡ under path d.size (transform Dft r.modulus d.size d.root) x
 part_transform r path d t x valid h =
     steps_transform (part_of r d) path t 1 x valid h.well_formed (omega (arith, h.size))
@@ -76,7 +77,8 @@ several_transform r path d (e ∷ others) (t ∷ ts) x valid h =
     ∙ sym (under-same path (n * s) _ _ x (dimension_by_dimension r.modulus d (e ∷ others)))
 
 -- the steps under no tensor do the transform
-pub several_do : (r : SeveralRequest) (ds : List Dimension) (ts : List Breakdown) (x : List ℕ) → 2 ≤ length ds → AreValid r ds → AreAdmissible r ds ts →
+pub several_do : (r : SeveralRequest) (ds : List Dimension) (ts : List Breakdown) (x : List ℕ) →
+    2 ≤ length ds → AreValid r ds → AreAdmissible r ds ts →
     parts_on r (steps_of_several r [] ds ts) x ≡ transform_in ds r.modulus x
 several_do r [] ts x some valid h = absurd (omega arith)
 several_do r (d ∷ others) ts x some valid h = several_transform r [] d others ts x valid h
@@ -106,5 +108,6 @@ several_steps_cost r path (d ∷ e ∷ others) (t ∷ ts) =
     omega (arith, both, right, left)
 
 -- under no tensor they are what the trees cost
-pub several_name_cost : (r : SeveralRequest) (ds : List Dimension) (ts : List Breakdown) → operations_in_parts r (steps_of_several r [] ds ts) ≡ several_cost r ds ts
+pub several_name_cost : (r : SeveralRequest) (ds : List Dimension) (ts : List Breakdown) →
+    operations_in_parts r (steps_of_several r [] ds ts) ≡ several_cost r ds ts
 several_name_cost r ds ts = let one = several_steps_cost r [] ds ts in omega (arith, one)

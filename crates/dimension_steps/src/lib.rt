@@ -36,7 +36,8 @@ pub fn steps_of_several(
     trees: &[Tree],
 ) -> Result<Vec<Part>, NoMemory>
     requires request { IsSeveralRequest request.now }
-    requires trees { AreAdmissible request.now (listed request.now.dimensions) (map breakdown_of trees.now) }
+    requires trees { AreAdmissible request.now (listed request.now.dimensions)
+        (map breakdown_of trees.now) }
     ensures form { IfOk result (λ parts. map plain_part parts.items ≡
         steps_of_several request.now [] (listed request.now.dimensions) (map breakdown_of trees.now)) }
     ensures meaning { IfOk result (λ parts. (x : List ℕ) →
