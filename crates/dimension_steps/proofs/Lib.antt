@@ -1,0 +1,4 @@
+pub mod Admitted
+pub mod Examples
+pub mod SeveralLaws
+pub mod UnderPaths
