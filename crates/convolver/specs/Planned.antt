@@ -6,8 +6,8 @@ use Rattle.matrix_meaning.specs.declared.Request.{Request}
 use Rattle.tree_model.specs.Admissible.{IsChosen, IsLeast}
 use Rattle.tree_model.specs.Breakdown.{Breakdown}
 use Rattle.tree_model.specs.Cost.{cost_of, mul_cost_of}
-use Rattle.convolver.specs.declared.fault.ConvFault.{ConvFault}
-use Rattle.convolver.specs.declared.fault.ConvFault.TheVariants.{Root, NotPrincipal, OverBudget, NoMemory}
+use Rattle.plan_faults.specs.declared.convolving.ConvFault.{ConvFault}
+use Rattle.plan_faults.specs.declared.convolving.ConvFault.TheVariants.{Root, NotPrincipal, OverBudget, NoMemory}
 
 -- each power sum of the root but that for 0 is 0
 abbrev pub HasPrincipalRoot : Request → Type 0

@@ -2,10 +2,8 @@
 //! Tukey, 1965; for rings Pollard, 1971).
 #![tactic(auto)]
 
-mod fault;
 mod plan;
 mod program;
 
-pub use fault::ConvFault;
 pub use plan::plan_conv;
 pub use program::generate_conv;

@@ -7,9 +7,9 @@ ghost use Rattle.tree_model.specs.Admissible.{IsChosen};
 ghost use Rattle.tree_model.specs.Breakdown.{breakdown_of};
 ghost use Rattle.tree_model.specs.Cost.{cost_of, IsModest};
 ghost use Rattle.convolver.specs.Planned.{HasPrincipalRoot, IsConvPlanned, conv_cost};
-ghost use Rattle.convolver.specs.declared.fault.ConvFault.TheVariants as fault;
+ghost use Rattle.plan_faults.specs.declared.convolving.ConvFault.TheVariants as fault;
 
-use crate::fault::ConvFault;
+use plan_faults::ConvFault;
 use convolution::first_bad_power;
 use generate::wrong_power;
 use matrix_meaning::Request;

@@ -7,8 +7,8 @@ use Rattle.matrix_meaning.specs.declared.Request.{Request}
 use Rattle.tree_model.specs.Admissible.{CanDivide, IsChosen, IsLeastWhole}
 use Rattle.tree_model.specs.Breakdown.{Breakdown}
 use Rattle.tree_model.specs.Cost.{whole_cost}
-use Rattle.generate.specs.declared.GenerateFault.{GenerateFault}
-use Rattle.generate.specs.declared.GenerateFault.TheVariants.{Root, NoDivide, OverBudget, NoMemory}
+use Rattle.plan_faults.specs.declared.generating.GenerateFault.{GenerateFault}
+use Rattle.plan_faults.specs.declared.generating.GenerateFault.TheVariants.{Root, NoDivide, OverBudget, NoMemory}
 
 -- the root to the power of the size
 abbrev pub root_power : Request → ℕ

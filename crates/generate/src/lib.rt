@@ -16,7 +16,7 @@ ghost use Rattle.tree_model.specs.Cost.{whole_cost};
 ghost use Rattle.tree_passes.specs.Laws.{machine_of};
 ghost use Rattle.generate.specs.Good.{IsGood, IsLean};
 ghost use Rattle.generate.specs.Planned.{IsPlanned, IsAdmitted, IsBarred, IsRooted, has_root, root_power};
-ghost use Rattle.generate.specs.declared.GenerateFault.TheVariants as fault;
+ghost use Rattle.plan_faults.specs.declared.generating.GenerateFault.TheVariants as fault;
 
 use icode::program::Program;
 use inverse_requests::inverted;
@@ -25,13 +25,13 @@ use matrix_meaning::{Direction, Kind, Request};
 use memory::NoMemory;
 use multiplied_passes::{Pick, multiply_last};
 use passes::{Factors, Merged};
-use plan_search::{Plan, PlanError, best};
+use plan_faults::GenerateFault;
+use plan_search::{Plan, best};
 use program_emit::emit_on;
 use ring_mod::Modulus;
 use sigma_lower::lower;
 use smp_rewrite::to_smp;
 use std::alloc::Global;
-use thiserror::Error;
 use tree_model::{Ctx, Tree, divides, extra_cost};
 use vec_rewrite::to_vec;
 
@@ -40,45 +40,6 @@ use vec_rewrite::to_vec;
 pub struct Product {
     pub plan: Plan,
     pub program: Program,
-}
-
-/// Why there is no program.
-#[derive(Clone, Copy, PartialEq, Eq, Debug, Error)]
-pub enum GenerateFault {
-    /// The root to the power of the size is not 1.
-    #[error("the root to the power of the size is {power}, not 1")]
-    Root { power: u64 },
-    /// No tree fits the request's processors, line and lanes.
-    #[error("no tree fits the processors, line and lanes")]
-    NoDivide,
-    /// The least cost is over the budget.
-    #[error("the least cost {cost} is over the budget {budget}")]
-    OverBudget { cost: u64, budget: u64 },
-    /// Memory ran out.
-    #[error("out of memory")]
-    NoMemory,
-}
-
-impl From<NoMemory> for GenerateFault {
-    ghost from_gives = { λ _ e. e ≡ fault.NoMemory };
-
-    fn from(_error: NoMemory) -> Self {
-        GenerateFault::NoMemory
-    }
-}
-
-impl From<PlanError> for GenerateFault {
-    ghost use Rattle.generate.specs.PlanFaults.{fault_of};
-
-    ghost from_gives = { λ error e. e ≡ fault_of error };
-
-    fn from(error: PlanError) -> Self {
-        match error {
-            PlanError::NoDivide => GenerateFault::NoDivide,
-            PlanError::OverBudget { cost, budget } => GenerateFault::OverBudget { cost, budget },
-            PlanError::NoMemory => GenerateFault::NoMemory,
-        }
-    }
 }
 
 /// The root to the power of the size, where it is not 1. Only a Fourier transform has a root.

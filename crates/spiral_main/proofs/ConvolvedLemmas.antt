@@ -9,8 +9,8 @@ use Rattle.std.specs.declared.option.Option.{Option}
 use Rattle.std.specs.Io.KnownBytes.{Appends, IsAtEnd}
 use Rattle.convolution.specs.Convolution.{convolution}
 use Rattle.convolver.specs.Planned.{IsConvPlanned}
-use Rattle.convolver.specs.declared.ConvFault.{ConvFault}
-use Rattle.convolver.specs.declared.ConvFault.TheVariants as conv
+use Rattle.plan_faults.specs.declared.convolving.ConvFault.{ConvFault}
+use Rattle.plan_faults.specs.declared.convolving.ConvFault.TheVariants as conv
 use Rattle.data_stream.specs.Data.{tokens}
 use Rattle.data_stream.specs.Vectors.{Cut}
 use Rattle.icode.specs.Machine.{Code, results}

@@ -5,8 +5,8 @@ use Rattle.std.specs.Int.{IsGcd}
 use Rattle.convolution.specs.Convolution.{IsFirstBadPower}
 use Rattle.convolution.specs.Request.{IsConvRequest}
 use Rattle.convolver.specs.Planned.{IsConvPlanned, both_halves}
-use Rattle.convolver.specs.declared.ConvFault.{ConvFault}
-use Rattle.convolver.specs.declared.ConvFault.TheVariants as conv
+use Rattle.plan_faults.specs.declared.convolving.ConvFault.{ConvFault}
+use Rattle.plan_faults.specs.declared.convolving.ConvFault.TheVariants as conv
 use Rattle.grammar.specs.Grammar.{IsStuck}
 use Rattle.matrix_meaning.specs.declared.Direction.TheVariants.{Inverse}
 use Rattle.matrix_meaning.specs.declared.Request.{Request}

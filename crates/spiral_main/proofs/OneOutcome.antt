@@ -6,8 +6,8 @@ use Rattle.spiral_words.specs.Asked.{IsAsked}
 use Rattle.spiral_words.specs.declared.Command.{Command}
 use Rattle.spiral_words.specs.declared.Command.TheVariants as command
 use Rattle.spiral_words.proofs.Usage.{usage_nothing}
-use Rattle.generate.specs.declared.GenerateFault.{GenerateFault}
-use Rattle.generate.specs.declared.GenerateFault.TheVariants as generate
+use Rattle.plan_faults.specs.declared.generating.GenerateFault.{GenerateFault}
+use Rattle.plan_faults.specs.declared.generating.GenerateFault.TheVariants as generate
 use Rattle.generate.specs.Planned.{IsPlanned, IsAdmitted, IsBarred}
 use Rattle.tree_model.specs.Breakdown.{Breakdown}
 use Rattle.tree_model.specs.Cost.{cost_of}

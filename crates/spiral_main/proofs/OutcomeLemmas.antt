@@ -15,8 +15,8 @@ use Rattle.io_edge.specs.Taken.{AppendsPrefix}
 use Rattle.data_stream.specs.Line.{line_of}
 use Rattle.data_stream.specs.Reading.{residues}
 use Rattle.data_stream.proofs.VectorLemmas.{residues_below}
-use Rattle.generate.specs.declared.GenerateFault.{GenerateFault}
-use Rattle.generate.specs.declared.GenerateFault.TheVariants as generate
+use Rattle.plan_faults.specs.declared.generating.GenerateFault.{GenerateFault}
+use Rattle.plan_faults.specs.declared.generating.GenerateFault.TheVariants as generate
 use Rattle.generate.specs.Planned.{IsPlanned, IsAdmitted, IsBarred}
 use Rattle.icode.specs.declared.program.Program.{Program}
 use Rattle.icode.specs.Program.{plain_program, code_of}

@@ -6,7 +6,7 @@ use Rattle.std.specs.Io.KnownBytes.{Appends, Consumes, IsAtEnd}
 use Rattle.convolution.specs.Convolution.{convolution}
 use Rattle.convolver.specs.Convolver.{IsConvolver}
 use Rattle.convolver.specs.Planned.{IsConvPlanned}
-use Rattle.convolver.specs.declared.ConvFault.{ConvFault}
+use Rattle.plan_faults.specs.declared.convolving.ConvFault.{ConvFault}
 use Rattle.data_stream.specs.Data.{tokens, closed_part, is_good}
 use Rattle.icode.specs.declared.program.Program.{Program}
 use Rattle.icode.specs.Program.{plain_program}

@@ -8,7 +8,7 @@ use Rattle.matrix_meaning.specs.Asked.{asked_transform}
 use Rattle.icode.specs.declared.program.Program.{Program}
 use Rattle.request_text.specs.declared.RequestFault.{RequestFault}
 use Rattle.request_text.specs.Answer.{Answers}
-use Rattle.generate.specs.declared.GenerateFault.{GenerateFault}
+use Rattle.plan_faults.specs.declared.generating.GenerateFault.{GenerateFault}
 use Rattle.generate.specs.Good.{IsGood, IsLean}
 use Rattle.generate.specs.Planned.{IsPlanned, IsAdmitted, IsBarred}
 use Rattle.icode.specs.Program.{plain_program, code_of}

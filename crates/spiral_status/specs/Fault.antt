@@ -12,10 +12,10 @@ use Rattle.spl_text.specs.declared.reading.SplFault.{SplFault}
 use Rattle.spl_text.specs.declared.reading.SplFault.TheVariants as spl
 use Rattle.code_check.specs.declared.fault.CheckFault.{CheckFault}
 use Rattle.code_check.specs.declared.fault.CheckFault.TheVariants as check
-use Rattle.convolver.specs.declared.ConvFault.{ConvFault}
-use Rattle.convolver.specs.declared.ConvFault.TheVariants as conv
-use Rattle.generate.specs.declared.GenerateFault.{GenerateFault}
-use Rattle.generate.specs.declared.GenerateFault.TheVariants as generate
+use Rattle.plan_faults.specs.declared.convolving.ConvFault.{ConvFault}
+use Rattle.plan_faults.specs.declared.convolving.ConvFault.TheVariants as conv
+use Rattle.plan_faults.specs.declared.generating.GenerateFault.{GenerateFault}
+use Rattle.plan_faults.specs.declared.generating.GenerateFault.TheVariants as generate
 use Rattle.stream_run.specs.declared.stream.StreamFault.{StreamFault}
 use Rattle.stream_run.specs.declared.stream.StreamFault.TheVariants as stream
 use Rattle.spiral_status.specs.declared.status.Status.{Status}

@@ -1,8 +1,8 @@
 // The faults of the parts of a call, as statuses.
 use crate::Status;
 use code_check::CheckFault;
-use convolver::ConvFault;
-use generate::GenerateFault;
+use plan_faults::ConvFault;
+use plan_faults::GenerateFault;
 use input_rest::RestFault;
 use io_edge::{Feed, FeedFault, WriteFault};
 use listing_text::ListingFault;

@@ -1,6 +1,6 @@
 // Why there is no program for a convolution.
 ghost use Rattle.std.specs.Prelude.{◌≡◌};
-ghost use Rattle.convolver.specs.declared.fault.ConvFault.TheVariants as fault;
+ghost use Rattle.plan_faults.specs.declared.convolving.ConvFault.TheVariants as fault;
 
 use memory::NoMemory;
 use thiserror::Error;

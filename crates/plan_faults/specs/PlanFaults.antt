@@ -1,8 +1,8 @@
 -- The faults of the planner, as those of the generator.
 use Rattle.plan_search.specs.declared.plan.PlanError.{PlanError}
 use Rattle.plan_search.specs.declared.plan.PlanError.TheVariants as plan
-use Rattle.generate.specs.declared.GenerateFault.{GenerateFault}
-use Rattle.generate.specs.declared.GenerateFault.TheVariants.{NoDivide, OverBudget, NoMemory}
+use Rattle.plan_faults.specs.declared.generating.GenerateFault.{GenerateFault}
+use Rattle.plan_faults.specs.declared.generating.GenerateFault.TheVariants.{NoDivide, OverBudget, NoMemory}
 
 abbrev pub fault_of : PlanError → GenerateFault
 fault_of plan.NoDivide = NoDivide

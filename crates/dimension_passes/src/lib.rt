@@ -1,0 +1,2 @@
+//! The merged passes of several dimensions.
+#![tactic(auto)]

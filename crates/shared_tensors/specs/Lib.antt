@@ -1,0 +1,2 @@
+pub mod Tensored
+pub mod Laws

@@ -1,0 +1,2 @@
+//! Passes of tensor products, shared by processors and lanes.
+#![tactic(auto)]

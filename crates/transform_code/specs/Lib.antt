@@ -1,0 +1,4 @@
+pub mod Planned
+pub mod Good
+pub mod Lean
+pub mod Views
