@@ -47,6 +47,15 @@ pub record AreParts (h : PlainMachine) (r s room : ℕ) (left right : PlainMerge
   pub left_part : IsPart r h.modulus room left
   pub right_part : IsPart s h.modulus room right
 
+-- parts that some machine with so many processors and lanes can share
+pub record CanTensor (procs lanes : ℕ) (left right : PlainMerged) : Type 0 where
+  pub machine : PlainMachine
+  pub procs_are : machine.procs ≡ procs
+  pub lanes_are : machine.lanes ≡ lanes
+  pub room : ℕ
+  pub few : room ≤ 56
+  pub parts : AreParts machine left.size right.size room left right
+
 -- ---- laws
 
 -- they do what the second part does to each row, and then the first to each column
