@@ -5,7 +5,8 @@ use Rattle.std.proofs.lemmas.List.Folds.{list_any-append}
 use Rattle.std.specs.List.{list_any}
 use Rattle.std.specs.declared.option.Option.{Option}
 use Rattle.std.specs.Io.KnownBytes.{Consumes, IsAtEnd, prepend_known}
-use Rattle.matrix_meaning.specs.declared.Request.{Request}
+use Rattle.transform_requests.specs.declared.TransformRequest.{TransformRequest}
+use Rattle.transform_requests.specs.Fields.{procs_of}
 use Rattle.request_text.specs.Schedule.{Plan}
 use Rattle.io_edge.specs.Feed.{Fed, limit, to_come}
 use Rattle.spiral_words.specs.Asked.{IsAsked}
@@ -51,8 +52,8 @@ still_ended read more now later (inr e) goes = inr (goes e)
 -- By a request
 
 -- what a command does after the first line accounts for the whole call
-accounts_after : (words : List (List ℕ)) (bytes read rest : List ℕ) (taken : ℕ) (wanted : Command) (request : Request) (left out out' : Option (List ℕ)) (status : Status)
-    → commanded words (Ok wanted) → bytes ≡ read ++ rest → AsksBy spelt wanted read rest taken (Ok request) → Performs wanted request (limit - taken) rest left out out' status
+accounts_after : (words : List (List ℕ)) (bytes read rest : List ℕ) (taken : ℕ) (wanted : Command) (request : TransformRequest) (left out out' : Option (List ℕ)) (status : Status)
+    → commanded words (Ok wanted) → bytes ≡ read ++ rest → AsksBy procs_of spelt wanted read rest taken (Ok request) → Performs wanted request (limit - taken) rest left out out' status
     → Accounts words bytes left out out' status
 accounts_after words bytes read rest taken wanted request left out out' status named whole asked p =
     let here = asked.1 rest (λ e. e) in
@@ -112,8 +113,8 @@ accounts_after words bytes read rest taken wanted request left out out' status n
           );
     }
 
-pub accounted : (words : List (List ℕ)) (before mid left : Option (List ℕ)) (taken : ℕ) (wanted : Command) (request : Request) (out out' : Option (List ℕ)) (status : Status)
-    → commanded words (Ok wanted) → Asks spelt wanted before mid taken (Ok request) → ToldPerforms wanted request (limit - taken) mid left out out' status → ToldAccounts words before left out out' status
+pub accounted : (words : List (List ℕ)) (before mid left : Option (List ℕ)) (taken : ℕ) (wanted : Command) (request : TransformRequest) (out out' : Option (List ℕ)) (status : Status)
+    → commanded words (Ok wanted) → Asks procs_of spelt wanted before mid taken (Ok request) → ToldPerforms wanted request (limit - taken) mid left out out' status → ToldAccounts words before left out out' status
 accounted words None mid left taken wanted request out out' status named a p = tt
 accounted words (Some bytes) None left taken wanted request out out' status named a p = absurd a
 accounted words (Some bytes) (Some rest) left taken wanted request out out' status named a p = accounts_after words bytes a.0 rest taken wanted request left out out' status named a.1 a.2 p
@@ -130,7 +131,7 @@ accounted_words words (Some bytes) left out status refused early = record {
 
 -- a call that ends with the first line
 pub accounted_line : (words : List (List ℕ)) (before after left : Option (List ℕ)) (taken : ℕ) (wanted : Command) (out : Option (List ℕ)) (status : Status)
-    → commanded words (Ok wanted) → Asks spelt wanted before after taken (Err status) → status ≢ WriteFault → (status ≡ ReadFault → after ≡ left) → ToldAccounts words before left out out status
+    → commanded words (Ok wanted) → Asks procs_of spelt wanted before after taken (Err status) → status ≢ WriteFault → (status ≡ ReadFault → after ≡ left) → ToldAccounts words before left out out status
 accounted_line words None after left taken wanted out status named a w same = tt
 accounted_line words (Some bytes) None left taken wanted out status named a w same = absurd a
 accounted_line words (Some bytes) (Some rest) left taken wanted out status named a w same = record {
@@ -187,7 +188,7 @@ pub nothing_held : (feed : Fed) (left : Option (List ℕ)) → feed.held ≡ [] 
 nothing_held feed left e = ap (λ h. prepend_known h left) e ∙ prepend_nothing left
 
 -- where a read failed, the feed holds nothing
-pub performs_by_source : (wanted : Command) (request : Request) (room : ℕ) (before : Option (List ℕ)) (feed : Fed) (left out out' : Option (List ℕ)) (status : Status)
+pub performs_by_source : (wanted : Command) (request : TransformRequest) (room : ℕ) (before : Option (List ℕ)) (feed : Fed) (left out out' : Option (List ℕ)) (status : Status)
     → (status ≡ ReadFault → feed.held ≡ []) → ToldPerforms wanted request room before (to_come feed left) out out' status → ToldPerforms wanted request room before left out out' status
 performs_by_source wanted request room None feed left out out' status empty p = tt
 performs_by_source wanted request room (Some bytes) feed left out out' status empty p = record {

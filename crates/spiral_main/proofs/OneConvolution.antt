@@ -25,7 +25,7 @@ use Rattle.tree_model.specs.Breakdown.{Breakdown}
 use Rattle.tree_model.specs.Cost.{cost_of}
 use Rattle.spiral_main.specs.Asking.{asked_by}
 use Rattle.spiral_main.specs.Commands.{prints_one_text, scheduled}
-use Rattle.spiral_main.specs.Convolved.{conv_spelt, convolvable, conv_in, IsListText, IsConvText, SettlesConv, IsConvAnswer}
+use Rattle.spiral_main.specs.Convolved.{conv_procs, conv_spelt, convolvable, conv_in, IsListText, IsConvText, SettlesConv, IsConvAnswer}
 use Rattle.spiral_main.specs.Line.{line_of, data_of, room_behind}
 use Rattle.spiral_main.specs.Stage.{given}
 use Rattle.spiral_main.proofs.OneRequest.{spelt_once, faulty, judged_ok, judged_once, unshared_ok}
@@ -140,13 +140,13 @@ convolvable_decided r (Ok a) (Err t) p q = absurd (plan_clash r p.0.0 q.0 p.0.1 
 convolvable_decided r (Err s) (Ok b) p q = absurd (plan_clash r q.0.0 p.0 q.0.1 p.1)
 convolvable_decided r (Err s) (Err t) p q = ap ended (p.2 ∙ ap status_of_conv (refusal_once r p.0 q.0 p.1 q.1) ∙ sym q.2)
 
-asked_decided : (wanted : Command) (bytes : List ℕ) → IsDecided (asked_by conv_spelt wanted bytes)
+asked_decided : (wanted : Command) (bytes : List ℕ) → IsDecided (asked_by conv_procs conv_spelt wanted bytes)
 asked_decided wanted bytes =
     bind_decided (given (line_of bytes)) _ (given_decided (line_of bytes)) (λ line.
-    bind_decided (conv_spelt line) _ (conv_spelt_decided line) (λ request. given_decided (scheduled wanted request)))
+    bind_decided (conv_spelt line) _ (conv_spelt_decided line) (λ request. given_decided (scheduled wanted (conv_procs request) request)))
 
 pub conv_decided : (wanted : Command) (bytes : List ℕ) → IsDecided (conv_in wanted bytes)
-conv_decided wanted bytes = bind_decided (asked_by conv_spelt wanted bytes) _ (asked_decided wanted bytes) (λ request. convolvable_decided request)
+conv_decided wanted bytes = bind_decided (asked_by conv_procs conv_spelt wanted bytes) _ (asked_decided wanted bytes) (λ request. convolvable_decided request)
 
 -- The answer
 

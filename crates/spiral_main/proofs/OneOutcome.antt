@@ -1,6 +1,6 @@
 -- The words and the bytes of a call determine its status.
 use Rattle.std.proofs.Common.{◌≡◌, ◌≤◌, ◌⊎◌, ℕ, Bool, true, false, List, Ok, Err, Result, refl, sym, ap, ap₂, subst, ◌∙◌, arith, inl, inr}
-use Rattle.matrix_meaning.specs.declared.Request.{Request}
+use Rattle.transform_requests.specs.declared.TransformRequest.{TransformRequest}
 use Rattle.request_text.specs.Schedule.{Plan}
 use Rattle.spiral_words.specs.Asked.{IsAsked}
 use Rattle.spiral_words.specs.declared.Command.{Command}
@@ -55,7 +55,7 @@ requested_decided command bytes =
 two_values : (b : Bool) → b ≡ true → b ≡ false → ⊥
 two_values b p q = absurd (cc)
 
-plan_clash : (r : Request) (t : Breakdown) (fault : GenerateFault) → IsPlanned r (Ok t) → IsPlanned r (Err fault) → ⊥
+plan_clash : (r : TransformRequest) (t : Breakdown) (fault : GenerateFault) → IsPlanned r (Ok t) → IsPlanned r (Err fault) → ⊥
 plan_clash r t (generate.Root power) p q = two_values _ p.0 q.0
 plan_clash r t generate.NoDivide p q = q.1 (candidate_divides r t p.1.candidate)
 plan_clash r t (generate.OverBudget cost budget) p q =
@@ -63,7 +63,7 @@ plan_clash r t (generate.OverBudget cost budget) p q =
     absurd (omega (arith, least, p.2, q.1.2, q.2, q.3))
 plan_clash r t generate.NoMemory p q = q
 
-refusal_once : (r : Request) (f g : GenerateFault) → IsPlanned r (Err f) → IsPlanned r (Err g) → f ≡ g
+refusal_once : (r : TransformRequest) (f g : GenerateFault) → IsPlanned r (Err f) → IsPlanned r (Err g) → f ≡ g
 refusal_once r (generate.Root power) (generate.Root other) p q = ap generate.Root (p.1 ∙ sym q.1)
 refusal_once r (generate.Root power) generate.NoDivide p q = absurd (two_values _ q.0 p.0)
 refusal_once r (generate.Root power) (generate.OverBudget cost budget) p q = absurd (two_values _ q.0 p.0)
@@ -81,13 +81,13 @@ refusal_once r (generate.OverBudget cost budget) (generate.OverBudget other limi
 refusal_once r (generate.OverBudget cost budget) generate.NoMemory p q = absurd q
 refusal_once r generate.NoMemory g p q = absurd p
 
-bar_clash : (r : Request) (fault : GenerateFault) → IsAdmitted r → IsBarred r fault → ⊥
+bar_clash : (r : TransformRequest) (fault : GenerateFault) → IsAdmitted r → IsBarred r fault → ⊥
 bar_clash r (generate.Root power) p q = two_values _ p.0 q.0
 bar_clash r generate.NoDivide p q = q.1 p.1
 bar_clash r (generate.OverBudget cost budget) p q = q
 bar_clash r generate.NoMemory p q = q
 
-bar_once : (r : Request) (f g : GenerateFault) → IsBarred r f → IsBarred r g → f ≡ g
+bar_once : (r : TransformRequest) (f g : GenerateFault) → IsBarred r f → IsBarred r g → f ≡ g
 bar_once r (generate.Root power) (generate.Root other) p q = ap generate.Root (p.1 ∙ sym q.1)
 bar_once r (generate.Root power) generate.NoDivide p q = absurd (two_values _ q.0 p.0)
 bar_once r (generate.Root power) (generate.OverBudget cost budget) p q = absurd q
@@ -99,13 +99,13 @@ bar_once r generate.NoDivide generate.NoMemory p q = absurd q
 bar_once r (generate.OverBudget cost budget) g p q = absurd p
 bar_once r generate.NoMemory g p q = absurd p
 
-refused_once : (r : Request) (s t : Status) → IsRefused r s → IsRefused r t → s ≡ t
+refused_once : (r : TransformRequest) (s t : Status) → IsRefused r s → IsRefused r t → s ≡ t
 refused_once r s t p q = p.2 ∙ ap status_of_generate (refusal_once r p.0 q.0 p.1 q.1) ∙ sym q.2
 
-shut_out_once : (r : Request) (s t : Status) → IsShutOut r s → IsShutOut r t → s ≡ t
+shut_out_once : (r : TransformRequest) (s t : Status) → IsShutOut r s → IsShutOut r t → s ≡ t
 shut_out_once r s t p q = p.2 ∙ ap status_of_generate (bar_once r p.0 q.0 p.1 q.1) ∙ sym q.2
 
-accepted_clash : (wanted : Command) (r : Request) (s : Status) → IsAccepted wanted r → IsDeclined wanted r s → ⊥
+accepted_clash : (wanted : Command) (r : TransformRequest) (s : Status) → IsAccepted wanted r → IsDeclined wanted r s → ⊥
 accepted_clash command.Plan r s p q = plan_clash r p.0 q.0 p.1 q.1
 accepted_clash command.Formula r s p q = plan_clash r p.0 q.0 p.1 q.1
 accepted_clash command.Code r s p q = plan_clash r p.0 q.0 p.1 q.1
@@ -120,7 +120,7 @@ accepted_clash (command.Apply modulus schedule) r s p q = plan_clash r p.0 q.0 p
 accepted_clash (command.Exec schedule) r s p q = plan_clash r p.0 q.0 p.1 q.1
 accepted_clash (command.Convolve schedule as_code) r s p q = plan_clash r p.0 q.0 p.1 q.1
 
-declined_once : (wanted : Command) (r : Request) (s t : Status) → IsDeclined wanted r s → IsDeclined wanted r t → s ≡ t
+declined_once : (wanted : Command) (r : TransformRequest) (s t : Status) → IsDeclined wanted r s → IsDeclined wanted r t → s ≡ t
 declined_once command.Plan r s t p q = refused_once r s t p q
 declined_once command.Formula r s t p q = refused_once r s t p q
 declined_once command.Code r s t p q = refused_once r s t p q
@@ -135,7 +135,7 @@ declined_once (command.Apply modulus schedule) r s t p q = refused_once r s t p 
 declined_once (command.Exec schedule) r s t p q = refused_once r s t p q
 declined_once (command.Convolve schedule as_code) r s t p q = refused_once r s t p q
 
-accepted_decided : (wanted : Command) (r : Request) → IsDecided (accepted wanted r)
+accepted_decided : (wanted : Command) (r : TransformRequest) → IsDecided (accepted wanted r)
 accepted_decided wanted r (Ok a) (Ok b) p q = ap done (p.1 ∙ sym q.1)
 accepted_decided wanted r (Ok a) (Err t) p q = absurd (accepted_clash wanted r t p.0 q)
 accepted_decided wanted r (Err s) (Ok b) p q = absurd (accepted_clash wanted r s q.0 p)
@@ -148,7 +148,7 @@ ordered_decided words bytes =
 
 -- The job
 
-pub data_or_text : (wanted : Command) (r : Request) (vectors : List (List ℕ)) (s t : List ℕ) → IsTextOfData wanted r vectors s → IsTextOf wanted r t → ⊥
+pub data_or_text : (wanted : Command) (r : TransformRequest) (vectors : List (List ℕ)) (s t : List ℕ) → IsTextOfData wanted r vectors s → IsTextOf wanted r t → ⊥
 data_or_text command.Plan r vectors s t p q = p
 data_or_text command.Formula r vectors s t p q = p
 data_or_text command.Code r vectors s t p q = p
@@ -163,7 +163,7 @@ data_or_text (command.Apply modulus schedule) r vectors s t p q = p
 data_or_text (command.Exec schedule) r vectors s t p q = p
 data_or_text (command.Convolve schedule as_code) r vectors s t p q = p
 
-pub data_or_check : (wanted : Command) (r : Request) (vectors : List (List ℕ)) (s : List ℕ) → IsTextOfData wanted r vectors s → reads_certificate wanted ≡ true → ⊥
+pub data_or_check : (wanted : Command) (r : TransformRequest) (vectors : List (List ℕ)) (s : List ℕ) → IsTextOfData wanted r vectors s → reads_certificate wanted ≡ true → ⊥
 data_or_check (command.Run order) r vectors s p q = absurd (cc)
 data_or_check (command.Trace order) r vectors s p q = absurd (cc)
 data_or_check command.Plan r vectors s p q = p
@@ -178,7 +178,7 @@ data_or_check (command.Apply modulus schedule) r vectors s p q = p
 data_or_check (command.Exec schedule) r vectors s p q = p
 data_or_check (command.Convolve schedule as_code) r vectors s p q = p
 
-pub text_or_check : (wanted : Command) (r : Request) (s : List ℕ) → IsTextOf wanted r s → reads_certificate wanted ≡ true → ⊥
+pub text_or_check : (wanted : Command) (r : TransformRequest) (s : List ℕ) → IsTextOf wanted r s → reads_certificate wanted ≡ true → ⊥
 text_or_check command.Plan r s p q = absurd (cc)
 text_or_check command.Formula r s p q = absurd (cc)
 text_or_check command.Code r s p q = absurd (cc)
@@ -193,13 +193,13 @@ text_or_check (command.Apply modulus schedule) r s p q = p
 text_or_check (command.Exec schedule) r s p q = p
 text_or_check (command.Convolve schedule as_code) r s p q = p
 
-checked_once : (r : Request) (bytes : List ℕ) (a b : Status) (s t : List ℕ) → IsChecked r bytes a s → IsChecked r bytes b t → a ≡ b
+checked_once : (r : TransformRequest) (bytes : List ℕ) (a b : Status) (s t : List ℕ) → IsChecked r bytes a s → IsChecked r bytes b t → a ≡ b
 checked_once r bytes a b s t (inl p) (inl q) = p.1 ∙ sym q.1
 checked_once r bytes a b s t (inl p) (inr q) = absurd (omega (arith, p.0, q.0))
 checked_once r bytes a b s t (inr p) (inl q) = absurd (omega (arith, p.0, q.0))
 checked_once r bytes a b s t (inr p) (inr q) = p.1.2 ∙ ap status_of_verdict (one_verdict r bytes p.1.0 q.1.0 p.1.1 q.1.1) ∙ sym q.1.2
 
-settled_once : (wanted : Command) (r : Request) (room : ℕ) (bytes : List ℕ) (a b : Status) (s t : List ℕ)
+settled_once : (wanted : Command) (r : TransformRequest) (room : ℕ) (bytes : List ℕ) (a b : Status) (s t : List ℕ)
     → Settles wanted r room bytes a s → Settles wanted r room bytes b t → a ≡ b
 settled_once wanted r room bytes a b s t (inl p) (inl q) = p.0 ∙ sym q.0
 settled_once wanted r room bytes a b s t (inl p) (inr (inl q)) = absurd (data_or_text wanted r _ s t p.1 q.1)

@@ -1,6 +1,6 @@
 -- The words and the bytes of a call determine its text, but for the commands that print a program.
 use Rattle.std.proofs.Common.{◌≡◌, ℕ, true, List, [], ◌∷◌, ◌++◌, Ok, Err, sym, ap, subst, ◌∙◌, arith, inl, inr}
-use Rattle.matrix_meaning.specs.declared.Request.{Request}
+use Rattle.transform_requests.specs.declared.TransformRequest.{TransformRequest}
 use Rattle.request_text.specs.Schedule.{Plan}
 use Rattle.spiral_words.specs.declared.Command.{Command}
 use Rattle.spiral_words.specs.declared.Command.TheVariants as command
@@ -33,10 +33,10 @@ use Rattle.spiral_main.proofs.OneFormula.{formula_text_once}
 use Rattle.spiral_main.proofs.OneOutcome.{ordered_decided, data_or_text, data_or_check, text_or_check, no_both, listing_alone, request_alone, schedule_asked_once}
 use Rattle.spiral_main.proofs.Stages.{done_same, done_ended}
 
-planned_once : (r : Request) (t u : Breakdown) → IsPlanned r (Ok t) → IsPlanned r (Ok u) → t ≡ u
-planned_once r t u p q = chosen_once r r.size t u p.1 q.1
+planned_once : (r : TransformRequest) (t u : Breakdown) → IsPlanned r (Ok t) → IsPlanned r (Ok u) → t ≡ u
+planned_once r t u p q = chosen_once r (size_of r) t u p.1 q.1
 
-text_once : (wanted : Command) (r : Request) (s t : List ℕ) → prints_one_text wanted ≡ true → IsTextOf wanted r s → IsTextOf wanted r t → s ≡ t
+text_once : (wanted : Command) (r : TransformRequest) (s t : List ℕ) → prints_one_text wanted ≡ true → IsTextOf wanted r s → IsTextOf wanted r t → s ≡ t
 text_once command.Plan r s t h p q = p.2 ∙ ap (plan_text r) (planned_once r p.0 q.0 p.1 q.1) ∙ sym q.2
 text_once command.Formula r s t h p q = p.2 ∙ ap (λ (tree : Breakdown). spelling (request_expansion r tree) ++ 10 ∷ []) (planned_once r p.0 q.0 p.1 q.1) ∙ sym q.2
 text_once command.Code r s t h p q = absurd (cc)
@@ -53,10 +53,10 @@ text_once (command.Exec schedule) r s t h p q = absurd p
 text_once (command.Convolve schedule as_code) r s t h p q = absurd p
 text_once (command.Sample seed schedule) r s t h p q =
     p.2
-    ∙ ap (λ (tree : Breakdown). sample_text (weighted_sum r.modulus (product r (sample_vector r.modulus r.size seed))) (whole_cost r tree) (loads_of r tree) (stores_of r tree)) (planned_once r p.0 q.0 p.1 q.1)
+    ∙ ap (λ (tree : Breakdown). sample_text (weighted_sum (modulus_of r) (product r (sample_vector (modulus_of r) (size_of r) seed))) (whole_cost r tree) (loads_of r tree) (stores_of r tree)) (planned_once r p.0 q.0 p.1 q.1)
     ∙ sym q.2
 
-data_text_once : (wanted : Command) (r : Request) (vectors : List (List ℕ)) (s t : List ℕ) → prints_one_text wanted ≡ true
+data_text_once : (wanted : Command) (r : TransformRequest) (vectors : List (List ℕ)) (s t : List ℕ) → prints_one_text wanted ≡ true
     → IsTextOfData wanted r vectors s → IsTextOfData wanted r vectors t → s ≡ t
 data_text_once (command.Run order) r vectors s t h p q = p ∙ sym q
 data_text_once (command.Trace order) r vectors s t h p q = absurd (cc)
@@ -72,13 +72,13 @@ data_text_once (command.Apply modulus schedule) r vectors s t h p q = absurd p
 data_text_once (command.Exec schedule) r vectors s t h p q = absurd p
 data_text_once (command.Convolve schedule as_code) r vectors s t h p q = absurd p
 
-checked_text_once : (r : Request) (bytes : List ℕ) (a b : Status) (s t : List ℕ) → IsChecked r bytes a s → IsChecked r bytes b t → s ≡ t
+checked_text_once : (r : TransformRequest) (bytes : List ℕ) (a b : Status) (s t : List ℕ) → IsChecked r bytes a s → IsChecked r bytes b t → s ≡ t
 checked_text_once r bytes a b s t (inl p) (inl q) = p.2 ∙ sym q.2
 checked_text_once r bytes a b s t (inl p) (inr q) = absurd (omega (arith, p.0, q.0))
 checked_text_once r bytes a b s t (inr p) (inl q) = absurd (omega (arith, p.0, q.0))
 checked_text_once r bytes a b s t (inr p) (inr q) = p.1.3 ∙ ap verdict_text (one_verdict r bytes p.1.0 q.1.0 p.1.1 q.1.1) ∙ sym q.1.3
 
-settled_text_once : (wanted : Command) (r : Request) (room : ℕ) (bytes : List ℕ) (a b : Status) (s t : List ℕ) → prints_one_text wanted ≡ true
+settled_text_once : (wanted : Command) (r : TransformRequest) (room : ℕ) (bytes : List ℕ) (a b : Status) (s t : List ℕ) → prints_one_text wanted ≡ true
     → Settles wanted r room bytes a s → Settles wanted r room bytes b t → s ≡ t
 settled_text_once wanted r room bytes a b s t h (inl p) (inl q) = data_text_once wanted r _ s t h p.1 q.1
 settled_text_once wanted r room bytes a b s t h (inl p) (inr (inl q)) = absurd (data_or_text wanted r _ s t p.1 q.1)

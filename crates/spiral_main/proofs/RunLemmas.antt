@@ -3,8 +3,9 @@ use Rattle.std.proofs.Common.{◌≡◌, ◌<◌, ℕ, true, false, refl, subst,
 use Rattle.std.proofs.lemmas.List.Elements.{All-from_get_or}
 use Rattle.std.specs.declared.option.Option.{Option}
 use Rattle.std.specs.Io.KnownBytes.{IsAtEnd, prepend_known}
-use Rattle.matrix_meaning.specs.declared.Request.{Request}
-use Rattle.matrix_meaning.specs.Valid.{IsInRange}
+use Rattle.transform_requests.specs.declared.TransformRequest.{TransformRequest}
+use Rattle.transform_requests.specs.Range.{IsRequestInRange}
+use Rattle.transform_requests.specs.Fields.{procs_of}
 use Rattle.icode.specs.Machine.{Code}
 use Rattle.request_text.specs.Schedule.{Plan}
 use Rattle.request_text.specs.Turns.{turns_of}
@@ -13,6 +14,7 @@ use Rattle.spiral_words.specs.declared.Command.{Command}
 use Rattle.spiral_words.specs.declared.Command.TheVariants as command
 use Rattle.spiral_main.specs.Commands.{takes_convolution, takes_formula, takes_listing, takes_request}
 use Rattle.spiral_main.specs.Steps.{IsGoodCode}
+use Rattle.spiral_main.proofs.Requests.{limits}
 use Rattle.stream_run.specs.Stream.{HasNoStranger}
 
 -- where nothing is to come, nothing is left
@@ -30,14 +32,14 @@ goes_by_request (command.Convolve schedule as_code) listing formula convolution 
 goes_by_request _ listing formula convolution = refl
 
 -- a good program has the request's processors
-pub good_procs : (request : Request) (code : Code) → IsGoodCode request code → code.procs ≡ request.procs
+pub good_procs : (request : TransformRequest) (code : Code) → IsGoodCode request code → code.procs ≡ procs_of request
 good_procs request code good = ap (λ (k : Code). k.procs) good.4 ∙ good.3.header.procs
 
 -- the turns of a schedule are of these processors
-pub good_stranger : (plan : Plan) (request : Request) (code : Code) → IsGoodCode request code → HasNoStranger plan request.procs → HasNoStranger plan code.procs
+pub good_stranger : (plan : Plan) (request : TransformRequest) (code : Code) → IsGoodCode request code → HasNoStranger plan (procs_of request) → HasNoStranger plan code.procs
 good_stranger plan request code good none = subst (HasNoStranger plan) (sym (good_procs request code good)) none
 
-pub good_turns : (plan : Plan) (request : Request) (code : Code) → IsGoodCode request code → IsInRange request → HasNoStranger plan request.procs → All (λ q. q < request.procs) (turns_of plan code.procs)
+pub good_turns : (plan : Plan) (request : TransformRequest) (code : Code) → IsGoodCode request code → IsRequestInRange request → HasNoStranger plan (procs_of request) → All (λ q. q < procs_of request) (turns_of plan code.procs)
 good_turns plan request code good in_range none =
-    subst (λ p. All (λ q. q < request.procs) (turns_of plan p)) (sym (good_procs request code good))
-    (All-from_get_or (λ q. q < request.procs) (turns_of plan request.procs) 0 (turns_there plan request.procs (omega (arith, in_range.procs.0)) none))
+    subst (λ p. All (λ q. q < procs_of request) (turns_of plan p)) (sym (good_procs request code good))
+    (All-from_get_or (λ q. q < procs_of request) (turns_of plan (procs_of request)) 0 (turns_there plan (procs_of request) (limits request in_range).procs none))

@@ -1,7 +1,6 @@
 -- From the first line of an input to a request.
 use Rattle.std.specs.Prelude.{◌≡◌, ℕ, List, [], ◌++◌, length, None, Some, Ok, Err, Result}
 use Rattle.std.specs.declared.option.Option.{Option}
-use Rattle.matrix_meaning.specs.declared.Request.{Request}
 use Rattle.spiral_words.specs.declared.Command.{Command}
 use Rattle.spiral_status.specs.declared.status.Status.{Status}
 use Rattle.spiral_status.specs.declared.status.Status.TheVariants.{ReadFault}
@@ -10,21 +9,21 @@ use Rattle.spiral_main.specs.Commands.{scheduled}
 use Rattle.spiral_main.specs.Line.{line_of, data_of, IsPartOfLine}
 use Rattle.spiral_main.specs.Stage.{Stage, given, ◌>>=◌}
 
--- the request for the command that the first line spells, of which each turn is of one of its processors
-abbrev pub asked_by : (List ℕ → Stage Request) → Command → List ℕ → Stage Request
-asked_by spells command bytes = do
+-- the request for the command that the first line spells, of which each turn is of one of its processors, of which it has so many
+abbrev pub asked_by : {R : Type 0} → (R → ℕ) → (List ℕ → Stage R) → Command → List ℕ → Stage R
+asked_by procs spells command bytes = do
   line ← given (line_of bytes)
   request ← spells line
-  given (scheduled command request)
+  given (scheduled command (procs request) request)
 
 -- the request for the command, by the bytes that were read and those that are left; or why there is none
-abbrev pub AsksBy : (List ℕ → Stage Request) → Command → List ℕ → List ℕ → ℕ → Result Request Status → Type 0
-AsksBy spells command read rest taken (Ok request) = (taken ≡ length read)
-    × ((more : List ℕ) → (rest ≡ [] → more ≡ []) → asked_by spells command (read ++ more) (Ok request) × (data_of (read ++ more) ≡ more))
-AsksBy spells command read rest taken (Err status) = (IsDefined status → asked_by spells command (read ++ rest) (Err status)) × (status ≡ ReadFault → IsPartOfLine read)
+abbrev pub AsksBy : {R : Type 0} → (R → ℕ) → (List ℕ → Stage R) → Command → List ℕ → List ℕ → ℕ → Result R Status → Type 0
+AsksBy procs spells command read rest taken (Ok request) = (taken ≡ length read)
+    × ((more : List ℕ) → (rest ≡ [] → more ≡ []) → asked_by procs spells command (read ++ more) (Ok request) × (data_of (read ++ more) ≡ more))
+AsksBy procs spells command read rest taken (Err status) = (IsDefined status → asked_by procs spells command (read ++ rest) (Err status)) × (status ≡ ReadFault → IsPartOfLine read)
 
 -- the same over a source that tells its bytes
-abbrev pub Asks : (List ℕ → Stage Request) → Command → Option (List ℕ) → Option (List ℕ) → ℕ → Result Request Status → Type 0
-Asks spells command None after taken result = Unit {0}
-Asks spells command (Some bytes) None taken result = ⊥
-Asks spells command (Some bytes) (Some rest) taken result = (read : List ℕ) × (bytes ≡ read ++ rest) × AsksBy spells command read rest taken result
+abbrev pub Asks : {R : Type 0} → (R → ℕ) → (List ℕ → Stage R) → Command → Option (List ℕ) → Option (List ℕ) → ℕ → Result R Status → Type 0
+Asks procs spells command None after taken result = Unit {0}
+Asks procs spells command (Some bytes) None taken result = ⊥
+Asks procs spells command (Some bytes) (Some rest) taken result = (read : List ℕ) × (bytes ≡ read ++ rest) × AsksBy procs spells command read rest taken result

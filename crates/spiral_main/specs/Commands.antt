@@ -1,13 +1,12 @@
 -- The commands that the words ask for, and what they read.
 use Rattle.std.specs.Prelude.{◌≡◌, ◌≢◌, ◌⊎◌, ℕ, ◌||◌, Bool, true, false, List, [], None, Some, Ok, Err, Result, find, nat_le}
 use Rattle.std.specs.declared.option.Option.{Option}
-use Rattle.matrix_meaning.specs.declared.Request.{Request}
 use Rattle.request_text.specs.Schedule.{Plan as Turns}
 use Rattle.request_text.specs.Turns.{named}
 use Rattle.spiral_words.specs.Asked.{IsAsked, IsUsage}
 use Rattle.spiral_words.specs.declared.Command.{Command}
 use Rattle.spiral_words.specs.declared.Command.TheVariants.{Plan, Formula, Cert, Check, Code, C, Run, Trace, Sample, Compile, Apply, Exec, Convolve}
-use Rattle.spiral_main.specs.Orders.{procs_of}
+use Rattle.spiral_main.specs.Orders.{procs_in}
 use Rattle.spiral_main.specs.Stage.{Stage}
 use Rattle.spiral_status.specs.declared.status.Status.{Status}
 use Rattle.spiral_status.specs.declared.status.Status.TheVariants.{Usage, Turn, NoMemory}
@@ -104,8 +103,8 @@ AskForRest words = (command : Command) × IsAsked words command × (reads_rest c
 
 -- the processors that the words of a command name
 abbrev pub procs_named : Command → List ℕ
-procs_named (Run order) = procs_of order
-procs_named (Trace order) = procs_of order
+procs_named (Run order) = procs_in order
+procs_named (Trace order) = procs_in order
 procs_named (Sample seed schedule) = named schedule
 procs_named (Apply modulus schedule) = named schedule
 procs_named (Exec schedule) = named schedule
@@ -128,6 +127,6 @@ abbrev pub admitted : {A : Type 0} → Option ℕ → ℕ → A → Result A Sta
 admitted None procs value = Ok value
 admitted (Some q) procs value = Err (Turn q procs)
 
--- the request, if each turn and drain is of one of its processors
-abbrev pub scheduled : Command → Request → Result Request Status
-scheduled command request = admitted (first_stranger (procs_named command) request.procs) request.procs request
+-- the request, if each turn and drain is of one of its processors, of which it has so many
+abbrev pub scheduled : {R : Type 0} → Command → ℕ → R → Result R Status
+scheduled command procs request = admitted (first_stranger (procs_named command) procs) procs request

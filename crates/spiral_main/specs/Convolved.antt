@@ -36,6 +36,10 @@ abbrev pub conv_spelt : List ℕ → Stage Request
 conv_spelt line (Ok request) = ConvAnswers line (Ok request)
 conv_spelt line (Err status) = (fault : RequestFault) × ConvAnswers line (Err fault) × (status ≡ status_of_request fault)
 
+-- how many processors it has
+abbrev pub conv_procs : Request → ℕ
+conv_procs request = request.procs
+
 -- the root is one of the size, its power sums are 0, and the least cost is within the budget
 abbrev pub IsConvolvable : Request → Type 0
 IsConvolvable request = (tree : Breakdown) × IsConvPlanned request (Ok tree)
@@ -51,7 +55,7 @@ convolvable request (Err status) = IsConvRefused request status
 -- the request of the first line, for the command
 abbrev pub conv_in : Command → List ℕ → Stage Request
 conv_in wanted bytes = do
-  request ← asked_by conv_spelt wanted bytes
+  request ← asked_by conv_procs conv_spelt wanted bytes
   convolvable request
 
 -- What is written

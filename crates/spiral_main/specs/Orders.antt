@@ -12,10 +12,10 @@ use Rattle.stream_run.specs.BufferedText.{buffered_text}
 use Rattle.stream_run.specs.Stream.{run_text}
 
 -- the processors that an order names
-abbrev pub procs_of : Order → List ℕ
-procs_of (order.Turns schedule) = named schedule
-procs_of (order.Buffered schedule) = named schedule
-procs_of (order.Mixed mix) = map proc_of mix
+abbrev pub procs_in : Order → List ℕ
+procs_in (order.Turns schedule) = named schedule
+procs_in (order.Buffered schedule) = named schedule
+procs_in (order.Mixed mix) = map proc_of mix
 
 -- The text of a vector's run on so many processors: a line for each turn and drain, and the line of its results. Turns
 -- alone are those of the machine without buffers

@@ -3,19 +3,19 @@ use Rattle.std.specs.Prelude.{◌≡◌, ◌⊎◌, ℕ, ◌≤◌, true, List, 
 use Rattle.std.specs.List.{list_all}
 use Rattle.std.specs.declared.option.Option.{Option}
 use Rattle.std.specs.Io.KnownBytes.{Appends, Consumes, IsAtEnd}
-use Rattle.matrix_meaning.specs.declared.Request.{Request}
-use Rattle.matrix_meaning.specs.Asked.{asked_transform}
+use Rattle.transform_requests.specs.declared.TransformRequest.{TransformRequest}
+use Rattle.transform_requests.specs.Fields.{asked_of, modulus_of, procs_of, size_of}
+use Rattle.transform_requests.specs.Trees.{cost_of}
 use Rattle.icode.specs.declared.program.Program.{Program}
 use Rattle.request_text.specs.declared.RequestFault.{RequestFault}
-use Rattle.request_text.specs.Answer.{Answers}
+use Rattle.transform_lines.specs.Answer.{TransformAnswers}
 use Rattle.plan_faults.specs.declared.generating.GenerateFault.{GenerateFault}
-use Rattle.generate.specs.Good.{IsGood, IsLean}
-use Rattle.generate.specs.Planned.{IsPlanned, IsAdmitted, IsBarred}
+use Rattle.transform_code.specs.Good.{IsGood}
+use Rattle.transform_code.specs.Lean.{IsLean, loads_of, stores_of}
+use Rattle.transform_code.specs.Planned.{IsPlanned, IsAdmitted, IsBarred}
 use Rattle.icode.specs.Program.{plain_program, code_of}
 use Rattle.request_text.specs.Schedule.{Plan as Turns}
 use Rattle.tree_model.specs.Breakdown.{Breakdown}
-use Rattle.tree_model.specs.Cost.{whole_cost}
-use Rattle.tree_model.specs.Passes.{loads_of, stores_of}
 use Rattle.breakdown.specs.Expansion.{request_expansion}
 use Rattle.plan_cert.specs.declared.certificate.Row.{Row}
 use Rattle.plan_cert.specs.Table.{IsTableText}
@@ -50,42 +50,42 @@ use Rattle.stream_run.specs.Stream.{texts, lines, vectors_of, data_answer, data_
 -- The stages
 
 -- the request that the line spells, if it is in range
-abbrev pub spelt : List ℕ → Stage Request
-spelt line (Ok request) = Answers line (Ok request)
-spelt line (Err status) = (fault : RequestFault) × Answers line (Err fault) × (status ≡ status_of_request fault)
+abbrev pub spelt : List ℕ → Stage TransformRequest
+spelt line (Ok request) = TransformAnswers line (Ok request)
+spelt line (Err status) = (fault : RequestFault) × TransformAnswers line (Err fault) × (status ≡ status_of_request fault)
 
 -- the first cause to refuse the request
-abbrev pub IsRefused : Request → Status → Type 0
+abbrev pub IsRefused : TransformRequest → Status → Type 0
 IsRefused request status = (fault : GenerateFault) × IsPlanned request (Err fault) × (status ≡ status_of_generate fault)
 
 -- the first cause to refuse it whatever its budget
-abbrev pub IsShutOut : Request → Status → Type 0
+abbrev pub IsShutOut : TransformRequest → Status → Type 0
 IsShutOut request status = (fault : GenerateFault) × IsBarred request fault × (status ≡ status_of_generate fault)
 
--- the root is one of the size, some tree fits, and the least cost is within the budget
-abbrev pub IsAffordable : Request → Type 0
-IsAffordable request = (tree : Breakdown) × IsPlanned request (Ok tree)
+-- the roots are right, some tree fits, and the least cost is within the budget
+abbrev pub IsAffordable : TransformRequest → Type 0
+IsAffordable request = (trees : List Breakdown) × IsPlanned request (Ok trees)
 
 -- the request is one for the command. `check` asks for no budget
-abbrev pub IsAccepted : Command → Request → Type 0
+abbrev pub IsAccepted : Command → TransformRequest → Type 0
 IsAccepted command.Check request = IsAdmitted request
 IsAccepted _ request = IsAffordable request
 
 -- the request is none for the command
-abbrev pub IsDeclined : Command → Request → Status → Type 0
+abbrev pub IsDeclined : Command → TransformRequest → Status → Type 0
 IsDeclined command.Check request status = IsShutOut request status
 IsDeclined _ request status = IsRefused request status
 
 -- the request for the command, of which each turn is of one of its processors
-abbrev pub requested : Command → List ℕ → Stage Request
-requested = asked_by spelt
+abbrev pub requested : Command → List ℕ → Stage TransformRequest
+requested = asked_by procs_of spelt
 
 -- what is to be done
 pub record Job : Type 0 where
   pub command : Command
-  pub request : Request
+  pub request : TransformRequest
 
-abbrev pub accepted : Command → Request → Stage Job
+abbrev pub accepted : Command → TransformRequest → Stage Job
 accepted wanted request (Ok job) = IsAccepted wanted request × (job ≡ record { command = wanted; request = request })
 accepted wanted request (Err status) = IsDeclined wanted request status
 
@@ -98,44 +98,44 @@ ordered words bytes = do
 -- What is written
 
 -- what the request asks for: its matrix times the vector
-abbrev pub product : Request → List ℕ → List ℕ
-product r x = asked_transform r x
+abbrev pub product : TransformRequest → List ℕ → List ℕ
+product r x = asked_of r x
 
--- a good program for the request, which executes, loads and stores exactly what the tree does
-abbrev pub IsProgramOf : Request → Breakdown → Program → Type 0
-IsProgramOf request tree program = IsGood request (whole_cost request tree) program × IsLean request tree program
+-- a good program for the request, which executes, loads and stores exactly what the trees do
+abbrev pub IsProgramOf : TransformRequest → List Breakdown → Program → Type 0
+IsProgramOf request trees program = IsGood request (cost_of request trees) program × IsLean request trees program
 
--- such a program for the chosen tree
-abbrev pub IsProgramFor : Request → Program → Type 0
-IsProgramFor request program = (tree : Breakdown) × IsPlanned request (Ok tree) × IsProgramOf request tree program
+-- such a program for the chosen trees
+abbrev pub IsProgramFor : TransformRequest → Program → Type 0
+IsProgramFor request program = (trees : List Breakdown) × IsPlanned request (Ok trees) × IsProgramOf request trees program
 
 -- the text is the listing of such a program
-abbrev pub IsListing : Request → List ℕ → Type 0
+abbrev pub IsListing : TransformRequest → List ℕ → Type 0
 IsListing request text = (program : Program) × IsProgramFor request program × (text ≡ listing_of (plain_program program))
 
 -- the text is the C text of such a program
-abbrev pub IsCText : Request → List ℕ → Type 0
+abbrev pub IsCText : TransformRequest → List ℕ → Type 0
 IsCText request text = (program : Program) × IsProgramFor request program × (text ≡ c_text_of (plain_program program))
 
--- the text has the weighted sum of the matrix times the seed's vector, and what the chosen tree costs, loads and stores
-abbrev pub IsSampleText : Request → ℕ → List ℕ → Type 0
-IsSampleText request seed text = (tree : Breakdown) × IsPlanned request (Ok tree)
-    × (text ≡ sample_text (weighted_sum request.modulus (product request (sample_vector request.modulus request.size seed))) (whole_cost request tree) (loads_of request tree) (stores_of request tree))
+-- the text has the weighted sum of the matrix times the seed's vector, and what the chosen trees cost, load and store
+abbrev pub IsSampleText : TransformRequest → ℕ → List ℕ → Type 0
+IsSampleText request seed text = (trees : List Breakdown) × IsPlanned request (Ok trees)
+    × (text ≡ sample_text (weighted_sum (modulus_of request) (product request (sample_vector (modulus_of request) (size_of request) seed))) (cost_of request trees) (loads_of request trees) (stores_of request trees))
 
 -- the chosen tree, its cost, the phases and each processor's operations
-abbrev pub IsPlanText : Request → List ℕ → Type 0
+abbrev pub IsPlanText : TransformRequest → List ℕ → Type 0
 IsPlanText request text = (tree : Breakdown) × IsPlanned request (Ok tree) × (text ≡ plan_text request tree)
 
 -- the formula of the chosen tree, and a line end
-abbrev pub IsFormulaText : Request → List ℕ → Type 0
+abbrev pub IsFormulaText : TransformRequest → List ℕ → Type 0
 IsFormulaText request text = (tree : Breakdown) × IsPlanned request (Ok tree) × (text ≡ spelling (request_expansion request tree) ++ 10 ∷ [])
 
 -- the line of the table with the least cost and the first choice of each size
-abbrev pub IsCertificate : Request → List ℕ → Type 0
+abbrev pub IsCertificate : TransformRequest → List ℕ → Type 0
 IsCertificate request text = (rows : List Row) × IsTableText request text rows
 
 -- the text of a command that reads nothing behind the first line
-abbrev pub IsTextOf : Command → Request → List ℕ → Type 0
+abbrev pub IsTextOf : Command → TransformRequest → List ℕ → Type 0
 IsTextOf command.Plan request text = IsPlanText request text
 IsTextOf command.Formula request text = IsFormulaText request text
 IsTextOf command.Cert request text = IsCertificate request text
@@ -145,23 +145,23 @@ IsTextOf (command.Sample seed schedule) request text = IsSampleText request seed
 IsTextOf _ request text = ⊥
 
 -- the listing of a good program, and for each vector the lines of its run in the order and the line of its results
-abbrev pub IsTrace : Order → Request → List (List ℕ) → List ℕ → Type 0
+abbrev pub IsTrace : Order → TransformRequest → List (List ℕ) → List ℕ → Type 0
 IsTrace order request vectors text = (program : Program) × IsProgramFor request program
-    × (text ≡ listing_of (plain_program program) ++ texts (traced_text order request.procs (code_of program)) vectors)
+    × (text ≡ listing_of (plain_program program) ++ texts (traced_text order (procs_of request) (code_of program)) vectors)
 
 -- the text of a command that goes over the data, of which these vectors are whole
-abbrev pub IsTextOfData : Command → Request → List (List ℕ) → List ℕ → Type 0
+abbrev pub IsTextOfData : Command → TransformRequest → List (List ℕ) → List ℕ → Type 0
 IsTextOfData (command.Run order) request vectors text = text ≡ lines (product request) vectors
 IsTextOfData (command.Trace order) request vectors text = IsTrace order request vectors text
 IsTextOfData _ request vectors text = ⊥
 
 -- the status and the text of a command that goes over the data, of which so many bytes may come
-abbrev pub IsAnswerToData : Command → Request → ℕ → List ℕ → Status → List ℕ → Type 0
+abbrev pub IsAnswerToData : Command → TransformRequest → ℕ → List ℕ → Status → List ℕ → Type 0
 IsAnswerToData wanted request room bytes status text =
-    (status ≡ status_of_stream (data_answer request.size room bytes)) × IsTextOfData wanted request (data_vectors request.size request.modulus room bytes) text
+    (status ≡ status_of_stream (data_answer (size_of request) room bytes)) × IsTextOfData wanted request (data_vectors (size_of request) (modulus_of request) room bytes) text
 
 -- the status and the text of a command for a request, by the bytes behind the first line, of which so many may come
-abbrev pub Settles : Command → Request → ℕ → List ℕ → Status → List ℕ → Type 0
+abbrev pub Settles : Command → TransformRequest → ℕ → List ℕ → Status → List ℕ → Type 0
 Settles wanted request room bytes status text =
     IsAnswerToData wanted request room bytes status text
     ⊎ (((status ≡ Success) × IsTextOf wanted request text)
@@ -184,9 +184,9 @@ IsOutcome words bytes status text =
 -- What a fault of the outside leaves
 
 -- The bytes behind the first line show no fault so far. For data the text is that of the vectors that are whole in them, though more may follow; a certificate has none yet
-abbrev pub BreaksOff : Command → Request → List ℕ → List ℕ → Type 0
+abbrev pub BreaksOff : Command → TransformRequest → List ℕ → List ℕ → Type 0
 BreaksOff wanted request bytes text =
-    ((list_all is_good (tokens bytes) ≡ true) × IsTextOfData wanted request (vectors_of request.size request.modulus (tokens (closed_part bytes))) text)
+    ((list_all is_good (tokens bytes) ≡ true) × IsTextOfData wanted request (vectors_of (size_of request) (modulus_of request) (tokens (closed_part bytes))) text)
     ⊎ ((reads_certificate wanted ≡ true) × (length bytes ≤ certificate_limit) × (text ≡ []))
 
 -- the bytes are a first line that has ended, which orders the job, and what stands behind it
@@ -204,10 +204,10 @@ IsBrokenOff words read ended text =
     ⊎ ((wanted : Command) × AskForConvolution words wanted × IsBrokenConv wanted read ended text))))
 
 -- The text to which a command has come by the bytes that it read behind the first line, where this is left. Of data no token counts that what is left may go on
-abbrev pub ComesTo : Command → Request → List ℕ → List ℕ → List ℕ → Type 0
+abbrev pub ComesTo : Command → TransformRequest → List ℕ → List ℕ → List ℕ → Type 0
 ComesTo wanted request bytes left text =
     ((list_all is_good (tokens bytes) ≡ true) × ((closed_part bytes ≡ bytes) ⊎ (left ≡ []))
-    × IsTextOfData wanted request (vectors_of request.size request.modulus (tokens bytes)) text)
+    × IsTextOfData wanted request (vectors_of (size_of request) (modulus_of request) (tokens bytes)) text)
     ⊎ (IsTextOf wanted request text
     ⊎ ((reads_certificate wanted ≡ true) × (left ≡ []) × (length bytes ≤ certificate_limit) × IsJudged request bytes Success text))
 
