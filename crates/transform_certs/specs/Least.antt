@@ -1,0 +1,16 @@
+-- The least cost of a request.
+use Rattle.std.specs.Prelude.{ℕ}
+use Rattle.dimension_plans.specs.Several.{CanShare, IsLeastOf}
+use Rattle.transform_requests.specs.declared.TransformRequest.{TransformRequest}
+use Rattle.transform_requests.specs.declared.TransformRequest.TheVariants.{One, Several}
+use Rattle.tree_model.specs.Admissible.{CanDivide, IsLeastWhole}
+
+-- some trees are admitted
+abbrev pub AdmitsTrees : TransformRequest → Type 0
+AdmitsTrees (One r) = CanDivide r
+AdmitsTrees (Several r) = CanShare r
+
+-- what the request costs by its cheapest trees
+abbrev pub IsLeastCost : TransformRequest → ℕ → Type 0
+IsLeastCost (One r) k = IsLeastWhole r k
+IsLeastCost (Several r) k = IsLeastOf r k
