@@ -2,6 +2,7 @@ pub mod AskLemmas
 pub mod CountLemmas
 pub mod LineLemmas
 pub mod OneOutcome
+pub mod OnePlan
 pub mod OneRequest
 pub mod OneTable
 pub mod OneText
@@ -10,6 +11,7 @@ pub mod OutcomeLemmas
 pub mod RunLemmas
 pub mod SampleLemmas
 pub mod PlanLemmas
+pub mod Requests
 pub mod RightCalls
 pub mod Accounts
 pub mod CompiledLemmas

@@ -1,17 +1,15 @@
 -- The words and the bytes of a call determine its status.
 use Rattle.std.proofs.Common.{◌≡◌, ◌≤◌, ◌⊎◌, ℕ, Bool, true, false, List, Ok, Err, Result, refl, sym, ap, ap₂, subst, ◌∙◌, arith, inl, inr}
 use Rattle.transform_requests.specs.declared.TransformRequest.{TransformRequest}
+use Rattle.transform_requests.specs.Fields.{procs_of}
+use Rattle.request_text.specs.declared.RequestFault.{RequestFault}
 use Rattle.request_text.specs.Schedule.{Plan}
 use Rattle.spiral_words.specs.Asked.{IsAsked}
 use Rattle.spiral_words.specs.declared.Command.{Command}
 use Rattle.spiral_words.specs.declared.Command.TheVariants as command
 use Rattle.spiral_words.proofs.Usage.{usage_nothing}
-use Rattle.plan_faults.specs.declared.generating.GenerateFault.{GenerateFault}
-use Rattle.plan_faults.specs.declared.generating.GenerateFault.TheVariants as generate
-use Rattle.generate.specs.Planned.{IsPlanned, IsAdmitted, IsBarred}
-use Rattle.tree_model.specs.Breakdown.{Breakdown}
-use Rattle.tree_model.specs.Cost.{cost_of}
-use Rattle.plan_cert.proofs.OneVerdict.{one_verdict}
+use Rattle.transform_certs.proofs.OneVerdict.{one_verdict}
+use Rattle.transform_lines.proofs.OneAnswer.{one_answer}
 use Rattle.spiral_status.specs.declared.status.Status.{Status}
 use Rattle.spiral_main.specs.Checked.{IsChecked, status_of_verdict}
 use Rattle.spiral_main.specs.Commands.{reads_certificate, takes_formula, takes_request, takes_convolution, commanded, scheduled, AskForFormula, AskForConvolution}
@@ -23,13 +21,12 @@ use Rattle.spiral_main.specs.Outcome.{spelt, IsRefused, IsShutOut, IsAccepted, I
 use Rattle.spiral_main.specs.Line.{data_of}
 use Rattle.spiral_main.specs.Listed.{IsExecution}
 use Rattle.spiral_main.specs.Stage.{given}
-use Rattle.spiral_main.proofs.OneConvolution.{conv_status_once, least_once}
+use Rattle.spiral_main.proofs.OneConvolution.{conv_status_once}
 use Rattle.spiral_main.proofs.OneExecution.{execution_status_once}
 use Rattle.spiral_main.proofs.OneFormula.{formula_status_once}
-use Rattle.spiral_main.proofs.PlanLemmas.{candidate_divides}
+use Rattle.spiral_main.proofs.OnePlan.{bar_clash, bar_once, plan_clash, refusal_once}
 use Rattle.spiral_main.proofs.Stages.{IsDecided, done, ended, done_same, ended_same, done_ended, given_decided, bind_decided}
 use Rattle.spiral_words.proofs.OneCommand.{asked_once}
-use Rattle.spiral_main.proofs.OneRequest.{request_once, answer_clash, fault_once}
 
 -- The words and the line
 
@@ -39,65 +36,37 @@ commanded_decided words (Ok a) (Err t) p q = absurd (usage_nothing words a q.1 p
 commanded_decided words (Err s) (Ok b) p q = absurd (usage_nothing words b p.1 q.0)
 commanded_decided words (Err s) (Err t) p q = ap ended (p.0 ∙ sym q.0)
 
+abbrev read : TransformRequest → Result TransformRequest RequestFault
+read request = Ok request
+
+abbrev faulty : RequestFault → Result TransformRequest RequestFault
+faulty fault = Err fault
+
+read_same : (r s : TransformRequest) → read r ≡ read s → r ≡ s
+read_same r s e = cc
+
+faulty_same : (f g : RequestFault) → faulty f ≡ faulty g → f ≡ g
+faulty_same f g e = cc
+
+read_faulty : (r : TransformRequest) (fault : RequestFault) → read r ≡ faulty fault → ⊥
+read_faulty r fault e = absurd (cc)
+
 spelt_decided : (line : List ℕ) → IsDecided (spelt line)
-spelt_decided line (Ok a) (Ok b) p q = ap done (request_once line a b p.0 q.0)
-spelt_decided line (Ok a) (Err t) p q = absurd (answer_clash line a q.0 p q.1)
-spelt_decided line (Err s) (Ok b) p q = absurd (answer_clash line b p.0 q p.1)
-spelt_decided line (Err s) (Err t) p q = ap ended (p.2 ∙ ap status_of_request (fault_once line p.0 q.0 p.1 q.1) ∙ sym q.2)
+spelt_decided line (Ok a) (Ok b) p q = ap done (read_same a b (one_answer line (Ok a) (Ok b) p q))
+spelt_decided line (Ok a) (Err t) p q = absurd (read_faulty a q.0 (one_answer line (Ok a) (Err q.0) p q.1))
+spelt_decided line (Err s) (Ok b) p q = absurd (read_faulty b p.0 (one_answer line (Ok b) (Err p.0) q p.1))
+spelt_decided line (Err s) (Err t) p q =
+    ap ended (p.2 ∙ ap status_of_request (faulty_same p.0 q.0 (one_answer line (Err p.0) (Err q.0) p.1 q.1)) ∙ sym q.2)
 
 requested_decided : (command : Command) (bytes : List ℕ) → IsDecided (requested command bytes)
 requested_decided command bytes =
     bind_decided (given (line_of bytes)) _ (given_decided (line_of bytes)) (λ line.
-    bind_decided (spelt line) _ (spelt_decided line) (λ request. given_decided (scheduled command request)))
+    bind_decided (spelt line) _ (spelt_decided line) (λ request. given_decided (scheduled command (procs_of request) request)))
 
 -- The request for the command
 
 two_values : (b : Bool) → b ≡ true → b ≡ false → ⊥
 two_values b p q = absurd (cc)
-
-plan_clash : (r : TransformRequest) (t : Breakdown) (fault : GenerateFault) → IsPlanned r (Ok t) → IsPlanned r (Err fault) → ⊥
-plan_clash r t (generate.Root power) p q = two_values _ p.0 q.0
-plan_clash r t generate.NoDivide p q = q.1 (candidate_divides r t p.1.candidate)
-plan_clash r t (generate.OverBudget cost budget) p q =
-    let least : q.1.0 ≤ cost_of r t = q.1.1.bound t p.1.candidate in
-    absurd (omega (arith, least, p.2, q.1.2, q.2, q.3))
-plan_clash r t generate.NoMemory p q = q
-
-refusal_once : (r : TransformRequest) (f g : GenerateFault) → IsPlanned r (Err f) → IsPlanned r (Err g) → f ≡ g
-refusal_once r (generate.Root power) (generate.Root other) p q = ap generate.Root (p.1 ∙ sym q.1)
-refusal_once r (generate.Root power) generate.NoDivide p q = absurd (two_values _ q.0 p.0)
-refusal_once r (generate.Root power) (generate.OverBudget cost budget) p q = absurd (two_values _ q.0 p.0)
-refusal_once r (generate.Root power) generate.NoMemory p q = absurd q
-refusal_once r generate.NoDivide (generate.Root power) p q = absurd (two_values _ p.0 q.0)
-refusal_once r generate.NoDivide generate.NoDivide p q = refl
-refusal_once r generate.NoDivide (generate.OverBudget cost budget) p q = absurd (p.1 (candidate_divides r q.1.1.reached.0 q.1.1.reached.1))
-refusal_once r generate.NoDivide generate.NoMemory p q = absurd q
-refusal_once r (generate.OverBudget cost budget) (generate.Root power) p q = absurd (two_values _ p.0 q.0)
-refusal_once r (generate.OverBudget cost budget) generate.NoDivide p q = absurd (q.1 (candidate_divides r p.1.1.reached.0 p.1.1.reached.1))
-refusal_once r (generate.OverBudget cost budget) (generate.OverBudget other limit) p q =
-    let least : p.1.0 ≡ q.1.0 = least_once r p.1.0 q.1.0 p.1.1 q.1.1 in
-    let same : cost ≡ other = omega (arith, least, p.1.2, q.1.2) in
-    ap₂ generate.OverBudget same (p.2 ∙ sym q.2)
-refusal_once r (generate.OverBudget cost budget) generate.NoMemory p q = absurd q
-refusal_once r generate.NoMemory g p q = absurd p
-
-bar_clash : (r : TransformRequest) (fault : GenerateFault) → IsAdmitted r → IsBarred r fault → ⊥
-bar_clash r (generate.Root power) p q = two_values _ p.0 q.0
-bar_clash r generate.NoDivide p q = q.1 p.1
-bar_clash r (generate.OverBudget cost budget) p q = q
-bar_clash r generate.NoMemory p q = q
-
-bar_once : (r : TransformRequest) (f g : GenerateFault) → IsBarred r f → IsBarred r g → f ≡ g
-bar_once r (generate.Root power) (generate.Root other) p q = ap generate.Root (p.1 ∙ sym q.1)
-bar_once r (generate.Root power) generate.NoDivide p q = absurd (two_values _ q.0 p.0)
-bar_once r (generate.Root power) (generate.OverBudget cost budget) p q = absurd q
-bar_once r (generate.Root power) generate.NoMemory p q = absurd q
-bar_once r generate.NoDivide (generate.Root power) p q = absurd (two_values _ p.0 q.0)
-bar_once r generate.NoDivide generate.NoDivide p q = refl
-bar_once r generate.NoDivide (generate.OverBudget cost budget) p q = absurd q
-bar_once r generate.NoDivide generate.NoMemory p q = absurd q
-bar_once r (generate.OverBudget cost budget) g p q = absurd p
-bar_once r generate.NoMemory g p q = absurd p
 
 refused_once : (r : TransformRequest) (s t : Status) → IsRefused r s → IsRefused r t → s ≡ t
 refused_once r s t p q = p.2 ∙ ap status_of_generate (refusal_once r p.0 q.0 p.1 q.1) ∙ sym q.2

@@ -1,4 +1,4 @@
--- A request line spells one request or has one fault.
+-- A request has one first fault, or none.
 use Rattle.std.proofs.Common.{◌≡◌, ◌<◌, ◌≤◌, ◌-◌, ◌^◌, ◌%◌, ◌==◌, ◌&&◌, ℕ, Bool, true, false, List, Ok, Err, Result, cond, nat_le, nat_lt, refl, sym, ap, ap₂, subst, ◌∙◌, arith, ◌⊎◌, inl, inr}
 use Rattle.std.proofs.lemmas.Grind.{common_steps}
 use Rattle.std.proofs.lemmas.Nat.Gcd.{same_from_IsGcd}
@@ -9,23 +9,17 @@ use Rattle.matrix_meaning.specs.declared.Kind.{Kind}
 use Rattle.matrix_meaning.specs.declared.Kind.TheVariants.{Dft, Wht}
 use Rattle.matrix_meaning.specs.declared.Request.{Request}
 use Rattle.matrix_meaning.specs.Valid.{AllowsDirection, IsInRange, HasShape}
-use Rattle.grammar.specs.Grammar.{Judges, IsStuck}
+use Rattle.grammar.specs.Grammar.{Judges}
 use Rattle.request_text.specs.declared.fault.Field.{Field}
 use Rattle.request_text.specs.declared.fault.Field.TheVariants.{Size, Mod, Root, Procs, Line, Lanes, Unroll, Budget, Weight}
 use Rattle.request_text.specs.declared.fault.RequestFault.{RequestFault}
 use Rattle.request_text.specs.declared.fault.RequestFault.TheVariants.{Syntax, Range, Shape, LanesLine, NotUnit}
-use Rattle.request_text.specs.Line.{request_line}
 use Rattle.request_text.specs.Limits.{◌>>◌, within, below, shaped, divided, unshared, invertible, limited, judged, IsJudged}
-use Rattle.request_text.specs.Answer.{IsFaultOf, Answers}
-use Rattle.request_text.proofs.Line.{line_judges}
 
 -- a text spells one value
 pub spelt_once : {S A : Type 0} (L : List S → A → Type 0) (text : List S) (r : Result A ℕ) (a b : A) → Judges L text r → L text a → L text b → a ≡ b
 spelt_once L text (Ok value) a b j p q = j.1 a p ∙ sym (j.1 b q)
 spelt_once L text (Err left) a b j p q = absurd (j.1.nothing a p)
-
-pub request_once : (line : List ℕ) (r s : Request) → request_line line r → request_line line s → r ≡ s
-request_once line r s p q = spelt_once request_line line _ r s (line_judges line _ refl) p q
 
 -- ---- the limits of a request
 
@@ -80,10 +74,6 @@ limited_ok r v =
 pub unshared_ok : (n m shared : ℕ) → IsGcd n m 1 → IsGcd n m shared → unshared shared ≡ Ok tt
 unshared_ok n m shared unit divides = ap unshared (same_from_IsGcd n m shared 1 divides unit)
 
-invertible_ok : (direction : Direction) (kind : Kind) (n m shared : ℕ) → AllowsDirection direction kind n m → IsGcd n m shared → invertible direction shared ≡ passed
-invertible_ok Forward kind n m shared h divides = refl
-invertible_ok Inverse kind n m shared h divides = unshared_ok n m shared h.1 divides
-
 -- a request in range has no fault where its direction, or another that is asked for, has none
 pub judged_ok : (direction : Direction) (shared : ℕ) (r : Request) → IsInRange r → invertible direction shared ≡ Ok tt → judged direction shared r ≡ Ok r
 judged_ok direction shared r v e = ap (λ t. t >> (invertible direction shared >> Ok r)) (limited_ok r v) ∙ then_ok (invertible direction shared) (Ok r) r e refl
@@ -102,43 +92,3 @@ judged_once asked r s f g same p q =
     let divides : IsGcd s.size s.modulus p.0 = subst (λ (x : Request). IsGcd x.size x.modulus p.0) same p.1 in
     let shared : p.0 ≡ q.0 = same_from_IsGcd s.size s.modulus p.0 q.0 divides q.1 in
     faulty_same f g (p.2 ∙ ap₂ (λ n (x : Request). judged (asked x) n x) shared same ∙ sym q.2)
-
-fault_clash : (line : List ℕ) (r : Request) (fault : RequestFault) → request_line line r → IsInRange r → IsFaultOf line fault → ⊥
-fault_clash line r fault p v q =
-    let s = q.0 in
-    let own : IsInRange s = subst IsInRange (request_once line r s p q.1) v in
-    let e : faulty fault ≡ Ok s = q.2.2 ∙ judged_ok s.direction q.2.0 s own (invertible_ok s.direction s.kind s.size s.modulus q.2.0 own.direction q.2.1) in
-    absurd (cc)
-
-pub answer_clash : (line : List ℕ) (r : Request) (fault : RequestFault) → Answers line (Ok r) → Answers line (Err fault) → ⊥
-answer_clash line r (Syntax at) p q = q.nothing r p.0
-answer_clash line r (Range field value) p q = fault_clash line r (Range field value) p.0 p.1 q
-answer_clash line r (Shape size) p q = fault_clash line r (Shape size) p.0 p.1 q
-answer_clash line r (LanesLine lanes length) p q = fault_clash line r (LanesLine lanes length) p.0 p.1 q
-answer_clash line r (NotUnit gcd) p q = fault_clash line r (NotUnit gcd) p.0 p.1 q
-
--- a line is stuck, or spells a request with this fault
-abbrev IsFaulty : List ℕ → RequestFault → Type 0
-IsFaulty line fault = ((at : ℕ) × (fault ≡ Syntax at) × IsStuck request_line line at) ⊎ IsFaultOf line fault
-
-faulty_by : (line : List ℕ) (fault : RequestFault) → Answers line (Err fault) → IsFaulty line fault
-faulty_by line (Syntax at) p = inl (at, refl, p)
-faulty_by line (Range field value) p = inr p
-faulty_by line (Shape size) p = inr p
-faulty_by line (LanesLine lanes length) p = inr p
-faulty_by line (NotUnit gcd) p = inr p
-
-stuck_once : (line : List ℕ) (a b : ℕ) → IsStuck request_line line a → IsStuck request_line line b → a ≡ b
-stuck_once line a b p q =
-    let one : b ≤ a = p.place.longest b q.place.within q.place.begins in
-    let other : a ≤ b = q.place.longest a p.place.within p.place.begins in
-    omega (arith, one, other)
-
-faulty_once : (line : List ℕ) (f g : RequestFault) → IsFaulty line f → IsFaulty line g → f ≡ g
-faulty_once line f g (inl p) (inl q) = p.1 ∙ ap Syntax (stuck_once line p.0 q.0 p.2 q.2) ∙ sym q.1
-faulty_once line f g (inl p) (inr q) = absurd (p.2.nothing q.0 q.1)
-faulty_once line f g (inr p) (inl q) = absurd (q.2.nothing p.0 p.1)
-faulty_once line f g (inr p) (inr q) = judged_once (λ r. r.direction) p.0 q.0 f g (request_once line p.0 q.0 p.1 q.1) p.2 q.2
-
-pub fault_once : (line : List ℕ) (f g : RequestFault) → Answers line (Err f) → Answers line (Err g) → f ≡ g
-fault_once line f g p q = faulty_once line f g (faulty_by line f p) (faulty_by line g q)

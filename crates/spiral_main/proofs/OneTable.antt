@@ -1,7 +1,11 @@
--- A request has one table of chosen rows.
+-- A request has one table of chosen rows, and one certificate.
 use Rattle.std.proofs.Common.{◌≡◌, ◌+◌, ◌<◌, ℕ, zero, suc, List, [], ◌∷◌, length, refl, sym, ap, ap₂, subst, ◌∙◌, arith, ◌⊎◌, inl, inr}
 use Rattle.std.specs.Prelude.{Option, All, Any, AllPairs}
 use Rattle.std.specs.List.{slice_index_or}
+use Rattle.dimension_plans.specs.declared.SeveralRequest.{SeveralRequest}
+use Rattle.dimension_plans.specs.Several.{part_of}
+use Rattle.dimensions.specs.declared.Dimension.{Dimension}
+use Rattle.dimensions.specs.Transform.{listed}
 use Rattle.matrix_meaning.specs.declared.Request.{Request}
 use Rattle.tree_model.specs.declared.tree.Rule.{Rule}
 use Rattle.tree_model.specs.Admissible.{IsChosenFor}
@@ -9,7 +13,10 @@ use Rattle.tree_model.specs.Breakdown.{Breakdown, leaf, node}
 use Rattle.tree_model.specs.Cost.{cost_of}
 use Rattle.plan_cert.specs.declared.certificate.Row.{Row}
 use Rattle.plan_cert.specs.Found.{extra_at}
-use Rattle.plan_cert.specs.Table.{IsRootOf, IsChosenRow, IsTable}
+use Rattle.plan_cert.specs.Table.{IsRootOf, IsChosenRow, IsTable, IsTableText}
+use Rattle.transform_certs.specs.Certified.{AreTables, AreTablesText, IsCertificateText}
+use Rattle.transform_requests.specs.declared.TransformRequest.{TransformRequest}
+use Rattle.transform_requests.specs.declared.TransformRequest.TheVariants.{One, Several}
 use Rattle.spiral_main.proofs.OneTree.{chosen_once}
 
 roots_same : (t : Breakdown) (a b : Option Rule) (r s u v : ℕ) → IsRootOf t a r s → IsRootOf t b u v → (a ≡ b) × (r ≡ u) × (s ≡ v)
@@ -84,6 +91,31 @@ rows_once c (x ∷ xs) (y ∷ ys) hx hy cx cy px py =
     (λ k d l. px (suc k) d (omega (arith, l))) (λ k d l. py (suc k) d (omega (arith, l))) in
     ap₂ (λ (z : Row) (zs : List Row). z ∷ zs) first rest
 
-pub table_once : (c : Request) (xs ys : List Row) → IsTable c xs → IsTable c ys → xs ≡ ys
+table_once : (c : Request) (xs ys : List Row) → IsTable c xs → IsTable c ys → xs ≡ ys
 table_once c xs ys p q =
     rows_once c xs ys p.wanted.rising q.wanted.rising (λ k d l. q.wanted.whole _ (p.wanted.wanted k d l)) (λ k d l. p.wanted.whole _ (q.wanted.wanted k d l)) p.chosen q.chosen
+
+-- the certificate of a request is one
+one_table_once : (r : Request) (s t : List ℕ) → IsCertificateText (One r) s → IsCertificateText (One r) t → s ≡ t
+one_table_once r s t p q =
+    let one : IsTableText r s q.0 = subst (λ (rows : List Row). IsTableText r s rows) (table_once r p.0 q.0 p.1.table q.1.table) p.1 in
+    one.spelled ∙ sym q.1.spelled
+
+tables_once : (r : SeveralRequest) (ds : List Dimension) (xs ys : List (List Row)) → AreTables r ds xs → AreTables r ds ys → xs ≡ ys
+tables_once r [] [] [] p q = refl
+tables_once r [] [] (y ∷ ys) p q = absurd q
+tables_once r [] (x ∷ xs) ys p q = absurd p
+tables_once r (d ∷ ds) [] ys p q = absurd p
+tables_once r (d ∷ ds) (x ∷ xs) [] p q = absurd q
+tables_once r (d ∷ ds) (x ∷ xs) (y ∷ ys) p q =
+    ap₂ (λ (z : List Row) (zs : List (List Row)). z ∷ zs) (table_once (part_of r d) x y p.0 q.0) (tables_once r ds xs ys p.1 q.1)
+
+several_tables_once : (r : SeveralRequest) (s t : List ℕ) → IsCertificateText (Several r) s → IsCertificateText (Several r) t → s ≡ t
+several_tables_once r s t p q =
+    let same : p.0 ≡ q.0 = tables_once r (listed r.dimensions) p.0 q.0 p.1.each q.1.each in
+    let one : AreTablesText r s q.0 = subst (λ (tables : List (List Row)). AreTablesText r s tables) same p.1 in
+    one.spelled ∙ sym q.1.spelled
+
+pub certificate_once : (r : TransformRequest) (s t : List ℕ) → IsCertificateText r s → IsCertificateText r t → s ≡ t
+certificate_once (One r) s t p q = one_table_once r s t p q
+certificate_once (Several r) s t p q = several_tables_once r s t p q

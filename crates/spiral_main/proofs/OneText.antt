@@ -5,16 +5,14 @@ use Rattle.request_text.specs.Schedule.{Plan}
 use Rattle.spiral_words.specs.declared.Command.{Command}
 use Rattle.spiral_words.specs.declared.Command.TheVariants as command
 use Rattle.spiral_words.specs.Asked.{IsAsked}
-use Rattle.generate.specs.Planned.{IsPlanned}
 use Rattle.tree_model.specs.Breakdown.{Breakdown}
-use Rattle.tree_model.specs.Cost.{whole_cost}
-use Rattle.tree_model.specs.Passes.{loads_of, stores_of}
-use Rattle.breakdown.specs.Expansion.{request_expansion}
+use Rattle.transform_code.specs.Lean.{loads_of, stores_of}
+use Rattle.transform_requests.specs.Fields.{modulus_of, size_of}
+use Rattle.transform_requests.specs.Trees.{cost_of}
+use Rattle.transform_texts.specs.Formulas.{trees_expansion}
+use Rattle.transform_texts.specs.Texts.{plan_text}
 use Rattle.spl_text.specs.Spelling.{spelling}
-use Rattle.plan_text.specs.Text.{plan_text}
-use Rattle.plan_cert.specs.declared.certificate.Row.{Row}
-use Rattle.plan_cert.specs.Table.{IsTableText}
-use Rattle.plan_cert.proofs.OneVerdict.{one_verdict}
+use Rattle.transform_certs.proofs.OneVerdict.{one_verdict}
 use Rattle.spiral_status.specs.declared.status.Status.{Status}
 use Rattle.spiral_main.specs.Checked.{IsChecked, verdict_text}
 use Rattle.spiral_main.specs.Commands.{prints_one_text}
@@ -25,27 +23,22 @@ use Rattle.spiral_main.specs.Listed.{IsExecution}
 use Rattle.spiral_main.specs.Outcome.{Job, ordered, product, IsTextOf, IsTextOfData, Settles, IsAnswerToRequest, IsOutcome, room_behind}
 use Rattle.spiral_main.specs.Sample.{sample_vector, weighted_sum, sample_text}
 use Rattle.spiral_words.proofs.OneCommand.{asked_once}
-use Rattle.spiral_main.proofs.OneTable.{table_once}
-use Rattle.spiral_main.proofs.OneTree.{chosen_once}
+use Rattle.spiral_main.proofs.OnePlan.{planned_once}
+use Rattle.spiral_main.proofs.OneTable.{certificate_once}
 use Rattle.spiral_main.proofs.OneConvolution.{conv_text_once}
 use Rattle.spiral_main.proofs.OneExecution.{execution_text_once}
 use Rattle.spiral_main.proofs.OneFormula.{formula_text_once}
 use Rattle.spiral_main.proofs.OneOutcome.{ordered_decided, data_or_text, data_or_check, text_or_check, no_both, listing_alone, request_alone, schedule_asked_once}
 use Rattle.spiral_main.proofs.Stages.{done_same, done_ended}
 
-planned_once : (r : TransformRequest) (t u : Breakdown) → IsPlanned r (Ok t) → IsPlanned r (Ok u) → t ≡ u
-planned_once r t u p q = chosen_once r (size_of r) t u p.1 q.1
-
 text_once : (wanted : Command) (r : TransformRequest) (s t : List ℕ) → prints_one_text wanted ≡ true → IsTextOf wanted r s → IsTextOf wanted r t → s ≡ t
 text_once command.Plan r s t h p q = p.2 ∙ ap (plan_text r) (planned_once r p.0 q.0 p.1 q.1) ∙ sym q.2
-text_once command.Formula r s t h p q = p.2 ∙ ap (λ (tree : Breakdown). spelling (request_expansion r tree) ++ 10 ∷ []) (planned_once r p.0 q.0 p.1 q.1) ∙ sym q.2
+text_once command.Formula r s t h p q = p.2 ∙ ap (λ (trees : List Breakdown). spelling (trees_expansion r trees) ++ 10 ∷ []) (planned_once r p.0 q.0 p.1 q.1) ∙ sym q.2
 text_once command.Code r s t h p q = absurd (cc)
 text_once command.C r s t h p q = absurd (cc)
 text_once (command.Run order) r s t h p q = absurd p
 text_once (command.Trace order) r s t h p q = absurd p
-text_once command.Cert r s t h p q =
-    let one : IsTableText r s q.0 = subst (λ (rows : List Row). IsTableText r s rows) (table_once r p.0 q.0 p.1.table q.1.table) p.1 in
-    one.spelled ∙ sym q.1.spelled
+text_once command.Cert r s t h p q = certificate_once r s t p q
 text_once command.Check r s t h p q = absurd p
 text_once (command.Compile modulus) r s t h p q = absurd p
 text_once (command.Apply modulus schedule) r s t h p q = absurd p
@@ -53,7 +46,7 @@ text_once (command.Exec schedule) r s t h p q = absurd p
 text_once (command.Convolve schedule as_code) r s t h p q = absurd p
 text_once (command.Sample seed schedule) r s t h p q =
     p.2
-    ∙ ap (λ (tree : Breakdown). sample_text (weighted_sum (modulus_of r) (product r (sample_vector (modulus_of r) (size_of r) seed))) (whole_cost r tree) (loads_of r tree) (stores_of r tree)) (planned_once r p.0 q.0 p.1 q.1)
+    ∙ ap (λ (trees : List Breakdown). sample_text (weighted_sum (modulus_of r) (product r (sample_vector (modulus_of r) (size_of r) seed))) (cost_of r trees) (loads_of r trees) (stores_of r trees)) (planned_once r p.0 q.0 p.1 q.1)
     ∙ sym q.2
 
 data_text_once : (wanted : Command) (r : TransformRequest) (vectors : List (List ℕ)) (s t : List ℕ) → prints_one_text wanted ≡ true

@@ -27,7 +27,7 @@ use Rattle.input_rest.specs.declared.RestFault.TheVariants as rest_fault
 use Rattle.input_rest.specs.Rest.{GivesRest}
 use Rattle.plan_cert.specs.declared.verdict.Verdict.{Verdict}
 use Rattle.plan_cert.specs.declared.verdict.Verdict.TheVariants as verdict
-use Rattle.plan_cert.specs.Verdict.{IsVerdict}
+use Rattle.transform_certs.specs.Judged.{IsVerdict}
 use Rattle.spiral_words.specs.declared.Command.{Command}
 use Rattle.spiral_words.specs.declared.Command.TheVariants as command
 use Rattle.spiral_words.specs.declared.Order.{Order}
@@ -320,9 +320,9 @@ performs_unread request room (Some bytes) (Some rest) out read rest_fault.ReadFa
 performs_unread request room (Some bytes) (Some rest) out read rest_fault.NoMemory there consumed given = performs_nothing command.Check request room bytes (Some rest) out
 
 -- the verdict on the bytes, as it was found
-pub judged_of : (request own : TransformRequest) (text seen : List ℕ) (found other : Verdict) → own ≡ request → seen ≡ text → other ≡ found → IsVerdict own seen other → IsVerdict request text found
-judged_of request own text seen found other p q e judged =
-    subst (λ (v : Verdict). IsVerdict request text v) e (subst (λ (l : List ℕ). IsVerdict request l other) q (subst (λ (r : TransformRequest). IsVerdict r seen other) p judged))
+pub judged_of : (request : TransformRequest) (text seen : List ℕ) (found other : Verdict) → seen ≡ text → other ≡ found → IsVerdict request seen other → IsVerdict request text found
+judged_of request text seen found other q e judged =
+    subst (λ (v : Verdict). IsVerdict request text v) e (subst (λ (l : List ℕ). IsVerdict request l other) q judged)
 
 -- a rest that was judged
 pub performs_judged : (request : TransformRequest) (room : ℕ) (before after out out' : Option (List ℕ)) (read text : List ℕ) (found : Verdict)

@@ -4,7 +4,7 @@ use Rattle.std.specs.List.{concat}
 use Rattle.transform_requests.specs.declared.TransformRequest.{TransformRequest}
 use Rattle.plan_cert.specs.declared.verdict.Verdict.{Verdict}
 use Rattle.plan_cert.specs.declared.verdict.Verdict.TheVariants as verdict
-use Rattle.plan_cert.specs.Verdict.{IsVerdict}
+use Rattle.transform_certs.specs.Judged.{IsVerdict}
 use Rattle.spiral_status.specs.declared.status.Status.{Status}
 use Rattle.spiral_status.specs.declared.status.Status.TheVariants.{Success, TooLong, Unread, Wrong}
 

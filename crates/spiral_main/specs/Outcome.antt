@@ -16,10 +16,9 @@ use Rattle.transform_code.specs.Planned.{IsPlanned, IsAdmitted, IsBarred}
 use Rattle.icode.specs.Program.{plain_program, code_of}
 use Rattle.request_text.specs.Schedule.{Plan as Turns}
 use Rattle.tree_model.specs.Breakdown.{Breakdown}
-use Rattle.breakdown.specs.Expansion.{request_expansion}
-use Rattle.plan_cert.specs.declared.certificate.Row.{Row}
-use Rattle.plan_cert.specs.Table.{IsTableText}
-use Rattle.plan_text.specs.Text.{plan_text}
+use Rattle.transform_certs.specs.Certified.{IsCertificateText}
+use Rattle.transform_texts.specs.Formulas.{trees_expansion}
+use Rattle.transform_texts.specs.Texts.{plan_text}
 use Rattle.spl_text.specs.Spelling.{spelling}
 use Rattle.listing_text.specs.Listing.{listing_of}
 use Rattle.c_print.specs.CText.{c_text_of}
@@ -122,23 +121,19 @@ abbrev pub IsSampleText : TransformRequest → ℕ → List ℕ → Type 0
 IsSampleText request seed text = (trees : List Breakdown) × IsPlanned request (Ok trees)
     × (text ≡ sample_text (weighted_sum (modulus_of request) (product request (sample_vector (modulus_of request) (size_of request) seed))) (cost_of request trees) (loads_of request trees) (stores_of request trees))
 
--- the chosen tree, its cost, the phases and each processor's operations
+-- the chosen trees, their cost, the phases and each processor's operations
 abbrev pub IsPlanText : TransformRequest → List ℕ → Type 0
-IsPlanText request text = (tree : Breakdown) × IsPlanned request (Ok tree) × (text ≡ plan_text request tree)
+IsPlanText request text = (trees : List Breakdown) × IsPlanned request (Ok trees) × (text ≡ plan_text request trees)
 
--- the formula of the chosen tree, and a line end
+-- the formula of the chosen trees, and a line end
 abbrev pub IsFormulaText : TransformRequest → List ℕ → Type 0
-IsFormulaText request text = (tree : Breakdown) × IsPlanned request (Ok tree) × (text ≡ spelling (request_expansion request tree) ++ 10 ∷ [])
-
--- the line of the table with the least cost and the first choice of each size
-abbrev pub IsCertificate : TransformRequest → List ℕ → Type 0
-IsCertificate request text = (rows : List Row) × IsTableText request text rows
+IsFormulaText request text = (trees : List Breakdown) × IsPlanned request (Ok trees) × (text ≡ spelling (trees_expansion request trees) ++ 10 ∷ [])
 
 -- the text of a command that reads nothing behind the first line
 abbrev pub IsTextOf : Command → TransformRequest → List ℕ → Type 0
 IsTextOf command.Plan request text = IsPlanText request text
 IsTextOf command.Formula request text = IsFormulaText request text
-IsTextOf command.Cert request text = IsCertificate request text
+IsTextOf command.Cert request text = IsCertificateText request text
 IsTextOf command.Code request text = IsListing request text
 IsTextOf command.C request text = IsCText request text
 IsTextOf (command.Sample seed schedule) request text = IsSampleText request seed text

@@ -4,8 +4,10 @@ use Rattle.std.specs.List.{list_all}
 use Rattle.std.specs.declared.option.Option.{Option}
 use Rattle.std.specs.Io.KnownBytes.{Appends}
 use Rattle.matrix_meaning.specs.declared.Request.{Request}
+use Rattle.transform_requests.specs.declared.TransformRequest.{TransformRequest}
+use Rattle.transform_requests.specs.Fields as requests
 use Rattle.plan_cert.specs.declared.verdict.Verdict.TheVariants.{Least}
-use Rattle.plan_cert.specs.Verdict.{IsVerdict}
+use Rattle.transform_certs.specs.Judged.{IsVerdict}
 use Rattle.data_stream.specs.Data.{tokens, is_good}
 use Rattle.icode.specs.Plain.{PlainProgram}
 use Rattle.input_rest.specs.Part.{second_part}
@@ -32,15 +34,15 @@ pub record AreWholeVectors (size room : ℕ) (bytes : List ℕ) : Type 0 where
   pub whole : length (tokens bytes) % size ≡ 0
 
 -- a certificate that proves a least cost, and not too long
-pub record IsRightCertificate (request : Request) (bytes : List ℕ) : Type 0 where
+pub record IsRightCertificate (request : TransformRequest) (bytes : List ℕ) : Type 0 where
   pub few : length bytes ≤ certificate_limit
   pub cost : ℕ
   pub judged : IsVerdict request bytes (Least cost)
 
 -- what stands behind the first line is right for the command, of which so many bytes may come
-abbrev pub IsRightRest : Command → Request → ℕ → List ℕ → Type 0
-IsRightRest (command.Run order) request room bytes = AreWholeVectors request.size room bytes
-IsRightRest (command.Trace order) request room bytes = AreWholeVectors request.size room bytes
+abbrev pub IsRightRest : Command → TransformRequest → ℕ → List ℕ → Type 0
+IsRightRest (command.Run order) request room bytes = AreWholeVectors (requests.size_of request) room bytes
+IsRightRest (command.Trace order) request room bytes = AreWholeVectors (requests.size_of request) room bytes
 IsRightRest command.Check request room bytes = IsRightCertificate request bytes
 IsRightRest _ request room bytes = Unit {0}
 

@@ -1,11 +1,12 @@
 // What the words and the first line ask for.
 ghost use Rattle.std.specs.Prelude.{◌≡◌, ◌≢◌, ◌≤◌, ℕ, [], Some, None, Err, IfOk, IfErr, OnOk, IsErrOf, map, string_bytes};
-ghost use Rattle.matrix_meaning.specs.Valid.{IsInRange};
+ghost use Rattle.transform_requests.specs.Fields.{procs_of};
+ghost use Rattle.transform_requests.specs.Range.{IsRequestInRange};
 ghost use Rattle.io_edge.specs.Faults.{Reports};
 ghost use Rattle.io_edge.specs.Feed.{to_come};
 ghost use Rattle.spiral_words.specs.Asked.{IsAsked};
 ghost use Rattle.spiral_main.specs.Commands.{commanded, AreJudged, NamesNoStranger, first_stranger, procs_named};
-ghost use Rattle.spiral_main.specs.Orders.{procs_of};
+ghost use Rattle.spiral_main.specs.Orders.{procs_in};
 ghost use Rattle.spiral_status.specs.Status.{IsDefined};
 ghost use Rattle.spiral_main.specs.Asking.{Asks};
 ghost use Rattle.spiral_main.specs.Outcome.{spelt};
@@ -14,31 +15,32 @@ ghost use Rattle.spiral_main.specs.Steps.{IsEarly};
 use crate::Status;
 use crate::line::read_line;
 use io_edge::{Feed, Source};
-use matrix_meaning::Request;
-use request_text::read_request;
 use spiral_status::LINE_LIMIT;
 use spiral_words::{Command, Order, Refusal, command_of};
 use std::alloc::Global;
+use transform_lines::read_transform;
+use transform_requests::TransformRequest;
 
 /// The request that the first line of the input spells, for the command.
 pub(crate) fn ask<I: Source>(
     command: &Command,
     feed: &mut Feed,
     input: &mut I,
-) -> Result<Request, Status>
+) -> Result<TransformRequest, Status>
     requires fresh { feed.old.taken ≡ 0 }
-    ensures told { Asks spelt command.now (to_come feed.old (I.left input.old)) (to_come feed.new (I.left input.new)) feed.new.taken result }
+    ensures told { Asks procs_of spelt command.now (to_come feed.old (I.left input.old)) (to_come feed.new (I.left input.new)) feed.new.taken result }
     ensures within { OnOk result (feed.new.taken ≤ 257) }
-    ensures request { IfOk result IsInRange }
-    ensures turns { IfOk result (λ request. NamesNoStranger command.now request.procs) }
+    ensures request { IfOk result IsRequestInRange }
+    ensures turns { IfOk result (λ request. NamesNoStranger command.now (procs_of request)) }
     ensures empty { IsErrOf result Status.ReadFault → feed.new.held ≡ [] }
     ensures read { Reports (I.faults input.old) (I.faults input.new) (IsErrOf result Status.ReadFault) }
     ensures others { IfErr result (λ status. (status ≢ Status.Success) × (status ≢ Status.Usage) × (status ≢ Status.WriteFault)) }
 {
     let mut line = [0; LINE_LIMIT];
     let count = read_line(feed, input, &mut line)?;
-    let request = read_request(&line[..count])?;
-    check_turns(stranger(command, request.procs), request.procs)?;
+    let request = read_transform(&line[..count])?;
+    let procs = request.procs();
+    check_turns(stranger(command, procs), procs)?;
     Ok(request)
 }
 
@@ -69,7 +71,7 @@ pub(crate) fn check_turns(stranger: Option<u64>, p: u64) -> Result<(), Status>
 
 // The first stranger to so many processors that the order names.
 fn stranger_in(order: &Order, p: u64) -> Option<u64>
-    ensures { result ≡ first_stranger (procs_of order.now) p }
+    ensures { result ≡ first_stranger (procs_in order.now) p }
 {
     match order {
         Order::Turns(schedule) => schedule.stranger(p),

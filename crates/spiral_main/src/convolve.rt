@@ -9,7 +9,7 @@ ghost use Rattle.io_edge.specs.Feed.{to_come, limit};
 ghost use Rattle.spiral_words.specs.declared.Command.{Command as SpecCommand};
 ghost use Rattle.spiral_main.specs.Commands.{reads_rest, takes_convolution, NamesNoStranger};
 ghost use Rattle.spiral_main.specs.Asking.{Asks};
-ghost use Rattle.spiral_main.specs.Convolved.{conv_spelt, IsListProgram, ToldConvolves, ToldConvolvesData};
+ghost use Rattle.spiral_main.specs.Convolved.{conv_procs, conv_spelt, IsListProgram, ToldConvolves, ToldConvolvesData};
 ghost use Rattle.spiral_main.specs.Stage.{status_of};
 ghost use Rattle.stream_run.specs.Progress.{HasCome};
 ghost use Rattle.stream_run.specs.Stream.{HasNoStranger};
@@ -34,7 +34,7 @@ use stream_run::{read_first, run_vectors};
 // The request for convolutions that the first line of the input spells, for the command.
 fn ask_conv<I: Source>(command: &Command, feed: &mut Feed, input: &mut I) -> Result<Request, Status>
     requires fresh { feed.old.taken ≡ 0 }
-    ensures told { Asks conv_spelt command.now (to_come feed.old (I.left input.old))
+    ensures told { Asks conv_procs conv_spelt command.now (to_come feed.old (I.left input.old))
         (to_come feed.new (I.left input.new)) feed.new.taken result }
     ensures within { OnOk result (feed.new.taken ≤ 257) }
     ensures request { IfOk result IsConvRequest }

@@ -1,7 +1,8 @@
 // The commands that go over the vectors of the data.
 ghost use Rattle.std.specs.Prelude.{◌≡◌, ◌≢◌, ◌-◌, ◌≤◌, []};
 ghost use Rattle.std.specs.Io.KnownBytes.{Appends, IsAtEnd};
-ghost use Rattle.matrix_meaning.specs.Valid.{IsInRange};
+ghost use Rattle.transform_requests.specs.Fields.{procs_of};
+ghost use Rattle.transform_requests.specs.Range.{IsRequestInRange};
 ghost use Rattle.io_edge.specs.Faults.{Reports};
 ghost use Rattle.io_edge.specs.Feed.{to_come, limit};
 ghost use Rattle.spiral_main.specs.Commands.{NamesNoStranger};
@@ -14,23 +15,23 @@ use crate::events::{run_events, trace_events};
 use crate::texts::{engine, traced_engine};
 use buffer_machine::Events;
 use io_edge::{Feed, Sink, Source, write_all};
-use matrix_meaning::Request;
 use request_text::Schedule;
 use spiral_words::{Command, Order};
 use std::alloc::Global;
 use stream_run::run_stream;
+use transform_requests::TransformRequest;
 
 /// Writes the line of each vector's transform.
 pub(crate) fn run<I: Source, O: Sink>(
     alloc: Global,
-    request: &Request,
+    request: &TransformRequest,
     order: &Order,
     feed: &mut Feed,
     input: &mut I,
     output: &mut O,
 ) -> Result<(), Status>
-    requires in_range { IsInRange request.now }
-    requires turns { NamesNoStranger (Command.Run order.now) request.now.procs }
+    requires in_range { IsRequestInRange request.now }
+    requires turns { NamesNoStranger (Command.Run order.now) (procs_of request.now) }
     requires within { feed.old.taken ≤ limit }
     ensures told { ToldPerforms (Command.Run order.now) request.now (limit - feed.old.taken) (to_come feed.old (I.left input.old))
         (to_come feed.new (I.left input.new)) (O.taken output.old) (O.taken output.new) (status_of result) }
@@ -53,14 +54,14 @@ pub(crate) fn run<I: Source, O: Sink>(
 // Runs the machine without store buffers.
 fn run_turns<I: Source, O: Sink>(
     alloc: Global,
-    request: &Request,
+    request: &TransformRequest,
     schedule: &Schedule,
     feed: &mut Feed,
     input: &mut I,
     output: &mut O,
 ) -> Result<(), Status>
-    requires in_range { IsInRange request.now }
-    requires turns { HasNoStranger schedule.now request.now.procs }
+    requires in_range { IsRequestInRange request.now }
+    requires turns { HasNoStranger schedule.now (procs_of request.now) }
     requires within { feed.old.taken ≤ limit }
     ensures told { ToldPerforms (Command.Run (Order.Turns schedule.now)) request.now (limit - feed.old.taken) (to_come feed.old (I.left input.old))
         (to_come feed.new (I.left input.new)) (O.taken output.old) (O.taken output.new) (status_of result) }
@@ -87,14 +88,14 @@ fn run_turns<I: Source, O: Sink>(
 /// Writes the listing, and then for each vector the lines of its turns and drains and the line of its transform.
 pub(crate) fn trace<I: Source, O: Sink>(
     alloc: Global,
-    request: &Request,
+    request: &TransformRequest,
     order: &Order,
     feed: &mut Feed,
     input: &mut I,
     output: &mut O,
 ) -> Result<(), Status>
-    requires in_range { IsInRange request.now }
-    requires turns { NamesNoStranger (Command.Trace order.now) request.now.procs }
+    requires in_range { IsRequestInRange request.now }
+    requires turns { NamesNoStranger (Command.Trace order.now) (procs_of request.now) }
     requires within { feed.old.taken ≤ limit }
     ensures told { ToldPerforms (Command.Trace order.now) request.now (limit - feed.old.taken) (to_come feed.old (I.left input.old))
         (to_come feed.new (I.left input.new)) (O.taken output.old) (O.taken output.new) (status_of result) }
@@ -117,14 +118,14 @@ pub(crate) fn trace<I: Source, O: Sink>(
 // Traces the machine without store buffers.
 fn trace_turns<I: Source, O: Sink>(
     alloc: Global,
-    request: &Request,
+    request: &TransformRequest,
     schedule: &Schedule,
     feed: &mut Feed,
     input: &mut I,
     output: &mut O,
 ) -> Result<(), Status>
-    requires in_range { IsInRange request.now }
-    requires turns { HasNoStranger schedule.now request.now.procs }
+    requires in_range { IsRequestInRange request.now }
+    requires turns { HasNoStranger schedule.now (procs_of request.now) }
     requires within { feed.old.taken ≤ limit }
     ensures told { ToldPerforms (Command.Trace (Order.Turns schedule.now)) request.now (limit - feed.old.taken) (to_come feed.old (I.left input.old))
         (to_come feed.new (I.left input.new)) (O.taken output.old) (O.taken output.new) (status_of result) }

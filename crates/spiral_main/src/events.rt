@@ -1,7 +1,8 @@
 // The commands that go over the vectors of the data, with store buffers.
 ghost use Rattle.std.specs.Prelude.{◌≡◌, ◌≢◌, ◌-◌, ◌<◌, ◌≤◌, [], IfOk, IfErr, OnOk, vec_len};
 ghost use Rattle.std.specs.Io.KnownBytes.{Appends, IsAtEnd};
-ghost use Rattle.matrix_meaning.specs.Valid.{IsInRange};
+ghost use Rattle.transform_requests.specs.Fields.{procs_of};
+ghost use Rattle.transform_requests.specs.Range.{IsRequestInRange};
 ghost use Rattle.icode.specs.declared.program.Program.{Program as SpecProgram};
 ghost use Rattle.icode.specs.Program.{plain_program, code_of};
 ghost use Rattle.listing_text.specs.Listing.{listing_of};
@@ -19,14 +20,14 @@ use crate::texts::good_product;
 use buffer_machine::{BufMachine, Events};
 use io_edge::{Feed, Sink, Source, write_all};
 use listing_text::print_listing;
-use matrix_meaning::Request;
 use spiral_words::Command;
 use std::alloc::Global;
 use stream_run::run_buffered;
+use transform_requests::TransformRequest;
 
 // A machine with store buffers and a good program for the request, and room for a vector.
-fn buffered_engine(alloc: Global, request: &Request) -> Result<(BufMachine, Vec<u64>), Status>
-    requires in_range { IsInRange request.now }
+fn buffered_engine(alloc: Global, request: &TransformRequest) -> Result<(BufMachine, Vec<u64>), Status>
+    requires in_range { IsRequestInRange request.now }
     ensures affordable { OnOk result (IsAffordable request.now) }
     ensures machine { IfOk result (λ made. IsGoodCode request.now made.0.code) }
     ensures room { IfOk result (λ made. vec_len made.1 ≡ made.0.code.size) }
@@ -35,7 +36,7 @@ fn buffered_engine(alloc: Global, request: &Request) -> Result<(BufMachine, Vec<
     ensures refusal { IfErr result IsRefusal }
 {
     let product = good_product(alloc, request)?;
-    let vector = vec![in alloc; 0; request.size as usize]?;
+    let vector = vec![in alloc; 0; request.size() as usize]?;
     let machine = BufMachine::new(alloc, &product.program)?;
     Ok((machine, vector))
 }
@@ -43,9 +44,9 @@ fn buffered_engine(alloc: Global, request: &Request) -> Result<(BufMachine, Vec<
 // The listing of a good program for the request, a machine with store buffers and the program, and room for a vector.
 fn traced_buffered_engine(
     alloc: Global,
-    request: &Request,
+    request: &TransformRequest,
 ) -> Result<(Vec<u8>, BufMachine, Vec<u64>), Status>
-    requires in_range { IsInRange request.now }
+    requires in_range { IsRequestInRange request.now }
     ensures program { IfOk result (λ made. (program : SpecProgram) × IsProgramFor request.now program
         × (made.0.items ≡ listing_of (plain_program program)) × (made.1.code ≡ code_of program)) }
     ensures room { IfOk result (λ made. vec_len made.2 ≡ made.1.code.size) }
@@ -55,7 +56,7 @@ fn traced_buffered_engine(
 {
     let product = good_product(alloc, request)?;
     let text = print_listing(alloc, &product.program)?;
-    let vector = vec![in alloc; 0; request.size as usize]?;
+    let vector = vec![in alloc; 0; request.size() as usize]?;
     let machine = BufMachine::new(alloc, &product.program)?;
     Ok((text, machine, vector))
 }
@@ -63,14 +64,14 @@ fn traced_buffered_engine(
 /// Runs the machine with store buffers.
 pub(crate) fn run_events<I: Source, O: Sink>(
     alloc: Global,
-    request: &Request,
+    request: &TransformRequest,
     events: Events,
     feed: &mut Feed,
     input: &mut I,
     output: &mut O,
 ) -> Result<(), Status>
-    requires in_range { IsInRange request.now }
-    requires turns { HasNoStranger events request.now.procs }
+    requires in_range { IsRequestInRange request.now }
+    requires turns { HasNoStranger events (procs_of request.now) }
     requires within { feed.old.taken ≤ limit }
     ensures told { ToldPerforms (Command.Run (order_of events.entry)) request.now (limit - feed.old.taken) (to_come feed.old (I.left input.old))
         (to_come feed.new (I.left input.new)) (O.taken output.old) (O.taken output.new) (status_of result) }
@@ -97,14 +98,14 @@ pub(crate) fn run_events<I: Source, O: Sink>(
 /// Traces the machine with store buffers.
 pub(crate) fn trace_events<I: Source, O: Sink>(
     alloc: Global,
-    request: &Request,
+    request: &TransformRequest,
     events: Events,
     feed: &mut Feed,
     input: &mut I,
     output: &mut O,
 ) -> Result<(), Status>
-    requires in_range { IsInRange request.now }
-    requires turns { HasNoStranger events request.now.procs }
+    requires in_range { IsRequestInRange request.now }
+    requires turns { HasNoStranger events (procs_of request.now) }
     requires within { feed.old.taken ≤ limit }
     ensures told { ToldPerforms (Command.Trace (order_of events.entry)) request.now (limit - feed.old.taken) (to_come feed.old (I.left input.old))
         (to_come feed.new (I.left input.new)) (O.taken output.old) (O.taken output.new) (status_of result) }

@@ -2,7 +2,8 @@
 ghost use Rattle.std.specs.Prelude.{◌≡◌, ◌≢◌, ◌-◌, ◌≤◌, ℕ, List, [], IfSome, IfNone, MatchOption, Ok, map, string_bytes, true, false};
 ghost use Rattle.std.specs.declared.option.Option.{Option};
 ghost use Rattle.std.specs.Io.KnownBytes.{Appends, IsAtEnd};
-ghost use Rattle.matrix_meaning.specs.Valid.{IsInRange};
+ghost use Rattle.transform_requests.specs.Fields.{procs_of};
+ghost use Rattle.transform_requests.specs.Range.{IsRequestInRange};
 ghost use Rattle.io_edge.specs.Faults.{Reports};
 ghost use Rattle.io_edge.specs.Feed.{to_come, limit};
 ghost use Rattle.spiral_main.specs.Commands.{reads_rest, takes_convolution, takes_formula, takes_listing, takes_request, has_text, AskForRest, AskForCommand, AreJudged, NamesNoStranger};
@@ -20,21 +21,21 @@ use crate::data::{run, trace};
 use crate::exec::exec;
 use crate::texts::text_of;
 use io_edge::{Feed, Sink, Source, write_all};
-use matrix_meaning::Request;
 use request_text::Schedule;
 use spiral_status::write_note;
 use spiral_words::Command;
 use std::alloc::Global;
+use transform_requests::TransformRequest;
 
 // Writes the text of a command that needs no data.
 fn write_text<O: Sink>(
     alloc: Global,
     command: &Command,
-    request: &Request,
+    request: &TransformRequest,
     output: &mut O,
 ) -> Result<(), Status>
-    requires in_range { IsInRange request.now }
-    requires turns { NamesNoStranger command.now request.now.procs }
+    requires in_range { IsRequestInRange request.now }
+    requires turns { NamesNoStranger command.now (procs_of request.now) }
     requires textual { has_text command.now ≡ true }
     ensures told { (room : ℕ) (bytes : List ℕ) (left : Option (List ℕ)) → Performs command.now request.now room bytes left
         (O.taken output.old) (O.taken output.new) (status_of result) }
@@ -52,13 +53,13 @@ fn write_text<O: Sink>(
 fn perform<I: Source, O: Sink>(
     alloc: Global,
     command: &Command,
-    request: &Request,
+    request: &TransformRequest,
     feed: &mut Feed,
     input: &mut I,
     output: &mut O,
 ) -> Result<(), Status>
-    requires in_range { IsInRange request.now }
-    requires turns { NamesNoStranger command.now request.now.procs }
+    requires in_range { IsRequestInRange request.now }
+    requires turns { NamesNoStranger command.now (procs_of request.now) }
     requires line { feed.old.taken ≤ 257 }
     requires request { takes_request command.now ≡ true }
     ensures told { ToldPerforms command.now request.now (limit - feed.old.taken) (to_come feed.old (I.left input.old))

@@ -1,7 +1,8 @@
 // One vector of the generator: the sum of its transform, and what a run on it counts.
 ghost use Rattle.std.specs.Prelude.{◌≡◌, ◌++◌, ◌<◌, ◌≤◌, ◌^◌, length, Ok, Err, IfOk, IfErr, OnOk};
 ghost use Rattle.operators.specs.Sum.{sum_below};
-ghost use Rattle.matrix_meaning.specs.Valid.{IsInRange};
+ghost use Rattle.transform_requests.specs.Fields.{procs_of, weight_of};
+ghost use Rattle.transform_requests.specs.Range.{IsRequestInRange};
 ghost use Rattle.icode.specs.Machine.{counts_so_far, weighted};
 ghost use Rattle.spiral_main.specs.Outcome.{IsRefused, IsAffordable, IsSampleText};
 ghost use Rattle.spiral_main.specs.Sample.{sample_vector, weighted_sum, sample_text, AreCountable};
@@ -13,13 +14,13 @@ use crate::Status;
 use crate::texts::engine;
 use icode::action::Counts;
 use listing_text::put;
-use matrix_meaning::Request;
 use memory::NoMemory;
 use par_machine::Machine;
 use request_text::{Schedule, next_state};
 use ring_mod::Modulus;
 use std::alloc::Global;
 use stream_run::transform;
+use transform_requests::TransformRequest;
 
 // Puts the vector of the seed into the slice.
 fn fill(vector: &mut [u64], modulus: Modulus, seed: u64)
@@ -81,6 +82,16 @@ fn weighted(counts: &Counts, weight: u64) -> u64
     counts.operations + (weight - 1) * counts.muls
 }
 
+// As how many operations a multiplication counts.
+fn weight_of(request: &TransformRequest) -> u64
+    ensures { result ≡ weight_of request.now }
+{
+    match request {
+        TransformRequest::One(request) => request.weight,
+        TransformRequest::Several(request) => request.weight,
+    }
+}
+
 fn sample_text(
     alloc: Global,
     sum: u64,
@@ -101,12 +112,12 @@ fn sample_text(
 /// The sum of the transform of the seed's vector, run under the schedule, and what the run counts.
 pub(crate) fn sample(
     alloc: Global,
-    request: &Request,
+    request: &TransformRequest,
     seed: u64,
     schedule: &Schedule,
 ) -> Result<Vec<u8>, Status>
-    requires in_range { IsInRange request.now }
-    requires turns { HasNoStranger schedule.now request.now.procs }
+    requires in_range { IsRequestInRange request.now }
+    requires turns { HasNoStranger schedule.now (procs_of request.now) }
     ensures affordable { OnOk result (IsAffordable request.now) }
     ensures text { IfOk result (λ text. IsSampleText request.now seed text.items) }
     ensures refused { IfErr result (λ status. IsDefined status → IsRefused request.now status) }
@@ -118,7 +129,7 @@ pub(crate) fn sample(
     transform(&mut machine, schedule, &mut vector);
     let sum = weighted_sum(modulus, &vector);
     let counts = all_counts(&machine);
-    let operations = weighted(&counts, request.weight);
+    let operations = weighted(&counts, weight_of(request));
     let text = sample_text(alloc, sum, operations, &counts)?;
     Ok(text)
 }
