@@ -1,0 +1,5 @@
+pub mod Apart
+pub mod Union
+pub mod Line
+pub mod InRange
+pub mod Once
