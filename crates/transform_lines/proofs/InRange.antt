@@ -1,8 +1,8 @@
 -- What the tests of a request say.
-use Rattle.std.proofs.Common.{◌≡◌, ℕ, suc, ◌+◌, ◌*◌, ◌-◌, ◌^◌, ◌<◌, ◌≤◌, ◌%◌, ◌==◌, ◌&&◌, Bool, true, false, cond, eqb, ltb, leb, nat_le, nat_lt, List, [], ◌∷◌, length, Result, Ok, Err, refl, sym, ap, subst, ◌∙◌, arith}
+use Rattle.std.proofs.Common.{◌≡◌, ℕ, suc, ◌*◌, ◌-◌, ◌^◌, ◌<◌, ◌≤◌, ◌%◌, ◌&&◌, Bool, true, false, cond, eqb, ltb, leb, List, [], ◌∷◌, length, Result, Ok, Err, refl, sym, ap, subst, ◌∙◌, arith}
 use Rattle.std.specs.Prelude.{All}
-use Rattle.std.specs.Int.{is_power_of_two, IsGcd}
-use Rattle.std.proofs.lemmas.Bool.{leb-true, ltb-true, le-leb, lt-ltb, eqb-true, and_parts, and_from}
+use Rattle.std.specs.Int.{IsGcd}
+use Rattle.std.proofs.lemmas.Bool.{leb-true, leb-false, ltb-true, le-leb, lt-ltb, eqb-true, and_parts, and_from}
 use Rattle.std.proofs.lemmas.List.Elements.{All-nil, All-cons}
 use Rattle.std.proofs.lemmas.Nat.{mul-le}
 use Rattle.std.proofs.lemmas.Nat.Gcd.{same_from_IsGcd}
@@ -21,7 +21,7 @@ use Rattle.operators.specs.Sizes.{max_size}
 use Rattle.request_text.specs.declared.fault.Field.{Field}
 use Rattle.request_text.specs.declared.fault.Field.TheVariants.{Size, Mod, Root, Procs, Line, Lanes, Unroll, Budget, Weight}
 use Rattle.request_text.specs.declared.fault.RequestFault.{RequestFault}
-use Rattle.request_text.specs.declared.fault.RequestFault.TheVariants.{Syntax, Range, Shape, LanesLine, NotUnit}
+use Rattle.request_text.specs.declared.fault.RequestFault.TheVariants.{Range, Shape, LanesLine}
 use Rattle.request_text.specs.Limits.{◌>>◌, within, below, shaped, divided, unshared, invertible, limited, judged}
 use Rattle.request_text.proofs.Limits.{guard, passed, passes}
 use Rattle.transform_lines.specs.Limits.{products_within, roots_below, several_limited, sizes_within}
@@ -55,12 +55,7 @@ divided_ok procs line lanes h = cases (leb procs 1) refl
   where
     cases : (k : Bool) → leb procs 1 ≡ k → cond k passed (cond (eqb (line % lanes) 0) passed (Err (LanesLine lanes line))) ≡ passed
     cases true e = refl
-    cases false e =
-        let more : 1 < procs = more_than_one (leb procs 1) refl e in
-        ap (λ n. cond (eqb n 0) passed (Err (LanesLine lanes line))) (h more)
-      where
-        more_than_one : (k : Bool) → leb procs 1 ≡ k → leb procs 1 ≡ false → 1 < procs
-        more_than_one k e f = grind (arith)
+    cases false e = ap (λ n. cond (eqb n 0) passed (Err (LanesLine lanes line))) (h (leb-false procs 1 e))
 
 shaped_ok : (kind : Kind) (size : ℕ) → HasShape kind size → shaped kind size ≡ passed
 shaped_ok Dft size h = refl

@@ -3,3 +3,4 @@ pub mod Union
 pub mod Line
 pub mod InRange
 pub mod Once
+pub mod Answered

@@ -1,5 +1,6 @@
 -- The reader of the line of several dimensions reads by its grammar.
-use Rattle.std.proofs.Common.{◌≡◌, ℕ, ◌≤◌, ◌⊎◌, List, [], ◌∷◌, length, refl, sym, ap, subst, ◌∙◌, codes, Result, arith, inl, inr}
+use Rattle.std.proofs.Common.{max, ◌≡◌, ℕ, ◌≤◌, ◌⊎◌, List, length, refl, sym, ap, subst, codes, Result, arith, inl, inr}
+use Rattle.std.proofs.lemmas.Bool.{cases_lt}
 use Rattle.dimension_plans.specs.declared.SeveralRequest.{SeveralRequest}
 use Rattle.dimensions.specs.declared.Dimensions.{Dimensions}
 use Rattle.dimensions.specs.Transform.{listed}
@@ -14,9 +15,9 @@ use Rattle.grammar.proofs.OptionalParts.{BehindParts, parts_reader, parts_no_dig
 use Rattle.request_text.specs.Line.{above_all, optional_parts, request_line}
 use Rattle.request_text.proofs.Line.{line_judges, pos, small}
 use Rattle.transform_lines.specs.Line.{line_of, several_line, transform_line, two_numbers, three_numbers, four_numbers, two_rooted, three_rooted, four_rooted}
-use Rattle.transform_lines.specs.Reading.{line_at, several_at, several_in, next_number_at, two_numbers_at, three_numbers_at, four_numbers_at}
+use Rattle.transform_lines.specs.Reading.{line_at, several_at, several_in, two_numbers_at, three_numbers_at, four_numbers_at}
 use Rattle.transform_lines.proofs.Apart.{HasXs, apart, line_xs, one_xs, two_xs, three_xs, four_xs}
-use Rattle.transform_lines.proofs.Union.{IsUnion, either_judges, judged_once}
+use Rattle.transform_lines.proofs.Union.{IsUnion, either_judges, judged_once, stuck_in_both}
 use Rattle.transform_requests.specs.declared.TransformRequest.{TransformRequest}
 use Rattle.transform_requests.specs.declared.TransformRequest.TheVariants.{One, Several}
 
@@ -118,6 +119,12 @@ of_either_kind = record {
     kind : (u : List ℕ) (r : TransformRequest) → transform_line u r → ((a : Request) × request_line u a) ⊎ ((b : SeveralRequest) × several_line u b)
     kind u (One r) l = inl (r, l)
     kind u (Several r) l = inr (r, l)
+
+-- a text is stuck where the better of the two kinds is
+pub stuck_in_either : (text : List ℕ) (p q m : ℕ) → m ≡ max p q → IsStuck request_line text p → IsStuck several_line text q → IsStuck transform_line text m
+stuck_in_either text p q m is =
+    stuck_in_both request_line several_line transform_line of_either_kind text p q m (omega (arith, is)) (omega (arith, is))
+    (elim (cases_lt p q) [ inl less ↦ inr (omega (arith, is, less)) | inr more ↦ inl (omega (arith, is, more)) ])
 
 pub request_once : (text : List ℕ) (r s : Request) → request_line text r → request_line text s → r ≡ s
 request_once text r s p q = judged_once request_line text _ r s (line_judges text _ refl) p q

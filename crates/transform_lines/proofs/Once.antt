@@ -1,13 +1,11 @@
 -- What is answered for a line is one.
-use Rattle.std.proofs.Common.{◌≡◌, ℕ, ◌⊎◌, List, Result, Ok, Err, refl, sym, ap, subst, ◌∙◌, inl, inr}
+use Rattle.std.proofs.Common.{◌≡◌, ℕ, List, Result, Ok, Err, refl, sym, ap, subst, ◌∙◌}
 use Rattle.std.proofs.lemmas.Nat.Gcd.{same_from_IsGcd}
 use Rattle.grammar.specs.Grammar.{IsStuck}
-use Rattle.matrix_meaning.specs.declared.Request.{Request}
 use Rattle.request_text.specs.declared.fault.RequestFault.{RequestFault}
 use Rattle.request_text.specs.declared.fault.RequestFault.TheVariants.{Syntax, Range, Shape, LanesLine, NotUnit}
 use Rattle.request_text.specs.Limits.{◌>>◌, judged}
 use Rattle.transform_lines.specs.Answer.{IsAnswerTo, IsTransformFaultOf, TransformAnswers}
-use Rattle.transform_lines.specs.Limits.{several_limited}
 use Rattle.transform_lines.specs.Line.{transform_line}
 use Rattle.transform_lines.proofs.InRange.{judged_ok, several_limited_ok}
 use Rattle.transform_lines.proofs.Line.{spelt_once}

@@ -1,7 +1,7 @@
 -- Where reading a text by two grammars comes to.
-use Rattle.std.proofs.Common.{min, ◌≡◌, ℕ, ◌-◌, ◌≤◌, ◌⊎◌, List, length, take, Result, Ok, Err, refl, sym, subst, ◌∙◌, arith, inl, inr}
+use Rattle.std.proofs.Common.{min, ◌≡◌, ℕ, ◌-◌, ◌≤◌, ◌⊎◌, List, length, take, Result, Ok, Err, sym, subst, ◌∙◌, arith, inl, inr}
 use Rattle.std.proofs.lemmas.Bool.{cases_lt}
-use Rattle.grammar.specs.Grammar.{◌<|>◌, Begins, IsLongestFront, IsStuck, Judges}
+use Rattle.grammar.specs.Grammar.{◌<|>◌, Begins, IsStuck, Judges}
 use Rattle.transform_lines.specs.Reading.{either}
 
 -- what the grammar says is what one of the two says
@@ -37,6 +37,7 @@ stuck_in_both {S} {A} {B} {C} L1 L2 L both text p q m above below which s t = re
     within : (m ≡ p) ⊎ (m ≡ q) → m ≤ length text
     within (inl e) = omega (arith, e, s.place.within)
     within (inr e) = omega (arith, e, t.place.within)
+
     begins : (m ≡ p) ⊎ (m ≡ q) → Begins L (take m text)
     begins (inl e) = subst (λ n. Begins L (take n text)) (sym e) (begins_by L1 L both.first (take p text) s.place.begins)
     begins (inr e) = subst (λ n. Begins L (take n text)) (sym e) (begins_by L2 L both.second (take q text) t.place.begins)
@@ -62,7 +63,7 @@ either_judges L1 L2 text apart (Err left) (Ok b) p q = (
 either_judges L1 L2 text apart (Err m) (Err n) p q = (
   omega (arith, p.0, q.0),
   stuck_in_both L1 L2 (L1 <|> L2) (one_of_two L1 L2) text (length text - m) (length text - n) (length text - min m n) (omega arith) (omega arith)
-  (elim (cases_lt m n) [ inl less ↦ inl (omega (arith, less)) | inr more ↦ inr (omega (arith, more)) ]) p.1 q.1,
+      (elim (cases_lt m n) [ inl less ↦ inl (omega (arith, less)) | inr more ↦ inr (omega (arith, more)) ]) p.1 q.1,
 )
 
 -- a text spells one value
