@@ -5,7 +5,7 @@ ghost use Rattle.grammar.specs.Grammar.{IsStuck};
 ghost use Rattle.grammar.specs.Reading.{whole};
 ghost use Rattle.request_text.specs.Line.{request_line};
 ghost use Rattle.transform_lines.specs.Answer.{IsAnswerTo, TransformAnswers};
-ghost use Rattle.transform_lines.specs.Line.{four_rooted, three_rooted, transform_line, two_rooted};
+ghost use Rattle.transform_lines.specs.Line.{four_rooted, rooted, three_rooted, transform_line, two_rooted};
 ghost use Rattle.dimension_plans.specs.declared.SeveralRequest.{SeveralRequest};
 ghost use Rattle.transform_lines.specs.Reading.{either, four_numbers_at, line_at, next_number_at, several_at, several_in, three_numbers_at, two_numbers_at};
 ghost use Rattle.transform_requests.specs.declared.TransformRequest.{TransformRequest};
@@ -55,7 +55,7 @@ fn four_numbers(cursor: &mut Cursor) -> Result<(u64, u64, u64, u64), Stuck>
 }
 
 fn rooted(size: u64, root: u64) -> Dimension
-    ensures { result ≡ record { size = size; root = root } }
+    ensures { result ≡ rooted size root }
 {
     Dimension { size, root }
 }
