@@ -59,16 +59,16 @@ several_of dimensions modulus options = record {
   weight = slice_index options 5;
 }
 
--- a line whose sizes are such numbers, and its roots as many
+-- a line whose sizes are such numbers, and so are its roots, as many; together they are these dimensions
 abbrev pub line_of : {N : Type 0} → (List ℕ → N → Type 0) → (N → N → Dimensions) → List ℕ → SeveralRequest → Type 0
-line_of numbers rooted = do
+line_of numbers dimensions = do
   word (codes "dft ")
   sizes ← numbers
   modulus ← named_number (codes " mod ") above_all
   word (codes " root ")
   roots ← numbers
   options ← parts above_all optional_parts
-  pure (several_of (rooted sizes roots) modulus options)
+  pure (several_of (dimensions sizes roots) modulus options)
 
 -- the line of a request of two to four dimensions, without its end
 abbrev pub several_line : List ℕ → SeveralRequest → Type 0

@@ -37,13 +37,13 @@ several_at dimensions modulus = do
   pure_at (several_of dimensions modulus options)
 
 unfoldable pub line_at : {N : Type 0} → (Place ℕ → Result (N × Place ℕ) ℕ) → (N → N → Dimensions) → Place ℕ → Result (SeveralRequest × Place ℕ) ℕ
-line_at numbers_at rooted = do
+line_at numbers_at dimensions = do
   word_at (codes "dft ")
   sizes ← numbers_at
   modulus ← named_number_at (codes " mod ") above_all
   word_at (codes " root ")
   roots ← numbers_at
-  several_at (rooted sizes roots) modulus
+  several_at (dimensions sizes roots) modulus
 
 -- the first that reads the whole text, or the place that the better of the two came to
 abbrev pub either : {A : Type 0} → Result A ℕ → Result A ℕ → Result A ℕ

@@ -5,10 +5,11 @@ ghost use Rattle.grammar.specs.Grammar.{IsStuck};
 ghost use Rattle.grammar.specs.Reading.{whole};
 ghost use Rattle.request_text.specs.Line.{request_line};
 ghost use Rattle.transform_lines.specs.Answer.{IsAnswerTo, TransformAnswers};
-ghost use Rattle.transform_lines.specs.Line.{four_rooted, three_rooted, transform_line, two_rooted};
+ghost use Rattle.transform_lines.specs.Line.{four_rooted, rooted, three_rooted, transform_line, two_rooted};
 ghost use Rattle.dimension_plans.specs.declared.SeveralRequest.{SeveralRequest};
 ghost use Rattle.transform_lines.specs.Reading.{either, four_numbers_at, line_at, next_number_at, several_at, several_in, three_numbers_at, two_numbers_at};
 ghost use Rattle.transform_requests.specs.declared.TransformRequest.{TransformRequest};
+ghost use Rattle.transform_requests.specs.declared.TransformRequest.TheVariants.{Several};
 
 use crate::limits::limited;
 use dimension_plans::SeveralRequest;
@@ -54,7 +55,7 @@ fn four_numbers(cursor: &mut Cursor) -> Result<(u64, u64, u64, u64), Stuck>
 }
 
 fn rooted(size: u64, root: u64) -> Dimension
-    ensures { result ≡ record { size = size; root = root } }
+    ensures { result ≡ rooted size root }
 {
     Dimension { size, root }
 }
@@ -147,6 +148,14 @@ fn whole_several(text: &[u8]) -> Result<SeveralRequest, Stuck>
     either(two_of(text), either(three_of(text), four_of(text)))
 }
 
+/// The request, or its first fault.
+fn judged(request: SeveralRequest) -> Result<TransformRequest, RequestFault>
+    ensures { IsAnswerTo (Several request) result }
+{
+    limited(request)?;
+    Ok(TransformRequest::Several(request))
+}
+
 /// The answer for a line that spells no request of one size, of which spellings of these go on up to `at`.
 pub(crate) fn several_behind(text: &[u8], at: u64) -> Result<TransformRequest, RequestFault>
     requires { IsStuck request_line text.now at }
@@ -154,7 +163,7 @@ pub(crate) fn several_behind(text: &[u8], at: u64) -> Result<TransformRequest, R
     ensures only { (r : TransformRequest) → transform_line text.now r → IsAnswerTo r result }
 {
     match whole_several(text) {
-        Ok(request) => Ok(TransformRequest::Several(limited(request)?)),
+        Ok(request) => judged(request),
         Err(stuck) => Err(RequestFault::Syntax {
             at: at.max((text.len() - stuck.left) as u64),
         }),
