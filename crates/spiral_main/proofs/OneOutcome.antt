@@ -9,7 +9,7 @@ use Rattle.spiral_words.specs.declared.Command.{Command}
 use Rattle.spiral_words.specs.declared.Command.TheVariants as command
 use Rattle.spiral_words.proofs.Usage.{usage_nothing}
 use Rattle.transform_certs.proofs.OneVerdict.{one_verdict}
-use Rattle.transform_lines.proofs.OneAnswer.{one_answer}
+use Rattle.transform_lines.proofs.Once.{one_answer}
 use Rattle.spiral_status.specs.declared.status.Status.{Status}
 use Rattle.spiral_main.specs.Checked.{IsChecked, status_of_verdict}
 use Rattle.spiral_main.specs.Commands.{reads_certificate, takes_formula, takes_request, takes_convolution, commanded, scheduled, AskForFormula, AskForConvolution}
