@@ -1,1 +1,5 @@
 pub mod Rooted
+pub mod Costs
+pub mod Parts
+pub mod Goodness
+pub mod Chain

@@ -4,6 +4,7 @@
 
 mod admit;
 mod plan;
+mod program;
 mod roots;
 
 ghost use Rattle.std.specs.Prelude.{◌≡◌, ◌≢◌, Ok, Err, IfOk, IfErr, OnOk};
@@ -20,6 +21,7 @@ use generate::admit;
 use icode::program::Program;
 use plan::{plan_dimensions, plan_one};
 use plan_faults::GenerateFault;
+use program::{generate_dimensions, generate_one};
 use std::alloc::Global;
 use transform_requests::TransformRequest;
 use tree_model::Tree;
@@ -86,7 +88,8 @@ pub fn generate_request(
     ensures refused { IfErr result (λ cause.
         cause ≢ fault.NoMemory → IsPlanned request.now (Err cause)) }
 {
-    let _size = request.size();
-    let _numbers: Vec<u64> = Vec::new(alloc);
-    Err(GenerateFault::NoMemory)
+    match request {
+        TransformRequest::One(request) => generate_one(alloc, request),
+        TransformRequest::Several(request) => generate_dimensions(alloc, request),
+    }
 }
