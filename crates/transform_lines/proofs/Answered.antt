@@ -1,5 +1,5 @@
 -- From the answers for the two kinds of request to that for a line.
-use Rattle.std.proofs.Common.{◌≡◌, ℕ, ◌*◌, ◌-◌, ◌^◌, ◌%◌, Bool, true, false, cond, eqb, leb, List, [], ◌∷◌, Result, Ok, Err, refl, sym, ap, subst}
+use Rattle.std.proofs.Common.{◌≡◌, ℕ, ◌*◌, ◌-◌, ◌^◌, List, [], ◌∷◌, Result, Ok, Err, refl, sym, ap, subst}
 use Rattle.dimension_plans.specs.declared.SeveralRequest.{SeveralRequest}
 use Rattle.dimensions.specs.declared.Dimension.{Dimension}
 use Rattle.dimensions.specs.Transform.{listed}
@@ -11,7 +11,7 @@ use Rattle.request_text.specs.declared.fault.RequestFault.TheVariants.{Syntax, R
 use Rattle.request_text.specs.Answer.{Answers, IsFaultOf}
 use Rattle.request_text.specs.Limits.{◌>>◌, below, divided, within, IsJudged}
 use Rattle.request_text.specs.Line.{request_line}
-use Rattle.request_text.proofs.Limits.{Only, guard_only, passed, then_only}
+use Rattle.request_text.proofs.Limits.{IsTested, Only, divided_test, guard_only, then_only}
 use Rattle.transform_lines.specs.Answer.{IsAnswerTo, IsTransformFaultOf, TransformAnswers}
 use Rattle.transform_lines.specs.Limits.{products_within, roots_below, several_limited, sizes_within}
 use Rattle.transform_lines.specs.Line.{several_line, transform_line}
@@ -19,14 +19,6 @@ use Rattle.transform_lines.proofs.InRange.{limited_in_range}
 use Rattle.transform_lines.proofs.Line.{one_or_several, request_once, several_are, several_once}
 use Rattle.transform_requests.specs.declared.TransformRequest.{TransformRequest}
 use Rattle.transform_requests.specs.declared.TransformRequest.TheVariants.{One, Several}
-
--- a fault of a request that a line spells
-abbrev pub IsTested : RequestFault → Type 0
-IsTested (Syntax at) = ⊥
-IsTested (Range field value) = Unit {0}
-IsTested (Shape size) = Unit {0}
-IsTested (LanesLine lanes line) = Unit {0}
-IsTested (NotUnit gcd) = Unit {0}
 
 -- ---- several dimensions
 
@@ -41,13 +33,6 @@ products_test before (d ∷ ds) = then_only IsTested (within Size (before * d.si
 roots_test : (m : ℕ) (ds : List Dimension) → Only IsTested (roots_below m ds)
 roots_test m [] = tt
 roots_test m (d ∷ ds) = then_only IsTested (below Root d.root m) _ (guard_only IsTested _ _ tt) (roots_test m ds)
-
-divided_test : (procs line lanes : ℕ) → Only IsTested (divided procs line lanes)
-divided_test procs line lanes = cases (leb procs 1)
-  where
-    cases : (k : Bool) → Only IsTested (cond k passed (cond (eqb (line % lanes) 0) passed (Err (LanesLine lanes line))))
-    cases true = tt
-    cases false = guard_only IsTested (eqb (line % lanes) 0) (LanesLine lanes line) tt
 
 several_test : (r : SeveralRequest) → Only IsTested (several_limited r)
 unfolding several_limited

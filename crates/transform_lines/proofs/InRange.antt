@@ -1,8 +1,8 @@
 -- What the tests of a request say.
-use Rattle.std.proofs.Common.{◌≡◌, ℕ, suc, ◌*◌, ◌-◌, ◌^◌, ◌<◌, ◌≤◌, ◌%◌, ◌&&◌, Bool, true, false, cond, eqb, ltb, leb, List, [], ◌∷◌, length, Result, Ok, Err, refl, sym, ap, subst, ◌∙◌, arith}
+use Rattle.std.proofs.Common.{◌≡◌, ℕ, suc, ◌*◌, ◌-◌, ◌^◌, ◌<◌, ◌≤◌, ◌%◌, Bool, true, false, cond, eqb, leb, List, [], ◌∷◌, length, Result, Ok, Err, refl, sym, ap, subst, ◌∙◌, arith}
 use Rattle.std.specs.Prelude.{All}
 use Rattle.std.specs.Int.{IsGcd}
-use Rattle.std.proofs.lemmas.Bool.{leb-true, leb-false, ltb-true, le-leb, lt-ltb, eqb-true, and_parts, and_from}
+use Rattle.std.proofs.lemmas.Bool.{leb-false, le-leb, lt-ltb, and_from}
 use Rattle.std.proofs.lemmas.List.Elements.{All-nil, All-cons}
 use Rattle.std.proofs.lemmas.Nat.{mul-le}
 use Rattle.std.proofs.lemmas.Nat.Gcd.{same_from_IsGcd}
@@ -23,32 +23,17 @@ use Rattle.request_text.specs.declared.fault.Field.TheVariants.{Size, Mod, Root,
 use Rattle.request_text.specs.declared.fault.RequestFault.{RequestFault}
 use Rattle.request_text.specs.declared.fault.RequestFault.TheVariants.{Range, Shape, LanesLine}
 use Rattle.request_text.specs.Limits.{◌>>◌, within, below, shaped, divided, unshared, invertible, limited, judged}
-use Rattle.request_text.proofs.Limits.{guard, passed, passes}
+use Rattle.request_text.proofs.Limits.{below_is, divided_is, passed, passes, within_is}
 use Rattle.transform_lines.specs.Limits.{products_within, roots_below, several_limited, sizes_within}
 use Rattle.transform_requests.specs.Range.{AreInRange}
 
 -- ---- one test
 
-within_is : (field : Field) (v low high : ℕ) → within field v low high ≡ passed → IsBetween low high v
-within_is field v low high e =
-    let both = and_parts (leb low v) (leb v high) (guard (leb low v && leb v high) (Range field v) e) in
-    (leb-true low v both.0, leb-true v high both.1)
-
 within_ok : (field : Field) (v low high : ℕ) → IsBetween low high v → within field v low high ≡ passed
 within_ok field v low high h = ap (λ b. cond b passed (Err (Range field v))) (and_from (leb low v) (leb v high) (le-leb low v h.0) (le-leb v high h.1))
 
-below_is : (field : Field) (v limit : ℕ) → below field v limit ≡ passed → v < limit
-below_is field v limit e = ltb-true v limit (guard (ltb v limit) (Range field v) e)
-
 below_ok : (field : Field) (v limit : ℕ) → v < limit → below field v limit ≡ passed
 below_ok field v limit h = ap (λ b. cond b passed (Err (Range field v))) (lt-ltb v limit h)
-
-divided_is : (procs line lanes : ℕ) → divided procs line lanes ≡ passed → 1 < procs → line % lanes ≡ 0
-divided_is procs line lanes e more = cases (leb procs 1) refl e
-  where
-    cases : (k : Bool) → leb procs 1 ≡ k → cond k passed (cond (eqb (line % lanes) 0) passed (Err (LanesLine lanes line))) ≡ passed → line % lanes ≡ 0
-    cases true h e = absurd (omega (arith, leb-true procs 1 h, more))
-    cases false h e = eqb-true (line % lanes) 0 (guard (eqb (line % lanes) 0) (LanesLine lanes line) e)
 
 divided_ok : (procs line lanes : ℕ) → (1 < procs → line % lanes ≡ 0) → divided procs line lanes ≡ passed
 divided_ok procs line lanes h = cases (leb procs 1) refl

@@ -1,46 +1,12 @@
 // The limits of a request of several dimensions.
 ghost use Rattle.std.specs.Prelude.{◌≡◌, ◌≤◌};
 ghost use Rattle.dimensions.specs.Transform.{listed};
-ghost use Rattle.request_text.specs.Limits.{below, divided, within};
 ghost use Rattle.transform_lines.specs.Limits.{products_within, roots_below, several_limited, sizes_within};
 
 use dimension_plans::SeveralRequest;
 use dimensions::Dimensions;
 use operators::MAX_SIZE;
-use request_text::{Field, RequestFault};
-
-/// The field's value is from `low` to `high`.
-fn within(field: Field, value: u64, low: u64, high: u64) -> Result<(), RequestFault>
-    ensures { result ≡ within field value low high }
-{
-    if low <= value && value <= high {
-        Ok(())
-    } else {
-        Err(RequestFault::Range { field, value })
-    }
-}
-
-fn below(field: Field, value: u64, limit: u64) -> Result<(), RequestFault>
-    ensures { result ≡ below field value limit }
-{
-    if value < limit {
-        Ok(())
-    } else {
-        Err(RequestFault::Range { field, value })
-    }
-}
-
-/// With several processors the lanes divide the line.
-fn divided(procs: u64, line: u64, lanes: u64) -> Result<(), RequestFault>
-    requires { 1 ≤ lanes }
-    ensures { result ≡ divided procs line lanes }
-{
-    if procs <= 1 || line % lanes == 0 {
-        Ok(())
-    } else {
-        Err(RequestFault::LanesLine { lanes, line })
-    }
-}
+use request_text::{Field, RequestFault, below, divided, within};
 
 /// Each size is within its limits.
 fn sizes_within(dimensions: &Dimensions) -> Result<(), RequestFault>

@@ -1,12 +1,12 @@
 // Reading the line of a request of several dimensions.
 ghost use Rattle.std.specs.Prelude.{◌≡◌, ℕ, Ok, Result};
+ghost use Rattle.dimension_plans.specs.declared.SeveralRequest.{SeveralRequest};
 ghost use Rattle.grammar.specs.Cursor.{Gives, GivesAll};
 ghost use Rattle.grammar.specs.Grammar.{IsStuck};
 ghost use Rattle.grammar.specs.Reading.{whole};
 ghost use Rattle.request_text.specs.Line.{request_line};
 ghost use Rattle.transform_lines.specs.Answer.{IsAnswerTo, TransformAnswers};
 ghost use Rattle.transform_lines.specs.Line.{four_rooted, rooted, three_rooted, transform_line, two_rooted};
-ghost use Rattle.dimension_plans.specs.declared.SeveralRequest.{SeveralRequest};
 ghost use Rattle.transform_lines.specs.Reading.{either, four_numbers_at, line_at, next_number_at, several_at, several_in, three_numbers_at, two_numbers_at};
 ghost use Rattle.transform_requests.specs.declared.TransformRequest.{TransformRequest};
 ghost use Rattle.transform_requests.specs.declared.TransformRequest.TheVariants.{Several};
@@ -15,7 +15,7 @@ use crate::limits::limited;
 use dimension_plans::SeveralRequest;
 use dimensions::{Dimension, Dimensions};
 use grammar::{Cursor, Stuck};
-use request_text::RequestFault;
+use request_text::{BUDGET, RequestFault, UNROLL, WEIGHT};
 use transform_requests::TransformRequest;
 
 fn next_number(cursor: &mut Cursor) -> Result<u64, Stuck>
@@ -71,9 +71,9 @@ fn several_of(cursor: &mut Cursor, dimensions: Dimensions, modulus: u64) -> Seve
         procs: cursor.optional_number(b" procs ", u64::MAX, 1),
         line: cursor.optional_number(b" line ", u64::MAX, 1),
         lanes: cursor.optional_number(b" lanes ", u64::MAX, 1),
-        unroll: cursor.optional_number(b" unroll ", u64::MAX, 8),
-        budget: cursor.optional_number(b" budget ", u64::MAX, 100_000_000),
-        weight: cursor.optional_number(b" weight ", u64::MAX, 1),
+        unroll: cursor.optional_number(b" unroll ", u64::MAX, UNROLL),
+        budget: cursor.optional_number(b" budget ", u64::MAX, BUDGET),
+        weight: cursor.optional_number(b" weight ", u64::MAX, WEIGHT),
     }
 }
 
