@@ -9,7 +9,7 @@ use Rattle.spiral_main.specs.Commands.{scheduled}
 use Rattle.spiral_main.specs.Line.{line_of, data_of, IsPartOfLine}
 use Rattle.spiral_main.specs.Stage.{Stage, given, ◌>>=◌}
 
--- the request for the command that the first line spells, of which each turn is of one of its processors, of which it has so many
+-- the request that the first line spells, if each turn that the command names is of one of its processors; procs says how many these are
 abbrev pub asked_by : {R : Type 0} → (R → ℕ) → (List ℕ → Stage R) → Command → List ℕ → Stage R
 asked_by procs spells command bytes = do
   line ← given (line_of bytes)

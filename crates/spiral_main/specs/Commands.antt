@@ -127,6 +127,6 @@ abbrev pub admitted : {A : Type 0} → Option ℕ → ℕ → A → Result A Sta
 admitted None procs value = Ok value
 admitted (Some q) procs value = Err (Turn q procs)
 
--- the request, if each turn and drain is of one of its processors, of which it has so many
+-- the request, which has so many processors, if each turn and drain is of one of them
 abbrev pub scheduled : {R : Type 0} → Command → ℕ → R → Result R Status
 scheduled command procs request = admitted (first_stranger (procs_named command) procs) procs request

@@ -61,7 +61,7 @@ IsRefused request status = (fault : GenerateFault) × IsPlanned request (Err fau
 abbrev pub IsShutOut : TransformRequest → Status → Type 0
 IsShutOut request status = (fault : GenerateFault) × IsBarred request fault × (status ≡ status_of_generate fault)
 
--- the roots are right, some tree fits, and the least cost is within the budget
+-- the roots are right, some trees fit, and the least cost is within the budget
 abbrev pub IsAffordable : TransformRequest → Type 0
 IsAffordable request = (trees : List Breakdown) × IsPlanned request (Ok trees)
 

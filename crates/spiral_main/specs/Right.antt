@@ -46,7 +46,7 @@ IsRightRest (command.Trace order) request room bytes = AreWholeVectors (requests
 IsRightRest command.Check request room bytes = IsRightCertificate request bytes
 IsRightRest _ request room bytes = Unit {0}
 
--- The words are a command line that goes by a request, the first line spells a valid request, each turn that they name is of one of its processors, some tree fits, and the least cost is within the budget, which `check` does not ask. What stands behind the line is right
+-- The words are a command line that goes by a request, the first line spells a valid request, each turn that they name is of one of its processors, some trees fit, and the least cost is within the budget, which `check` does not ask. What stands behind the line is right
 pub record IsRightRequest (words : List (List ℕ)) (bytes : List ℕ) : Type 0 where
   pub job : Job
   pub asks : ordered words bytes (Ok job)

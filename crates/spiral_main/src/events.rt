@@ -26,7 +26,10 @@ use stream_run::run_buffered;
 use transform_requests::TransformRequest;
 
 // A machine with store buffers and a good program for the request, and room for a vector.
-fn buffered_engine(alloc: Global, request: &TransformRequest) -> Result<(BufMachine, Vec<u64>), Status>
+fn buffered_engine(
+    alloc: Global,
+    request: &TransformRequest,
+) -> Result<(BufMachine, Vec<u64>), Status>
     requires in_range { IsRequestInRange request.now }
     ensures affordable { OnOk result (IsAffordable request.now) }
     ensures machine { IfOk result (λ made. IsGoodCode request.now made.0.code) }

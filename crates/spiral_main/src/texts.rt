@@ -27,7 +27,10 @@ use transform_code::{TransformProduct, generate_request};
 use transform_requests::TransformRequest;
 
 /// A good program for the request.
-pub(crate) fn good_product(alloc: Global, request: &TransformRequest) -> Result<TransformProduct, Status>
+pub(crate) fn good_product(
+    alloc: Global,
+    request: &TransformRequest,
+) -> Result<TransformProduct, Status>
     requires in_range { IsRequestInRange request.now }
     ensures planned { IfOk result (λ product. IsPlanned request.now (Ok (trees_of product.plan))) }
     ensures good { IfOk result (λ product. IsGood request.now (cost_of request.now (trees_of product.plan)) product.program) }
@@ -42,7 +45,10 @@ pub(crate) fn good_product(alloc: Global, request: &TransformRequest) -> Result<
 }
 
 /// A machine with a good program for the request, and room for a vector.
-pub(crate) fn engine(alloc: Global, request: &TransformRequest) -> Result<(Machine, Vec<u64>), Status>
+pub(crate) fn engine(
+    alloc: Global,
+    request: &TransformRequest,
+) -> Result<(Machine, Vec<u64>), Status>
     requires in_range { IsRequestInRange request.now }
     ensures affordable { OnOk result (IsAffordable request.now) }
     ensures machine { IfOk result (λ made. IsGoodCode request.now made.0.code) }
