@@ -1,14 +1,12 @@
 -- The certificates of requests: of several dimensions, a list of the certificates of the requests for each.
-use Rattle.std.specs.Prelude.{◌≡◌, ℕ, ◌++◌, List, [], ◌∷◌, Some, IsUtf8}
+use Rattle.std.specs.Prelude.{◌≡◌, ℕ, List, [], ◌∷◌}
 use Rattle.dimension_plans.specs.declared.SeveralRequest.{SeveralRequest}
 use Rattle.dimension_plans.specs.Several.{part_of}
 use Rattle.dimensions.specs.declared.Dimension.{Dimension}
 use Rattle.dimensions.specs.Transform.{listed}
 use Rattle.plan_cert.specs.declared.certificate.Row.{Row}
-use Rattle.plan_cert.specs.Table.{table_data, IsTable, IsTableText}
+use Rattle.plan_cert.specs.Table.{table_data, IsLineOf, IsTable, IsTableText}
 use Rattle.serde_json.specs.Data.{Data, array, Items, no_items, item}
-use Rattle.serde_json.specs.Read.{read}
-use Rattle.serde_json.specs.Written.{compact_text}
 use Rattle.transform_requests.specs.declared.TransformRequest.{TransformRequest}
 use Rattle.transform_requests.specs.declared.TransformRequest.TheVariants.{One, Several}
 
@@ -31,9 +29,12 @@ several_data r tables = array (tables_data r (listed r.dimensions) tables)
 -- the list's text, one line
 pub record AreTablesText (r : SeveralRequest) (text : List ℕ) (tables : List (List Row)) : Type 0 where
   pub tables : AreTables r (listed r.dimensions) tables
-  pub spelled : text ≡ compact_text (several_data r tables) ++ 10 ∷ []
-  pub utf8 : IsUtf8 text
-  pub reads : read text ≡ Some (several_data r tables)
+  pub line : IsLineOf (several_data r tables) text
+
+-- the members are the certificates for these dimensions
+pub record AreCertificates (r : SeveralRequest) (ds : List Dimension) (xs : Items) (tables : List (List Row)) : Type 0 where
+  pub tables : AreTables r ds tables
+  pub members : xs ≡ tables_data r ds tables
 
 -- the text is the certificate of the request
 abbrev pub IsCertificateText : TransformRequest → List ℕ → Type 0

@@ -1,3 +1,4 @@
 pub mod Certified
 pub mod Judged
+pub mod Laws
 pub mod Least

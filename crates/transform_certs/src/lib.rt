@@ -4,11 +4,18 @@
 mod checking;
 mod writing;
 
-ghost use Rattle.std.specs.Prelude.{◌≡◌, ℕ, List};
-ghost use Rattle.plan_cert.specs.declared.verdict.Verdict.{Verdict};
-ghost use Rattle.transform_certs.specs.Judged.{IsVerdict};
-ghost use Rattle.transform_requests.specs.declared.TransformRequest.{TransformRequest};
+ghost use Rattle.transform_certs.specs.Laws.{CertificatesAreRight, VerdictsAreOne};
 
 pub use checking::check_certificate;
 pub use plan_cert::Verdict;
 pub use writing::certify;
+
+/// A text has one verdict.
+pub fn verdicts_are_one()
+    ensures { VerdictsAreOne }
+{}
+
+/// The verdict on a request's own certificate is the request's least cost.
+pub fn certificates_are_right()
+    ensures { CertificatesAreRight }
+{}
