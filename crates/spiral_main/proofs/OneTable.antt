@@ -112,9 +112,9 @@ tables_once r (d ∷ ds) (x ∷ xs) (y ∷ ys) p q =
 
 several_tables_once : (r : SeveralRequest) (s t : List ℕ) → IsCertificateText (Several r) s → IsCertificateText (Several r) t → s ≡ t
 several_tables_once r s t p q =
-    let same : p.0 ≡ q.0 = tables_once r (listed r.dimensions) p.0 q.0 p.1.each q.1.each in
+    let same : p.0 ≡ q.0 = tables_once r (listed r.dimensions) p.0 q.0 p.1.chosen q.1.chosen in
     let one : AreTablesText r s q.0 = subst (λ (tables : List (List Row)). AreTablesText r s tables) same p.1 in
-    one.spelled ∙ sym q.1.spelled
+    one.line.spelled ∙ sym q.1.line.spelled
 
 pub certificate_once : (r : TransformRequest) (s t : List ℕ) → IsCertificateText r s → IsCertificateText r t → s ≡ t
 certificate_once (One r) s t p q = one_table_once r s t p q
