@@ -13,14 +13,14 @@ use tree_model::Tree;
 
 // Appends the text of the trees.
 fn write_trees(out: &mut Vec<u8>, trees: &[Tree]) -> Result<(), NoMemory>
-    ensures { OnOk result (out.new.items ≡ out.old.items ++ trees_text (map breakdown_of trees.now)) }
+    ensures { OnOk result (
+        out.new.items ≡ out.old.items ++ trees_text (map breakdown_of trees.now)) }
 {
     let Some((first, others)) = trees.split_first() else {
         return Ok(());
     };
     if others.is_empty() {
-        write_tree(out, first)?;
-        return Ok(());
+        return Ok(write_tree(out, first)?);
     }
     out.extend_from_slice(b"dim(")?;
     write_tree(out, first)?;
