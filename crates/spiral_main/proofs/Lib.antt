@@ -4,9 +4,7 @@ pub mod LineLemmas
 pub mod OneOutcome
 pub mod OnePlan
 pub mod OneRequest
-pub mod OneTable
 pub mod OneText
-pub mod OneTree
 pub mod OutcomeLemmas
 pub mod RunLemmas
 pub mod SampleLemmas

@@ -1,14 +1,10 @@
 -- A request has one list of chosen trees, or one first cause to be refused.
-use Rattle.std.proofs.Common.{◌≡◌, ◌⊎◌, ◌≤◌, ℕ, Bool, true, false, List, [], ◌∷◌, Ok, Err, refl, sym, ap, ap₂, subst, ◌∙◌, arith, inl, inr}
+use Rattle.std.proofs.Common.{◌≡◌, ◌⊎◌, ◌≤◌, ℕ, Bool, true, false, List, [], ◌∷◌, Ok, Err, refl, sym, ap, ap₂, ◌∙◌, arith, inl, inr}
 use Rattle.std.proofs.lemmas.List.Elements.{All-head, All-tail}
-use Rattle.std.specs.declared.cmp.Ordering.{Ordering}
-use Rattle.std.specs.declared.cmp.Ordering.TheVariants.{Less, Equal, Greater}
-use Rattle.std.specs.Ordering.{ordering_then, ordering_reverse}
 use Rattle.dimension_plans.specs.declared.SeveralRequest.{SeveralRequest}
-use Rattle.dimension_plans.specs.Several.{several_cost, several_order, AreAdmissible, AreChosenFor, ComeBefore, IsLeastFor}
+use Rattle.dimension_plans.specs.Several.{several_cost, IsLeastFor}
 use Rattle.dimensions.specs.declared.Dimension.{Dimension}
 use Rattle.dimensions.specs.Transform.{listed}
-use Rattle.matrix_meaning.specs.declared.Kind.TheVariants.{Dft}
 use Rattle.matrix_meaning.specs.declared.Request.{Request}
 use Rattle.plan_faults.specs.declared.generating.GenerateFault.{GenerateFault}
 use Rattle.plan_faults.specs.declared.generating.GenerateFault.TheVariants as generate
@@ -19,10 +15,9 @@ use Rattle.transform_requests.specs.declared.TransformRequest.TheVariants.{One, 
 use Rattle.transform_requests.specs.Range.{AreRooted}
 use Rattle.tree_model.specs.Breakdown.{Breakdown}
 use Rattle.tree_model.specs.Cost.{cost_of}
-use Rattle.tree_model.specs.Order.{order_of}
-use Rattle.tree_model.proofs.OrderLaws.{order_flip, same_from_order, then-Equal}
+use Rattle.plan_cert.proofs.OneTree.{chosen_once}
+use Rattle.transform_certs.proofs.OneText.{trees_once}
 use Rattle.spiral_main.proofs.OneConvolution.{least_once}
-use Rattle.spiral_main.proofs.OneTree.{chosen_once}
 use Rattle.spiral_main.proofs.PlanLemmas.{candidate_divides}
 
 two_values : (b : Bool) → b ≡ true → b ≡ false → ⊥
@@ -98,52 +93,6 @@ roots_clash m (d ∷ ds) power rooted (inl p) = roots_clash m ds power (All-tail
 roots_clash m (d ∷ ds) power rooted (inr p) = p.0 (All-head (λ (e : Dimension). power_mod m e.root e.size ≡ 1) d ds rooted)
 
 -- ---- several dimensions: their trees
-
-then_reverse : (o p : Ordering) → ordering_reverse (ordering_then o p) ≡ ordering_then (ordering_reverse o) (ordering_reverse p)
-then_reverse Less p = refl
-then_reverse Equal p = refl
-then_reverse Greater p = refl
-
-several_flip : (ts us : List Breakdown) → several_order ts us ≡ ordering_reverse (several_order us ts)
-several_flip [] [] = refl
-several_flip [] (u ∷ us) = refl
-several_flip (t ∷ ts) [] = refl
-several_flip (t ∷ ts) (u ∷ us) =
-    ap₂ ordering_then (order_flip t u) (several_flip ts us) ∙ sym (then_reverse (order_of u t) (several_order us ts))
-
-several_same : (r : SeveralRequest) (ds : List Dimension) (ts us : List Breakdown) → AreAdmissible r ds ts → AreAdmissible r ds us → several_order ts us ≡ Equal → ts ≡ us
-several_same r [] [] [] p q e = refl
-several_same r [] [] (u ∷ us) p q e = absurd q
-several_same r [] (t ∷ ts) us p q e = absurd p
-several_same r (d ∷ ds) [] us p q e = absurd p
-several_same r (d ∷ ds) (t ∷ ts) [] p q e = absurd q
-several_same r (d ∷ ds) (t ∷ ts) (u ∷ us) p q e =
-    let both = then-Equal (order_of t u) (several_order ts us) e in
-    ap₂ (λ (v : Breakdown) (vs : List Breakdown). v ∷ vs)
-    (same_from_order Dft t u p.0.well_formed q.0.well_formed (p.0.size ∙ sym q.0.size) both.0)
-    (several_same r ds ts us p.1 q.1 both.1)
-
--- of two lists neither comes before the other
-not_before_both : (ts us : List Breakdown) → ComeBefore ts us → ComeBefore us ts → ⊥
-not_before_both ts us p q =
-    let e : Less ≡ Greater = sym p ∙ several_flip ts us ∙ ap ordering_reverse q in
-    absurd (cc)
-
-trees_once : (r : SeveralRequest) (ds : List Dimension) (ts us : List Breakdown) → AreChosenFor r ds ts → AreChosenFor r ds us → ts ≡ us
-trees_once r ds ts us p q = cases (several_order ts us) refl
-  where
-    same : several_cost r ds ts ≡ several_cost r ds us
-    same = let one = p.least us q.admissible in let two = q.least ts p.admissible in omega (arith, one, two)
-
-    before : (vs ws : List Breakdown) → several_order vs ws ≡ Less → vs ≡ ws → ⊥
-    before vs ws e s = not_before_both vs ws e (subst (λ (l : List Breakdown). several_order l vs ≡ Less) s (subst (λ (l : List Breakdown). several_order vs l ≡ Less) (sym s) e))
-
-    cases : (o : Ordering) → several_order ts us ≡ o → ts ≡ us
-    cases Equal e = several_same r ds ts us p.admissible q.admissible e
-    cases Less e = absurd (not_before_both ts us e (q.first ts p.admissible same (before ts us e)))
-    cases Greater e =
-        let back : several_order us ts ≡ Less = several_flip us ts ∙ ap ordering_reverse e in
-        absurd (not_before_both ts us (p.first us q.admissible (sym same) (before us ts back)) back)
 
 several_least_once : (r : SeveralRequest) (ds : List Dimension) (a b : ℕ) → IsLeastFor r ds a → IsLeastFor r ds b → a ≡ b
 several_least_once r ds a b p q =

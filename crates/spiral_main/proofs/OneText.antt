@@ -12,6 +12,7 @@ use Rattle.transform_requests.specs.Trees.{cost_of}
 use Rattle.transform_texts.specs.Formulas.{trees_expansion}
 use Rattle.transform_texts.specs.Texts.{plan_text}
 use Rattle.spl_text.specs.Spelling.{spelling}
+use Rattle.transform_certs.proofs.OneText.{one_certificate}
 use Rattle.transform_certs.proofs.OneVerdict.{one_verdict}
 use Rattle.spiral_status.specs.declared.status.Status.{Status}
 use Rattle.spiral_main.specs.Checked.{IsChecked, verdict_text}
@@ -24,7 +25,6 @@ use Rattle.spiral_main.specs.Outcome.{Job, ordered, product, IsTextOf, IsTextOfD
 use Rattle.spiral_main.specs.Sample.{sample_vector, weighted_sum, sample_text}
 use Rattle.spiral_words.proofs.OneCommand.{asked_once}
 use Rattle.spiral_main.proofs.OnePlan.{planned_once}
-use Rattle.spiral_main.proofs.OneTable.{certificate_once}
 use Rattle.spiral_main.proofs.OneConvolution.{conv_text_once}
 use Rattle.spiral_main.proofs.OneExecution.{execution_text_once}
 use Rattle.spiral_main.proofs.OneFormula.{formula_text_once}
@@ -38,7 +38,7 @@ text_once command.Code r s t h p q = absurd (cc)
 text_once command.C r s t h p q = absurd (cc)
 text_once (command.Run order) r s t h p q = absurd p
 text_once (command.Trace order) r s t h p q = absurd p
-text_once command.Cert r s t h p q = certificate_once r s t p q
+text_once command.Cert r s t h p q = one_certificate r s t p q
 text_once command.Check r s t h p q = absurd p
 text_once (command.Compile modulus) r s t h p q = absurd p
 text_once (command.Apply modulus schedule) r s t h p q = absurd p

@@ -1,6 +1,5 @@
 -- A request with a tree may be taken apart.
-use Rattle.std.proofs.Common.{◌≡◌, ◌%◌, Bool, true, false, Ok, inl, inr, refl, ap, ◌∙◌}
-use Rattle.std.proofs.Math.Nat.{mod_self}
+use Rattle.std.proofs.Common.{◌≡◌, Bool, true, false, inl, inr, refl}
 use Rattle.matrix_meaning.specs.declared.Request.{Request}
 use Rattle.tree_model.specs.Admissible.{CanDivide, RootFits, IsAdmissible}
 use Rattle.tree_model.specs.Breakdown.{Breakdown, leaf, node, size_of}
