@@ -1,5 +1,5 @@
 -- The words and the bytes of a call determine its status.
-use Rattle.std.proofs.Common.{◌≡◌, ◌≤◌, ◌⊎◌, ℕ, Bool, true, false, List, Ok, Err, Result, refl, sym, ap, ap₂, subst, ◌∙◌, arith, inl, inr}
+use Rattle.std.proofs.Common.{◌≡◌, ◌⊎◌, ℕ, Bool, true, false, List, Ok, Err, Result, refl, sym, ap, subst, ◌∙◌, arith, inl, inr}
 use Rattle.transform_requests.specs.declared.TransformRequest.{TransformRequest}
 use Rattle.transform_requests.specs.Fields.{procs_of}
 use Rattle.request_text.specs.declared.RequestFault.{RequestFault}

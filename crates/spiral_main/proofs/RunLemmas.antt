@@ -1,5 +1,5 @@
 -- The ends of an input, and the turns of a run.
-use Rattle.std.proofs.Common.{◌≡◌, ◌<◌, ℕ, true, false, refl, subst, arith, All, List, [], ◌∷◌, None, Some, sym, ap, ◌∙◌}
+use Rattle.std.proofs.Common.{◌≡◌, ◌<◌, ℕ, true, false, refl, subst, All, List, [], ◌∷◌, None, Some, sym, ap, ◌∙◌}
 use Rattle.std.proofs.lemmas.List.Elements.{All-from_get_or}
 use Rattle.std.specs.declared.option.Option.{Option}
 use Rattle.std.specs.Io.KnownBytes.{IsAtEnd, prepend_known}

@@ -9,7 +9,7 @@ use Rattle.operators.proofs.Sums.{sum_below-same, sum_below_more}
 use Rattle.operators.proofs.Lists.{length-list_below}
 use Rattle.transform_requests.specs.declared.TransformRequest.{TransformRequest}
 use Rattle.transform_requests.specs.Range.{IsRequestInRange}
-use Rattle.transform_requests.specs.Fields.{budget_of, lanes_of, modulus_of, procs_of, size_of, weight_of}
+use Rattle.transform_requests.specs.Fields.{modulus_of, procs_of, size_of, weight_of}
 use Rattle.transform_requests.specs.Trees.{cost_of}
 use Rattle.icode.specs.declared.action.Action.{Action}
 use Rattle.icode.specs.declared.action.Counts.{Counts}
