@@ -1,12 +1,12 @@
 // Requests with a weight: each processor executes its share of the least cost.
 
-use crate::rows::check;
 use crate::ways::request_of;
 use generate::generate;
 use par_machine::Machine;
 use std::alloc::Global;
 use std::fmt::Write;
 use std::test::Fail;
+use worked_rows::check;
 
 // A request; its least cost, and the operations of each processor, where a multiplication counts as the request's
 // weight. The numbers are those of an independent generator.

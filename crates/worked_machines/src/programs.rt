@@ -10,21 +10,9 @@ use listing_text::read_listing;
 use std::alloc::Global;
 use std::fmt::Write;
 use std::test::Fail;
+use worked_rows::{PAIR, QUAD};
 
-/// The transform of size 2 with root 4, modulo 15.
-pub(crate) const PAIR: &str = "program size 2 mod 15 procs 1 line 1 lanes 1 regs 5
-phase
-ld r0 X[0]
-ld r1 X[1]
-add r2 r0 r1
-mul r3 r1 4
-add r4 r0 r3
-st Y[0] r2
-st Y[1] r4
-end
-";
-
-/// The same with its two results exchanged.
+/// `PAIR` with its two results exchanged.
 pub(crate) const EXCHANGED: &str = "program size 2 mod 15 procs 1 line 1 lanes 1 regs 5
 phase
 ld r0 X[0]
@@ -34,29 +22,6 @@ mul r3 r1 4
 add r4 r0 r3
 st Y[0] r4
 st Y[1] r2
-end
-";
-
-/// The transform of size 4 with root 4, modulo 17, on two processors.
-pub(crate) const QUAD: &str = "program size 4 mod 17 procs 2 line 1 lanes 1 regs 6
-table 0 values 1 1 1 4
-phase
-ld r0 X[0+q*1]
-ld r1 X[2+q*1]
-add r2 r0 r1
-sub r3 r0 r1
-mul r4 r2 t0[0+q*2] step 0
-st A[0+q*2] r4
-mul r5 r3 t0[1+q*2] step 0
-st A[1+q*2] r5
-end
-phase
-ld r0 A[0+q*1]
-ld r1 A[2+q*1]
-add r2 r0 r1
-sub r3 r0 r1
-st Y[0+q*1] r2
-st Y[2+q*1] r3
 end
 ";
 
@@ -202,28 +167,4 @@ pub(crate) fn sharing_program(alloc: Global, name: &str) -> Result<Program, Fail
         Err(CheckFault::LineShared { .. }) => Ok(program),
         _ => Err(Fail::from("a program that shares no line")),
     }
-}
-
-pub(crate) fn number(word: &str) -> Result<u64, Fail> {
-    Ok(word.parse::<u64>().ok().ok_or("a number")?)
-}
-
-pub(crate) fn numbers(alloc: Global, text: &str) -> Result<Vec<u64>, Fail> {
-    let mut numbers = Vec::new(alloc);
-    for word in text.split_whitespace() {
-        numbers.push(number(word)?)?;
-    }
-    Ok(numbers)
-}
-
-/// The numbers with a space between them.
-pub(crate) fn joined(alloc: Global, numbers: &[u64]) -> Result<String, Fail> {
-    let mut text = String::new(alloc);
-    for number in numbers {
-        if !text.is_empty() {
-            text.push_str(" ")?;
-        }
-        write!(text, "{number}")?;
-    }
-    Ok(text)
 }

@@ -1,11 +1,11 @@
 // What the check says of listings.
 
 use crate::programs::nested;
-use crate::rows::check;
 use code_check::verify;
 use listing_text::read_listing;
 use std::alloc::Global;
 use std::test::Fail;
+use worked_rows::check;
 
 // A word on it, a listing with `~` for each line end, and the answer.
 const ROWS: &str = "\

@@ -3,25 +3,25 @@
 ghost use Rattle.std.specs.Prelude.{◌<◌};
 
 use crate::machines::{machine_with, schedule};
-use crate::programs::{number, numbers, program};
-use crate::rows::check;
+use crate::programs::program;
 use io_edge::{Feed, MemSink, MemSource};
-use spiral_main::run_stream;
 use std::alloc::Global;
 use std::test::Fail;
+use stream_run::run_stream;
 use trace_text::write_turns;
+use worked_rows::{check, number, numbers};
 
 // A program, its input, a schedule and the write that fails, if any (each line is one); and the lines, `/` being a line
 // end, and the answer.
 const LINES: &str = "\
-pair; 1 1; seq; -|0 0 ld r0 0/1 0 ld r1 1/2 0 add r2 r0 r1/3 0 mul r3 r1 4/4 0 add r4 r0 r3/5 0 st 2 r2/6 0 st 3 r4/|Ok(())
-pair; 1 1; turns:0,0,0; -|0 0 ld r0 0/1 0 ld r1 1/2 0 add r2 r0 r1/3 0 mul r3 r1 4/4 0 add r4 r0 r3/5 0 st 2 r2/6 0 st 3 r4/|Ok(())
-pair; 1 1; turns:0,0,0,0,0,0,0,0; -|0 0 ld r0 0/1 0 ld r1 1/2 0 add r2 r0 r1/3 0 mul r3 r1 4/4 0 add r4 r0 r3/5 0 st 2 r2/6 0 st 3 r4/7 0 done/|Ok(())
-pair; 1 1; seq; 0||Err(WriteFault)
-pair; 1 1; seq; 1|0 0 ld r0 0/|Err(WriteFault)
-pair; 1 1; seq; 3|0 0 ld r0 0/1 0 ld r1 1/2 0 add r2 r0 r1/|Err(WriteFault)
-quad; 1 2 3 4; turns:1,1,1,1,1,1,1,1,1; -|0 1 ld r0 1/1 1 ld r1 3/2 1 add r2 r0 r1/3 1 sub r3 r0 r1/4 1 mul r4 r2 1/5 1 st 10 r4/6 1 mul r5 r3 4/7 1 st 11 r5/8 1 waits/9 0 ld r0 0/10 0 ld r1 2/11 0 add r2 r0 r1/12 0 sub r3 r0 r1/13 0 mul r4 r2 1/14 0 st 8 r4/15 0 mul r5 r3 1/16 0 st 9 r5/17 0 ld r0 8/18 0 ld r1 10/19 0 add r2 r0 r1/20 0 sub r3 r0 r1/21 0 st 4 r2/22 0 st 6 r3/23 1 ld r0 9/24 1 ld r1 11/25 1 add r2 r0 r1/26 1 sub r3 r0 r1/27 1 st 5 r2/28 1 st 7 r3/|Ok(())
-actions; 1 2 3 4; seq; -|0 0 zero r0/1 0 neg r2 r1/2 0 mul r4 r2 1,3/3 0 tile r6 r0/|Ok(())
+pair; 1 1; seq; -|0 0 ld r0 0/1 0 ld r1 1/2 0 add r2 r0 r1/3 0 mul r3 r1 4/4 0 add r4 r0 r3/5 0 st 2 r2/6 0 st 3 r4/; Ok(())
+pair; 1 1; turns:0,0,0; -|0 0 ld r0 0/1 0 ld r1 1/2 0 add r2 r0 r1/3 0 mul r3 r1 4/4 0 add r4 r0 r3/5 0 st 2 r2/6 0 st 3 r4/; Ok(())
+pair; 1 1; turns:0,0,0,0,0,0,0,0; -|0 0 ld r0 0/1 0 ld r1 1/2 0 add r2 r0 r1/3 0 mul r3 r1 4/4 0 add r4 r0 r3/5 0 st 2 r2/6 0 st 3 r4/7 0 done/; Ok(())
+pair; 1 1; seq; 0|; Err(WriteFault)
+pair; 1 1; seq; 1|0 0 ld r0 0/; Err(WriteFault)
+pair; 1 1; seq; 3|0 0 ld r0 0/1 0 ld r1 1/2 0 add r2 r0 r1/; Err(WriteFault)
+quad; 1 2 3 4; turns:1,1,1,1,1,1,1,1,1; -|0 1 ld r0 1/1 1 ld r1 3/2 1 add r2 r0 r1/3 1 sub r3 r0 r1/4 1 mul r4 r2 1/5 1 st 10 r4/6 1 mul r5 r3 4/7 1 st 11 r5/8 1 waits/9 0 ld r0 0/10 0 ld r1 2/11 0 add r2 r0 r1/12 0 sub r3 r0 r1/13 0 mul r4 r2 1/14 0 st 8 r4/15 0 mul r5 r3 1/16 0 st 9 r5/17 0 ld r0 8/18 0 ld r1 10/19 0 add r2 r0 r1/20 0 sub r3 r0 r1/21 0 st 4 r2/22 0 st 6 r3/23 1 ld r0 9/24 1 ld r1 11/25 1 add r2 r0 r1/26 1 sub r3 r0 r1/27 1 st 5 r2/28 1 st 7 r3/; Ok(())
+actions; 1 2 3 4; seq; -|0 0 zero r0/1 0 neg r2 r1/2 0 mul r4 r2 1,3/3 0 tile r6 r0/; Ok(())
 ";
 
 // What a sink takes of a run, and the answer.
@@ -50,7 +50,7 @@ fn traced(alloc: Global, question: &str, room: u64) -> Result<(MemSink, String),
 fn shown(alloc: Global, output: &MemSink, answer: &str) -> Result<String, Fail> {
     let text = std::str::from_utf8(output.bytes()).ok().ok_or("a text")?;
     let text = text.replace(alloc, "\n", "/")?;
-    Ok(format!(in alloc; "{text}|{answer}")?)
+    Ok(format!(in alloc; "{text}; {answer}")?)
 }
 
 fn traced_answer(alloc: Global, question: &str) -> Result<String, Fail> {
@@ -67,7 +67,7 @@ fn lines_of_turns(rt: HostRuntime) -> Result<(), Fail> {
 fn lines_until_a_sink_is_full(rt: HostRuntime) -> Result<(), Fail> {
     let (output, answer) = traced(rt.alloc(), "pair; 1 1; seq; -", 20)?;
     let text = shown(rt.alloc(), &output, &answer)?;
-    assert_eq!(rt; text.as_str(), "0 0 ld r0 0/1 0 ld r|Err(WriteFault)");
+    assert_eq!(rt; text.as_str(), "0 0 ld r0 0/1 0 ld r; Err(WriteFault)");
     Ok(())
 }
 

@@ -3,8 +3,7 @@
 ghost use Rattle.std.specs.Prelude.{◌≡◌, ◌<◌, ◌↔◌, All, IfOk, IsTrue, length};
 ghost use Rattle.icode.specs.Program.{Fits, code_of};
 
-use crate::programs::{joined, number, numbers, program};
-use crate::rows::{check, field};
+use crate::programs::program;
 use icode::action::Action;
 use icode::program::Program;
 use par_machine::{Machine, Turned};
@@ -12,6 +11,7 @@ use request_text::{Schedule, read_schedule};
 use std::alloc::{AllocError, Global};
 use std::fmt::Write;
 use std::test::Fail;
+use worked_rows::{check, field, joined, number, numbers};
 
 /// Whether the words are an input of the program.
 pub(crate) fn is_input(program: &Program, words: &[u64]) -> bool

@@ -4,7 +4,6 @@ ghost use Rattle.std.specs.Prelude.{◌≡◌, ◌<◌, All, IfOk, length};
 ghost use Rattle.matrix_meaning.specs.Valid.{IsInRange};
 ghost use Rattle.spl_ast.specs.Nesting.{IsPrintable};
 
-use crate::rows::check;
 use breakdown::expand;
 use generate::{generate, plan};
 use icode::action::Counts;
@@ -18,6 +17,7 @@ use std::alloc::Global;
 use std::process::Abort;
 use std::test::Fail;
 use tree_model::Ctx;
+use worked_rows::check;
 
 /// The request of the line.
 pub(crate) fn request_of(line: &[u8]) -> Result<Request, Fail>

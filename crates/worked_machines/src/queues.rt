@@ -4,13 +4,13 @@ ghost use Rattle.std.specs.Prelude.{◌≡◌, ◌<◌, IfOk};
 ghost use Rattle.icode.specs.Program.{Fits, code_of};
 
 use crate::machines::is_input;
-use crate::programs::{joined, numbers, program, sharing_program};
-use crate::rows::{check, field};
+use crate::programs::{program, sharing_program};
 use buffer_machine::{BufMachine, Drained, Event, Turned};
 use icode::program::Program;
 use request_text::{Mix, read_mix};
 use std::alloc::Global;
 use std::test::Fail;
+use worked_rows::{check, field, joined, numbers};
 
 fn machine_with(alloc: Global, program: &Program, input: &[u64]) -> Result<BufMachine, Fail>
     requires { Fits program.now }
