@@ -8,6 +8,8 @@ mod call;
 #[cfg(test)]
 mod convolutions;
 #[cfg(test)]
+mod dimensions;
+#[cfg(test)]
 mod formulas;
 #[cfg(test)]
 mod inverses;
