@@ -30,23 +30,31 @@ no-lanes (horner root d) none = tt
 no-lanes (tile v) none = absurd (none v refl)
 no-lanes (copy d) none = tt
 
-no-vectors : (counts : List ℕ) (w : PlainWork) (sums : List Sum) → ((v : ℕ) → w ≡ tile v → ⊥) → AreWhole counts w sums
-no-vectors counts (kernel kind root t) sums none = tt
-no-vectors counts (rows root d) sums none = tt
-no-vectors counts (horner root d) sums none = tt
-no-vectors counts (tile v) sums none = absurd (none v refl)
-no-vectors counts (copy d) sums none = tt
+-- work with no tiles has no vectors, and is work for any lanes
+pub record HasNoVectors (lanes : ℕ) (w : PlainWork) : Type 0 where
+  pub tiles : HasLanes lanes w
+  pub whole : (counts : List ℕ) (sums : List Sum) → AreWhole counts w sums
+
+pub no-lanes-for : (lanes : ℕ) (w : PlainWork) → HasLanes 0 w → HasNoVectors lanes w
+no-lanes-for lanes (kernel kind root t) h = record { tiles = tt; whole = λ counts sums. tt }
+no-lanes-for lanes (rows root d) h = record { tiles = tt; whole = λ counts sums. tt }
+no-lanes-for lanes (horner root d) h = record { tiles = tt; whole = λ counts sums. tt }
+no-lanes-for lanes (tile v) h =
+    record {
+      tiles = λ some. absurd (let none = h some in omega (arith, some, none));
+      whole = λ counts sums vs i range below. absurd (let none = h (omega (arith, below)) in omega (arith, below, none));
+    }
+no-lanes-for lanes (copy d) h = record { tiles = tt; whole = λ counts sums. tt }
 
 good-nests : (n m : ℕ) (zs : List PlainNest) → All (CanRunNest (plain_machine n m)) zs → All (CanWriteNest (plain_machine n m)) zs → All HasNoTile zs → AreGoodNests 0 m n zs
 good-nests n m [] runs writes none = tt
 good-nests n m (z ∷ zs) runs writes none =
     let can = All-head (CanWriteNest (plain_machine n m)) z zs writes in
-    let free = All-head HasNoTile z zs none in
-    (
+    let free = All-head HasNoTile z zs none in (
       record {
         tiles = no-lanes z.work free;
-        whole_loads = no-vectors z.counts z.work z.gathers free;
-        whole_stores = no-vectors z.counts z.work z.scatters free;
+        whole_loads = (no-lanes-for 0 z.work (no-lanes z.work free)).whole z.counts z.gathers;
+        whole_stores = (no-lanes-for 0 z.work (no-lanes z.work free)).whole z.counts z.scatters;
         gathers = can.gathers.0;
         scatters = can.scatters.0;
         inside = (All-head (CanRunNest (plain_machine n m)) z zs runs).inside;
