@@ -1,3 +1,5 @@
 pub mod Parts
 pub mod Rows
 pub mod Columns
+pub mod Swaps
+pub mod BlockPaths
