@@ -3,3 +3,4 @@ pub mod Rows
 pub mod Columns
 pub mod Swaps
 pub mod BlockPaths
+pub mod Tiles
