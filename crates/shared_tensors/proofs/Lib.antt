@@ -4,3 +4,4 @@ pub mod Columns
 pub mod Swaps
 pub mod BlockPaths
 pub mod Tiles
+pub mod Shares
