@@ -5,3 +5,4 @@ pub mod Swaps
 pub mod BlockPaths
 pub mod Tiles
 pub mod Shares
+pub mod Residues
