@@ -6,3 +6,4 @@ pub mod BlockPaths
 pub mod Tiles
 pub mod Shares
 pub mod Residues
+pub mod TileTurns
