@@ -7,3 +7,5 @@ pub mod Tiles
 pub mod Shares
 pub mod Residues
 pub mod TileTurns
+pub mod RowMeaning
+pub mod Meaning
