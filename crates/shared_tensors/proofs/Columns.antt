@@ -4,9 +4,9 @@ use Rattle.std.specs.Prelude.{map, slice_index, slice_index_or, ◌==◌, if◌t
 use Rattle.std.proofs.lemmas.List.{append-nil}
 use Rattle.operators.specs.Operator.{on_columns}
 use Rattle.operators.specs.Sum.{sum_below, list_below}
-use Rattle.operators.proofs.Lists.{at-list_below, list_below-same, place_below, factor_positive}
+use Rattle.operators.proofs.Lists.{at-list_below, list_below-same, place_below}
 use Rattle.operators.proofs.Sums.{sum_below-same, sum_below-swap, sum_below-rows}
-use Rattle.passes.specs.Copies.{loops_of, Copies, stored, all_stored, hits, AreInside, under_one, pass_on, StoreOnce}
+use Rattle.passes.specs.Copies.{loops_of, Copies, all_stored, hits, under_one}
 use Rattle.passes.specs.Good.{AreSound, NamesItems, HasLanes, AreGoodNests, IsGoodPass}
 use Rattle.passes.specs.Merge.{place_sum, renumbered, renumbered_places}
 use Rattle.passes.specs.Nest.{factor_at, PlainMultiplier, PlainNest, sum_value, load_place, store_place, multiplied_on, copies_of, nests_on}
@@ -15,12 +15,13 @@ use Rattle.passes.proofs.CopiesMerge.{loop-same, stand_under, keeps_once}
 use Rattle.passes.proofs.Natural.{sound-place_sum}
 use Rattle.passes.proofs.Nests.{stored-alike, at-map, length-map, all-inside}
 use Rattle.passes.proofs.Sides.{rest_of, rest-range, rest-index, lift-more, sound-renumbered}
-use Rattle.perm_algebra.specs.Affine.{Sum, constant, variable, remainder, quotient, value, joined, scaled, IsSound}
+use Rattle.perm_algebra.specs.Affine.{Sum, constant, variable, remainder, quotient, value, joined, scaled}
 use Rattle.perm_algebra.proofs.AffineLaws.{value-scaled, value-joined}
 use Rattle.perm_algebra.proofs.Values.{sound-scaled, sound-joined}
 use Rattle.shared_tensors.proofs.Parts.{no-lanes-for}
+use Rattle.shared_tensors.proofs.Rows.{no-tile}
 use Rattle.tensor_paths.specs.declared.Tensor.TheVariants.{Blocks, Columns}
-use Rattle.tensor_paths.specs.Loop.{nest_sum, loop_at}
+use Rattle.tensor_paths.specs.Loop.{nest_sum}
 use Rattle.tensor_paths.specs.Path.{Path, count_of, size_under, place, AreInRange}
 
 -- ---- the number of a column
@@ -123,10 +124,6 @@ sum-alone path s sums i counts vs within h =
     ∙ ap (λ us. sum_value sums i us * s + place path 1 vs 0) (append-nil (rest_of path vs))
 
 -- ---- places of nests on columns
-
--- a tile of no lanes has no words
-no-tile : (v k : ℕ) → (0 < v → v ≡ 0) → k < v * v → ⊥
-no-tile v k none below = let some = factor_positive v v k below in omega (arith, some, none some)
 
 pub load-column : (path : Path) (s : ℕ) (w : PlainWork) (sums : List Sum) (counts vs : List ℕ) (k : ℕ) → HasLanes 0 w → NamesItems w sums → AreInRange (loops_of (map count_of path ++ counts)) vs → k < work_size w →
     load_place w (map (column_sum path s) sums) vs k ≡ load_place w sums (rest_of path vs) k * s + place path 1 vs 0

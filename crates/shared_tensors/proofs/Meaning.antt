@@ -1,9 +1,9 @@
 -- The passes of a tensor product do what the second part does to each row, and then the first to each column.
-use Rattle.std.proofs.Common.{◌≡◌, ◌≢◌, ℕ, ◌<◌, ◌+◌, ◌*◌, refl, sym, ap, ap₂, ◌∙◌, arith, inl, inr, List, [], ◌∷◌, ◌++◌, length}
+use Rattle.std.proofs.Common.{◌≡◌, ◌≢◌, ℕ, ◌<◌, ◌*◌, sym, ap, ap₂, ◌∙◌, arith, inl, inr, List, [], ◌∷◌, ◌++◌, length}
 use Rattle.std.specs.Prelude.{map, ◌==◌, if◌then◌else◌}
 use Rattle.std.proofs.lemmas.Bool.{cases_eq}
 use Rattle.std.proofs.lemmas.Bool.Decides.{nat_tests}
-use Rattle.operators.specs.Operator.{on_blocks, on_columns}
+use Rattle.operators.specs.Operator.{on_columns}
 use Rattle.operators.proofs.Blocks.{tensor_of_product}
 use Rattle.operators.proofs.Lists.{on_blocks-same, on_columns-same}
 use Rattle.pass_programs.specs.Contract.{all_passes}

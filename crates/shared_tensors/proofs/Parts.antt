@@ -11,7 +11,7 @@ use Rattle.pass_actions.specs.Laws.{CanRunNest}
 use Rattle.pass_programs.specs.Conditions.{CanWriteNest, CanWritePass}
 use Rattle.pass_programs.specs.Contract.{all_passes}
 use Rattle.passes.specs.Copies.{Copies, stored, all_stored, AreInside, loaded_by}
-use Rattle.passes.specs.Good.{NamesItems, HasLanes, AreWhole, AreGoodNests, IsGoodPass, AreGoodPasses}
+use Rattle.passes.specs.Good.{HasLanes, AreWhole, AreGoodNests, IsGoodPass, AreGoodPasses}
 use Rattle.passes.specs.Merged.{PlainMerged, phase_on, phases_on}
 use Rattle.passes.specs.Nest.{PlainNest, copies_of, nests_on}
 use Rattle.passes.specs.Work.{PlainWork, kernel, rows, horner, tile, copy}

@@ -9,7 +9,7 @@ use Rattle.operators.specs.Operator.{Operator, block, column, on_blocks, on_colu
 use Rattle.operators.proofs.Blocks.{blocks_in_blocks, lanes_of_blocks, tensor_of_product}
 use Rattle.operators.proofs.Lists.{at-list_below, length-list_below, list_below-same, on_blocks-same, place_below, row-of, column-of, list_below-same_rows}
 use Rattle.operators.proofs.Places.{block_at, column_at, on_blocks_at, on_columns_at, same_by_three}
-use Rattle.passes.specs.Good.{AreGoodPasses, IsGoodPass}
+use Rattle.passes.specs.Good.{AreGoodPasses}
 use Rattle.passes.specs.Merge.{lifted}
 use Rattle.passes.specs.Merged.{phase_on}
 use Rattle.passes.specs.Nest.{PlainNest, nests_on}
@@ -21,7 +21,7 @@ use Rattle.shared_tensors.proofs.Shares.{AreShared, rows-good, size-shared}
 use Rattle.shared_tensors.proofs.TileTurns.{tiled-in-on, tiled-out-on}
 use Rattle.smp_rewrite.proofs.Tensors.{under-within, under-within_all}
 use Rattle.tensor_paths.specs.declared.Tensor.TheVariants.{Blocks, Columns}
-use Rattle.tensor_paths.specs.Path.{Reads, size_under, under}
+use Rattle.tensor_paths.specs.Path.{Reads, under}
 use Rattle.tensor_paths.proofs.Under.{under-product}
 
 -- ---- rows side by side

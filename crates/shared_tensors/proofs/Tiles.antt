@@ -10,7 +10,7 @@ use Rattle.operators.proofs.Lists.{column-of, factor_positive, list_below-same}
 use Rattle.passes.specs.Copies.{Copies, loops_of, pass_on, IsInside}
 use Rattle.passes.specs.Good.{AreBlocks, AreSound, IsGoodPass, NamesItems}
 use Rattle.passes.specs.Merge.{place_sum}
-use Rattle.passes.specs.Nest.{load_place, nests_on, store_place}
+use Rattle.passes.specs.Nest.{load_place, nests_on}
 use Rattle.passes.specs.Term.{natural}
 use Rattle.passes.specs.Work.{tile, work_on}
 use Rattle.passes.proofs.CopiesMerge.{keeps_once, loop-same}

@@ -28,7 +28,8 @@ pub fn tensor_product(
     Err(NoMemory)
 }
 
-/// They do what the second part does to each row, and then the first to each column: a law of the definitions.
+/// The passes of a tensor product do what `right` does to each row, and then `left` to each column: a law of the
+/// definitions.
 pub fn tensored_means()
     ensures { TensoredMeans }
 {}
