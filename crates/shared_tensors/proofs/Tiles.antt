@@ -75,10 +75,10 @@ module _ (p v r s : ℕ) where
       ∙ blocks-place groups (size_under (across v s) 1) _ (loop_values groups 0 f) (group-blocks p v r)
       ∙ ap₂ (λ n d. group_number p v r s f * n + place (across v s) 1 (loop_values (across v s) d f) 0) size-across (let e : 0 + length groups ≡ length groups = omega arith in e))
 
-  side-value : (f : ℕ → ℕ) (i : ℕ) → value (side_place p v r s i) f ≡ ((group_number p v r s f * (s / v) + tile_number p v r s f) * v + i) * v
+  pub side-value : (f : ℕ → ℕ) (i : ℕ) → value (side_place p v r s i) f ≡ ((group_number p v r s f * (s / v) + tile_number p v r s f) * v + i) * v
   side-value f i = value-place_sum (tile_path p v r s) (v * v) 0 (constant (i * v)) f ∙ natural-value f (i * v) ∙ omega arith
 
-  row-value : (f : ℕ → ℕ) (i : ℕ) → s / v * v ≡ s → value (row_place p v r s i) f ≡ ((group_number p v r s f * v + i) * (s / v) + tile_number p v r s f) * v
+  pub row-value : (f : ℕ → ℕ) (i : ℕ) → s / v * v ≡ s → value (row_place p v r s i) f ≡ ((group_number p v r s f * v + i) * (s / v) + tile_number p v r s f) * v
   row-value f i whole =
       let groups = group_path p v r in
       let g = group_number p v r s f in
@@ -92,11 +92,11 @@ module _ (p v r s : ℕ) where
       ∙ ap (λ n. g * (v * n) + (t * v + i * n)) (sym whole)
       ∙ regrouped
 
-  values-of-loops : (vs : List ℕ) → AreInRange (loops_of (map count_of (tile_path p v r s))) vs → loop_values (tile_path p v r s) 0 (slice_index vs) ≡ vs
+  pub values-of-loops : (vs : List ℕ) → AreInRange (loops_of (map count_of (tile_path p v r s))) vs → loop_values (tile_path p v r s) 0 (slice_index vs) ≡ vs
   values-of-loops vs range =
       values-are (tile_path p v r s) 0 (slice_index vs) vs [] (ranged (tile_path p v r s) vs range) (λ i. ap (slice_index vs) (omega arith) ∙ ap (λ us. slice_index us i) (sym (append-nil vs)))
 
-  number-below : (vs : List ℕ) → AreInRange (loops_of (map count_of (tile_path p v r s))) vs → tile_number p v r s (slice_index vs) < s / v
+  pub number-below : (vs : List ℕ) → AreInRange (loops_of (map count_of (tile_path p v r s))) vs → tile_number p v r s (slice_index vs) < s / v
   number-below vs range =
       let groups = group_path p v r in
       let inner = range-append groups (across v s) 0 (slice_index vs) (subst (AreInRange (tile_path p v r s)) (sym (values-of-loops vs range)) (ranged (tile_path p v r s) vs range)) in
@@ -105,7 +105,7 @@ module _ (p v r s : ℕ) where
       (place-below (across v s) 1 _ 0 (subst (λ d. AreInRange (across v s) (loop_values (across v s) d (slice_index vs))) zero_first inner) (omega arith))
 
   -- the place of an item of a tile, in rows side by side
-  natural-at : (vs : List ℕ) (i l : ℕ) → AreInRange (loops_of (map count_of (tile_path p v r s))) vs →
+  pub natural-at : (vs : List ℕ) (i l : ℕ) → AreInRange (loops_of (map count_of (tile_path p v r s))) vs →
       place (tile_path p v r s) (v * v) vs (i * v + l) ≡ ((group_number p v r s (slice_index vs) * (s / v) + tile_number p v r s (slice_index vs)) * v + i) * v + l
   natural-at vs i l range =
       ap (λ us. place (tile_path p v r s) (v * v) us (i * v + l)) (sym (values-of-loops vs range)) ∙ natural-value (slice_index vs) (i * v + l) ∙ omega arith
