@@ -3,7 +3,7 @@
 
 ghost use Rattle.std.specs.Prelude.{◌≡◌, IfOk};
 ghost use Rattle.passes.specs.Views.{plain_merged};
-ghost use Rattle.shared_tensors.specs.Laws.{CanTensor};
+ghost use Rattle.shared_tensors.specs.Laws.{CanTensor, TensoredMeans};
 ghost use Rattle.shared_tensors.specs.Tensored.{tensored};
 
 use memory::NoMemory;
@@ -27,3 +27,9 @@ pub fn tensor_product(
     let _sizes = (procs, lanes, left.size, right.size);
     Err(NoMemory)
 }
+
+/// The passes of a tensor product do what `right` does to each row, and then `left` to each column: a law of the
+/// definitions.
+pub fn tensored_means()
+    ensures { TensoredMeans }
+{}

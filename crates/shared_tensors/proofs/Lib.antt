@@ -1,0 +1,11 @@
+pub mod Parts
+pub mod Rows
+pub mod Columns
+pub mod Swaps
+pub mod BlockPaths
+pub mod Tiles
+pub mod Shares
+pub mod Residues
+pub mod TileTurns
+pub mod RowMeaning
+pub mod Meaning
