@@ -7,7 +7,7 @@ use Rattle.dimension_plans.specs.Several.{several_cost, AreAdmissible, part_of}
 use Rattle.dimensions.specs.declared.Dimension.{Dimension}
 use Rattle.dimensions.specs.Transform.{listed, size_in}
 use Rattle.tree_model.specs.Admissible.{IsAdmissible}
-use Rattle.tree_model.specs.Breakdown.{Breakdown, size_of}
+use Rattle.tree_model.specs.Breakdown.{Breakdown}
 use Rattle.tree_model.specs.Cost.{cost_of}
 use Rattle.tree_model.specs.Passes.{Pass, passes_cost, passes_of, tiles}
 use Rattle.tree_model.proofs.PassLaws.{passes_cost_of}

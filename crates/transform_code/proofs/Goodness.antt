@@ -1,5 +1,5 @@
 -- The program of the chosen trees of several dimensions is good and lean.
-use Rattle.std.proofs.Common.{◌≡◌, ℕ, ◌*◌, ◌<◌, List, [], sym, ap, ◌∙◌, arith, subst, flat_map, length}
+use Rattle.std.proofs.Common.{◌≡◌, ℕ, ◌<◌, List, [], sym, ap, ◌∙◌, arith, subst, flat_map, length}
 use Rattle.std.specs.List.{range_with_len}
 use Rattle.dimension_passes.specs.Counts.{several_loads, several_passes, several_stores}
 use Rattle.dimension_passes.specs.Laws.{AreTreesFor, SeveralCount, SeveralMeans}

@@ -1,4 +1,3 @@
-pub mod Rooted
 pub mod Costs
 pub mod Parts
 pub mod Goodness
