@@ -1,0 +1,7 @@
+pub mod Limits
+pub mod Within
+pub mod Alike
+pub mod Registers
+pub mod Tiles
+pub mod Actions
+pub mod TreesAreParts

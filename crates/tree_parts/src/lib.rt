@@ -1,0 +1,9 @@
+//! The merged passes of a tree as part of a tensor product.
+#![tactic(auto)]
+
+ghost use Rattle.tree_parts.specs.Parts.{TreesAreParts};
+
+/// For one processor and one lane they have room in larger ones: a law of the definitions.
+pub fn trees_are_parts()
+    ensures { TreesAreParts }
+{}
