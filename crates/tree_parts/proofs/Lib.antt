@@ -5,3 +5,5 @@ pub mod Registers
 pub mod Tiles
 pub mod Actions
 pub mod TreesAreParts
+pub mod Residues
+pub mod TreesTransform

@@ -26,11 +26,11 @@ use Rattle.tree_passes.proofs.Works.{node-is}
 
 -- ---- as the cost model counts them
 
-abbrev IsOfNodes : Pass → Type 0
+abbrev pub IsOfNodes : Pass → Type 0
 IsOfNodes (nodes count tree t) = Unit {0}
 IsOfNodes (tiles t) = ⊥
 
-abbrev AreOfNodes : List Pass → Type 0
+abbrev pub AreOfNodes : List Pass → Type 0
 AreOfNodes [] = Unit {0}
 AreOfNodes (p ∷ ps) = IsOfNodes p × AreOfNodes ps
 
@@ -68,6 +68,9 @@ whole-is c t one =
     let few : nat_le c.lanes 1 ≡ true = grind (arith, nat_tests) in
     ap (λ b. if b then passes_of c 1 t else tiled_passes c t) few
 
+pub counted-nodes : (c : Request) (t : Breakdown) → IsValid c → IsAdmissible c t → c.lanes ≡ 1 → AreOfNodes (map counted (merged_of c t))
+counted-nodes c t valid h one = subst AreOfNodes (sym (merge_counts c t valid h ∙ whole-is c t one)) (passes-of-nodes c 1 t)
+
 -- ---- as nests
 
 no-tile : (c : Request) (copies : ℕ) (twiddled : Bool) (w : lowered.PlainWork) → IsOfNodes (counted_as copies w twiddled) → (v : ℕ) → loop_work c w ≡ tile v → ⊥
@@ -84,4 +87,4 @@ nests-of-nodes c (p ∷ ps) h =
     (All-cons HasNoTile (nest_of (loop_of c p)) [] (λ v is. no-tile c _ _ p.work h.0 v is) (All-nil HasNoTile)) (nests-of-nodes c ps h.1)
 
 pub no-tiles : (c : Request) (t : Breakdown) → IsValid c → IsAdmissible c t → c.lanes ≡ 1 → All (All HasNoTile) (nests_in c (merged_of c t))
-no-tiles c t valid h one = nests-of-nodes c (merged_of c t) (subst AreOfNodes (sym (merge_counts c t valid h ∙ whole-is c t one)) (passes-of-nodes c 1 t))
+no-tiles c t valid h one = nests-of-nodes c (merged_of c t) (counted-nodes c t valid h one)

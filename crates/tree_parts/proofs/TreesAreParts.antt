@@ -32,14 +32,14 @@ machine-is c h =
     ∙ ap (λ n. machine_by c 1 n c.lanes) h.line
     ∙ ap (λ n. machine_by c 1 1 n) h.lanes
 
-nests-are-part : (c : Request) (t : Breakdown) → IsForPart c → IsAdmissible c t → IsPart c.size c.modulus 48 (nests_of c t)
-nests-are-part c t h admissible =
+nests-are-part : (c : Request) (t : Breakdown) (room : ℕ) → IsForPart c → IsAdmissible c t → 41 ≤ room → room ≤ 64 → IsPart c.size c.modulus room (nests_of c t)
+nests-are-part c t room h admissible enough high =
     let passes = sym (passes-are c (merged_phases c t)) in
     let known : AllKnown c (merged_of c t) = tree-known c t h.valid admissible in
     let machine = plain_machine c.size c.modulus in
     record {
       programs = subst (CanProgram machine) (tree_nests c t h.valid admissible) (subst (λ m. CanProgram m (tree_merged c t)) (machine-is c h) (trees_can_program c t h.valid admissible));
-      within = subst (AreWithin 48 c.size) passes (passes-within c (merged_of c t) h.valid known);
+      within = subst (AreWithin room c.size) passes (passes-within room c (merged_of c t) enough high h.valid known);
       no_tiles = subst (All (All HasNoTile)) passes (no-tiles c t h.valid admissible h.lanes);
       registers = λ v few. subst (All (λ zs. pass_registers (plain_lanes c.size c.modulus v) zs < 2 ^ 20)) passes (few-in-passes c v (merged_of c t) h.valid known);
       actions = subst (λ (ps : List (List PlainNest)). most_actions machine ps + 4000 * c.size ≤ 4000 * (c.size * c.size)) passes (actions-few c t h.valid admissible h.two known);
@@ -47,4 +47,4 @@ nests-are-part c t h admissible =
     }
 
 pub trees_are_parts : TreesAreParts
-trees_are_parts c t h admissible = subst (IsPart c.size c.modulus 48) (sym (tree_nests c t h.valid admissible)) (nests-are-part c t h admissible)
+trees_are_parts c t room h admissible enough high = subst (IsPart c.size c.modulus room) (sym (tree_nests c t h.valid admissible)) (nests-are-part c t room h admissible enough high)
