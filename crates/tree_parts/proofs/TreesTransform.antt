@@ -8,7 +8,7 @@ use Rattle.loop_merge.specs.Merge.{PlainPass, merged_of, merged_phases}
 use Rattle.loop_merge.proofs.Counts.{merge_counts}
 use Rattle.loop_merge.proofs.LoopNests.{tree_nests}
 use Rattle.matrix_meaning.specs.declared.Request.{Request}
-use Rattle.matrix_meaning.specs.Kind.{entry_of}
+use Rattle.matrix_meaning.specs.Kind.{entry_of, transform}
 use Rattle.matrix_meaning.specs.Valid.{IsValid}
 use Rattle.passes.specs.Merged.{PlainMerged, merged_on, phase_on, phases_on}
 use Rattle.passes.specs.Nest.{PlainNest, nests_on}
@@ -19,6 +19,7 @@ use Rattle.tree_model.specs.Breakdown.{Breakdown}
 use Rattle.tree_model.specs.Cost.{node_root}
 use Rattle.tree_passes.proofs.Few.{few_merged}
 use Rattle.tree_passes.proofs.Known.{AllKnown, tree-known}
+use Rattle.tree_passes.proofs.Lean.{root-whole}
 use Rattle.tree_passes.proofs.Owned.{nests_in}
 use Rattle.tree_passes.proofs.TreesCanProgram.{passes-are}
 use Rattle.tree_parts.specs.Parts.{IsForPart, TreesTransform}
@@ -49,7 +50,7 @@ module _ (c : Request) (t : Breakdown) (h : IsForPart c) (admissible : IsAdmissi
       ∙ phases-joined c.modulus c.size (map (nests_in c) (merged_phases c t)) x
       ∙ ap (λ (ps : List (List PlainNest)). phase_on c.modulus c.size ps x) (passes-are c (merged_phases c t))
 
-  pub transforms : (x : List ℕ) → merged_on c.modulus (tree_merged c t) x ≡ transform_of c c.size x
+  transforms : (x : List ℕ) → merged_on c.modulus (tree_merged c t) x ≡ transform_of c c.size x
   transforms x =
       let reduced = residues c.modulus c.size x in
       let large = h.valid.in_range.modulus in
@@ -61,4 +62,4 @@ module _ (c : Request) (t : Breakdown) (h : IsForPart c) (admissible : IsAdmissi
       ∙ sym (matrix_times-residues c.modulus c.size (entry_of c.kind c.modulus (node_root c c.size)) x)
 
 pub trees_transform : TreesTransform
-trees_transform c t x h admissible = transforms c t h admissible x
+trees_transform c t x h admissible = transforms c t h admissible x ∙ ap (λ w. transform c.kind c.modulus c.size w x) (root-whole c h.valid)

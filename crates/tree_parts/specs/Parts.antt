@@ -2,10 +2,10 @@
 use Rattle.std.specs.Prelude.{◌≡◌, ℕ, ◌≤◌, List}
 use Rattle.formula_lower.specs.Merged.{tree_merged}
 use Rattle.matrix_meaning.specs.declared.Request.{Request}
+use Rattle.matrix_meaning.specs.Kind.{transform}
 use Rattle.matrix_meaning.specs.Valid.{IsValid}
 use Rattle.passes.specs.Merged.{merged_on}
 use Rattle.shared_tensors.specs.Laws.{IsPart}
-use Rattle.steps.specs.Meaning.{transform_of}
 use Rattle.tree_model.specs.Admissible.{IsAdmissible}
 use Rattle.tree_model.specs.Breakdown.{Breakdown}
 
@@ -23,4 +23,4 @@ TreesAreParts = (c : Request) (t : Breakdown) (room : ℕ) → IsForPart c → I
 
 -- and they do the transform to every list, whatever its numbers
 abbrev pub TreesTransform : Type 0
-TreesTransform = (c : Request) (t : Breakdown) (x : List ℕ) → IsForPart c → IsAdmissible c t → merged_on c.modulus (tree_merged c t) x ≡ transform_of c c.size x
+TreesTransform = (c : Request) (t : Breakdown) (x : List ℕ) → IsForPart c → IsAdmissible c t → merged_on c.modulus (tree_merged c t) x ≡ transform c.kind c.modulus c.size c.root x

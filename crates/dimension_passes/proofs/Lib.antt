@@ -1,0 +1,4 @@
+pub mod Given
+pub mod Parts
+pub mod Programs
+pub mod Means
