@@ -2,3 +2,4 @@ pub mod Given
 pub mod Parts
 pub mod Programs
 pub mod Means
+pub mod Tensors

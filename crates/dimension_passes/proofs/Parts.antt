@@ -101,11 +101,17 @@ plain_parts r d e more t ts few valid small h =
 
 -- ---- the whole
 
-few_listed : (ds : Dimensions) → length (listed ds) ≤ 4
+pub few_listed : (ds : Dimensions) → length (listed ds) ≤ 4
 few_listed (One a) = omega arith
 few_listed (Two a b) = omega arith
 few_listed (Three a b c) = omega arith
 few_listed (Four a b c d) = omega arith
+
+pub some_listed : (ds : Dimensions) → 1 ≤ length (listed ds)
+some_listed (One a) = omega arith
+some_listed (Two a b) = omega arith
+some_listed (Three a b c) = omega arith
+some_listed (Four a b c d) = omega arith
 
 -- where there is one processor and one lane nothing is shared
 plain_counts : (p v : ℕ) → (p == 1 && v == 1) ≡ true → (p ≡ 1) × (v ≡ 1)
