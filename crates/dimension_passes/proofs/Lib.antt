@@ -1,0 +1,5 @@
+pub mod Given
+pub mod Parts
+pub mod Programs
+pub mod Means
+pub mod Tensors

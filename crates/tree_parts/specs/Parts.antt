@@ -1,0 +1,26 @@
+-- The merged passes of a tree can be part of a tensor product.
+use Rattle.std.specs.Prelude.{◌≡◌, ℕ, ◌≤◌, List}
+use Rattle.formula_lower.specs.Merged.{tree_merged}
+use Rattle.matrix_meaning.specs.declared.Request.{Request}
+use Rattle.matrix_meaning.specs.Kind.{transform}
+use Rattle.matrix_meaning.specs.Valid.{IsValid}
+use Rattle.passes.specs.Merged.{merged_on}
+use Rattle.shared_tensors.specs.Laws.{IsPart}
+use Rattle.tree_model.specs.Admissible.{IsAdmissible}
+use Rattle.tree_model.specs.Breakdown.{Breakdown}
+
+-- a valid request for two words at least, on one processor and one lane
+pub record IsForPart (c : Request) : Type 0 where
+  pub valid : IsValid c
+  pub two : 2 ≤ c.size
+  pub procs : c.procs ≡ 1
+  pub line : c.line ≡ 1
+  pub lanes : c.lanes ≡ 1
+
+-- a place in the passes of its trees has at most 41 parts
+abbrev pub TreesAreParts : Type 0
+TreesAreParts = (c : Request) (t : Breakdown) (room : ℕ) → IsForPart c → IsAdmissible c t → 41 ≤ room → room ≤ 64 → IsPart c.size c.modulus room (tree_merged c t)
+
+-- and they do the transform to every list, whatever its numbers
+abbrev pub TreesTransform : Type 0
+TreesTransform = (c : Request) (t : Breakdown) (x : List ℕ) → IsForPart c → IsAdmissible c t → merged_on c.modulus (tree_merged c t) x ≡ transform c.kind c.modulus c.size c.root x
