@@ -3,7 +3,7 @@
 
 ghost use Rattle.std.specs.Prelude.{◌≡◌, IfOk};
 ghost use Rattle.passes.specs.Views.{plain_merged};
-ghost use Rattle.shared_tensors.specs.Laws.{CanTensor};
+ghost use Rattle.shared_tensors.specs.Laws.{CanTensor, TensoredCounts};
 ghost use Rattle.shared_tensors.specs.Tensored.{tensored};
 
 use memory::NoMemory;
@@ -27,3 +27,9 @@ pub fn tensor_product(
     let _sizes = (procs, lanes, left.size, right.size);
     Err(NoMemory)
 }
+
+/// Pass by pass they count what the second part does for each row, between tiles, and the first for each column: a law of the
+/// definitions.
+pub fn tensored_counts()
+    ensures { TensoredCounts }
+{}

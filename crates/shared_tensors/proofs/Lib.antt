@@ -1,0 +1,2 @@
+pub mod CodeShares
+pub mod Counts
