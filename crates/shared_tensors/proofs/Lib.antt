@@ -1,2 +1,3 @@
 pub mod CodeShares
 pub mod Counts
+pub mod CodePlaces

@@ -1,6 +1,8 @@
 //! Passes of tensor products, shared by processors and lanes.
 #![tactic(auto)]
 
+mod sums;
+
 ghost use Rattle.std.specs.Prelude.{◌≡◌, IfOk};
 ghost use Rattle.passes.specs.Views.{plain_merged};
 ghost use Rattle.shared_tensors.specs.Laws.{CanTensor, TensoredCounts};
