@@ -1,3 +1,4 @@
 pub mod CodeShares
 pub mod Counts
 pub mod CodePlaces
+pub mod CodeMoves

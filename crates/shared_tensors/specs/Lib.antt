@@ -1,2 +1,3 @@
 pub mod Tensored
 pub mod Laws
+pub mod Moved

@@ -1,6 +1,8 @@
 //! Passes of tensor products, shared by processors and lanes.
 #![tactic(auto)]
 
+mod parts;
+mod paths;
 mod sums;
 
 ghost use Rattle.std.specs.Prelude.{◌≡◌, IfOk};
