@@ -65,6 +65,16 @@ peak-end v n (variable f d rest) h some = max-le f _ n (omega (arith, h, le-left
 peak-end v n (remainder f of m rest) h some = max-le f _ n (omega (arith, h, le-left f (peak rest))) (peak-end v n rest (omega (arith, h, le-right f (peak rest))) some)
 peak-end v n (quotient f of m rest) h some = max-le f _ n (omega (arith, h, le-left f (peak rest))) (peak-end v n rest (omega (arith, h, le-right f (peak rest))) some)
 
+-- a number more
+more-part : (k f a b : ℕ) → b ≤ k + a → max f b ≤ k + max f a
+more-part k f a b h = max-le f b (k + max f a) (omega (arith, le-left f a)) (omega (arith, h, le-right f a))
+
+pub peak-more : (k : ℕ) (e : Sum) → peak (joined (constant k) e) ≤ k + peak e
+peak-more k (constant c) = omega arith
+peak-more k (variable f d rest) = more-part k f (peak rest) _ (peak-more k rest)
+peak-more k (remainder f of m rest) = more-part k f (peak rest) _ (peak-more k rest)
+peak-more k (quotient f of m rest) = more-part k f (peak rest) _ (peak-more k rest)
+
 -- ---- places
 
 pub whole-is : (t : Tensor) (path : Path) (n : ℕ) → count_of t * size_under path n ≡ size_under (t ∷ path) n

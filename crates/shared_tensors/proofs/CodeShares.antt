@@ -5,6 +5,7 @@ use Rattle.std.proofs.lemmas.Bool.{cases_eq}
 use Rattle.std.proofs.lemmas.Nat.Gcd.{dvd_of_mod-eq-zero}
 use Rattle.pass_actions.specs.Machine.{PlainMachine}
 use Rattle.shared_tensors.specs.Laws.{CanShare}
+use Rattle.shared_tensors.specs.Shared.{AreShared}
 
 -- ---- one number
 
@@ -45,19 +46,6 @@ each-part p v r whole =
     turned ∙ ap (λ x. p * v * x) (div-div-eq-div-mul r p v) ∙ whole-part (p * v) r whole
 
 -- ---- both numbers
-
--- r rows of s words, of which each of p processors and v lanes has equally many
-pub record AreShared (p v r s : ℕ) : Type 0 where
-  pub procs : 0 < p
-  pub lanes : 0 < v
-  pub few_procs : p ≤ 16
-  pub few_lanes : v ≤ 16
-  pub some_rows : 0 < r
-  pub some_columns : 0 < s
-  pub few : r * s ≤ 2 ^ 20
-  pub rows : p * (v * (r / p / v)) ≡ r
-  pub columns : p * (v * (s / p / v)) ≡ s
-  pub groups : v * (s / v) ≡ s
 
 pub are_shared : (h : PlainMachine) (r s : ℕ) → CanShare h r s → AreShared h.procs h.lanes r s
 are_shared h r s can =

@@ -18,7 +18,8 @@ use Rattle.tensor_paths.specs.declared.Tensor.TheVariants.{Blocks, Columns}
 use Rattle.tensor_paths.specs.Path.{Path, copies_of, count_of}
 use Rattle.shared_tensors.specs.Laws.{CountsTensored, TensoredCounts, with_tiles}
 use Rattle.shared_tensors.specs.Tensored.{across, column_passes, group_path, in_columns, in_phases, row_passes, row_place, shared_path, side_place, tiled_in, tiled_out, tiles}
-use Rattle.shared_tensors.proofs.CodeShares.{AreShared, are_shared}
+use Rattle.shared_tensors.specs.Shared.{AreShared}
+use Rattle.shared_tensors.proofs.CodeShares.{are_shared}
 
 -- ---- copies
 

@@ -2,3 +2,4 @@ pub mod CodeShares
 pub mod Counts
 pub mod CodePlaces
 pub mod CodeMoves
+pub mod CodeTiles

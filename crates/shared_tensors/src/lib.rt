@@ -4,6 +4,7 @@
 mod parts;
 mod paths;
 mod sums;
+mod tiles;
 
 ghost use Rattle.std.specs.Prelude.{◌≡◌, IfOk};
 ghost use Rattle.passes.specs.Views.{plain_merged};

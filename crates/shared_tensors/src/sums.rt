@@ -130,7 +130,8 @@ pub(crate) fn extend(sum: &mut Affine, more: Affine)
     }
 }
 
-fn raise(by: u64, sum: &mut Affine)
+/// Adds a number.
+pub(crate) fn raise(by: u64, sum: &mut Affine)
     requires { by + constant_of (plain_sum sum.old) < 2 ^ 64 }
     ensures { plain_sum sum.new ≡ joined (constant by) (plain_sum sum.old) }
 {
