@@ -45,3 +45,11 @@ CanMove (Columns s) path e = (s * peak e ≤ 2 ^ 20) × (0 < size_under path 1) 
 pub record CanMoveNest (part : Part) (path : Path) (z : PlainNest) : Type 0 where
   pub gathers : All (CanMove part path) z.gathers
   pub scatters : All (CanMove part path) z.scatters
+
+-- no number of a place is over n, which is the size of the part
+pub record IsLow (n : ℕ) (z : PlainNest) : Type 0 where
+  pub gathers : All (λ e. peak e ≤ n) z.gathers
+  pub scatters : All (λ e. peak e ≤ n) z.scatters
+
+abbrev pub AreLow : ℕ → List (List PlainNest) → Type 0
+AreLow n ps = All (All (IsLow n)) ps
