@@ -1,16 +1,16 @@
 -- Places of either part, moved into the whole.
-use Rattle.std.proofs.Common.{◌≡◌, ℕ, ◌+◌, ◌*◌, ◌^◌, ◌<◌, ◌≤◌, arith, sym, ap, ap₂, ◌∙◌, List, [], ◌∷◌, ◌++◌, length, subst}
+use Rattle.std.proofs.Common.{◌≡◌, ℕ, ◌*◌, ◌≤◌, arith, sym, ap, ap₂, ◌∙◌, List, [], ◌∷◌, ◌++◌, length, subst}
 use Rattle.std.specs.Prelude.{All, map}
 use Rattle.std.proofs.Math.Nat.{mul-le-mul_left}
 use Rattle.std.proofs.lemmas.List.{map-append}
 use Rattle.std.proofs.lemmas.List.Elements.{All-nil, All-cons, All-head, All-tail}
-use Rattle.perm_algebra.specs.Affine.{Sum, constant, joined, peak, scaled}
+use Rattle.perm_algebra.specs.Affine.{Sum, constant, peak, scaled}
 use Rattle.perm_algebra.specs.Room.{CanJoin, CanScale, constant_of}
 use Rattle.passes.specs.Merge.{place_sum, renumbered}
 use Rattle.shared_tensors.specs.Moved.{CanMove, moved_sum}
 use Rattle.shared_tensors.specs.declared.parts.Part.{Part}
 use Rattle.shared_tensors.specs.declared.parts.Part.TheVariants.{Rows, Columns}
-use Rattle.tensor_paths.specs.Path.{Path, size_under}
+use Rattle.tensor_paths.specs.Path.{Path}
 use Rattle.shared_tensors.proofs.CodePlaces.{constant-le-peak, constant-scaled, joined-zero, peak-place, peak-renumbered}
 
 -- ---- one by one

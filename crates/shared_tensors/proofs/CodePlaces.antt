@@ -1,6 +1,5 @@
 -- Places of copies stay words.
-use Rattle.std.proofs.Common.{◌≡◌, ℕ, zero, suc, ◌+◌, ◌*◌, ◌^◌, ◌<◌, ◌≤◌, arith, refl, sym, ap, ap₂, ◌∙◌, List, [], ◌∷◌, length, max, subst}
-use Rattle.std.specs.Prelude.{All, map}
+use Rattle.std.proofs.Common.{◌≡◌, ℕ, zero, suc, ◌+◌, ◌*◌, ◌^◌, ◌<◌, ◌≤◌, arith, refl, sym, ap, ap₂, ◌∙◌, [], ◌∷◌, max, subst}
 use Rattle.std.proofs.Math.Nat.{mul-le-mul_left, mul-le-mul_right}
 use Rattle.std.proofs.lemmas.Bool.Decides.{nat_tests}
 use Rattle.perm_algebra.specs.Affine.{Sum, constant, variable, remainder, quotient, joined, peak, scaled}
@@ -8,7 +7,7 @@ use Rattle.perm_algebra.specs.Room.{CanJoin, CanScale, constant_of}
 use Rattle.passes.specs.Merge.{place_sum, renumbered}
 use Rattle.tensor_paths.specs.declared.Tensor.{Tensor}
 use Rattle.tensor_paths.specs.declared.Tensor.TheVariants.{Blocks, Columns}
-use Rattle.tensor_paths.specs.Path.{Path, count_of, grown, size_under}
+use Rattle.tensor_paths.specs.Path.{Path, count_of, size_under}
 
 -- ---- numbers of sums
 

@@ -17,7 +17,7 @@ use tensor_paths::Tensor;
 
 /// Which part of a tensor product a pass is of.
 #[derive(Clone, Copy)]
-pub enum Part {
+pub(crate) enum Part {
     /// The second, on rows of so many words.
     Rows(u64),
     /// The first, on so many columns.
@@ -31,7 +31,8 @@ pub(crate) fn moved_passes(
     path: &[Tensor],
     passes: Vec<Vec<Nest>>,
 ) -> Result<Vec<Vec<Nest>>, NoMemory>
-    requires { All (λ pass. All (λ z. CanMoveNest part path.now (plain_nest z)) pass.items) passes.items }
+    requires { All (λ pass. All (λ z. CanMoveNest part path.now (plain_nest z)) pass.items)
+        passes.items }
     ensures { IfOk result (λ ps.
         plain_passes ps.items ≡ map (map (moved part path.now)) (plain_passes passes.items)) }
 {
@@ -59,12 +60,7 @@ fn moved_pass(
     Ok(all)
 }
 
-fn moved_nest(
-    alloc: Global,
-    part: Part,
-    path: &[Tensor],
-    nest: Nest,
-) -> Result<Nest, NoMemory>
+fn moved_nest(alloc: Global, part: Part, path: &[Tensor], nest: Nest) -> Result<Nest, NoMemory>
     requires { CanMoveNest part path.now (plain_nest nest) }
     ensures { IfOk result (λ z. plain_nest z ≡ moved part path.now (plain_nest nest)) }
 {
@@ -115,12 +111,7 @@ fn all_moved(
     Ok(places)
 }
 
-fn moved_sum(
-    alloc: Global,
-    part: Part,
-    path: &[Tensor],
-    sum: &Affine,
-) -> Result<Affine, NoMemory>
+fn moved_sum(alloc: Global, part: Part, path: &[Tensor], sum: &Affine) -> Result<Affine, NoMemory>
     requires { CanMove part path.now (plain_sum sum.now) }
     ensures { IfOk result (λ place.
         plain_sum place ≡ moved_sum part path.now (plain_sum sum.now)) }

@@ -166,7 +166,13 @@ fn row_place(
 {
     let group = group_path(alloc, procs, lanes, rows)?;
     let tiles = across(alloc, lanes, columns)?;
-    let mut inner = placed(alloc, &tiles, lanes, group.len() as u64, Affine::Constant(0))?;
+    let mut inner = placed(
+        alloc,
+        &tiles,
+        lanes,
+        group.len() as u64,
+        Affine::Constant(0),
+    )?;
     raise(row * columns, &mut inner);
     let place = placed(alloc, &group, lanes * columns, 0, inner)?;
     Ok(place)
@@ -186,6 +192,12 @@ fn side_place(
     ensures { IfOk result (λ place. plain_sum place ≡ side_place procs lanes rows columns row) }
 {
     let path = tile_path(alloc, procs, lanes, rows, columns)?;
-    let place = placed(alloc, &path, lanes * lanes, 0, Affine::Constant(row * lanes))?;
+    let place = placed(
+        alloc,
+        &path,
+        lanes * lanes,
+        0,
+        Affine::Constant(row * lanes),
+    )?;
     Ok(place)
 }

@@ -9,6 +9,6 @@ moved_nest-requires c = first-holds _ (λ z. CanMoveNest c.args.part c.args.path
 pub loop-nest-preserved : goal.loop-nest-preserved
 loop-nest-preserved c = (
   moved-more _ _ plain_nest (moved c.args.part c.args.path.now) c.loop-nest.all.items c.push.new.self.items c.loop-nest.yielded c.in_ok-moved_nest.field-0 c.in-Some.nest c.in_ok-push.ensures.items
-  c.in_ok-moved_nest.ensures c.loop-nest.invariant.0,
+      c.in_ok-moved_nest.ensures c.loop-nest.invariant.0,
   left-hold _ (λ z. CanMoveNest c.args.part c.args.path.now (plain_nest z)) c.in-Some.nest _ _ c.in-Some.ensures.steps.0 c.loop-nest.invariant.1,
 )

@@ -1,4 +1,4 @@
-use Rattle.std.proofs.Common.{ap, ap₂, ◌+◌, ◌∙◌}
+use Rattle.std.proofs.Common.{ap, ap₂, ◌∙◌}
 use Rattle.perm_algebra.specs.Affine.{Sum, variable}
 use Rattle.perm_algebra.specs.Views.{plain_sum}
 use Rattle.shared_tensors.proofs.CodePlaces.{blocks-placed, can-extend, can-scale}
