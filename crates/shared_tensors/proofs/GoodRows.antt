@@ -15,7 +15,7 @@ use Rattle.perm_algebra.specs.Affine.{Sum, constant, value}
 use Rattle.passes.proofs.Sides.{lift-more, rest_of, side-good, side-on, up}
 use Rattle.tensor_paths.specs.Path.{AreInRange, Path, count_of, place, size_under, under}
 use Rattle.tensor_paths.proofs.Under.{under-same}
-use Rattle.shared_tensors.proofs.Parts.{nests-reads}
+use Rattle.shared_tensors.proofs.GoodParts.{nests-reads}
 
 -- lists of one length
 shorter : (n k : ℕ) (f g : ℕ → ℕ) → n ≡ k → ((w : ℕ) → w < k → f w ≡ g w) → list_below n f ≡ list_below k g

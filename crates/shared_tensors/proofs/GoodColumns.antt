@@ -18,8 +18,8 @@ use Rattle.passes.proofs.Sides.{rest_of, rest-range, rest-index, lift-more, soun
 use Rattle.perm_algebra.specs.Affine.{Sum, constant, variable, remainder, quotient, value, joined, scaled}
 use Rattle.perm_algebra.proofs.AffineLaws.{value-scaled, value-joined}
 use Rattle.perm_algebra.proofs.Values.{sound-scaled, sound-joined}
-use Rattle.shared_tensors.proofs.Parts.{no-lanes-for}
-use Rattle.shared_tensors.proofs.Rows.{no-tile}
+use Rattle.shared_tensors.proofs.GoodParts.{no-lanes-for}
+use Rattle.shared_tensors.proofs.GoodRows.{no-tile}
 use Rattle.tensor_paths.specs.declared.Tensor.TheVariants.{Blocks, Columns}
 use Rattle.tensor_paths.specs.Loop.{nest_sum}
 use Rattle.tensor_paths.specs.Path.{Path, count_of, size_under, place, AreInRange}
