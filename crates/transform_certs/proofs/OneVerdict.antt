@@ -1,5 +1,5 @@
 -- A text has one verdict.
-use Rattle.std.proofs.Common.{◌≡◌, ℕ, List, [], ◌∷◌, Option, Some, None, refl, sym, ap₂, ◌∙◌}
+use Rattle.std.proofs.Common.{◌≡◌, List, [], ◌∷◌, Option, Some, None, sym, ap₂, ◌∙◌}
 use Rattle.dimensions.specs.declared.Dimension.{Dimension}
 use Rattle.dimensions.specs.Transform.{listed, size_in}
 use Rattle.dimension_plans.specs.declared.SeveralRequest.{SeveralRequest}
@@ -9,9 +9,8 @@ use Rattle.plan_cert.proofs.OneVerdict as one
 use Rattle.plan_cert.proofs.OneVerdict.{text_verdict, value_verdict}
 use Rattle.serde_json.specs.Data.{Data, Items, no_items, item}
 use Rattle.serde_json.specs.Find.{as_array}
-use Rattle.transform_requests.specs.declared.TransformRequest.{TransformRequest}
 use Rattle.transform_requests.specs.declared.TransformRequest.TheVariants.{One, Several}
-use Rattle.transform_certs.specs.Judged.{joined, IsItemsVerdict, IsOptionVerdict, IsListVerdict, IsVerdict}
+use Rattle.transform_certs.specs.Judged.{joined, IsItemsVerdict, IsOptionVerdict, IsListVerdict}
 use Rattle.transform_certs.specs.Laws.{VerdictsAreOne}
 
 items_verdict : (r : SeveralRequest) (ds : List Dimension) (xs : Items) (v w : Verdict) → IsItemsVerdict r ds xs v → IsItemsVerdict r ds xs w → v ≡ w

@@ -1,5 +1,5 @@
 -- The certificate of a request is judged to be of its least cost.
-use Rattle.std.proofs.Common.{◌≡◌, ℕ, ◌+◌, ◌*◌, ◌≤◌, List, [], ◌∷◌, refl, sym, subst, ◌∙◌, arith}
+use Rattle.std.proofs.Common.{ℕ, ◌+◌, ◌*◌, ◌≤◌, List, [], ◌∷◌, refl, arith}
 use Rattle.dimensions.specs.declared.Dimension.{Dimension}
 use Rattle.dimensions.specs.Transform.{listed, size_in}
 use Rattle.dimension_plans.specs.declared.SeveralRequest.{SeveralRequest}
@@ -7,21 +7,16 @@ use Rattle.dimension_plans.specs.Laws.{IsSumOfLeast}
 use Rattle.dimension_plans.specs.Several.{part_of, AreValid}
 use Rattle.dimension_plans.proofs.ChosenLaws.{least_of_sum}
 use Rattle.dimension_plans.proofs.Plans.{first_valid, others_valid, valid_positive}
-use Rattle.matrix_meaning.specs.declared.Request.{Request}
 use Rattle.plan_cert.specs.declared.certificate.Row.{Row}
 use Rattle.plan_cert.specs.declared.verdict.Verdict.TheVariants.{Least}
 use Rattle.plan_cert.specs.Certificate.{cost_at}
 use Rattle.plan_cert.proofs.RightTable.{least_in, table_least, table_right}
-use Rattle.tree_model.specs.Admissible.{IsLeast, IsLeastWhole}
-use Rattle.transform_requests.specs.declared.TransformRequest.{TransformRequest}
+use Rattle.tree_model.specs.Admissible.{IsLeast}
 use Rattle.transform_requests.specs.declared.TransformRequest.TheVariants.{One, Several}
 use Rattle.transform_certs.specs.Certified.{tables_data, several_data, AreTables}
 use Rattle.transform_certs.specs.Judged.{IsItemsVerdict}
+use Rattle.transform_certs.proofs.Small.{least_forward}
 use Rattle.transform_certs.specs.Laws.{CertificatesAreRight}
-
--- a forward transform costs what its tree does
-pub least_forward : (r : SeveralRequest) (d : Dimension) (k : ℕ) → IsLeastWhole (part_of r d) k → IsLeast (part_of r d) k
-least_forward r d k (least, is, e) = subst (λ (n : ℕ). IsLeast (part_of r d) n) (sym (e ∙ add-zero least)) is
 
 tables_right : (r : SeveralRequest) (ds : List Dimension) (tables : List (List Row)) → AreValid r ds → AreTables r ds tables
     → (k : ℕ) × IsItemsVerdict r ds (tables_data r ds tables) (Least k) × IsSumOfLeast r ds k
@@ -42,7 +37,7 @@ tables_right r (d ∷ ds) (rows ∷ tables) valid (table, h) =
 pub certificates_right : CertificatesAreRight
 certificates_right (One r) text valid trees (rows, h) = table_least r text rows valid.in_range.size.0 h
 certificates_right (Several r) text valid trees (tables, h) =
-    let right = tables_right r (listed r.dimensions) tables valid.parts h.tables in (
+    let right = tables_right r (listed r.dimensions) tables valid.parts h.chosen in (
       right.0,
       (several_data r tables, h.line.json, right.1),
       (trees, least_of_sum r (listed r.dimensions) right.0 (valid_positive r (listed r.dimensions) valid.parts) right.2),

@@ -1,5 +1,5 @@
 -- The least cost of a dimension is small.
-use Rattle.std.proofs.Common.{◌≡◌, ℕ, zero, suc, ◌+◌, ◌-◌, ◌*◌, ◌≤◌, ◌==◌, Bool, true, false, if◌then◌else◌, nat_le, refl, arith}
+use Rattle.std.proofs.Common.{◌≡◌, ℕ, zero, suc, ◌+◌, ◌-◌, ◌*◌, ◌≤◌, ◌==◌, Bool, true, false, if◌then◌else◌, nat_le, refl, sym, subst, ◌∙◌, add-zero, arith}
 use Rattle.std.proofs.Math.Nat.{mul-le-mul_left, suc-mul}
 use Rattle.matrix_meaning.specs.declared.Request.{Request}
 use Rattle.matrix_meaning.specs.Kind.{entry_of}
@@ -7,7 +7,7 @@ use Rattle.operators.specs.Sum.{sum_below}
 use Rattle.dimensions.specs.declared.Dimension.{Dimension}
 use Rattle.dimension_plans.specs.declared.SeveralRequest.{SeveralRequest}
 use Rattle.dimension_plans.specs.Several.{part_of}
-use Rattle.tree_model.specs.Admissible.{IsLeast}
+use Rattle.tree_model.specs.Admissible.{IsLeast, IsLeastWhole}
 use Rattle.tree_model.specs.Breakdown.{leaf}
 use Rattle.tree_model.specs.Cost.{leaf_cost, node_root, product_cost, products_cost, IsModest}
 use Rattle.tree_model.proofs.CostBounds.{modest_short, modest_long}
@@ -48,3 +48,7 @@ least_modest r d x low light least =
     let bound : x ≤ leaf_cost (part_of r d) d.size = least.bound (leaf d.size) (record { well_formed = low; size = refl; root = λ e not_plain. absurd (cc) }) in
     let modest : IsModest d.size (leaf_cost (part_of r d) d.size) = leaf_modest (part_of r d) d.size low light in
     omega (arith, bound, modest)
+
+-- a forward transform costs what its tree does
+pub least_forward : (r : SeveralRequest) (d : Dimension) (k : ℕ) → IsLeastWhole (part_of r d) k → IsLeast (part_of r d) k
+least_forward r d k (least, is, e) = subst (λ (n : ℕ). IsLeast (part_of r d) n) (sym (e ∙ add-zero least)) is

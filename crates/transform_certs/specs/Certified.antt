@@ -28,12 +28,12 @@ several_data r tables = array (tables_data r (listed r.dimensions) tables)
 
 -- the list's text, one line
 pub record AreTablesText (r : SeveralRequest) (text : List ℕ) (tables : List (List Row)) : Type 0 where
-  pub tables : AreTables r (listed r.dimensions) tables
+  pub chosen : AreTables r (listed r.dimensions) tables
   pub line : IsLineOf (several_data r tables) text
 
 -- the members are the certificates for these dimensions
 pub record AreCertificates (r : SeveralRequest) (ds : List Dimension) (xs : Items) (tables : List (List Row)) : Type 0 where
-  pub tables : AreTables r ds tables
+  pub chosen : AreTables r ds tables
   pub members : xs ≡ tables_data r ds tables
 
 -- the text is the certificate of the request

@@ -1,18 +1,20 @@
 // What is to be said of a text as a certificate of a request.
 ghost use Rattle.std.specs.Prelude.{◌≡◌, ℕ, ◌+◌, ◌*◌, ◌^◌, ◌<◌, ◌≤◌, IfOk, []};
 ghost use Rattle.dimension_plans.specs.declared.SeveralRequest.{SeveralRequest as SpecRequest};
-ghost use Rattle.dimension_plans.specs.Several.{AreValid, CanShare, IsLeastOf, IsSeveralRequest};
+ghost use Rattle.dimension_plans.specs.Several.{part_of, AreValid, CanShare, IsLeastOf, IsSeveralRequest};
 ghost use Rattle.dimensions.specs.Transform.{listed, listed_others, size_in};
+ghost use Rattle.matrix_meaning.specs.Valid.{IsValid};
 ghost use Rattle.operators.specs.Sizes.{max_size};
-ghost use Rattle.plan_cert.specs.Verdict.{IsTextVerdict};
+ghost use Rattle.plan_cert.specs.Verdict.{IsTextVerdict, IsValueVerdict};
 ghost use Rattle.plan_cert.specs.declared.verdict.Verdict.TheVariants.{Least};
 ghost use Rattle.serde_json.specs.View.{items_view, view};
 ghost use Rattle.transform_certs.specs.Judged.{joined, IsItemsVerdict, IsListVerdict, IsVerdict};
 ghost use Rattle.transform_certs.specs.Least.{AdmitsTrees, IsLeastCost, IsSmallSum};
 ghost use Rattle.transform_requests.specs.Range.{IsRequestValid};
+ghost use Rattle.tree_model.specs.Admissible.{IsLeastWhole};
 
 use dimension_plans::SeveralRequest;
-use dimensions::Dimensions;
+use dimensions::{Dimension, Dimensions};
 use memory::NoMemory;
 use plan_cert::{Verdict, check_cert, check_value, json_value};
 use serde_json::Value;
@@ -45,11 +47,7 @@ pub fn check_certificate(
 }
 
 // The verdict on a text as a certificate of several dimensions.
-fn check_several(
-    alloc: Global,
-    request: &SeveralRequest,
-    text: &[u8],
-) -> Result<Verdict, NoMemory>
+fn check_several(alloc: Global, request: &SeveralRequest, text: &[u8]) -> Result<Verdict, NoMemory>
     requires valid { IsSeveralRequest request.now }
     requires trees { CanShare request.now }
     ensures verdict { IfOk result (IsTextVerdict (IsListVerdict request.now) text.now) }
@@ -64,11 +62,7 @@ fn check_several(
 }
 
 // The verdict on a value that is to be a list of certificates.
-fn check_list(
-    alloc: Global,
-    request: &SeveralRequest,
-    value: &Value,
-) -> Result<Verdict, NoMemory>
+fn check_list(alloc: Global, request: &SeveralRequest, value: &Value) -> Result<Verdict, NoMemory>
     requires valid { IsSeveralRequest request.now }
     requires trees { CanShare request.now }
     ensures verdict { IfOk result (IsListVerdict request.now (view value.now)) }
@@ -102,9 +96,25 @@ fn check_values(
         return Ok(Verdict::Unread);
     };
     let (first, others) = some.parts();
-    let a = check_value(alloc, &Ctx::new(&request.part(&first)), value)?;
+    let a = check_part(alloc, request, &first, value)?;
     let b = check_values(alloc, request, &others, rest)?;
     Ok(joined(first.size, size_of_others(&others), a, b))
+}
+
+// The verdict on the member of a dimension.
+fn check_part(
+    alloc: Global,
+    request: &SeveralRequest,
+    dimension: &Dimension,
+    value: &Value,
+) -> Result<Verdict, NoMemory>
+    requires { IsValid (part_of request.now dimension.now) }
+    ensures verdict { IfOk result (IsValueVerdict (part_of request.now dimension.now) (view value.now)) }
+    ensures least { IfOk result (λ v.
+        (cost : ℕ) → v ≡ Least cost → IsLeastWhole (part_of request.now dimension.now) cost) }
+{
+    let verdict = check_value(alloc, &Ctx::new(&request.part(dimension)), value)?;
+    Ok(verdict)
 }
 
 // The verdict on members behind those of the last dimension: there are to be none.

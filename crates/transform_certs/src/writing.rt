@@ -1,15 +1,17 @@
 // The certificate of a request, as text.
 ghost use Rattle.std.specs.Prelude.{◌≡◌, ◌∷◌, List, IfOk};
-ghost use Rattle.dimension_plans.specs.Several.{AreValid, IsSeveralRequest};
+ghost use Rattle.dimension_plans.specs.Several.{part_of, AreValid, IsSeveralRequest};
 ghost use Rattle.dimensions.specs.Transform.{listed_others};
+ghost use Rattle.matrix_meaning.specs.Valid.{IsValid};
+ghost use Rattle.plan_cert.specs.Table.{IsTableValue};
 ghost use Rattle.plan_cert.specs.declared.certificate.Row.{Row};
-ghost use Rattle.serde_json.specs.View.{items_view};
+ghost use Rattle.serde_json.specs.View.{items_view, view};
 ghost use Rattle.transform_certs.specs.Certified.{AreCertificates, AreTablesText, IsCertificateText};
 ghost use Rattle.transform_certs.specs.Least.{AdmitsTrees};
 ghost use Rattle.transform_requests.specs.Range.{IsRequestValid};
 
 use dimension_plans::SeveralRequest;
-use dimensions::Dimensions;
+use dimensions::{Dimension, Dimensions};
 use memory::NoMemory;
 use plan_cert::{certificate_value, value_line};
 use serde_json::Value;
@@ -60,10 +62,24 @@ fn certificates(
         return Ok(Vec::new(alloc));
     };
     let (first, others) = some.parts();
-    let value = certificate_value(alloc, &Ctx::new(&request.part(&first)))?;
+    let value = part_certificate(alloc, request, &first)?;
     let values = certificates(alloc, request, &others)?;
     let values = in_front(value, values)?;
     Ok(values)
+}
+
+// The certificate of a dimension.
+fn part_certificate(
+    alloc: Global,
+    request: &SeveralRequest,
+    dimension: &Dimension,
+) -> Result<Value, NoMemory>
+    requires { IsValid (part_of request.now dimension.now) }
+    ensures { IfOk result (λ value. (rows : List Row)
+        × IsTableValue (part_of request.now dimension.now) (view value) rows) }
+{
+    let value = certificate_value(alloc, &Ctx::new(&request.part(dimension)))?;
+    Ok(value)
 }
 
 // The values with one more before them.

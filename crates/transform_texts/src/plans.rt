@@ -19,8 +19,7 @@ fn write_trees(out: &mut Vec<u8>, trees: &[Tree]) -> Result<(), NoMemory>
         return Ok(());
     };
     if others.is_empty() {
-        write_tree(out, first)?;
-        return Ok(());
+        return Ok(write_tree(out, first)?);
     }
     out.extend_from_slice(b"dim(")?;
     write_tree(out, first)?;
