@@ -3,3 +3,5 @@ pub mod Parts
 pub mod Programs
 pub mod Means
 pub mod Tensors
+pub mod Scaled
+pub mod Counting

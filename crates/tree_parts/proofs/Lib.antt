@@ -7,3 +7,4 @@ pub mod Actions
 pub mod TreesAreParts
 pub mod Residues
 pub mod TreesTransform
+pub mod PassesCount

@@ -38,6 +38,6 @@ tensor_product-requires t c =
     let e = rw c.in_default-Some.is-1 at c.parts.ensures in
     let others = c.in_default-Some.others in
     plain_tensor c.args.request.now c.parts.result.0 (listed others) (listed c.args.dimensions.now) (breakdown_of c.in-Some.tree.now) (map breakdown_of c.in-Some.later.now)
-        (map breakdown_of c.args.trees.now) (plain_merged c.in_ok-columns-in_default-Some.columns) (plain_merged c.in_ok-rows-in_default-Some.rows) e
-        (ap (map breakdown_of) c.in-Some.ensures.cases.0) (some_listed others) (few_listed c.args.dimensions.now) c.requires.valid c.requires.size c.requires.trees
-        c.in_ok-columns-in_default-Some.ensures c.in_ok-rows-in_default-Some.ensures
+    (map breakdown_of c.args.trees.now) (plain_merged c.in_ok-columns-in_default-Some.columns) (plain_merged c.in_ok-rows-in_default-Some.rows) e
+    (ap (map breakdown_of) c.in-Some.ensures.cases.0) (some_listed others) (few_listed c.args.dimensions.now) c.requires.valid c.requires.size c.requires.trees
+    c.in_ok-columns-in_default-Some.ensures c.in_ok-rows-in_default-Some.ensures

@@ -19,12 +19,12 @@ tensor_product-requires c =
     let e = rw c.in_default-Some.is-1 at c.parts.ensures in
     let others = c.in_default-Some.others in
     whole_tensor c.args.request.now c.parts.result.0 (listed others) (breakdown_of c.in-Some.tree.now) (map breakdown_of c.in-Some.later.now) (map breakdown_of c.args.trees.now)
-        (plain_merged c.in_ok-columns.columns) (plain_merged c.in_ok-rows.rows) e (ap (map breakdown_of) c.in-Some.ensures.cases.0) (some_listed others) c.requires
-        c.in_ok-columns.ensures c.in_ok-rows.ensures
+    (plain_merged c.in_ok-columns.columns) (plain_merged c.in_ok-rows.rows) e (ap (map breakdown_of) c.in-Some.ensures.cases.0) (some_listed others) c.requires
+    c.in_ok-columns.ensures c.in_ok-rows.ensures
 
 pub returns : goal.returns
 returns c =
     let e = rw c.in_default-Some.is-1 at c.parts.ensures in
     whole_is c.args.request.now c.parts.result.0 (listed c.in_default-Some.others) (breakdown_of c.in-Some.tree.now) (map breakdown_of c.in-Some.later.now) (map breakdown_of c.args.trees.now)
-        (plain_merged c.in_ok-columns.columns) (plain_merged c.in_ok-rows.rows) (plain_merged c.in_ok-merged.merged) e (ap (map breakdown_of) c.in-Some.ensures.cases.0)
-        c.in_ok-merged.ensures c.in_ok-columns.ensures c.in_ok-rows.ensures
+    (plain_merged c.in_ok-columns.columns) (plain_merged c.in_ok-rows.rows) (plain_merged c.in_ok-merged.merged) e (ap (map breakdown_of) c.in-Some.ensures.cases.0)
+    c.in_ok-merged.ensures c.in_ok-columns.ensures c.in_ok-rows.ensures
