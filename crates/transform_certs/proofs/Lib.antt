@@ -4,3 +4,4 @@ pub mod Listed
 pub mod Members
 pub mod OneVerdict
 pub mod Right
+pub mod OneText

@@ -17,3 +17,7 @@ abbrev pub CertificatesAreRight : Type 0
 CertificatesAreRight =
     (request : TransformRequest) (text : List ℕ) → IsRequestValid request → AdmitsTrees request → IsCertificateText request text →
     (cost : ℕ) × IsVerdict request text (Least cost) × IsLeastCost request cost
+
+-- a request has one certificate
+abbrev pub CertificatesAreOne : Type 0
+CertificatesAreOne = (request : TransformRequest) (text other : List ℕ) → IsCertificateText request text → IsCertificateText request other → text ≡ other

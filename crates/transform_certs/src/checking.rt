@@ -85,7 +85,8 @@ fn check_values(
 ) -> Result<Verdict, NoMemory>
     requires parts { AreValid request.now (listed_others dimensions.now) }
     requires size { size_in (listed_others dimensions.now) ≤ max_size }
-    ensures verdict { IfOk result (IsItemsVerdict request.now (listed_others dimensions.now) (items_view values.now)) }
+    ensures verdict { IfOk result (λ v. IsItemsVerdict request.now
+        (listed_others dimensions.now) (items_view values.now) v) }
     ensures least { IfOk result (λ v. (cost : ℕ) → v ≡ Least cost
         → IsSmallSum request.now (listed_others dimensions.now) cost) }
 {
@@ -109,7 +110,8 @@ fn check_part(
     value: &Value,
 ) -> Result<Verdict, NoMemory>
     requires { IsValid (part_of request.now dimension.now) }
-    ensures verdict { IfOk result (IsValueVerdict (part_of request.now dimension.now) (view value.now)) }
+    ensures verdict { IfOk result (λ v.
+        IsValueVerdict (part_of request.now dimension.now) (view value.now) v) }
     ensures least { IfOk result (λ v.
         (cost : ℕ) → v ≡ Least cost → IsLeastWhole (part_of request.now dimension.now) cost) }
 {

@@ -4,7 +4,7 @@
 mod checking;
 mod writing;
 
-ghost use Rattle.transform_certs.specs.Laws.{CertificatesAreRight, VerdictsAreOne};
+ghost use Rattle.transform_certs.specs.Laws.{CertificatesAreOne, CertificatesAreRight, VerdictsAreOne};
 
 pub use checking::check_certificate;
 pub use plan_cert::Verdict;
@@ -18,4 +18,9 @@ pub fn verdicts_are_one()
 /// The verdict on a request's own certificate is the request's least cost.
 pub fn certificates_are_right()
     ensures { CertificatesAreRight }
+{}
+
+/// A request has one certificate.
+pub fn certificates_are_one()
+    ensures { CertificatesAreOne }
 {}

@@ -55,8 +55,8 @@ fn certificates(
     dimensions: &Option<Dimensions>,
 ) -> Result<Vec<Value>, NoMemory>
     requires { AreValid request.now (listed_others dimensions.now) }
-    ensures { IfOk result (λ values. (tables : List (List Row))
-        × AreCertificates request.now (listed_others dimensions.now) (items_view values.items) tables) }
+    ensures { IfOk result (λ values. (tables : List (List Row)) × AreCertificates request.now
+        (listed_others dimensions.now) (items_view values.items) tables) }
 {
     let Some(some) = dimensions else {
         return Ok(Vec::new(alloc));
