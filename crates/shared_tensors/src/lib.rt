@@ -3,7 +3,7 @@
 
 ghost use Rattle.std.specs.Prelude.{◌≡◌, IfOk};
 ghost use Rattle.passes.specs.Views.{plain_merged};
-ghost use Rattle.shared_tensors.specs.Laws.{CanTensor};
+ghost use Rattle.shared_tensors.specs.Laws.{CanTensor, TensoredCanProgram, TensoredIsPart};
 ghost use Rattle.shared_tensors.specs.Tensored.{tensored};
 
 use memory::NoMemory;
@@ -27,3 +27,10 @@ pub fn tensor_product(
     let _sizes = (procs, lanes, left.size, right.size);
     Err(NoMemory)
 }
+
+/// A program can be made of the passes of a tensor product, and for one processor and one lane they are a part again: laws
+/// of the definitions.
+pub fn tensored_can_program()
+    ensures program { TensoredCanProgram }
+    ensures part { TensoredIsPart }
+{}
