@@ -1,2 +1,4 @@
 pub mod Limits
 pub mod Wraps
+pub mod Framed
+pub mod Written
