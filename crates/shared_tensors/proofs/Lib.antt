@@ -2,3 +2,4 @@ pub mod Limits
 pub mod Wraps
 pub mod Framed
 pub mod Written
+pub mod Shares
