@@ -2,4 +2,5 @@ pub mod Limits
 pub mod Wraps
 pub mod Framed
 pub mod Written
-pub mod Shares
+pub mod ShareNumbers
+pub mod TileLimits

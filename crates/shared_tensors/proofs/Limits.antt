@@ -127,7 +127,7 @@ rest-counts : (path : Path) (counts more : List ℕ) → rest_of path ((map coun
 rest-counts [] counts more = refl
 rest-counts (t ∷ path) counts more = rest-counts path counts more
 
-counts-first : (path : Path) (v : ℕ) (cs : ℕ → ℕ) (more : List ℕ) → ((i : ℕ) → cs (v + i) ≡ slice_index (map count_of path ++ more) i) → HasCounts path v cs
+pub counts-first : (path : Path) (v : ℕ) (cs : ℕ → ℕ) (more : List ℕ) → ((i : ℕ) → cs (v + i) ≡ slice_index (map count_of path ++ more) i) → HasCounts path v cs
 counts-first [] v cs more is = tt
 counts-first (t ∷ path) v cs more is = (ap cs (omega arith) ∙ is 0, counts-first path (v + 1) cs more (λ i. ap cs (omega arith) ∙ is (suc i)))
 
