@@ -4,3 +4,4 @@ pub mod Framed
 pub mod Written
 pub mod ShareNumbers
 pub mod TileLimits
+pub mod Owners
