@@ -5,3 +5,4 @@ pub mod Written
 pub mod ShareNumbers
 pub mod TileLimits
 pub mod Owners
+pub mod TileOwners

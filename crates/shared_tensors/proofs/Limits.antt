@@ -146,31 +146,31 @@ module _ (path : Path) (up : Sum → Sum) where
       (λ i. ap (limits z) (omega arith) ∙ ap (λ l. slice_index l i) (append_assoc (map count_of path) z.counts (work_size z.work ∷ work_size z.work ∷ [])))
 
   -- places stay small in a larger array
-  abbrev pub KeepsSmall : ℕ → ℕ → ℕ → Type 0
-  KeepsSmall room n k = (z : PlainNest) (e : Sum) → IsSmall room n (limits z) (renumbered (length path) e) → IsSmall (room + length path) k (limits z) (up e)
+  abbrev pub KeepsSmall : ℕ → ℕ → ℕ → ℕ → Type 0
+  KeepsSmall room more n k = (z : PlainNest) (e : Sum) → IsSmall room n (limits z) (renumbered (length path) e) → IsSmall more k (limits z) (up e)
 
-  module _ (room n k : ℕ) (keeps : KeepsSmall room n k) where
+  module _ (room more n k : ℕ) (wide : room ≤ more) (keeps : KeepsSmall room more n k) where
     renumbered-in : (count : ℕ) (z : PlainNest) (e : Sum) → is_limited room count (limits_of z) e ≡ true → IsSmall room count (limits z) (renumbered (length path) e)
     renumbered-in count z e h = renumbered-small (length path) room count (limits_of z) (limits z) e (same-limits z) (tested _ _ _ e h)
 
-    sums-in : (z : PlainNest) (es : List Sum) → list_all (is_limited room n (limits_of z)) es ≡ true → list_all (is_limited (room + length path) k (limits z)) (map up es) ≡ true
+    sums-in : (z : PlainNest) (es : List Sum) → list_all (is_limited room n (limits_of z)) es ≡ true → list_all (is_limited more k (limits z)) (map up es) ≡ true
     sums-in z [] h = refl
     sums-in z (e ∷ es) h =
         both-true _ _ (limited _ k (limits z) (up e) (keeps z e (renumbered-in n z e (and-left (is_limited room n (limits_of z) e) _ h))))
         (sums-in z es (and-right (is_limited room n (limits_of z) e) _ h))
 
-    places-in : (z : PlainNest) (count : ℕ) (es : List Sum) → list_all (is_limited room count (limits_of z)) es ≡ true → list_all (is_limited (room + length path) count (limits z)) (map (renumbered (length path)) es) ≡ true
+    places-in : (z : PlainNest) (count : ℕ) (es : List Sum) → list_all (is_limited room count (limits_of z)) es ≡ true → list_all (is_limited more count (limits z)) (map (renumbered (length path)) es) ≡ true
     places-in z count [] h = refl
     places-in z count (e ∷ es) h =
         both-true _ _
-        (limited _ count (limits z) _ (roomier room _ count count (limits z) _ (omega arith) (omega arith) (renumbered-in count z e (and-left (is_limited room count (limits_of z) e) _ h))))
+        (limited _ count (limits z) _ (roomier room more count count (limits z) _ wide (omega arith) (renumbered-in count z e (and-left (is_limited room count (limits_of z) e) _ h))))
         (places-in z count es (and-right (is_limited room count (limits_of z) e) _ h))
 
-    multiplier-in : (z : PlainNest) (o : Option PlainMultiplier) → is_multiplier_within room (limits_of z) o ≡ true → is_multiplier_within (room + length path) (limits z) (renumbered_places (length path) o) ≡ true
+    multiplier-in : (z : PlainNest) (o : Option PlainMultiplier) → is_multiplier_within room (limits_of z) o ≡ true → is_multiplier_within more (limits z) (renumbered_places (length path) o) ≡ true
     multiplier-in z None h = refl
     multiplier-in z (Some d) h = places-in z (factor_count d.factors) d.places h
 
-    pub pass-in : (zs : List PlainNest) → is_within room n zs ≡ true → is_within (room + length path) k (map (wrapped path up) zs) ≡ true
+    pub pass-in : (zs : List PlainNest) → is_within room n zs ≡ true → is_within more k (map (wrapped path up) zs) ≡ true
     pass-in [] h = refl
     pass-in (z ∷ zs) h =
         let places = list_all (is_limited room n (limits_of z)) z.gathers && list_all (is_limited room n (limits_of z)) z.scatters in
@@ -182,7 +182,7 @@ module _ (path : Path) (up : Sum → Sum) where
         (multiplier-in z z.multiplier (and-right places _ here)))
         (pass-in zs (and-right (places && is_multiplier_within room (limits_of z) z.multiplier) _ h))
 
-    pub passes-in : (ps : List (List PlainNest)) → AreWithin room n ps → AreWithin (room + length path) k (map (map (wrapped path up)) ps)
+    pub passes-in : (ps : List (List PlainNest)) → AreWithin room n ps → AreWithin more k (map (map (wrapped path up)) ps)
     passes-in [] h = tt
     passes-in (zs ∷ ps) h = (pass-in zs h.0, passes-in ps h.1)
 
@@ -195,13 +195,14 @@ row_up path n e = place_sum path n 0 (joined (constant 0) (renumbered (length pa
 abbrev pub column_up : Path → ℕ → Sum → Sum
 column_up path s e = joined (scaled s (renumbered (length path) e)) (place_sum path 1 0 (constant 0))
 
-pub rows-keep : (path : Path) (room n : ℕ) → AreSeveral path → 0 < n → n ≤ 2 ^ 20 → size_under path n ≤ 2 ^ 20 → KeepsSmall path (row_up path n) room n (size_under path n)
-rows-keep path room n several some low high z e h =
-    place-small path room n 0 _ (limits path (row_up path n) z) several (counted path (row_up path n) z) some high
-    (behind-small 0 room n n (limits path (row_up path n) z) (renumbered (length path) e) (omega arith) low h)
+pub rows-keep : (path : Path) (room more n : ℕ) → room + length path ≤ more → AreSeveral path → 0 < n → n ≤ 2 ^ 20 → size_under path n ≤ 2 ^ 20 → KeepsSmall path (row_up path n) room more n (size_under path n)
+rows-keep path room more n wide several some low high z e h =
+    roomier (room + length path) more _ (size_under path n) (limits path (row_up path n) z) _ wide (omega arith)
+    (place-small path room n 0 _ (limits path (row_up path n) z) several (counted path (row_up path n) z) some high
+    (behind-small 0 room n n (limits path (row_up path n) z) (renumbered (length path) e) (omega arith) low h))
 
-pub columns-keep : (path : Path) (room r s : ℕ) → AreSeveral path → size_under path 1 ≡ s → 0 < s → 0 < r → r * s ≤ 2 ^ 20 → s ≤ 2 ^ 20 → KeepsSmall path (column_up path s) room r (r * s)
-columns-keep path room r s several is some positive high low z e h =
+pub columns-keep : (path : Path) (room more r s : ℕ) → room + length path ≤ more → AreSeveral path → size_under path 1 ≡ s → 0 < s → 0 < r → r * s ≤ 2 ^ 20 → s ≤ 2 ^ 20 → KeepsSmall path (column_up path s) room more r (r * s)
+columns-keep path room more r s wide several is some positive high low z e h =
     let cs = limits path (column_up path s) z in
     let inner : IsSmall (0 + length path) s cs (place_sum path 1 0 (constant 0)) =
     subst (λ k. IsSmall (0 + length path) k cs (place_sum path 1 0 (constant 0))) is
@@ -212,4 +213,5 @@ columns-keep path room r s several is some positive high low z e h =
     (let g = mul-add-lt (top (renumbered (length path) e) cs) s (top (place_sum path 1 0 (constant 0)) cs) r h.top inner.top in
     let t = top-scaled s (renumbered (length path) e) cs in
     let swap : s * top (renumbered (length path) e) cs ≡ top (renumbered (length path) e) cs * s = omega arith in omega (arith, g, t, swap)) in
-    joined-both room (length path) (r * s) cs _ _ high bound outer (roomier (0 + length path) (length path) s (r * s) cs _ (omega arith) (omega (arith, long)) inner)
+    roomier (room + length path) more _ (r * s) cs _ wide (omega arith)
+    (joined-both room (length path) (r * s) cs _ _ high bound outer (roomier (0 + length path) (length path) s (r * s) cs _ (omega arith) (omega (arith, long)) inner))

@@ -61,7 +61,7 @@ abbrev pub OwnsPlaces : (ℕ → ℕ) → ℕ → Path → (Sum → Sum) → Typ
 OwnsPlaces owner n path up = (e : Sum) (q : ℕ) (counts vs more : List ℕ) → AreInRange (loops_of (map count_of path ++ counts)) vs → slice_index vs 0 ≡ q → value e (slice_index (rest_of path vs ++ more)) < n →
     owner (value (up e) (slice_index (vs ++ more))) ≡ q
 
-next : (v : ℕ) (xs : List ℕ) (i : ℕ) → slice_index (v ∷ xs) (0 + 1 + i) ≡ slice_index xs i
+pub next : (v : ℕ) (xs : List ℕ) (i : ℕ) → slice_index (v ∷ xs) (0 + 1 + i) ≡ slice_index xs i
 next v xs i = let e : 0 + 1 + i ≡ suc i = omega arith in ap (slice_index (v ∷ xs)) e
 
 pub rows-own : (p n : ℕ) (rest : Path) → OwnsPlaces (λ w. w / size_under rest n) n (Blocks p ∷ rest) (row_up (Blocks p ∷ rest) n)

@@ -52,7 +52,7 @@ counts-right : (path more : Path) (d : ℕ) (cs : ℕ → ℕ) → HasCounts (pa
 counts-right [] more d cs h = let e : d ≡ d + 0 = omega arith in subst (λ z. HasCounts more z cs) e h
 counts-right (t ∷ path) more d cs h = let e : d + 1 + length path ≡ d + suc (length path) = omega arith in subst (λ z. HasCounts more z cs) e (counts-right path more (d + 1) cs h.1)
 
-counts-append : (path more : Path) → map count_of (path ++ more) ≡ map count_of path ++ map count_of more
+pub counts-append : (path more : Path) → map count_of (path ++ more) ≡ map count_of path ++ map count_of more
 counts-append [] more = refl
 counts-append (t ∷ path) more = ap (λ xs. count_of t ∷ xs) (counts-append path more)
 
@@ -64,7 +64,7 @@ size-append (Columns c ∷ path) more n = ap (λ z. z * c) (size-append path mor
 -- ---- across a group of rows
 
 -- the row k begins behind the rows before it
-row-bound : (v s k e : ℕ) → k < v → e < s → k * s + e < v * s
+pub row-bound : (v s k e : ℕ) → k < v → e < s → k * s + e < v * s
 row-bound v s k e row low =
     let most : suc k * s ≤ v * s = mul-le-mul_right s row in
     let more : suc k * s ≡ k * s + s = omega arith in omega (arith, most, more, low)
