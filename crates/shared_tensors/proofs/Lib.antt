@@ -6,3 +6,5 @@ pub mod ShareNumbers
 pub mod TileLimits
 pub mod Owners
 pub mod TileOwners
+pub mod Totals
+pub mod Sharing
