@@ -8,3 +8,4 @@ pub mod Owners
 pub mod TileOwners
 pub mod Totals
 pub mod Sharing
+pub mod PartPasses

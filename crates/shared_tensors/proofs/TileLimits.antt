@@ -137,7 +137,7 @@ module _ (h : PlainMachine) (r s : ℕ) (can : CanShare h r s) (left : AreShares
       turn : (p c v s : ℕ) → p * (c * (v * s)) ≡ p * (c * v) * s
       turn p c v s = omega arith
 
-  side-size : size_under whole (v * v) ≡ h.size
+  pub side-size : size_under whole (v * v) ≡ h.size
   side-size =
       size-append group (across v s) (v * v)
       ∙ ap (size_under group) (size-within (Blocks (s / v)) [] (v * v) ∙ turn (s / v) v ∙ ap (λ z. v * z) (sym right))
