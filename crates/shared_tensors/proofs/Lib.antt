@@ -9,3 +9,4 @@ pub mod TileOwners
 pub mod Totals
 pub mod Sharing
 pub mod PartPasses
+pub mod Programs

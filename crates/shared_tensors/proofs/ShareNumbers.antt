@@ -105,3 +105,22 @@ module _ (p v r : ℕ) (procs : 1 ≤ p) (lanes : 1 ≤ v) (shares : AreShares p
     where
       turn : (p v c : ℕ) → p * (c * v) ≡ p * c * v
       turn p v c = omega arith
+
+-- the lanes stand side by side in groups of a row's words
+pub right-groups : (h : PlainMachine) (r s : ℕ) → CanShare h r s → (s ≡ s / h.lanes * h.lanes) × (1 ≤ s / h.lanes)
+right-groups h r s can =
+    let none : s % h.lanes ≡ 0 =
+    (elim (cases_lt 1 h.lanes) [
+      | inl several ↦ (can.lanes several).1
+      | inr one ↦ let is : h.lanes ≡ 1 = (let some = can.host.lanes.0 in omega (arith, one, some)) in ap (λ z. s % z) is ∙ mod-one s
+    ]) in
+    let whole = whole-of s h.lanes none in
+    let turned : h.lanes * (s / h.lanes) ≡ s / h.lanes * h.lanes = turn h.lanes (s / h.lanes) in
+    (whole ∙ turned, positive h.lanes (s / h.lanes) s can.right whole)
+  where
+    turn : (a b : ℕ) → a * b ≡ b * a
+    turn a b = omega arith
+
+    positive : (v c s : ℕ) → 2 ≤ s → s ≡ v * c → 1 ≤ c
+    positive v zero s two is = absurd (let none : v * 0 ≡ 0 = omega arith in omega (arith, two, is, none))
+    positive v (suc c) s two is = omega arith
