@@ -10,3 +10,4 @@ pub mod Totals
 pub mod Sharing
 pub mod PartPasses
 pub mod Programs
+pub mod PartAgain
