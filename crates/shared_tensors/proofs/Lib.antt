@@ -1,3 +1,14 @@
+pub mod Parts
+pub mod Rows
+pub mod Columns
+pub mod Swaps
+pub mod BlockPaths
+pub mod Tiles
+pub mod Shares
+pub mod Residues
+pub mod TileTurns
+pub mod RowMeaning
+pub mod Meaning
 pub mod Limits
 pub mod Wraps
 pub mod Framed
@@ -11,3 +22,4 @@ pub mod Sharing
 pub mod PartPasses
 pub mod Programs
 pub mod PartAgain
+pub mod Goods

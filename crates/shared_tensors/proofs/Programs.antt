@@ -351,11 +351,14 @@ module _ (h : PlainMachine) (room : ℕ) (left right : PlainMerged) (few : room 
             (row-share ∙ ap (λ z. z * s) (left-lines h r s can for_left more-procs) ∙ assoc h.line (r / (p * h.line)) s) (let size = can.host.size.0 in omega (arith, size));
         owns = first-owns h row_owner all_rows row-phase;
       },
-      (record {
-        owner = column_owner;
-        is_owner = columns-owner h s (size_under column_rest 1) (s / (p * h.line)) (for_right.whole ∙ swap p (s / p / v * v) ∙ ap (λ z. z * p) (sym column-share)) (column-share ∙ right-lines h r s can for_right more-procs) some-words;
-        owns = column-phase;
-      }, tt),
+      (
+        record {
+          owner = column_owner;
+          is_owner = columns-owner h s (size_under column_rest 1) (s / (p * h.line)) (for_right.whole ∙ swap p (s / p / v * v) ∙ ap (λ z. z * p) (sym column-share)) (column-share ∙ right-lines h r s can for_right more-procs) some-words;
+          owns = column-phase;
+        },
+        tt,
+      ),
     ) where
       turn : (a b c : ℕ) → a * b * c ≡ b * c * a
       turn a b c = omega arith

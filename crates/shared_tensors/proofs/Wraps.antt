@@ -144,6 +144,7 @@ small-by false c some few = All-cons (λ c. (1 ≤ c) × (c < 2 ^ 32)) c [] (som
 
 single-is : (v lane : ℕ) → (v ≡ 1 → lane ≡ 0) → (v == 1) ≡ true → lane ≡ 0
 single-is v lane none is = none (grind (arith, nat_tests))
+
 module _ (h : PlainMachine) (r : ℕ) (some : 1 ≤ r / h.procs / h.lanes) (few : r / h.procs / h.lanes < 2 ^ 32) where
   abbrev path : Path
   path = shared_path h.procs h.lanes r

@@ -162,8 +162,8 @@ module _ (h : PlainMachine) (path : Path) (up : Sum → Sum) (wraps : Wraps h pa
           scatters = (names-wrapped h path up wraps z.work z.scatters known.writes.scatters.0, sums-written 64 h.size cs (frame_of h z.work) _ (round z).scatters frame (omega (arith, deep, after)) (omega arith) high (and-right gathers-test _ places));
           multiplier = λ d is.
               let old =
-                  of-places (λ d. NamesItems z.work d.places × (0 < factor_count d.factors) × (factor_count d.factors < 2 ^ 32) × (factor_count d.factors ≤ max_size)) (length path) z.multiplier d is
-                  (λ e one. (names-renumbered (length path) z.work e.places (known.writes.multiplier e one).0, (known.writes.multiplier e one).2, (known.writes.multiplier e one).3, known.shallow.factors e one)) in
+              of-places (λ d. NamesItems z.work d.places × (0 < factor_count d.factors) × (factor_count d.factors < 2 ^ 32) × (factor_count d.factors ≤ max_size)) (length path) z.multiplier d is
+              (λ e one. (names-renumbered (length path) z.work e.places (known.writes.multiplier e one).0, (known.writes.multiplier e one).2, (known.writes.multiplier e one).3, known.shallow.factors e one)) in
               let short = old.3 in
               (old.0, sums-written 64 (factor_count d.factors) cs (frame_of h z.work) _ d.places frame (omega (arith, deep, after)) (omega arith) (omega (arith, short)) (factor-test d is), old.1, old.2);
           alike = alike-wrapped h path up wraps z z.work known.writes.gathers.0 known.writes.alike;

@@ -3,7 +3,7 @@
 
 ghost use Rattle.std.specs.Prelude.{◌≡◌, IfOk};
 ghost use Rattle.passes.specs.Views.{plain_merged};
-ghost use Rattle.shared_tensors.specs.Laws.{CanTensor, TensoredCanProgram, TensoredIsPart};
+ghost use Rattle.shared_tensors.specs.Laws.{CanTensor, TensoredCanProgram, TensoredIsPart, TensoredMeans};
 ghost use Rattle.shared_tensors.specs.Tensored.{tensored};
 
 use memory::NoMemory;
@@ -27,6 +27,12 @@ pub fn tensor_product(
     let _sizes = (procs, lanes, left.size, right.size);
     Err(NoMemory)
 }
+
+/// The passes of a tensor product do what `right` does to each row, and then `left` to each column: a law of the
+/// definitions.
+pub fn tensored_means()
+    ensures { TensoredMeans }
+{}
 
 /// A program can be made of the passes of a tensor product, and for one processor and one lane they are a part again: laws
 /// of the definitions.
