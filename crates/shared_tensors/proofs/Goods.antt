@@ -1,5 +1,5 @@
 -- The passes of a tensor product write each word once, inside of the larger array, and so a program can be made of them.
-use Rattle.std.proofs.Common.{◌≡◌, ℕ, map, subst}
+use Rattle.std.proofs.Common.{ℕ, map, subst}
 use Rattle.pass_actions.specs.Machine.{PlainMachine}
 use Rattle.passes.specs.Good.{IsGoodPass}
 use Rattle.passes.specs.Merge.{lifted}

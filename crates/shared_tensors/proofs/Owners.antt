@@ -1,5 +1,5 @@
 -- Whose words the nests of rows and columns load and store: the processor's that the first loop names.
-use Rattle.std.proofs.Common.{◌≡◌, ◌≢◌, ℕ, zero, suc, ◌+◌, ◌*◌, ◌-◌, ◌/◌, ◌%◌, ◌<◌, ◌≤◌, Bool, true, false, arith, refl, sym, ap, ap₂, ◌∙◌, List, [], ◌∷◌, ◌++◌, length, map, subst, All}
+use Rattle.std.proofs.Common.{◌≡◌, ◌≢◌, ℕ, suc, ◌+◌, ◌*◌, ◌-◌, ◌/◌, ◌%◌, ◌<◌, Bool, true, false, arith, refl, sym, ap, ◌∙◌, List, [], ◌∷◌, ◌++◌, length, map, subst, All}
 use Rattle.std.specs.Prelude.{◌==◌, if◌then◌else◌, slice_index, slice_index_or, Contains}
 use Rattle.std.proofs.lemmas.Bool.Decides.{nat_tests}
 use Rattle.std.proofs.lemmas.List.Elements.{All-contains, All-contains_itself, All-head, All-map, All-tail, All-weaker}
@@ -7,9 +7,9 @@ use Rattle.std.proofs.lemmas.Nat.{div-mul-add, mod-mul-add, mul-add-lt}
 use Rattle.pass_actions.specs.Laws.{IsLoadedBy, IsStoredBy}
 use Rattle.pass_actions.specs.Machine.{PlainMachine}
 use Rattle.pass_programs.specs.Contract.{AllOwn, FirstOwns}
-use Rattle.passes.specs.Copies.{loops_of, AreInside, IsInside}
+use Rattle.passes.specs.Copies.{loops_of}
 use Rattle.passes.specs.Good.{NamesItems}
-use Rattle.passes.specs.Nest.{PlainNest, copies_of, load_place, store_place, sum_value}
+use Rattle.passes.specs.Nest.{PlainNest, load_place, store_place, sum_value}
 use Rattle.passes.specs.Work.{PlainWork, kernel, rows, horner, tile, copy, work_size}
 use Rattle.passes.proofs.Natural.{loop_values}
 use Rattle.passes.proofs.Nests.{at-map}

@@ -1,10 +1,10 @@
 -- For one processor and one lane the passes of a tensor product are a part again.
-use Rattle.std.proofs.Common.{◌≡◌, ℕ, ◌+◌, ◌*◌, ◌/◌, ◌^◌, ◌<◌, ◌≤◌, Bool, true, false, arith, refl, sym, ap, ◌∙◌, List, [], ◌∷◌, ◌++◌, length, map, subst, All}
+use Rattle.std.proofs.Common.{ℕ, ◌+◌, ◌*◌, ◌/◌, ◌^◌, ◌<◌, ◌≤◌, Bool, true, false, arith, sym, List, [], ◌∷◌, ◌++◌, length, map, subst, All}
 use Rattle.std.specs.Prelude.{◌==◌, if◌then◌else◌, sum_by}
 use Rattle.std.proofs.lemmas.List.Elements.{All-append, All-nil}
 use Rattle.pass_actions.specs.Acts.{pass_registers}
 use Rattle.pass_actions.specs.Machine.{PlainMachine, plain_machine}
-use Rattle.pass_programs.specs.Contract.{CanProgram, all_passes, most_actions}
+use Rattle.pass_programs.specs.Contract.{all_passes, most_actions}
 use Rattle.passes.specs.Limits.{AreWithin}
 use Rattle.passes.specs.Merged.{PlainMerged}
 use Rattle.passes.specs.Nest.{PlainNest}

@@ -1,5 +1,5 @@
 -- The passes of a part, wrapped for a machine's processors and lanes, can be run and written.
-use Rattle.std.proofs.Common.{◌≡◌, ℕ, ◌+◌, ◌*◌, ◌^◌, ◌<◌, ◌≤◌, true, arith, refl, sym, ap, ◌∙◌, List, [], ◌∷◌, ◌++◌, length, map, subst, All}
+use Rattle.std.proofs.Common.{◌≡◌, ℕ, ◌+◌, ◌^◌, ◌<◌, ◌≤◌, arith, sym, List, [], ◌∷◌, ◌++◌, length, map, subst, All}
 use Rattle.std.proofs.lemmas.List.Elements.{All-nil, All-cons, All-head, All-tail, All-map, All-weaker}
 use Rattle.operators.specs.Sizes.{max_size}
 use Rattle.pass_actions.specs.Acts.{pass_registers}
@@ -7,7 +7,7 @@ use Rattle.pass_actions.specs.Machine.{PlainMachine, plain_machine}
 use Rattle.pass_programs.specs.Conditions.{CanWritePass}
 use Rattle.passes.specs.Good.{IsGoodPass}
 use Rattle.passes.specs.Limits.{AreWithin}
-use Rattle.passes.specs.Nest.{PlainMultiplier, PlainNest, factor_count}
+use Rattle.passes.specs.Nest.{PlainNest, factor_count}
 use Rattle.passes.proofs.Nests.{all-inside}
 use Rattle.perm_algebra.specs.Affine.{Sum}
 use Rattle.shared_tensors.specs.Laws.{HasNoTile, IsShallow, plain_lanes}

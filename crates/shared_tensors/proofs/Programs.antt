@@ -1,16 +1,16 @@
 -- A program can be made of the passes of a tensor product.
-use Rattle.std.proofs.Common.{◌≡◌, ◌≢◌, ℕ, zero, suc, ◌+◌, ◌*◌, ◌-◌, ◌/◌, ◌%◌, ◌^◌, ◌<◌, ◌≤◌, Bool, true, false, arith, refl, sym, ap, ap₂, ◌∙◌, List, [], ◌∷◌, ◌++◌, length, map, subst, append_assoc, All}
+use Rattle.std.proofs.Common.{◌≡◌, ◌≢◌, ℕ, zero, suc, ◌+◌, ◌*◌, ◌/◌, ◌%◌, ◌^◌, ◌<◌, ◌≤◌, Bool, true, false, arith, refl, sym, ap, ◌∙◌, List, [], ◌∷◌, ◌++◌, length, map, subst, All}
 use Rattle.std.specs.Prelude.{◌==◌, if◌then◌else◌, sum_by}
 use Rattle.std.proofs.Math.Nat.{mul-le-mul}
 use Rattle.std.proofs.lemmas.Bool.Decides.{nat_tests}
 use Rattle.std.proofs.lemmas.List.{append-nil, length-map}
-use Rattle.std.proofs.lemmas.List.Elements.{All-nil, All-cons, All-append, All-weaker}
+use Rattle.std.proofs.lemmas.List.Elements.{All-nil, All-cons, All-append}
 use Rattle.std.proofs.lemmas.List.Sums.{sum_by-append, sum_by-cons}
 use Rattle.multiplied_passes.proofs.Tables.{passes-grown, phases-grown}
 use Rattle.pass_actions.specs.Machine.{PlainMachine, plain_machine}
 use Rattle.pass_programs.specs.Conditions.{CanWritePass}
 use Rattle.pass_programs.specs.Contract.{AllOwn, ArePhasesShared, CanProgram, all_passes, most_actions}
-use Rattle.pass_programs.specs.Program.{tables_of_phases, tables_through}
+use Rattle.pass_programs.specs.Program.{tables_through}
 use Rattle.passes.specs.Counts.{copies_in}
 use Rattle.passes.specs.Good.{IsGoodPass}
 use Rattle.passes.specs.Limits.{AreWithin}
@@ -19,10 +19,10 @@ use Rattle.passes.specs.Nest.{PlainNest}
 use Rattle.passes.proofs.Nests.{all-inside}
 use Rattle.perm_algebra.specs.Affine.{Sum}
 use Rattle.shared_tensors.specs.Laws.{AreParts, CanShare, IsPart}
-use Rattle.shared_tensors.specs.Tensored.{across, column_passes, group_path, in_columns, in_phases, row_passes, row_place, shared_path, side_place, tensored, tiled_in, tiled_out, tiles}
+use Rattle.shared_tensors.specs.Tensored.{across, group_path, in_phases, row_place, shared_path, side_place, tensored, tiled_in, tiled_out, tiles}
 use Rattle.shared_tensors.proofs.Limits.{column_up, columns-keep, passes-in, row_up, rows-keep, wrapped}
 use Rattle.shared_tensors.proofs.Owners.{OwnsPlaces, Owns, columns-own, first-owns, one-owns, own-append, passes-own, rows-own, within-several}
-use Rattle.shared_tensors.proofs.PartPasses.{ArePartPasses, HasRegisters, KeepsGood, passes-can, passes-known}
+use Rattle.shared_tensors.proofs.PartPasses.{ArePartPasses, KeepsGood, passes-can, passes-known}
 use Rattle.shared_tensors.proofs.ShareNumbers.{AreShares, left-shares, right-groups, right-shares, share-word, shared-several, shared-size}
 use Rattle.shared_tensors.proofs.Sharing.{columns-owner, left-lines, right-lines, rows-owner}
 use Rattle.shared_tensors.proofs.TileLimits.{side-size, tile-in-can, tile-out-can}

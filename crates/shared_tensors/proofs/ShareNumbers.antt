@@ -1,10 +1,9 @@
 -- The shares of processors and lanes of a number that they divide.
-use Rattle.std.proofs.Common.{◌≡◌, ℕ, zero, suc, ◌+◌, ◌*◌, ◌-◌, ◌/◌, ◌%◌, ◌^◌, ◌<◌, ◌≤◌, Bool, true, false, arith, refl, sym, ap, ap₂, ◌∙◌, List, [], ◌∷◌, ◌++◌, length, inl, inr, map, subst}
+use Rattle.std.proofs.Common.{◌≡◌, ℕ, zero, suc, ◌*◌, ◌/◌, ◌%◌, ◌^◌, ◌<◌, ◌≤◌, Bool, true, false, arith, refl, sym, ap, ◌∙◌, [], ◌∷◌, inl, inr}
 use Rattle.std.specs.Prelude.{◌==◌, if◌then◌else◌}
 use Rattle.std.proofs.Math.Nat.{div-add-mod, div-div-eq-div-mul, mod-one, mul-mod_right, mul-le-mul}
 use Rattle.std.proofs.lemmas.Bool.{cases_lt}
 use Rattle.std.proofs.lemmas.Bool.Decides.{nat_tests}
-use Rattle.std.proofs.lemmas.Nat.{div-mul-add, mod-mul-add}
 use Rattle.pass_actions.specs.Machine.{PlainMachine}
 use Rattle.passes.specs.Limits.{AreSeveral}
 use Rattle.shared_tensors.specs.Laws.{CanShare}
@@ -13,7 +12,7 @@ use Rattle.smp_rewrite.specs.Smp.{within}
 use Rattle.smp_rewrite.proofs.Tensors.{size-within}
 use Rattle.tensor_paths.specs.declared.Tensor.{Tensor}
 use Rattle.tensor_paths.specs.declared.Tensor.TheVariants.{Blocks, Columns}
-use Rattle.tensor_paths.specs.Path.{Path, count_of, grown, size_under}
+use Rattle.tensor_paths.specs.Path.{Path, count_of, size_under}
 
 pub whole-of : (n m : ℕ) → n % m ≡ 0 → n ≡ m * (n / m)
 whole-of n m none = let all = div-add-mod n m in omega (arith, all, none)

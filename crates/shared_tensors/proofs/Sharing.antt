@@ -1,5 +1,5 @@
 -- The processors share the words of the rows, and then those of the columns, line by line.
-use Rattle.std.proofs.Common.{◌≡◌, ◌≢◌, ℕ, zero, suc, ◌+◌, ◌*◌, ◌-◌, ◌/◌, ◌%◌, ◌<◌, ◌≤◌, arith, refl, sym, ap, ap₂, ◌∙◌, subst, mod-lt, div-lt_iff_lt-mul}
+use Rattle.std.proofs.Common.{◌≡◌, ℕ, zero, suc, ◌+◌, ◌*◌, ◌/◌, ◌%◌, ◌<◌, arith, sym, ap, ap₂, ◌∙◌, subst, mod-lt, div-lt_iff_lt-mul}
 use Rattle.std.proofs.Math.Nat.{div-add-mod, div-div-eq-div-mul, mul-div_cancel_left}
 use Rattle.std.proofs.lemmas.Nat.{div-mul-add, mod-mul-add, mul-add-lt}
 use Rattle.pass_actions.specs.Machine.{PlainMachine}

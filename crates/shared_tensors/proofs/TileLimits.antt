@@ -1,13 +1,12 @@
 -- Passes over tiles run on every machine of several lanes, and can be written for it.
-use Rattle.std.proofs.Common.{◌≡◌, ℕ, zero, suc, ◌+◌, ◌*◌, ◌-◌, ◌/◌, ◌%◌, ◌^◌, ◌<◌, ◌≤◌, Bool, true, false, arith, refl, sym, ap, ap₂, ◌∙◌, List, [], ◌∷◌, ◌++◌, length, map, subst, append_assoc, All, Option, Some, None}
-use Rattle.std.specs.Prelude.{◌&&◌, ◌==◌, drop, if◌then◌else◌, slice_index}
+use Rattle.std.proofs.Common.{◌≡◌, ℕ, zero, suc, ◌+◌, ◌*◌, ◌-◌, ◌/◌, ◌^◌, ◌<◌, ◌≤◌, Bool, true, false, arith, refl, sym, ap, ap₂, ◌∙◌, List, [], ◌∷◌, ◌++◌, length, map, subst, All, None}
+use Rattle.std.specs.Prelude.{◌==◌, drop, if◌then◌else◌, slice_index}
 use Rattle.std.specs.List.{list_all, range_with_len}
 use Rattle.std.proofs.Math.Nat.{mul-le-mul, mul-le-mul_right}
-use Rattle.std.proofs.lemmas.Bool.Decides.{nat_tests}
 use Rattle.std.proofs.lemmas.List.Elements.{All-nil, All-cons, All-append}
 use Rattle.std.proofs.lemmas.List.FromFn.{length-map-range_with_len}
 use Rattle.std.proofs.lemmas.Nat.{div-mul-add, mod-mul-add}
-use Rattle.pass_actions.specs.Laws.{CanRunNest, MovesVectors}
+use Rattle.pass_actions.specs.Laws.{CanRunNest}
 use Rattle.pass_actions.specs.Machine.{PlainMachine, first_loop, if_several, loop_counts, values_of}
 use Rattle.pass_programs.specs.Conditions.{CanWriteNest, CanWritePass}
 use Rattle.passes.specs.Copies.{AreInside, StoreOnce}
@@ -19,7 +18,7 @@ use Rattle.passes.specs.Work.{tile}
 use Rattle.passes.proofs.Natural.{sound-place_sum}
 use Rattle.passes.proofs.Small.{HasCounts, max-lt, place-small}
 use Rattle.passes.proofs.Within.{IsSmall, both-true, constant-small, limited, small-true}
-use Rattle.perm_algebra.specs.Affine.{Sum, constant, variable, IsSound}
+use Rattle.perm_algebra.specs.Affine.{Sum, constant, IsSound}
 use Rattle.shared_tensors.specs.Laws.{CanShare}
 use Rattle.shared_tensors.specs.Tensored.{across, group_path, row_place, side_place, tiles}
 use Rattle.shared_tensors.proofs.Limits.{counts-first, roomier}

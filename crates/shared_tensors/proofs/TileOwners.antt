@@ -1,12 +1,11 @@
 -- Whose words the passes over tiles load and store.
-use Rattle.std.proofs.Common.{◌≡◌, ◌≢◌, ℕ, zero, suc, ◌+◌, ◌*◌, ◌-◌, ◌/◌, ◌%◌, ◌<◌, ◌≤◌, Bool, true, false, arith, refl, sym, ap, ap₂, ◌∙◌, List, [], ◌∷◌, ◌++◌, length, map, subst, All, mod-lt, div-lt_iff_lt-mul, None}
-use Rattle.std.specs.Prelude.{◌==◌, if◌then◌else◌, slice_index, slice_index_or, Contains}
+use Rattle.std.proofs.Common.{◌≡◌, ◌≢◌, ℕ, zero, suc, ◌+◌, ◌*◌, ◌/◌, ◌%◌, ◌<◌, Bool, true, false, arith, refl, sym, ap, ◌∙◌, List, [], ◌∷◌, ◌++◌, length, map, subst, mod-lt, div-lt_iff_lt-mul, None}
+use Rattle.std.specs.Prelude.{◌==◌, if◌then◌else◌, slice_index, Contains}
 use Rattle.std.specs.List.{range_with_len}
 use Rattle.std.proofs.lemmas.Bool.Decides.{nat_tests}
 use Rattle.std.proofs.lemmas.List.Elements.{All-contains, All-cons, All-nil}
 use Rattle.std.proofs.lemmas.List.FromFn.{get_or-map-range_with_len}
 use Rattle.std.proofs.lemmas.Nat.{div-mul-add, mul-add-lt}
-use Rattle.pass_actions.specs.Laws.{IsLoadedBy, IsStoredBy}
 use Rattle.pass_actions.specs.Machine.{PlainMachine}
 use Rattle.passes.specs.Copies.{loops_of}
 use Rattle.passes.specs.Good.{AreBlocks}
@@ -17,7 +16,7 @@ use Rattle.passes.proofs.Natural.{loop_values, value-place_sum}
 use Rattle.perm_algebra.specs.Affine.{Sum, constant, value}
 use Rattle.shared_tensors.specs.Tensored.{across, row_place, side_place, tiles}
 use Rattle.shared_tensors.proofs.Owners.{Owns, first-range, within-several}
-use Rattle.shared_tensors.proofs.TileLimits.{counts-append, row-bound, size-append}
+use Rattle.shared_tensors.proofs.TileLimits.{row-bound, size-append}
 use Rattle.smp_rewrite.specs.Smp.{within}
 use Rattle.smp_rewrite.proofs.Tensors.{size-within}
 use Rattle.tensor_paths.specs.declared.Tensor.TheVariants.{Blocks, Columns}

@@ -1,31 +1,31 @@
 -- A nest of a part can be written for every machine, where it is wrapped for its processors and lanes.
-use Rattle.std.proofs.Common.{◌≡◌, ℕ, zero, suc, ◌+◌, ◌*◌, ◌-◌, ◌^◌, ◌<◌, ◌≤◌, Bool, true, false, arith, refl, sym, ap, ap₂, ◌∙◌, List, [], ◌∷◌, ◌++◌, length, map, subst, All, Option, Some, None}
+use Rattle.std.proofs.Common.{◌≡◌, ℕ, ◌+◌, ◌^◌, ◌<◌, ◌≤◌, Bool, true, false, arith, refl, sym, ap, ap₂, ◌∙◌, List, [], ◌∷◌, ◌++◌, length, map, subst, All, Some}
 use Rattle.std.specs.Prelude.{◌&&◌, ◌==◌, drop, if◌then◌else◌, not, IsTrue}
 use Rattle.std.specs.List.{list_all}
-use Rattle.std.proofs.lemmas.List.Elements.{All-nil, All-cons, All-append, All-head, All-tail, All-map, All-weaker}
+use Rattle.std.proofs.lemmas.List.Elements.{All-nil, All-cons, All-append, All-head, All-tail, All-weaker}
 use Rattle.icode.specs.Limits.{is_expr_within}
 use Rattle.operators.specs.Sizes.{max_size}
 use Rattle.pass_actions.specs.Acts.{pass_registers}
 use Rattle.pass_actions.specs.Laws.{CanRunNest}
-use Rattle.pass_actions.specs.Machine.{PlainFrame, PlainMachine, first_loop, frame_of, if_several, loop_counts, one_if_several, plain_machine}
+use Rattle.pass_actions.specs.Machine.{PlainFrame, PlainMachine, first_loop, frame_of, loop_counts, one_if_several, plain_machine}
 use Rattle.pass_programs.specs.Conditions.{AreWithin, CanWrite, CanWriteNest, CanWritePass, FitsWord, loads_inside, stores_inside}
 use Rattle.pass_programs.specs.Expressions.{expr_of}
 use Rattle.pass_programs.specs.Small.{CanBeCoded, IsFrame}
 use Rattle.pass_programs.proofs.TestedSums.{tested_sums_are_coded}
 use Rattle.pass_programs.proofs.Within.{expressions_are_within}
 use Rattle.passes.proofs.Within.{both-true}
-use Rattle.passes.specs.Copies.{AreInside, IsInside, StoreOnce}
+use Rattle.passes.specs.Copies.{AreInside, StoreOnce}
 use Rattle.passes.specs.Good.{NamesItems}
-use Rattle.passes.specs.Merge.{is_limited, is_multiplier_within, is_within, limits_of, renumbered, renumbered_places}
+use Rattle.passes.specs.Merge.{is_limited, is_multiplier_within, is_within, limits_of}
 use Rattle.passes.specs.Nest.{PlainMultiplier, PlainNest, copies_of, factor_count}
-use Rattle.passes.specs.Work.{PlainWork, kernel, rows, horner, tile, copy, work_size}
+use Rattle.passes.specs.Work.{PlainWork, kernel, rows, horner, tile, copy}
 use Rattle.passes.proofs.Walk.{and-left, and-right}
 use Rattle.perm_algebra.specs.Affine.{Sum}
 use Rattle.shared_tensors.specs.Laws.{HasNoTile, IsShallow}
 use Rattle.shared_tensors.proofs.Framed.{IsNoTile, alike-wrapped, frame-is, names-renumbered, names-wrapped, nest-runs, of-places}
 use Rattle.shared_tensors.proofs.Limits.{wrapped}
 use Rattle.shared_tensors.proofs.Wraps.{Wraps}
-use Rattle.tensor_paths.specs.Path.{Path, count_of}
+use Rattle.tensor_paths.specs.Path.{Path}
 
 -- ---- sums
 

@@ -9,7 +9,7 @@ use Rattle.pass_programs.specs.Contract.{CanProgram, IsHost, all_passes, most_ac
 use Rattle.passes.specs.Limits.{AreWithin}
 use Rattle.passes.specs.Merged.{PlainMerged, merged_on}
 use Rattle.passes.specs.Nest.{PlainMultiplier, PlainNest, factor_count}
-use Rattle.passes.specs.Work.{PlainWork, tile}
+use Rattle.passes.specs.Work.{tile}
 use Rattle.shared_tensors.specs.Tensored.{tensored}
 
 -- ---- conditions
