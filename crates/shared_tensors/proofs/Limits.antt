@@ -13,10 +13,11 @@ use Rattle.passes.specs.Merge.{is_divided, are_small, is_limited, is_multiplier_
 use Rattle.passes.specs.Nest.{PlainMultiplier, PlainNest, factor_count}
 use Rattle.passes.specs.Work.{work_size}
 use Rattle.passes.proofs.Limited.{tested}
-use Rattle.passes.proofs.Sides.{rest_of, rest-index}
+use Rattle.passes.proofs.Sides.{rest_of, rest-index, up as row_up}
 use Rattle.passes.proofs.Small.{HasCounts, behind-small, max-lt, place-small, renumbered-small}
 use Rattle.passes.proofs.Walk.{and-left, and-right}
 use Rattle.passes.proofs.Within.{IsSmall, both-true, constant-small, limited, small-true}
+use Rattle.shared_tensors.proofs.Columns.{column_sum}
 use Rattle.tensor_paths.specs.Path.{Path, count_of, size_under}
 
 max-left : (a b n : ℕ) → max a b < n → a < n
@@ -188,25 +189,18 @@ module _ (path : Path) (up : Sum → Sum) where
 
 -- ---- rows and columns
 
--- the place in a row
-abbrev pub row_up : Path → ℕ → Sum → Sum
-row_up path n e = place_sum path n 0 (joined (constant 0) (renumbered (length path) e))
-
-abbrev pub column_up : Path → ℕ → Sum → Sum
-column_up path s e = joined (scaled s (renumbered (length path) e)) (place_sum path 1 0 (constant 0))
-
-pub rows-keep : (path : Path) (room more n : ℕ) → room + length path ≤ more → AreSeveral path → 0 < n → n ≤ 2 ^ 20 → size_under path n ≤ 2 ^ 20 → KeepsSmall path (row_up path n) room more n (size_under path n)
+pub rows-keep : (path : Path) (room more n : ℕ) → room + length path ≤ more → AreSeveral path → 0 < n → n ≤ 2 ^ 20 → size_under path n ≤ 2 ^ 20 → KeepsSmall path (row_up path n 0) room more n (size_under path n)
 rows-keep path room more n wide several some low high z e h =
-    roomier (room + length path) more _ (size_under path n) (limits path (row_up path n) z) _ wide (omega arith)
-    (place-small path room n 0 _ (limits path (row_up path n) z) several (counted path (row_up path n) z) some high
-    (behind-small 0 room n n (limits path (row_up path n) z) (renumbered (length path) e) (omega arith) low h))
+    roomier (room + length path) more _ (size_under path n) (limits path (row_up path n 0) z) _ wide (omega arith)
+    (place-small path room n 0 _ (limits path (row_up path n 0) z) several (counted path (row_up path n 0) z) some high
+    (behind-small 0 room n n (limits path (row_up path n 0) z) (renumbered (length path) e) (omega arith) low h))
 
-pub columns-keep : (path : Path) (room more r s : ℕ) → room + length path ≤ more → AreSeveral path → size_under path 1 ≡ s → 0 < s → 0 < r → r * s ≤ 2 ^ 20 → s ≤ 2 ^ 20 → KeepsSmall path (column_up path s) room more r (r * s)
+pub columns-keep : (path : Path) (room more r s : ℕ) → room + length path ≤ more → AreSeveral path → size_under path 1 ≡ s → 0 < s → 0 < r → r * s ≤ 2 ^ 20 → s ≤ 2 ^ 20 → KeepsSmall path (column_sum path s) room more r (r * s)
 columns-keep path room more r s wide several is some positive high low z e h =
-    let cs = limits path (column_up path s) z in
+    let cs = limits path (column_sum path s) z in
     let inner : IsSmall (0 + length path) s cs (place_sum path 1 0 (constant 0)) =
     subst (λ k. IsSmall (0 + length path) k cs (place_sum path 1 0 (constant 0))) is
-    (place-small path 0 1 0 (constant 0) cs several (counted path (column_up path s) z) (omega arith) (omega (arith, is, low)) (constant-small 0 1 cs 0 (omega arith) (omega arith))) in
+    (place-small path 0 1 0 (constant 0) cs several (counted path (column_sum path s) z) (omega arith) (omega (arith, is, low)) (constant-small 0 1 cs 0 (omega arith) (omega arith))) in
     let outer = scaled-more room s r cs (renumbered (length path) e) some high h in
     let long : 1 * s ≤ r * s = mul-le-mul {n₁ = 1} {m₁ = s} {n₂ = r} {m₂ = s} positive (omega arith) in
     let bound : top (scaled s (renumbered (length path) e)) cs + top (place_sum path 1 0 (constant 0)) cs < r * s =

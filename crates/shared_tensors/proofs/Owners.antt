@@ -2,6 +2,7 @@
 use Rattle.std.proofs.Common.{◌≡◌, ◌≢◌, ℕ, suc, ◌+◌, ◌*◌, ◌-◌, ◌/◌, ◌%◌, ◌<◌, Bool, true, false, arith, refl, sym, ap, ◌∙◌, List, [], ◌∷◌, ◌++◌, length, map, subst, All}
 use Rattle.std.specs.Prelude.{◌==◌, if◌then◌else◌, slice_index, slice_index_or, Contains}
 use Rattle.std.proofs.lemmas.Bool.Decides.{nat_tests}
+use Rattle.std.proofs.lemmas.List.{append-nil}
 use Rattle.std.proofs.lemmas.List.Elements.{All-contains, All-contains_itself, All-head, All-map, All-tail, All-weaker}
 use Rattle.std.proofs.lemmas.Nat.{div-mul-add, mod-mul-add, mul-add-lt}
 use Rattle.pass_actions.specs.Laws.{IsLoadedBy, IsStoredBy}
@@ -13,10 +14,11 @@ use Rattle.passes.specs.Nest.{PlainNest, load_place, store_place, sum_value}
 use Rattle.passes.specs.Work.{PlainWork, kernel, rows, horner, tile, copy, work_size}
 use Rattle.passes.proofs.Natural.{loop_values}
 use Rattle.passes.proofs.Nests.{at-map}
-use Rattle.passes.proofs.Sides.{rest_of, rest-range}
+use Rattle.passes.proofs.Sides.{rest_of, rest-range, up as row_up}
 use Rattle.perm_algebra.specs.Affine.{Sum, constant, value}
 use Rattle.shared_tensors.proofs.Framed.{IsNoTile}
-use Rattle.shared_tensors.proofs.Limits.{row_up, column_up, wrapped}
+use Rattle.shared_tensors.proofs.Columns.{column_sum}
+use Rattle.shared_tensors.proofs.Limits.{wrapped}
 use Rattle.shared_tensors.proofs.Wraps.{value-column, value-rest, value-row}
 use Rattle.shared_tensors.proofs.Written.{IsKnown}
 use Rattle.smp_rewrite.specs.Smp.{within}
@@ -42,10 +44,6 @@ within-several c path several = by (c == 1) refl
     by true is = absurd (several (one c is))
     by false is = refl
 
-nil-end : (vs : List ℕ) → vs ++ [] ≡ vs
-nil-end [] = refl
-nil-end (v ∷ vs) = ap (λ xs. v ∷ xs) (nil-end vs)
-
 -- ---- values in range
 
 pub first-range : (path : Path) (d : ℕ) (counts vs more : List ℕ) (f : ℕ → ℕ) → AreInRange (loops_of (map count_of path ++ counts)) vs → ((i : ℕ) → f (d + i) ≡ slice_index (vs ++ more) i) → AreInRange path (loop_values path d f)
@@ -64,7 +62,7 @@ OwnsPlaces owner n path up = (e : Sum) (q : ℕ) (counts vs more : List ℕ) →
 pub next : (v : ℕ) (xs : List ℕ) (i : ℕ) → slice_index (v ∷ xs) (0 + 1 + i) ≡ slice_index xs i
 next v xs i = let e : 0 + 1 + i ≡ suc i = omega arith in ap (slice_index (v ∷ xs)) e
 
-pub rows-own : (p n : ℕ) (rest : Path) → OwnsPlaces (λ w. w / size_under rest n) n (Blocks p ∷ rest) (row_up (Blocks p ∷ rest) n)
+pub rows-own : (p n : ℕ) (rest : Path) → OwnsPlaces (λ w. w / size_under rest n) n (Blocks p ∷ rest) (row_up (Blocks p ∷ rest) n 0)
 rows-own p n rest e q counts [] more range at low = absurd range
 rows-own p n rest e q counts (v ∷ vs) more range at low =
     let path = Blocks p ∷ rest in
@@ -74,7 +72,7 @@ rows-own p n rest e q counts (v ∷ vs) more range at low =
     let inner = place-below rest n (loop_values rest (0 + 1) f) (0 + x) (first-range rest (0 + 1) counts vs more f range.1 (next v (vs ++ more))) below in
     ap (λ w. w / size_under rest n) (value-row path n e f) ∙ div-mul-add v (size_under rest n) _ inner ∙ at
 
-pub columns-own : (p n s : ℕ) (rest : Path) → s ≡ p * size_under rest 1 → OwnsPlaces (λ w. w % s / size_under rest 1) n (Blocks p ∷ rest) (column_up (Blocks p ∷ rest) s)
+pub columns-own : (p n s : ℕ) (rest : Path) → s ≡ p * size_under rest 1 → OwnsPlaces (λ w. w % s / size_under rest 1) n (Blocks p ∷ rest) (column_sum (Blocks p ∷ rest) s)
 columns-own p n s rest is e q counts [] more range at low = absurd range
 columns-own p n s rest is e q counts (v ∷ vs) more range at low =
     let path = Blocks p ∷ rest in
@@ -104,7 +102,7 @@ module _ (owner : ℕ → ℕ) (n : ℕ) (path : Path) (up : Sum → Sum) (own :
   alone-owned : (sums : List Sum) (i q : ℕ) (counts vs : List ℕ) → i < length sums → AreInRange (loops_of (map count_of path ++ counts)) vs → slice_index vs 0 ≡ q → sum_value sums i (rest_of path vs) < n →
       owner (sum_value (map up sums) i vs) ≡ q
   alone-owned sums i q counts vs within range at low =
-      ap (λ ws. owner (sum_value (map up sums) i ws)) (sym (nil-end vs)) ∙ sum-owned sums i q counts vs [] within range at (subst (λ ws. sum_value sums i ws < n) (sym (nil-end (rest_of path vs))) low)
+      ap (λ ws. owner (sum_value (map up sums) i ws)) (sym (append-nil vs)) ∙ sum-owned sums i q counts vs [] within range at (subst (λ ws. sum_value sums i ws < n) (sym (append-nil (rest_of path vs))) low)
 
   load-owned : (w : PlainWork) (sums : List Sum) (q k : ℕ) (counts vs : List ℕ) → IsNoTile w → NamesItems w sums → k < work_size w → AreInRange (loops_of (map count_of path ++ counts)) vs → slice_index vs 0 ≡ q → load_place w sums (rest_of path vs) k < n →
       owner (load_place w (map up sums) vs k) ≡ q

@@ -11,7 +11,9 @@ use Rattle.passes.specs.Nest.{PlainNest}
 use Rattle.passes.proofs.Within.{within-append}
 use Rattle.shared_tensors.specs.Laws.{AreParts, CanShare, HasNoTile, IsPart, IsShallow, TensoredCanProgram, TensoredIsPart, plain_lanes}
 use Rattle.shared_tensors.specs.Tensored.{shared_path, tensored}
-use Rattle.shared_tensors.proofs.Limits.{column_up, row_up, wrapped}
+use Rattle.passes.proofs.Sides.{up as row_up}
+use Rattle.shared_tensors.proofs.Columns.{column_sum}
+use Rattle.shared_tensors.proofs.Limits.{wrapped}
 use Rattle.shared_tensors.proofs.PartPasses.{passes-plain, passes-registers, passes-shallow}
 use Rattle.shared_tensors.proofs.Programs.{AreGood, columns-within, product-actions, product-nests, product-program, product-whole, rows-within}
 use Rattle.tensor_paths.specs.declared.Tensor.TheVariants.{Blocks}
@@ -40,10 +42,10 @@ module _ (n m room : ℕ) (left right : PlainMerged) (few : room ≤ 56) (parts 
   lefts = all_passes left.phases
 
   abbrev rows_in : List (List PlainNest)
-  rows_in = map (map (wrapped row_path (row_up row_path s))) rights
+  rows_in = map (map (wrapped row_path (row_up row_path s 0))) rights
 
   abbrev columns_in : List (List PlainNest)
-  columns_in = map (map (wrapped column_path (column_up column_path s))) lefts
+  columns_in = map (map (wrapped column_path (column_sum column_path s))) lefts
 
   abbrev all_in : List (List PlainNest)
   all_in = ([] ++ (rows_in ++ [])) ++ columns_in
@@ -72,16 +74,16 @@ module _ (n m room : ℕ) (left right : PlainMerged) (few : room ≤ 56) (parts 
         shallow =
             subst (All (All (IsShallow (room + 1)))) (sym (product-whole h room left right few parts goods))
             (for-all (All (IsShallow (room + 1)))
-            (passes-shallow row_path (row_up row_path s) room (room + 1) (let one = one-count (r / 1 / 1 == 1) (r / 1 / 1) in omega (arith, one)) rights parts.right_part.shallow)
-            (passes-shallow column_path (column_up column_path s) room (room + 1) (let one = one-count (s / 1 / 1 == 1) (s / 1 / 1) in omega (arith, one)) lefts parts.left_part.shallow));
+            (passes-shallow row_path (row_up row_path s 0) room (room + 1) (let one = one-count (r / 1 / 1 == 1) (r / 1 / 1) in omega (arith, one)) rights parts.right_part.shallow)
+            (passes-shallow column_path (column_sum column_path s) room (room + 1) (let one = one-count (s / 1 / 1 == 1) (s / 1 / 1) in omega (arith, one)) lefts parts.left_part.shallow));
         no_tiles =
             subst (All (All HasNoTile)) (sym (product-whole h room left right few parts goods))
-            (for-all (All HasNoTile) (passes-plain row_path (row_up row_path s) rights parts.right_part.no_tiles) (passes-plain column_path (column_up column_path s) lefts parts.left_part.no_tiles));
+            (for-all (All HasNoTile) (passes-plain row_path (row_up row_path s 0) rights parts.right_part.no_tiles) (passes-plain column_path (column_sum column_path s) lefts parts.left_part.no_tiles));
         registers = λ v low.
             subst (All (λ zs. pass_registers (plain_lanes n m v) zs < 2 ^ 20)) (sym (product-whole h room left right few parts goods))
             (for-all (λ zs. pass_registers (plain_lanes n m v) zs < 2 ^ 20)
-            (passes-registers (plain_lanes n m v) s row_path (row_up row_path s) rights (parts.right_part.registers v low))
-            (passes-registers (plain_lanes n m v) r column_path (column_up column_path s) lefts (parts.left_part.registers v low)));
+            (passes-registers (plain_lanes n m v) s row_path (row_up row_path s 0) rights (parts.right_part.registers v low))
+            (passes-registers (plain_lanes n m v) r column_path (column_sum column_path s) lefts (parts.left_part.registers v low)));
         actions = subst (λ ps. most_actions h ps + 4000 * n ≤ 4000 * (n * n)) (sym (product-whole h room left right few parts goods)) (product-actions h room left right few parts goods);
         nests = subst (λ ps. sum_by length ps + 2 ≤ 2 * n) (sym (product-whole h room left right few parts goods)) (product-nests h room left right few parts goods);
       }

@@ -1,5 +1,6 @@
 -- The passes of a part, wrapped for a machine's processors and lanes, can be run and written.
 use Rattle.std.proofs.Common.{◌≡◌, ℕ, ◌+◌, ◌^◌, ◌<◌, ◌≤◌, arith, sym, List, [], ◌∷◌, ◌++◌, length, map, subst, All}
+use Rattle.std.proofs.lemmas.List.{length-append}
 use Rattle.std.proofs.lemmas.List.Elements.{All-nil, All-cons, All-head, All-tail, All-map, All-weaker}
 use Rattle.operators.specs.Sizes.{max_size}
 use Rattle.pass_actions.specs.Acts.{pass_registers}
@@ -54,10 +55,6 @@ module _ (h : PlainMachine) (path : Path) (up : Sum → Sum) (wraps : Wraps h pa
       (passes-can ps (other-passes n h.modulus room zs ps part) within.1 (All-tail (HasRegisters h n) zs ps registers))
 
 -- ---- parts again
-
-length-append : (xs ys : List ℕ) → length (xs ++ ys) ≡ length xs + length ys
-length-append [] ys = omega arith
-length-append (x ∷ xs) ys = let e = length-append xs ys in omega (arith, e)
 
 module _ (path : Path) (up : Sum → Sum) (room more : ℕ) (wide : length (map count_of path) + room ≤ more) where
   nest-shallow : (z : PlainNest) → IsShallow room z → IsShallow more (wrapped path up z)

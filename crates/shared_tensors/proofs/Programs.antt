@@ -20,7 +20,9 @@ use Rattle.passes.proofs.Nests.{all-inside}
 use Rattle.perm_algebra.specs.Affine.{Sum}
 use Rattle.shared_tensors.specs.Laws.{AreParts, CanShare, IsPart}
 use Rattle.shared_tensors.specs.Tensored.{across, group_path, in_phases, row_place, shared_path, side_place, tensored, tiled_in, tiled_out, tiles}
-use Rattle.shared_tensors.proofs.Limits.{column_up, columns-keep, passes-in, row_up, rows-keep, wrapped}
+use Rattle.passes.proofs.Sides.{up as row_up}
+use Rattle.shared_tensors.proofs.Columns.{column_sum}
+use Rattle.shared_tensors.proofs.Limits.{columns-keep, passes-in, rows-keep, wrapped}
 use Rattle.shared_tensors.proofs.Owners.{OwnsPlaces, Owns, columns-own, first-owns, one-owns, own-append, passes-own, rows-own, within-several}
 use Rattle.shared_tensors.proofs.PartPasses.{ArePartPasses, KeepsGood, passes-can, passes-known}
 use Rattle.shared_tensors.proofs.ShareNumbers.{AreShares, left-shares, right-groups, right-shares, share-word, shared-several, shared-size}
@@ -37,8 +39,8 @@ use Rattle.tensor_paths.proofs.Under.{size_under-copies}
 
 -- the passes write each word of the larger array once, inside of it
 pub record AreGood (h : PlainMachine) (r s : ℕ) : Type 0 where
-  pub rows : KeepsGood h s (shared_path h.procs h.lanes r) (row_up (shared_path h.procs h.lanes r) s)
-  pub columns : KeepsGood h r (shared_path h.procs h.lanes s) (column_up (shared_path h.procs h.lanes s) s)
+  pub rows : KeepsGood h s (shared_path h.procs h.lanes r) (row_up (shared_path h.procs h.lanes r) s 0)
+  pub columns : KeepsGood h r (shared_path h.procs h.lanes s) (column_sum (shared_path h.procs h.lanes s) s)
   pub tiles_in : IsGoodPass h.lanes h.modulus h.size (tiles h.procs h.lanes r s (row_place h.procs h.lanes r s) (side_place h.procs h.lanes r s))
   pub tiles_out : IsGoodPass h.lanes h.modulus h.size (tiles h.procs h.lanes r s (side_place h.procs h.lanes r s) (row_place h.procs h.lanes r s))
 
@@ -106,10 +108,10 @@ module _ (h : PlainMachine) (room : ℕ) (left right : PlainMerged) (few : room 
   lefts = all_passes left.phases
 
   abbrev rows_in : List (List PlainNest)
-  rows_in = map (map (wrapped row_path (row_up row_path s))) rights
+  rows_in = map (map (wrapped row_path (row_up row_path s 0))) rights
 
   abbrev columns_in : List (List PlainNest)
-  columns_in = map (map (wrapped column_path (column_up column_path s))) lefts
+  columns_in = map (map (wrapped column_path (column_sum column_path s))) lefts
 
   abbrev all_rows : List (List PlainNest)
   all_rows = tiled_in p v r s ++ (rows_in ++ tiled_out p v r s)
@@ -143,10 +145,10 @@ module _ (h : PlainMachine) (room : ℕ) (left right : PlainMerged) (few : room 
   pub column-size : size_under column_path 1 ≡ s
   column-size = shared-size p v s can.host.procs.0 can.host.lanes.0 for_right 1 ∙ omega arith
 
-  row-wraps : Wraps h row_path (row_up row_path s)
+  row-wraps : Wraps h row_path (row_up row_path s 0)
   row-wraps = rows-wrap h r for_left.some (share-word p v r can.host.procs.0 can.host.lanes.0 for_left left-high) s
 
-  column-wraps : Wraps h column_path (column_up column_path s)
+  column-wraps : Wraps h column_path (column_sum column_path s)
   column-wraps = columns-wrap h s for_right.some (share-word p v s can.host.procs.0 can.host.lanes.0 for_right right-high) s
 
   -- ---- passes
@@ -154,13 +156,13 @@ module _ (h : PlainMachine) (room : ℕ) (left right : PlainMerged) (few : room 
   pub rows-within : (more : ℕ) → room + length row_path ≤ more → AreWithin more h.size rows_in
   rows-within more wide =
       subst (λ n. AreWithin more n rows_in) row-size
-      (passes-in row_path (row_up row_path s) room more s (size_under row_path s) (omega (arith, wide))
+      (passes-in row_path (row_up row_path s 0) room more s (size_under row_path s) (omega (arith, wide))
       (rows-keep row_path room more s wide (shared-several p v r can.host.procs.0 can.host.lanes.0 for_left) some-words right-high (let size = row-size in let bound = high in omega (arith, size, bound))) rights parts.right_part.within)
 
   pub columns-within : (more : ℕ) → room + length column_path ≤ more → AreWithin more h.size columns_in
   columns-within more wide =
       subst (λ n. AreWithin more n columns_in) can.product
-      (passes-in column_path (column_up column_path s) room more r (r * s) (omega (arith, wide))
+      (passes-in column_path (column_sum column_path s) room more r (r * s) (omega (arith, wide))
       (columns-keep column_path room more r s wide (shared-several p v s can.host.procs.0 can.host.lanes.0 for_right) column-size some-words some-rows (let same = can.product in let bound = high in omega (arith, same, bound)) right-high) lefts parts.left_part.within)
 
   short-path : (a b e : Bool) (p v c : ℕ) → length (if a then (if b then (if e then [] else Blocks c ∷ []) else Columns v ∷ (if e then [] else Blocks c ∷ [])) else Blocks p ∷ (if b then (if e then [] else Blocks c ∷ []) else Columns v ∷ (if e then [] else Blocks c ∷ []))) ≤ 3
@@ -175,13 +177,13 @@ module _ (h : PlainMachine) (room : ℕ) (left right : PlainMerged) (few : room 
 
   rows-can : All (CanWritePass h) rows_in
   rows-can =
-      passes-can h row_path (row_up row_path s) row-wraps s room few high can.host.line.0 can.host.lanes.0 can.host.modulus.0 goods.rows rights (part-passes s h.modulus room right parts.right_part)
+      passes-can h row_path (row_up row_path s 0) row-wraps s room few high can.host.line.0 can.host.lanes.0 can.host.modulus.0 goods.rows rights (part-passes s h.modulus room right parts.right_part)
       (rows-within 64 (let short = short-path (p == 1) (v == 1) (r / p / v == 1) p v (r / p / v) in omega (arith, few, short)))
       (parts.right_part.registers v can.host.lanes.1)
 
   columns-can : All (CanWritePass h) columns_in
   columns-can =
-      passes-can h column_path (column_up column_path s) column-wraps r room few high can.host.line.0 can.host.lanes.0 can.host.modulus.0 goods.columns lefts (part-passes r h.modulus room left parts.left_part)
+      passes-can h column_path (column_sum column_path s) column-wraps r room few high can.host.line.0 can.host.lanes.0 can.host.modulus.0 goods.columns lefts (part-passes r h.modulus room left parts.left_part)
       (columns-within 64 (let short = short-path (p == 1) (v == 1) (s / p / v == 1) p v (s / p / v) in omega (arith, few, short)))
       (parts.left_part.registers v can.host.lanes.1)
 
@@ -246,9 +248,9 @@ module _ (h : PlainMachine) (room : ℕ) (left right : PlainMerged) (few : room 
       let first = tiles-few (row_place p v r s) (side_place p v r s) in
       let last = tiles-few (side_place p v r s) (row_place p v r s) in
       let rows : most_actions h rows_in ≡ r * most_actions (plain_machine s h.modulus) rights =
-      (most-wrapped h s row_path (row_up row_path s) rights (sym can.product ∙ ap (λ z. z * s) (sym row-copies)) ∙ ap (λ z. z * most_actions (plain_machine s h.modulus) rights) row-copies) in
+      (most-wrapped h s row_path (row_up row_path s 0) rights (sym can.product ∙ ap (λ z. z * s) (sym row-copies)) ∙ ap (λ z. z * most_actions (plain_machine s h.modulus) rights) row-copies) in
       let columns : most_actions h columns_in ≡ s * most_actions (plain_machine r h.modulus) lefts =
-      (most-wrapped h r column_path (column_up column_path s) lefts (sym can.product ∙ turn r s ∙ ap (λ z. z * r) (sym column-copies)) ∙ ap (λ z. z * most_actions (plain_machine r h.modulus) lefts) column-copies) in
+      (most-wrapped h r column_path (column_sum column_path s) lefts (sym can.product ∙ turn r s ∙ ap (λ z. z * r) (sym column-copies)) ∙ ap (λ z. z * most_actions (plain_machine r h.modulus) lefts) column-copies) in
       let all = most-append h all_rows columns_in in
       let some = most-append h (tiled_in p v r s) (rows_in ++ tiled_out p v r s) in
       let other = most-append h rows_in (tiled_out p v r s) in
@@ -272,8 +274,8 @@ module _ (h : PlainMachine) (room : ℕ) (left right : PlainMerged) (few : room 
       let other = sum_by-append length rows_in (tiled_out p v r s) in
       let first = tile-nests in_tiles (omega arith) in
       let last = tile-nests out_tiles (omega arith) in
-      let rows = nests-wrapped row_path (row_up row_path s) rights in
-      let columns = nests-wrapped column_path (column_up column_path s) lefts in
+      let rows = nests-wrapped row_path (row_up row_path s 0) rights in
+      let columns = nests-wrapped column_path (column_sum column_path s) lefts in
       let bound = few-nests r s _ _ can.left can.right parts.left_part.nests parts.right_part.nests in
       let same = can.product in
       omega (arith, all, some, other, first, last, rows, columns, bound, same)
@@ -319,12 +321,12 @@ module _ (h : PlainMachine) (room : ℕ) (left right : PlainMerged) (few : room 
         by (suc zero) several one = absurd (several refl)
         by (suc (suc p)) several one = omega arith
 
-    rows-are-own : OwnsPlaces row_owner s row_path (row_up row_path s)
-    rows-are-own = subst (λ path. OwnsPlaces row_owner s path (row_up path s)) (sym (within-several p row_rest several)) (rows-own p s row_rest)
+    rows-are-own : OwnsPlaces row_owner s row_path (row_up row_path s 0)
+    rows-are-own = subst (λ path. OwnsPlaces row_owner s path (row_up path s 0)) (sym (within-several p row_rest several)) (rows-own p s row_rest)
 
-    columns-are-own : OwnsPlaces column_owner r column_path (column_up column_path s)
+    columns-are-own : OwnsPlaces column_owner r column_path (column_sum column_path s)
     columns-are-own =
-        subst (λ path. OwnsPlaces column_owner r path (column_up path s)) (sym (within-several p column_rest several)) (columns-own p r s column_rest (for_right.whole ∙ ap (λ z. p * z) (sym column-share)))
+        subst (λ path. OwnsPlaces column_owner r path (column_sum path s)) (sym (within-several p column_rest several)) (columns-own p r s column_rest (for_right.whole ∙ ap (λ z. p * z) (sym column-share)))
 
     tiles-are-own : Owns h row_owner in_tiles × Owns h row_owner out_tiles
     tiles-are-own = subst (λ z. Owns h (λ w. w / z) in_tiles × Owns h (λ w. w / z) out_tiles) tile-share (tiles-own h several r s (right-groups h r s can).0)
@@ -336,11 +338,11 @@ module _ (h : PlainMachine) (room : ℕ) (left right : PlainMerged) (few : room 
     row-phase =
         own-append h row_owner (tiled_in p v r s) (rows_in ++ tiled_out p v r s) (tile-owned in_tiles tiles-are-own.0)
         (own-append h row_owner rows_in (tiled_out p v r s)
-        (passes-own row_owner s row_path (row_up row_path s) rows-are-own h several room rights (passes-known s h.modulus room rights (part-passes s h.modulus room right parts.right_part)))
+        (passes-own row_owner s row_path (row_up row_path s 0) rows-are-own h several room rights (passes-known s h.modulus room rights (part-passes s h.modulus room right parts.right_part)))
         (tile-owned out_tiles tiles-are-own.1))
 
     column-phase : AllOwn h column_owner columns_in
-    column-phase = passes-own column_owner r column_path (column_up column_path s) columns-are-own h several room lefts (passes-known r h.modulus room lefts (part-passes r h.modulus room left parts.left_part))
+    column-phase = passes-own column_owner r column_path (column_sum column_path s) columns-are-own h several room lefts (passes-known r h.modulus room lefts (part-passes r h.modulus room left parts.left_part))
 
     both-shared : ArePhasesShared h (all_rows ∷ columns_in ∷ [])
     both-shared = (
@@ -395,10 +397,10 @@ module _ (h : PlainMachine) (room : ℕ) (left right : PlainMerged) (few : room 
   -- ---- all of it
 
   some-in-rows : 0 < length all_rows
-  some-in-rows = some-right (tiled_in p v r s) _ (some-left rows_in (tiled_out p v r s) (subst (λ k. 0 < k) (sym (length-map rights (map (wrapped row_path (row_up row_path s))))) parts.right_part.programs.some))
+  some-in-rows = some-right (tiled_in p v r s) _ (some-left rows_in (tiled_out p v r s) (subst (λ k. 0 < k) (sym (length-map rights (map (wrapped row_path (row_up row_path s 0))))) parts.right_part.programs.some))
 
   some-in-columns : 0 < length columns_in
-  some-in-columns = subst (λ k. 0 < k) (sym (length-map lefts (map (wrapped column_path (column_up column_path s))))) parts.left_part.programs.some
+  some-in-columns = subst (λ k. 0 < k) (sym (length-map lefts (map (wrapped column_path (column_sum column_path s))))) parts.left_part.programs.some
 
   abbrev Some : List (List PlainNest) → Type 0
   Some ps = 0 < length ps

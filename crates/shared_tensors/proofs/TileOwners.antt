@@ -3,6 +3,7 @@ use Rattle.std.proofs.Common.{◌≡◌, ◌≢◌, ℕ, zero, suc, ◌+◌, ◌
 use Rattle.std.specs.Prelude.{◌==◌, if◌then◌else◌, slice_index, Contains}
 use Rattle.std.specs.List.{range_with_len}
 use Rattle.std.proofs.lemmas.Bool.Decides.{nat_tests}
+use Rattle.std.proofs.lemmas.List.{append-nil}
 use Rattle.std.proofs.lemmas.List.Elements.{All-contains, All-cons, All-nil}
 use Rattle.std.proofs.lemmas.List.FromFn.{get_or-map-range_with_len}
 use Rattle.std.proofs.lemmas.Nat.{div-mul-add, mul-add-lt}
@@ -15,6 +16,7 @@ use Rattle.passes.specs.Work.{tile, work_size}
 use Rattle.passes.proofs.Natural.{loop_values, value-place_sum}
 use Rattle.perm_algebra.specs.Affine.{Sum, constant, value}
 use Rattle.shared_tensors.specs.Tensored.{across, row_place, side_place, tiles}
+use Rattle.shared_tensors.proofs.BlockPaths.{blocks-append, blocks-place, range-append, within-blocks}
 use Rattle.shared_tensors.proofs.Owners.{Owns, first-range, within-several}
 use Rattle.shared_tensors.proofs.TileLimits.{row-bound, size-append}
 use Rattle.smp_rewrite.specs.Smp.{within}
@@ -25,28 +27,12 @@ use Rattle.tensor_paths.proofs.PathPlaces.{place-below}
 
 -- ---- blocks
 
-one-blocks : (c : ℕ) → AreBlocks (within (Blocks c) [])
-one-blocks c = by (c == 1)
-  where
-    by : (b : Bool) → AreBlocks (if b then [] else Blocks c ∷ [])
-    by true = tt
-    by false = tt
-
-both-blocks : (path more : Path) → AreBlocks path → AreBlocks more → AreBlocks (path ++ more)
-both-blocks [] more h g = g
-both-blocks (Blocks c ∷ path) more h g = both-blocks path more h g
-both-blocks (Columns c ∷ path) more h g = absurd h
-
 -- items side by side have places side by side
 place-plus : (path : Path) (n : ℕ) (vs : List ℕ) (x l : ℕ) → AreBlocks path → place path n vs x + l ≡ place path n vs (x + l)
-place-plus [] n vs x l blocks = refl
-place-plus (Blocks c ∷ path) n [] x l blocks = refl
-place-plus (Blocks c ∷ path) n (v ∷ vs) x l blocks = let rest = place-plus path n vs x l blocks in omega (arith, rest)
-place-plus (Columns c ∷ path) n vs x l blocks = absurd blocks
-
-range-right : (path more : Path) (d : ℕ) (f : ℕ → ℕ) → AreInRange (path ++ more) (loop_values (path ++ more) d f) → AreInRange more (loop_values more (d + length path) f)
-range-right [] more d f range = let e : d ≡ d + 0 = omega arith in subst (λ z. AreInRange more (loop_values more z f)) e range
-range-right (t ∷ path) more d f range = let e : d + 1 + length path ≡ d + suc (length path) = omega arith in subst (λ z. AreInRange more (loop_values more z f)) e (range-right path more (d + 1) f range.1)
+place-plus path n vs x l blocks = ap (λ w. w + l) (blocks-place path n x vs blocks) ∙ assoc (place path 1 vs 0 * n) x l ∙ sym (blocks-place path n (x + l) vs blocks)
+  where
+    assoc : (a b c : ℕ) → a + b + c ≡ a + (b + c)
+    assoc a b c = omega arith
 
 range-left : (path more : Path) (d : ℕ) (f : ℕ → ℕ) → AreInRange (path ++ more) (loop_values (path ++ more) d f) → AreInRange path (loop_values path d f)
 range-left [] more d f range = tt
@@ -82,10 +68,6 @@ module _ (p v r s : ℕ) (whole : s ≡ s / v * v) where
   in-range vs range =
       first-range (group ++ across v s) 0 [] vs [] (slice_index vs) (subst (λ counts. AreInRange (loops_of counts) vs) (sym (append-nil (map count_of (group ++ across v s)))) range)
       (λ i. ap (slice_index vs) (omega arith) ∙ ap (λ ws. slice_index ws i) (sym (append-nil vs)))
-    where
-      append-nil : (xs : List ℕ) → xs ++ [] ≡ xs
-      append-nil [] = refl
-      append-nil (x ∷ xs) = ap (λ ys. x ∷ ys) (append-nil xs)
 
   -- the owner of the words of a tile's rows is the first loop's value
   row-own : (k lane : ℕ) (vs : List ℕ) → AreInRange (loops_of (map count_of (group ++ across v s))) vs → k < v → lane < v →
@@ -96,11 +78,11 @@ module _ (p v r s : ℕ) (whole : s ≡ s / v * v) where
       let all = in-range vs range in
       let is : x ≡ place (across v s) v (loop_values (across v s) (0 + length group) f) (k * s) =
       (value-place_sum (across v s) v (length group) (constant (k * s)) f ∙ (let e : length group ≡ 0 + length group = omega arith in ap (λ d. place (across v s) v (loop_values (across v s) d f) (k * s)) e)) in
-      let bound : x + lane < v * s = (let b = across-bound k lane (0 + length group) f row low (range-right group (across v s) 0 f all) in omega (arith, b, is)) in
+      let bound : x + lane < v * s = (let b = across-bound k lane (0 + length group) f row low (range-append group (across v s) 0 f all) in omega (arith, b, is)) in
       let inner = loop_values after (0 + 1) f in
       let below = place-below after (v * s) inner (x + lane) (range-left after (across v s) (0 + 1) f all.1) bound in
       ap (λ w. (w + lane) / share) (value-place_sum group (v * s) 0 (place_sum (across v s) v (length group) (constant (k * s))) f)
-      ∙ ap (λ w. w / share) (assoc (f 0 * share) (place after (v * s) inner x) lane ∙ ap (λ w. f 0 * share + w) (place-plus after (v * s) inner x lane (one-blocks (r / p / v))))
+      ∙ ap (λ w. w / share) (assoc (f 0 * share) (place after (v * s) inner x) lane ∙ ap (λ w. f 0 * share + w) (place-plus after (v * s) inner x lane (within-blocks (r / p / v) [] tt)))
       ∙ div-mul-add (f 0) share (place after (v * s) inner (x + lane)) below
     where
       assoc : (a b c : ℕ) → a + b + c ≡ a + (b + c)
@@ -121,7 +103,7 @@ module _ (p v r s : ℕ) (whole : s ≡ s / v * v) where
       let inner = loop_values rest (0 + 1) f in
       let below = place-below rest (v * v) inner (k * v + lane) all.1 (row-bound v v k lane row low) in
       ap (λ w. (w + lane) / share) (value-place_sum (group ++ across v s) (v * v) 0 (constant (k * v)) f)
-      ∙ ap (λ w. w / share) (assoc (f 0 * size) (place rest (v * v) inner (k * v)) lane ∙ ap (λ w. f 0 * size + w) (place-plus rest (v * v) inner (k * v) lane (both-blocks after (across v s) (one-blocks (r / p / v)) (one-blocks (s / v)))))
+      ∙ ap (λ w. w / share) (assoc (f 0 * size) (place rest (v * v) inner (k * v)) lane ∙ ap (λ w. f 0 * size + w) (place-plus rest (v * v) inner (k * v) lane (blocks-append after (across v s) (within-blocks (r / p / v) [] tt) (within-blocks (s / v) [] tt))))
       ∙ ap (λ z. (f 0 * size + place rest (v * v) inner (k * v + lane)) / z) (sym side-share)
       ∙ div-mul-add (f 0) size (place rest (v * v) inner (k * v + lane)) below
     where

@@ -10,9 +10,9 @@ use Rattle.pass_actions.specs.Machine.{PlainMachine, if_several}
 use Rattle.passes.specs.Copies.{loops_of}
 use Rattle.passes.specs.Merge.{place_sum, renumbered}
 use Rattle.passes.proofs.Natural.{loop_values, sound-place_sum, value-place_sum}
-use Rattle.passes.proofs.Sides.{rest_of, rest-index, sound-renumbered}
+use Rattle.passes.proofs.Sides.{rest_of, rest-index, sound-renumbered, up as row_up}
 use Rattle.shared_tensors.specs.Tensored.{shared_path}
-use Rattle.shared_tensors.proofs.Limits.{row_up, column_up}
+use Rattle.shared_tensors.proofs.Columns.{column_sum}
 use Rattle.smp_rewrite.specs.Smp.{within}
 use Rattle.tensor_paths.specs.declared.Tensor.TheVariants.{Blocks, Columns}
 use Rattle.tensor_paths.specs.Path.{Path, AreInRange, count_of, place, size_under}
@@ -41,12 +41,12 @@ value-renumbered k (variable g d rest) f = ap (λ v. g * f (d + k) + v) (value-r
 value-renumbered k (remainder g of m rest) f = ap₂ (λ u v. g * (u % m) + v) (value-renumbered k of f) (value-renumbered k rest f)
 value-renumbered k (quotient g of m rest) f = ap₂ (λ u v. g * (u / m) + v) (value-renumbered k of f) (value-renumbered k rest f)
 
-pub value-row : (path : Path) (n : ℕ) (e : Sum) (f : ℕ → ℕ) → value (row_up path n e) f ≡ place path n (loop_values path 0 f) (0 + value e (λ d. f (d + length path)))
+pub value-row : (path : Path) (n : ℕ) (e : Sum) (f : ℕ → ℕ) → value (row_up path n 0 e) f ≡ place path n (loop_values path 0 f) (0 + value e (λ d. f (d + length path)))
 value-row path n e f =
     value-place_sum path n 0 (joined (constant 0) (renumbered (length path) e)) f
     ∙ ap (place path n (loop_values path 0 f)) (value-joined (constant 0) (renumbered (length path) e) f ∙ ap (λ v. 0 + v) (value-renumbered (length path) e f))
 
-pub value-column : (path : Path) (s : ℕ) (e : Sum) (f : ℕ → ℕ) → value (column_up path s e) f ≡ s * value e (λ d. f (d + length path)) + place path 1 (loop_values path 0 f) 0
+pub value-column : (path : Path) (s : ℕ) (e : Sum) (f : ℕ → ℕ) → value (column_sum path s e) f ≡ s * value e (λ d. f (d + length path)) + place path 1 (loop_values path 0 f) 0
 value-column path s e f =
     value-joined (scaled s (renumbered (length path) e)) (place_sum path 1 0 (constant 0)) f
     ∙ ap₂ (λ x y. x + y) (value-scaled s (renumbered (length path) e) f ∙ ap (λ v. s * v) (value-renumbered (length path) e f)) (value-place_sum path 1 0 (constant 0) f)
@@ -80,7 +80,7 @@ pub value-rest : (path : Path) (e : Sum) (counts vs more : List ℕ) → AreInRa
 value-rest path e counts vs more range = ap (value e) (λ t d. rest-index path (vs ++ more) d t) ∙ ap (λ ws. value e (slice_index ws)) (rest-append path counts vs more range)
 
 alike-row : (path : Path) (n : ℕ) (e : Sum) (counts vs more other : List ℕ) → AreInRange (loops_of (map count_of path ++ counts)) vs → value e (slice_index (rest_of path vs ++ more)) ≡ value e (slice_index (rest_of path vs ++ other)) →
-    value (row_up path n e) (slice_index (vs ++ more)) ≡ value (row_up path n e) (slice_index (vs ++ other))
+    value (row_up path n 0 e) (slice_index (vs ++ more)) ≡ value (row_up path n 0 e) (slice_index (vs ++ other))
 alike-row path n e counts vs more other range same =
     value-row path n e (slice_index (vs ++ more))
     ∙ ap₂ (λ ws x. place path n ws (0 + x)) (loops-first path 0 counts vs more other (slice_index (vs ++ more)) (slice_index (vs ++ other)) range (from-zero (slice_index (vs ++ more))) (from-zero (slice_index (vs ++ other))))
@@ -88,7 +88,7 @@ alike-row path n e counts vs more other range same =
     ∙ sym (value-row path n e (slice_index (vs ++ other)))
 
 alike-column : (path : Path) (s : ℕ) (e : Sum) (counts vs more other : List ℕ) → AreInRange (loops_of (map count_of path ++ counts)) vs → value e (slice_index (rest_of path vs ++ more)) ≡ value e (slice_index (rest_of path vs ++ other)) →
-    value (column_up path s e) (slice_index (vs ++ more)) ≡ value (column_up path s e) (slice_index (vs ++ other))
+    value (column_sum path s e) (slice_index (vs ++ more)) ≡ value (column_sum path s e) (slice_index (vs ++ other))
 alike-column path s e counts vs more other range same =
     value-column path s e (slice_index (vs ++ more))
     ∙ ap₂ (λ ws x. s * x + place path 1 ws 0) (loops-first path 0 counts vs more other (slice_index (vs ++ more)) (slice_index (vs ++ other)) range (from-zero (slice_index (vs ++ more))) (from-zero (slice_index (vs ++ other))))
@@ -161,7 +161,7 @@ module _ (h : PlainMachine) (r : ℕ) (some : 1 ≤ r / h.procs / h.lanes) (few 
   lane-at : (n x q lane : ℕ) (vs : List ℕ) → (h.lanes ≡ 1 → lane ≡ 0) → place path n (loop_values path 0 (slice_index (framed h q lane vs))) x ≡ place path n (loop_values path 0 (slice_index (framed h q 0 vs))) x + lane
   lane-at n x q lane vs none = place-lane (h.procs == 1) (h.lanes == 1) h.procs h.lanes q lane n x rest vs (single-is h.lanes lane none)
 
-  pub rows-wrap : (n : ℕ) → Wraps h path (row_up path n)
+  pub rows-wrap : (n : ℕ) → Wraps h path (row_up path n 0)
   rows-wrap n =
       record {
         loops = map count_of rest;
@@ -178,7 +178,7 @@ module _ (h : PlainMachine) (r : ℕ) (some : 1 ≤ r / h.procs / h.lanes) (few 
         alike = alike-row path n;
       }
 
-  pub columns-wrap : (s : ℕ) → Wraps h path (column_up path s)
+  pub columns-wrap : (s : ℕ) → Wraps h path (column_sum path s)
   columns-wrap s =
       record {
         loops = map count_of rest;

@@ -2,6 +2,7 @@
 use Rattle.std.proofs.Common.{◌≡◌, ℕ, ◌+◌, ◌^◌, ◌<◌, ◌≤◌, Bool, true, false, arith, refl, sym, ap, ap₂, ◌∙◌, List, [], ◌∷◌, ◌++◌, length, map, subst, All, Some}
 use Rattle.std.specs.Prelude.{◌&&◌, ◌==◌, drop, if◌then◌else◌, not, IsTrue}
 use Rattle.std.specs.List.{list_all}
+use Rattle.std.proofs.lemmas.List.{length-append}
 use Rattle.std.proofs.lemmas.List.Elements.{All-nil, All-cons, All-append, All-head, All-tail, All-weaker}
 use Rattle.icode.specs.Limits.{is_expr_within}
 use Rattle.operators.specs.Sizes.{max_size}
@@ -89,10 +90,6 @@ plain-loops n m (rows root d) counts = refl
 plain-loops n m (horner root d) counts = refl
 plain-loops n m (tile v) counts = refl
 plain-loops n m (copy d) counts = refl
-
-length-append : (xs ys : List ℕ) → length (xs ++ ys) ≡ length xs + length ys
-length-append [] ys = omega arith
-length-append (x ∷ xs) ys = let e = length-append xs ys in omega (arith, e)
 
 -- ---- nests
 
