@@ -1,16 +1,24 @@
--- The passes of a tensor product write each word once, inside of the larger array, and so a program can be made of them.
+-- The passes of a tensor product write each word of the larger array once, inside of it.
 use Rattle.std.proofs.Common.{ℕ, map, subst}
 use Rattle.pass_actions.specs.Machine.{PlainMachine}
 use Rattle.passes.specs.Good.{IsGoodPass}
 use Rattle.passes.specs.Merge.{lifted}
-use Rattle.shared_tensors.specs.Laws.{CanShare, TensoredCanProgram, TensoredIsPart}
+use Rattle.shared_tensors.specs.Laws.{CanShare}
 use Rattle.shared_tensors.specs.Tensored.{in_columns, row_place, shared_path, side_place, tiles}
-use Rattle.shared_tensors.proofs.PartAgain.{can-program, is-part}
 use Rattle.shared_tensors.proofs.Parts.{good-pass}
-use Rattle.shared_tensors.proofs.Programs.{AreGood}
+use Rattle.shared_tensors.proofs.PartPasses.{KeepsGood}
+use Rattle.shared_tensors.proofs.Columns.{column_sum}
+use Rattle.passes.proofs.Sides.{up as row_up}
 use Rattle.shared_tensors.proofs.Shares.{columns-good, rows-good, shares-of, tiled-in-good, tiled-out-good}
 
-are-good : (h : PlainMachine) (r s : ℕ) → CanShare h r s → AreGood h r s
+-- the passes write each word of the larger array once, inside of it
+pub record AreGood (h : PlainMachine) (r s : ℕ) : Type 0 where
+  pub rows : KeepsGood h s (shared_path h.procs h.lanes r) (row_up (shared_path h.procs h.lanes r) s 0)
+  pub columns : KeepsGood h r (shared_path h.procs h.lanes s) (column_sum (shared_path h.procs h.lanes s) s)
+  pub tiles_in : IsGoodPass h.lanes h.modulus h.size (tiles h.procs h.lanes r s (row_place h.procs h.lanes r s) (side_place h.procs h.lanes r s))
+  pub tiles_out : IsGoodPass h.lanes h.modulus h.size (tiles h.procs h.lanes r s (side_place h.procs h.lanes r s) (row_place h.procs h.lanes r s))
+
+pub are-good : (h : PlainMachine) (r s : ℕ) → CanShare h r s → AreGood h r s
 are-good h r s can =
     let shared = shares-of h r s can in
     record {
@@ -27,9 +35,3 @@ are-good h r s can =
           subst (λ n. IsGoodPass h.lanes h.modulus n (tiles h.procs h.lanes r s (side_place h.procs h.lanes r s) (row_place h.procs h.lanes r s))) can.product
           (tiled-out-good h.modulus h.procs h.lanes r s shared);
     }
-
-pub tensored_can_program : TensoredCanProgram
-tensored_can_program = can-program are-good
-
-pub tensored_is_part : TensoredIsPart
-tensored_is_part = is-part are-good

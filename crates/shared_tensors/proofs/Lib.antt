@@ -20,6 +20,6 @@ pub mod TileOwners
 pub mod Totals
 pub mod Sharing
 pub mod PartPasses
+pub mod Goods
 pub mod Programs
 pub mod PartAgain
-pub mod Goods

@@ -9,17 +9,17 @@ use Rattle.passes.specs.Limits.{AreWithin}
 use Rattle.passes.specs.Merged.{PlainMerged}
 use Rattle.passes.specs.Nest.{PlainNest}
 use Rattle.passes.proofs.Within.{within-append}
-use Rattle.shared_tensors.specs.Laws.{AreParts, CanShare, HasNoTile, IsPart, IsShallow, TensoredCanProgram, TensoredIsPart, plain_lanes}
+use Rattle.shared_tensors.specs.Laws.{AreParts, HasNoTile, IsPart, IsShallow, TensoredCanProgram, TensoredIsPart, plain_lanes}
 use Rattle.shared_tensors.specs.Tensored.{shared_path, tensored}
 use Rattle.passes.proofs.Sides.{up as row_up}
 use Rattle.shared_tensors.proofs.Columns.{column_sum}
 use Rattle.shared_tensors.proofs.Limits.{wrapped}
 use Rattle.shared_tensors.proofs.PartPasses.{passes-plain, passes-registers, passes-shallow}
-use Rattle.shared_tensors.proofs.Programs.{AreGood, columns-within, product-actions, product-nests, product-program, product-whole, rows-within}
+use Rattle.shared_tensors.proofs.Programs.{columns-within, product-actions, product-nests, product-program, product-whole, rows-within}
 use Rattle.tensor_paths.specs.declared.Tensor.TheVariants.{Blocks}
 use Rattle.tensor_paths.specs.Path.{Path, count_of}
 
-module _ (n m room : ℕ) (left right : PlainMerged) (few : room ≤ 56) (parts : AreParts (plain_machine n m) left.size right.size room left right) (goods : AreGood (plain_machine n m) left.size right.size) where
+module _ (n m room : ℕ) (left right : PlainMerged) (few : room ≤ 56) (parts : AreParts (plain_machine n m) left.size right.size room left right) where
   abbrev h : PlainMachine
   h = plain_machine n m
 
@@ -65,33 +65,30 @@ module _ (n m room : ℕ) (left right : PlainMerged) (few : room ≤ 56) (parts 
   pub product-part : IsPart n m (room + 1) (tensored 1 1 left right)
   product-part =
       record {
-        programs = product-program h room left right few parts goods;
+        programs = product-program h room left right few parts;
         within =
-            subst (AreWithin (room + 1) n) (sym (product-whole h room left right few parts goods))
+            subst (AreWithin (room + 1) n) (sym (product-whole h room left right few parts))
             (within-append (room + 1) n ([] ++ (rows_in ++ [])) columns_in
-            (within-append (room + 1) n rows_in [] (rows-within h room left right few parts goods (room + 1) (let one = one-loop (r / 1 / 1 == 1) (r / 1 / 1) in omega (arith, one))) tt)
-            (columns-within h room left right few parts goods (room + 1) (let one = one-loop (s / 1 / 1 == 1) (s / 1 / 1) in omega (arith, one))));
+            (within-append (room + 1) n rows_in [] (rows-within h room left right few parts (room + 1) (let one = one-loop (r / 1 / 1 == 1) (r / 1 / 1) in omega (arith, one))) tt)
+            (columns-within h room left right few parts (room + 1) (let one = one-loop (s / 1 / 1 == 1) (s / 1 / 1) in omega (arith, one))));
         shallow =
-            subst (All (All (IsShallow (room + 1)))) (sym (product-whole h room left right few parts goods))
+            subst (All (All (IsShallow (room + 1)))) (sym (product-whole h room left right few parts))
             (for-all (All (IsShallow (room + 1)))
             (passes-shallow row_path (row_up row_path s 0) room (room + 1) (let one = one-count (r / 1 / 1 == 1) (r / 1 / 1) in omega (arith, one)) rights parts.right_part.shallow)
             (passes-shallow column_path (column_sum column_path s) room (room + 1) (let one = one-count (s / 1 / 1 == 1) (s / 1 / 1) in omega (arith, one)) lefts parts.left_part.shallow));
         no_tiles =
-            subst (All (All HasNoTile)) (sym (product-whole h room left right few parts goods))
+            subst (All (All HasNoTile)) (sym (product-whole h room left right few parts))
             (for-all (All HasNoTile) (passes-plain row_path (row_up row_path s 0) rights parts.right_part.no_tiles) (passes-plain column_path (column_sum column_path s) lefts parts.left_part.no_tiles));
         registers = λ v low.
-            subst (All (λ zs. pass_registers (plain_lanes n m v) zs < 2 ^ 20)) (sym (product-whole h room left right few parts goods))
+            subst (All (λ zs. pass_registers (plain_lanes n m v) zs < 2 ^ 20)) (sym (product-whole h room left right few parts))
             (for-all (λ zs. pass_registers (plain_lanes n m v) zs < 2 ^ 20)
             (passes-registers (plain_lanes n m v) s row_path (row_up row_path s 0) rights (parts.right_part.registers v low))
             (passes-registers (plain_lanes n m v) r column_path (column_sum column_path s) lefts (parts.left_part.registers v low)));
-        actions = subst (λ ps. most_actions h ps + 4000 * n ≤ 4000 * (n * n)) (sym (product-whole h room left right few parts goods)) (product-actions h room left right few parts goods);
-        nests = subst (λ ps. sum_by length ps + 2 ≤ 2 * n) (sym (product-whole h room left right few parts goods)) (product-nests h room left right few parts goods);
+        actions = subst (λ ps. most_actions h ps + 4000 * n ≤ 4000 * (n * n)) (sym (product-whole h room left right few parts)) (product-actions h room left right few parts);
+        nests = subst (λ ps. sum_by length ps + 2 ≤ 2 * n) (sym (product-whole h room left right few parts)) (product-nests h room left right few parts);
       }
 
--- ---- the laws, where the passes are good
-
-abbrev pub SharedAreGood : Type 0
-SharedAreGood = (h : PlainMachine) (r s : ℕ) → CanShare h r s → AreGood h r s
+-- ---- the laws
 
 -- the sizes of the parts are theirs
 sized : (h : PlainMachine) (r s room : ℕ) (left right : PlainMerged) → AreParts h r s room left right → AreParts h left.size right.size room left right
@@ -99,10 +96,8 @@ sized h r s room left right parts =
     subst (λ k. AreParts h k right.size room left right) (sym parts.left_part.programs.size)
     (subst (λ k. AreParts h r k room left right) (sym parts.right_part.programs.size) parts)
 
-pub can-program : SharedAreGood → TensoredCanProgram
-can-program good h r s room left right few parts =
-    let own = sized h r s room left right parts in product-program h room left right few own (good h left.size right.size own.shares)
+pub tensored_can_program : TensoredCanProgram
+tensored_can_program h r s room left right few parts = product-program h room left right few (sized h r s room left right parts)
 
-pub is-part : SharedAreGood → TensoredIsPart
-is-part good n m r s room left right few parts =
-    let own = sized (plain_machine n m) r s room left right parts in product-part n m room left right few own (good (plain_machine n m) left.size right.size own.shares)
+pub tensored_is_part : TensoredIsPart
+tensored_is_part n m r s room left right few parts = product-part n m room left right few (sized (plain_machine n m) r s room left right parts)

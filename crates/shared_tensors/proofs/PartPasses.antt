@@ -1,5 +1,5 @@
 -- The passes of a part, wrapped for a machine's processors and lanes, can be run and written.
-use Rattle.std.proofs.Common.{◌≡◌, ℕ, ◌+◌, ◌^◌, ◌<◌, ◌≤◌, arith, sym, List, [], ◌∷◌, ◌++◌, length, map, subst, All}
+use Rattle.std.proofs.Common.{ℕ, ◌+◌, ◌^◌, ◌<◌, ◌≤◌, arith, sym, List, [], ◌∷◌, length, map, subst, All}
 use Rattle.std.proofs.lemmas.List.{length-append}
 use Rattle.std.proofs.lemmas.List.Elements.{All-nil, All-cons, All-head, All-tail, All-map, All-weaker}
 use Rattle.operators.specs.Sizes.{max_size}

@@ -12,7 +12,6 @@ use Rattle.pass_programs.specs.Conditions.{CanWritePass}
 use Rattle.pass_programs.specs.Contract.{AllOwn, ArePhasesShared, CanProgram, all_passes, most_actions}
 use Rattle.pass_programs.specs.Program.{tables_through}
 use Rattle.passes.specs.Counts.{copies_in}
-use Rattle.passes.specs.Good.{IsGoodPass}
 use Rattle.passes.specs.Limits.{AreWithin}
 use Rattle.passes.specs.Merged.{PlainMerged}
 use Rattle.passes.specs.Nest.{PlainNest}
@@ -22,9 +21,10 @@ use Rattle.shared_tensors.specs.Laws.{AreParts, CanShare, IsPart}
 use Rattle.shared_tensors.specs.Tensored.{across, group_path, in_phases, row_place, shared_path, side_place, tensored, tiled_in, tiled_out, tiles}
 use Rattle.passes.proofs.Sides.{up as row_up}
 use Rattle.shared_tensors.proofs.Columns.{column_sum}
+use Rattle.shared_tensors.proofs.Goods.{AreGood, are-good}
 use Rattle.shared_tensors.proofs.Limits.{columns-keep, passes-in, rows-keep, wrapped}
 use Rattle.shared_tensors.proofs.Owners.{OwnsPlaces, Owns, columns-own, first-owns, one-owns, own-append, passes-own, rows-own, within-several}
-use Rattle.shared_tensors.proofs.PartPasses.{ArePartPasses, KeepsGood, passes-can, passes-known}
+use Rattle.shared_tensors.proofs.PartPasses.{ArePartPasses, passes-can, passes-known}
 use Rattle.shared_tensors.proofs.ShareNumbers.{AreShares, left-shares, right-groups, right-shares, share-word, shared-several, shared-size}
 use Rattle.shared_tensors.proofs.Sharing.{columns-owner, left-lines, right-lines, rows-owner}
 use Rattle.shared_tensors.proofs.TileLimits.{side-size, tile-in-can, tile-out-can}
@@ -36,13 +36,6 @@ use Rattle.smp_rewrite.proofs.Tensors.{size-within}
 use Rattle.tensor_paths.specs.declared.Tensor.TheVariants.{Blocks, Columns}
 use Rattle.tensor_paths.specs.Path.{Path, copies_of, count_of, size_under}
 use Rattle.tensor_paths.proofs.Under.{size_under-copies}
-
--- the passes write each word of the larger array once, inside of it
-pub record AreGood (h : PlainMachine) (r s : ℕ) : Type 0 where
-  pub rows : KeepsGood h s (shared_path h.procs h.lanes r) (row_up (shared_path h.procs h.lanes r) s 0)
-  pub columns : KeepsGood h r (shared_path h.procs h.lanes s) (column_sum (shared_path h.procs h.lanes s) s)
-  pub tiles_in : IsGoodPass h.lanes h.modulus h.size (tiles h.procs h.lanes r s (row_place h.procs h.lanes r s) (side_place h.procs h.lanes r s))
-  pub tiles_out : IsGoodPass h.lanes h.modulus h.size (tiles h.procs h.lanes r s (side_place h.procs h.lanes r s) (row_place h.procs h.lanes r s))
 
 -- ---- lists of passes
 
@@ -79,7 +72,7 @@ copies-path : (path : Path) → copies_in (map count_of path) ≡ copies_of path
 copies-path [] = refl
 copies-path (t ∷ path) = ap (λ z. count_of t * z) (copies-path path)
 
-module _ (h : PlainMachine) (room : ℕ) (left right : PlainMerged) (few : room ≤ 56) (parts : AreParts h left.size right.size room left right) (goods : AreGood h left.size right.size) where
+module _ (h : PlainMachine) (room : ℕ) (left right : PlainMerged) (few : room ≤ 56) (parts : AreParts h left.size right.size room left right) where
   abbrev p : ℕ
   p = h.procs
 
@@ -115,6 +108,9 @@ module _ (h : PlainMachine) (room : ℕ) (left right : PlainMerged) (few : room 
 
   abbrev all_rows : List (List PlainNest)
   all_rows = tiled_in p v r s ++ (rows_in ++ tiled_out p v r s)
+
+  goods : AreGood h r s
+  goods = are-good h r s can
 
   -- ---- numbers
 

@@ -15,7 +15,6 @@ use Rattle.passes.specs.Limits.{AreSeveral}
 use Rattle.passes.specs.Merge.{is_limited, place_sum}
 use Rattle.passes.specs.Nest.{PlainNest, copies_of, load_place, sum_value}
 use Rattle.passes.specs.Work.{tile}
-use Rattle.passes.proofs.Natural.{sound-place_sum}
 use Rattle.passes.proofs.Small.{HasCounts, max-lt, place-small}
 use Rattle.passes.proofs.Within.{IsSmall, both-true, constant-small, limited, small-true}
 use Rattle.perm_algebra.specs.Affine.{Sum, constant, IsSound}
@@ -23,10 +22,12 @@ use Rattle.shared_tensors.specs.Laws.{CanShare}
 use Rattle.shared_tensors.specs.Tensored.{across, group_path, row_place, side_place, tiles}
 use Rattle.shared_tensors.proofs.Limits.{counts-first, roomier}
 use Rattle.shared_tensors.proofs.ShareNumbers.{AreShares, several-within, share-word}
+use Rattle.shared_tensors.proofs.Shares.{shares-of, size-tiled}
+use Rattle.shared_tensors.proofs.Tiles.{row-sums, side-sums}
 use Rattle.shared_tensors.proofs.Written.{frame-of, sums-written}
 use Rattle.smp_rewrite.specs.Smp.{within}
 use Rattle.smp_rewrite.proofs.Tensors.{size-within}
-use Rattle.tensor_paths.specs.declared.Tensor.TheVariants.{Blocks, Columns}
+use Rattle.tensor_paths.specs.declared.Tensor.TheVariants.{Blocks}
 use Rattle.tensor_paths.specs.Path.{Path, count_of, size_under}
 
 -- ---- lists of places
@@ -54,11 +55,6 @@ counts-right (t ∷ path) more d cs h = let e : d + 1 + length path ≡ d + suc 
 pub counts-append : (path more : Path) → map count_of (path ++ more) ≡ map count_of path ++ map count_of more
 counts-append [] more = refl
 counts-append (t ∷ path) more = ap (λ xs. count_of t ∷ xs) (counts-append path more)
-
-pub size-append : (path more : Path) (n : ℕ) → size_under (path ++ more) n ≡ size_under path (size_under more n)
-size-append [] more n = refl
-size-append (Blocks c ∷ path) more n = ap (λ z. c * z) (size-append path more n)
-size-append (Columns c ∷ path) more n = ap (λ z. z * c) (size-append path more n)
 
 -- ---- across a group of rows
 
@@ -137,13 +133,7 @@ module _ (h : PlainMachine) (r s : ℕ) (can : CanShare h r s) (left : AreShares
       turn p c v s = omega arith
 
   pub side-size : size_under whole (v * v) ≡ h.size
-  side-size =
-      size-append group (across v s) (v * v)
-      ∙ ap (size_under group) (size-within (Blocks (s / v)) [] (v * v) ∙ turn (s / v) v ∙ ap (λ z. v * z) (sym right))
-      ∙ row-size
-    where
-      turn : (a v : ℕ) → a * (v * v) ≡ v * (a * v)
-      turn a v = omega arith
+  side-size = size-tiled p v r s (shares-of h r s can) ∙ can.product
 
   high : h.size ≤ 2 ^ 20
   high = let size = can.host.size.1 in omega (arith, size)
@@ -194,12 +184,6 @@ module _ (h : PlainMachine) (r s : ℕ) (can : CanShare h r s) (left : AreShares
       let square : v * v ≤ 16 * 16 = mul-le-mul few-lanes few-lanes in
       let outer = place-small whole 0 (v * v) 0 (constant (k * v)) cs whole-several counted (some-words v v (omega (arith, several)) (omega (arith, several))) (let size = side-size in let bound = high in omega (arith, size, bound)) (constant-small 0 (v * v) cs (k * v) start (omega (arith, square))) in
       limited 64 h.size cs _ (roomier (0 + length whole) 64 _ h.size cs _ (let few = whole-short in omega (arith, few)) (let size = side-size in omega (arith, size)) outer)
-
-  row-sound : (k : ℕ) → IsSound (row_place p v r s k)
-  row-sound k = sound-place_sum group (v * s) 0 _ (sound-place_sum (across v s) v (length group) (constant (k * s)) tt)
-
-  side-sound : (k : ℕ) → IsSound (side_place p v r s k)
-  side-sound k = sound-place_sum whole (v * v) 0 (constant (k * v)) tt
 
   -- ---- loops
 
@@ -315,8 +299,8 @@ module _ (h : PlainMachine) (r s : ℕ) (can : CanShare h r s) (left : AreShares
 
   pub tile-in-can : AreInside h.size (map (copies_of h.modulus) (tiles p v r s (row_place p v r s) (side_place p v r s))) → StoreOnce h.size (map (copies_of h.modulus) (tiles p v r s (row_place p v r s) (side_place p v r s))) →
       CanWritePass h (tiles p v r s (row_place p v r s) (side_place p v r s))
-  tile-in-can inside once = pass-can (row_place p v r s) (side_place p v r s) row-sound side-sound row-limited side-limited inside once
+  tile-in-can inside once = pass-can (row_place p v r s) (side_place p v r s) (row-sums p v r s (sym right)).sound (side-sums p v r s).sound row-limited side-limited inside once
 
   pub tile-out-can : AreInside h.size (map (copies_of h.modulus) (tiles p v r s (side_place p v r s) (row_place p v r s))) → StoreOnce h.size (map (copies_of h.modulus) (tiles p v r s (side_place p v r s) (row_place p v r s))) →
       CanWritePass h (tiles p v r s (side_place p v r s) (row_place p v r s))
-  tile-out-can inside once = pass-can (side_place p v r s) (row_place p v r s) side-sound row-sound side-limited row-limited inside once
+  tile-out-can inside once = pass-can (side_place p v r s) (row_place p v r s) (side-sums p v r s).sound (row-sums p v r s (sym right)).sound side-limited row-limited inside once

@@ -16,13 +16,14 @@ use Rattle.passes.specs.Work.{tile, work_size}
 use Rattle.passes.proofs.Natural.{loop_values, value-place_sum}
 use Rattle.perm_algebra.specs.Affine.{Sum, constant, value}
 use Rattle.shared_tensors.specs.Tensored.{across, row_place, side_place, tiles}
-use Rattle.shared_tensors.proofs.BlockPaths.{blocks-append, blocks-place, range-append, within-blocks}
+use Rattle.shared_tensors.proofs.BlockPaths.{blocks-append, blocks-place, copies-append, range-append, within-blocks}
 use Rattle.shared_tensors.proofs.Owners.{Owns, first-range, within-several}
-use Rattle.shared_tensors.proofs.TileLimits.{row-bound, size-append}
+use Rattle.shared_tensors.proofs.TileLimits.{row-bound}
 use Rattle.smp_rewrite.specs.Smp.{within}
-use Rattle.smp_rewrite.proofs.Tensors.{size-within}
-use Rattle.tensor_paths.specs.declared.Tensor.TheVariants.{Blocks, Columns}
-use Rattle.tensor_paths.specs.Path.{Path, AreInRange, count_of, place, size_under}
+use Rattle.smp_rewrite.proofs.Tensors.{copies-within}
+use Rattle.tensor_paths.specs.declared.Tensor.TheVariants.{Blocks}
+use Rattle.tensor_paths.specs.Path.{Path, AreInRange, copies_of, count_of, place, size_under}
+use Rattle.tensor_paths.proofs.Under.{size_under-copies}
 use Rattle.tensor_paths.proofs.PathPlaces.{place-below}
 
 -- ---- blocks
@@ -89,10 +90,16 @@ module _ (p v r s : ℕ) (whole : s ≡ s / v * v) where
       assoc a b c = omega arith
 
   side-share : size_under (after ++ across v s) (v * v) ≡ share
-  side-share = size-append after (across v s) (v * v) ∙ ap (size_under after) (size-within (Blocks (s / v)) [] (v * v) ∙ turn (s / v) v ∙ ap (λ z. v * z) (sym whole))
+  side-share =
+      let tiles_of = copies-within (Blocks (s / v)) [] in
+      size_under-copies (after ++ across v s) (v * v)
+      ∙ ap (λ n. n * (v * v)) (copies-append after (across v s) ∙ ap (λ n. copies_of after * n) tiles_of)
+      ∙ turn (copies_of after) (s / v) v
+      ∙ ap (λ n. copies_of after * (v * n)) (sym whole)
+      ∙ sym (size_under-copies after (v * s))
     where
-      turn : (a v : ℕ) → a * (v * v) ≡ v * (a * v)
-      turn a v = omega arith
+      turn : (c a v : ℕ) → c * (a * 1) * (v * v) ≡ c * (v * (a * v))
+      turn c a v = omega arith
 
   side-own : (k lane : ℕ) (vs : List ℕ) → AreInRange (loops_of (map count_of (group ++ across v s))) vs → k < v → lane < v → (value (place_sum (group ++ across v s) (v * v) 0 (constant (k * v))) (slice_index vs) + lane) / share ≡ slice_index vs 0
   side-own k lane vs range row low =

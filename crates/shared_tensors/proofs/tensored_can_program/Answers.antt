@@ -1,4 +1,4 @@
-use Rattle.shared_tensors.proofs.Goods.{tensored_can_program, tensored_is_part}
+use Rattle.shared_tensors.proofs.PartAgain.{tensored_can_program, tensored_is_part}
 use Rattle.shared_tensors.proofs.tensored_can_program.Goals as goal
 
 pub returns-clause-program : goal.returns-clause-program
