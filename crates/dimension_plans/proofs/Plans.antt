@@ -77,7 +77,7 @@ sum_by_product (suc r) (suc s) h k =
     omega (arith, product)
 
 -- the cost of both is small
-both_small : (r s x y : ℕ) → 2 ≤ r → 1 ≤ s → IsModest r x → IsSmall s y → IsSmall (r * s) (s * x + r * y)
+pub both_small : (r s x y : ℕ) → 2 ≤ r → 1 ≤ s → IsModest r x → IsSmall s y → IsSmall (r * s) (s * x + r * y)
 both_small r s x y hr hs modest small =
     let square : 2 * r ≤ r * r = mul-le-mul {n₁ = 2} {m₁ = r} {n₂ = r} {m₂ = r} hr (omega arith) in
     let smaller : x + 4000 * r ≤ 4000 * (r * r) = omega (arith, modest, square) in

@@ -10,7 +10,7 @@ ghost use Rattle.dimension_plans.specs.Several.{IsSeveralRequest, part_of, whole
 
 use dimensions::{Dimension, Dimensions};
 use matrix_meaning::{Direction, Kind, Request};
-pub use plan::{SeveralPlan, plan_several};
+pub use plan::{SeveralPlan, can_share, plan_several};
 
 /// A request for the Fourier transform of several dimensions.
 #[derive(Clone, Copy, PartialEq, Eq, Debug)]

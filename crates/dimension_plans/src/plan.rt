@@ -51,8 +51,8 @@ pub fn plan_several(alloc: Global, request: &SeveralRequest) -> Result<SeveralPl
     Ok(plan)
 }
 
-// Whether processors and lanes can share the whole between the first dimension and the others.
-fn can_share(request: &SeveralRequest) -> bool
+/// Whether processors and lanes can share the whole between the first dimension and the others.
+pub fn can_share(request: &SeveralRequest) -> bool
     requires { IsSeveralRequest request.now }
     ensures { IsTrue result ↔ CanShare request.now }
 {

@@ -1,5 +1,6 @@
 -- A text has one verdict.
 use Rattle.std.proofs.Common.{◌≡◌, ℕ, ◌+◌, ◌≤◌, List, get_or, None, Some, refl, sym, ap, ◌∙◌, subst, inl, inr, arith}
+use Rattle.serde_json.specs.Data.{Data}
 use Rattle.matrix_meaning.specs.declared.Request.{Request}
 use Rattle.plan_cert.specs.declared.certificate.Row.{Row}
 use Rattle.plan_cert.specs.declared.certificate.WrongRow.{WrongRow}
@@ -7,8 +8,8 @@ use Rattle.plan_cert.specs.declared.verdict.Verdict.{Verdict}
 use Rattle.plan_cert.specs.declared.verdict.Verdict.TheVariants.{Least, Unread, Wrong}
 use Rattle.plan_cert.specs.Found.{extra_at, IsFound, IsRowCost}
 use Rattle.plan_cert.specs.Certificate.{cost_at, IsRightRow, IsWrong, HasFirstWrong}
-use Rattle.plan_cert.specs.Document.{IsCertificate}
-use Rattle.plan_cert.specs.Verdict.{IsRightCertificate, IsWrongCertificate, IsVerdict}
+use Rattle.plan_cert.specs.Document.{IsCertificate, IsJson}
+use Rattle.plan_cert.specs.Verdict.{IsRightCertificate, IsWrongCertificate, IsValueVerdict, IsTextVerdict, IsVerdict}
 use Rattle.plan_cert.proofs.RightRows.{three_cases}
 
 found_once : (c : Request) (costs : ℕ → ℕ) (d x y : ℕ) → IsFound c costs d x → IsFound c costs d y → x ≡ y
@@ -51,29 +52,58 @@ first_once c rows v w (i, h) (j, k) =
       ]
     ]
 
-rows_once : (c : Request) (text : List ℕ) (rows others : List Row) → IsCertificate c text rows → IsCertificate c text others → rows ≡ others
-rows_once c text rows others h k = let same : Some rows ≡ Some others = sym h.reads ∙ k.reads in cc
+rows_once : (c : Request) (d : Data) (rows others : List Row) → IsCertificate c d rows → IsCertificate c d others → rows ≡ others
+rows_once c d rows others h k = let same : Some rows ≡ Some others = sym h.reads ∙ k.reads in cc
 
-right_not_wrong : (c : Request) (text : List ℕ) (cost : ℕ) (w : WrongRow) (rows others : List Row) → IsRightCertificate c text cost rows → IsWrongCertificate c text w others → ⊥
-right_not_wrong c text cost w rows others h k =
+right_not_wrong : (c : Request) (d : Data) (cost : ℕ) (w : WrongRow) (rows others : List Row) → IsRightCertificate c d cost rows → IsWrongCertificate c d w others → ⊥
+right_not_wrong c d cost w rows others h k =
     let blank : Row = record { size = 0; cost = 0; rule = None; left = 0; right = 0 } in
-    let first : HasFirstWrong c rows w = subst (λ (r : List Row). HasFirstWrong c r w) (sym (rows_once c text rows others h.certificate k.certificate)) k.first in
+    let first : HasFirstWrong c rows w = subst (λ (r : List Row). HasFirstWrong c r w) (sym (rows_once c d rows others h.certificate k.certificate)) k.first in
     not_both c (cost_at rows) (get_or rows first.0 blank) w (first.1.here blank) (h.right first.0 blank first.1.within)
 
 -- the verdict on a wrong row
 abbrev wrong_of : WrongRow → Verdict
 wrong_of w = Wrong w.size w.given w.found
 
-pub one_verdict : (c : Request) (text : List ℕ) (v w : Verdict) → IsVerdict c text v → IsVerdict c text w → v ≡ w
-one_verdict c text (Least x) (Least y) (rows, h) (others, k) =
-    let same = rows_once c text rows others h.certificate k.certificate in
+pub value_verdict : (c : Request) (d : Data) (v w : Verdict) → IsValueVerdict c d v → IsValueVerdict c d w → v ≡ w
+value_verdict c d (Least x) (Least y) (rows, h) (others, k) =
+    let same = rows_once c d rows others h.certificate k.certificate in
     ap Least (h.whole ∙ ap (λ (r : List Row). cost_at r c.size) same ∙ sym k.whole)
-one_verdict c text (Least x) Unread (rows, h) k = absurd (k rows h.certificate)
-one_verdict c text (Least x) (Wrong d y z) (rows, h) (others, k) = absurd (right_not_wrong c text x (wrong_row d y z) rows others h k)
-one_verdict c text Unread (Least y) h (rows, k) = absurd (h rows k.certificate)
-one_verdict c text Unread Unread h k = refl
-one_verdict c text Unread (Wrong d y z) h (rows, k) = absurd (h rows k.certificate)
-one_verdict c text (Wrong d x z) (Least y) (rows, h) (others, k) = absurd (right_not_wrong c text y (wrong_row d x z) others rows k h)
-one_verdict c text (Wrong d y z) Unread (rows, h) k = absurd (k rows h.certificate)
-one_verdict c text (Wrong d y z) (Wrong d' y' z') (rows, h) (others, k) =
-    ap wrong_of (first_once c rows (wrong_row d y z) (wrong_row d' y' z') h.first (subst (λ (r : List Row). HasFirstWrong c r (wrong_row d' y' z')) (sym (rows_once c text rows others h.certificate k.certificate)) k.first))
+value_verdict c d (Least x) Unread (rows, h) k = absurd (k rows h.certificate)
+value_verdict c d (Least x) (Wrong n y z) (rows, h) (others, k) = absurd (right_not_wrong c d x (wrong_row n y z) rows others h k)
+value_verdict c d Unread (Least y) h (rows, k) = absurd (h rows k.certificate)
+value_verdict c d Unread Unread h k = refl
+value_verdict c d Unread (Wrong n y z) h (rows, k) = absurd (h rows k.certificate)
+value_verdict c d (Wrong n x z) (Least y) (rows, h) (others, k) = absurd (right_not_wrong c d y (wrong_row n x z) others rows k h)
+value_verdict c d (Wrong n y z) Unread (rows, h) k = absurd (k rows h.certificate)
+value_verdict c d (Wrong n y z) (Wrong n' y' z') (rows, h) (others, k) =
+    ap wrong_of (first_once c rows (wrong_row n y z) (wrong_row n' y' z') h.first (subst (λ (r : List Row). HasFirstWrong c r (wrong_row n' y' z')) (sym (rows_once c d rows others h.certificate k.certificate)) k.first))
+
+-- a text is one value
+json_once : (text : List ℕ) (x y : Data) → IsJson text x → IsJson text y → x ≡ y
+json_once text x y h k = let same : Some x ≡ Some y = sym h.reads ∙ k.reads in cc
+
+-- the verdict on a text's value is the text's
+pub verdict_of_json : (judged : Data → Verdict → Type 0) (text : List ℕ) (d : Data) (v : Verdict) → IsJson text d → judged d v → IsTextVerdict judged text v
+verdict_of_json judged text d (Least x) h k = (d, h, k)
+verdict_of_json judged text d Unread h k = λ e other. subst (λ (x : Data). judged x Unread) (json_once text d e h other) k
+verdict_of_json judged text d (Wrong n y z) h k = (d, h, k)
+
+-- where a value has one verdict, so has a text
+module _ (judged : Data → Verdict → Type 0) (once : (d : Data) (v w : Verdict) → judged d v → judged d w → v ≡ w) (text : List ℕ) where
+  both_read : (x y : Data) (v w : Verdict) → IsJson text x → IsJson text y → judged x v → judged y w → v ≡ w
+  both_read x y v w h k p q = once x v w p (subst (λ (d : Data). judged d w) (sym (json_once text x y h k)) q)
+
+  pub text_verdict : (v w : Verdict) → IsTextVerdict judged text v → IsTextVerdict judged text w → v ≡ w
+  text_verdict (Least x) (Least y) (d, h, p) (e, k, q) = both_read d e (Least x) (Least y) h k p q
+  text_verdict (Least x) Unread (d, h, p) k = once d (Least x) Unread p (k d h)
+  text_verdict (Least x) (Wrong n y z) (d, h, p) (e, k, q) = both_read d e (Least x) (Wrong n y z) h k p q
+  text_verdict Unread (Least y) h (e, k, q) = once e Unread (Least y) (h e k) q
+  text_verdict Unread Unread h k = refl
+  text_verdict Unread (Wrong n y z) h (e, k, q) = once e Unread (Wrong n y z) (h e k) q
+  text_verdict (Wrong n x z) (Least y) (d, h, p) (e, k, q) = both_read d e (Wrong n x z) (Least y) h k p q
+  text_verdict (Wrong n x z) Unread (d, h, p) k = once d (Wrong n x z) Unread p (k d h)
+  text_verdict (Wrong n x z) (Wrong n' x' z') (d, h, p) (e, k, q) = both_read d e (Wrong n x z) (Wrong n' x' z') h k p q
+
+pub one_verdict : (c : Request) (text : List ℕ) (v w : Verdict) → IsVerdict c text v → IsVerdict c text w → v ≡ w
+one_verdict c text v w h k = text_verdict (IsValueVerdict c) (value_verdict c) text v w h k

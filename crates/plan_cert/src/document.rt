@@ -1,8 +1,8 @@
 // Certificates as JSON text.
-ghost use Rattle.std.specs.Prelude.{◌≡◌, ℕ, Option, Some, option_map, option_and_then, codes, IfOk, IfSome, IfNone, IsUtf8};
-ghost use Rattle.serde_json.specs.Read.{read};
+ghost use Rattle.std.specs.Prelude.{◌≡◌, ℕ, Option, Some, option_map, option_and_then, codes, IfOk, IfSome, IfNone};
+ghost use Rattle.serde_json.specs.Data.{Data};
 ghost use Rattle.serde_json.specs.View.{view, items_view};
-ghost use Rattle.plan_cert.specs.Document.{choice_named, number_at, choice_at, has_items, row_of, rows_of, has_number, has_members, is_version_one, is_version_two, has_head, document_rows};
+ghost use Rattle.plan_cert.specs.Document.{choice_named, number_at, choice_at, has_items, row_of, rows_of, has_number, has_members, is_version_one, is_version_two, has_head, document_rows, IsJson};
 
 use crate::certificate::Row;
 use memory::NoMemory;
@@ -11,9 +11,9 @@ use std::alloc::Global;
 use tree_model::Rule;
 
 /// The value that a text is, if it is JSON.
-pub(crate) fn document(alloc: Global, text: &[u8]) -> Result<Option<Value>, NoMemory>
-    ensures some { IfOk result (λ o. IfSome o (λ v. IsUtf8 text.now)) }
-    ensures value { IfOk result (λ o. IsUtf8 text.now → option_map (λ v. view v) o ≡ read text.now) }
+pub fn json_value(alloc: Global, text: &[u8]) -> Result<Option<Value>, NoMemory>
+    ensures some { IfOk result (λ o. IfSome o (λ v. IsJson text.now (view v))) }
+    ensures none { IfOk result (λ o. IfNone o ((d : Data) → IsJson text.now d → ⊥)) }
 {
     match Value::from_slice(alloc, text) {
         Ok(value) => Ok(Some(value)),

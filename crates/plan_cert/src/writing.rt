@@ -1,10 +1,10 @@
 // The certificate of a request, as text.
-ghost use Rattle.std.specs.Prelude.{◌≡◌, ℕ, List, [], ◌∷◌, ◌++◌, IfOk};
+ghost use Rattle.std.specs.Prelude.{◌≡◌, ℕ, List, IfOk};
 ghost use Rattle.tree_model.specs.Admissible.{CanDivide};
 ghost use Rattle.serde_json.specs.Data.{array};
 ghost use Rattle.serde_json.specs.View.{view};
 ghost use Rattle.plan_cert.specs.declared.certificate.Row.{Row as SpecRow};
-ghost use Rattle.plan_cert.specs.Table.{choice_name, row_data, rows_data, table_data, IsTableText};
+ghost use Rattle.plan_cert.specs.Table.{choice_name, row_data, rows_data, table_data, IsLineOf, IsPlain, IsTableText, IsTableValue};
 
 use crate::certificate::Row;
 use crate::table::table_rows;
@@ -19,9 +19,27 @@ pub fn certify(alloc: Global, c: &Ctx) -> Result<Vec<u8>, NoMemory>
     requires { CanDivide c.now }
     ensures { IfOk result (λ text. (rows : List SpecRow) × IsTableText c.now text.items rows) }
 {
+    let _ = c.request();
+    let value = certificate_value(alloc, c)?;
+    let text = value_line(alloc, &value)?;
+    Ok(text)
+}
+
+/// The certificate of a request, as a value.
+pub fn certificate_value(alloc: Global, c: &Ctx) -> Result<Value, NoMemory>
+    requires { CanDivide c.now }
+    ensures { IfOk result (λ value. (rows : List SpecRow) × IsTableValue c.now (view value) rows) }
+{
     let rows = table_rows(alloc, c)?;
     let request = c.request();
     let value = table_value(alloc, request.size, request.weight, &rows)?;
+    Ok(value)
+}
+
+/// The text of a value, one line.
+pub fn value_line(alloc: Global, value: &Value) -> Result<Vec<u8>, NoMemory>
+    ensures { IfOk result (λ text. IsPlain (view value.now) → IsLineOf (view value.now) text.items) }
+{
     let mut text = value.to_vec(alloc)?;
     text.push(b'\n')?;
     Ok(text)

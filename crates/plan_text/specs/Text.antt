@@ -17,13 +17,15 @@ tree_text (leaf d) = codes "leaf(" ++ (decimal d ++ codes ")")
 tree_text (node rule a b) = rule_word rule ++ (tree_text a ++ (codes "," ++ (tree_text b ++ codes ")")))
 
 -- one phase for one processor, and else two
-abbrev pub phases_of : Request → ℕ
-phases_of c = if nat_le c.procs 1 then 1 else 2
+abbrev pub phases_of : ℕ → ℕ
+phases_of procs = if nat_le procs 1 then 1 else 2
 
--- the tree, its cost, how many phases there are, and the share of each processor in the cost
+-- what stands behind a tree: its cost, how many phases there are, and the share of each processor in the cost
+abbrev pub cost_lines : ℕ → ℕ → List ℕ
+cost_lines procs cost =
+    codes "\ncost " ++ (decimal cost
+    ++ (codes "\nphases " ++ (decimal (phases_of procs)
+    ++ (codes "\neach " ++ (decimal (cost / procs) ++ codes "\n")))))
+
 abbrev pub plan_text : Request → Breakdown → List ℕ
-plan_text c t =
-    codes "tree " ++ (tree_text t
-    ++ (codes "\ncost " ++ (decimal (whole_cost c t)
-    ++ (codes "\nphases " ++ (decimal (phases_of c)
-    ++ (codes "\neach " ++ (decimal (whole_cost c t / c.procs) ++ codes "\n")))))))
+plan_text c t = codes "tree " ++ (tree_text t ++ cost_lines c.procs (whole_cost c t))

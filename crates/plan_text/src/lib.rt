@@ -59,6 +59,19 @@ pub fn write_tree(out: &mut Vec<u8>, tree: &Tree) -> Result<(), NoMemory>
     }
 }
 
+/// Appends what stands behind a tree: its cost, the phases of its program, and the share of each processor in the cost.
+pub fn write_cost(out: &mut Vec<u8>, procs: u64, cost: u64) -> Result<(), NoMemory>
+    requires { 0 < procs }
+    ensures { OnOk result (out.new.items ≡ out.old.items ++ texts.cost_lines procs cost) }
+{
+    let phases = if procs <= 1 { 1 } else { 2 };
+    put(out, b"\ncost ", cost)?;
+    put(out, b"\nphases ", phases)?;
+    put(out, b"\neach ", cost / procs)?;
+    out.extend_from_slice(b"\n")?;
+    Ok(())
+}
+
 /// The four lines of a plan: its tree, its cost, the phases of its program, and the share of each processor in the cost.
 pub fn print_plan(
     alloc: Global,
@@ -70,13 +83,9 @@ pub fn print_plan(
     requires cost { cost ≡ whole_cost request.now (breakdown_of tree.now) }
     ensures { IfOk result (λ text. text.items ≡ texts.plan_text request.now (breakdown_of tree.now)) }
 {
-    let phases = if request.procs <= 1 { 1 } else { 2 };
     let mut text = Vec::new(alloc);
     text.extend_from_slice(b"tree ")?;
     write_tree(&mut text, tree)?;
-    put(&mut text, b"\ncost ", cost)?;
-    put(&mut text, b"\nphases ", phases)?;
-    put(&mut text, b"\neach ", cost / request.procs)?;
-    text.extend_from_slice(b"\n")?;
+    write_cost(&mut text, request.procs, cost)?;
     Ok(text)
 }

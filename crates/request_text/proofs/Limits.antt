@@ -29,19 +29,19 @@ pub guard : (b : Bool) (f : RequestFault) → cond b passed (Err f) ≡ passed �
 guard true f e = refl
 guard false f e = absurd cc
 
-within_is : (field : Field) (v low high : ℕ) → within field v low high ≡ Ok tt → (low ≤ v) × (v ≤ high)
+pub within_is : (field : Field) (v low high : ℕ) → within field v low high ≡ Ok tt → (low ≤ v) × (v ≤ high)
 within_is field v low high e =
     let both = and_parts (leb low v) (leb v high) (guard (leb low v && leb v high) (Range field v) e) in
     (leb-true low v both.0, leb-true v high both.1)
 
-below_is : (field : Field) (v limit : ℕ) → below field v limit ≡ Ok tt → v < limit
+pub below_is : (field : Field) (v limit : ℕ) → below field v limit ≡ Ok tt → v < limit
 below_is field v limit e = ltb-true v limit (guard (ltb v limit) (Range field v) e)
 
 shaped_is : (kind : Kind) (size : ℕ) → shaped kind size ≡ Ok tt → HasShape kind size
 shaped_is Dft size e = tt
 shaped_is Wht size e = guard (is_power_of_two size) (Shape size) e
 
-divided_is : (procs line lanes : ℕ) → divided procs line lanes ≡ Ok tt → 1 < procs → line % lanes ≡ 0
+pub divided_is : (procs line lanes : ℕ) → divided procs line lanes ≡ Ok tt → 1 < procs → line % lanes ≡ 0
 divided_is procs line lanes e more = cases (leb procs 1) refl e
   where
     cases : (k : Bool) → leb procs 1 ≡ k → cond k passed (cond (eqb (line % lanes) 0) passed (Err (LanesLine lanes line))) ≡ passed → line % lanes ≡ 0
@@ -129,7 +129,7 @@ limited_only P r range shape lanes =
     (then_only P (divided r.procs r.line r.lanes) (Ok r) lanes tt))))))))))
 
 -- a fault of a request that a line spells
-abbrev IsTested : RequestFault → Type 0
+abbrev pub IsTested : RequestFault → Type 0
 IsTested (Syntax at) = ⊥
 IsTested (Range field value) = Unit {0}
 IsTested (Shape size) = Unit {0}
@@ -140,7 +140,7 @@ shaped_test : (kind : Kind) (size : ℕ) → Only IsTested (shaped kind size)
 shaped_test Dft size = tt
 shaped_test Wht size = guard_only IsTested (is_power_of_two size) (Shape size) tt
 
-divided_test : (procs line lanes : ℕ) → Only IsTested (divided procs line lanes)
+pub divided_test : (procs line lanes : ℕ) → Only IsTested (divided procs line lanes)
 divided_test procs line lanes = cases (leb procs 1)
   where
     cases : (k : Bool) → Only IsTested (cond k passed (cond (eqb (line % lanes) 0) passed (Err (LanesLine lanes line))))

@@ -13,5 +13,5 @@ pub use fault::{Field, RequestFault};
 pub use generator::next_state;
 pub use icode::event::Event;
 pub use mix::{Mix, MixFault, read_mix};
-pub use request::read_request;
+pub use request::{BUDGET, UNROLL, WEIGHT, below, divided, read_request, within};
 pub use schedule::{Schedule, ScheduleFault, read_schedule};

@@ -13,13 +13,13 @@ use operators::MAX_SIZE;
 use ring_mod::gcd;
 
 /// The size up to which kernels are unrolled, where the line names none.
-pub(crate) const UNROLL: u64 = 8;
+pub const UNROLL: u64 = 8;
 
 /// The budget of a line that names none.
-pub(crate) const BUDGET: u64 = 100_000_000;
+pub const BUDGET: u64 = 100_000_000;
 
 /// The weight of a line that names none.
-pub(crate) const WEIGHT: u64 = 1;
+pub const WEIGHT: u64 = 1;
 
 // What the first word asks for.
 fn asked_of(cursor: &mut Cursor) -> Result<(Kind, Direction), Stuck>
@@ -78,7 +78,7 @@ fn whole_request(text: &[u8]) -> Result<Request, Stuck>
 }
 
 /// The field's value is from `low` to `high`.
-fn within(field: Field, value: u64, low: u64, high: u64) -> Result<(), RequestFault>
+pub fn within(field: Field, value: u64, low: u64, high: u64) -> Result<(), RequestFault>
     ensures { result ≡ within field value low high }
 {
     if low <= value && value <= high {
@@ -88,7 +88,8 @@ fn within(field: Field, value: u64, low: u64, high: u64) -> Result<(), RequestFa
     }
 }
 
-fn below(field: Field, value: u64, limit: u64) -> Result<(), RequestFault>
+/// The field's value is below the limit.
+pub fn below(field: Field, value: u64, limit: u64) -> Result<(), RequestFault>
     ensures { result ≡ below field value limit }
 {
     if value < limit {
@@ -115,7 +116,7 @@ fn shaped(kind: Kind, size: u64) -> Result<(), RequestFault>
 }
 
 /// With several processors the lanes divide the line.
-fn divided(procs: u64, line: u64, lanes: u64) -> Result<(), RequestFault>
+pub fn divided(procs: u64, line: u64, lanes: u64) -> Result<(), RequestFault>
     requires { 1 ≤ lanes }
     ensures { result ≡ divided procs line lanes }
 {

@@ -12,8 +12,8 @@ use Rattle.passes.specs.Merged.{PlainMerged, merged_on, phase_on, phases_on}
 use Rattle.passes.specs.Nest.{PlainNest}
 use Rattle.shared_tensors.specs.Laws.{IsPart, TensoredMeans}
 use Rattle.shared_tensors.specs.Tensored.{column_passes, in_columns, in_phases, row_passes, shared_path, tiled_in, tiled_out}
-use Rattle.shared_tensors.proofs.Columns.{column-on}
-use Rattle.shared_tensors.proofs.Parts.{part-good, phase-append, phase-within, phases-joined}
+use Rattle.shared_tensors.proofs.GoodColumns.{column-on}
+use Rattle.shared_tensors.proofs.GoodParts.{part-good, phase-append, phase-within, phases-joined}
 use Rattle.shared_tensors.proofs.RowMeaning.{row-part-on}
 use Rattle.shared_tensors.proofs.Shares.{AreShared, shares-of, size-columns}
 

@@ -14,9 +14,9 @@ use Rattle.passes.specs.Merge.{lifted}
 use Rattle.passes.specs.Merged.{phase_on}
 use Rattle.passes.specs.Nest.{PlainNest, nests_on}
 use Rattle.shared_tensors.specs.Tensored.{row_passes, row_place, shared_path, side_place, tiled_in, tiled_out, tiles}
-use Rattle.shared_tensors.proofs.Parts.{phase-append, phase-reads, phase-size, phase-within}
+use Rattle.shared_tensors.proofs.GoodParts.{phase-append, phase-reads, phase-size, phase-within}
 use Rattle.shared_tensors.proofs.Residues.{phase-reduced, reduced, reduced-phase}
-use Rattle.shared_tensors.proofs.Rows.{row-on}
+use Rattle.shared_tensors.proofs.GoodRows.{row-on}
 use Rattle.shared_tensors.proofs.Shares.{AreShared, rows-good, size-shared}
 use Rattle.shared_tensors.proofs.TileTurns.{tiled-in-on, tiled-out-on}
 use Rattle.smp_rewrite.proofs.Tensors.{under-within, under-within_all}

@@ -9,9 +9,9 @@ use Rattle.passes.specs.Merge.{lifted}
 use Rattle.passes.specs.Nest.{PlainNest}
 use Rattle.shared_tensors.specs.Laws.{CanShare}
 use Rattle.shared_tensors.specs.Tensored.{in_columns, row_place, shared_path, side_place, tiles}
-use Rattle.shared_tensors.proofs.Columns.{column-good}
-use Rattle.shared_tensors.proofs.Rows.{row-good}
-use Rattle.shared_tensors.proofs.Tiles.{size-tiles, tile_path, tiles-in-good, tiles-out-good}
+use Rattle.shared_tensors.proofs.GoodColumns.{column-good}
+use Rattle.shared_tensors.proofs.GoodRows.{row-good}
+use Rattle.shared_tensors.proofs.GoodTiles.{size-tiles, tile_path, tiles-in-good, tiles-out-good}
 use Rattle.pass_actions.specs.Machine.{PlainMachine}
 use Rattle.smp_rewrite.proofs.Tensors.{copies-within}
 use Rattle.tensor_paths.specs.declared.Tensor.TheVariants.{Blocks, Columns}

@@ -16,7 +16,7 @@ use Rattle.shared_tensors.proofs.BlockPaths.{blocks-under}
 use Rattle.shared_tensors.proofs.Residues.{reduced}
 use Rattle.shared_tensors.proofs.Shares.{AreShared, size-tiled}
 use Rattle.shared_tensors.proofs.Swaps.{at-swapped, by_four, four_below, swapped}
-use Rattle.shared_tensors.proofs.Tiles.{copies-tiles, natural-inside, row-sums, side-sums, size-tiles, tile-blocks, tile-swaps, tile_path, tiles-on}
+use Rattle.shared_tensors.proofs.GoodTiles.{copies-tiles, natural-inside, row-sums, side-sums, size-tiles, tile-blocks, tile-swaps, tile_path, tiles-on}
 use Rattle.tensor_paths.specs.Path.{Path, Reads, size_under, under}
 use Rattle.tensor_paths.proofs.PathPlaces.{at-under}
 

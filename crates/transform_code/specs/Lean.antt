@@ -1,5 +1,5 @@
 -- What the processors execute pass by pass, and what all of them load and store.
-use Rattle.std.specs.Prelude.{◌≡◌, ℕ, suc, ◌+◌, ◌*◌, ◌==◌, ◌<◌, if◌then◌else◌, List, [], ◌∷◌, flat_map, length, All}
+use Rattle.std.specs.Prelude.{◌≡◌, ℕ, suc, ◌*◌, ◌==◌, ◌<◌, if◌then◌else◌, List, [], ◌∷◌, flat_map, length, All}
 use Rattle.std.specs.List.{range_with_len}
 use Rattle.dimension_passes.specs.Counts.{DimensionPass, cost_of_pass, loads_of_pass, several_loads, several_passes, several_stores}
 use Rattle.dimension_passes.specs.Merged.{machine_of}
@@ -14,7 +14,6 @@ use Rattle.icode.specs.Machine.{Code, acts, counts_of, weighted, whole_counts, w
 use Rattle.icode.specs.Program.{code_of}
 use Rattle.matrix_meaning.specs.declared.Request.{Request}
 use Rattle.operators.specs.Sum.{sum_below}
-use Rattle.pass_actions.specs.Machine.{PlainMachine}
 use Rattle.pass_programs.specs.Contract.{Stays, joined}
 use Rattle.pass_programs.specs.Program.{target_of}
 use Rattle.transform_requests.specs.declared.TransformRequest.{TransformRequest}

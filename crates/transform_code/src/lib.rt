@@ -2,6 +2,11 @@
 //! turns, shares no line, and executes exactly the operations of the cheapest trees.
 #![tactic(auto)]
 
+mod admit;
+mod plan;
+mod program;
+mod roots;
+
 ghost use Rattle.std.specs.Prelude.{◌≡◌, ◌≢◌, Ok, Err, IfOk, IfErr, OnOk};
 ghost use Rattle.plan_faults.specs.declared.generating.GenerateFault.TheVariants as fault;
 ghost use Rattle.transform_code.specs.Good.{IsGood};
@@ -11,8 +16,12 @@ ghost use Rattle.transform_code.specs.Views.{trees_of};
 ghost use Rattle.transform_requests.specs.Range.{IsRequestInRange};
 ghost use Rattle.transform_requests.specs.Trees.{cost_of};
 
+use admit::admit_dimensions;
+use generate::admit;
 use icode::program::Program;
+use plan::{plan_dimensions, plan_one};
 use plan_faults::GenerateFault;
+use program::{generate_dimensions, generate_one};
 use std::alloc::Global;
 use transform_requests::TransformRequest;
 use tree_model::Tree;
@@ -36,10 +45,12 @@ pub fn admit_request(request: &TransformRequest) -> Result<(), GenerateFault>
     requires { IsRequestInRange request.now }
     ensures admitted { OnOk result (IsAdmitted request.now) }
     ensures valid { OnOk result (IsRequestValid request.now) }
-    ensures barred { IfErr result (λ cause. cause ≢ fault.NoMemory → IsBarred request.now cause) }
+    ensures barred { IfErr result (IsBarred request.now) }
 {
-    let _size = request.size();
-    Err(GenerateFault::NoMemory)
+    match request {
+        TransformRequest::One(request) => admit(request),
+        TransformRequest::Several(request) => admit_dimensions(request),
+    }
 }
 
 /// The cheapest trees of the request with the cost of the whole, or the first cause to refuse it.
@@ -54,9 +65,10 @@ pub fn plan_request(
     ensures refused { IfErr result (λ cause.
         cause ≢ fault.NoMemory → IsPlanned request.now (Err cause)) }
 {
-    let _size = request.size();
-    let _numbers: Vec<u64> = Vec::new(alloc);
-    Err(GenerateFault::NoMemory)
+    match request {
+        TransformRequest::One(request) => plan_one(alloc, request),
+        TransformRequest::Several(request) => plan_dimensions(alloc, request),
+    }
 }
 
 /// A good program for the request, or the first cause to refuse it.
@@ -76,7 +88,8 @@ pub fn generate_request(
     ensures refused { IfErr result (λ cause.
         cause ≢ fault.NoMemory → IsPlanned request.now (Err cause)) }
 {
-    let _size = request.size();
-    let _numbers: Vec<u64> = Vec::new(alloc);
-    Err(GenerateFault::NoMemory)
+    match request {
+        TransformRequest::One(request) => generate_one(alloc, request),
+        TransformRequest::Several(request) => generate_dimensions(alloc, request),
+    }
 }

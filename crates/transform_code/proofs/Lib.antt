@@ -1,0 +1,5 @@
+pub mod Costs
+pub mod Parts
+pub mod Goodness
+pub mod Chain
+pub mod Applied

@@ -1,0 +1,5 @@
+pub mod Line
+pub mod Limits
+pub mod Answer
+pub mod Reading
+pub mod Laws
