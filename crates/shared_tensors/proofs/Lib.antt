@@ -27,6 +27,6 @@ pub mod TileOwners
 pub mod Totals
 pub mod Sharing
 pub mod PartPasses
-pub mod Goods
+pub mod GoodProducts
 pub mod Programs
 pub mod PartAgain

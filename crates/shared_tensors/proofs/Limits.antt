@@ -17,7 +17,7 @@ use Rattle.passes.proofs.Sides.{rest_of, rest-index, up as row_up}
 use Rattle.passes.proofs.Small.{HasCounts, behind-small, max-lt, place-small, renumbered-small}
 use Rattle.passes.proofs.Walk.{and-left, and-right}
 use Rattle.passes.proofs.Within.{IsSmall, both-true, constant-small, limited, small-true}
-use Rattle.shared_tensors.proofs.Columns.{column_sum}
+use Rattle.shared_tensors.proofs.GoodColumns.{column_sum}
 use Rattle.tensor_paths.specs.Path.{Path, count_of, size_under}
 
 max-left : (a b n : ℕ) → max a b < n → a < n

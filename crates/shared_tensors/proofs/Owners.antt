@@ -17,7 +17,7 @@ use Rattle.passes.proofs.Nests.{at-map}
 use Rattle.passes.proofs.Sides.{rest_of, rest-range, up as row_up}
 use Rattle.perm_algebra.specs.Affine.{Sum, constant, value}
 use Rattle.shared_tensors.proofs.Framed.{IsNoTile}
-use Rattle.shared_tensors.proofs.Columns.{column_sum}
+use Rattle.shared_tensors.proofs.GoodColumns.{column_sum}
 use Rattle.shared_tensors.proofs.Limits.{wrapped}
 use Rattle.shared_tensors.proofs.Wraps.{value-column, value-rest, value-row}
 use Rattle.shared_tensors.proofs.Written.{IsKnown}

@@ -12,7 +12,7 @@ use Rattle.passes.proofs.Within.{within-append}
 use Rattle.shared_tensors.specs.Laws.{AreParts, HasNoTile, IsPart, IsShallow, TensoredCanProgram, TensoredIsPart, plain_lanes}
 use Rattle.shared_tensors.specs.Tensored.{shared_path, tensored}
 use Rattle.passes.proofs.Sides.{up as row_up}
-use Rattle.shared_tensors.proofs.Columns.{column_sum}
+use Rattle.shared_tensors.proofs.GoodColumns.{column_sum}
 use Rattle.shared_tensors.proofs.Limits.{wrapped}
 use Rattle.shared_tensors.proofs.PartPasses.{passes-plain, passes-registers, passes-shallow}
 use Rattle.shared_tensors.proofs.Programs.{columns-within, product-actions, product-nests, product-program, product-whole, rows-within}

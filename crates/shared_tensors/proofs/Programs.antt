@@ -20,8 +20,8 @@ use Rattle.perm_algebra.specs.Affine.{Sum}
 use Rattle.shared_tensors.specs.Laws.{AreParts, CanShare, IsPart}
 use Rattle.shared_tensors.specs.Tensored.{across, group_path, in_phases, row_place, shared_path, side_place, tensored, tiled_in, tiled_out, tiles}
 use Rattle.passes.proofs.Sides.{up as row_up}
-use Rattle.shared_tensors.proofs.Columns.{column_sum}
-use Rattle.shared_tensors.proofs.Goods.{AreGood, are-good}
+use Rattle.shared_tensors.proofs.GoodColumns.{column_sum}
+use Rattle.shared_tensors.proofs.GoodProducts.{AreGood, are-good}
 use Rattle.shared_tensors.proofs.Limits.{columns-keep, passes-in, rows-keep, wrapped}
 use Rattle.shared_tensors.proofs.Owners.{OwnsPlaces, Owns, columns-own, first-owns, one-owns, own-append, passes-own, rows-own, within-several}
 use Rattle.shared_tensors.proofs.PartPasses.{ArePartPasses, passes-can, passes-known}

@@ -23,7 +23,7 @@ use Rattle.shared_tensors.specs.Tensored.{across, group_path, row_place, side_pl
 use Rattle.shared_tensors.proofs.Limits.{counts-first, roomier}
 use Rattle.shared_tensors.proofs.ShareNumbers.{AreShares, several-within, share-word}
 use Rattle.shared_tensors.proofs.Shares.{shares-of, size-tiled}
-use Rattle.shared_tensors.proofs.Tiles.{row-sums, side-sums}
+use Rattle.shared_tensors.proofs.GoodTiles.{row-sums, side-sums}
 use Rattle.shared_tensors.proofs.Written.{frame-of, sums-written}
 use Rattle.smp_rewrite.specs.Smp.{within}
 use Rattle.smp_rewrite.proofs.Tensors.{size-within}

@@ -12,7 +12,7 @@ use Rattle.passes.specs.Merge.{place_sum, renumbered}
 use Rattle.passes.proofs.Natural.{loop_values, sound-place_sum, value-place_sum}
 use Rattle.passes.proofs.Sides.{rest_of, rest-index, sound-renumbered, up as row_up}
 use Rattle.shared_tensors.specs.Tensored.{shared_path}
-use Rattle.shared_tensors.proofs.Columns.{column_sum}
+use Rattle.shared_tensors.proofs.GoodColumns.{column_sum}
 use Rattle.smp_rewrite.specs.Smp.{within}
 use Rattle.tensor_paths.specs.declared.Tensor.TheVariants.{Blocks, Columns}
 use Rattle.tensor_paths.specs.Path.{Path, AreInRange, count_of, place, size_under}

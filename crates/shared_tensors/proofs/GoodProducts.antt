@@ -5,9 +5,9 @@ use Rattle.passes.specs.Good.{IsGoodPass}
 use Rattle.passes.specs.Merge.{lifted}
 use Rattle.shared_tensors.specs.Laws.{CanShare}
 use Rattle.shared_tensors.specs.Tensored.{in_columns, row_place, shared_path, side_place, tiles}
-use Rattle.shared_tensors.proofs.Parts.{good-pass}
+use Rattle.shared_tensors.proofs.GoodParts.{good-pass}
 use Rattle.shared_tensors.proofs.PartPasses.{KeepsGood}
-use Rattle.shared_tensors.proofs.Columns.{column_sum}
+use Rattle.shared_tensors.proofs.GoodColumns.{column_sum}
 use Rattle.passes.proofs.Sides.{up as row_up}
 use Rattle.shared_tensors.proofs.Shares.{columns-good, rows-good, shares-of, tiled-in-good, tiled-out-good}
 
