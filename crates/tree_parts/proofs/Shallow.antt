@@ -3,7 +3,7 @@ use Rattle.std.proofs.Common.{ℕ, ◌≤◌, arith, sym, ap, ◌∙◌, subst, 
 use Rattle.std.proofs.lemmas.List.{length-map}
 use Rattle.std.proofs.lemmas.List.Elements.{All-nil, All-cons}
 use Rattle.loop_merge.specs.Merge.{PlainPass}
-use Rattle.loop_merge.specs.Nests.{loop_of, loop_work, taken_of}
+use Rattle.loop_merge.specs.Nests.{loop_of, loop_work}
 use Rattle.matrix_meaning.specs.declared.Request.{Request}
 use Rattle.matrix_meaning.specs.Valid.{IsValid}
 use Rattle.operators.specs.Sizes.{max_size}
