@@ -26,7 +26,7 @@ use Rattle.tree_parts.proofs.PassesCount.{passes_count}
 use Rattle.dimension_passes.specs.Counts.{DimensionPass, pass_of, passes_in, whole_passes_in}
 use Rattle.dimension_passes.specs.Laws.{CountsSeveral, SeveralCount}
 use Rattle.dimension_passes.specs.Merged.{machine_of, plain_passes, shared_passes}
-use Rattle.dimension_passes.proofs.Given.{tensored_counts}
+use Rattle.shared_tensors.proofs.Counts.{tensored_counts}
 use Rattle.dimension_passes.proofs.Parts.{IsDimension, all_small, all_valid, few_others, first_of, for_part, others_of, others_small, plain_parts, room_for, whole_parts}
 use Rattle.dimension_passes.proofs.Programs.{by_first}
 use Rattle.dimension_passes.proofs.Scaled.{cost-scales, loads-scale, passes-times, scaled}

@@ -1,4 +1,3 @@
-pub mod Given
 pub mod Parts
 pub mod Programs
 pub mod Means

@@ -18,7 +18,7 @@ use Rattle.tree_model.specs.Breakdown.{Breakdown}
 use Rattle.tree_parts.proofs.TreesTransform.{trees_transform}
 use Rattle.dimension_passes.specs.Laws.{SeveralMeans}
 use Rattle.dimension_passes.specs.Merged.{machine_of, plain_passes, shared_passes}
-use Rattle.dimension_passes.proofs.Given.{tensored_means}
+use Rattle.shared_tensors.proofs.Meaning.{tensored_means}
 use Rattle.dimension_passes.proofs.Parts.{IsDimension, all_small, all_valid, few_others, first_of, for_part, others_of, others_small, plain_parts, room_for, whole_parts}
 use Rattle.dimension_passes.proofs.Programs.{by_first}
 

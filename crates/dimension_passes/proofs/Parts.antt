@@ -24,7 +24,7 @@ use Rattle.tree_parts.specs.Parts.{IsForPart}
 use Rattle.tree_parts.proofs.TreesAreParts.{trees_are_parts}
 use Rattle.dimension_passes.specs.Laws.{AreTreesFor}
 use Rattle.dimension_passes.specs.Merged.{machine_of, plain_passes}
-use Rattle.dimension_passes.proofs.Given.{tensored_is_part}
+use Rattle.shared_tensors.proofs.PartAgain.{tensored_is_part}
 
 -- ---- one dimension
 

@@ -9,7 +9,7 @@ use Rattle.pass_programs.specs.Contract.{CanProgram}
 use Rattle.tree_model.specs.Breakdown.{Breakdown}
 use Rattle.dimension_passes.specs.Laws.{AreTreesFor, SeveralCanProgram}
 use Rattle.dimension_passes.specs.Merged.{machine_of, plain_passes, shared_passes}
-use Rattle.dimension_passes.proofs.Given.{tensored_can_program}
+use Rattle.shared_tensors.proofs.PartAgain.{tensored_can_program}
 use Rattle.dimension_passes.proofs.Parts.{few_others, room_for, whole_parts}
 
 -- what holds of two dimensions at least, and of a tree for each, holds of all requests

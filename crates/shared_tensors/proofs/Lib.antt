@@ -16,3 +16,17 @@ pub mod CodeMoves
 pub mod CodeTiles
 pub mod CodePhases
 pub mod CodeParts
+pub mod Limits
+pub mod Wraps
+pub mod Framed
+pub mod Written
+pub mod ShareNumbers
+pub mod TileLimits
+pub mod Owners
+pub mod TileOwners
+pub mod Totals
+pub mod Sharing
+pub mod PartPasses
+pub mod GoodProducts
+pub mod Programs
+pub mod PartAgain

@@ -11,7 +11,7 @@ mod tiles;
 
 ghost use Rattle.std.specs.Prelude.{◌≡◌, IfOk};
 ghost use Rattle.passes.specs.Views.{plain_merged};
-ghost use Rattle.shared_tensors.specs.Laws.{CanTensor, TensoredCounts, TensoredMeans};
+ghost use Rattle.shared_tensors.specs.Laws.{CanTensor, TensoredCanProgram, TensoredCounts, TensoredIsPart, TensoredMeans};
 ghost use Rattle.shared_tensors.specs.Tensored.{tensored};
 
 use crate::columns::passes_of_columns;
@@ -56,4 +56,11 @@ pub fn tensored_means()
 /// definitions.
 pub fn tensored_counts()
     ensures { TensoredCounts }
+{}
+
+/// A program can be made of the passes of a tensor product, and for one processor and one lane they are a part again: laws
+/// of the definitions.
+pub fn tensored_can_program()
+    ensures program { TensoredCanProgram }
+    ensures part { TensoredIsPart }
 {}

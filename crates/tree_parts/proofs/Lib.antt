@@ -3,6 +3,7 @@ pub mod Within
 pub mod Alike
 pub mod Registers
 pub mod Tiles
+pub mod Shallow
 pub mod Actions
 pub mod TreesAreParts
 pub mod Residues
