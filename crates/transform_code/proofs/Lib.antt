@@ -2,4 +2,3 @@ pub mod Costs
 pub mod Parts
 pub mod Goodness
 pub mod Chain
-pub mod Applied

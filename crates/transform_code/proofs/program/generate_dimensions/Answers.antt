@@ -4,7 +4,8 @@ use Rattle.dimension_passes.specs.Merged.{machine_of, several_merged}
 use Rattle.icode.specs.Program.{plain_program}
 use Rattle.pass_programs.specs.Contract.{Performs}
 use Rattle.tree_model.specs.Breakdown.{breakdown_of}
-use Rattle.transform_code.proofs.Applied.{several-count, several-means}
+use Rattle.dimension_passes.proofs.Counting.{several_count}
+use Rattle.dimension_passes.proofs.Means.{several_means}
 use Rattle.transform_code.specs.Views.{trees_of}
 use Rattle.transform_code.proofs.Goodness.{good, lean}
 use Rattle.transform_code.proofs.program.generate_dimensions.Goals as goal
@@ -24,7 +25,7 @@ performs c =
     subst (λ ts. Performs (machine_of r) (several_merged r (map breakdown_of ts)) (plain_program c.in_ok-program.program)) c.deref.ensures.value c.in_ok-program.ensures
 
 pub returns-clause-good : goal.returns-clause-good
-returns-clause-good c = good several-means several-count c.args.request.now (trees_of c.in_ok-plan.plan) c.in_ok-program.program (fitting c) (performs c)
+returns-clause-good c = good several_means several_count c.args.request.now (trees_of c.in_ok-plan.plan) c.in_ok-program.program (fitting c) (performs c)
 
 pub returns-clause-lean : goal.returns-clause-lean
-returns-clause-lean c = lean several-means several-count c.args.request.now (trees_of c.in_ok-plan.plan) c.in_ok-program.program (fitting c) (performs c)
+returns-clause-lean c = lean several_means several_count c.args.request.now (trees_of c.in_ok-plan.plan) c.in_ok-program.program (fitting c) (performs c)
