@@ -113,9 +113,8 @@ class Convolver(Emitter):
         inverse = request._replace(root=pow(request.root, request.size - 1, request.modulus))
         forward, back = all_passes(request, tree), all_passes(inverse, tree)
         forward[-1] = forward[-1]._replace(diagonal=Diagonal(factors(request, h), forward[-1].stored))
-        chain = [(request, one) for one in forward] + [(inverse, one) for one in back]
-        statements, read = [], "X"
-        for at, (self.request, one) in enumerate(chain):
+        chain, statements, read = forward + back, [], "X"
+        for at, one in enumerate(chain):
             written = "Y" if at + 1 == len(chain) else "AB"[at % 2]
             statements += nested(one.loops, self.body(one, read, written))
             read = written

@@ -1,7 +1,9 @@
 """Programs of trees: their passes, statements and texts."""
 
 from collections import namedtuple
+from math import prod
 
+from dimensions import Several
 from transforms import COOLEY_TUKEY, GOOD_THOMAS, LEAF, entry, forward, is_kernel, is_plain, last_factor, powers, tree_size
 
 # Places: a constant, multiples of variables and of products of two, and multiples of remainders. The processor is the
@@ -130,10 +132,10 @@ class Kernel:
 
 
 # Passes, from right to left, each with the loops around it and the places that it loads and stores as functions of its
-# own places. A kernel or long leaf has a tree, and a tile has none. The diagonal, or the constant for all, multiplies what
-# is stored.
+# own places. A kernel or long leaf has a tree of the request, and a tile has none. The diagonal, or the constant for all,
+# multiplies what is stored.
 
-Pass = namedtuple("Pass", "tree loops loaded stored diagonal phase")
+Pass = namedtuple("Pass", "request tree loops loaded stored diagonal phase")
 Diagonal = namedtuple("Diagonal", "table place")
 Constant = namedtuple("Constant", "value")
 
@@ -182,7 +184,7 @@ def passes(request, tree, phase, loops, loaded, kept, stored, diagonal):
     """The passes of a node that loads, keeps between passes and stores at these places."""
     d = tree_size(tree)
     if is_kernel(request, d) or tree[0] == LEAF:
-        yield Pass(tree, loops, loaded, stored, diagonal, phase)
+        yield Pass(request, tree, loops, loaded, stored, diagonal, phase)
         return
     rule, r, left, right = tree
     s = d // r
@@ -201,11 +203,11 @@ def passes(request, tree, phase, loops, loaded, kept, stored, diagonal):
     yield from passes(request, left, phase, left_loops, here, here, composed(stored, last), diagonal)
 
 
-def spread_passes(request, tree):
-    """The passes of a root whose parts are spread over processors and lanes. Where there are lanes, its right part takes
-    vectors of one place of so many turns, and tiles lie around it."""
-    _, r, left, right = tree
-    lanes, s, fourier = request.lanes, tree_size(right), request.kind == "dft"
+def spread_passes(request, r, table, right, left):
+    """The passes of a product of parts of sizes r and s, spread over processors and lanes, with the twiddles of a Fourier
+    transform between them, or none. Where there are lanes, the right part takes vectors of one place of so many turns, and
+    tiles lie around it. The parts' passes are given by their loops and places."""
+    lanes, s = request.lanes, request.size // r
     loops, i = opened_root(request, r // lanes)
     tile_loops, k = opened(loops, s // lanes)
 
@@ -221,25 +223,60 @@ def spread_passes(request, tree):
     def strided(k):
         return plus(times(k, r), times(i, lanes))
 
-    table = twiddles(request, r * s, s) if fourier else None
-    if lanes > 1 and not fourier:
-        yield Pass(None, tile_loops, across, along, None, 0)
-    factors = Diagonal(table, packed) if fourier and lanes == 1 else None
-    yield from passes(request, right, 0, loops, strided if fourier else packed, packed, packed, factors)
+    if lanes > 1 and not table:
+        yield Pass(request, None, tile_loops, across, along, None, 0)
+    factors = Diagonal(table, packed) if table and lanes == 1 else None
+    yield from right(loops, strided if table else packed, packed, factors)
     if lanes > 1:
-        yield Pass(None, tile_loops, along, across, Diagonal(table, across) if fourier else None, 0)
+        yield Pass(request, None, tile_loops, along, across, Diagonal(table, across) if table else None, 0)
     loops, j = opened_root(request, s // lanes)
+    yield from left(int(request.procs > 1), loops, lambda k: plus(times(k, s), times(j, lanes)))
 
-    def column(k):
-        return plus(times(k, s), times(j, lanes))
 
-    yield from passes(request, left, int(request.procs > 1), loops, column, column, column, None)
+def spread_tree(request, tree):
+    """The passes of a root whose parts are spread over processors and lanes."""
+    _, r, left, right = tree
+    table = twiddles(request, request.size, tree_size(right)) if request.kind == "dft" else None
+    yield from spread_passes(
+        request,
+        r,
+        table,
+        lambda loops, loaded, kept, factors: passes(request, right, 0, loops, loaded, kept, kept, factors),
+        lambda phase, loops, column: passes(request, left, phase, loops, column, column, column, None),
+    )
+
+
+def product_passes(parts, trees, phase, loops, place):
+    """The passes of several dimensions: those of the others on each row, and then those of the first on each column."""
+    part, s = parts[0], prod(other.size for other in parts[1:])
+    if parts[1:]:
+        rows, i = opened(loops, part.size)
+        yield from product_passes(parts[1:], trees[1:], phase, rows, composed(place, lambda k: plus(times(i, s), k)))
+    columns, j = opened(loops, s)
+    here = composed(place, lambda k: plus(times(k, s), j))
+    yield from passes(part, trees[0], phase, columns, here, here, here, None)
+
+
+def spread_product(request, trees):
+    """The passes of several dimensions, spread between the first and the others."""
+    parts = request.parts
+    yield from spread_passes(
+        request,
+        parts[0].size,
+        None,
+        lambda loops, loaded, kept, factors: product_passes(parts[1:], trees[1:], 0, loops, kept),
+        lambda phase, loops, column: passes(parts[0], trees[0], phase, loops, column, column, column, None),
+    )
 
 
 def all_passes(request, tree):
+    """The passes of a tree, or of several dimensions by a tree for each."""
+    if isinstance(request, Several):
+        plain = lambda: product_passes(request.parts, tree, 0, (), lambda k: k)
+        return list(plain() if is_plain(request) else spread_product(request, tree))
     if is_plain(request):
         return list(passes(request, tree, 0, (), *[lambda k: k] * 3, None))
-    return list(spread_passes(request, tree))
+    return list(spread_tree(request, tree))
 
 
 def phase_count(request):
@@ -249,8 +286,8 @@ def phase_count(request):
 def loads_and_stores(request, tree):
     """A pass loads each word once, and a long leaf's pass each word for each of its outputs; each stores each word."""
     chain = all_passes(request, tree)
-    sizes = [tree_size(one.tree) for one in chain if one.tree]
-    repeated = sum(request.size * (d - 1) for d in sizes if not is_kernel(request, d))
+    long_sizes = [tree_size(one.tree) for one in chain if one.tree and not is_kernel(one.request, tree_size(one.tree))]
+    repeated = sum(request.size * (d - 1) for d in long_sizes)
     return request.size * len(chain) + repeated, request.size * len(chain)
 
 
@@ -263,9 +300,9 @@ class Emitter:
     """The statements of a tree's passes. An equal list of constants is one table."""
 
     def __init__(self, request, tree):
-        self.request, self.tables, self.registers = forward(request), [], 0
+        self.tables, self.registers = [], 0
         phases = [[] for _ in range(phase_count(request))]
-        chain, read = all_passes(self.request, tree), "X"
+        chain, read = all_passes(forward(request), tree), "X"
         if request.kind == "idft":
             chain[-1] = chain[-1]._replace(diagonal=Constant(last_factor(request)))
         for at, one in enumerate(chain):
@@ -277,7 +314,7 @@ class Emitter:
     def body(self, one, read, written):
         if one.tree is None:
             return self.tile(one, read, written)
-        emit = self.kernel if is_kernel(self.request, tree_size(one.tree)) else self.leaf
+        emit = self.kernel if is_kernel(one.request, tree_size(one.tree)) else self.leaf
         return emit(one, read, written)
 
     def table(self, values):
@@ -299,7 +336,7 @@ class Emitter:
         return statements + [("st", written, one.stored(index), register)]
 
     def kernel(self, one, read, written):
-        kernel = Kernel(self.request, one.tree)
+        kernel = Kernel(one.request, one.tree)
         self.registers = max(self.registers, kernel.next)
         statements = [("ld", k, read, one.loaded(constant(k))) for k in range(tree_size(one.tree))]
         statements += kernel.actions
@@ -313,13 +350,13 @@ class Emitter:
         self.registers = max(self.registers, 3)
         inner = [
             ("ld", 1, read, one.loaded(variable(l))),
-            ("mul by", 2, 1, self.table(powers(self.request, d)), modulo(variable(k, l), d), 0),
+            ("mul by", 2, 1, self.table(powers(one.request, d)), modulo(variable(k, l), d), 0),
             ("add", 0, 0, 2),
         ]
         return nested([k], [("zero", 0), *nested([l], inner), *self.stores(one, written, variable(k), 0, 3)])
 
     def tile(self, one, read, written):
-        lanes = self.request.lanes
+        lanes = one.request.lanes
         statements = [("ld", at, read, one.loaded(at)) for at in range(lanes)] + [("tile", lanes, 0)]
         for at in range(lanes):
             statements += self.stores(one, written, at, lanes + at, 2 * lanes + at, step=1)
@@ -360,8 +397,9 @@ def listing_lines(statements):
 
 
 def header(program):
-    kind, size, modulus, root, procs, line, lanes, *_ = program.request
-    return f"program size {size} mod {modulus} procs {procs} line {line} lanes {lanes} regs {program.registers}"
+    asked = program.request
+    machine = f"procs {asked.procs} line {asked.line} lanes {asked.lanes} regs {program.registers}"
+    return f"program size {asked.size} mod {asked.modulus} {machine}"
 
 
 def joined(lines):

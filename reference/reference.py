@@ -12,12 +12,12 @@ import argparse
 import sys
 
 from convolutions import convolved
+from dimensions import admitted, certificate, formula, read_request, transform, tree_text
 from emission import Emitter, c_text, listing, loads_and_stores, phase_count
 from machine import Machine, run_lines
 from runs import actions_of
 from strangers import executed
-from transforms import Refused, admitted, certificate, certificate_rows, formula, forward, last_factor
-from transforms import read_request, transform, tree_text
+from transforms import Refused, forward, last_factor
 
 
 def vector_of_seed(request, seed):
@@ -60,7 +60,7 @@ def sample(request, cost, tree, seed):
 
 def plan(request, cost, tree):
     phases, each = phase_count(request), cost // request.procs
-    return f"tree {tree_text(forward(request), tree)}\ncost {cost}\nphases {phases}\neach {each}\n"
+    return f"tree {tree_text(request, tree)}\ncost {cost}\nphases {phases}\neach {each}\n"
 
 
 def vectors(request, data):
@@ -95,7 +95,7 @@ def answer(command, request, data=(), seed=0, schedule="seq", is_buffered=False)
     if command == "formula":
         return formula(request, tree) + "\n"
     if command == "cert":
-        return certificate(request, certificate_rows(request))
+        return certificate(request)
     if command == "sample":
         return sample(request, cost, tree, seed)
     if command == "run":

@@ -8,14 +8,15 @@ from math import gcd, lcm
 
 from convolution_sweep import convolutions_swept
 from convolutions import bad_power
+from dimension_sweep import dimension_requests, lines_read, lists_checked
+from dimensions import Several, admitted, read_request, transform
 from emission import Emitter, listing, loads_and_stores
 from formula_sweep import formulas_swept
 from listings import Lost, read_listing
 from reference import answer, vectors
 from runs import actions, run
 from strangers import MOST_ACTIONS, count, executed, parts_of
-from transforms import Refused, admitted, best, certificate, certificate_rows, every_tree, extra_cost, forward
-from transforms import read_request, transform, tree_count
+from transforms import Refused, best, certificate, certificate_rows, every_tree, extra_cost, forward, tree_count
 
 # Requests that the documents speak of, and the ends of the limits.
 NAMED = """
@@ -280,9 +281,12 @@ def checks(sweep, line, numbers):
     """The certificate is accepted, and refused under another weight and at a row with another cost. Its first version is
     accepted where the weight is 1."""
     request = read_request(line)
+    if isinstance(request, Several):
+        lists_checked(sweep, line, numbers)
+        return
     rows = list(certificate_rows(request))
     least, unreadable = f"least {rows[-1][1]}\n", (14, "certificate unreadable")
-    sweep.compare("check", f"{line}\n{certificate(request, rows)}", least)
+    sweep.compare("check", f"{line}\n{certificate(request, rows)}\n", least)
     older = least if request.weight == 1 else unreadable
     sweep.compare("check", f"{line}\n{certificate(request, rows, version=1)}", older)
     other = request._replace(weight=request.weight % 1000 + 1)
@@ -305,7 +309,10 @@ def budgets(sweep, line, cost):
 
 def agrees_with_itself(request, cost, tree, data):
     """The plan is the first of the cheapest of all trees, and the listed program leaves the plain sums at its counts."""
-    if request.size <= 24:
+    if isinstance(request, Several):
+        choices = [min(every_tree(part, part.size)) for part in request.parts if part.size <= 24]
+        assert all(choice[1] in tree for choice in choices)
+    elif request.size <= 24:
         assert min(every_tree(forward(request), request.size)) == (cost - extra_cost(request), tree)
     if request.size <= 64:
         vector = next(vectors(request, data))
@@ -452,11 +459,13 @@ def plans(sweep, lines):
 def main():
     sweep = Sweep(sys.argv[1])
     numbers = Numbers(11)
-    for line in requests() + spread_requests():
+    several = dimension_requests(Numbers(23))
+    for line in requests() + spread_requests() + several:
         swept(sweep, line, numbers)
+    lines_read(sweep)
     taken_back = [undone(sweep, line, numbers) for line in requests() + spread_requests()]
     assert sum(taken_back) >= 40, "too few inverses take a transform back"
-    for line in filter(is_small, NAMED.split("\n")[1:-1] + spread_requests()):
+    for line in filter(is_small, NAMED.split("\n")[1:-1] + spread_requests() + several[:60]):
         runs(sweep, line, numbers)
         strangers(sweep, line, numbers)
     changed = [plans(sweep, lines) for lines in requests_at_each_weight()]

@@ -1,4 +1,4 @@
-"""Requests, their matrices, and the trees by which their transforms are broken down."""
+"""Requests of one size, their matrices, and the trees by which their transforms are broken down."""
 
 import re
 from collections import namedtuple
@@ -195,22 +195,37 @@ def every_tree(request, d):
                 yield split_cost(request, rule, d, r, s, left_cost, right_cost), (rule, r, left, right)
 
 
-def admitted(request):
-    """The least cost and the chosen tree of a request that is done. The tree of an inverse is that of `forward`."""
+def check_lanes(request):
     if request.procs > 1 and request.line % request.lanes:
         raise Refused(4, f"lanes {request.lanes} do not divide line {request.line}")
-    shared = gcd(request.size, request.modulus)
-    if request.kind == "idft" and shared != 1:
-        raise Refused(15, f"size and modulus share the factor {shared}")
+
+
+def check_root(request):
     power = pow(request.root, request.size, request.modulus)
     if request.kind != "wht" and power != 1:
         raise Refused(6, f"root to the size is {power}, not 1")
-    choice = best(forward(request), request.size)
-    if choice is None:
-        raise Refused(7, "no split fits procs, line and lanes")
-    cost, tree = choice[0] + extra_cost(request), choice[1]
+
+
+def check_budget(request, cost):
     if cost > request.budget:
         raise Refused(8, f"least cost {cost} is over budget {request.budget}")
+
+
+NO_SPLIT = Refused(7, "no split fits procs, line and lanes")
+
+
+def admitted(request):
+    """The least cost and the chosen tree of a request that is done. The tree of an inverse is that of `forward`."""
+    check_lanes(request)
+    shared = gcd(request.size, request.modulus)
+    if request.kind == "idft" and shared != 1:
+        raise Refused(15, f"size and modulus share the factor {shared}")
+    check_root(request)
+    choice = best(forward(request), request.size)
+    if choice is None:
+        raise NO_SPLIT
+    cost, tree = choice[0] + extra_cost(request), choice[1]
+    check_budget(request, cost)
     return cost, tree
 
 
@@ -244,4 +259,4 @@ def certificate(request, rows, version=2):
     """Version 1 is of weight 1 and does not say so."""
     texts = (f'[{d},{cost},"{rule}",{r},{s}]' for d, cost, rule, r, s in rows)
     weight = f',"weight":{request.weight}' if version == 2 else ""
-    return f'{{"rows":[{",".join(texts)}],"size":{request.size},"version":{version}{weight}}}\n'
+    return f'{{"rows":[{",".join(texts)}],"size":{request.size},"version":{version}{weight}}}'

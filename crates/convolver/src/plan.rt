@@ -9,11 +9,11 @@ ghost use Rattle.tree_model.specs.Cost.{cost_of, IsModest};
 ghost use Rattle.convolver.specs.Planned.{HasPrincipalRoot, IsConvPlanned, conv_cost};
 ghost use Rattle.plan_faults.specs.declared.convolving.ConvFault.TheVariants as fault;
 
-use plan_faults::ConvFault;
 use convolution::first_bad_power;
 use generate::wrong_power;
 use matrix_meaning::Request;
 use memory::NoMemory;
+use plan_faults::ConvFault;
 use plan_search::{Plan, PlanError, best};
 use ring_mod::Modulus;
 use std::alloc::Global;

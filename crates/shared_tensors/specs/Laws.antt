@@ -1,14 +1,15 @@
 -- What the passes of a tensor product do and count, and that a program can be made of them.
-use Rattle.std.specs.Prelude.{◌≡◌, ℕ, ◌+◌, ◌*◌, ◌%◌, ◌^◌, ◌<◌, ◌≤◌, ◌==◌, if◌then◌else◌, List, [], ◌∷◌, ◌++◌, length, map, sum_by, All}
+use Rattle.std.specs.Prelude.{◌≡◌, ℕ, ◌+◌, ◌*◌, ◌%◌, ◌^◌, ◌<◌, ◌≤◌, ◌==◌, if◌then◌else◌, List, [], ◌∷◌, ◌++◌, length, map, sum_by, All, Some}
 use Rattle.operators.specs.Operator as operator
+use Rattle.operators.specs.Sizes.{max_size}
 use Rattle.pass_actions.specs.Acts.{pass_registers}
 use Rattle.pass_actions.specs.Costs.{pass_cost, pass_loads}
 use Rattle.pass_actions.specs.Machine.{PlainMachine, plain_machine}
 use Rattle.pass_programs.specs.Contract.{CanProgram, IsHost, all_passes, most_actions}
 use Rattle.passes.specs.Limits.{AreWithin}
 use Rattle.passes.specs.Merged.{PlainMerged, merged_on}
-use Rattle.passes.specs.Nest.{PlainNest}
-use Rattle.passes.specs.Work.{PlainWork, tile}
+use Rattle.passes.specs.Nest.{PlainMultiplier, PlainNest, factor_count}
+use Rattle.passes.specs.Work.{tile}
 use Rattle.shared_tensors.specs.Tensored.{tensored}
 
 -- ---- conditions
@@ -27,15 +28,21 @@ pub record CanShare (h : PlainMachine) (r s : ℕ) : Type 0 where
 abbrev pub HasNoTile : PlainNest → Type 0
 HasNoTile z = (v : ℕ) → z.work ≡ tile v → ⊥
 
+-- no more loops than so many, and a diagonal of no more factors than the largest array has words
+pub record IsShallow (room : ℕ) (z : PlainNest) : Type 0 where
+  pub loops : length z.counts ≤ room
+  pub factors : (d : PlainMultiplier) → z.multiplier ≡ Some d → factor_count d.factors ≤ max_size
+
 -- the same machine with so many lanes
 abbrev pub plain_lanes : ℕ → ℕ → ℕ → PlainMachine
 plain_lanes n m v = record { size = n; modulus = m; procs = 1; line = 1; lanes = v }
 
 -- Passes on n words modulo m, for one processor and one lane, of which a program can be made. No place has more parts than
--- so many, and there are few passes of few actions, so that they have room in larger ones
+-- so many, and no nest more loops, and there are few passes of few actions, so that they have room in larger ones
 pub record IsPart (n m room : ℕ) (g : PlainMerged) : Type 0 where
   pub programs : CanProgram (plain_machine n m) g
   pub within : AreWithin room n (all_passes g.phases)
+  pub shallow : All (All (IsShallow room)) (all_passes g.phases)
   pub no_tiles : All (All HasNoTile) (all_passes g.phases)
   pub registers : (v : ℕ) → v ≤ 16 → All (λ zs. pass_registers (plain_lanes n m v) zs < 2 ^ 20) (all_passes g.phases)
   pub actions : most_actions (plain_machine n m) (all_passes g.phases) + 4000 * n ≤ 4000 * (n * n)

@@ -1,2 +1,4 @@
 pub mod Tensored
 pub mod Laws
+pub mod Shared
+pub mod Moved

@@ -1,12 +1,11 @@
 // The faults of the parts of a call, as statuses.
 use crate::Status;
 use code_check::CheckFault;
-use plan_faults::ConvFault;
-use plan_faults::GenerateFault;
 use input_rest::RestFault;
 use io_edge::{Feed, FeedFault, WriteFault};
 use listing_text::ListingFault;
 use memory::NoMemory;
+use plan_faults::{ConvFault, GenerateFault};
 use request_text::RequestFault;
 use spl_text::SplFault;
 use std::alloc::AllocError;

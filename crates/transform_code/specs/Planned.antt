@@ -1,24 +1,19 @@
 -- Which requests are refused, and the trees of the others: one for each dimension.
 use Rattle.std.specs.Prelude.{◌≡◌, ◌≢◌, ◌⊎◌, ℕ, ◌<◌, ◌≤◌, List, [], ◌∷◌, Result, Ok, Err}
 use Rattle.dimension_plans.specs.declared.SeveralRequest.{SeveralRequest}
-use Rattle.dimension_plans.specs.Several.{several_cost, AreChosen, CanShare, IsLeastOf, IsSeveralRequest}
+use Rattle.dimension_plans.specs.Several.{several_cost, AreChosen, CanShare, IsLeastOf}
 use Rattle.dimensions.specs.declared.Dimension.{Dimension}
 use Rattle.dimensions.specs.Transform.{listed}
 use Rattle.generate.specs.Planned as one
 use Rattle.matrix_meaning.specs.declared.Request.{Request}
-use Rattle.matrix_meaning.specs.Valid.{IsValid}
 use Rattle.plan_faults.specs.declared.generating.GenerateFault.{GenerateFault}
 use Rattle.plan_faults.specs.declared.generating.GenerateFault.TheVariants.{Root, NoDivide, OverBudget, NoMemory}
 use Rattle.ring_mod.specs.Residue.{power_mod}
 use Rattle.transform_requests.specs.declared.TransformRequest.{TransformRequest}
 use Rattle.transform_requests.specs.declared.TransformRequest.TheVariants.{One, Several}
 use Rattle.transform_requests.specs.Range.{AreRooted}
+pub use Rattle.transform_requests.specs.Range.{IsRequestValid}
 use Rattle.tree_model.specs.Breakdown.{Breakdown}
-
--- the request is in range, and its roots are roots of 1
-abbrev pub IsRequestValid : TransformRequest → Type 0
-IsRequestValid (One r) = IsValid r
-IsRequestValid (Several r) = IsSeveralRequest r
 
 -- the power of the first dimension whose root to the power of its size is not 1
 abbrev pub IsFirstPower : ℕ → List Dimension → ℕ → Type 0

@@ -9,7 +9,7 @@ use dimension_plans::{SeveralRequest, can_share};
 use plan_faults::GenerateFault;
 
 // Whether the roots are right and some trees fit, whatever they cost; or the first cause why not.
-pub fn admit_several(request: &SeveralRequest) -> Result<(), GenerateFault>
+pub fn admit_dimensions(request: &SeveralRequest) -> Result<(), GenerateFault>
     requires { AreInRange request.now }
     ensures rooted { OnOk result (HasRoots request.now) }
     ensures shares { OnOk result (CanShare request.now) }

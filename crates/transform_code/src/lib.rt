@@ -16,7 +16,7 @@ ghost use Rattle.transform_code.specs.Views.{trees_of};
 ghost use Rattle.transform_requests.specs.Range.{IsRequestInRange};
 ghost use Rattle.transform_requests.specs.Trees.{cost_of};
 
-use admit::admit_several;
+use admit::admit_dimensions;
 use generate::admit;
 use icode::program::Program;
 use plan::{plan_dimensions, plan_one};
@@ -49,7 +49,7 @@ pub fn admit_request(request: &TransformRequest) -> Result<(), GenerateFault>
 {
     match request {
         TransformRequest::One(request) => admit(request),
-        TransformRequest::Several(request) => admit_several(request),
+        TransformRequest::Several(request) => admit_dimensions(request),
     }
 }
 

@@ -1,10 +1,15 @@
 // The programs of requests of one size and of several dimensions.
-ghost use Rattle.std.specs.Prelude.{◌≡◌, ◌≢◌, Ok, Err, IfOk, IfErr};
+ghost use Rattle.std.specs.Prelude.{◌≡◌, ◌≢◌, map, Ok, Err, IfOk, IfErr};
+ghost use Rattle.dimension_passes.specs.Laws.{AreTreesFor};
+ghost use Rattle.dimension_passes.specs.Merged.{machine_of, several_merged};
+ghost use Rattle.icode.specs.Program.{plain_program};
 ghost use Rattle.matrix_meaning.specs.Valid.{IsInRange};
+ghost use Rattle.pass_programs.specs.Contract.{Performs};
 ghost use Rattle.plan_faults.specs.declared.generating.GenerateFault.TheVariants as fault;
 ghost use Rattle.transform_requests.specs.Range.{AreInRange};
 ghost use Rattle.transform_requests.specs.Trees.{cost_of};
 ghost use Rattle.transform_requests.specs.declared.TransformRequest.TheVariants.{One, Several};
+ghost use Rattle.tree_model.specs.Breakdown.{breakdown_of};
 ghost use Rattle.transform_code.specs.Good.{IsGood};
 ghost use Rattle.transform_code.specs.Lean.{AreLean, IsOneLean};
 ghost use Rattle.transform_code.specs.Planned.{ArePlanned, IsOnePlanned};
@@ -12,11 +17,17 @@ ghost use Rattle.transform_code.specs.Views.{trees_of};
 
 use crate::TransformProduct;
 use crate::plan::{plan_dimensions, plan_of_tree};
+use dimension_passes::merge_several;
 use dimension_plans::SeveralRequest;
 use generate::{Product, generate};
+use icode::program::Program;
 use matrix_meaning::Request;
+use memory::NoMemory;
 use plan_faults::GenerateFault;
+use program_emit::emit_on;
+use ring_mod::Modulus;
 use std::alloc::Global;
+use tree_model::Tree;
 
 // The plan and the program of one size.
 pub fn generate_one(alloc: Global, request: &Request) -> Result<TransformProduct, GenerateFault>
@@ -56,6 +67,24 @@ pub fn generate_dimensions(
     ensures refused { IfErr result (λ cause.
         cause ≢ fault.NoMemory → ArePlanned request.now (Err cause)) }
 {
-    let _plan = plan_dimensions(alloc, request)?;
-    Err(GenerateFault::NoMemory)
+    let plan = plan_dimensions(alloc, request)?;
+    let program = program_of_trees(alloc, request, &plan.trees)?;
+    Ok(TransformProduct { plan, program })
+}
+
+// The program of a tree for each dimension: their merged passes, written as code.
+fn program_of_trees(
+    alloc: Global,
+    request: &SeveralRequest,
+    trees: &[Tree],
+) -> Result<Program, NoMemory>
+    requires { AreTreesFor request.now (map breakdown_of trees.now) }
+    ensures { IfOk result (λ p.
+        Performs (machine_of request.now)
+        (several_merged request.now (map breakdown_of trees.now)) (plain_program p)) }
+{
+    let merged = merge_several(alloc, request, trees)?;
+    let modulus = Modulus::new(request.modulus).unwrap();
+    let program = emit_on(alloc, &modulus, request.line, &merged)?;
+    Ok(program)
 }

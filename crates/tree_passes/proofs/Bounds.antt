@@ -83,7 +83,7 @@ pub copies-are : (path : Path) → copies_in (map count_of path) ≡ copies_of p
 copies-are [] = refl
 copies-are (t ∷ path) = ap (λ n. count_of t * n) (copies-are path)
 
-multiplier-le : (weight : ℕ) (o : Option PlainMultiplier) (w : PlainWork) → multiplier_cost weight o w ≤ weight * works.work_size w
+pub multiplier-le : (weight : ℕ) (o : Option PlainMultiplier) (w : PlainWork) → multiplier_cost weight o w ≤ weight * works.work_size w
 multiplier-le weight None w = omega arith
 multiplier-le weight (Some d) w = omega arith
 
@@ -100,15 +100,15 @@ spread copies n size cost more loads whole high small low one each =
 
 module _ (c : Request) (valid : IsValid c) where
   -- operations and loads of one copy
-  record IsModest (n : ℕ) (w : PlainWork) : Type 0 where
-    operations : work_cost 1 c.modulus w ≤ 2 * (n * n)
-    loads : work_loads w ≤ n * n
+  pub record IsModest (n : ℕ) (w : PlainWork) : Type 0 where
+    pub operations : work_cost 1 c.modulus w ≤ 2 * (n * n)
+    pub loads : work_loads w ≤ n * n
 
   square-le : (n : ℕ) → n ≤ n * n
   square-le zero = omega arith
   square-le (suc n) = omega arith
 
-  modest : (p : PlainPass) → IsKnown c p → IsModest (works.work_size (loop_work c p.work)) (loop_work c p.work)
+  pub modest : (p : PlainPass) → IsKnown c p → IsModest (works.work_size (loop_work c p.work)) (loop_work c p.work)
   modest p known = by-work c p valid known.shaped known.framed (λ w. IsModest (works.work_size w) w)
       (λ t is e. let node = node-of c p valid known.shaped known.framed t is in let price = cost-le c.modulus c.kind t (node_root c (size_of t)) node.formed in record { operations = omega (arith, price); loads = square-le (size_of t) })
       (λ t is e kind. record { operations = omega arith; loads = omega arith })

@@ -107,16 +107,16 @@ module _ (c : Request) (p : PlainPass) (valid : IsValid c) (shape : IsShaped c c
 -- ---- places
 
 -- the places of an item e in copies of n
-record LimitsAt (c : Request) (p : PlainPass) (cs : ℕ → ℕ) (n : ℕ) (e : Sum) : Type 0 where
-  gathers : IsWithinLimits cs c.size e (all_simplified cs p.befores (place_sum p.path n 0 e))
-  scatters : IsWithinLimits cs c.size e (all_simplified cs p.afters (place_sum p.path n 0 e))
-  multiplies : (d : PlainDiagonal) → p.diagonal ≡ Some d → IsWithinLimits cs (d.rows * d.cols) e (all_simplified cs (d.places ++ inner_of d.path (d.rows * d.cols) ∷ []) (place_sum p.path n 0 e))
+pub record LimitsAt (c : Request) (p : PlainPass) (cs : ℕ → ℕ) (n : ℕ) (e : Sum) : Type 0 where
+  pub gathers : IsWithinLimits cs c.size e (all_simplified cs p.befores (place_sum p.path n 0 e))
+  pub scatters : IsWithinLimits cs c.size e (all_simplified cs p.afters (place_sum p.path n 0 e))
+  pub multiplies : (d : PlainDiagonal) → p.diagonal ≡ Some d → IsWithinLimits cs (d.rows * d.cols) e (all_simplified cs (d.places ++ inner_of d.path (d.rows * d.cols) ∷ []) (place_sum p.path n 0 e))
 
-all-end : (cs : ℕ → ℕ) (fs : List Mapping) (f : Mapping) (e : Sum) → all_simplified cs (fs ++ f ∷ []) e ≡ simplified cs f (all_simplified cs fs e)
+pub all-end : (cs : ℕ → ℕ) (fs : List Mapping) (f : Mapping) (e : Sum) → all_simplified cs (fs ++ f ∷ []) e ≡ simplified cs f (all_simplified cs fs e)
 all-end cs [] f e = refl
 all-end cs (g ∷ fs) f e = all-end cs fs f (simplified cs g e)
 
-all-places : (P Q : Sum → Type 0) (f g : Sum → Sum) (items : List Sum) → ((e : Sum) → P e → Q (g (f e))) → All P items → All Q (map g (map f items))
+pub all-places : (P Q : Sum → Type 0) (f g : Sum → Sum) (items : List Sum) → ((e : Sum) → P e → Q (g (f e))) → All P items → All Q (map g (map f items))
 all-places P Q f g items step h = all-map (λ e. Q (g e)) Q g (map f items) (λ e k. k) (all-map P (λ e. Q (g e)) f items step h)
 
 module _ (c : Request) (p : PlainPass) (valid : IsValid c) (shape : IsShaped c c.size p) (frame : IsFramed c p) (limited : IsLimitedPass c p) (sized : IsSizedPass c.size p) (some : 0 < works.work_size (loop_work c p.work)) where
@@ -129,25 +129,25 @@ module _ (c : Request) (p : PlainPass) (valid : IsValid c) (shape : IsShaped c c
   abbrev m : ℕ
   m = length p.path + 2
 
-  high : c.size ≤ 1048576
+  pub high : c.size ≤ 1048576
   high = valid.in_range.size.1
 
-  fills : size_under p.path n ≡ c.size
+  pub fills : size_under p.path n ≡ c.size
   fills = ap (size_under p.path) (loop-size c p.work) ∙ shape.fills
 
   counts : AreCounts p.path n 0 cs
   counts = counts-from p.path n 0 cs (n ∷ n ∷ []) sized.wide some (λ i. ap cs (omega arith))
 
-  low : (d : ℕ) → cs d ≤ 1048576
+  pub low : (d : ℕ) → cs d ≤ 1048576
   low = limits-low p.path n sized.wide some (omega (arith, fills, high))
 
-  limits : (e : Sum) → IsItem p cs m n e → LimitsAt c p cs n e
+  pub limits : (e : Sum) → IsItem p cs m n e → LimitsAt c p cs n e
   limits e item =
       subst (λ k. AreCounts p.path k 0 cs → Fits k e cs → LimitsAt c p cs k e) (sym (loop-size c p.work))
       (λ run fits. let l = limited cs e run fits item.name in record { gathers = l.gathers; scatters = l.scatters; multiplies = l.multiplies })
       counts item.fits
 
-  natural : (e : Sum) → IsItem p cs m n e → IsBounded cs m c.size (place_sum p.path n 0 e)
+  pub natural : (e : Sum) → IsItem p cs m n e → IsBounded cs m c.size (place_sum p.path n 0 e)
   natural e item = subst (λ k. IsBounded cs m k (place_sum p.path n 0 e)) fills (place-bounded cs m p.path n 0 e (omega arith) some counts item.bounded)
 
   coded : (size : ℕ) (e g : Sum) → size ≤ 1048576 → IsItem p cs m n e → IsWithinLimits cs size e g → IsBounded cs m size g → CanBeCoded cs g

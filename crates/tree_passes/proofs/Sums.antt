@@ -34,7 +34,7 @@ module _ (cs : ℕ → ℕ) (m : ℕ) (low : (d : ℕ) → cs d ≤ 1048576) whe
   constant-le n (remainder f of k rest) small plain h = constant-le n rest small plain.1 h.5
   constant-le n (quotient f of k rest) small plain h = absurd plain
 
-  top-le : (n : ℕ) (e : Sum) → n ≤ 1048577 → HasNoQuotient e → IsBounded cs m n e → top e cs ≤ 1048576 + parts e * 1099511627776
+  pub top-le : (n : ℕ) (e : Sum) → n ≤ 1048577 → HasNoQuotient e → IsBounded cs m n e → top e cs ≤ 1048576 + parts e * 1099511627776
   top-le n (constant c) small plain h = omega arith
   top-le n (variable f x rest) small plain h =
       let count = low x in

@@ -3,11 +3,12 @@
 ghost use Rattle.std.specs.Prelude.{◌<◌};
 
 use crate::call::{AMPLE, Outside, Seen, call, note_of, output_of};
-use crate::rows::{all_answer, field, lines_of};
+use crate::rows::{all_answer, lines_of};
 use listing_text::read_listing;
 use std::alloc::Global;
 use std::process::Abort;
 use std::test::Fail;
+use worked_rows::field;
 
 // Rows as those of requests: the words behind the program's name, the input, the code, the output and the note.
 

@@ -1,10 +1,10 @@
 // Listings of programs, letter for letter, as the rules of emission give them.
 
 use crate::call::{AMPLE, call, output_of};
-use crate::programs::{PAIR, QUAD};
 use std::alloc::Global;
 use std::process::Abort;
 use std::test::Fail;
+use worked_rows::{PAIR, QUAD};
 
 // A kernel of two levels, whose one twiddle that is not 1 costs a product.
 const FOUR: &str = "program size 4 mod 17 procs 1 line 1 lanes 1 regs 13

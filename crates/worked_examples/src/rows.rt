@@ -4,6 +4,7 @@ use crate::call::{AMPLE, call, told};
 use std::alloc::Global;
 use std::process::Abort;
 use std::test::Fail;
+use worked_rows::field;
 
 // A row has the words behind the program's name, the input, the status' code, the output and the note behind the program's
 // name, with `; ` between them. A stroke stands for a line end, and a dash for nothing.
@@ -196,11 +197,6 @@ pub(crate) fn lines_of(alloc: Global, field: &str) -> Result<String, Fail> {
     })
 }
 
-/// The first field and the rest.
-pub(crate) fn field(row: &str) -> Result<(&str, &str), Fail> {
-    Ok(row.split_once("; ").ok_or("a field")?)
-}
-
 /// The code, the output and the note, as a call tells them.
 pub(crate) fn wanted(alloc: Global, code: &str, output: &str, note: &str) -> Result<String, Fail> {
     let output = lines_of(alloc, output)?;
@@ -245,35 +241,6 @@ fn answers_as(rt: &impl Abort, alloc: Global, row: &str) -> Result<(), Fail> {
 pub(crate) fn all_answer(rt: &impl Abort, alloc: Global, rows: &str) -> Result<(), Fail> {
     for row in rows.lines() {
         answers_as(rt, alloc, row)?;
-    }
-    Ok(())
-}
-
-fn check_row<F: Fn(Global, &str) -> Result<String, Fail>>(
-    rt: &impl Abort,
-    alloc: Global,
-    row: &str,
-    answer: &F,
-) -> Result<(), Fail>
-    requires { F.IsAlwaysCallable answer.now }
-{
-    let (question, wanted) = row.split_once('|').ok_or("a row")?;
-    let answer = answer(alloc, question)?;
-    assert_eq!(rt; answer.as_str(), wanted, "{row}");
-    Ok(())
-}
-
-/// The answer to each row's question, which stands before its stroke, is what stands behind it.
-pub(crate) fn check<F: Fn(Global, &str) -> Result<String, Fail>>(
-    rt: &impl Abort,
-    alloc: Global,
-    rows: &str,
-    answer: F,
-) -> Result<(), Fail>
-    requires { F.IsAlwaysCallable answer }
-{
-    for row in rows.lines() {
-        check_row(rt, alloc, row, &answer)?;
     }
     Ok(())
 }

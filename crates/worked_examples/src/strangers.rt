@@ -3,11 +3,11 @@
 ghost use Rattle.std.specs.Prelude.{◌<◌};
 
 use crate::call::{AMPLE, Outside, call, output_of, told};
-use crate::programs::QUAD;
-use crate::rows::{field, lines_of, wanted, wanted_of};
+use crate::rows::{lines_of, wanted, wanted_of};
 use std::alloc::Global;
 use std::process::Abort;
 use std::test::Fail;
+use worked_rows::{QUAD, field};
 
 // A request, the words behind `exec`, a vector, and what its listing makes of it. A stroke stands for a line end.
 const LISTED: &str = "\

@@ -3,11 +3,10 @@
 ghost use Rattle.std.specs.Prelude.{◌<◌, IfOk};
 
 use crate::call::{AMPLE, Outside, call, note_of, output_of, told};
-use crate::programs::number;
-use crate::rows::field;
 use std::alloc::Global;
 use std::process::Abort;
 use std::test::Fail;
+use worked_rows::{field, number};
 
 const FOUR: &str = "dft 4 mod 17 root 4\n1 2 3 4\n";
 

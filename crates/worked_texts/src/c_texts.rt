@@ -1,7 +1,6 @@
 // C texts: what is printed and read again, the line where a text is none, and single lines.
 
 use crate::listings::{DEPTHS, PAIR, QUAD, depths, place};
-use crate::rows::{check, number, spelled};
 use c_print::{CFault, print_c, read_c, read_c_header, read_c_line, read_c_table};
 use icode::program::Op;
 use listing_text::{Act, print_listing, read_listing};
@@ -9,6 +8,7 @@ use std::alloc::Global;
 use std::fmt::Write;
 use std::process::Abort;
 use std::test::Fail;
+use worked_rows::{check, number, spelled};
 
 const C_TEXT: &str = "/* program size 2 mod 15 procs 1 line 1 lanes 1 regs 5 */
 #include <stdint.h>

@@ -1,11 +1,11 @@
 // Certificates, and what is to be said of texts.
 
 use crate::contexts::context;
-use crate::rows::{check, halves, spelled};
 use plan_cert::{Verdict, certify, check_cert};
 use std::alloc::Global;
 use std::test::Fail;
 use tree_model::{Ctx, divides};
+use worked_rows::{check, halves, spelled};
 
 // What is said of a text.
 fn verdict(alloc: Global, c: &Ctx, text: &str) -> Result<String, Fail> {

@@ -3,13 +3,13 @@
 ghost use Rattle.std.specs.Prelude.{IsTrue};
 ghost use Rattle.matrix_meaning.specs.Valid.{AllowsDirection, IsBetween, HasShape, IsInRange, IsValid};
 
-use crate::rows::numbers;
 use matrix_meaning::{Direction, Kind, Request};
 use request_text::read_request;
 use ring_mod::{Modulus, is_coprime};
 use std::alloc::Global;
 use std::test::Fail;
 use tree_model::{Ctx, Tree};
+use worked_rows::numbers;
 
 fn is_between(low: u64, high: u64, x: u64) -> bool
     ensures { IsTrue result → IsBetween low high x }

@@ -1,7 +1,6 @@
 // The factors of a transform of size 16, by hand from the identities: a step by four rows of four words.
 
 use crate::contexts::{context, tree_of};
-use crate::rows::check;
 use smp_rewrite::{Factor, to_smp};
 use std::alloc::{AllocError, Global};
 use std::fmt::Write;
@@ -10,6 +9,7 @@ use steps::{Core, Step};
 use tensor_paths::Tensor;
 use tree_model::admissible;
 use vec_rewrite::{VecFactor, vec_of_tree};
+use worked_rows::check;
 
 // A request, and the factors of both phases of `ct 4 4` for processors.
 const BLOCKS: &str = "\

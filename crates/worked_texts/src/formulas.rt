@@ -1,12 +1,12 @@
 // Formulas: what is read, refused, printed, applied and rewritten.
 
-use crate::rows::{check, number, spelled};
 use ring_mod::Modulus;
 use spl_ast::{Distribute, Node, Spl, rewrite};
 use spl_text::{print_spl, read_spl};
 use std::alloc::Global;
 use std::fmt::Write;
 use std::test::Fail;
+use worked_rows::{check, number, spelled};
 
 // A text, and the fault where it is no formula.
 const FAULTS: &str = "\

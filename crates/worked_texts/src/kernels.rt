@@ -1,13 +1,13 @@
 // Kernels: their actions, the registers of their outputs, and how many registers they use.
 
 use crate::contexts::{context, tree_of};
-use crate::rows::check;
 use icode::action::Action;
 use kernel_gen::{Kernel, kernel};
 use std::alloc::{AllocError, Global};
 use std::fmt::Write;
 use std::test::Fail;
 use tree_model::admissible;
+use worked_rows::check;
 
 // A request, a tree of its size, and its kernel. The twiddle factors of a step by strides follow their row.
 const ROWS: &str = "\

@@ -28,8 +28,6 @@ mod products;
 #[cfg(test)]
 mod requests;
 #[cfg(test)]
-mod rows;
-#[cfg(test)]
 mod streams;
 #[cfg(test)]
 mod values;

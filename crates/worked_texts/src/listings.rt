@@ -1,10 +1,10 @@
 // Listings: what is read and printed again, and the line where a text is no listing.
 
-use crate::rows::{check, number, spelled};
 use listing_text::{ListingFault, print_listing, read_listing};
 use std::alloc::Global;
 use std::fmt::Write;
 use std::test::Fail;
+use worked_rows::{check, number, spelled};
 
 // The transform of size 4 with root 4, modulo 17, by its definition.
 const LEAF: &str = "program size 4 mod 17 procs 1 line 1 lanes 1 regs 3

@@ -4,7 +4,6 @@ ghost use Rattle.tree_model.specs.Admissible.{IsAdmissible};
 ghost use Rattle.tree_model.specs.Breakdown.{breakdown_of};
 
 use crate::contexts::{context, tree_of};
-use crate::rows::check;
 use loop_merge::merge;
 use memory::NoMemory;
 use passes::{Merged, Nest};
@@ -15,6 +14,7 @@ use std::fmt::Write;
 use std::test::Fail;
 use tree_model::{Ctx, Tree, admissible};
 use vec_rewrite::vec_of_tree;
+use worked_rows::check;
 
 // A request and a tree, and the number of phases and the places of the passes.
 //

@@ -4,7 +4,6 @@ ghost use Rattle.tree_model.specs.Admissible.{IsAdmissible};
 ghost use Rattle.tree_model.specs.Breakdown.{breakdown_of};
 
 use crate::contexts::{is_valid, request};
-use crate::rows::check;
 use matrix_meaning::Request;
 use operators::MAX_SIZE;
 use plan_search::{Plan, PlanError, best, best_by_recursion};
@@ -15,6 +14,7 @@ use std::fmt::Write;
 use std::process::Abort;
 use std::test::Fail;
 use tree_model::{Ctx, Rule, Tree, admissible, before, cost, loads, pass_count, stores};
+use worked_rows::check;
 
 // A request, and its plan: the tree, its cost, its passes, and the words that they load and store.
 const PLANS: &str = "\

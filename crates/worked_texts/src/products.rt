@@ -9,7 +9,6 @@ ghost use Rattle.tree_model.specs.Admissible.{IsAdmissible};
 ghost use Rattle.tree_model.specs.Breakdown.{breakdown_of};
 
 use crate::contexts::{context, tree_of};
-use crate::rows::{check, joined, numbers};
 use breakdown::{expand, expand_request};
 use matrix_meaning::times_plain;
 use memory::NoMemory;
@@ -21,6 +20,7 @@ use std::alloc::Global;
 use std::test::Fail;
 use tree_model::{Ctx, Tree, admissible};
 use vec_rewrite::vec_of_tree;
+use worked_rows::{check, joined, numbers};
 
 // The transform of `x`, by the plain product of the tree's formulas.
 fn times(alloc: Global, c: &Ctx, tree: &Tree, x: &[u64]) -> Result<Vec<u64>, NoMemory>

@@ -1,10 +1,10 @@
 // Request lines, and the words of schedules and of turns with drains.
 
-use crate::rows::{check, number, numbers, spelled};
 use request_text::{Mix, Schedule, read_conv, read_mix, read_request, read_schedule};
 use std::alloc::{AllocError, Global};
 use std::fmt::Write;
 use std::test::Fail;
+use worked_rows::{check, number, numbers, spelled};
 
 // A line, and what it asks for or what is wrong with it. The places of syntax faults come from a matcher of prefixes that
 // is no part of this program.

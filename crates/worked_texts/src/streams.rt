@@ -2,7 +2,6 @@
 
 ghost use Rattle.std.specs.Prelude.{◌<◌};
 
-use crate::rows::{halves, spelled};
 use data_stream::{DataFault, Next, Vectors, write_vector};
 use input_rest::{RestFault, read_rest};
 use io_edge::{CountSink, Feed, MemSink, MemSource, WriteFault};
@@ -10,6 +9,7 @@ use ring_mod::Modulus;
 use std::alloc::Global;
 use std::process::Abort;
 use std::test::Fail;
+use worked_rows::{halves, spelled};
 
 // What is written for the vectors of four numbers, at most two of them, and how the data go on behind them.
 fn lines(

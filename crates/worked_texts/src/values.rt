@@ -1,6 +1,5 @@
 // Arithmetic modulo a number, index functions, and sums of loop variables.
 
-use crate::rows::{check, number};
 use convolution::{conv_plain, first_bad_power};
 use index_fn::{Index, compose};
 use matrix_meaning::twiddle_factor;
@@ -9,6 +8,7 @@ use quick_mod::QuickModulus;
 use ring_mod::{Modulus, gcd};
 use std::alloc::Global;
 use std::test::Fail;
+use worked_rows::{check, number};
 
 // A call, the modulus and the numbers that it takes, and the value by Python's integers.
 const VALUES: &str = "\

@@ -1,10 +1,10 @@
 // Command lines.
 
-use crate::rows::check;
 use request_text::{Event, Mix, Schedule};
 use spiral_words::{Command, Order, Refusal, command_of};
 use std::alloc::Global;
 use std::test::Fail;
+use worked_rows::check;
 
 // The words, and the command: its seed, and its schedule by the turns or events that it has on two processors
 // and the last of them.

@@ -1,4 +1,0 @@
-pub mod Admitted
-pub mod Examples
-pub mod SeveralLaws
-pub mod UnderPaths

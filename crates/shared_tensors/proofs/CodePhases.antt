@@ -1,0 +1,26 @@
+-- Phases as one, pass by pass, and parts whose places stay words.
+use Rattle.std.proofs.Common.{◌≡◌, List, [], ◌∷◌, ◌++◌, map, sym, ap, ◌∙◌, append_assoc, append-nil, Vec, Global}
+use Rattle.std.proofs.lemmas.List.{map-append}
+use Rattle.pass_programs.specs.Contract.{all_passes}
+use Rattle.passes.specs.Nest.{PlainNest}
+use Rattle.passes.specs.Views.{plain_nest}
+use Rattle.passes.specs.declared.nest.Nest.{Nest}
+use Rattle.shared_tensors.specs.Moved.{plain_passes, plain_phases}
+
+-- ---- phases
+
+abbrev Pass : Type 0
+Pass = Vec Nest Global
+
+abbrev pass_of : Pass → List PlainNest
+pass_of zs = map plain_nest zs.items
+
+all-append : (done : List (List (List PlainNest))) (ps : List (List PlainNest)) → all_passes (done ++ ps ∷ []) ≡ all_passes done ++ ps
+all-append [] ps = append-nil ps
+all-append (qs ∷ done) ps = ap (λ rest. qs ++ rest) (all-append done ps) ∙ sym (append_assoc qs (all_passes done) ps)
+
+-- a phase more
+pub phase-more : (done : List (Vec Pass Global)) (phase : Vec Pass Global) (old new : List Pass) → new ≡ old ++ phase.items → plain_passes old ≡ all_passes (plain_phases done) → plain_passes new ≡ all_passes (plain_phases (done ++ phase ∷ []))
+phase-more done phase old new is before =
+    ap plain_passes is ∙ map-append pass_of old phase.items ∙ ap (λ ps. ps ++ plain_passes phase.items) before
+    ∙ sym (ap all_passes (map-append (λ (ps : Vec Pass Global). plain_passes ps.items) done (phase ∷ [])) ∙ all-append (plain_phases done) (plain_passes phase.items))

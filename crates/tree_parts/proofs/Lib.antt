@@ -1,0 +1,11 @@
+pub mod Limits
+pub mod Within
+pub mod Alike
+pub mod Registers
+pub mod Tiles
+pub mod Shallow
+pub mod Actions
+pub mod TreesAreParts
+pub mod Residues
+pub mod TreesTransform
+pub mod PassesCount
