@@ -30,3 +30,4 @@ pub mod PartPasses
 pub mod GoodProducts
 pub mod Programs
 pub mod PartAgain
+pub mod Counted

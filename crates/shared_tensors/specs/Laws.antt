@@ -1,5 +1,5 @@
 -- What the passes of a tensor product do and count, and that a program can be made of them.
-use Rattle.std.specs.Prelude.{◌≡◌, ℕ, ◌+◌, ◌*◌, ◌%◌, ◌^◌, ◌<◌, ◌≤◌, ◌==◌, if◌then◌else◌, List, [], ◌∷◌, ◌++◌, length, map, sum_by, All, Some}
+use Rattle.std.specs.Prelude.{◌≡◌, ℕ, ◌+◌, ◌*◌, ◌%◌, ◌^◌, ◌<◌, ◌≤◌, ◌==◌, if◌then◌else◌, List, [], ◌∷◌, ◌++◌, length, map, sum_by, All, Option, Some, None}
 use Rattle.operators.specs.Operator as operator
 use Rattle.operators.specs.Sizes.{max_size}
 use Rattle.pass_actions.specs.Acts.{pass_registers}
@@ -10,6 +10,7 @@ use Rattle.passes.specs.Limits.{AreWithin}
 use Rattle.passes.specs.Merged.{PlainMerged, merged_on}
 use Rattle.passes.specs.Nest.{PlainMultiplier, PlainNest, factor_count}
 use Rattle.passes.specs.Work.{tile}
+use Rattle.perm_algebra.specs.Room.{HasCounts}
 use Rattle.shared_tensors.specs.Tensored.{tensored}
 
 -- ---- conditions
@@ -28,9 +29,21 @@ pub record CanShare (h : PlainMachine) (r s : ℕ) : Type 0 where
 abbrev pub HasNoTile : PlainNest → Type 0
 HasNoTile z = (v : ℕ) → z.work ≡ tile v → ⊥
 
--- no more loops than so many, and a diagonal of no more factors than the largest array has words
+-- the places of a diagonal's factors name variables below n
+abbrev pub HavePlacesCounts : ℕ → Option PlainMultiplier → Type 0
+HavePlacesCounts n None = Unit {0}
+HavePlacesCounts n (Some d) = All (HasCounts n) d.places
+
+-- each place names the variables below n, and no others
+pub record AreCounted (n : ℕ) (z : PlainNest) : Type 0 where
+  pub gathers : All (HasCounts n) z.gathers
+  pub scatters : All (HasCounts n) z.scatters
+  pub multiplier : HavePlacesCounts n z.multiplier
+
+-- no more loops than so many, whose variables and the two of the work each place names, and a diagonal of no more factors than the largest array has words
 pub record IsShallow (room : ℕ) (z : PlainNest) : Type 0 where
   pub loops : length z.counts ≤ room
+  pub counted : AreCounted (length z.counts + 2) z
   pub factors : (d : PlainMultiplier) → z.multiplier ≡ Some d → factor_count d.factors ≤ max_size
 
 -- the same machine with so many lanes

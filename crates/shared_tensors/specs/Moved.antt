@@ -1,11 +1,13 @@
 -- Nests of either part of a tensor product, where they stand in it, and where their places are words.
-use Rattle.std.specs.Prelude.{ℕ, ◌++◌, ◌*◌, ◌^◌, ◌<◌, ◌≤◌, List, map, length, All}
+use Rattle.std.specs.Prelude.{ℕ, ◌++◌, ◌-◌, ◌*◌, ◌^◌, ◌<◌, ◌≤◌, List, map, length, All}
 use Rattle.std.proofs.Common.{Global, Vec}
 use Rattle.passes.specs.Merge.{place_sum, renumbered, renumbered_places}
 use Rattle.passes.specs.Nest.{PlainNest}
 use Rattle.passes.specs.Views.{plain_nest}
 use Rattle.passes.specs.declared.nest.Nest.{Nest}
 use Rattle.perm_algebra.specs.Affine.{Sum, constant, joined, peak, scaled}
+use Rattle.perm_algebra.specs.Room.{HasCounts}
+use Rattle.shared_tensors.specs.Laws.{AreCounted}
 use Rattle.shared_tensors.specs.declared.parts.Part.{Part}
 use Rattle.shared_tensors.specs.declared.parts.Part.TheVariants.{Rows, Columns}
 use Rattle.tensor_paths.specs.Path.{Path, count_of, size_under}
@@ -45,11 +47,13 @@ CanMove (Columns s) path e = (s * peak e ≤ 2 ^ 20) × (0 < size_under path 1) 
 pub record CanMoveNest (part : Part) (path : Path) (z : PlainNest) : Type 0 where
   pub gathers : All (CanMove part path) z.gathers
   pub scatters : All (CanMove part path) z.scatters
+  pub counted : AreCounted (2 ^ 64 - length path) z
 
--- no number of a place is over n, which is the size of the part
+-- no number of a place is over n, which is the size of the part, and its variables are among the first 64
 pub record IsLow (n : ℕ) (z : PlainNest) : Type 0 where
   pub gathers : All (λ e. peak e ≤ n) z.gathers
   pub scatters : All (λ e. peak e ≤ n) z.scatters
+  pub counted : AreCounted 64 z
 
 abbrev pub AreLow : ℕ → List (List PlainNest) → Type 0
 AreLow n ps = All (All (IsLow n)) ps
