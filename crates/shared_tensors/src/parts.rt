@@ -102,8 +102,7 @@ fn all_moved(
     sums: &[Affine],
 ) -> Result<Vec<Affine>, NoMemory>
     requires fits { All (λ e. CanMove part path.now (plain_sum e)) sums.now }
-    requires counted {
-        All (λ e. HasCounts (2 ^ 64 - length path.now) (plain_sum e)) sums.now }
+    requires counted { All (λ e. HasCounts (2 ^ 64 - length path.now) (plain_sum e)) sums.now }
     ensures { IfOk result (λ es.
         map plain_sum es.items ≡ map (moved_sum part path.now) (map plain_sum sums.now)) }
 {
