@@ -22,8 +22,8 @@ use Rattle.shared_tensors.specs.Tensored.{shared_path}
 use Rattle.shared_tensors.specs.declared.parts.Part.{Part}
 use Rattle.shared_tensors.specs.declared.parts.Part.TheVariants.{Rows, Columns}
 use Rattle.shared_tensors.proofs.CodeMoves.{all-viewed}
-use Rattle.shared_tensors.proofs.CodeShares.{are_shared}
-use Rattle.shared_tensors.proofs.CodeTiles.{size-shared}
+use Rattle.shared_tensors.proofs.EqualShares.{are_shared}
+use Rattle.shared_tensors.proofs.PathSizes.{size-shared}
 use Rattle.shared_tensors.proofs.Counted.{counted-more, shared-long}
 
 -- ---- lists

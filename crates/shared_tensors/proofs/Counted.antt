@@ -36,13 +36,13 @@ counts-renumbered k n (quotient f of m rest) h = (counts-renumbered k n of h.0, 
 abbrev pub KeepsCounts : Path → (Sum → Sum) → Type 0
 KeepsCounts path up = (n : ℕ) (e : Sum) → HasCounts n e → HasCounts (length path + n) (up e)
 
-pub rows-keep : (path : Path) (s : ℕ) → KeepsCounts path (row_up path s 0)
-rows-keep path s n e h =
+pub rows-counted : (path : Path) (s : ℕ) → KeepsCounts path (row_up path s 0)
+rows-counted path s n e h =
     counts-place (length path + n) path s 0 (joined (constant 0) (renumbered (length path) e)) (omega arith)
     (counts-joined (length path + n) (constant 0) (renumbered (length path) e) tt (counts-renumbered (length path) n e h))
 
-pub columns-keep : (path : Path) (s : ℕ) → KeepsCounts path (column_sum path s)
-columns-keep path s n e h =
+pub columns-counted : (path : Path) (s : ℕ) → KeepsCounts path (column_sum path s)
+columns-counted path s n e h =
     counts-joined (length path + n) (scaled s (renumbered (length path) e)) (place_sum path 1 0 (constant 0))
     (counts-scaled (length path + n) s (renumbered (length path) e) (counts-renumbered (length path) n e h))
     (counts-place (length path + n) path 1 0 (constant 0) (omega arith) tt)
