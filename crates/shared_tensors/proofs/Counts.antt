@@ -1,23 +1,18 @@
 -- What the passes of a tensor product count.
-use Rattle.std.proofs.Common.{◌≡◌, ℕ, ◌+◌, ◌*◌, ◌/◌, ◌<◌, List, [], ◌∷◌, ◌++◌, length, map, refl, sym, ap, ap₂, ◌∙◌, arith, append-nil, subst, inl, inr, Option, None, Some}
+use Rattle.std.proofs.Common.{◌≡◌, ℕ, ◌+◌, ◌*◌, ◌/◌, List, [], ◌∷◌, ◌++◌, length, map, refl, sym, ap, ap₂, ◌∙◌, arith, append-nil, subst}
 use Rattle.std.specs.Prelude.{Bool, true, false, ◌==◌, if◌then◌else◌}
-use Rattle.std.proofs.lemmas.Bool.{cases_eq}
-use Rattle.std.proofs.lemmas.Bool.Decides.{nat_tests}
 use Rattle.std.proofs.lemmas.List.{map-append}
-use Rattle.pass_actions.specs.Costs.{pass_cost, pass_loads, work_cost, work_loads}
+use Rattle.pass_actions.specs.Costs.{pass_cost, pass_loads}
 use Rattle.pass_actions.specs.Machine.{PlainMachine}
 use Rattle.pass_programs.specs.Contract.{all_passes}
-use Rattle.passes.specs.Counts.{copies_in, multiplier_cost}
-use Rattle.passes.specs.Merge.{lifted, renumbered_places}
+use Rattle.passes.specs.Counts.{copies_in}
 use Rattle.passes.specs.Merged.{PlainMerged}
-use Rattle.passes.specs.Nest.{PlainMultiplier, PlainNest}
-use Rattle.passes.specs.Work.{PlainWork}
+use Rattle.passes.specs.Nest.{PlainNest}
 use Rattle.smp_rewrite.specs.Smp.{within}
-use Rattle.tensor_paths.specs.declared.Tensor.{Tensor}
 use Rattle.tensor_paths.specs.declared.Tensor.TheVariants.{Blocks, Columns}
 use Rattle.tensor_paths.specs.Path.{Path, copies_of, count_of}
 use Rattle.shared_tensors.specs.Laws.{CountsTensored, TensoredCounts, with_tiles}
-use Rattle.shared_tensors.specs.Tensored.{across, column_passes, group_path, in_columns, in_phases, row_passes, row_place, shared_path, side_place, tiled_in, tiled_out, tiles}
+use Rattle.shared_tensors.specs.Tensored.{across, column_passes, group_path, in_phases, row_passes, row_place, shared_path, side_place, tiled_in, tiled_out, tiles}
 use Rattle.shared_tensors.specs.Shared.{AreShared}
 use Rattle.passes.proofs.Sides.{up as row_up}
 use Rattle.perm_algebra.specs.Affine.{Sum}

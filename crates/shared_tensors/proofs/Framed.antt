@@ -1,23 +1,23 @@
 -- A nest of a part runs on every machine, where it is wrapped for its processors and lanes.
-use Rattle.std.proofs.Common.{◌≡◌, ℕ, zero, suc, ◌+◌, ◌*◌, ◌-◌, ◌<◌, arith, refl, sym, ap, ap₂, ◌∙◌, List, [], ◌∷◌, ◌++◌, length, map, subst, append_assoc, Option, Some, None}
+use Rattle.std.proofs.Common.{◌≡◌, ℕ, ◌+◌, ◌*◌, ◌-◌, ◌<◌, arith, refl, sym, ap, ap₂, ◌∙◌, List, [], ◌∷◌, ◌++◌, length, map, subst, append_assoc, Option, Some, None}
 use Rattle.std.specs.Prelude.{max, slice_index, slice_index_or}
 use Rattle.pass_actions.specs.Acts.{nest_registers, pass_registers, with_multiplier}
 use Rattle.pass_actions.specs.Laws.{CanRunNest, CanWork}
 use Rattle.pass_actions.specs.Machine.{PlainMachine, framed_lanes, if_several, item_of, lane_step, plain_machine, values_of}
 use Rattle.pass_programs.specs.Conditions.{LoadsAlike, LoadsEachRow}
-use Rattle.passes.specs.Copies.{loops_of, IsInside}
+use Rattle.passes.specs.Copies.{IsInside}
 use Rattle.passes.specs.Good.{AreSound, NamesItems}
 use Rattle.passes.specs.Merge.{renumbered, renumbered_places}
 use Rattle.passes.specs.Nest.{PlainMultiplier, PlainNest, copies_of, factor_at, factor_count, load_place, store_place, sum_value}
 use Rattle.passes.specs.Work.{PlainWork, kernel, rows, horner, tile, copy, vectors_of}
 use Rattle.passes.proofs.Nests.{at-map, length-map}
-use Rattle.passes.proofs.Sides.{rest_of, rest-index, rest-range, sound-renumbered}
+use Rattle.passes.proofs.Sides.{rest_of, rest-range, sound-renumbered}
 use Rattle.perm_algebra.specs.Affine.{Sum, constant, value, IsSound}
 use Rattle.shared_tensors.specs.Laws.{plain_lanes}
 use Rattle.shared_tensors.proofs.GoodColumns.{at-renumbered, factor-behind, value-renumbered}
 use Rattle.shared_tensors.proofs.Limits.{wrapped}
 use Rattle.shared_tensors.proofs.Wraps.{Wraps, framed}
-use Rattle.tensor_paths.specs.Path.{Path, AreInRange, count_of}
+use Rattle.tensor_paths.specs.Path.{Path, count_of}
 
 -- work of no tiles
 abbrev pub IsNoTile : PlainWork → Type 0

@@ -10,11 +10,11 @@ pub mod RowMeaning
 pub mod Meaning
 pub mod EqualShares
 pub mod Counts
-pub mod CodePlaces
-pub mod CodeMoves
+pub mod PlaceWords
+pub mod MovedPlaces
 pub mod PathSizes
-pub mod CodePhases
-pub mod CodeParts
+pub mod FlatPhases
+pub mod MovedParts
 pub mod Limits
 pub mod Wraps
 pub mod Framed

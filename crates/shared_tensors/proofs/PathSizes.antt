@@ -1,23 +1,20 @@
 -- The sizes of paths round rows, columns and tiles.
-use Rattle.std.proofs.Common.{◌≡◌, ℕ, suc, ◌+◌, ◌*◌, ◌/◌, ◌^◌, ◌<◌, ◌≤◌, arith, refl, sym, ap, ap₂, ◌∙◌, List, [], ◌∷◌, ◌++◌, inl, inr}
+use Rattle.std.proofs.Common.{◌≡◌, ℕ, suc, ◌+◌, ◌*◌, ◌/◌, ◌^◌, ◌<◌, ◌≤◌, arith, sym, ap, ap₂, ◌∙◌, List, [], ◌∷◌, ◌++◌}
 use Rattle.std.specs.Prelude.{map}
 use Rattle.std.specs.List.{range_with_len}
 use Rattle.std.proofs.Math.Nat.{mul-le-mul, mul-le-mul_right}
-use Rattle.std.proofs.lemmas.Bool.{cases_eq}
-use Rattle.std.proofs.lemmas.Bool.Decides.{nat_tests}
 use Rattle.std.proofs.lemmas.List.{map-append}
 use Rattle.std.proofs.lemmas.List.FromFn.{map-range_with_len_more}
 use Rattle.passes.specs.Merge.{place_sum}
 use Rattle.perm_algebra.specs.Affine.{Sum, constant, joined, peak}
 use Rattle.smp_rewrite.specs.Smp.{within}
 use Rattle.smp_rewrite.proofs.Tensors.{size-within}
-use Rattle.tensor_paths.specs.declared.Tensor.{Tensor}
 use Rattle.tensor_paths.specs.declared.Tensor.TheVariants.{Blocks, Columns}
-use Rattle.tensor_paths.specs.Path.{Path, count_of, size_under}
+use Rattle.tensor_paths.specs.Path.{Path, size_under}
 use Rattle.shared_tensors.specs.Shared.{AreShared}
 use Rattle.shared_tensors.specs.Tensored.{across, group_path, shared_path}
 use Rattle.shared_tensors.proofs.BlockPaths.{size-append}
-use Rattle.shared_tensors.proofs.CodePlaces.{peak-more, peak-place}
+use Rattle.shared_tensors.proofs.PlaceWords.{peak-more, peak-place}
 
 pub size-shared : (p v r n : ℕ) → p * (v * (r / p / v)) ≡ r → size_under (shared_path p v r) n ≡ r * n
 size-shared p v r n whole =

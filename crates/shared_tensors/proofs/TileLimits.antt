@@ -26,7 +26,6 @@ use Rattle.shared_tensors.proofs.PathSizes.{all-tiles, size-group}
 use Rattle.shared_tensors.proofs.GoodTiles.{row-sums, side-sums}
 use Rattle.shared_tensors.proofs.Written.{frame-of, sums-written}
 use Rattle.smp_rewrite.specs.Smp.{within}
-use Rattle.smp_rewrite.proofs.Tensors.{size-within}
 use Rattle.tensor_paths.specs.declared.Tensor.TheVariants.{Blocks}
 use Rattle.tensor_paths.specs.Path.{Path, count_of, size_under}
 

@@ -1,9 +1,9 @@
 -- What rows and columns make of a place: lanes side by side, and the rest as it was.
-use Rattle.std.proofs.Common.{◌≡◌, ℕ, suc, ◌+◌, ◌*◌, ◌/◌, ◌%◌, ◌^◌, ◌<◌, ◌≤◌, Bool, true, false, arith, refl, sym, ap, ap₂, ◌∙◌, List, [], ◌∷◌, ◌++◌, length, map, All}
+use Rattle.std.proofs.Common.{◌≡◌, ℕ, suc, ◌+◌, ◌*◌, ◌/◌, ◌^◌, ◌<◌, ◌≤◌, Bool, true, false, arith, refl, sym, ap, ap₂, ◌∙◌, List, [], ◌∷◌, ◌++◌, length, map, All}
 use Rattle.std.specs.Prelude.{◌==◌, if◌then◌else◌, slice_index}
 use Rattle.std.proofs.lemmas.Bool.Decides.{nat_tests}
 use Rattle.std.proofs.lemmas.List.Elements.{All-nil, All-cons}
-use Rattle.perm_algebra.specs.Affine.{Sum, constant, variable, remainder, quotient, value, IsSound, scaled, joined}
+use Rattle.perm_algebra.specs.Affine.{Sum, constant, value, IsSound, scaled, joined}
 use Rattle.perm_algebra.proofs.AffineLaws.{value-joined, value-scaled}
 use Rattle.perm_algebra.proofs.Values.{sound-joined, sound-scaled}
 use Rattle.pass_actions.specs.Machine.{PlainMachine, if_several}

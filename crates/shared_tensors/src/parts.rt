@@ -6,7 +6,8 @@ ghost use Rattle.passes.specs.Views.{plain_multiplier, plain_nest};
 ghost use Rattle.perm_algebra.specs.Room.{HasCounts};
 ghost use Rattle.perm_algebra.specs.Views.{plain_sum};
 ghost use Rattle.shared_tensors.specs.Laws.{HavePlacesCounts};
-ghost use Rattle.shared_tensors.specs.Moved.{CanMove, CanMoveNest, moved, moved_sum, plain_passes};
+ghost use Rattle.multiplied_passes.specs.Views.{plain_passes};
+ghost use Rattle.shared_tensors.specs.Moved.{CanMove, CanMoveNest, moved, moved_sum};
 ghost use Rattle.tensor_paths.specs.Path.{count_of};
 
 use crate::sums::{extend, placed, renumbered, scale};

@@ -2,7 +2,7 @@ use Rattle.std.specs.Prelude.{◌-◌, ◌^◌, length}
 use Rattle.perm_algebra.specs.Room.{HasCounts}
 use Rattle.perm_algebra.specs.Views.{plain_sum}
 use Rattle.shared_tensors.specs.Moved.{CanMove}
-use Rattle.shared_tensors.proofs.CodeMoves.{all-viewed}
+use Rattle.shared_tensors.proofs.MovedPlaces.{all-viewed}
 use Rattle.shared_tensors.proofs.parts.moved_nest.Goals as goal
 
 pub all_moved-requires-clause-fits : goal.all_moved-requires-clause-fits

@@ -1,5 +1,5 @@
 use Rattle.perm_algebra.specs.Views.{plain_sum}
-use Rattle.shared_tensors.proofs.CodeMoves.{column-extends, column-scales, row-low, row-moved}
+use Rattle.shared_tensors.proofs.MovedPlaces.{column-extends, column-scales, row-low, row-moved}
 use Rattle.shared_tensors.proofs.parts.moved_sum.Goals as goal
 
 pub placed-requires-clause-small : goal.placed-requires-clause-small

@@ -1,7 +1,7 @@
 use Rattle.std.specs.Prelude.{◌-◌, ◌^◌}
 use Rattle.perm_algebra.specs.Room.{HasCounts}
 use Rattle.perm_algebra.specs.Views.{plain_sum}
-use Rattle.shared_tensors.proofs.CodeMoves.{all-viewed}
+use Rattle.shared_tensors.proofs.MovedPlaces.{all-viewed}
 use Rattle.shared_tensors.proofs.parts.renumbered_multiplier.Goals as goal
 
 pub all_renumbered-requires : goal.all_renumbered-requires

@@ -16,12 +16,13 @@ use Rattle.passes.proofs.Walk.{and-left, and-right}
 use Rattle.pass_programs.specs.Contract.{all_passes}
 use Rattle.tensor_paths.specs.Path.{Path, size_under}
 use Rattle.shared_tensors.specs.Laws.{AreCounted, CanTensor, IsShallow}
-use Rattle.shared_tensors.specs.Moved.{AreLow, CanMove, CanMoveNest, IsLow, moved, plain_passes}
+use Rattle.multiplied_passes.specs.Views.{plain_passes}
+use Rattle.shared_tensors.specs.Moved.{AreLow, CanMove, CanMoveNest, IsLow, moved}
 use Rattle.shared_tensors.specs.Shared.{AreShared}
 use Rattle.shared_tensors.specs.Tensored.{shared_path}
 use Rattle.shared_tensors.specs.declared.parts.Part.{Part}
 use Rattle.shared_tensors.specs.declared.parts.Part.TheVariants.{Rows, Columns}
-use Rattle.shared_tensors.proofs.CodeMoves.{all-viewed}
+use Rattle.shared_tensors.proofs.MovedPlaces.{all-viewed}
 use Rattle.shared_tensors.proofs.EqualShares.{are_shared}
 use Rattle.shared_tensors.proofs.PathSizes.{size-shared}
 use Rattle.shared_tensors.proofs.Counted.{counted-more, shared-long}
