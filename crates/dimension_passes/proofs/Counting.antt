@@ -1,5 +1,5 @@
 -- The merged passes of several dimensions count what the cost model does.
-use Rattle.std.proofs.Common.{◌≡◌, ℕ, ◌+◌, ◌*◌, ◌≤◌, Bool, true, false, refl, sym, ap, ap₂, ◌∙◌, arith, subst, if◌then◌else◌, nat_le, List, [], ◌∷◌, ◌++◌, length, append_assoc}
+use Rattle.std.proofs.Common.{◌≡◌, ℕ, ◌*◌, ◌≤◌, Bool, true, false, refl, sym, ap, ap₂, ◌∙◌, arith, subst, if◌then◌else◌, nat_le, List, [], ◌∷◌, ◌++◌, length, append_assoc}
 use Rattle.std.specs.Prelude.{map, ◌==◌}
 use Rattle.std.proofs.Math.Nat.{mul-one, one-mul}
 use Rattle.std.proofs.lemmas.Bool.Decides.{nat_tests}
@@ -24,7 +24,7 @@ use Rattle.tree_model.specs.Breakdown.{Breakdown}
 use Rattle.tree_model.specs.Passes.{Pass, tiles, pass_cost, pass_loads, passes_of}
 use Rattle.tree_parts.proofs.PassesCount.{passes_count}
 use Rattle.dimension_passes.specs.Counts.{DimensionPass, pass_of, passes_in, whole_passes_in}
-use Rattle.dimension_passes.specs.Laws.{CountsSeveral, SeveralCount}
+use Rattle.dimension_passes.specs.Laws.{SeveralCount}
 use Rattle.dimension_passes.specs.Merged.{machine_of, plain_passes, shared_passes}
 use Rattle.shared_tensors.proofs.Counts.{tensored_counts}
 use Rattle.dimension_passes.proofs.Parts.{IsDimension, all_small, all_valid, few_others, first_of, for_part, others_of, others_small, plain_parts, room_for, whole_parts}

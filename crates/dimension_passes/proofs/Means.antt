@@ -1,9 +1,9 @@
 -- The merged passes of several dimensions do their transform.
-use Rattle.std.proofs.Common.{◌≡◌, ℕ, ◌*◌, ◌≤◌, arith, refl, sym, ap, ◌∙◌, subst, List, [], ◌∷◌, length}
+use Rattle.std.proofs.Common.{◌≡◌, ℕ, ◌≤◌, arith, sym, ap, ◌∙◌, subst, List, [], ◌∷◌, length}
 use Rattle.dimension_plans.specs.declared.SeveralRequest.{SeveralRequest}
 use Rattle.dimension_plans.specs.Several.{part_of, AreAdmissible, AreValid}
 use Rattle.dimensions.specs.declared.Dimension.{Dimension}
-use Rattle.dimensions.specs.Transform.{listed, size_in, transform_in}
+use Rattle.dimensions.specs.Transform.{size_in, transform_in}
 use Rattle.dimensions.proofs.Tensors.{one_dimension, dimension_by_dimension}
 use Rattle.formula_lower.specs.Merged.{tree_merged}
 use Rattle.matrix_meaning.specs.declared.Kind.TheVariants.{Dft}

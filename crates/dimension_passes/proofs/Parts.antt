@@ -1,25 +1,24 @@
 -- The merged passes of dimensions are parts of tensor products.
-use Rattle.std.proofs.Common.{◌≡◌, ℕ, zero, suc, ◌+◌, ◌*◌, ◌%◌, ◌<◌, ◌≤◌, ◌⊎◌, inl, inr, Bool, true, false, arith, refl, sym, ap, ◌∙◌, subst, List, [], ◌∷◌, length, ◌&&◌}
+use Rattle.std.proofs.Common.{◌≡◌, ℕ, ◌+◌, ◌*◌, ◌≤◌, inl, inr, true, arith, refl, sym, ap, subst, List, [], ◌∷◌, length, ◌&&◌}
 use Rattle.std.specs.Prelude.{◌==◌}
 use Rattle.std.proofs.Math.Nat.{mul-le-mul, mul-one}
 use Rattle.std.proofs.lemmas.Bool.Decides.{nat_tests}
 use Rattle.std.proofs.lemmas.List.Elements.{All-head, All-tail}
 use Rattle.dimension_plans.specs.declared.SeveralRequest.{SeveralRequest}
-use Rattle.dimension_plans.specs.Several.{part_of, whole_of, AreAdmissible, AreValid, FitsFirst, IsSeveralRequest}
+use Rattle.dimension_plans.specs.Several.{part_of, AreAdmissible, AreValid, FitsFirst, IsSeveralRequest}
 use Rattle.dimension_plans.proofs.Plans.{others_no_more, others_positive}
 use Rattle.dimensions.specs.declared.Dimension.{Dimension}
 use Rattle.dimensions.specs.declared.Dimensions.{Dimensions}
 use Rattle.dimensions.specs.declared.Dimensions.TheVariants.{One, Two, Three, Four}
 use Rattle.dimensions.specs.Transform.{listed, size_in}
 use Rattle.formula_lower.specs.Merged.{tree_merged}
-use Rattle.matrix_meaning.specs.Valid.{IsInRange, IsValid}
+use Rattle.matrix_meaning.specs.Valid.{IsValid}
 use Rattle.operators.specs.Sizes.{max_size}
-use Rattle.pass_actions.specs.Machine.{PlainMachine, plain_machine}
+use Rattle.pass_actions.specs.Machine.{plain_machine}
 use Rattle.pass_programs.specs.Contract.{IsHost}
 use Rattle.shared_tensors.specs.Laws.{AreParts, CanShare, IsPart}
-use Rattle.tree_model.specs.Admissible.{Fits, IsAdmissible}
+use Rattle.tree_model.specs.Admissible.{IsAdmissible}
 use Rattle.tree_model.specs.Breakdown.{Breakdown}
-use Rattle.tree_model.specs.Cost.{is_plain}
 use Rattle.tree_parts.specs.Parts.{IsForPart}
 use Rattle.tree_parts.proofs.TreesAreParts.{trees_are_parts}
 use Rattle.dimension_passes.specs.Laws.{AreTreesFor}

@@ -1,5 +1,5 @@
 -- A program can be made of the merged passes of several dimensions.
-use Rattle.std.proofs.Common.{◌≡◌, ℕ, ◌≤◌, arith, refl, subst, List, [], ◌∷◌, length}
+use Rattle.std.proofs.Common.{◌≡◌, ◌≤◌, arith, refl, subst, List, [], ◌∷◌, length}
 use Rattle.dimension_plans.specs.declared.SeveralRequest.{SeveralRequest}
 use Rattle.dimension_plans.specs.Several.{part_of, AreAdmissible}
 use Rattle.dimensions.specs.declared.Dimension.{Dimension}

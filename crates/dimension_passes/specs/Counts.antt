@@ -15,7 +15,8 @@ pub record DimensionPass : Type 0 where
 abbrev pub pass_of : Dimension → Pass → DimensionPass
 pass_of d pass = record { dimension = d; pass = pass }
 
--- the passes of trees that stand so many times, as by split: those of the others on each row, and then those of the first on each column
+-- the passes of trees that stand so many times, as by split: those of the others on each row,
+-- and then those of the first on each column
 abbrev pub passes_in : SeveralRequest → ℕ → List Dimension → List Breakdown → List DimensionPass
 passes_in r count [] ts = []
 passes_in r count (d ∷ others) [] = []
@@ -28,7 +29,9 @@ whole_passes_in r [] ts = []
 whole_passes_in r (d ∷ others) [] = []
 whole_passes_in r (d ∷ others) (t ∷ ts) =
     if nat_le r.lanes 1 then passes_in r 1 (d ∷ others) (t ∷ ts)
-    else pass_of d (tiles false) ∷ (passes_in r d.size others ts ++ (pass_of d (tiles false) ∷ map (pass_of d) (passes_of (part_of r d) (size_in others) t)))
+    else pass_of d (tiles false)
+    ∷ (passes_in r d.size others ts
+    ++ (pass_of d (tiles false) ∷ map (pass_of d) (passes_of (part_of r d) (size_in others) t)))
 
 abbrev pub several_passes : SeveralRequest → List Breakdown → List DimensionPass
 several_passes r ts = whole_passes_in r (listed r.dimensions) ts

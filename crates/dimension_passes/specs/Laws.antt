@@ -18,17 +18,25 @@ pub record AreTreesFor (r : SeveralRequest) (ts : List Breakdown) : Type 0 where
 
 -- a program can be made of them
 abbrev pub SeveralCanProgram : Type 0
-SeveralCanProgram = (r : SeveralRequest) (ts : List Breakdown) → AreTreesFor r ts → CanProgram (machine_of r) (several_merged r ts)
+SeveralCanProgram =
+    (r : SeveralRequest) (ts : List Breakdown) → AreTreesFor r ts → CanProgram (machine_of r) (several_merged r ts)
 
 -- they do the transform
 abbrev pub SeveralMeans : Type 0
-SeveralMeans = (r : SeveralRequest) (ts : List Breakdown) (x : List ℕ) → AreTreesFor r ts → merged_on r.modulus (several_merged r ts) x ≡ transform_in (listed r.dimensions) r.modulus x
+SeveralMeans =
+    (r : SeveralRequest) (ts : List Breakdown) (x : List ℕ) → AreTreesFor r ts →
+    merged_on r.modulus (several_merged r ts) x ≡ transform_in (listed r.dimensions) r.modulus x
 
--- pass by pass they count what the cost model does; there is one phase, or there are two where there are several processors
+-- pass by pass they count what the cost model does; there is one phase,
+-- or there are two where there are several processors
 pub record CountsSeveral (r : SeveralRequest) (ts : List Breakdown) : Type 0 where
   pub phases : length (several_merged r ts).phases ≡ (if r.procs == 1 then 1 else 2)
-  pub costs : map (pass_cost r.weight r.modulus) (all_passes (several_merged r ts).phases) ≡ map (cost_of_pass r) (several_passes r ts)
-  pub loads : map pass_loads (all_passes (several_merged r ts).phases) ≡ map (loads_of_pass r) (several_passes r ts)
+  pub costs :
+      map (pass_cost r.weight r.modulus) (all_passes (several_merged r ts).phases)
+      ≡ map (cost_of_pass r) (several_passes r ts)
+  pub loads :
+      map pass_loads (all_passes (several_merged r ts).phases)
+      ≡ map (loads_of_pass r) (several_passes r ts)
 
 abbrev pub SeveralCount : Type 0
 SeveralCount = (r : SeveralRequest) (ts : List Breakdown) → AreTreesFor r ts → CountsSeveral r ts

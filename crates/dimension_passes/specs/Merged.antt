@@ -1,4 +1,5 @@
--- The merged passes of several dimensions: those of each tree by the request for its dimension, as the passes of their tensor product.
+-- The merged passes of several dimensions: those of each tree by the request for its dimension,
+-- as the passes of their tensor product.
 use Rattle.std.specs.Prelude.{List, [], ◌∷◌}
 use Rattle.dimension_plans.specs.declared.SeveralRequest.{SeveralRequest}
 use Rattle.dimension_plans.specs.Several.{part_of}
@@ -12,7 +13,14 @@ use Rattle.tree_model.specs.Breakdown.{Breakdown}
 
 -- the machine that the request asks for
 abbrev pub machine_of : SeveralRequest → PlainMachine
-machine_of r = record { size = size_in (listed r.dimensions); modulus = r.modulus; procs = r.procs; line = r.line; lanes = r.lanes }
+machine_of r =
+    record {
+      size = size_in (listed r.dimensions);
+      modulus = r.modulus;
+      procs = r.procs;
+      line = r.line;
+      lanes = r.lanes;
+    }
 
 abbrev pub no_passes : PlainMerged
 no_passes = record { size = 1; procs = 1; lanes = 1; phases = [] }
@@ -22,13 +30,15 @@ abbrev pub plain_passes : SeveralRequest → List Dimension → List Breakdown �
 plain_passes r [] ts = no_passes
 plain_passes r (d ∷ others) [] = no_passes
 plain_passes r (d ∷ []) (t ∷ ts) = tree_merged (part_of r d) t
-plain_passes r (d ∷ e ∷ others) (t ∷ ts) = tensored 1 1 (tree_merged (part_of r d) t) (plain_passes r (e ∷ others) ts)
+plain_passes r (d ∷ e ∷ others) (t ∷ ts) =
+    tensored 1 1 (tree_merged (part_of r d) t) (plain_passes r (e ∷ others) ts)
 
 -- the processors and lanes share the whole between the first dimension and the others
 abbrev pub shared_passes : SeveralRequest → List Dimension → List Breakdown → PlainMerged
 shared_passes r [] ts = no_passes
 shared_passes r (d ∷ others) [] = no_passes
-shared_passes r (d ∷ others) (t ∷ ts) = tensored r.procs r.lanes (tree_merged (part_of r d) t) (plain_passes r others ts)
+shared_passes r (d ∷ others) (t ∷ ts) =
+    tensored r.procs r.lanes (tree_merged (part_of r d) t) (plain_passes r others ts)
 
 abbrev pub several_merged : SeveralRequest → List Breakdown → PlainMerged
 several_merged r ts = shared_passes r (listed r.dimensions) ts

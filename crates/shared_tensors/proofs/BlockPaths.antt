@@ -54,7 +54,7 @@ pub copies-append : (path more : Path) → copies_of (path ++ more) ≡ copies_o
 copies-append [] more = omega arith
 copies-append (t ∷ path) more = ap (λ n. count_of t * n) (copies-append path more) ∙ omega arith
 
-size-append : (path more : Path) (n : ℕ) → size_under (path ++ more) n ≡ size_under path (size_under more n)
+pub size-append : (path more : Path) (n : ℕ) → size_under (path ++ more) n ≡ size_under path (size_under more n)
 size-append [] more n = refl
 size-append (Blocks c ∷ path) more n = ap (λ k. c * k) (size-append path more n)
 size-append (Columns c ∷ path) more n = ap (λ k. k * c) (size-append path more n)

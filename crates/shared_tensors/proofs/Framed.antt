@@ -1,22 +1,23 @@
 -- A nest of a part runs on every machine, where it is wrapped for its processors and lanes.
-use Rattle.std.proofs.Common.{◌≡◌, ℕ, zero, suc, ◌+◌, ◌*◌, ◌-◌, ◌<◌, arith, refl, sym, ap, ap₂, ◌∙◌, List, [], ◌∷◌, ◌++◌, length, map, subst, append_assoc, Option, Some, None}
+use Rattle.std.proofs.Common.{◌≡◌, ℕ, ◌+◌, ◌*◌, ◌-◌, ◌<◌, arith, refl, sym, ap, ap₂, ◌∙◌, List, [], ◌∷◌, ◌++◌, length, map, subst, append_assoc, Option, Some, None}
 use Rattle.std.specs.Prelude.{max, slice_index, slice_index_or}
 use Rattle.pass_actions.specs.Acts.{nest_registers, pass_registers, with_multiplier}
 use Rattle.pass_actions.specs.Laws.{CanRunNest, CanWork}
 use Rattle.pass_actions.specs.Machine.{PlainMachine, framed_lanes, if_several, item_of, lane_step, plain_machine, values_of}
 use Rattle.pass_programs.specs.Conditions.{LoadsAlike, LoadsEachRow}
-use Rattle.passes.specs.Copies.{loops_of, IsInside}
+use Rattle.passes.specs.Copies.{IsInside}
 use Rattle.passes.specs.Good.{AreSound, NamesItems}
 use Rattle.passes.specs.Merge.{renumbered, renumbered_places}
 use Rattle.passes.specs.Nest.{PlainMultiplier, PlainNest, copies_of, factor_at, factor_count, load_place, store_place, sum_value}
 use Rattle.passes.specs.Work.{PlainWork, kernel, rows, horner, tile, copy, vectors_of}
 use Rattle.passes.proofs.Nests.{at-map, length-map}
-use Rattle.passes.proofs.Sides.{rest_of, rest-index, rest-range, sound-renumbered}
+use Rattle.passes.proofs.Sides.{rest_of, rest-range, sound-renumbered}
 use Rattle.perm_algebra.specs.Affine.{Sum, constant, value, IsSound}
 use Rattle.shared_tensors.specs.Laws.{plain_lanes}
+use Rattle.shared_tensors.proofs.GoodColumns.{at-renumbered, factor-behind, value-renumbered}
 use Rattle.shared_tensors.proofs.Limits.{wrapped}
-use Rattle.shared_tensors.proofs.Wraps.{Wraps, framed, rest-append, value-renumbered}
-use Rattle.tensor_paths.specs.Path.{Path, AreInRange, count_of}
+use Rattle.shared_tensors.proofs.Wraps.{Wraps, framed}
+use Rattle.tensor_paths.specs.Path.{Path, count_of}
 
 -- work of no tiles
 abbrev pub IsNoTile : PlainWork → Type 0
@@ -32,11 +33,6 @@ pub of-places : (P : PlainMultiplier → Type 0) (k : ℕ) (o : Option PlainMult
     ((e : PlainMultiplier) → o ≡ Some e → P (record { factors = e.factors; places = map (renumbered k) e.places })) → P d
 of-places P k None d is f = absurd (cc)
 of-places P k (Some e) d is f = of-some P (record { factors = e.factors; places = map (renumbered k) e.places }) d is (f e refl)
-
-at-renumbered : (k : ℕ) (sums : List Sum) (i : ℕ) → slice_index_or (map (renumbered k) sums) i (constant 0) ≡ renumbered k (slice_index_or sums i (constant 0))
-at-renumbered k [] i = refl
-at-renumbered k (e ∷ es) zero = refl
-at-renumbered k (e ∷ es) (suc i) = at-renumbered k es i
 
 sound-all : (up : Sum → Sum) (sums : List Sum) → ((e : Sum) → IsSound e → IsSound (up e)) → AreSound sums → AreSound (map up sums)
 sound-all up [] keeps h = tt
@@ -131,19 +127,6 @@ module _ (h : PlainMachine) (path : Path) (up : Sum → Sum) (wraps : Wraps h pa
   factors-lane (tile v) sums q lane k vs plain = absurd (plain v refl)
   factors-lane (copy d) sums q lane k vs plain = factor-alone sums k q lane vs
 
-  factor-rest : (sums : List Sum) (i : ℕ) (vs : List ℕ) → sum_value (map (renumbered (length path)) sums) i vs ≡ sum_value sums i (rest_of path vs)
-  factor-rest sums i vs =
-      ap (λ e. value e (slice_index vs)) (at-renumbered (length path) sums i) ∙ value-renumbered (length path) (slice_index_or sums i (constant 0)) (slice_index vs)
-      ∙ ap (value (slice_index_or sums i (constant 0))) (λ t d. rest-index path vs d t)
-
-  factor-place : (w : PlainWork) (sums : List Sum) (counts vs : List ℕ) (k : ℕ) → IsNoTile w → AreInRange (loops_of (map count_of path ++ counts)) vs →
-      store_place w (map (renumbered (length path)) sums) vs k ≡ store_place w sums (rest_of path vs) k
-  factor-place (kernel kind root t) sums counts vs k plain range = factor-rest sums k vs
-  factor-place (rows root d) sums counts vs k plain range = factor-rest sums 0 (vs ++ k ∷ []) ∙ ap (sum_value sums 0) (rest-append path counts vs (k ∷ []) range)
-  factor-place (horner root d) sums counts vs k plain range = factor-rest sums 0 (vs ++ k ∷ []) ∙ ap (sum_value sums 0) (rest-append path counts vs (k ∷ []) range)
-  factor-place (tile v) sums counts vs k plain range = absurd (plain v refl)
-  factor-place (copy d) sums counts vs k plain range = factor-rest sums k vs
-
   -- ---- nests
 
   row-alike : (z : PlainNest) → 0 < length z.gathers → LoadsEachRow z → LoadsEachRow (wrapped path up z)
@@ -177,7 +160,7 @@ module _ (h : PlainMachine) (path : Path) (up : Sum → Sum) (wraps : Wraps h pa
             };
         factors = λ d is vs k range below.
             of-places (λ e. store_place z.work e.places vs k < factor_count e.factors) (length path) z.multiplier d is
-            (λ e one. subst (λ p. p < factor_count e.factors) (sym (factor-place z.work e.places z.counts vs k plain range)) (can.factors e one (rest_of path vs) k (rest-range path z.counts vs range) below));
+            (λ e one. subst (λ p. p < factor_count e.factors) (sym (factor-behind path z.work e.places z.counts vs k range)) (can.factors e one (rest_of path vs) k (rest-range path z.counts vs range) below));
         residues = λ d is i. of-places (λ e. factor_at h.modulus e.factors i < h.modulus) (length path) z.multiplier d is (λ e one. can.residues e one i);
       }
 

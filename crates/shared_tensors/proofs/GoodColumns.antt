@@ -73,13 +73,13 @@ hits-columns path n s (c ∷ cs) w e =
 
 -- ---- sums
 
-value-renumbered : (k : ℕ) (e : Sum) (f : ℕ → ℕ) → value (renumbered k e) f ≡ value e (λ d. f (d + k))
+pub value-renumbered : (k : ℕ) (e : Sum) (f : ℕ → ℕ) → value (renumbered k e) f ≡ value e (λ d. f (d + k))
 value-renumbered k (constant c) f = refl
 value-renumbered k (variable g d rest) f = ap (λ v. g * f (d + k) + v) (value-renumbered k rest f)
 value-renumbered k (remainder g of m rest) f = ap₂ (λ u v. g * (u % m) + v) (value-renumbered k of f) (value-renumbered k rest f)
 value-renumbered k (quotient g of m rest) f = ap₂ (λ u v. g * (u / m) + v) (value-renumbered k of f) (value-renumbered k rest f)
 
-rest-append : (path : Path) (counts vs more : List ℕ) → AreInRange (loops_of (map count_of path ++ counts)) vs → rest_of path (vs ++ more) ≡ rest_of path vs ++ more
+pub rest-append : (path : Path) (counts vs more : List ℕ) → AreInRange (loops_of (map count_of path ++ counts)) vs → rest_of path (vs ++ more) ≡ rest_of path vs ++ more
 rest-append [] counts vs more h = refl
 rest-append (t ∷ path) counts [] more h = absurd h
 rest-append (t ∷ path) counts (v ∷ vs) more h = rest-append path counts vs more h.1
@@ -141,7 +141,7 @@ store-column path s (horner root d) sums counts vs k loose names h below = sum-m
 store-column path s (tile v) sums counts vs k loose names h below = absurd (no-tile v k loose below)
 store-column path s (copy d) sums counts vs k loose names h below = sum-alone path s sums k counts vs (omega (arith, names.enough, below)) h
 
-at-renumbered : (k : ℕ) (sums : List Sum) (i : ℕ) → slice_index_or (map (renumbered k) sums) i (constant 0) ≡ renumbered k (slice_index_or sums i (constant 0))
+pub at-renumbered : (k : ℕ) (sums : List Sum) (i : ℕ) → slice_index_or (map (renumbered k) sums) i (constant 0) ≡ renumbered k (slice_index_or sums i (constant 0))
 at-renumbered k [] i = refl
 at-renumbered k (e ∷ es) zero = refl
 at-renumbered k (e ∷ es) (suc i) = at-renumbered k es i
@@ -154,13 +154,13 @@ factor-alone path sums i counts vs h =
     ap (sum_value (map (renumbered (length path)) sums) i) (sym (append-nil vs)) ∙ factor-more path sums i counts vs [] h ∙ ap (sum_value sums i) (append-nil (rest_of path vs))
 
 -- the factors' places are those of the part: under any path
-pub factor-behind : (path : Path) (w : PlainWork) (sums : List Sum) (counts vs : List ℕ) (k : ℕ) → HasLanes 0 w → k < work_size w → AreInRange (loops_of (map count_of path ++ counts)) vs →
+pub factor-behind : (path : Path) (w : PlainWork) (sums : List Sum) (counts vs : List ℕ) (k : ℕ) → AreInRange (loops_of (map count_of path ++ counts)) vs →
     store_place w (map (renumbered (length path)) sums) vs k ≡ store_place w sums (rest_of path vs) k
-factor-behind path (kernel kind root t) sums counts vs k loose below h = factor-alone path sums k counts vs h
-factor-behind path (rows root d) sums counts vs k loose below h = factor-more path sums 0 counts vs (k ∷ []) h
-factor-behind path (horner root d) sums counts vs k loose below h = factor-more path sums 0 counts vs (k ∷ []) h
-factor-behind path (tile v) sums counts vs k loose below h = absurd (no-tile v k loose below)
-factor-behind path (copy d) sums counts vs k loose below h = factor-alone path sums k counts vs h
+factor-behind path (kernel kind root t) sums counts vs k h = factor-alone path sums k counts vs h
+factor-behind path (rows root d) sums counts vs k h = factor-more path sums 0 counts vs (k ∷ []) h
+factor-behind path (horner root d) sums counts vs k h = factor-more path sums 0 counts vs (k ∷ []) h
+factor-behind path (tile v) sums counts vs k h = ap (λ a. a + k % v) (factor-alone path sums (k / v) counts vs h)
+factor-behind path (copy d) sums counts vs k h = factor-alone path sums k counts vs h
 
 -- ---- nests on columns
 
@@ -168,12 +168,12 @@ abbrev pub column_nest : Path → ℕ → PlainNest → PlainNest
 column_nest path s z =
     record { counts = map count_of path ++ z.counts; work = z.work; gathers = map (column_sum path s) z.gathers; multiplier = renumbered_places (length path) z.multiplier; scatters = map (column_sum path s) z.scatters }
 
-multiplied-column : (m : ℕ) (path : Path) (s : ℕ) (z : PlainNest) (o : Option PlainMultiplier) (vs y : List ℕ) (k : ℕ) → HasLanes 0 z.work → AreInRange (loops_of (map count_of path ++ z.counts)) vs → k < work_size z.work →
+multiplied-column : (m : ℕ) (path : Path) (s : ℕ) (z : PlainNest) (o : Option PlainMultiplier) (vs y : List ℕ) (k : ℕ) → AreInRange (loops_of (map count_of path ++ z.counts)) vs → k < work_size z.work →
     slice_index (multiplied_on m (column_nest path s z) (renumbered_places (length path) o) vs y) k ≡ slice_index (multiplied_on m z o (rest_of path vs) y) k
-multiplied-column m path s z None vs y k loose h below = refl
-multiplied-column m path s z (Some d) vs y k loose h below =
+multiplied-column m path s z None vs y k h below = refl
+multiplied-column m path s z (Some d) vs y k h below =
     at-list_below (work_size z.work) _ k below
-    ∙ ap (λ p. (factor_at m d.factors p * slice_index (work_on m z.work y) k) % m) (factor-behind path z.work d.places z.counts vs k loose below h)
+    ∙ ap (λ p. (factor_at m d.factors p * slice_index (work_on m z.work y) k) % m) (factor-behind path z.work d.places z.counts vs k h)
     ∙ sym (at-list_below (work_size z.work) _ k below)
 
 stored-nests : (m n s : ℕ) (path : Path) (zs : List PlainNest) (x : List ℕ) (w : ℕ) → AreGoodNests 0 m n zs → all_stored (map (copies_of m) (map (column_nest path s) zs)) x w ≡ all_stored (map (on_column path s) (map (copies_of m) zs)) x w
@@ -182,7 +182,7 @@ stored-nests m n s path (z ∷ zs) x w h =
     ap₂ (λ a b. a + b)
     (stored-alike (map count_of path ++ z.counts) (work_size z.work) _ _ (multiplied_on m (column_nest path s z) (renumbered_places (length path) z.multiplier)) (λ vs. multiplied_on m z z.multiplier (rest_of path vs)) _ _ x w
     (λ vs j range below. load-column path s z.work z.gathers z.counts vs j h.0.tiles h.0.gathers range below)
-    (λ vs y j range below. multiplied-column m path s z z.multiplier vs y j h.0.tiles range below)
+    (λ vs y j range below. multiplied-column m path s z z.multiplier vs y j range below)
     (λ vs j range below. store-column path s z.work z.scatters z.counts vs j h.0.tiles h.0.scatters range below))
     (stored-nests m n s path zs x w h.1)
 

@@ -1,15 +1,37 @@
 -- The passes of a tensor product write each word of the larger array once, inside of it.
-use Rattle.std.proofs.Common.{ℕ, map, subst}
+use Rattle.std.proofs.Common.{ℕ, ◌*◌, List, map, subst}
 use Rattle.pass_actions.specs.Machine.{PlainMachine}
 use Rattle.passes.specs.Good.{IsGoodPass}
 use Rattle.passes.specs.Merge.{lifted}
+use Rattle.passes.specs.Nest.{PlainNest}
 use Rattle.shared_tensors.specs.Laws.{CanShare}
+use Rattle.shared_tensors.specs.Shared.{AreShared}
 use Rattle.shared_tensors.specs.Tensored.{in_columns, row_place, shared_path, side_place, tiles}
 use Rattle.shared_tensors.proofs.GoodParts.{good-pass}
 use Rattle.shared_tensors.proofs.PartPasses.{KeepsGood}
-use Rattle.shared_tensors.proofs.GoodColumns.{column_sum}
+use Rattle.shared_tensors.proofs.GoodColumns.{column-good, column_sum}
 use Rattle.passes.proofs.Sides.{up as row_up}
-use Rattle.shared_tensors.proofs.Shares.{columns-good, rows-good, shares-of, tiled-in-good, tiled-out-good}
+use Rattle.shared_tensors.proofs.EqualShares.{are_shared}
+use Rattle.shared_tensors.proofs.GoodRows.{row-good}
+use Rattle.shared_tensors.proofs.GoodTiles.{tiles-in-good, tiles-out-good}
+use Rattle.shared_tensors.proofs.PathSizes.{all-tiles, group-columns, size-columns, size-shared}
+
+-- ---- good passes, for any lanes
+
+pub rows-good : (lanes m p v r s : ℕ) (zs : List PlainNest) → AreShared p v r s → IsGoodPass 0 m s zs → IsGoodPass lanes m (r * s) (map (lifted (shared_path p v r) s 0) zs)
+rows-good lanes m p v r s zs shared good = subst (λ n. IsGoodPass lanes m n (map (lifted (shared_path p v r) s 0) zs)) (size-shared p v r s shared.rows) (row-good lanes m s (shared_path p v r) zs good)
+
+pub columns-good : (lanes m p v r s : ℕ) (zs : List PlainNest) → AreShared p v r s → IsGoodPass 0 m r zs → IsGoodPass lanes m (r * s) (map (in_columns p v s) zs)
+columns-good lanes m p v r s zs shared good = column-good lanes m r s (shared_path p v s) zs (size-columns p v s shared.columns) good
+
+-- tiles are of as many lanes as they have
+pub tiled-in-good : (m p v r s : ℕ) → AreShared p v r s → IsGoodPass v m (r * s) (tiles p v r s (row_place p v r s) (side_place p v r s))
+tiled-in-good m p v r s shared = subst (λ n. IsGoodPass v m n (tiles p v r s (row_place p v r s) (side_place p v r s))) (all-tiles p v r s shared) (tiles-in-good m p v r s (group-columns p v r s shared))
+
+pub tiled-out-good : (m p v r s : ℕ) → AreShared p v r s → IsGoodPass v m (r * s) (tiles p v r s (side_place p v r s) (row_place p v r s))
+tiled-out-good m p v r s shared = subst (λ n. IsGoodPass v m n (tiles p v r s (side_place p v r s) (row_place p v r s))) (all-tiles p v r s shared) (tiles-out-good m p v r s (group-columns p v r s shared))
+
+-- ---- all of them
 
 -- the passes write each word of the larger array once, inside of it
 pub record AreGood (h : PlainMachine) (r s : ℕ) : Type 0 where
@@ -20,7 +42,7 @@ pub record AreGood (h : PlainMachine) (r s : ℕ) : Type 0 where
 
 pub are-good : (h : PlainMachine) (r s : ℕ) → CanShare h r s → AreGood h r s
 are-good h r s can =
-    let shared = shares-of h r s can in
+    let shared = are_shared h r s can in
     record {
       rows = λ zs run none.
           subst (λ n. IsGoodPass h.lanes h.modulus n (map (lifted (shared_path h.procs h.lanes r) s 0) zs)) can.product

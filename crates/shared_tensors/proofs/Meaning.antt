@@ -15,7 +15,9 @@ use Rattle.shared_tensors.specs.Tensored.{column_passes, in_columns, in_phases, 
 use Rattle.shared_tensors.proofs.GoodColumns.{column-on}
 use Rattle.shared_tensors.proofs.GoodParts.{part-good, phase-append, phase-within, phases-joined}
 use Rattle.shared_tensors.proofs.RowMeaning.{row-part-on}
-use Rattle.shared_tensors.proofs.Shares.{AreShared, shares-of, size-columns}
+use Rattle.shared_tensors.specs.Shared.{AreShared}
+use Rattle.shared_tensors.proofs.EqualShares.{are_shared}
+use Rattle.shared_tensors.proofs.PathSizes.{size-columns}
 
 columns-on : (m p v r s : ℕ) (ps : List (List PlainNest)) (x : List ℕ) → AreShared p v r s → 0 < length ps → AreGoodPasses 0 m r ps →
     phase_on m (r * s) (column_passes p v s ps) x ≡ on_columns r s (phase_on m r ps) x
@@ -47,7 +49,7 @@ tensored_means h r s room left right x parts =
     let m = h.modulus in
     let p = h.procs in
     let v = h.lanes in
-    let shared = shares-of h r s parts.shares in
+    let shared = are_shared h r s parts.shares in
     let ls = all_passes left.phases in
     let rs = all_passes right.phases in
     ap₂ (λ a b. phases_on m (a * b) (in_phases p (tiled_in p v a b ++ (row_passes p v a b rs ++ tiled_out p v a b)) (column_passes p v b ls)) x) parts.left_part.programs.size parts.right_part.programs.size

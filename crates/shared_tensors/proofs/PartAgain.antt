@@ -12,6 +12,7 @@ use Rattle.passes.proofs.Within.{within-append}
 use Rattle.shared_tensors.specs.Laws.{AreParts, HasNoTile, IsPart, IsShallow, TensoredCanProgram, TensoredIsPart, plain_lanes}
 use Rattle.shared_tensors.specs.Tensored.{shared_path, tensored}
 use Rattle.passes.proofs.Sides.{up as row_up}
+use Rattle.shared_tensors.proofs.Counted.{columns-counted, rows-counted}
 use Rattle.shared_tensors.proofs.GoodColumns.{column_sum}
 use Rattle.shared_tensors.proofs.Limits.{wrapped}
 use Rattle.shared_tensors.proofs.PartPasses.{passes-plain, passes-registers, passes-shallow}
@@ -74,8 +75,8 @@ module _ (n m room : ℕ) (left right : PlainMerged) (few : room ≤ 56) (parts 
         shallow =
             subst (All (All (IsShallow (room + 1)))) (sym (product-whole h room left right few parts))
             (for-all (All (IsShallow (room + 1)))
-            (passes-shallow row_path (row_up row_path s 0) room (room + 1) (let one = one-count (r / 1 / 1 == 1) (r / 1 / 1) in omega (arith, one)) rights parts.right_part.shallow)
-            (passes-shallow column_path (column_sum column_path s) room (room + 1) (let one = one-count (s / 1 / 1 == 1) (s / 1 / 1) in omega (arith, one)) lefts parts.left_part.shallow));
+            (passes-shallow row_path (row_up row_path s 0) room (room + 1) (let one = one-count (r / 1 / 1 == 1) (r / 1 / 1) in omega (arith, one)) (rows-counted row_path s) rights parts.right_part.shallow)
+            (passes-shallow column_path (column_sum column_path s) room (room + 1) (let one = one-count (s / 1 / 1 == 1) (s / 1 / 1) in omega (arith, one)) (columns-counted column_path s) lefts parts.left_part.shallow));
         no_tiles =
             subst (All (All HasNoTile)) (sym (product-whole h room left right few parts))
             (for-all (All HasNoTile) (passes-plain row_path (row_up row_path s 0) rights parts.right_part.no_tiles) (passes-plain column_path (column_sum column_path s) lefts parts.left_part.no_tiles));

@@ -12,6 +12,7 @@ use Rattle.passes.specs.Nest.{PlainNest, factor_count}
 use Rattle.passes.proofs.Nests.{all-inside}
 use Rattle.perm_algebra.specs.Affine.{Sum}
 use Rattle.shared_tensors.specs.Laws.{HasNoTile, IsShallow, plain_lanes}
+use Rattle.shared_tensors.proofs.Counted.{KeepsCounts, counted-wrapped}
 use Rattle.shared_tensors.proofs.Framed.{of-places, registers-wrapped}
 use Rattle.shared_tensors.proofs.Limits.{wrapped}
 use Rattle.shared_tensors.proofs.Wraps.{Wraps}
@@ -56,11 +57,12 @@ module _ (h : PlainMachine) (path : Path) (up : Sum → Sum) (wraps : Wraps h pa
 
 -- ---- parts again
 
-module _ (path : Path) (up : Sum → Sum) (room more : ℕ) (wide : length (map count_of path) + room ≤ more) where
+module _ (path : Path) (up : Sum → Sum) (room more : ℕ) (wide : length (map count_of path) + room ≤ more) (keeps : KeepsCounts path up) where
   nest-shallow : (z : PlainNest) → IsShallow room z → IsShallow more (wrapped path up z)
   nest-shallow z shallow =
       record {
         loops = let same = length-append (map count_of path) z.counts in let short = shallow.loops in omega (arith, same, short, wide);
+        counted = counted-wrapped path up keeps z shallow.counted;
         factors = λ d is. of-places (λ e. factor_count e.factors ≤ max_size) (length path) z.multiplier d is (λ e one. shallow.factors e one);
       }
 

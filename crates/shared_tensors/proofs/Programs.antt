@@ -3,7 +3,7 @@ use Rattle.std.proofs.Common.{◌≡◌, ◌≢◌, ℕ, zero, suc, ◌+◌, ◌
 use Rattle.std.specs.Prelude.{◌==◌, if◌then◌else◌, sum_by}
 use Rattle.std.proofs.Math.Nat.{mul-le-mul}
 use Rattle.std.proofs.lemmas.Bool.Decides.{nat_tests}
-use Rattle.std.proofs.lemmas.List.{append-nil, length-map}
+use Rattle.std.proofs.lemmas.List.{length-map}
 use Rattle.std.proofs.lemmas.List.Elements.{All-nil, All-cons, All-append}
 use Rattle.std.proofs.lemmas.List.Sums.{sum_by-append, sum_by-cons}
 use Rattle.multiplied_passes.proofs.Tables.{passes-grown, phases-grown}
@@ -25,11 +25,11 @@ use Rattle.shared_tensors.proofs.GoodProducts.{AreGood, are-good}
 use Rattle.shared_tensors.proofs.Limits.{columns-keep, passes-in, rows-keep, wrapped}
 use Rattle.shared_tensors.proofs.Owners.{OwnsPlaces, Owns, columns-own, first-owns, one-owns, own-append, passes-own, rows-own, within-several}
 use Rattle.shared_tensors.proofs.PartPasses.{ArePartPasses, passes-can, passes-known}
-use Rattle.shared_tensors.proofs.ShareNumbers.{AreShares, left-shares, right-groups, right-shares, share-word, shared-several, shared-size}
+use Rattle.shared_tensors.proofs.EqualShares.{AreShares, left-shares, right-groups, right-shares, share-word, shared-several, shared-size}
 use Rattle.shared_tensors.proofs.Sharing.{columns-owner, left-lines, right-lines, rows-owner}
 use Rattle.shared_tensors.proofs.TileLimits.{side-size, tile-in-can, tile-out-can}
 use Rattle.shared_tensors.proofs.TileOwners.{tiles-own}
-use Rattle.shared_tensors.proofs.Totals.{actions-high, few-actions, few-nests, most-append, most-wrapped, nests-wrapped}
+use Rattle.shared_tensors.proofs.Totals.{actions-high, copies-path, few-actions, few-nests, most-append, most-wrapped, nests-wrapped, whole-passes}
 use Rattle.shared_tensors.proofs.Wraps.{Wraps, columns-wrap, rows-wrap}
 use Rattle.smp_rewrite.specs.Smp.{within}
 use Rattle.smp_rewrite.proofs.Tensors.{size-within}
@@ -53,13 +53,6 @@ if-several P v zs none some = by (v == 1) refl
 pub part-passes : (n m room : ℕ) (g : PlainMerged) → IsPart n m room g → ArePartPasses n m room (all_passes g.phases)
 part-passes n m room g part = record { can = part.programs.passes; shallow = part.shallow; plain = part.no_tiles }
 
-pub whole-passes : (p : ℕ) (rows columns : List (List PlainNest)) → all_passes (in_phases p rows columns) ≡ rows ++ columns
-whole-passes p rows columns = by (p == 1)
-  where
-    by : (b : Bool) → all_passes (if b then (rows ++ columns) ∷ [] else rows ∷ columns ∷ []) ≡ rows ++ columns
-    by true = append-nil (rows ++ columns)
-    by false = ap (λ xs. rows ++ xs) (append-nil columns)
-
 some-left : (xs ys : List (List PlainNest)) → 0 < length xs → 0 < length (xs ++ ys)
 some-left [] ys some = absurd (omega (arith, some))
 some-left (x ∷ xs) ys some = omega arith
@@ -67,10 +60,6 @@ some-left (x ∷ xs) ys some = omega arith
 some-right : (xs ys : List (List PlainNest)) → 0 < length ys → 0 < length (xs ++ ys)
 some-right [] ys some = some
 some-right (x ∷ xs) ys some = omega arith
-
-copies-path : (path : Path) → copies_in (map count_of path) ≡ copies_of path
-copies-path [] = refl
-copies-path (t ∷ path) = ap (λ z. count_of t * z) (copies-path path)
 
 module _ (h : PlainMachine) (room : ℕ) (left right : PlainMerged) (few : room ≤ 56) (parts : AreParts h left.size right.size room left right) where
   abbrev p : ℕ

@@ -17,7 +17,9 @@ use Rattle.shared_tensors.specs.Tensored.{row_passes, row_place, shared_path, si
 use Rattle.shared_tensors.proofs.GoodParts.{phase-append, phase-reads, phase-size, phase-within}
 use Rattle.shared_tensors.proofs.Residues.{phase-reduced, reduced, reduced-phase}
 use Rattle.shared_tensors.proofs.GoodRows.{row-on}
-use Rattle.shared_tensors.proofs.Shares.{AreShared, rows-good, size-shared}
+use Rattle.shared_tensors.specs.Shared.{AreShared}
+use Rattle.shared_tensors.proofs.GoodProducts.{rows-good}
+use Rattle.shared_tensors.proofs.PathSizes.{group-rows, size-shared}
 use Rattle.shared_tensors.proofs.TileTurns.{tiled-in-on, tiled-out-on}
 use Rattle.smp_rewrite.proofs.Tensors.{under-within, under-within_all}
 use Rattle.tensor_paths.specs.declared.Tensor.TheVariants.{Blocks, Columns}
@@ -88,7 +90,7 @@ one-lane : (m p r s : ℕ) (ps : List (List PlainNest)) (x : List ℕ) → AreSh
     phase_on m (r * s) (tiled_in p 1 r s ++ (row_passes p 1 r s ps ++ tiled_out p 1 r s)) x ≡ on_blocks r s (phase_on m s ps) x
 one-lane m p r s ps x shared some good =
     let a = phase_on m s ps in
-    let rows : p * (r / p / 1) ≡ r = omega (arith, shared.rows) in
+    let rows : p * (r / p / 1) ≡ r = omega (arith, group-rows p 1 r s shared) in
     let width : s * 1 ≡ s = omega arith in
     ap (λ qs. phase_on m (r * s) qs x) (append-nil (row_passes p 1 r s ps))
     ∙ rows-on m p 1 r s ps x shared some good
@@ -117,7 +119,7 @@ several-lanes m p v r s ps x shared some good =
     ∙ ap (nests_on m n out)
     (phase-reduced m n (row_passes p v r s ps) turned (rows-some p v r s ps some) (rows-all-good m p v r s ps shared good) ∙ rows-on m p v r s ps turned shared some good)
     ∙ tiled-out-on m p v r s _ shared
-    ∙ ap (reduced m n) (turned-rows g v s a x ∙ ap (λ k. on_blocks k s a x) shared.rows)
+    ∙ ap (reduced m n) (turned-rows g v s a x ∙ ap (λ k. on_blocks k s a x) (group-rows p v r s shared))
     ∙ reduced-blocks m r s a x (λ y. reduced-phase m s ps y some)
 
 not-one : (v : ℕ) (ps qs : List (List PlainNest)) → v ≢ 1 → (if v == 1 then ps else qs) ≡ qs

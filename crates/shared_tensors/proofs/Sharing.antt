@@ -5,7 +5,7 @@ use Rattle.std.proofs.lemmas.Nat.{div-mul-add, mod-mul-add, mul-add-lt}
 use Rattle.pass_actions.specs.Machine.{PlainMachine}
 use Rattle.pass_programs.specs.Contract.{IsOwner}
 use Rattle.shared_tensors.specs.Laws.{CanShare}
-use Rattle.shared_tensors.proofs.ShareNumbers.{AreShares, whole-of}
+use Rattle.shared_tensors.proofs.EqualShares.{AreShares, whole-part}
 
 -- ---- lines
 
@@ -39,7 +39,7 @@ share-lines : (p l v r : ℕ) → 0 < p → AreShares p v r → r % (p * l) ≡ 
 share-lines p l v r some shares none =
     let q = r / (p * l) in
     let one : r / p ≡ r / p / v * v = ap (λ z. z / p) shares.whole ∙ mul-div_cancel_left (r / p / v * v) some in
-    let other : r / p ≡ l * q = ap (λ z. z / p) (whole-of r (p * l) none ∙ turn p l q) ∙ mul-div_cancel_left (l * q) some in
+    let other : r / p ≡ l * q = ap (λ z. z / p) (sym (whole-part (p * l) r none) ∙ turn p l q) ∙ mul-div_cancel_left (l * q) some in
     sym one ∙ other
   where
     turn : (p l q : ℕ) → p * l * q ≡ p * (l * q)

@@ -21,12 +21,11 @@ use Rattle.perm_algebra.specs.Affine.{Sum, constant, IsSound}
 use Rattle.shared_tensors.specs.Laws.{CanShare}
 use Rattle.shared_tensors.specs.Tensored.{across, group_path, row_place, side_place, tiles}
 use Rattle.shared_tensors.proofs.Limits.{counts-first, roomier}
-use Rattle.shared_tensors.proofs.ShareNumbers.{AreShares, several-within, share-word}
-use Rattle.shared_tensors.proofs.Shares.{shares-of, size-tiled}
+use Rattle.shared_tensors.proofs.EqualShares.{AreShares, are_shared, several-within, share-word}
+use Rattle.shared_tensors.proofs.PathSizes.{all-tiles, size-group}
 use Rattle.shared_tensors.proofs.GoodTiles.{row-sums, side-sums}
 use Rattle.shared_tensors.proofs.Written.{frame-of, sums-written}
 use Rattle.smp_rewrite.specs.Smp.{within}
-use Rattle.smp_rewrite.proofs.Tensors.{size-within}
 use Rattle.tensor_paths.specs.declared.Tensor.TheVariants.{Blocks}
 use Rattle.tensor_paths.specs.Path.{Path, count_of, size_under}
 
@@ -122,18 +121,15 @@ module _ (h : PlainMachine) (r s : ℕ) (can : CanShare h r s) (left : AreShares
   whole-several : AreSeveral whole
   whole-several = several-append group (across v s) group-several (several-within (Blocks (s / v)) [] some_right tt)
 
-  group-size : (n : ℕ) → size_under group n ≡ p * (r / p / v * n)
-  group-size n = size-within (Blocks p) (within (Blocks (r / p / v)) []) n ∙ ap (λ z. p * z) (size-within (Blocks (r / p / v)) [] n)
-
   -- all of it
   row-size : size_under group (v * s) ≡ h.size
-  row-size = group-size (v * s) ∙ turn p (r / p / v) v s ∙ ap (λ z. z * s) (sym left.whole) ∙ can.product
+  row-size = size-group p v r (v * s) ∙ turn p (r / p / v) v s ∙ ap (λ z. z * s) (sym left.whole) ∙ can.product
     where
       turn : (p c v s : ℕ) → p * (c * (v * s)) ≡ p * (c * v) * s
       turn p c v s = omega arith
 
   pub side-size : size_under whole (v * v) ≡ h.size
-  side-size = size-tiled p v r s (shares-of h r s can) ∙ can.product
+  side-size = all-tiles p v r s (are_shared h r s can) ∙ can.product
 
   high : h.size ≤ 2 ^ 20
   high = let size = can.host.size.1 in omega (arith, size)
@@ -143,7 +139,7 @@ module _ (h : PlainMachine) (r s : ℕ) (can : CanShare h r s) (left : AreShares
 
   group-high : v * s ≤ 2 ^ 20
   group-high =
-      let sized : p * (r / p / v * (v * s)) ≡ h.size = sym (group-size (v * s)) ∙ row-size in
+      let sized : p * (r / p / v * (v * s)) ≡ h.size = sym (size-group p v r (v * s)) ∙ row-size in
       let first : 1 * (1 * (v * s)) ≤ p * (r / p / v * (v * s)) = mul-le-mul {n₁ = 1} {m₁ = 1 * (v * s)} {n₂ = p} {m₂ = r / p / v * (v * s)} can.host.procs.0 (mul-le-mul {n₁ = 1} {m₁ = v * s} {n₂ = r / p / v} {m₂ = v * s} left.some (omega arith)) in
       let bound = high in omega (arith, sized, first, bound)
 

@@ -14,7 +14,8 @@ use Rattle.passes.proofs.Natural.{at-natural}
 use Rattle.shared_tensors.specs.Tensored.{row_place, side_place, tiles}
 use Rattle.shared_tensors.proofs.BlockPaths.{blocks-under}
 use Rattle.shared_tensors.proofs.Residues.{reduced}
-use Rattle.shared_tensors.proofs.Shares.{AreShared, size-tiled}
+use Rattle.shared_tensors.specs.Shared.{AreShared}
+use Rattle.shared_tensors.proofs.PathSizes.{all-tiles, group-columns}
 use Rattle.shared_tensors.proofs.Swaps.{at-swapped, by_four, four_below, swapped}
 use Rattle.shared_tensors.proofs.GoodTiles.{copies-tiles, natural-inside, row-sums, side-sums, size-tiles, tile-blocks, tile-swaps, tile_path, tiles-on}
 use Rattle.tensor_paths.specs.Path.{Path, Reads, size_under, under}
@@ -92,14 +93,14 @@ tiled-in-on m p v r s x shared =
     let q = s / v in
     let path = tile_path p v r s in
     let size = size_under path (v * v) in
-    let whole : g * q * v * v ≡ r * s = sym (size-tiles p v r s) ∙ size-tiled p v r s shared in
-    ap (λ n. nests_on m n (tiles p v r s (row_place p v r s) (side_place p v r s)) x) (sym (size-tiled p v r s shared))
-    ∙ tiles-on m size p v r s _ _ (swapped q v v) (λ w. w) x (row-sums p v r s shared.tiles) (side-sums p v r s)
+    let whole : g * q * v * v ≡ r * s = sym (size-tiles p v r s) ∙ all-tiles p v r s shared in
+    ap (λ n. nests_on m n (tiles p v r s (row_place p v r s) (side_place p v r s)) x) (sym (all-tiles p v r s shared))
+    ∙ tiles-on m size p v r s _ _ (swapped q v v) (λ w. w) x (row-sums p v r s (group-columns p v r s shared)) (side-sums p v r s)
     ∙ sym (loads_gather m size (natural m path (tile v) ∷ []) (swapped q v v) x (natural-inside m p v r s, tt))
     ∙ tiles-natural m p v r s (gather size (swapped q v v) x)
     ∙ ap (λ n. reduced m (g * q * v * v) (on_blocks (g * q) (v * v) (turn v v) (gather n (swapped q v v) x))) (size-tiles p v r s)
     ∙ turned-in m g q v x
-    ∙ ap₂ (λ n k. reduced m n (on_blocks g (k * v) (turn k v) x)) whole shared.tiles
+    ∙ ap₂ (λ n k. reduced m n (on_blocks g (k * v) (turn k v) x)) whole (group-columns p v r s shared)
 
 -- and back
 pub tiled-out-on : (m p v r s : ℕ) (x : List ℕ) → AreShared p v r s → nests_on m (r * s) (tiles p v r s (side_place p v r s) (row_place p v r s)) x ≡ reduced m (r * s) (on_blocks (p * (r / p / v)) (v * s) (turn v s) x)
@@ -109,10 +110,10 @@ tiled-out-on m p v r s x shared =
     let path = tile_path p v r s in
     let size = size_under path (v * v) in
     let sizes : g * q * v * v ≡ g * v * q * v = omega arith in
-    let whole : g * v * q * v ≡ r * s = sym sizes ∙ sym (size-tiles p v r s) ∙ size-tiled p v r s shared in
-    ap (λ n. nests_on m n (tiles p v r s (side_place p v r s) (row_place p v r s)) x) (sym (size-tiled p v r s shared))
-    ∙ tiles-on m size p v r s _ _ (λ w. w) (swapped q v v) x (side-sums p v r s) (row-sums p v r s shared.tiles)
+    let whole : g * v * q * v ≡ r * s = sym sizes ∙ sym (size-tiles p v r s) ∙ all-tiles p v r s shared in
+    ap (λ n. nests_on m n (tiles p v r s (side_place p v r s) (row_place p v r s)) x) (sym (all-tiles p v r s shared))
+    ∙ tiles-on m size p v r s _ _ (λ w. w) (swapped q v v) x (side-sums p v r s) (row-sums p v r s (group-columns p v r s shared))
     ∙ sym (stores_scatter m size (natural m path (tile v) ∷ []) (swapped v q v) (swapped q v v) x (tile-swaps p v r s) (natural-inside m p v r s, tt))
     ∙ ap₂ (λ n y. gather n (swapped v q v) y) (size-tiles p v r s ∙ sizes) (tiles-natural m p v r s x ∙ ap (λ n. reduced m n (on_blocks (g * q) (v * v) (turn v v) x)) sizes)
     ∙ turned-out m g q v x
-    ∙ ap₂ (λ n k. reduced m n (on_blocks g (v * k) (turn v k) x)) whole shared.tiles
+    ∙ ap₂ (λ n k. reduced m n (on_blocks g (v * k) (turn v k) x)) whole (group-columns p v r s shared)

@@ -1,21 +1,35 @@
 -- How many actions and nests the passes of a tensor product have.
-use Rattle.std.proofs.Common.{◌≡◌, ℕ, zero, suc, ◌+◌, ◌*◌, ◌^◌, ◌<◌, ◌≤◌, arith, refl, sym, ap, ap₂, ◌∙◌, List, [], ◌∷◌, ◌++◌, length, map, Option, Some, None}
-use Rattle.std.specs.Prelude.{sum_by}
+use Rattle.std.proofs.Common.{◌≡◌, ℕ, zero, suc, ◌+◌, ◌*◌, ◌^◌, ◌<◌, ◌≤◌, Bool, true, false, arith, refl, sym, ap, ap₂, ◌∙◌, List, [], ◌∷◌, ◌++◌, length, map, Option, Some, None}
+use Rattle.std.specs.Prelude.{◌==◌, if◌then◌else◌, sum_by}
 use Rattle.std.proofs.Math.Nat.{mul-le-mul, mul-le-mul_left}
-use Rattle.std.proofs.lemmas.List.{length-map}
+use Rattle.std.proofs.lemmas.List.{append-nil, length-map}
 use Rattle.std.proofs.lemmas.List.Sums.{sum_by-cons}
 use Rattle.pass_actions.specs.Costs.{pass_cost, pass_loads, work_cost, work_loads}
 use Rattle.pass_actions.specs.Machine.{PlainMachine, plain_machine}
-use Rattle.pass_programs.specs.Contract.{most_actions}
+use Rattle.pass_programs.specs.Contract.{all_passes, most_actions}
 use Rattle.passes.specs.Counts.{copies_in, multiplier_cost}
 use Rattle.passes.specs.Merge.{renumbered_places}
 use Rattle.passes.specs.Nest.{PlainMultiplier, PlainNest}
 use Rattle.passes.specs.Work.{PlainWork}
 use Rattle.perm_algebra.specs.Affine.{Sum}
+use Rattle.shared_tensors.specs.Tensored.{in_phases}
 use Rattle.shared_tensors.proofs.Limits.{wrapped}
 use Rattle.tensor_paths.specs.Path.{Path, copies_of, count_of}
 
+-- ---- phases
+
+pub whole-passes : (p : ℕ) (rows columns : List (List PlainNest)) → all_passes (in_phases p rows columns) ≡ rows ++ columns
+whole-passes p rows columns = by (p == 1)
+  where
+    by : (b : Bool) → all_passes (if b then (rows ++ columns) ∷ [] else rows ∷ columns ∷ []) ≡ rows ++ columns
+    by true = append-nil (rows ++ columns)
+    by false = ap (λ xs. rows ++ xs) (append-nil columns)
+
 -- ---- nests under a path
+
+pub copies-path : (path : Path) → copies_in (map count_of path) ≡ copies_of path
+copies-path [] = refl
+copies-path (t ∷ path) = ap (λ z. count_of t * z) (copies-path path)
 
 pub copies-wrapped : (path : Path) (counts : List ℕ) → copies_in (map count_of path ++ counts) ≡ copies_of path * copies_in counts
 copies-wrapped [] counts = omega arith
@@ -25,7 +39,7 @@ factors-cost : (weight k : ℕ) (o : Option PlainMultiplier) (w : PlainWork) →
 factors-cost weight k None w = refl
 factors-cost weight k (Some d) w = refl
 
-cost-wrapped : (weight m : ℕ) (path : Path) (up : Sum → Sum) (zs : List PlainNest) → pass_cost weight m (map (wrapped path up) zs) ≡ copies_of path * pass_cost weight m zs
+pub cost-wrapped : (weight m : ℕ) (path : Path) (up : Sum → Sum) (zs : List PlainNest) → pass_cost weight m (map (wrapped path up) zs) ≡ copies_of path * pass_cost weight m zs
 cost-wrapped weight m path up [] = omega arith
 cost-wrapped weight m path up (z ∷ zs) =
     ap₂ (λ a b. a + b)
@@ -40,7 +54,7 @@ cost-wrapped weight m path up (z ∷ zs) =
     both : (a b c : ℕ) → a * b + a * c ≡ a * (b + c)
     both a b c = omega arith
 
-loads-wrapped : (path : Path) (up : Sum → Sum) (zs : List PlainNest) → pass_loads (map (wrapped path up) zs) ≡ copies_of path * pass_loads zs
+pub loads-wrapped : (path : Path) (up : Sum → Sum) (zs : List PlainNest) → pass_loads (map (wrapped path up) zs) ≡ copies_of path * pass_loads zs
 loads-wrapped path up [] = omega arith
 loads-wrapped path up (z ∷ zs) =
     ap₂ (λ a b. a * work_loads z.work + b) (copies-wrapped path z.counts) (loads-wrapped path up zs) ∙ both (copies_of path) (copies_in z.counts) (work_loads z.work) (pass_loads zs)

@@ -1,9 +1,9 @@
 -- What rows and columns make of a place: lanes side by side, and the rest as it was.
-use Rattle.std.proofs.Common.{◌≡◌, ℕ, suc, ◌+◌, ◌*◌, ◌/◌, ◌%◌, ◌^◌, ◌<◌, ◌≤◌, Bool, true, false, arith, refl, sym, ap, ap₂, ◌∙◌, List, [], ◌∷◌, ◌++◌, length, map, All}
+use Rattle.std.proofs.Common.{◌≡◌, ℕ, suc, ◌+◌, ◌*◌, ◌/◌, ◌^◌, ◌<◌, ◌≤◌, Bool, true, false, arith, refl, sym, ap, ap₂, ◌∙◌, List, [], ◌∷◌, ◌++◌, length, map, All}
 use Rattle.std.specs.Prelude.{◌==◌, if◌then◌else◌, slice_index}
 use Rattle.std.proofs.lemmas.Bool.Decides.{nat_tests}
 use Rattle.std.proofs.lemmas.List.Elements.{All-nil, All-cons}
-use Rattle.perm_algebra.specs.Affine.{Sum, constant, variable, remainder, quotient, value, IsSound, scaled, joined}
+use Rattle.perm_algebra.specs.Affine.{Sum, constant, value, IsSound, scaled, joined}
 use Rattle.perm_algebra.proofs.AffineLaws.{value-joined, value-scaled}
 use Rattle.perm_algebra.proofs.Values.{sound-joined, sound-scaled}
 use Rattle.pass_actions.specs.Machine.{PlainMachine, if_several}
@@ -12,7 +12,7 @@ use Rattle.passes.specs.Merge.{place_sum, renumbered}
 use Rattle.passes.proofs.Natural.{loop_values, sound-place_sum, value-place_sum}
 use Rattle.passes.proofs.Sides.{rest_of, rest-index, sound-renumbered, up as row_up}
 use Rattle.shared_tensors.specs.Tensored.{shared_path}
-use Rattle.shared_tensors.proofs.GoodColumns.{column_sum}
+use Rattle.shared_tensors.proofs.GoodColumns.{column_sum, rest-append, value-renumbered}
 use Rattle.smp_rewrite.specs.Smp.{within}
 use Rattle.tensor_paths.specs.declared.Tensor.TheVariants.{Blocks, Columns}
 use Rattle.tensor_paths.specs.Path.{Path, AreInRange, count_of, place, size_under}
@@ -35,12 +35,6 @@ pub record Wraps (h : PlainMachine) (path : Path) (up : Sum → Sum) : Type 0 wh
 
 -- ---- values
 
-pub value-renumbered : (k : ℕ) (e : Sum) (f : ℕ → ℕ) → value (renumbered k e) f ≡ value e (λ d. f (d + k))
-value-renumbered k (constant c) f = refl
-value-renumbered k (variable g d rest) f = ap (λ v. g * f (d + k) + v) (value-renumbered k rest f)
-value-renumbered k (remainder g of m rest) f = ap₂ (λ u v. g * (u % m) + v) (value-renumbered k of f) (value-renumbered k rest f)
-value-renumbered k (quotient g of m rest) f = ap₂ (λ u v. g * (u / m) + v) (value-renumbered k of f) (value-renumbered k rest f)
-
 pub value-row : (path : Path) (n : ℕ) (e : Sum) (f : ℕ → ℕ) → value (row_up path n 0 e) f ≡ place path n (loop_values path 0 f) (0 + value e (λ d. f (d + length path)))
 value-row path n e f =
     value-place_sum path n 0 (joined (constant 0) (renumbered (length path) e)) f
@@ -56,11 +50,6 @@ loops-same [] d f g same = refl
 loops-same (t ∷ path) d f g same =
     ap₂ (λ x xs. x ∷ xs) (ap f (omega arith) ∙ same 0 ∙ ap g (omega arith))
     (loops-same path (d + 1) f g (λ i. ap f (omega arith) ∙ same (suc i) ∙ ap g (omega arith)))
-
-pub rest-append : (path : Path) (counts vs more : List ℕ) → AreInRange (loops_of (map count_of path ++ counts)) vs → rest_of path (vs ++ more) ≡ rest_of path vs ++ more
-rest-append [] counts vs more h = refl
-rest-append (t ∷ path) counts [] more h = absurd h
-rest-append (t ∷ path) counts (v ∷ vs) more h = rest-append path counts vs more h.1
 
 -- the values of the path's loops are the first ones
 pub loops-first : (path : Path) (d : ℕ) (counts vs more other : List ℕ) (f g : ℕ → ℕ) → AreInRange (loops_of (map count_of path ++ counts)) vs → ((i : ℕ) → f (d + i) ≡ slice_index (vs ++ more) i) → ((i : ℕ) → g (d + i) ≡ slice_index (vs ++ other) i) →

@@ -1,4 +1,5 @@
--- Passes of two parts as those of their tensor product `(A tensor I_s) (I_r tensor B)`, shared by p processors and v lanes: B's on each row, and then A's on each column.
+-- Passes of two parts as those of their tensor product `(A tensor I_s) (I_r tensor B)`,
+-- shared by p processors and v lanes: B's on each row, and then A's on each column.
 use Rattle.std.specs.Prelude.{ℕ, ◌*◌, ◌/◌, ◌==◌, if◌then◌else◌, List, [], ◌∷◌, ◌++◌, map, length, None}
 use Rattle.std.specs.List.{range_with_len}
 use Rattle.pass_programs.specs.Contract.{all_passes}
@@ -13,7 +14,8 @@ use Rattle.tensor_paths.specs.Path.{Path, count_of}
 
 -- ---- rows
 
--- Round each row: of r copies every processor has r / p, one behind the other, and v of them lie side by side on the lanes
+-- Round each row: of r copies every processor has r / p, one behind the other,
+-- and v of them lie side by side on the lanes
 abbrev pub shared_path : ℕ → ℕ → ℕ → Path
 shared_path p v r = within (Blocks p) (within (Columns v) (within (Blocks (r / p / v)) []))
 
@@ -32,7 +34,9 @@ across v s = within (Blocks (s / v)) []
 
 -- where the row k of a tile begins: in rows one behind the other, and in rows side by side
 abbrev pub row_place : ℕ → ℕ → ℕ → ℕ → ℕ → Sum
-row_place p v r s k = place_sum (group_path p v r) (v * s) 0 (place_sum (across v s) v (length (group_path p v r)) (constant (k * s)))
+row_place p v r s k =
+    place_sum (group_path p v r) (v * s) 0
+    (place_sum (across v s) v (length (group_path p v r)) (constant (k * s)))
 
 abbrev pub side_place : ℕ → ℕ → ℕ → ℕ → ℕ → Sum
 side_place p v r s k = place_sum (group_path p v r ++ across v s) (v * v) 0 (constant (k * v))
@@ -50,26 +54,36 @@ tiles p v r s from to =
 
 -- one lane has no tiles
 abbrev pub tiled_in : ℕ → ℕ → ℕ → ℕ → List (List PlainNest)
-tiled_in p v r s = if v == 1 then [] else tiles p v r s (row_place p v r s) (side_place p v r s) ∷ []
+tiled_in p v r s =
+    if v == 1 then [] else tiles p v r s (row_place p v r s) (side_place p v r s) ∷ []
 
 abbrev pub tiled_out : ℕ → ℕ → ℕ → ℕ → List (List PlainNest)
-tiled_out p v r s = if v == 1 then [] else tiles p v r s (side_place p v r s) (row_place p v r s) ∷ []
+tiled_out p v r s =
+    if v == 1 then [] else tiles p v r s (side_place p v r s) (row_place p v r s) ∷ []
 
 -- ---- columns
 
--- a nest of A on s columns: every processor has s / p that lie side by side, and the lanes have v side by side
+-- a nest of A on s columns: every processor has s / p that lie side by side,
+-- and the lanes have v side by side
 abbrev pub in_columns : ℕ → ℕ → ℕ → PlainNest → PlainNest
 in_columns p v s z =
     let path = shared_path p v s in
-    let up : Sum → Sum = λ e. joined (scaled s (renumbered (length path) e)) (place_sum path 1 0 (constant 0)) in
-    record { counts = map count_of path ++ z.counts; work = z.work; gathers = map up z.gathers; multiplier = renumbered_places (length path) z.multiplier; scatters = map up z.scatters }
+    let up : Sum → Sum =
+    λ e. joined (scaled s (renumbered (length path) e)) (place_sum path 1 0 (constant 0)) in
+    record {
+      counts = map count_of path ++ z.counts;
+      work = z.work;
+      gathers = map up z.gathers;
+      multiplier = renumbered_places (length path) z.multiplier;
+      scatters = map up z.scatters;
+    }
 
 abbrev pub column_passes : ℕ → ℕ → ℕ → List (List PlainNest) → List (List PlainNest)
 column_passes p v s ps = map (map (in_columns p v s)) ps
 
 -- ---- both
 
--- in phases: one processor has one, several wait for one another between rows and columns
+-- in phases: one processor has one, several wait between rows and columns
 abbrev pub in_phases : ℕ → List (List PlainNest) → List (List PlainNest) → List (List (List PlainNest))
 in_phases p rows columns = if p == 1 then (rows ++ columns) ∷ [] else rows ∷ columns ∷ []
 
@@ -80,6 +94,8 @@ tensored p v left right =
       procs = p;
       lanes = v;
       phases = in_phases p
-          (tiled_in p v left.size right.size ++ (row_passes p v left.size right.size (all_passes right.phases) ++ tiled_out p v left.size right.size))
+          (tiled_in p v left.size right.size
+          ++ (row_passes p v left.size right.size (all_passes right.phases)
+          ++ tiled_out p v left.size right.size))
           (column_passes p v right.size (all_passes left.phases));
     }

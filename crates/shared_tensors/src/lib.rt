@@ -21,8 +21,8 @@ use memory::NoMemory;
 use passes::Merged;
 use std::alloc::Global;
 
-/// The passes of the tensor product of two parts, for so many processors and lanes: those of `right` on each row, and then
-/// those of `left` on each column.
+/// The passes of the tensor product of two parts, for so many processors and lanes: those of
+/// `right` on each row, and then those of `left` on each column.
 pub fn tensor_product(
     alloc: Global,
     procs: u64,
@@ -46,20 +46,20 @@ pub fn tensor_product(
     })
 }
 
-/// The passes of a tensor product do what `right` does to each row, and then `left` to each column: a law of the
-/// definitions.
+/// The passes of a tensor product do what `right` does to each row, and then `left` to each column:
+/// a law of the definitions.
 pub fn tensored_means()
     ensures { TensoredMeans }
 {}
 
-/// Pass by pass they count what the second part does for each row, between tiles, and the first for each column: a law of the
-/// definitions.
+/// Pass by pass they count what the second part does for each row, between tiles, and the first for
+/// each column: a law of the definitions.
 pub fn tensored_counts()
     ensures { TensoredCounts }
 {}
 
-/// A program can be made of the passes of a tensor product, and for one processor and one lane they are a part again: laws
-/// of the definitions.
+/// A program can be made of the passes of a tensor product, and for one processor and one lane they
+/// are a part again: laws of the definitions.
 pub fn tensored_can_program()
     ensures program { TensoredCanProgram }
     ensures part { TensoredIsPart }

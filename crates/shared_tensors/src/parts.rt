@@ -1,10 +1,13 @@
 // Nests of either part of a tensor product, in the whole.
-ghost use Rattle.std.specs.Prelude.{◌≡◌, ◌++◌, IfOk, All, map};
+ghost use Rattle.std.specs.Prelude.{◌≡◌, ◌++◌, ◌-◌, ◌^◌, IfOk, All, length, map};
 ghost use Rattle.std.specs.Option.{option_map};
 ghost use Rattle.passes.specs.Merge.{renumbered, renumbered_places};
 ghost use Rattle.passes.specs.Views.{plain_multiplier, plain_nest};
+ghost use Rattle.perm_algebra.specs.Room.{HasCounts};
 ghost use Rattle.perm_algebra.specs.Views.{plain_sum};
-ghost use Rattle.shared_tensors.specs.Moved.{CanMove, CanMoveNest, moved, moved_sum, plain_passes};
+ghost use Rattle.shared_tensors.specs.Laws.{HavePlacesCounts};
+ghost use Rattle.multiplied_passes.specs.Views.{plain_passes};
+ghost use Rattle.shared_tensors.specs.Moved.{CanMove, CanMoveNest, moved, moved_sum};
 ghost use Rattle.tensor_paths.specs.Path.{count_of};
 
 use crate::sums::{extend, placed, renumbered, scale};
@@ -99,7 +102,8 @@ fn all_moved(
     path: &[Tensor],
     sums: &[Affine],
 ) -> Result<Vec<Affine>, NoMemory>
-    requires { All (λ e. CanMove part path.now (plain_sum e)) sums.now }
+    requires fits { All (λ e. CanMove part path.now (plain_sum e)) sums.now }
+    requires counted { All (λ e. HasCounts (2 ^ 64 - length path.now) (plain_sum e)) sums.now }
     ensures { IfOk result (λ es.
         map plain_sum es.items ≡ map (moved_sum part path.now) (map plain_sum sums.now)) }
 {
@@ -112,7 +116,8 @@ fn all_moved(
 }
 
 fn moved_sum(alloc: Global, part: Part, path: &[Tensor], sum: &Affine) -> Result<Affine, NoMemory>
-    requires { CanMove part path.now (plain_sum sum.now) }
+    requires fits { CanMove part path.now (plain_sum sum.now) }
+    requires counted { HasCounts (2 ^ 64 - length path.now) (plain_sum sum.now) }
     ensures { IfOk result (λ place.
         plain_sum place ≡ moved_sum part path.now (plain_sum sum.now)) }
 {
@@ -138,6 +143,7 @@ fn renumbered_multiplier(
     by: u64,
     multiplier: Option<Multiplier>,
 ) -> Result<Option<Multiplier>, NoMemory>
+    requires { HavePlacesCounts (2 ^ 64 - by) (option_map plain_multiplier multiplier) }
     ensures { IfOk result (λ other. option_map plain_multiplier other
         ≡ renumbered_places by (option_map plain_multiplier multiplier)) }
 {
@@ -152,6 +158,7 @@ fn renumbered_multiplier(
 }
 
 fn all_renumbered(alloc: Global, by: u64, sums: &[Affine]) -> Result<Vec<Affine>, NoMemory>
+    requires { All (λ e. HasCounts (2 ^ 64 - by) (plain_sum e)) sums.now }
     ensures { IfOk result (λ es.
         map plain_sum es.items ≡ map (renumbered by) (map plain_sum sums.now)) }
 {

@@ -1,7 +1,7 @@
 // Passes of phases, and phases of passes.
 ghost use Rattle.std.specs.Prelude.{◌≡◌, IfOk};
 ghost use Rattle.pass_programs.specs.Contract.{all_passes};
-ghost use Rattle.shared_tensors.specs.Moved.{plain_passes, plain_phases};
+ghost use Rattle.multiplied_passes.specs.Views.{plain_passes, plain_phases};
 ghost use Rattle.shared_tensors.specs.Tensored.{in_phases};
 
 use memory::NoMemory;

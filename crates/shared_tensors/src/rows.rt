@@ -2,7 +2,8 @@
 ghost use Rattle.std.specs.Prelude.{◌≡◌, ◌++◌, IfOk};
 ghost use Rattle.pass_programs.specs.Contract.{all_passes};
 ghost use Rattle.passes.specs.Views.{plain_merged};
-ghost use Rattle.shared_tensors.specs.Moved.{AreLow, plain_passes};
+ghost use Rattle.multiplied_passes.specs.Views.{plain_passes};
+ghost use Rattle.shared_tensors.specs.Moved.{AreLow};
 ghost use Rattle.shared_tensors.specs.Shared.{AreShared};
 ghost use Rattle.shared_tensors.specs.Tensored.{row_passes, tiled_in, tiled_out};
 

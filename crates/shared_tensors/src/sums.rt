@@ -1,8 +1,8 @@
 // Places as sums of the variables of loops.
-ghost use Rattle.std.specs.Prelude.{◌≡◌, ◌+◌, ◌^◌, ◌<◌, ◌≤◌, IfOk, length};
+ghost use Rattle.std.specs.Prelude.{◌≡◌, ◌+◌, ◌-◌, ◌^◌, ◌<◌, ◌≤◌, IfOk, length};
 ghost use Rattle.passes.specs.Merge.{place_sum, renumbered};
 ghost use Rattle.perm_algebra.specs.Affine.{constant, joined, peak, scaled};
-ghost use Rattle.perm_algebra.specs.Room.{CanJoin, CanScale, constant_of};
+ghost use Rattle.perm_algebra.specs.Room.{CanJoin, CanScale, HasCounts, constant_of};
 ghost use Rattle.perm_algebra.specs.Views.{plain_sum};
 ghost use Rattle.tensor_paths.specs.Path.{size_under};
 
@@ -58,16 +58,16 @@ fn whole_size(path: &[Tensor], size: u64) -> u64
     }
 }
 
-/// The sum with higher numbers for its variables. No memory holds the values of so many that a number leaves its word.
+/// The sum with higher numbers for its variables.
 pub(crate) fn renumbered(alloc: Global, by: u64, sum: &Affine) -> Result<Affine, NoMemory>
+    requires { HasCounts (2 ^ 64 - by) (plain_sum sum.now) }
     ensures { IfOk result (λ higher. plain_sum higher ≡ renumbered by (plain_sum sum.now)) }
 {
     match sum {
         Affine::Constant(c) => Ok(Affine::Constant(*c)),
         Affine::Variable(factor, variable, rest) => {
-            let variable = higher(*variable, by)?;
             let rest = Box::new(alloc, renumbered(alloc, by, rest)?)?;
-            Ok(Affine::Variable(*factor, variable, rest))
+            Ok(Affine::Variable(*factor, *variable + by, rest))
         }
         Affine::Remainder(factor, of, divisor, rest) => {
             let of = Box::new(alloc, renumbered(alloc, by, of)?)?;
@@ -79,15 +79,6 @@ pub(crate) fn renumbered(alloc: Global, by: u64, sum: &Affine) -> Result<Affine,
             let rest = Box::new(alloc, renumbered(alloc, by, rest)?)?;
             Ok(Affine::Quotient(*factor, of, *divisor, rest))
         }
-    }
-}
-
-fn higher(variable: u64, by: u64) -> Result<u64, NoMemory>
-    ensures { IfOk result (λ number. number ≡ variable + by) }
-{
-    match variable.checked_add(by) {
-        Some(number) => Ok(number),
-        None => Err(NoMemory),
     }
 }
 

@@ -1,5 +1,5 @@
 -- The passes of a tree count what the cost model does.
-use Rattle.std.proofs.Common.{◌≡◌, ℕ, zero, suc, ◌+◌, refl, sym, ap, ap₂, ◌∙◌, arith, subst, List, [], ◌∷◌, length}
+use Rattle.std.proofs.Common.{◌≡◌, ℕ, zero, suc, refl, ap₂, arith, subst, List, [], ◌∷◌, length}
 use Rattle.std.specs.Prelude.{map}
 use Rattle.matrix_meaning.specs.declared.Request.{Request}
 use Rattle.pass_actions.specs.Costs.{pass_cost, pass_loads}

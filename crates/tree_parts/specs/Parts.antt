@@ -23,16 +23,24 @@ pub record IsForPart (c : Request) : Type 0 where
 
 -- a place in the passes of its trees has at most 41 parts
 abbrev pub TreesAreParts : Type 0
-TreesAreParts = (c : Request) (t : Breakdown) (room : ℕ) → IsForPart c → IsAdmissible c t → 41 ≤ room → room ≤ 64 → IsPart c.size c.modulus room (tree_merged c t)
+TreesAreParts =
+    (c : Request) (t : Breakdown) (room : ℕ) → IsForPart c → IsAdmissible c t → 41 ≤ room → room ≤ 64 →
+    IsPart c.size c.modulus room (tree_merged c t)
 
 -- and they do the transform to every list, whatever its numbers
 abbrev pub TreesTransform : Type 0
-TreesTransform = (c : Request) (t : Breakdown) (x : List ℕ) → IsForPart c → IsAdmissible c t → merged_on c.modulus (tree_merged c t) x ≡ transform c.kind c.modulus c.size c.root x
+TreesTransform =
+    (c : Request) (t : Breakdown) (x : List ℕ) → IsForPart c → IsAdmissible c t →
+    merged_on c.modulus (tree_merged c t) x ≡ transform c.kind c.modulus c.size c.root x
 
 -- pass by pass they count what the cost model does
 pub record CountsPasses (c : Request) (t : Breakdown) : Type 0 where
-  pub costs : map (pass_cost c.weight c.modulus) (all_passes (tree_merged c t).phases) ≡ map (trees.pass_cost c c.size) (passes_of c 1 t)
-  pub loads : map pass_loads (all_passes (tree_merged c t).phases) ≡ map (trees.pass_loads c c.size) (passes_of c 1 t)
+  pub costs :
+      map (pass_cost c.weight c.modulus) (all_passes (tree_merged c t).phases)
+      ≡ map (trees.pass_cost c c.size) (passes_of c 1 t)
+  pub loads :
+      map pass_loads (all_passes (tree_merged c t).phases)
+      ≡ map (trees.pass_loads c c.size) (passes_of c 1 t)
 
 abbrev pub PassesCount : Type 0
 PassesCount = (c : Request) (t : Breakdown) → IsForPart c → IsAdmissible c t → CountsPasses c t

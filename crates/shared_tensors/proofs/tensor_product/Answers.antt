@@ -1,5 +1,5 @@
 use Rattle.passes.specs.Views.{plain_merged}
-use Rattle.shared_tensors.proofs.CodeParts.{left-low, right-low, tensor-shared}
+use Rattle.shared_tensors.proofs.MovedParts.{left-low, right-low, tensor-shared}
 use Rattle.shared_tensors.proofs.tensor_product.Goals as goal
 
 pub passes_of_rows-requires-clause-shared : goal.passes_of_rows-requires-clause-shared

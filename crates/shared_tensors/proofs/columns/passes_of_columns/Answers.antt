@@ -1,10 +1,10 @@
 use Rattle.std.proofs.Common.{◌∙◌}
 use Rattle.passes.specs.Views.{plain_merged}
 use Rattle.pass_programs.specs.Contract.{all_passes}
-use Rattle.shared_tensors.specs.Moved.{plain_passes}
+use Rattle.multiplied_passes.specs.Views.{plain_passes}
 use Rattle.shared_tensors.specs.Tensored.{shared_path}
 use Rattle.shared_tensors.specs.declared.parts.Part.TheVariants.{Columns}
-use Rattle.shared_tensors.proofs.CodeParts.{columns-movable, moved-by}
+use Rattle.shared_tensors.proofs.MovedParts.{columns-movable, moved-by}
 use Rattle.shared_tensors.proofs.columns.passes_of_columns.Goals as goal
 
 pub moved_passes-requires : goal.moved_passes-requires

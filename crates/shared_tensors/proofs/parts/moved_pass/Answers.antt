@@ -1,6 +1,6 @@
 use Rattle.passes.specs.Views.{plain_nest}
 use Rattle.shared_tensors.specs.Moved.{CanMoveNest, moved}
-use Rattle.shared_tensors.proofs.CodeMoves.{first-holds, left-hold, moved-more}
+use Rattle.shared_tensors.proofs.MovedPlaces.{first-holds, left-hold, moved-more}
 use Rattle.shared_tensors.proofs.parts.moved_pass.Goals as goal
 
 pub moved_nest-requires : goal.moved_nest-requires

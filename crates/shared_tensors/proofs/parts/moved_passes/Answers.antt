@@ -2,8 +2,9 @@ use Rattle.std.proofs.Common.{◌≡◌, All, Global, Vec, ap, subst, sym}
 use Rattle.std.specs.Prelude.{map}
 use Rattle.passes.specs.Views.{plain_nest}
 use Rattle.passes.specs.declared.nest.Nest.{Nest}
-use Rattle.shared_tensors.specs.Moved.{CanMoveNest, moved, plain_passes}
-use Rattle.shared_tensors.proofs.CodeMoves.{first-holds, left-hold, moved-more}
+use Rattle.multiplied_passes.specs.Views.{plain_passes}
+use Rattle.shared_tensors.specs.Moved.{CanMoveNest, moved}
+use Rattle.shared_tensors.proofs.MovedPlaces.{first-holds, left-hold, moved-more}
 use Rattle.shared_tensors.proofs.parts.moved_passes.Goals as goal
 
 pub moved_pass-requires : goal.moved_pass-requires

@@ -1,6 +1,7 @@
 use Rattle.std.specs.Prelude.{◌≡◌, All, map}
 use Rattle.passes.specs.Views.{plain_nest}
-use Rattle.shared_tensors.specs.Moved.{CanMoveNest, moved, plain_passes}
+use Rattle.multiplied_passes.specs.Views.{plain_passes}
+use Rattle.shared_tensors.specs.Moved.{CanMoveNest, moved}
 use Rattle.shared_tensors.proofs.parts.moved_passes.Given as goal
 
 abbrev pub invariant-loop-pass : goal.invariant-loop-pass

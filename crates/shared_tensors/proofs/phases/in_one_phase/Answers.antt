@@ -1,4 +1,4 @@
-use Rattle.shared_tensors.proofs.CodePhases.{phase-more}
+use Rattle.shared_tensors.proofs.FlatPhases.{phase-more}
 use Rattle.shared_tensors.proofs.phases.in_one_phase.Goals as goal
 
 pub loop-phase-preserved : goal.loop-phase-preserved

@@ -1,6 +1,6 @@
 use Rattle.std.specs.Prelude.{◌≡◌}
 use Rattle.pass_programs.specs.Contract.{all_passes}
-use Rattle.shared_tensors.specs.Moved.{plain_passes, plain_phases}
+use Rattle.multiplied_passes.specs.Views.{plain_passes, plain_phases}
 use Rattle.shared_tensors.proofs.phases.in_one_phase.Given as goal
 
 abbrev pub invariant-loop-phase : goal.invariant-loop-phase

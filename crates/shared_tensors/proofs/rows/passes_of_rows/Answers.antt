@@ -1,10 +1,10 @@
 use Rattle.std.proofs.Common.{ap, ◌++◌, ◌∙◌}
 use Rattle.passes.specs.Views.{plain_merged}
 use Rattle.pass_programs.specs.Contract.{all_passes}
-use Rattle.shared_tensors.specs.Moved.{plain_passes}
+use Rattle.multiplied_passes.specs.Views.{plain_passes}
 use Rattle.shared_tensors.specs.Tensored.{shared_path, tiled_in, tiled_out}
 use Rattle.shared_tensors.specs.declared.parts.Part.TheVariants.{Rows}
-use Rattle.shared_tensors.proofs.CodeParts.{moved-by, rows-movable}
+use Rattle.shared_tensors.proofs.MovedParts.{moved-by, rows-movable}
 use Rattle.shared_tensors.proofs.rows.passes_of_rows.Goals as goal
 
 pub moved_passes-requires : goal.moved_passes-requires

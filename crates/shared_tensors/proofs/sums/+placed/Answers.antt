@@ -1,7 +1,7 @@
 use Rattle.std.proofs.Common.{ap, ap₂, ◌∙◌}
 use Rattle.perm_algebra.specs.Affine.{Sum, variable}
 use Rattle.perm_algebra.specs.Views.{plain_sum}
-use Rattle.shared_tensors.proofs.CodePlaces.{blocks-placed, can-extend, can-scale}
+use Rattle.shared_tensors.proofs.PlaceWords.{blocks-placed, can-extend, can-scale}
 use Rattle.shared_tensors.proofs.sums.+placed.Goals as goal
 
 pub scale-requires : goal.scale-requires

@@ -1,6 +1,6 @@
 use Rattle.std.proofs.Common.{sym, ap, ap₂, ◌*◌, ◌∙◌}
 use Rattle.tensor_paths.specs.Path.{size_under}
-use Rattle.shared_tensors.proofs.CodePlaces.{whole-is}
+use Rattle.shared_tensors.proofs.PlaceWords.{whole-is}
 use Rattle.shared_tensors.proofs.sums.+whole_size.Goals as goal
 
 pub returns-in-Some : goal.returns-in-Some

@@ -1,6 +1,6 @@
 use Rattle.std.proofs.Common.{◌∙◌}
 use Rattle.perm_algebra.specs.Views.{plain_sum}
-use Rattle.shared_tensors.proofs.CodeTiles.{few-rows, row-begins, some-rows}
+use Rattle.shared_tensors.proofs.PathSizes.{few-rows, row-begins, some-rows}
 use Rattle.shared_tensors.proofs.tiles.row_place.Goals as goal
 
 pub placed-requires-2-clause-small : goal.placed-requires-2-clause-small

@@ -1,5 +1,5 @@
 use Rattle.std.proofs.Common.{◌∙◌}
-use Rattle.shared_tensors.proofs.CodeTiles.{few-tiles, some-tiles}
+use Rattle.shared_tensors.proofs.PathSizes.{few-tiles, some-tiles}
 use Rattle.shared_tensors.proofs.tiles.side_place.Goals as goal
 
 pub placed-requires-clause-some : goal.placed-requires-clause-some

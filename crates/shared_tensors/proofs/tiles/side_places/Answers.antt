@@ -1,6 +1,6 @@
 use Rattle.perm_algebra.specs.Views.{plain_sum}
 use Rattle.shared_tensors.specs.Tensored.{side_place}
-use Rattle.shared_tensors.proofs.CodeTiles.{places-more}
+use Rattle.shared_tensors.proofs.PathSizes.{places-more}
 use Rattle.shared_tensors.proofs.tiles.side_places.Goals as goal
 
 pub loop-row-preserved : goal.loop-row-preserved

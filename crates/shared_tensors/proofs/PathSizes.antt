@@ -1,51 +1,48 @@
 -- The sizes of paths round rows, columns and tiles.
-use Rattle.std.proofs.Common.{◌≡◌, ℕ, suc, ◌+◌, ◌*◌, ◌/◌, ◌^◌, ◌<◌, ◌≤◌, arith, refl, sym, ap, ap₂, ◌∙◌, List, [], ◌∷◌, ◌++◌, inl, inr}
+use Rattle.std.proofs.Common.{◌≡◌, ℕ, suc, ◌+◌, ◌*◌, ◌/◌, ◌^◌, ◌<◌, ◌≤◌, arith, sym, ap, ap₂, ◌∙◌, List, [], ◌∷◌, ◌++◌}
 use Rattle.std.specs.Prelude.{map}
 use Rattle.std.specs.List.{range_with_len}
 use Rattle.std.proofs.Math.Nat.{mul-le-mul, mul-le-mul_right}
-use Rattle.std.proofs.lemmas.Bool.{cases_eq}
-use Rattle.std.proofs.lemmas.Bool.Decides.{nat_tests}
 use Rattle.std.proofs.lemmas.List.{map-append}
 use Rattle.std.proofs.lemmas.List.FromFn.{map-range_with_len_more}
 use Rattle.passes.specs.Merge.{place_sum}
 use Rattle.perm_algebra.specs.Affine.{Sum, constant, joined, peak}
 use Rattle.smp_rewrite.specs.Smp.{within}
-use Rattle.tensor_paths.specs.declared.Tensor.{Tensor}
+use Rattle.smp_rewrite.proofs.Tensors.{size-within}
 use Rattle.tensor_paths.specs.declared.Tensor.TheVariants.{Blocks, Columns}
-use Rattle.tensor_paths.specs.Path.{Path, count_of, size_under}
+use Rattle.tensor_paths.specs.Path.{Path, size_under}
 use Rattle.shared_tensors.specs.Shared.{AreShared}
 use Rattle.shared_tensors.specs.Tensored.{across, group_path, shared_path}
-use Rattle.shared_tensors.proofs.CodePlaces.{peak-more, peak-place, whole-is}
-
-size-within : (t : Tensor) (path : Path) (n : ℕ) → size_under (within t path) n ≡ count_of t * size_under path n
-size-within t path n =
-    elim (cases_eq (count_of t) 1) [
-      | inl one ↦
-          let is : within t path ≡ path = grind (arith, nat_tests) in
-          let same : count_of t * size_under path n ≡ size_under path n = ap (λ c. c * size_under path n) one ∙ omega arith in ap (λ p. size_under p n) is ∙ sym same
-      | inr several ↦ let is : within t path ≡ t ∷ path = grind (arith, nat_tests) in ap (λ p. size_under p n) is ∙ sym (whole-is t path n)
-    ]
-
-size-both : (first second : Path) (n : ℕ) → size_under (first ++ second) n ≡ size_under first (size_under second n)
-size-both [] second n = refl
-size-both (Blocks c ∷ first) second n = ap (λ k. c * k) (size-both first second n)
-size-both (Columns c ∷ first) second n = ap (λ k. k * c) (size-both first second n)
+use Rattle.shared_tensors.proofs.BlockPaths.{size-append}
+use Rattle.shared_tensors.proofs.PlaceWords.{peak-more, peak-place}
 
 pub size-shared : (p v r n : ℕ) → p * (v * (r / p / v)) ≡ r → size_under (shared_path p v r) n ≡ r * n
 size-shared p v r n whole =
     let k = r / p / v in
     size-within (Blocks p) (within (Columns v) (within (Blocks k) [])) n
-    ∙ ap (λ a. p * a) (size-within (Columns v) (within (Blocks k) []) n ∙ ap (λ a. v * a) (size-within (Blocks k) [] n))
+    ∙ ap (λ a. p * a) (size-within (Columns v) (within (Blocks k) []) n ∙ ap (λ a. a * v) (size-within (Blocks k) [] n))
     ∙ apart p v k n
     ∙ ap (λ a. a * n) whole
   where
-    apart : (p v k n : ℕ) → p * (v * (k * n)) ≡ p * (v * k) * n
+    apart : (p v k n : ℕ) → p * (k * n * v) ≡ p * (v * k) * n
     apart p v k n = omega arith
 
-size-group : (p v r n : ℕ) → size_under (group_path p v r) n ≡ p * (r / p / v * n)
+pub size-columns : (p v s : ℕ) → p * (v * (s / p / v)) ≡ s → size_under (shared_path p v s) 1 ≡ s
+size-columns p v s whole = size-shared p v s 1 whole ∙ omega arith
+
+pub size-group : (p v r n : ℕ) → size_under (group_path p v r) n ≡ p * (r / p / v * n)
 size-group p v r n = size-within (Blocks p) (within (Blocks (r / p / v)) []) n ∙ ap (λ a. p * a) (size-within (Blocks (r / p / v)) [] n)
 
 module _ (p v r s : ℕ) (h : AreShared p v r s) where
+  pub group-rows : p * (r / p / v) * v ≡ r
+  group-rows = turned p (r / p / v) v ∙ h.rows
+    where
+      turned : (p k v : ℕ) → p * k * v ≡ p * (v * k)
+      turned p k v = omega arith
+
+  pub group-columns : s / v * v ≡ s
+  group-columns = let turned : s / v * v ≡ v * (s / v) = omega arith in turned ∙ h.groups
+
   pub all-rows : size_under (group_path p v r) (v * s) ≡ r * s
   all-rows = size-group p v r (v * s) ∙ apart p (r / p / v) v s ∙ ap (λ a. a * s) h.rows
     where
@@ -53,11 +50,11 @@ module _ (p v r s : ℕ) (h : AreShared p v r s) where
       apart p k v s = omega arith
 
   pub one-row : size_under (across v s) v ≡ s
-  one-row = size-within (Blocks (s / v)) [] v ∙ let turned : s / v * v ≡ v * (s / v) = omega arith in turned ∙ h.groups
+  one-row = size-within (Blocks (s / v)) [] v ∙ group-columns
 
   pub all-tiles : size_under (group_path p v r ++ across v s) (v * v) ≡ r * s
   all-tiles =
-      size-both (group_path p v r) (across v s) (v * v)
+      size-append (group_path p v r) (across v s) (v * v)
       ∙ size-group p v r (size_under (across v s) (v * v))
       ∙ ap (λ a. p * (r / p / v * a)) (size-within (Blocks (s / v)) [] (v * v))
       ∙ apart p (r / p / v) (s / v) v

@@ -11,7 +11,7 @@ use Rattle.shared_tensors.specs.Moved.{CanMove, moved_sum}
 use Rattle.shared_tensors.specs.declared.parts.Part.{Part}
 use Rattle.shared_tensors.specs.declared.parts.Part.TheVariants.{Rows, Columns}
 use Rattle.tensor_paths.specs.Path.{Path}
-use Rattle.shared_tensors.proofs.CodePlaces.{constant-le-peak, constant-scaled, joined-zero, peak-place, peak-renumbered}
+use Rattle.shared_tensors.proofs.PlaceWords.{constant-le-peak, constant-scaled, joined-zero, peak-place, peak-renumbered}
 
 -- ---- one by one
 

@@ -1,13 +1,11 @@
--- Phases as one, pass by pass, and parts whose places stay words.
+-- Phases as one, pass by pass.
 use Rattle.std.proofs.Common.{◌≡◌, List, [], ◌∷◌, ◌++◌, map, sym, ap, ◌∙◌, append_assoc, append-nil, Vec, Global}
 use Rattle.std.proofs.lemmas.List.{map-append}
 use Rattle.pass_programs.specs.Contract.{all_passes}
 use Rattle.passes.specs.Nest.{PlainNest}
 use Rattle.passes.specs.Views.{plain_nest}
 use Rattle.passes.specs.declared.nest.Nest.{Nest}
-use Rattle.shared_tensors.specs.Moved.{plain_passes, plain_phases}
-
--- ---- phases
+use Rattle.multiplied_passes.specs.Views.{plain_passes, plain_phases}
 
 abbrev Pass : Type 0
 Pass = Vec Nest Global

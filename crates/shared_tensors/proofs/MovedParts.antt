@@ -1,5 +1,5 @@
 -- What the code asks of the parts of a tensor product.
-use Rattle.std.proofs.Common.{◌≡◌, ℕ, ◌*◌, ◌<◌, ◌≤◌, true, List, [], ◌∷◌, map, arith, sym, ap, ap₂, ◌∙◌, subst, Vec, Global}
+use Rattle.std.proofs.Common.{◌≡◌, ℕ, ◌+◌, ◌-◌, ◌*◌, ◌^◌, ◌<◌, ◌≤◌, true, List, [], ◌∷◌, length, map, arith, sym, ap, ap₂, ◌∙◌, subst, Vec, Global}
 use Rattle.std.specs.Prelude.{All, nat_le, nat_lt, ◌&&◌}
 use Rattle.std.specs.List.{list_all}
 use Rattle.std.proofs.Math.Nat.{mul-le-mul_left}
@@ -15,15 +15,17 @@ use Rattle.passes.specs.declared.nest.Nest.{Nest}
 use Rattle.passes.proofs.Walk.{and-left, and-right}
 use Rattle.pass_programs.specs.Contract.{all_passes}
 use Rattle.tensor_paths.specs.Path.{Path, size_under}
-use Rattle.shared_tensors.specs.Laws.{CanTensor}
-use Rattle.shared_tensors.specs.Moved.{AreLow, CanMove, CanMoveNest, IsLow, moved, plain_passes}
+use Rattle.shared_tensors.specs.Laws.{AreCounted, CanTensor, IsShallow}
+use Rattle.multiplied_passes.specs.Views.{plain_passes}
+use Rattle.shared_tensors.specs.Moved.{AreLow, CanMove, CanMoveNest, IsLow, moved}
 use Rattle.shared_tensors.specs.Shared.{AreShared}
 use Rattle.shared_tensors.specs.Tensored.{shared_path}
 use Rattle.shared_tensors.specs.declared.parts.Part.{Part}
 use Rattle.shared_tensors.specs.declared.parts.Part.TheVariants.{Rows, Columns}
-use Rattle.shared_tensors.proofs.CodeMoves.{all-viewed}
-use Rattle.shared_tensors.proofs.CodeShares.{are_shared}
-use Rattle.shared_tensors.proofs.CodeTiles.{size-shared}
+use Rattle.shared_tensors.proofs.MovedPlaces.{all-viewed}
+use Rattle.shared_tensors.proofs.EqualShares.{are_shared}
+use Rattle.shared_tensors.proofs.PathSizes.{size-shared}
+use Rattle.shared_tensors.proofs.Counted.{counted-more, shared-long}
 
 -- ---- lists
 
@@ -47,20 +49,24 @@ all-low room n cs [] h = All-nil (λ e. peak e ≤ n)
 all-low room n cs (e ∷ es) h =
     All-cons (λ e. peak e ≤ n) e es (limited-low room n cs e (and-left (is_limited room n cs e) _ h)) (all-low room n cs es (and-right (is_limited room n cs e) _ h))
 
-nests-low : (room n : ℕ) (zs : List PlainNest) → is_within room n zs ≡ true → All (IsLow n) zs
-nests-low room n [] h = All-nil (IsLow n)
-nests-low room n (z ∷ zs) h =
+nests-low : (room n : ℕ) (zs : List PlainNest) → room ≤ 56 → is_within room n zs ≡ true → All (IsShallow room) zs → All (IsLow n) zs
+nests-low room n [] few h shallow = All-nil (IsLow n)
+nests-low room n (z ∷ zs) few h shallow =
+    let deep = All-head (IsShallow room) z zs shallow in
+    let loops = deep.loops in
     let loads = list_all (is_limited room n (limits_of z)) z.gathers in
     let both = loads && list_all (is_limited room n (limits_of z)) z.scatters in
     let here = both && is_multiplier_within room (limits_of z) z.multiplier in
     let places = and-left both _ (and-left here _ h) in
     All-cons (IsLow n) z zs
-    (record { gathers = all-low room n (limits_of z) z.gathers (and-left loads _ places); scatters = all-low room n (limits_of z) z.scatters (and-right loads _ places) })
-    (nests-low room n zs (and-right here _ h))
+    (record { gathers = all-low room n (limits_of z) z.gathers (and-left loads _ places); scatters = all-low room n (limits_of z) z.scatters (and-right loads _ places); counted = counted-more (length z.counts + 2) 64 z (omega (arith, loops, few)) deep.counted })
+    (nests-low room n zs few (and-right here _ h) (All-tail (IsShallow room) z zs shallow))
 
-passes-low : (room n : ℕ) (ps : List (List PlainNest)) → AreWithin room n ps → AreLow n ps
-passes-low room n [] h = All-nil (All (IsLow n))
-passes-low room n (zs ∷ ps) h = All-cons (All (IsLow n)) zs ps (nests-low room n zs h.0) (passes-low room n ps h.1)
+passes-low : (room n : ℕ) (ps : List (List PlainNest)) → room ≤ 56 → AreWithin room n ps → All (All (IsShallow room)) ps → AreLow n ps
+passes-low room n [] few h shallow = All-nil (All (IsLow n))
+passes-low room n (zs ∷ ps) few h shallow =
+    All-cons (All (IsLow n)) zs ps (nests-low room n zs few h.0 (All-head (All (IsShallow room)) zs ps shallow))
+    (passes-low room n ps few h.1 (All-tail (All (IsShallow room)) zs ps shallow))
 
 -- ---- the parts of a tensor product
 
@@ -71,10 +77,10 @@ module _ (p v : ℕ) (left right : PlainMerged) (can : CanTensor p v left right)
       (subst (λ w. AreShared can.machine.procs w left.size right.size) can.lanes_are (are_shared can.machine left.size right.size can.parts.shares))
 
   pub left-low : AreLow left.size (all_passes left.phases)
-  left-low = passes-low can.room left.size (all_passes left.phases) can.parts.left_part.within
+  left-low = passes-low can.room left.size (all_passes left.phases) can.few can.parts.left_part.within can.parts.left_part.shallow
 
   pub right-low : AreLow right.size (all_passes right.phases)
-  right-low = passes-low can.room right.size (all_passes right.phases) can.parts.right_part.within
+  right-low = passes-low can.room right.size (all_passes right.phases) can.few can.parts.right_part.within can.parts.right_part.shallow
 
 -- ---- moves
 
@@ -94,12 +100,17 @@ module _ (p v r s : ℕ) (h : AreShared p v r s) where
       let turned : s * r ≡ r * s = omega arith in
       let some : s * 1 ≤ s * r = mul-le-mul_left s h.some_rows in (omega (arith, more, turned, h.few), omega (arith, whole, h.some_columns), omega (arith, whole, some, turned, h.few))
 
+  in-words : (path : Path) (count : ℕ) (z : PlainNest) → path ≡ shared_path p v count → AreCounted 64 z → AreCounted (2 ^ 64 - length path) z
+  in-words path count z is counted =
+      let long = ap length is in
+      let short = shared-long p v count in counted-more 64 (2 ^ 64 - length path) z (omega (arith, long, short)) counted
+
   row-nest : (path : Path) (z : PlainNest) → path ≡ shared_path p v r → IsLow s z → CanMoveNest (Rows s) path z
-  row-nest path z is low = record { gathers = all-imply _ _ _ z.gathers (λ e. in-rows path e is) low.gathers; scatters = all-imply _ _ _ z.scatters (λ e. in-rows path e is) low.scatters }
+  row-nest path z is low = record { counted = in-words path r z is low.counted; gathers = all-imply _ _ _ z.gathers (λ e. in-rows path e is) low.gathers; scatters = all-imply _ _ _ z.scatters (λ e. in-rows path e is) low.scatters }
 
   column-nest : (path : Path) (z : PlainNest) → path ≡ shared_path p v s → IsLow r z → CanMoveNest (Columns s) path z
   column-nest path z is low =
-      record { gathers = all-imply _ _ _ z.gathers (λ e. in-columns path e is) low.gathers; scatters = all-imply _ _ _ z.scatters (λ e. in-columns path e is) low.scatters }
+      record { counted = in-words path s z is low.counted; gathers = all-imply _ _ _ z.gathers (λ e. in-columns path e is) low.gathers; scatters = all-imply _ _ _ z.scatters (λ e. in-columns path e is) low.scatters }
 
   -- each of the code's nests
   module _ (n : ℕ) (part : Part) (path : Path) (each : (z : PlainNest) → IsLow n z → CanMoveNest part path z) where
