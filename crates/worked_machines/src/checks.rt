@@ -55,7 +55,7 @@ fn row_answer(alloc: Global, question: &str) -> Result<String, Fail> {
 
 #[test]
 fn verdicts(rt: HostRuntime) -> Result<(), Fail> {
-    check(&rt, rt.alloc(), ROWS, row_answer)
+    check(rt.alloc(), ROWS, row_answer)
 }
 
 // The statements inside the loops, and the answer. No loop round nothing is walked.
@@ -72,5 +72,5 @@ fn loops_answer(alloc: Global, statements: &str) -> Result<String, Fail> {
 
 #[test]
 fn loops_in_loops(rt: HostRuntime) -> Result<(), Fail> {
-    check(&rt, rt.alloc(), LOOPS, loops_answer)
+    check(rt.alloc(), LOOPS, loops_answer)
 }

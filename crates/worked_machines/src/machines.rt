@@ -118,7 +118,7 @@ fn run_answer(alloc: Global, question: &str) -> Result<String, Fail> {
 
 #[test]
 fn results_of_schedules(rt: HostRuntime) -> Result<(), Fail> {
-    check(&rt, rt.alloc(), RUNS, run_answer)
+    check(rt.alloc(), RUNS, run_answer)
 }
 
 // 65,536 turns of one processor, named.
@@ -207,7 +207,7 @@ fn turns_answer(alloc: Global, question: &str) -> Result<String, Fail> {
 
 #[test]
 fn answers_of_turns(rt: HostRuntime) -> Result<(), Fail> {
-    check(&rt, rt.alloc(), TURNS, turns_answer)
+    check(rt.alloc(), TURNS, turns_answer)
 }
 
 // The program's words of memory, and its actions by number.

@@ -95,7 +95,7 @@ fn mix_answer(alloc: Global, question: &str) -> Result<String, Fail> {
 
 #[test]
 fn turns_and_drains(rt: HostRuntime) -> Result<(), Fail> {
-    check(&rt, rt.alloc(), MIXES, mix_answer)
+    check(rt.alloc(), MIXES, mix_answer)
 }
 
 // The same of programs that share a line: what is left depends on the events, also where only the drains differ, and where
@@ -117,7 +117,7 @@ fn shared_answer(alloc: Global, question: &str) -> Result<String, Fail> {
 
 #[test]
 fn turns_and_drains_of_shared_lines(rt: HostRuntime) -> Result<(), Fail> {
-    check(&rt, rt.alloc(), SHARED, shared_answer)
+    check(rt.alloc(), SHARED, shared_answer)
 }
 
 fn mix_of(alloc: Global, rounds: u64) -> Result<String, Fail> {

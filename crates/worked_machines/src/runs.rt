@@ -60,7 +60,7 @@ fn traced_answer(alloc: Global, question: &str) -> Result<String, Fail> {
 
 #[test]
 fn lines_of_turns(rt: HostRuntime) -> Result<(), Fail> {
-    check(&rt, rt.alloc(), LINES, traced_answer)
+    check(rt.alloc(), LINES, traced_answer)
 }
 
 #[test]

@@ -198,5 +198,5 @@ fn answer(alloc: Global, line: &str) -> Result<String, Fail> {
 
 #[test]
 fn plans_and_refusals(rt: HostRuntime) -> Result<(), Fail> {
-    check(&rt, rt.alloc(), PRODUCTS, answer)
+    check(rt.alloc(), PRODUCTS, answer)
 }

@@ -38,5 +38,5 @@ fn shares(alloc: Global, line: &str) -> Result<String, Fail> {
 
 #[test]
 fn shares_of_the_least_cost(rt: HostRuntime) -> Result<(), Fail> {
-    check(&rt, rt.alloc(), SHARES, shares)
+    check(rt.alloc(), SHARES, shares)
 }

@@ -241,7 +241,7 @@ fn lost(alloc: Global, text: &str) -> Result<String, Fail> {
 
 #[test]
 fn lost_lines(rt: HostRuntime) -> Result<(), Fail> {
-    check(&rt, rt.alloc(), TEXTS, lost)
+    check(rt.alloc(), TEXTS, lost)
 }
 
 // A line inside two loops, the text's line 18, and the line where the text is lost.
@@ -276,7 +276,7 @@ fn lost_inside_loops(alloc: Global, line: &str) -> Result<String, Fail> {
 
 #[test]
 fn lines_inside_loops(rt: HostRuntime) -> Result<(), Fail> {
-    check(&rt, rt.alloc(), LINES, lost_inside_loops)
+    check(rt.alloc(), LINES, lost_inside_loops)
 }
 
 // A text with so many loops, one inside the other, from line 16 on.
@@ -308,7 +308,7 @@ fn lost_loop(alloc: Global, count: &str) -> Result<String, Fail> {
 
 #[test]
 fn limits_of_loops(rt: HostRuntime) -> Result<(), Fail> {
-    check(&rt, rt.alloc(), LOOPS, lost_loop)
+    check(rt.alloc(), LOOPS, lost_loop)
 }
 
 fn lost_place(alloc: Global, counts: &str) -> Result<String, Fail> {
@@ -321,7 +321,7 @@ fn lost_place(alloc: Global, counts: &str) -> Result<String, Fail> {
 #[test]
 fn limits_of_places(rt: HostRuntime) -> Result<(), Fail> {
     let rows = DEPTHS.replace(rt.alloc(), "LOST", "18")?;
-    check(&rt, rt.alloc(), &rows, lost_place)
+    check(rt.alloc(), &rows, lost_place)
 }
 
 // A line, and its numbers without its place and arrays: depth and count of a loop, or registers and factors.
@@ -397,7 +397,7 @@ fn line_answer(alloc: Global, line: &str) -> Result<String, Fail> {
 
 #[test]
 fn reads_lines(rt: HostRuntime) -> Result<(), Fail> {
-    check(&rt, rt.alloc(), READ_LINES, line_answer)
+    check(rt.alloc(), READ_LINES, line_answer)
 }
 
 // A line, and the table's number, length and last entry.
@@ -425,7 +425,7 @@ fn table_answer(alloc: Global, line: &str) -> Result<String, Fail> {
 
 #[test]
 fn reads_tables(rt: HostRuntime) -> Result<(), Fail> {
-    check(&rt, rt.alloc(), TABLES, table_answer)
+    check(rt.alloc(), TABLES, table_answer)
 }
 
 // A first line, and what it says.
@@ -444,5 +444,5 @@ fn header_answer(alloc: Global, line: &str) -> Result<String, Fail> {
 
 #[test]
 fn reads_headers(rt: HostRuntime) -> Result<(), Fail> {
-    check(&rt, rt.alloc(), HEADERS, header_answer)
+    check(rt.alloc(), HEADERS, header_answer)
 }

@@ -49,7 +49,7 @@ fn certificate_answer(alloc: Global, question: &str) -> Result<String, Fail> {
 
 #[test]
 fn certificates(rt: HostRuntime) -> Result<(), Fail> {
-    check(&rt, rt.alloc(), CERTIFICATES, certificate_answer)
+    check(rt.alloc(), CERTIFICATES, certificate_answer)
 }
 
 // Rows of a certificate of `dft 4 mod 17 root 4`, what stands between their list and the version, the version, and what is
@@ -133,7 +133,7 @@ fn four_answer(alloc: Global, question: &str) -> Result<String, Fail> {
 
 #[test]
 fn rows_of_four(rt: HostRuntime) -> Result<(), Fail> {
-    check(&rt, rt.alloc(), FOUR, four_answer)
+    check(rt.alloc(), FOUR, four_answer)
 }
 
 fn text_answer(alloc: Global, question: &str) -> Result<String, Fail> {
@@ -144,5 +144,5 @@ fn text_answer(alloc: Global, question: &str) -> Result<String, Fail> {
 
 #[test]
 fn verdicts(rt: HostRuntime) -> Result<(), Fail> {
-    check(&rt, rt.alloc(), TEXTS, text_answer)
+    check(rt.alloc(), TEXTS, text_answer)
 }

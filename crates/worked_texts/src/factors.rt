@@ -123,10 +123,10 @@ fn for_lanes(alloc: Global, request: &str) -> Result<String, Fail> {
 
 #[test]
 fn factors_for_processors(rt: HostRuntime) -> Result<(), Fail> {
-    check(&rt, rt.alloc(), BLOCKS, for_processors)
+    check(rt.alloc(), BLOCKS, for_processors)
 }
 
 #[test]
 fn factors_for_lanes(rt: HostRuntime) -> Result<(), Fail> {
-    check(&rt, rt.alloc(), LANES, for_lanes)
+    check(rt.alloc(), LANES, for_lanes)
 }

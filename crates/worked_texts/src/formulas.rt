@@ -55,7 +55,7 @@ fn fault_answer(alloc: Global, text: &str) -> Result<String, Fail> {
 
 #[test]
 fn kinds_and_faults(rt: HostRuntime) -> Result<(), Fail> {
-    check(&rt, rt.alloc(), FAULTS, fault_answer)
+    check(rt.alloc(), FAULTS, fault_answer)
 }
 
 // RIGHT(1,RIGHT(1,.. I(1)..)).
@@ -83,7 +83,7 @@ fn depth_answer(alloc: Global, depth: &str) -> Result<String, Fail> {
 
 #[test]
 fn depth(rt: HostRuntime) -> Result<(), Fail> {
-    check(&rt, rt.alloc(), DEPTHS, depth_answer)
+    check(rt.alloc(), DEPTHS, depth_answer)
 }
 
 // Formulas that are printed as they were read.

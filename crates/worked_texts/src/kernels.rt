@@ -68,5 +68,5 @@ fn answer(alloc: Global, question: &str) -> Result<String, Fail> {
 
 #[test]
 fn kernels(rt: HostRuntime) -> Result<(), Fail> {
-    check(&rt, rt.alloc(), ROWS, answer)
+    check(rt.alloc(), ROWS, answer)
 }

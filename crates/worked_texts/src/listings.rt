@@ -135,7 +135,7 @@ fn lost(alloc: Global, text: &str) -> Result<String, Fail> {
 
 #[test]
 fn lost_lines(rt: HostRuntime) -> Result<(), Fail> {
-    check(&rt, rt.alloc(), TEXTS, lost)
+    check(rt.alloc(), TEXTS, lost)
 }
 
 // Lines inside two loops, from the text's fifth line on, and the line where the text is lost.
@@ -187,7 +187,7 @@ fn lost_inside_loops(alloc: Global, line: &str) -> Result<String, Fail> {
 
 #[test]
 fn lines_of_a_phase(rt: HostRuntime) -> Result<(), Fail> {
-    check(&rt, rt.alloc(), LINES, lost_inside_loops)
+    check(rt.alloc(), LINES, lost_inside_loops)
 }
 
 // A program with so many loops, one inside the other.
@@ -247,7 +247,7 @@ fn lost_place(alloc: Global, counts: &str) -> Result<String, Fail> {
 #[test]
 fn limits_of_places(rt: HostRuntime) -> Result<(), Fail> {
     let rows = DEPTHS.replace(rt.alloc(), "LOST", "5")?;
-    check(&rt, rt.alloc(), &rows, lost_place)
+    check(rt.alloc(), &rows, lost_place)
 }
 
 // The number of loops, and the line where the text is lost.
@@ -263,5 +263,5 @@ fn lost_loop(alloc: Global, count: &str) -> Result<String, Fail> {
 
 #[test]
 fn limits_of_loops(rt: HostRuntime) -> Result<(), Fail> {
-    check(&rt, rt.alloc(), LOOPS, lost_loop)
+    check(rt.alloc(), LOOPS, lost_loop)
 }

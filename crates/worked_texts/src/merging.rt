@@ -81,5 +81,5 @@ fn answer(alloc: Global, question: &str) -> Result<String, Fail> {
 
 #[test]
 fn places_of_passes(rt: HostRuntime) -> Result<(), Fail> {
-    check(&rt, rt.alloc(), ROWS, answer)
+    check(rt.alloc(), ROWS, answer)
 }

@@ -80,7 +80,7 @@ fn answer(alloc: Global, line: &str) -> Result<String, Fail> {
 
 #[test]
 fn plans(rt: HostRuntime) -> Result<(), Fail> {
-    check(&rt, rt.alloc(), PLANS, answer)
+    check(rt.alloc(), PLANS, answer)
 }
 
 /// The node with these parts.

@@ -145,7 +145,7 @@ fn answer(alloc: Global, question: &str) -> Result<String, Fail> {
 
 #[test]
 fn products(rt: HostRuntime) -> Result<(), Fail> {
-    check(&rt, rt.alloc(), ROWS, answer)
+    check(rt.alloc(), ROWS, answer)
 }
 
 // An inverse, a tree and a vector, and its product: rows of above, turned round. The last has a root with no inverse
@@ -172,5 +172,5 @@ fn inverse_answer(alloc: Global, question: &str) -> Result<String, Fail> {
 
 #[test]
 fn inverses(rt: HostRuntime) -> Result<(), Fail> {
-    check(&rt, rt.alloc(), INVERSES, inverse_answer)
+    check(rt.alloc(), INVERSES, inverse_answer)
 }

@@ -102,7 +102,7 @@ fn line_answer(alloc: Global, line: &str) -> Result<String, Fail> {
 
 #[test]
 fn lines(rt: HostRuntime) -> Result<(), Fail> {
-    check(&rt, rt.alloc(), LINES, line_answer)
+    check(rt.alloc(), LINES, line_answer)
 }
 
 // The line of a convolution, and what it asks for or what is wrong with it, by the matcher of fronts in
@@ -165,7 +165,7 @@ fn convolution_answer(alloc: Global, line: &str) -> Result<String, Fail> {
 
 #[test]
 fn convolutions(rt: HostRuntime) -> Result<(), Fail> {
-    check(&rt, rt.alloc(), CONVOLUTIONS, convolution_answer)
+    check(rt.alloc(), CONVOLUTIONS, convolution_answer)
 }
 
 // A word, a number of processors and some places; and the number of turns, those at the places, and the first turn of a
@@ -219,7 +219,7 @@ fn schedule_answer(alloc: Global, question: &str) -> Result<String, Fail> {
 
 #[test]
 fn schedules(rt: HostRuntime) -> Result<(), Fail> {
-    check(&rt, rt.alloc(), SCHEDULES, schedule_answer)
+    check(rt.alloc(), SCHEDULES, schedule_answer)
 }
 
 // A word and a number of processors; and the turns and drains, and the first processor that is not there. The places of
@@ -271,5 +271,5 @@ fn mix_answer(alloc: Global, question: &str) -> Result<String, Fail> {
 
 #[test]
 fn mixes(rt: HostRuntime) -> Result<(), Fail> {
-    check(&rt, rt.alloc(), MIXES, mix_answer)
+    check(rt.alloc(), MIXES, mix_answer)
 }

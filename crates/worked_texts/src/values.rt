@@ -80,7 +80,7 @@ fn answer(alloc: Global, question: &str) -> Result<String, Fail> {
 
 #[test]
 fn values(rt: HostRuntime) -> Result<(), Fail> {
-    check(&rt, rt.alloc(), VALUES, answer)
+    check(rt.alloc(), VALUES, answer)
 }
 
 // By hand, from the formulas of the permutations.

@@ -185,5 +185,5 @@ fn answer(alloc: Global, line: &str) -> Result<String, Fail> {
 
 #[test]
 fn command_lines(rt: HostRuntime) -> Result<(), Fail> {
-    check(&rt, rt.alloc(), ROWS, answer)
+    check(rt.alloc(), ROWS, answer)
 }
