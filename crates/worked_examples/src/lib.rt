@@ -8,8 +8,6 @@ mod call;
 #[cfg(test)]
 mod convolutions;
 #[cfg(test)]
-mod dimensions;
-#[cfg(test)]
 mod formulas;
 #[cfg(test)]
 mod inverses;
@@ -19,6 +17,8 @@ mod listings;
 mod rows;
 #[cfg(test)]
 mod samples;
+#[cfg(test)]
+mod several;
 #[cfg(test)]
 mod strangers;
 #[cfg(test)]
