@@ -1,7 +1,7 @@
 use Rattle.std.proofs.Common.{◌≡◌, None, nat_le, subst, sym}
 use Rattle.std.specs.List.{find}
 use Rattle.request_text.specs.Turns.{named}
-use Rattle.worked_examples.proofs.machines.run.Goals as goal
+use Rattle.worked_machines.proofs.machines.run.Goals as goal
 
 pub run_list-requires : goal.run_list-requires
 run_list-requires c = record {
