@@ -19,6 +19,11 @@ vectors() {
     printf "%d%s", int(rand() * 2147483648) * (1 + v), (k + 1 < size ? " " : "\n") }'
 }
 
+# size_of REQUEST: how many words a vector has; several sizes are joined by x
+size_of() {
+  echo "$(($(echo "$1" | cut -d' ' -f2 | tr x '*')))"
+}
+
 # extremes SIZE MODULUS: the greatest residue, 0, both by turns, and both at random
 extremes() {
   awk -v size="$1" -v most="$(($2 - 1))" 'BEGIN { srand(7); for (v = 0; v < 4; v++) for (k = 0; k < size; k++) {
@@ -59,7 +64,7 @@ fast_text() {
 while read -r request; do
   [ -n "$request" ] || continue
   last=$request
-  vectors "$(echo "$request" | cut -d' ' -f2)" 5 >"$work/data"
+  vectors "$(size_of "$request")" 5 >"$work/data"
   prepared "$request"
   echo "$request" | "$program" c >"$work/text.c"
   compared "$request" gcc -O2
@@ -75,7 +80,7 @@ compared "$last" gcc -O1 -g -fsanitize=address,undefined
 
 while read -r request; do
   [ -n "$request" ] || continue
-  size=$(echo "$request" | cut -d' ' -f2)
+  size=$(size_of "$request")
   modulus=$(echo "$request" | cut -d' ' -f4)
   { extremes "$size" "$modulus" && vectors "$size" 2; } >"$work/data"
   prepared "$request"
