@@ -16,8 +16,11 @@ ghost use Rattle.tree_model.specs.Breakdown.{breakdown_of};
 use dimension_plans::SeveralRequest;
 use dimensions::{Dimension, Dimensions};
 use generate::merge_tree;
+use kernel_passes::merge_kernel;
+use matrix_meaning::Kind;
 use memory::NoMemory;
 use passes::Merged;
+use rooted_trees::{RootedTree, RootedTrees};
 use shared_tensors::tensor_product;
 use std::alloc::Global;
 use tree_model::{Ctx, Tree};
@@ -32,6 +35,10 @@ pub fn merge_several(
     ensures { IfOk result (λ merged.
         plain_merged merged ≡ several_merged request.now (map breakdown_of trees.now)) }
 {
+    if request.procs == 1 && request.lanes == 1 {
+        let merged = merge_plain(alloc, request, &request.dimensions, trees)?;
+        return Ok(merged);
+    }
     let Some((tree, later)) = trees.split_first() else {
         unreachable!()
     };
@@ -62,11 +69,37 @@ fn merge_plain(
     };
     match dimensions.parts() {
         (first, None) => Ok(merge_part(alloc, request, &first, tree)?),
+        _ if dimensions.size() <= request.unroll => {
+            let merged = merge_kernel(alloc, rooted(alloc, dimensions, trees)?)?;
+            Ok(merged)
+        }
         (first, Some(others)) => {
             let columns = merge_part(alloc, request, &first, tree)?;
             let rows = merge_plain(alloc, request, &others, later)?;
             let merged = tensor_product(alloc, 1, 1, columns, rows)?;
             Ok(merged)
+        }
+    }
+}
+
+// The trees with the roots of these dimensions.
+fn rooted(
+    alloc: Global,
+    dimensions: &Dimensions,
+    trees: &[Tree],
+) -> Result<RootedTrees, NoMemory>
+{
+    let Some((tree, later)) = trees.split_first() else {
+        unreachable!()
+    };
+    let (Dimension { root, .. }, others) = dimensions.parts();
+    let tree = tree.copied(alloc)?;
+    let first = RootedTree { kind: Kind::Dft, root, tree };
+    match others {
+        None => Ok(RootedTrees::Single(first)),
+        Some(others) => {
+            let others = Box::new(alloc, rooted(alloc, &others, later)?)?;
+            Ok(RootedTrees::Tensor(first, others))
         }
     }
 }

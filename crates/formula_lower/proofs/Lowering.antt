@@ -69,11 +69,11 @@ half_power n two (zero, is) = absurd (omega (arith, is))
 half_power n two (suc k, is) = (k, half-of k n is)
 
 pub hadamard_more : (path : Path) (n : ℕ) → 2 ≤ n → IsPowerOfTwo n →
-    hadamard_term path (halvings n n) ≡ product (hadamard_term (path ++ Blocks 2 ∷ []) (halvings (n / 2) (n / 2))) (nest (one_more path (Columns (n / 2))) (kernel Wht 0 (leaf 2)))
+    hadamard_term path (halvings n n) ≡ product (hadamard_term (path ++ Blocks 2 ∷ []) (halvings (n / 2) (n / 2))) (nest (one_more path (Columns (n / 2))) (kernel (single Wht 0 (leaf 2))))
 hadamard_more path n two (zero, is) = absurd (omega (arith, is))
 hadamard_more path n two (suc k, is) =
     let half : n / 2 ≡ 2 ^ k = half-of k n is in
     let inner : halvings (n / 2) (n / 2) ≡ k = halvings-of k (n / 2) half in
     ap (hadamard_term path) (halvings-of (suc k) n is)
-    ∙ ap (λ h. product (hadamard_term (path ++ Blocks 2 ∷ []) k) (nest (one_more path (Columns h)) (kernel Wht 0 (leaf 2)))) (sym half)
-    ∙ ap (λ j. product (hadamard_term (path ++ Blocks 2 ∷ []) j) (nest (one_more path (Columns (n / 2))) (kernel Wht 0 (leaf 2)))) (sym inner)
+    ∙ ap (λ h. product (hadamard_term (path ++ Blocks 2 ∷ []) k) (nest (one_more path (Columns h)) (kernel (single Wht 0 (leaf 2))))) (sym half)
+    ∙ ap (λ j. product (hadamard_term (path ++ Blocks 2 ∷ []) j) (nest (one_more path (Columns (n / 2))) (kernel (single Wht 0 (leaf 2))))) (sym inner)

@@ -82,9 +82,9 @@ hadamard-lowers m path (suc k) positive =
       good = subst (λ z. IsGoodTerm 0 z (hadamard_term (path ++ Blocks 2 ∷ []) k)) e inner.good;
       on = λ x v. ap (λ z. term_on m z (hadamard_term (path ++ Blocks 2 ∷ []) k) x) (sym e) ∙ inner.on x (subst (λ z. IsVector m z x) (sym e) v) ∙ under-push path (Blocks 2) n (transform Wht m n 0) x;
     } in
-    let last : Lowers m (size_under path (2 * n)) (nest (one_more path (Columns n)) (kernel Wht 0 (leaf 2))) (under path (2 * n) (on_columns 2 n (transform Wht m 2 0))) =
-    more-lowers m path (Columns n) 2 (nest (one_more path (Columns n)) (kernel Wht 0 (leaf 2))) (transform Wht m 2 0) (λ y w. transform-vector m 2 0 Wht y positive)
-    (nest-lowers m (one_more path (Columns n)) (kernel Wht 0 (leaf 2)) tt (transform-work Wht m 2 0)) in
+    let last : Lowers m (size_under path (2 * n)) (nest (one_more path (Columns n)) (kernel (single Wht 0 (leaf 2)))) (under path (2 * n) (on_columns 2 n (transform Wht m 2 0))) =
+    more-lowers m path (Columns n) 2 (nest (one_more path (Columns n)) (kernel (single Wht 0 (leaf 2)))) (transform Wht m 2 0) (λ y w. transform-vector m 2 0 Wht y positive)
+    (nest-lowers m (one_more path (Columns n)) (kernel (single Wht 0 (leaf 2))) tt (transform-work Wht m 2 0)) in
     let both_parts = product-lowers m path (2 * n) _ _ (on_columns 2 n (transform Wht m 2 0)) (on_blocks 2 n (transform Wht m n 0)) (λ y w. blocks-vector m 2 n (transform Wht m n 0) y (λ z u. transform-vector m n 0 Wht z positive) w) last first in
     subst (λ z. Lowers m (size_under path z) (hadamard_term path (suc k)) (under path z (transform Wht m z 0))) (sym twice)
     (lowers-as m path (2 * n) (hadamard_term path (suc k)) _ (transform Wht m (2 * n) 0) (λ y w. sym (split m 2 n 0 y positive (k, refl))) both_parts) where
@@ -145,8 +145,8 @@ fourier-lowers m path n w =
           let is : fourier_term path n w ≡ nest path (horner w n) = grind (arith, nat_tests) in
           subst (λ t. Lowers m (size_under path n) t (under path n (transform Dft m n w))) (sym is) (nest-lowers m path (horner w n) tt (transform-work Dft m n w))
       | inr short ↦
-          let is : fourier_term path n w ≡ nest path (kernel Dft w (leaf n)) = grind (arith, nat_tests) in
-          subst (λ t. Lowers m (size_under path n) t (under path n (transform Dft m n w))) (sym is) (nest-lowers m path (kernel Dft w (leaf n)) tt (transform-work Dft m n w))
+          let is : fourier_term path n w ≡ nest path (kernel (single Dft w (leaf n))) = grind (arith, nat_tests) in
+          subst (λ t. Lowers m (size_under path n) t (under path n (transform Dft m n w))) (sym is) (nest-lowers m path (kernel (single Dft w (leaf n))) tt (transform-work Dft m n w))
     ]
 
 -- a diagonal's values count modulo m

@@ -86,7 +86,7 @@ long-loose : (kind : Kind) (root : ℕ) (t : Breakdown) → not (is_tile (long_w
 long-loose Dft root t = refl
 long-loose Wht root t = refl
 
-pick-loose : (kind : Kind) (root : ℕ) (t : Breakdown) (b : Bool) → not (is_tile (if b then kernel kind root t else long_work kind root t)) ≡ true
+pick-loose : (kind : Kind) (root : ℕ) (t : Breakdown) (b : Bool) → not (is_tile (if b then kernel (single kind root t) else long_work kind root t)) ≡ true
 pick-loose kind root t true = refl
 pick-loose kind root t false = long-loose kind root t
 

@@ -46,7 +46,7 @@ long-work : (m : ℕ) (kind : Kind) (root : ℕ) (t : Breakdown) → IsNodeWork 
 long-work m Dft root t = record { nested = λ lanes path. tt; size = refl; on = λ x. refl }
 long-work m Wht root t = record { nested = λ lanes path. tt; size = refl; on = λ x. refl }
 
-pub pick-work : (m : ℕ) (kind : Kind) (root : ℕ) (t : Breakdown) (b : Bool) → IsNodeWork m kind (size_of t) root (if b then kernel kind root t else long_work kind root t)
+pub pick-work : (m : ℕ) (kind : Kind) (root : ℕ) (t : Breakdown) (b : Bool) → IsNodeWork m kind (size_of t) root (if b then kernel (single kind root t) else long_work kind root t)
 pick-work m kind root t true = record { nested = λ lanes path. tt; size = refl; on = λ x. refl }
 pick-work m kind root t false = long-work m kind root t
 

@@ -1,6 +1,6 @@
 -- The operations of a formula.
 use Rattle.std.specs.Prelude.{◌≡◌, ℕ, ◌+◌, ◌-◌, ◌*◌, ◌<◌, nat_le, if◌then◌else◌, length}
-use Rattle.kernel_gen.specs.Kernel.{kernel_cost, products_cost}
+use Rattle.kernel_gen.specs.Kernel.{products_cost, trees_cost}
 use Rattle.matrix_meaning.specs.declared.Kind.TheVariants.{Dft}
 use Rattle.matrix_meaning.specs.Kind.{entry_of}
 use Rattle.passes.specs.Counts.{term_cost}
@@ -12,7 +12,7 @@ use Rattle.tensor_paths.specs.Path.{Path, copies_of, size_under}
 
 -- the operations of the code of some work, where a product counts as several
 abbrev pub work_cost : ℕ → ℕ → PlainWork → ℕ
-work_cost weight m (kernel kind root tree) = kernel_cost weight m kind tree root
+work_cost weight m (kernel trees) = trees_cost weight m trees
 work_cost weight m (rows root size) = (1 + weight) * size * size
 work_cost weight m (horner root size) = (1 + weight) * size * size
 work_cost weight m (tile lanes) = 0

@@ -13,6 +13,7 @@ use Rattle.spl_ast.specs.Shape.{IsShaped}
 use Rattle.tensor_paths.specs.declared.Tensor.{Tensor}
 use Rattle.tensor_paths.specs.declared.Tensor.TheVariants.{Blocks, Columns}
 use Rattle.tensor_paths.specs.Path.{Path, count_of, size_under, under}
+use Rattle.rooted_trees.specs.Trees.{single}
 use Rattle.tree_model.specs.Breakdown.{leaf}
 
 -- a tensor of one copy is none
@@ -27,11 +28,11 @@ halvings (suc b) n = if nat_lt n 2 then 0 else suc (halvings b (n / 2))
 -- WHT of 2 ^ k, split by 2
 abbrev pub hadamard_term : Path → ℕ → PlainTerm
 hadamard_term path zero = same
-hadamard_term path (suc k) = product (hadamard_term (path ++ Blocks 2 ∷ []) k) (nest (one_more path (Columns (2 ^ k))) (kernel Wht 0 (leaf 2)))
+hadamard_term path (suc k) = product (hadamard_term (path ++ Blocks 2 ∷ []) k) (nest (one_more path (Columns (2 ^ k))) (kernel (single Wht 0 (leaf 2))))
 
 -- a short DFT is straight-line code, and a longer one goes row by row
 abbrev pub fourier_term : Path → ℕ → ℕ → PlainTerm
-fourier_term path n w = if nat_le n 8 then nest path (kernel Dft w (leaf n)) else nest path (horner w n)
+fourier_term path n w = if nat_le n 8 then nest path (kernel (single Dft w (leaf n))) else nest path (horner w n)
 
 -- a diagonal holds residues
 abbrev pub term_of : ℕ → Path → Formula → PlainTerm

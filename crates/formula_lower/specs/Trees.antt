@@ -13,16 +13,17 @@ use Rattle.sigma_lower.specs.Wrapped.{wrapped}
 use Rattle.steps.specs.Step.{PlainCore, piece, turns, thomas_in, thomas_out, PlainStep, steps_of}
 use Rattle.steps.specs.Step as steps
 use Rattle.tensor_paths.specs.Path.{Path}
+use Rattle.rooted_trees.specs.Trees.{single}
 use Rattle.tree_model.specs.Breakdown.{Breakdown, size_of}
 use Rattle.tree_model.specs.Cost.{is_kernel, node_root}
 
 -- a longer leaf goes row by row
 abbrev pub long_work : Kind → ℕ → Breakdown → PlainWork
 long_work Dft root t = rows root (size_of t)
-long_work Wht root t = kernel Wht root t
+long_work Wht root t = kernel (single Wht root t)
 
 abbrev pub node_work : Request → Breakdown → PlainWork
-node_work c t = if is_kernel c (size_of t) then kernel c.kind (node_root c (size_of t)) t else long_work c.kind (node_root c (size_of t)) t
+node_work c t = if is_kernel c (size_of t) then kernel (single c.kind (node_root c (size_of t)) t) else long_work c.kind (node_root c (size_of t)) t
 
 abbrev pub core_term : Request → Path → PlainCore → PlainTerm
 core_term c path (piece t) = nest path (node_work c t)

@@ -6,8 +6,9 @@ ghost use Rattle.matrix_meaning.specs.declared.Kind.TheVariants.{Wht};
 ghost use Rattle.matrix_meaning.specs.Kind.{IsPowerOfTwo};
 ghost use Rattle.passes.specs.Nest.{twiddles, values};
 ghost use Rattle.passes.specs.Term.{gath, diag, nest, move, product, beside};
-ghost use Rattle.passes.specs.Views.{plain_term};
+ghost use Rattle.passes.specs.Views.{plain_term, plain_work};
 ghost use Rattle.passes.specs.Work.{kernel};
+ghost use Rattle.rooted_trees.specs.Trees.{single};
 ghost use Rattle.sigma_lower.specs.Room.{HasRoom};
 ghost use Rattle.sigma_lower.specs.Wrapped.{wrapped};
 ghost use Rattle.spl_ast.specs.Formula.{size_of};
@@ -19,6 +20,7 @@ use matrix_meaning::Kind;
 use memory::NoMemory;
 use passes::{Factors, Term, Work};
 use ring_mod::Modulus;
+use rooted_trees::{RootedTree, RootedTrees};
 use sigma_lower::under;
 use spl_ast::{Node, Spl};
 use std::alloc::Global;
@@ -89,17 +91,21 @@ fn one_more(alloc: Global, path: &[Tensor], tensor: Tensor) -> Result<Vec<Tensor
     Ok(longer)
 }
 
+// A transform by its definition, in straight-line code.
+fn leaf_kernel(kind: Kind, root: u64, size: u64) -> Work
+    ensures { plain_work result ≡ kernel (single kind root (leaf size)) }
+{
+    let tree = Tree::Leaf(size);
+    Work::Kernel(RootedTrees::Single(RootedTree { kind, root, tree }))
+}
+
 // A short DFT is straight-line code, and a longer one goes row by row.
 fn fourier(alloc: Global, path: &[Tensor], n: u64, root: u64) -> Result<Term, NoMemory>
     ensures { IfOk result (λ t. plain_term t ≡ fourier_term path.now n root) }
 {
     let path = path.to_vec(alloc)?;
     if n <= MAX_KERNEL {
-        let work = Work::Kernel {
-            kind: Kind::Dft,
-            root,
-            tree: Tree::Leaf(n),
-        };
+        let work = leaf_kernel(Kind::Dft, root, n);
         return Ok(Term::Copies { path, work });
     }
     let work = Work::Horner { root, size: n };
@@ -125,14 +131,10 @@ fn hadamard(alloc: Global, path: &[Tensor], n: u64) -> Result<Term, NoMemory>
 
 // WHT of two items, on columns.
 fn butterflies(alloc: Global, path: &[Tensor], count: u64) -> Result<Term, NoMemory>
-    ensures { IfOk result (λ t. plain_term t ≡ nest (one_more path.now (Columns count)) (kernel Wht 0 (leaf 2))) }
+    ensures { IfOk result (λ t. plain_term t ≡ nest (one_more path.now (Columns count)) (kernel (single Wht 0 (leaf 2)))) }
 {
     let path = one_more(alloc, path, Tensor::Columns(count))?;
-    let work = Work::Kernel {
-        kind: Kind::Wht,
-        root: 0,
-        tree: Tree::Leaf(2),
-    };
+    let work = leaf_kernel(Kind::Wht, 0, 2);
     Ok(Term::Copies { path, work })
 }
 

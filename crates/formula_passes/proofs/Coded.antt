@@ -71,7 +71,7 @@ value-below count cs sums i vs w names h within range =
 
 factor-below : (counts : List ℕ) (w : PlainWork) (count : ℕ) (places : List Sum) (vs : List ℕ) (k : ℕ) → IsFormulaWork w → NamesItems w places → list_all (is_limited 64 count (slice_index (counts ++ work_size w ∷ work_size w ∷ []))) places ≡ true →
     AreInRange (loops_of counts) vs → k < work_size w → store_place w places vs k < count
-factor-below counts (kernel kind root t) count places vs k work names h range below = value-below count _ places k vs (kernel kind root t) names h (omega (arith, names.enough, below)) (alone counts _ vs range)
+factor-below counts (kernel trees) count places vs k work names h range below = value-below count _ places k vs (kernel trees) names h (omega (arith, names.enough, below)) (alone counts _ vs range)
 factor-below counts (rows root d) count places vs k work names h range below = absurd work
 factor-below counts (horner root d) count places vs k work names h range below = value-below count _ places 0 (vs ++ k ∷ []) (horner root d) names h (omega (arith, names.enough)) (with_more counts d vs (k ∷ []) range (one_below d k below))
 factor-below counts (tile v) count places vs k work names h range below = absurd work
@@ -109,24 +109,24 @@ small-counts (c ∷ counts) h high =
 -- ---- work
 
 pub some-items : (w : PlainWork) → IsFormulaWork w → 0 < work_size w
-some-items (kernel Dft root (leaf d)) h = omega (arith, h.0)
-some-items (kernel Wht root (leaf d)) h = omega (arith, h.0.0)
-some-items (kernel kind root (node rule a b)) h = absurd h
+some-items (kernel (single Dft root (leaf d))) h = omega (arith, h.0)
+some-items (kernel (single Wht root (leaf d))) h = omega (arith, h.0.0)
+some-items (kernel (single kind root (node rule a b))) h = absurd h
 some-items (rows root d) h = absurd h
 some-items (horner root d) h = h
 some-items (tile v) h = absurd h
 some-items (copy d) h = h
 
 can-work : (n m : ℕ) (w : PlainWork) → IsFormulaWork w → CanWork (plain_machine n m) w
-can-work n m (kernel kind root (leaf d)) h = (h.0, leaf-root m root d kind)
-can-work n m (kernel kind root (node rule a b)) h = absurd h
+can-work n m (kernel (single kind root (leaf d))) h = (h.0, leaf-root m root d kind)
+can-work n m (kernel (single kind root (node rule a b))) h = absurd h
 can-work n m (rows root d) h = absurd h
 can-work n m (horner root d) h = h
 can-work n m (tile v) h = absurd h
 can-work n m (copy d) h = tt
 
 alike-as : (z : PlainNest) (w : PlainWork) → z.work ≡ w → IsFormulaWork w → IsAlike z.counts w z.gathers → LoadsAlike z w
-alike-as z (kernel kind root t) is work h = tt
+alike-as z (kernel trees) is work h = tt
 alike-as z (rows root d) is work h = absurd work
 alike-as z (horner root d) is work h = λ vs row k range below under. h vs row k range (subst (λ v. row < work_size v) is below) (subst (λ v. k < work_size v) is under)
 alike-as z (tile v) is work h = tt
@@ -135,7 +135,7 @@ alike-as z (copy d) is work h = tt
 -- ---- one processor and one lane
 
 no-frame : (n m : ℕ) (w : PlainWork) (counts : List ℕ) → drop (first_loop (plain_machine n m) w) counts ≡ counts
-no-frame n m (kernel kind root t) counts = refl
+no-frame n m (kernel trees) counts = refl
 no-frame n m (rows root d) counts = refl
 no-frame n m (horner root d) counts = refl
 no-frame n m (tile v) counts = refl
@@ -145,14 +145,14 @@ one-frame : (n m : ℕ) (w : PlainWork) → IsFrame (frame_of (plain_machine n m
 one-frame n m w e = absurd (cc)
 
 inside-le : (w : PlainWork) → loads_inside w ≤ 2
-inside-le (kernel kind root t) = omega arith
+inside-le (kernel trees) = omega arith
 inside-le (rows root d) = omega arith
 inside-le (horner root d) = omega arith
 inside-le (tile v) = omega arith
 inside-le (copy d) = omega arith
 
 stores-le : (w : PlainWork) → stores_inside w ≤ 2
-stores-le (kernel kind root t) = omega arith
+stores-le (kernel trees) = omega arith
 stores-le (rows root d) = omega arith
 stores-le (horner root d) = omega arith
 stores-le (tile v) = omega arith

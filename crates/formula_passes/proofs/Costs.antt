@@ -66,7 +66,7 @@ with-le None used more = omega arith
 with-le (Some d) used more = omega arith
 
 nest-few : (n m : ℕ) (z : PlainNest) (w : PlainWork) → 2 ≤ m → IsFormulaWork w → nest_registers (plain_machine n m) z w < 2 ^ 20
-nest-few n m z (kernel kind root (leaf d)) large work =
+nest-few n m z (kernel (single kind root (leaf d))) large work =
     let made = kernel_of m 1 kind (leaf d) root in
     let does : DoesAt m 1 0 1 d (kernel_cost 1 m kind (leaf d) root) (firsts d) d made (transform kind m d root) = kernel-runs (plain_machine n m) 1 kind (leaf d) root large work.0 (leaf-root m root d kind) 0 (omega arith) in
     let next : made.next ≡ d + operations made.acts = does.next_is in
@@ -75,7 +75,7 @@ nest-few n m z (kernel kind root (leaf d)) large work =
     let square : d * d ≤ 8 * 8 = mul-le-mul {n₁ = d} {m₁ = d} {n₂ = 8} {m₂ = 8} work.1 work.1 in
     let used = with-le z.multiplier made.next d in
     omega (arith, used, next, counted, price, square, work.1)
-nest-few n m z (kernel kind root (node rule a b)) large work = absurd work
+nest-few n m z (kernel (single kind root (node rule a b))) large work = absurd work
 nest-few n m z (rows root d) large work = absurd work
 nest-few n m z (horner root d) large work = let used = with-le z.multiplier 3 1 in omega (arith, used)
 nest-few n m z (tile v) large work = absurd work
@@ -96,7 +96,7 @@ square-le (suc n) = omega arith
 
 -- each copy loads at most so many words as it has operations and items
 loads-le : (m : ℕ) (w : PlainWork) → IsFormulaWork w → work_loads w ≤ work_cost 1 m w + work_size w
-loads-le m (kernel kind root t) work = omega arith
+loads-le m (kernel trees) work = omega arith
 loads-le m (rows root d) work = absurd work
 loads-le m (horner root d) work = omega arith
 loads-le m (tile v) work = absurd work
@@ -167,7 +167,7 @@ with-grown [] entries = omega arith
 with-grown (table ∷ tables) entries = grown-pick (is_table table entries) table tables (with_table tables entries) (with-grown tables entries)
 
 work-grown : (m : ℕ) (w : PlainWork) (tables : List (List ℕ)) → length (tables_of_work m w tables) ≤ length tables + work_tables w
-work-grown m (kernel kind root t) tables = omega arith
+work-grown m (kernel trees) tables = omega arith
 work-grown m (rows root d) tables = let more = with-grown tables (powers_of m root d) in omega (arith, more)
 work-grown m (horner root d) tables = let more = with-grown tables (powers_of m root d) in omega (arith, more)
 work-grown m (tile v) tables = omega arith

@@ -59,7 +59,7 @@ fourier-formed : (m : ℕ) (path : Path) (n w : ℕ) → 1 ≤ n → IsFormulaTe
 fourier-formed m path n w some =
     elim (cases_lt 8 n) [
       | inl long ↦ let is : fourier_term path n w ≡ nest path (horner w n) = grind (arith, nat_tests) in subst (IsFormulaTerm m) (sym is) (omega (arith, some))
-      | inr short ↦ let is : fourier_term path n w ≡ nest path (kernel Dft w (leaf n)) = grind (arith, nat_tests) in subst (IsFormulaTerm m) (sym is) (some, omega (arith, short))
+      | inr short ↦ let is : fourier_term path n w ≡ nest path (kernel (single Dft w (leaf n))) = grind (arith, nat_tests) in subst (IsFormulaTerm m) (sym is) (some, omega (arith, short))
     ]
 
 term-formed : (m : ℕ) (path : Path) (f : Formula) → 0 < m → IsShaped f → IsFormulaTerm m (term_of m path f)
@@ -111,7 +111,7 @@ fourier-counted path n w =
     elim (cases_lt 8 n) [
       | inl long ↦ let is : fourier_term path n w ≡ nest path (horner w n) = grind (arith, nat_tests) in
           subst (λ t. IsCounted (Fourier n w) (steps_in t) (sums_in t) (makers_in t)) (sym is) (record { steps = omega arith; sums = omega arith; makers = omega arith })
-      | inr short ↦ let is : fourier_term path n w ≡ nest path (kernel Dft w (leaf n)) = grind (arith, nat_tests) in
+      | inr short ↦ let is : fourier_term path n w ≡ nest path (kernel (single Dft w (leaf n))) = grind (arith, nat_tests) in
           subst (λ t. IsCounted (Fourier n w) (steps_in t) (sums_in t) (makers_in t)) (sym is) (record { steps = omega arith; sums = omega arith; makers = omega arith })
     ]
 

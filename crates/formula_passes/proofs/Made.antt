@@ -20,8 +20,8 @@ use Rattle.tree_model.specs.Breakdown.{leaf, node, AllowsLeaf}
 
 -- a short transform, a longer one row by row, or copies
 abbrev pub IsFormulaWork : PlainWork → Type 0
-IsFormulaWork (kernel kind root (leaf d)) = AllowsLeaf kind d × (d ≤ 8)
-IsFormulaWork (kernel kind root (node rule a b)) = ⊥
+IsFormulaWork (kernel (single kind root (leaf d))) = AllowsLeaf kind d × (d ≤ 8)
+IsFormulaWork (kernel (single kind root (node rule a b))) = ⊥
 IsFormulaWork (rows root size) = ⊥
 IsFormulaWork (horner root size) = 0 < size
 IsFormulaWork (tile lanes) = ⊥
@@ -80,7 +80,7 @@ all-append m (zs ∷ ps) qs h g = (h.0, all-append m ps qs h.1 g)
 
 alike-simplified : (counts : List ℕ) (w : PlainWork) (f : Mapping) (sums : List Sum) → IsFormed f → NamesItems w sums → IsAlike counts w sums →
     IsAlike counts w (map (simplified (slice_index (counts ++ work_size w ∷ work_size w ∷ [])) f) sums)
-alike-simplified counts (kernel kind root t) f sums form names h = tt
+alike-simplified counts (kernel trees) f sums form names h = tt
 alike-simplified counts (rows root d) f sums form names h = tt
 alike-simplified counts (horner root d) f sums form names h = λ vs row k range below under.
     sum-simplified _ f sums 0 (vs ++ row ∷ k ∷ []) form names.sound (omega (arith, names.enough)) (with_more counts d vs (row ∷ k ∷ []) range (two_below d row k below under))
@@ -148,7 +148,7 @@ made-multiplied m factors fs (z ∷ zs) diagonal form h = (
 -- ---- side by side
 
 alike-up : (path : Path) (n before : ℕ) (counts : List ℕ) (w : PlainWork) (sums : List Sum) → NamesItems w sums → IsAlike counts w sums → IsAlike (map count_of path ++ counts) w (map (up path n before) sums)
-alike-up path n before counts (kernel kind root t) sums names h = tt
+alike-up path n before counts (kernel trees) sums names h = tt
 alike-up path n before counts (rows root d) sums names h = tt
 alike-up path n before counts (horner root d) sums names h = λ vs row k range below under.
     lift-more path n before sums counts vs (row ∷ k ∷ []) (omega (arith, names.enough)) range
@@ -201,7 +201,7 @@ last-value : (path : Path) (vs : List ℕ) (row k : ℕ) → AreInRange path vs 
 last-value path vs row k range = ap (slice_index (vs ++ row ∷ k ∷ [])) (omega arith) ∙ at-second path vs row k range
 
 pub new-alike : (path : Path) (w : PlainWork) → IsAlike (map count_of path) w (map (place_sum path (work_size w) 0) (items_in w (length path)))
-new-alike path (kernel kind root t) = tt
+new-alike path (kernel trees) = tt
 new-alike path (rows root d) = tt
 new-alike path (horner root d) =
     turn-alike path d (remainder 1 (variable (d - 1) (length path + 1) (constant (d - 1))) d (constant 0))

@@ -69,7 +69,7 @@ pub record IsRun (z : PlainNest) (r : PlainRun) : Type 0 where
   pub counted : AreCounted z.counts r.count
 
 word-is : (w : PlainWork) → is_word w ≡ true → w ≡ copy 1
-word-is (kernel kind root tree) h = absurd (cc)
+word-is (kernel trees) h = absurd (cc)
 word-is (rows root size) h = absurd (cc)
 word-is (horner root size) h = absurd (cc)
 word-is (tile lanes) h = absurd (cc)

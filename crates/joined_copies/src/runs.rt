@@ -42,7 +42,7 @@ fn is_word(work: &Work) -> bool
 {
     match work {
         Work::Copy { size } => *size == 1,
-        Work::Kernel { .. } | Work::Rows { .. } | Work::Horner { .. } | Work::Tile { .. } => false,
+        Work::Kernel(_) | Work::Rows { .. } | Work::Horner { .. } | Work::Tile { .. } => false,
     }
 }
 

@@ -10,9 +10,10 @@ use Rattle.operators.specs.Sum.{sum_below, list_below}
 use Rattle.ring_mod.specs.Residue.{power_mod}
 use Rattle.tree_model.specs.declared.tree.Rule.{Rule}
 use Rattle.tree_model.specs.declared.tree.Rule.TheVariants.{Gt, Ct, Split}
-use Rattle.tree_model.specs.Breakdown.{Breakdown, leaf, node, size_of}
+use Rattle.tree_model.specs.Breakdown.{Breakdown, leaf, node, size_of, IsWellFormed}
 use Rattle.tree_model.specs.Cost.{node_root}
 use Rattle.matrix_meaning.specs.declared.Request.{Request}
+use Rattle.rooted_trees.specs.Trees.{PlainTrees, single, tensor, trees_size}
 use Rattle.kernel_gen.specs.Making.{Made, Maker, pick_make, then_make, rows_make, matrix_make, diagonal_make}
 
 -- a root of the size of a transform
@@ -75,3 +76,26 @@ abbrev pub kernel_cost : ℕ → ℕ → Kind → Breakdown → ℕ → ℕ
 kernel_cost weight m kind (leaf d) w = d * (d - 1) + products_cost weight m 0 (entry_of kind m w) d d
 kernel_cost weight m kind (node rule a b) w =
     size_of b * kernel_cost weight m kind a (power_mod m w (size_of b)) + size_of a * kernel_cost weight m kind b (power_mod m w (size_of a)) + rule_cost weight m rule (size_of a) (size_of b) w
+
+-- ---- several dimensions
+
+-- each tree is well-formed, and for a root that its rule may take apart
+abbrev pub CanMake : ℕ → PlainTrees → Type 0
+CanMake m (single kind root tree) = IsWellFormed kind tree × AllowsRoot m root kind tree
+CanMake m (tensor kind root tree others) = (IsWellFormed kind tree × AllowsRoot m root kind tree) × CanMake m others
+
+-- the code of trees, one for each dimension, as by split
+abbrev pub trees_make : ℕ → ℕ → PlainTrees → Maker
+trees_make m lanes (single kind root tree) = tree_make m lanes kind tree root
+trees_make m lanes (tensor kind root tree others) =
+    node_make m lanes Split (size_of tree) (trees_size others) 1 (tree_make m lanes kind tree root) (trees_make m lanes others)
+
+-- with its inputs in the first registers
+abbrev pub trees_kernel : ℕ → ℕ → PlainTrees → Made
+trees_kernel m lanes trees = trees_make m lanes trees (list_below (trees_size trees) (λ k. k)) (trees_size trees)
+
+-- what it costs: the first tree for each place of the other dimensions, and the others for each place of the first
+abbrev pub trees_cost : ℕ → ℕ → PlainTrees → ℕ
+trees_cost weight m (single kind root tree) = kernel_cost weight m kind tree root
+trees_cost weight m (tensor kind root tree others) =
+    trees_size others * kernel_cost weight m kind tree root + size_of tree * trees_cost weight m others

@@ -2,7 +2,8 @@
 ghost use Rattle.std.specs.Prelude.{◌≡◌, ◌%◌, ◌^◌, ◌<◌, ◌≤◌, vec_len, IfOk};
 ghost use Rattle.operators.specs.Sum.{list_below};
 ghost use Rattle.tree_model.specs.Breakdown.{breakdown_of, size_of, HasWordSizes, IsWellFormed};
-ghost use Rattle.kernel_gen.specs.Kernel.{kernel_of, node_kernel};
+ghost use Rattle.kernel_gen.specs.Kernel.{kernel_of, node_kernel, trees_kernel};
+ghost use Rattle.rooted_trees.specs.Trees.{plain_trees, trees_size, AreWords};
 ghost use Rattle.kernel_gen.specs.Kernels.{made_of, CostsDefinition, CostsNode, IsStraight, TransformsBy, TransformsNode};
 
 use crate::straight::Kernel;
@@ -10,6 +11,7 @@ use crate::writer::Writer;
 use matrix_meaning::Kind;
 use memory::NoMemory;
 use ring_mod::Modulus;
+use rooted_trees::RootedTrees;
 use std::alloc::Global;
 use tree_model::{Ctx, Tree, node_root};
 
@@ -21,8 +23,40 @@ fn first_registers(alloc: Global, n: u64) -> Result<Vec<u64>, NoMemory>
     Ok((0..n).map(|k| k).collect(alloc)?)
 }
 
-/// The code of a tree for this root, modulo the modulus, on registers of so many lanes.
-pub fn tree_kernel(
+/// The code of trees with their roots, one for each dimension, modulo the modulus, on registers of so many lanes.
+pub fn trees_kernel(
+    alloc: Global,
+    modulus: &Modulus,
+    lanes: u64,
+    trees: &RootedTrees,
+) -> Result<Kernel, NoMemory>
+    requires lanes { lanes ≤ 16 }
+    requires words { AreWords (plain_trees trees.now) }
+    requires size { trees_size (plain_trees trees.now) < 2 ^ 32 }
+    ensures inputs { IfOk result (λ k. k.inputs ≡ trees_size (plain_trees trees.now)) }
+    ensures code { IfOk result (λ k.
+        made_of k ≡ trees_kernel modulus.now lanes (plain_trees trees.now)) }
+{
+    let inputs = trees.size();
+    let first = first_registers(alloc, inputs)?;
+    let mut writer = Writer {
+        lanes,
+        inputs,
+        actions: Vec::new(alloc),
+    };
+    let outputs = writer.put_trees(alloc, modulus, trees, &first)?;
+    let regs = writer.next();
+    let Writer { actions, .. } = writer;
+    Ok(Kernel {
+        inputs,
+        actions,
+        outputs,
+        regs,
+    })
+}
+
+// The code of a tree for this root.
+fn tree_kernel(
     alloc: Global,
     modulus: &Modulus,
     lanes: u64,

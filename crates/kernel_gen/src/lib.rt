@@ -6,7 +6,8 @@ mod matrix;
 mod nodes;
 mod places;
 mod straight;
+mod trees;
 mod writer;
 
-pub use generate::{dft_kernel, kernel, tree_kernel};
+pub use generate::{dft_kernel, kernel, trees_kernel};
 pub use straight::Kernel;

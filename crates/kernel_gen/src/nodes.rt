@@ -81,7 +81,7 @@ impl Writer {
 
     /// The code of a tree for each of s columns of r inputs.
     #[cycle(tree)]
-    fn put_columns(
+    pub(crate) fn put_columns(
         &mut self,
         alloc: Global,
         m: &Modulus,

@@ -48,7 +48,7 @@ size-same c (transforming t) = pick (is_kernel c (size_of t)) c.kind
     root : ℕ
     root = node_root c (size_of t)
 
-    pick : (b : Bool) (k : Kind) → works.work_size (if b then kernel c.kind root t else long_work k root t) ≡ size_of t
+    pick : (b : Bool) (k : Kind) → works.work_size (if b then kernel (single c.kind root t) else long_work k root t) ≡ size_of t
     pick true k = refl
     pick false Dft = refl
     pick false Wht = refl
@@ -60,7 +60,7 @@ words-same c (transforming t) h = pick (is_kernel c (size_of t)) c.kind
     root : ℕ
     root = node_root c (size_of t)
 
-    pick : (b : Bool) (k : Kind) → works.HasWords (if b then kernel c.kind root t else long_work k root t)
+    pick : (b : Bool) (k : Kind) → works.HasWords (if b then kernel (single c.kind root t) else long_work k root t)
     pick true k = h
     pick false Dft = tt
     pick false Wht = h
@@ -87,7 +87,7 @@ in-same c (transforming t) d h = pick (is_kernel c (size_of t)) c.kind h
     root = node_root c (size_of t)
 
     pick : (b : Bool) (k : Kind) → (b ≡ false → k ≡ Dft) →
-        items_in (if b then kernel c.kind root t else long_work k root t) d ≡ (if b then map (λ j. constant (item_of (transforming t) j 0)) (range_with_len 0 (size_of t)) else variable 1 (d + 1) (constant 0) ∷ [])
+        items_in (if b then kernel (single c.kind root t) else long_work k root t) d ≡ (if b then map (λ j. constant (item_of (transforming t) j 0)) (range_with_len 0 (size_of t)) else variable 1 (d + 1) (constant 0) ∷ [])
     pick true k g = refl
     pick false Dft g = refl
     pick false Wht g = absurd (wht_is_dft (g refl))
@@ -100,7 +100,7 @@ out-same c (transforming t) d h = pick (is_kernel c (size_of t)) c.kind h
     root = node_root c (size_of t)
 
     pick : (b : Bool) (k : Kind) → (b ≡ false → k ≡ Dft) →
-        items_out (if b then kernel c.kind root t else long_work k root t) d ≡ (if b then map (λ j. constant (item_of (transforming t) j 0)) (range_with_len 0 (size_of t)) else variable 1 d (constant 0) ∷ [])
+        items_out (if b then kernel (single c.kind root t) else long_work k root t) d ≡ (if b then map (λ j. constant (item_of (transforming t) j 0)) (range_with_len 0 (size_of t)) else variable 1 d (constant 0) ∷ [])
     pick true k g = refl
     pick false Dft g = refl
     pick false Wht g = absurd (wht_is_dft (g refl))

@@ -31,6 +31,7 @@ use matrix_meaning::Kind;
 use memory::NoMemory;
 use passes::{Factors, Merged, Multiplier, Nest, Work, counts, items_in, items_out, limits};
 use perm_algebra::Affine;
+use rooted_trees::{RootedTree, RootedTrees};
 use sigma_spl::Sigma;
 use std::alloc::Global;
 use tensor_paths::Tensor;
@@ -156,7 +157,8 @@ fn node_work(alloc: Global, c: &Ctx, tree: &Tree) -> Result<Work, NoMemory>
         return Ok(Work::Rows { root, size });
     }
     let tree = tree.copied(alloc)?;
-    Ok(Work::Kernel { kind, root, tree })
+    let only = RootedTree { kind, root, tree };
+    Ok(Work::Kernel(RootedTrees::Single(only)))
 }
 
 // The twiddles of a ct.

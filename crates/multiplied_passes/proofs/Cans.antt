@@ -28,7 +28,7 @@ hits-with m pick ds [] w = refl
 hits-with m pick ds (z ∷ zs) w = ap (λ b. loop_at (loops_of z.counts) (work_size z.work) (store_place z.work z.scatters) (λ vs k. 1) w + b) (hits-with m pick ds zs w)
 
 alike-with : (pick : Pick) (ds : PlainFactors) (z : PlainNest) (w : PlainWork) → LoadsAlike z w → LoadsAlike (with_factors pick ds z) w
-alike-with pick ds z (kernel kind root tree) h = h
+alike-with pick ds z (kernel trees) h = h
 alike-with pick ds z (rows root size) h = h
 alike-with pick ds z (horner root size) h = h
 alike-with pick ds z (tile lanes) h = h

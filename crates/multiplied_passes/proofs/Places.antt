@@ -34,7 +34,7 @@ first-value : (sums : List affine.Sum) (i : ℕ) (vs : List ℕ) → sum_value (
 first-value sums i vs = ap (λ e. value e (slice_index vs)) (first-sum sums i)
 
 pub first-is : (w : PlainWork) (sums : List affine.Sum) (vs : List ℕ) (k : ℕ) → store_place w (factor_places First sums) vs k ≡ first_place w k
-first-is (kernel kind root tree) sums vs k = first-value sums k vs
+first-is (kernel trees) sums vs k = first-value sums k vs
 first-is (rows root size) sums vs k = first-value sums 0 _
 first-is (horner root size) sums vs k = first-value sums 0 _
 first-is (tile lanes) sums vs k = ap (λ v. v + k % lanes) (first-value sums _ vs) ∙ omega arith
@@ -42,7 +42,7 @@ first-is (copy size) sums vs k = first-value sums k vs
 
 -- the lanes of a register take those of their lanes
 pub first-lane : (h : PlainMachine) (w : PlainWork) (lane k : ℕ) → CanWork h w → lane < h.lanes → first_place w (item_of w k lane) ≡ first_place w (item_of w k 0) + lane_step w * lane
-first-lane h (kernel kind root tree) lane k can low = omega arith
+first-lane h (kernel trees) lane k can low = omega arith
 first-lane h (rows root size) lane k can low = omega arith
 first-lane h (horner root size) lane k can low = omega arith
 first-lane h (tile lanes) lane k can low =
@@ -52,7 +52,7 @@ first-lane h (tile lanes) lane k can low =
 first-lane h (copy size) lane k can low = omega arith
 
 pub first-below : (h : PlainMachine) (w : PlainWork) (k n : ℕ) → CanWork h w → 0 < h.lanes → h.lanes ≤ n → first_place w k < n
-first-below h (kernel kind root tree) k n can some most = omega (arith, some, most)
+first-below h (kernel trees) k n can some most = omega (arith, some, most)
 first-below h (rows root size) k n can some most = omega (arith, some, most)
 first-below h (horner root size) k n can some most = omega (arith, some, most)
 first-below h (tile lanes) k n can some most = let below : k % lanes < lanes = mod-lt k (omega (arith, can, some)) in omega (arith, below, can, most)

@@ -13,7 +13,7 @@ use Rattle.passes.specs.Nest.{PlainFactors, PlainMultiplier, PlainNest}
 use Rattle.passes.specs.Work.{PlainWork, kernel, rows, horner, tile, copy}
 
 work-grown : (m : ℕ) (w : PlainWork) (tables : List (List ℕ)) → length (tables_of_work m w tables) ≤ length tables + 1
-work-grown m (kernel kind root t) tables = omega arith
+work-grown m (kernel trees) tables = omega arith
 work-grown m (rows root size) tables = let more = with_table-length tables (powers_of m root size) in omega (arith, more)
 work-grown m (horner root size) tables = let more = with_table-length tables (powers_of m root size) in omega (arith, more)
 work-grown m (tile lanes) tables = omega arith

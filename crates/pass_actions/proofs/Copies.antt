@@ -39,7 +39,7 @@ sums-below : (m n : ℕ) (f : ℕ → ℕ) (k : ℕ) → 0 < m → k < n → sli
 sums-below m n f k some below = subst (λ v. v < m) (sym (at-list_below n (λ i. f i % m) k below)) (mod-lt (f k) some)
 
 worked-below : (m : ℕ) (w : PlainWork) (y : List ℕ) (k : ℕ) → 0 < m → ((j : ℕ) → j < work_size w → slice_index y j < m) → k < work_size w → slice_index (work_on m w y) k < m
-worked-below m (kernel kind root t) y k some small below = sums-below m (size_of t) _ k some below
+worked-below m (kernel trees) y k some small below = sums-below m (size_of t) _ k some below
 worked-below m (rows root size) y k some small below = sums-below m size _ k some below
 worked-below m (horner root size) y k some small below = sums-below m size _ k some below
 worked-below m (tile v) y k some small below =

@@ -54,10 +54,10 @@ module _ (c : PlainMachine) (zs : List PlainNest) (can : CanRun c zs) (source ta
   abbrev pub CopiesFill : (p : PlainNest) → Contains zs p → Type 0
   CopiesFill p one = (vs : List ℕ) → AreInRange (facts c zs can p one source target q x apart part small).framed.loops vs → CopyFills p vs (copy_acts c p p.work source target q vs)
 
-  module _ (p : PlainNest) (kind : Kind) (root : ℕ) (t : Breakdown) (one : Contains zs (working p (kernel kind root t))) where
-    kernel-fills : CopiesFill (working p (kernel kind root t)) one
+  module _ (p : PlainNest) (kind : Kind) (root : ℕ) (t : Breakdown) (one : Contains zs (working p (kernel trees))) where
+    kernel-fills : CopiesFill (working p (kernel trees)) one
     kernel-fills vs range =
-        let z : PlainNest = working p (kernel kind root t) in
+        let z : PlainNest = working p (kernel trees) in
         let n = size_of t in
         let f = transform kind c.modulus n root in
         let made = kernel_of c.modulus c.lanes kind t root in
@@ -159,7 +159,7 @@ module _ (c : PlainMachine) (zs : List PlainNest) (can : CanRun c zs) (source ta
         ∙ at-list_below n (λ j. slice_index x (load_place z.work z.gathers (on c zs can z one source target q x apart part small lane vs) j)) k under)))
 
   copies-of : (p : PlainNest) (w : PlainWork) (one : Contains zs (working p w)) → CopiesFill (working p w) one
-  copies-of p (kernel kind root t) one = kernel-fills p kind root t one
+  copies-of p (kernel trees) one = kernel-fills p kind root t one
   copies-of p (rows root n) one = rows-filled p root n one
   copies-of p (horner root n) one = horner-filled p root n one
   copies-of p (tile v) one =

@@ -137,8 +137,8 @@ module _ (c : PlainMachine) (lanes : 0 < c.lanes) (modulus : 2 ≤ c.modulus) (r
   Fits actions = All (IsFit regs c.lanes c.modulus) actions
 
   copy-fits : (p : PlainNest) (w : PlainWork) → CanRunNest c (working p w) → nest_registers c (working p w) w ≤ regs → (vs : List ℕ) → Fits (copy_acts c (working p w) w source target q vs)
-  copy-fits p (kernel kind root t) can few vs =
-      let z : PlainNest = working p (kernel kind root t) in
+  copy-fits p (kernel trees) can few vs =
+      let z : PlainNest = working p (kernel trees) in
       let n = size_of t in
       let made = kernel_of c.modulus c.lanes kind t root in
       let done = kernel-runs c 1 kind t root modulus can.work.0 can.work.1 0 lanes in

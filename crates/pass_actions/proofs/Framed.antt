@@ -83,7 +83,7 @@ copies_beside c w = c.lanes
 
 module _ (c : PlainMachine) where
   copies-lanes : (w : PlainWork) (loops : List ℕ) → copies_in (framed_lanes c w ++ loops) ≡ copies_beside c w * copies_in loops
-  copies-lanes (kernel kind root tree) loops = copies-several c.lanes loops
+  copies-lanes (kernel trees) loops = copies-several c.lanes loops
   copies-lanes (rows root size) loops = copies-several c.lanes loops
   copies-lanes (horner root size) loops = copies-several c.lanes loops
   copies-lanes (tile lanes) loops = omega arith
@@ -96,7 +96,7 @@ module _ (c : PlainMachine) where
   drop-lane loops = let all : one_if_several c.lanes ≡ one_if_several c.lanes + 0 = omega arith in ap (λ n. drop n (if_several c.lanes c.lanes ++ loops)) all ∙ drop-several c.lanes loops 0
 
   loops-framed : (w : PlainWork) (loops : List ℕ) → drop (first_loop c w) (framed c w loops) ≡ loops
-  loops-framed (kernel kind root tree) loops = drop-several c.procs (if_several c.lanes c.lanes ++ loops) (one_if_several c.lanes) ∙ drop-lane loops
+  loops-framed (kernel trees) loops = drop-several c.procs (if_several c.lanes c.lanes ++ loops) (one_if_several c.lanes) ∙ drop-lane loops
   loops-framed (rows root size) loops = drop-several c.procs (if_several c.lanes c.lanes ++ loops) (one_if_several c.lanes) ∙ drop-lane loops
   loops-framed (horner root size) loops = drop-several c.procs (if_several c.lanes c.lanes ++ loops) (one_if_several c.lanes) ∙ drop-lane loops
   loops-framed (tile lanes) loops = drop-several c.procs loops 0
@@ -107,21 +107,21 @@ module _ (c : PlainMachine) where
   both-range loops q lane vs part there range = range-several c.procs (if_several c.lanes c.lanes ++ loops) q (if_several c.lanes lane ++ vs) part (range-several c.lanes loops lane vs there range)
 
   range-framed : (w : PlainWork) (loops : List ℕ) (q lane : ℕ) (vs : List ℕ) → q < c.procs → lane < c.lanes → AreInRange loops vs → AreInRange (framed c w loops) (values_of c w q lane vs)
-  range-framed (kernel kind root tree) loops q lane vs part there range = both-range loops q lane vs part there range
+  range-framed (kernel trees) loops q lane vs part there range = both-range loops q lane vs part there range
   range-framed (rows root size) loops q lane vs part there range = both-range loops q lane vs part there range
   range-framed (horner root size) loops q lane vs part there range = both-range loops q lane vs part there range
   range-framed (tile lanes) loops q lane vs part there range = range-several c.procs loops q vs part range
   range-framed (copy size) loops q lane vs part there range = both-range loops q lane vs part there range
 
   first-framed : (w : PlainWork) (q lane : ℕ) (vs : List ℕ) → c.procs ≢ 1 → slice_index (values_of c w q lane vs) 0 ≡ q
-  first-framed (kernel kind root tree) q lane vs several = first_value c.procs q (if_several c.lanes lane ++ vs) several
+  first-framed (kernel trees) q lane vs several = first_value c.procs q (if_several c.lanes lane ++ vs) several
   first-framed (rows root size) q lane vs several = first_value c.procs q (if_several c.lanes lane ++ vs) several
   first-framed (horner root size) q lane vs several = first_value c.procs q (if_several c.lanes lane ++ vs) several
   first-framed (tile lanes) q lane vs several = first_value c.procs q vs several
   first-framed (copy size) q lane vs several = first_value c.procs q (if_several c.lanes lane ++ vs) several
 
   pub item-below : (w : PlainWork) (k lane : ℕ) → CanWork c w → k < vectors_of w → lane < c.lanes → item_of w k lane < work_size w
-  item-below (kernel kind root tree) k lane can under there = under
+  item-below (kernel trees) k lane can under there = under
   item-below (rows root size) k lane can under there = under
   item-below (horner root size) k lane can under there = under
   item-below (tile v) k lane can under there = place_below k lane v v under (omega (arith, can, there))
@@ -178,7 +178,7 @@ has_lane c loops q us range first =
     }
 
 on_lane : (c : PlainMachine) (w : PlainWork) (loops : List ℕ) (q : ℕ) (us : List ℕ) (i : ℕ) → CanWork c w → AreInRange (framed c w loops) us → (c.procs ≢ 1 → slice_index us 0 ≡ q) → i < work_size w → IsOnLane c w loops q us i
-on_lane c (kernel kind root tree) loops q us i can range first below =
+on_lane c (kernel trees) loops q us i can range first below =
     let h = has_lane c loops q us range first in record { values = h.values; lane = h.lane; number = i; in_range = h.in_range; there = h.there; under = below; copy_is = h.joined; item = refl }
 on_lane c (rows root size) loops q us i can range first below =
     let h = has_lane c loops q us range first in record { values = h.values; lane = h.lane; number = i; in_range = h.in_range; there = h.there; under = below; copy_is = h.joined; item = refl }

@@ -64,8 +64,8 @@ module _ (weight : ℕ) (c : PlainMachine) (lanes : 0 < c.lanes) (modulus : 2 �
       ≡ counts (copies_beside c p.work * (work_cost weight c.modulus p.work + multiplier_cost weight p.multiplier p.work)) (copies_beside c p.work * work_loads p.work) (copies_beside c p.work * work_size p.work)
 
   copy-counts : (p : PlainNest) (w : PlainWork) → CanWork c w → CopyCounts (working p w)
-  copy-counts p (kernel kind root t) can vs =
-      let z : PlainNest = working p (kernel kind root t) in
+  copy-counts p (kernel trees) can vs =
+      let z : PlainNest = working p (kernel trees) in
       let n = size_of t in
       let price = kernel_cost weight c.modulus kind t root in
       let made = kernel_of c.modulus c.lanes kind t root in

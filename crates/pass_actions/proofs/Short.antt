@@ -96,8 +96,8 @@ module _ (c : PlainMachine) (p : PlainNest) (target q : ℕ) (vs : List ℕ) (so
 
 module _ (c : PlainMachine) (some : 0 < c.lanes) (modulus : 2 ≤ c.modulus) (source target q : ℕ) where
   copy-room : (p : PlainNest) (w : PlainWork) → CanWork c w → (vs : List ℕ) → HasRoom c.lanes some 0 (copy_acts c (working p w) w source target q vs)
-  copy-room p (kernel kind root t) can vs =
-      let z : PlainNest = working p (kernel kind root t) in
+  copy-room p (kernel trees) can vs =
+      let z : PlainNest = working p (kernel trees) in
       let n = size_of t in
       let made = kernel_of c.modulus c.lanes kind t root in
       less c.lanes some 0 n (copy_body c z p.multiplier made.acts (slice_index made.outs) made.next n (λ k. source + load_at c z q vs k) target q vs) (omega arith)

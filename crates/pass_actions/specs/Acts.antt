@@ -4,7 +4,7 @@ use Rattle.icode.specs.Actions.{lane_factors}
 use Rattle.icode.specs.declared.action.Action.{Action}
 use Rattle.icode.specs.declared.action.Action.TheVariants.{Load, Store, Zero, Add, Mul, Tile}
 use Rattle.code_laws.specs.Nests.{bodies, nest, loads}
-use Rattle.kernel_gen.specs.Kernel.{kernel_of}
+use Rattle.kernel_gen.specs.Kernel.{trees_kernel}
 use Rattle.kernel_gen.specs.Making.{Made}
 use Rattle.pass_actions.specs.Machine.{PlainMachine, values_of, loop_counts, item_of}
 use Rattle.passes.specs.Nest.{PlainMultiplier, PlainNest, factor_at, load_place, store_place}
@@ -58,7 +58,7 @@ items_acts h z size source target q vs = bodies size (λ k. Load 0 (source + loa
 
 -- a copy on each lane
 abbrev pub copy_acts : PlainMachine → PlainNest → PlainWork → ℕ → ℕ → ℕ → List ℕ → List Action
-copy_acts h z (kernel kind root tree) source target q vs = made_acts h z (work_size (kernel kind root tree)) (kernel_of h.modulus h.lanes kind tree root) source target q vs
+copy_acts h z (kernel trees) source target q vs = made_acts h z (work_size (kernel trees)) (trees_kernel h.modulus h.lanes trees) source target q vs
 copy_acts h z (rows root size) source target q vs = rows_acts h z size (term_acts h z root source q vs) target q vs
 copy_acts h z (horner root size) source target q vs = rows_acts h z size (horner_acts h z root size source q vs) target q vs
 copy_acts h z (tile lanes) source target q vs = tile_acts h z lanes source target q vs
@@ -80,7 +80,7 @@ with_multiplier None used more = used
 with_multiplier (Some d) used more = used + more
 
 abbrev pub nest_registers : PlainMachine → PlainNest → PlainWork → ℕ
-nest_registers h z (kernel kind root tree) = with_multiplier z.multiplier (kernel_of h.modulus h.lanes kind tree root).next (work_size (kernel kind root tree))
+nest_registers h z (kernel trees) = with_multiplier z.multiplier (trees_kernel h.modulus h.lanes trees).next (work_size (kernel trees))
 nest_registers h z (rows root size) = with_multiplier z.multiplier 3 1
 nest_registers h z (horner root size) = with_multiplier z.multiplier 3 1
 nest_registers h z (tile lanes) = with_multiplier z.multiplier (lanes + lanes) lanes

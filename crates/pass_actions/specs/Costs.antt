@@ -1,6 +1,6 @@
 -- What passes count.
 use Rattle.std.specs.Prelude.{ℕ, ◌+◌, ◌*◌, List, [], ◌∷◌}
-use Rattle.kernel_gen.specs.Kernel.{kernel_cost}
+use Rattle.kernel_gen.specs.Kernel.{trees_cost}
 use Rattle.passes.specs.Counts.{copies_in}
 use Rattle.passes.specs.Counts as counts
 use Rattle.passes.specs.Nest.{PlainNest}
@@ -8,7 +8,7 @@ use Rattle.passes.specs.Work.{PlainWork, kernel, rows, horner, tile, copy, work_
 
 -- the operations of one copy, where a product counts as several
 abbrev pub work_cost : ℕ → ℕ → PlainWork → ℕ
-work_cost weight m (kernel kind root tree) = kernel_cost weight m kind tree root
+work_cost weight m (kernel trees) = trees_cost weight m trees
 work_cost weight m (rows root size) = (1 + weight) * size * size
 work_cost weight m (horner root size) = (1 + weight) * size * size
 work_cost weight m (tile lanes) = 0

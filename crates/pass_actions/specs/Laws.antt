@@ -3,7 +3,7 @@ use Rattle.std.specs.Prelude.{◌≡◌, ◌≢◌, ℕ, ◌+◌, ◌*◌, ◌%�
 use Rattle.icode.specs.Actions.{RegistersFit, FactorsFit}
 use Rattle.icode.specs.declared.action.Action.{Action}
 use Rattle.icode.specs.Machine.{Local, effects, counts_of, weighted}
-use Rattle.kernel_gen.specs.Kernel.{AllowsRoot}
+use Rattle.kernel_gen.specs.Kernel.{CanMake}
 use Rattle.ring_mod.specs.Residue.{power_mod}
 use Rattle.pass_actions.specs.Acts.{pass_acts, pass_registers}
 use Rattle.pass_actions.specs.Machine.{PlainMachine, if_several, values_of, item_of, lane_step, framed_lanes}
@@ -12,13 +12,12 @@ use Rattle.passes.specs.Copies.{loops_of, StoreOnce, IsInside}
 use Rattle.passes.specs.Nest.{PlainMultiplier, PlainNest, factor_at, factor_count, copies_of, load_place, store_place, nests_on}
 use Rattle.passes.specs.Work.{PlainWork, kernel, rows, horner, tile, copy, work_size, vectors_of}
 use Rattle.tensor_paths.specs.Path.{AreInRange}
-use Rattle.tree_model.specs.Breakdown.{IsWellFormed}
 
 -- ---- passes that can be run
 
 -- work whose code does what it stands for
 abbrev pub CanWork : PlainMachine → PlainWork → Type 0
-CanWork h (kernel kind root tree) = IsWellFormed kind tree × AllowsRoot h.modulus root kind tree
+CanWork h (kernel trees) = CanMake h.modulus trees
 CanWork h (rows root size) = (0 < size) × (power_mod h.modulus root size ≡ 1 % h.modulus)
 CanWork h (horner root size) = 0 < size
 CanWork h (tile lanes) = lanes ≡ h.lanes

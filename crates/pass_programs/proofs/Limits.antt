@@ -52,14 +52,14 @@ multiplier-longer m None ts = omega arith
 multiplier-longer m (Some d) ts = diagonal-longer (one_factor d.factors) ts (diagonal_of m d.factors)
 
 work-longer : (m : ℕ) (w : PlainWork) (ts : List (List ℕ)) → length ts ≤ length (tables_of_work m w ts)
-work-longer m (kernel kind root t) ts = omega arith
+work-longer m (kernel trees) ts = omega arith
 work-longer m (rows root n) ts = with_table-longer ts (powers_of m root n)
 work-longer m (horner root n) ts = with_table-longer ts (powers_of m root n)
 work-longer m (tile v) ts = omega arith
 work-longer m (copy n) ts = omega arith
 
 powers-small : (m : ℕ) (w : PlainWork) (ts : List (List ℕ)) → powers_number m w ts ≤ length ts
-powers-small m (kernel kind root t) ts = omega arith
+powers-small m (kernel trees) ts = omega arith
 powers-small m (rows root n) ts = number-small ts (powers_of m root n)
 powers-small m (horner root n) ts = number-small ts (powers_of m root n)
 powers-small m (tile v) ts = omega arith
@@ -107,8 +107,8 @@ module _ (c : PlainMachine) (lanes : 0 < c.lanes) (modulus : 2 ≤ c.modulus) (s
 
   work-within : (p : PlainNest) (w : PlainWork) → CanRunNest c (working p w) → CanWriteNest c (working p w) → nest_registers c (working p w) w < 2 ^ 20 →
       is_body_within m (work_body c (working p w) w (length (loop_counts c (working p w))) powers table source target) (length (loop_counts c (working p w))) ≡ true
-  work-within p (kernel kind root t) can writes few =
-      let z : PlainNest = working p (kernel kind root t) in
+  work-within p (kernel trees) can writes few =
+      let z : PlainNest = working p (kernel trees) in
       let n = size_of t in
       let f = frame_of c z.work in
       let deep = length (loop_counts c z) in

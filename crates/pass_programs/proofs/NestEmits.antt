@@ -170,8 +170,8 @@ module _ (c : PlainMachine) (lanes : 0 < c.lanes) (modulus : 2 ≤ c.modulus) (p
 
   emits-copy : (p : PlainNest) (w : PlainWork) (can : CanRunNest c (working p w)) → CanWriteNest c (working p w) → HasNestTables (working p w) → (vs : List ℕ) → AreInRange can.framed.loops vs →
       Emits (steps_of_body program (work_body c (working p w) w (length (loop_counts c (working p w))) powers table source target) vs q) (copy_acts c (working p w) w (start_of c source) (start_of c target) q vs)
-  emits-copy p (kernel kind root t) can writes has vs range =
-      let z : PlainNest = working p (kernel kind root t) in
+  emits-copy p (kernel trees) can writes has vs range =
+      let z : PlainNest = working p (kernel trees) in
       let deep = length (loop_counts c z) in
       emits-made c z program here lanes q source target table vs has.diagonal (size_of t) (kernel_of c.modulus c.lanes kind t root) (kernel-runs c 1 kind t root modulus can.work.0 can.work.1 0 lanes).constant
       (λ k below. is-loaded c lanes z can writes q part vs range k below deep k vs (alone-coded c lanes z can writes q part vs range z.gathers k writes.gathers.1 writes.gathers.0.sound))
@@ -234,7 +234,7 @@ module _ (c : PlainMachine) (lanes : 0 < c.lanes) (modulus : 2 ≤ c.modulus) (p
 -- ---- a nest, after these tables
 
 work-extends : (m : ℕ) (w : PlainWork) (ts : List (List ℕ)) → Extends (tables_of_work m w ts) ts
-work-extends m (kernel kind root t) ts = record { last = []; is = sym (append-nil ts) }
+work-extends m (kernel trees) ts = record { last = []; is = sym (append-nil ts) }
 work-extends m (rows root n) ts = with_table-extends ts (powers_of m root n)
 work-extends m (horner root n) ts = with_table-extends ts (powers_of m root n)
 work-extends m (tile v) ts = record { last = []; is = sym (append-nil ts) }

@@ -55,7 +55,7 @@ framed-two false g q us =
 
 module _ (c : PlainMachine) where
   pub framed-values : (w : PlainWork) (q : ℕ) (us : List ℕ) → IsFramedBy (frame_of c w) (slice_index (values_of c w q 0 us)) (slice_index us) q
-  framed-values (kernel kind root tree) q us = framed-two (c.procs == 1) (c.lanes == 1) q us
+  framed-values (kernel trees) q us = framed-two (c.procs == 1) (c.lanes == 1) q us
   framed-values (rows root size) q us = framed-two (c.procs == 1) (c.lanes == 1) q us
   framed-values (horner root size) q us = framed-two (c.procs == 1) (c.lanes == 1) q us
   framed-values (tile v) q us = framed-none q us
@@ -75,7 +75,7 @@ module _ (c : PlainMachine) where
   several-append q vs more = append_assoc (if_several c.procs q) (if_several c.lanes 0 ++ vs) more ∙ ap (λ xs. if_several c.procs q ++ xs) (append_assoc (if_several c.lanes 0) vs more)
 
   pub values-append : (w : PlainWork) (q : ℕ) (vs more : List ℕ) → values_of c w q 0 vs ++ more ≡ values_of c w q 0 (vs ++ more)
-  values-append (kernel kind root tree) q vs more = several-append q vs more
+  values-append (kernel trees) q vs more = several-append q vs more
   values-append (rows root size) q vs more = several-append q vs more
   values-append (horner root size) q vs more = several-append q vs more
   values-append (tile v) q vs more = append_assoc (if_several c.procs q) vs more
@@ -89,7 +89,7 @@ module _ (c : PlainMachine) where
   length-both q us = length-several (c.procs == 1) q (if_several c.lanes 0 ++ us) ∙ ap (λ n. one_if_several c.procs + n) (length-several (c.lanes == 1) 0 us) ∙ omega arith
 
   length-values : (w : PlainWork) (q : ℕ) (us : List ℕ) → length (values_of c w q 0 us) ≡ first_loop c w + length us
-  length-values (kernel kind root tree) q us = length-both q us
+  length-values (kernel trees) q us = length-both q us
   length-values (rows root size) q us = length-both q us
   length-values (horner root size) q us = length-both q us
   length-values (tile v) q us = length-several (c.procs == 1) q us ∙ omega arith

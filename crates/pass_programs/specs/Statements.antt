@@ -4,7 +4,7 @@ use Rattle.icode.specs.Plain.{PlainExpr, PlainOp, PlainBody, NoStmts, AndStmts, 
 use Rattle.icode.specs.declared.action.Action.{Action}
 use Rattle.icode.specs.declared.action.Action.TheVariants as actions
 use Rattle.icode.specs.declared.program.Array.{Array}
-use Rattle.kernel_gen.specs.Kernel.{kernel_of}
+use Rattle.kernel_gen.specs.Kernel.{trees_kernel}
 use Rattle.kernel_gen.specs.Making.{Made}
 use Rattle.operators.specs.Sum.{list_below}
 use Rattle.pass_programs.specs.Expressions.{expr_of}
@@ -165,8 +165,8 @@ items_body f z open_loops size table source target =
     in_a_row size (λ k. AndStmts (Do (Load 0 source (place_at f open_loops z.gathers k))) (finish_body f 0 z.multiplier z.scatters open_loops table target k 0 1))
 
 abbrev pub work_body : PlainMachine → PlainNest → PlainWork → ℕ → ℕ → ℕ → Array → Array → PlainBody
-work_body h z (kernel kind root tree) open_loops powers table source target =
-    made_body (frame_of h z.work) z open_loops (work_size (kernel kind root tree)) (kernel_of h.modulus h.lanes kind tree root) table source target
+work_body h z (kernel trees) open_loops powers table source target =
+    made_body (frame_of h z.work) z open_loops (work_size (kernel trees)) (trees_kernel h.modulus h.lanes trees) table source target
 work_body h z (rows root size) open_loops powers table source target =
     let f = frame_of h z.work in rows_body f z open_loops size (term_body (place_at f (open_loops + 2) z.gathers 0) open_loops source powers size) table target
 work_body h z (horner root size) open_loops powers table source target =

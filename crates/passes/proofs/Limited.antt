@@ -181,8 +181,8 @@ tile-limited room path v several some high short low =
 
 pub new-within : (room lanes : ℕ) (path : Path) (w : PlainWork) → CanNest lanes path w → HasRows w → AreSeveral path → 0 < work_size w → size_under path (work_size w) ≤ 2 ^ 20 → length path + 2 ≤ room →
     is_within room (size_under path (work_size w)) (new_nest path w (items_in w (length path)) ∷ []) ≡ true
-new-within room lanes path (kernel kind root t) can long several some high short =
-    let d = work_size (kernel kind root t) in
+new-within room lanes path (kernel trees) can long several some high short =
+    let d = work_size (kernel trees) in
     let low = item-low path d several some high in
     let all = constants-limited room path d several some high short d (range_with_len 0 d) (omega arith) low (range-below d) in both-within _ _ all all
 new-within room lanes path (rows root d) can long several some high short =

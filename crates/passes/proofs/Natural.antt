@@ -189,7 +189,7 @@ horner-turn d k below =
     ap (λ z. z % d) whole ∙ mod-mul-add e d k below
 
 pub load-natural : (lanes : ℕ) (path : Path) (w : PlainWork) (vs : List ℕ) (k : ℕ) → CanNest lanes path w → AreInRange path vs → k < work_size w → load_place w (map (place_sum path (work_size w) 0) (items_in w (length path))) vs k ≡ place path (work_size w) vs k
-load-natural lanes path (kernel kind root t) vs k can range below = straight-place path _ k vs range below
+load-natural lanes path (kernel trees) vs k can range below = straight-place path _ k vs range below
 load-natural lanes path (rows root d) vs k can range below =
     place-with path d (variable 1 (length path + 1) (constant 0)) vs (0 ∷ k ∷ []) k range
     (ap (λ i. 1 * slice_index (vs ++ 0 ∷ k ∷ []) i + 0) (omega arith) ∙ ap (λ v. 1 * v + 0) (at-second path vs 0 k range) ∙ omega arith)
@@ -203,7 +203,7 @@ load-natural lanes path (tile v) vs k can range below = tile-natural path v k vs
 load-natural lanes path (copy d) vs k can range below = straight-place path d k vs range below
 
 pub store-natural : (lanes : ℕ) (path : Path) (w : PlainWork) (vs : List ℕ) (k : ℕ) → CanNest lanes path w → AreInRange path vs → k < work_size w → store_place w (map (place_sum path (work_size w) 0) (items_out w (length path))) vs k ≡ place path (work_size w) vs k
-store-natural lanes path (kernel kind root t) vs k can range below = straight-place path _ k vs range below
+store-natural lanes path (kernel trees) vs k can range below = straight-place path _ k vs range below
 store-natural lanes path (rows root d) vs k can range below =
     place-with path d (variable 1 (length path) (constant 0)) vs (k ∷ []) k range (ap (λ v. 1 * v + 0) (at-first path vs k [] range) ∙ omega arith)
 store-natural lanes path (horner root d) vs k can range below =
@@ -216,16 +216,16 @@ names-tile path v =
     record { enough = omega (arith, length-map (place_sum path (v * v) 0) (map (λ k. constant (k * v)) (range_with_len 0 v)), length-tile v); sound = sound-places path (v * v) _ (sound-tile v (range_with_len 0 v)) }
 
 pub names-in : (lanes : ℕ) (path : Path) (w : PlainWork) → CanNest lanes path w → 0 < work_size w → NamesItems w (map (place_sum path (work_size w) 0) (items_in w (length path)))
-names-in lanes path (kernel kind root t) can some =
-    record { enough = omega (arith, length-map (place_sum path (work_size (kernel kind root t)) 0) (map constant (range_with_len 0 (work_size (kernel kind root t)))), length-constants (work_size (kernel kind root t))); sound = sound-places path _ _ (sound-constants _) }
+names-in lanes path (kernel trees) can some =
+    record { enough = omega (arith, length-map (place_sum path (work_size (kernel trees)) 0) (map constant (range_with_len 0 (work_size (kernel trees)))), length-constants (work_size (kernel trees))); sound = sound-places path _ _ (sound-constants _) }
 names-in lanes path (rows root d) can some = record { enough = omega arith; sound = (sound-place_sum path d 0 _ tt, tt) }
 names-in lanes path (horner root d) can some = record { enough = omega arith; sound = (sound-place_sum path d 0 _ (some, tt, tt), tt) }
 names-in lanes path (tile v) can some = names-tile path v
 names-in lanes path (copy d) can some = record { enough = omega (arith, length-map (place_sum path d 0) (map constant (range_with_len 0 d)), length-constants d); sound = sound-places path d _ (sound-constants _) }
 
 pub names-out : (lanes : ℕ) (path : Path) (w : PlainWork) → CanNest lanes path w → NamesItems w (map (place_sum path (work_size w) 0) (items_out w (length path)))
-names-out lanes path (kernel kind root t) can =
-    record { enough = omega (arith, length-map (place_sum path (work_size (kernel kind root t)) 0) (map constant (range_with_len 0 (work_size (kernel kind root t)))), length-constants (work_size (kernel kind root t))); sound = sound-places path _ _ (sound-constants _) }
+names-out lanes path (kernel trees) can =
+    record { enough = omega (arith, length-map (place_sum path (work_size (kernel trees)) 0) (map constant (range_with_len 0 (work_size (kernel trees)))), length-constants (work_size (kernel trees))); sound = sound-places path _ _ (sound-constants _) }
 names-out lanes path (rows root d) can = record { enough = omega arith; sound = (sound-place_sum path d 0 _ tt, tt) }
 names-out lanes path (horner root d) can = record { enough = omega arith; sound = (sound-place_sum path d 0 _ tt, tt) }
 names-out lanes path (tile v) can = names-tile path v
@@ -262,21 +262,21 @@ nest-natural lanes m n path w x can =
     (λ vs k range within. store-natural lanes path w vs k can (ranged path vs range) within)))
 
 pub tiled : (lanes : ℕ) (path : Path) (w : PlainWork) → CanNest lanes path w → HasLanes lanes w
-tiled lanes path (kernel kind root t) can = tt
+tiled lanes path (kernel trees) can = tt
 tiled lanes path (rows root d) can = tt
 tiled lanes path (horner root d) can = tt
 tiled lanes path (tile v) can = can.0
 tiled lanes path (copy d) can = tt
 
 pub whole-in : (lanes : ℕ) (path : Path) (w : PlainWork) → CanNest lanes path w → AreWhole (map count_of path) w (map (place_sum path (work_size w) 0) (items_in w (length path)))
-whole-in lanes path (kernel kind root t) can = tt
+whole-in lanes path (kernel trees) can = tt
 whole-in lanes path (rows root d) can = tt
 whole-in lanes path (horner root d) can = tt
 whole-in lanes path (tile v) can = tile-whole path v can.1
 whole-in lanes path (copy d) can = tt
 
 pub whole-out : (lanes : ℕ) (path : Path) (w : PlainWork) → CanNest lanes path w → AreWhole (map count_of path) w (map (place_sum path (work_size w) 0) (items_out w (length path)))
-whole-out lanes path (kernel kind root t) can = tt
+whole-out lanes path (kernel trees) can = tt
 whole-out lanes path (rows root d) can = tt
 whole-out lanes path (horner root d) can = tt
 whole-out lanes path (tile v) can = tile-whole path v can.1

@@ -100,7 +100,7 @@ moves-lanes lanes zero f h moves = moves-no-words f
 moves-lanes lanes (suc v) f h moves = subst (λ w. MovesVectors w f) (sym (h (omega arith))) moves
 
 pub suiting : (lanes : ℕ) (w : PlainWork) (f : ℕ → ℕ) → HasLanes lanes w → MovesVectors lanes f → Suits w f
-suiting lanes (kernel kind root t) f h moves = tt
+suiting lanes (kernel trees) f h moves = tt
 suiting lanes (rows root d) f h moves = tt
 suiting lanes (horner root d) f h moves = tt
 suiting lanes (tile v) f h moves = moves-lanes lanes v f h moves
@@ -108,7 +108,7 @@ suiting lanes (copy d) f h moves = tt
 
 pub whole-simplified : (counts : List ℕ) (w : PlainWork) (f : Mapping) (sums : List Sum) → Suits w (at f) → IsFormed f → NamesItems w sums → AreWhole counts w sums →
     AreWhole counts w (map (simplified (slice_index (counts ++ work_size w ∷ work_size w ∷ [])) f) sums)
-whole-simplified counts (kernel kind root t) f sums suits form names whole = tt
+whole-simplified counts (kernel trees) f sums suits form names whole = tt
 whole-simplified counts (rows root d) f sums suits form names whole = tt
 whole-simplified counts (horner root d) f sums suits form names whole = tt
 whole-simplified counts (tile v) f sums suits form names whole = λ vs i range below.
@@ -120,7 +120,7 @@ whole-simplified counts (copy d) f sums suits form names whole = tt
 
 pub load-simplified : (counts : List ℕ) (w : PlainWork) (f : Mapping) (sums : List Sum) (vs : List ℕ) (k : ℕ) → Suits w (at f) → IsFormed f → NamesItems w sums → AreWhole counts w sums → AreInRange (loops_of counts) vs → k < work_size w →
     load_place w (map (simplified (slice_index (counts ++ work_size w ∷ work_size w ∷ [])) f) sums) vs k ≡ at f (load_place w sums vs k)
-load-simplified counts (kernel kind root t) f sums vs k suits form names whole range below = sum-simplified _ f sums k vs form names.sound (omega (arith, names.enough, below)) (alone counts _ vs range)
+load-simplified counts (kernel trees) f sums vs k suits form names whole range below = sum-simplified _ f sums k vs form names.sound (omega (arith, names.enough, below)) (alone counts _ vs range)
 load-simplified counts (rows root d) f sums vs k suits form names whole range below =
     sum-simplified _ f sums 0 (vs ++ 0 ∷ k ∷ []) form names.sound (omega (arith, names.enough)) (with_more counts d vs (0 ∷ k ∷ []) range (two_below d 0 k (omega arith) below))
 load-simplified counts (horner root d) f sums vs k suits form names whole range below =
@@ -134,7 +134,7 @@ load-simplified counts (copy d) f sums vs k suits form names whole range below =
 
 pub store-simplified : (counts : List ℕ) (w : PlainWork) (f : Mapping) (sums : List Sum) (vs : List ℕ) (k : ℕ) → Suits w (at f) → IsFormed f → NamesItems w sums → AreWhole counts w sums → AreInRange (loops_of counts) vs → k < work_size w →
     store_place w (map (simplified (slice_index (counts ++ work_size w ∷ work_size w ∷ [])) f) sums) vs k ≡ at f (store_place w sums vs k)
-store-simplified counts (kernel kind root t) f sums vs k suits form names whole range below = sum-simplified _ f sums k vs form names.sound (omega (arith, names.enough, below)) (alone counts _ vs range)
+store-simplified counts (kernel trees) f sums vs k suits form names whole range below = sum-simplified _ f sums k vs form names.sound (omega (arith, names.enough, below)) (alone counts _ vs range)
 store-simplified counts (rows root d) f sums vs k suits form names whole range below =
     sum-simplified _ f sums 0 (vs ++ k ∷ []) form names.sound (omega (arith, names.enough)) (with_more counts d vs (k ∷ []) range (one_below d k below))
 store-simplified counts (horner root d) f sums vs k suits form names whole range below =

@@ -136,7 +136,7 @@ no-tile v k none below = let some = factor_positive v v k below in omega (arith,
 
 load-lifted : (path : Path) (n before : ℕ) (w : PlainWork) (sums : List Sum) (counts vs : List ℕ) (k : ℕ) → HasLanes 0 w → NamesItems w sums → AreInRange (loops_of (map count_of path ++ counts)) vs → k < work_size w →
     load_place w (map (up path n before) sums) vs k ≡ place path n vs (before + load_place w sums (rest_of path vs) k)
-load-lifted path n before (kernel kind root t) sums counts vs k loose names h below = lift-alone path n before sums counts vs k (omega (arith, names.enough, below)) h
+load-lifted path n before (kernel trees) sums counts vs k loose names h below = lift-alone path n before sums counts vs k (omega (arith, names.enough, below)) h
 load-lifted path n before (rows root d) sums counts vs k loose names h below = lift-more path n before sums counts vs (0 ∷ k ∷ []) (omega (arith, names.enough)) h
 load-lifted path n before (horner root d) sums counts vs k loose names h below = lift-more path n before sums counts vs (0 ∷ (d - 1 - k) ∷ []) (omega (arith, names.enough)) h
 load-lifted path n before (tile v) sums counts vs k loose names h below = absurd (no-tile v k loose below)
@@ -144,7 +144,7 @@ load-lifted path n before (copy d) sums counts vs k loose names h below = lift-a
 
 store-lifted : (path : Path) (n before : ℕ) (w : PlainWork) (sums : List Sum) (counts vs : List ℕ) (k : ℕ) → HasLanes 0 w → NamesItems w sums → AreInRange (loops_of (map count_of path ++ counts)) vs → k < work_size w →
     store_place w (map (up path n before) sums) vs k ≡ place path n vs (before + store_place w sums (rest_of path vs) k)
-store-lifted path n before (kernel kind root t) sums counts vs k loose names h below = lift-alone path n before sums counts vs k (omega (arith, names.enough, below)) h
+store-lifted path n before (kernel trees) sums counts vs k loose names h below = lift-alone path n before sums counts vs k (omega (arith, names.enough, below)) h
 store-lifted path n before (rows root d) sums counts vs k loose names h below = lift-more path n before sums counts vs (k ∷ []) (omega (arith, names.enough)) h
 store-lifted path n before (horner root d) sums counts vs k loose names h below = lift-more path n before sums counts vs (k ∷ []) (omega (arith, names.enough)) h
 store-lifted path n before (tile v) sums counts vs k loose names h below = absurd (no-tile v k loose below)
@@ -157,7 +157,7 @@ factor-more : (path : Path) (sums : List Sum) (counts vs : List ℕ) (k : ℕ) �
 factor-more path sums counts vs k h = factor-alone path sums (vs ++ k ∷ []) 0 ∙ ap (sum_value sums 0) (rest-append path counts vs (k ∷ []) h)
 
 factor-lifted : (path : Path) (w : PlainWork) (sums : List Sum) (counts vs : List ℕ) (k : ℕ) → HasLanes 0 w → k < work_size w → AreInRange (loops_of (map count_of path ++ counts)) vs → store_place w (map (renumbered (length path)) sums) vs k ≡ store_place w sums (rest_of path vs) k
-factor-lifted path (kernel kind root t) sums counts vs k loose below h = factor-alone path sums vs k
+factor-lifted path (kernel trees) sums counts vs k loose below h = factor-alone path sums vs k
 factor-lifted path (rows root d) sums counts vs k loose below h = factor-more path sums counts vs k h
 factor-lifted path (horner root d) sums counts vs k loose below h = factor-more path sums counts vs k h
 factor-lifted path (tile v) sums counts vs k loose below h = absurd (no-tile v k loose below)
@@ -348,14 +348,14 @@ names-up path n before w sums h = record { enough = omega (arith, h.enough, leng
 
 -- work with no tiles is work for any lanes
 no-tiles : (lanes : ℕ) (w : PlainWork) → HasLanes 0 w → HasLanes lanes w
-no-tiles lanes (kernel kind root t) h = tt
+no-tiles lanes (kernel trees) h = tt
 no-tiles lanes (rows root d) h = tt
 no-tiles lanes (horner root d) h = tt
 no-tiles lanes (tile v) h = λ some. absurd (let none = h some in omega (arith, some, none))
 no-tiles lanes (copy d) h = tt
 
 none-whole : (counts : List ℕ) (w : PlainWork) (sums : List Sum) → HasLanes 0 w → AreWhole counts w sums
-none-whole counts (kernel kind root t) sums h = tt
+none-whole counts (kernel trees) sums h = tt
 none-whole counts (rows root d) sums h = tt
 none-whole counts (horner root d) sums h = tt
 none-whole counts (tile v) sums h = λ vs i range below. absurd (let none = h (omega (arith, below)) in omega (arith, below, none))

@@ -279,7 +279,7 @@ pub none-moves : (lanes : ℕ) → MovesVectors lanes (λ i. i)
 none-moves lanes = record { together = λ i j whole below. refl; begins = λ i whole some. whole }
 
 pub loose-suits : (w : PlainWork) (f : Mapping) → not (is_tile w) ≡ true → Suits w (at f)
-loose-suits (kernel kind root t) f h = tt
+loose-suits (kernel trees) f h = tt
 loose-suits (rows root d) f h = tt
 loose-suits (horner root d) f h = tt
 loose-suits (tile v) f h = absurd (cc)

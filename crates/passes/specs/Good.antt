@@ -20,7 +20,7 @@ AreSound (e ∷ es) = IsSound e × AreSound es
 
 -- how many sums name the items of a copy
 abbrev pub named : PlainWork → ℕ
-named (kernel kind root tree) = work_size (kernel kind root tree)
+named (kernel trees) = work_size (kernel trees)
 named (rows root size) = 1
 named (horner root size) = 1
 named (tile lanes) = lanes

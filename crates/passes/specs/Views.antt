@@ -16,10 +16,10 @@ use Rattle.index_fn.specs.Index.{mapping_of}
 use Rattle.passes.specs.declared.work.Work.{Work}
 use Rattle.passes.specs.declared.work.Work.TheVariants.{Kernel, Rows, Horner, Tile, Copy}
 use Rattle.perm_algebra.specs.Views.{plain_sum}
-use Rattle.tree_model.specs.Breakdown.{breakdown_of}
+use Rattle.rooted_trees.specs.Trees.{plain_trees}
 
 abbrev pub plain_work : Work → PlainWork
-plain_work (Kernel kind root tree) = kernel kind root (breakdown_of tree)
+plain_work (Kernel trees) = kernel (plain_trees trees)
 plain_work (Rows root size) = rows root size
 plain_work (Horner root size) = horner root size
 plain_work (Tile lanes) = tile lanes

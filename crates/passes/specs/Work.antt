@@ -1,16 +1,15 @@
 -- What a loop does to each of its copies.
 use Rattle.std.specs.Prelude.{ℕ, ◌*◌, ◌^◌, ◌<◌, Bool, true, false, slice_index}
-use Rattle.matrix_meaning.specs.declared.Kind.{Kind}
 use Rattle.matrix_meaning.specs.declared.Kind.TheVariants.{Dft}
 use Rattle.matrix_meaning.specs.Kind.{transform}
 use Rattle.operators.specs.Identities.{turn}
 use Rattle.operators.specs.Operator.{Operator}
 use Rattle.operators.specs.Sum.{list_below}
-use Rattle.tree_model.specs.Breakdown.{Breakdown, size_of, HasWordSizes}
+use Rattle.rooted_trees.specs.Trees.{PlainTrees, trees_size, trees_on, AreWords}
 
 pub data PlainWork : Type 0 where
-  -- the transform of a tree's size by this root, in straight-line code
-  kernel : (kind : Kind) (root : ℕ) (tree : Breakdown) → PlainWork
+  -- the tensor product of the trees' transforms, in straight-line code
+  kernel : (trees : PlainTrees) → PlainWork
   -- a longer leaf by its rows: the sum of the items' products with powers of a root of this size
   rows : (root size : ℕ) → PlainWork
   -- the same transform for any root, each row by Horner's rule
@@ -21,7 +20,7 @@ pub data PlainWork : Type 0 where
   copy : (size : ℕ) → PlainWork
 
 abbrev pub work_size : PlainWork → ℕ
-work_size (kernel kind root tree) = size_of tree
+work_size (kernel trees) = trees_size trees
 work_size (rows root size) = size
 work_size (horner root size) = size
 work_size (tile lanes) = lanes * lanes
@@ -29,7 +28,7 @@ work_size (copy size) = size
 
 -- what it makes of the items of a copy, modulo m
 abbrev pub work_on : ℕ → PlainWork → Operator
-work_on m (kernel kind root tree) x = transform kind m (size_of tree) root x
+work_on m (kernel trees) x = trees_on m trees x
 work_on m (rows root size) x = transform Dft m size root x
 work_on m (horner root size) x = transform Dft m size root x
 work_on m (tile lanes) x = turn lanes lanes x
@@ -48,6 +47,6 @@ vectors_of work = work_size work
 
 -- the numbers of a copy are words
 abbrev pub HasWords : PlainWork → Type 0
-HasWords (kernel kind root tree) = HasWordSizes tree
+HasWords (kernel trees) = AreWords trees
 HasWords (tile lanes) = lanes * lanes < 2 ^ 64
 HasWords work = Unit {0}

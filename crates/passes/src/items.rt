@@ -23,7 +23,7 @@ pub fn items_in(alloc: Global, work: &Work, depth: u64) -> Result<Vec<Affine>, N
         Work::Rows { .. } => one(alloc, multiple_of(alloc, 1, depth + 1, 0)?),
         Work::Horner { size, .. } => one(alloc, backwards(alloc, *size, depth + 1)?),
         Work::Tile { lanes } => multiples(alloc, *lanes),
-        Work::Kernel { .. } | Work::Copy { .. } => numbers(alloc, work.size()),
+        Work::Kernel(_) | Work::Copy { .. } => numbers(alloc, work.size()),
     }
 }
 
@@ -35,7 +35,7 @@ pub fn items_out(alloc: Global, work: &Work, depth: u64) -> Result<Vec<Affine>, 
     match work {
         Work::Rows { .. } | Work::Horner { .. } => one(alloc, multiple_of(alloc, 1, depth, 0)?),
         Work::Tile { lanes } => multiples(alloc, *lanes),
-        Work::Kernel { .. } | Work::Copy { .. } => numbers(alloc, work.size()),
+        Work::Kernel(_) | Work::Copy { .. } => numbers(alloc, work.size()),
     }
 }
 

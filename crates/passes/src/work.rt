@@ -3,16 +3,15 @@ ghost use Rattle.std.specs.Prelude.{◌≡◌, IfOk};
 ghost use Rattle.passes.specs.Views.{plain_work};
 ghost use Rattle.passes.specs.Work.{HasWords, is_straight, vectors_of, work_size};
 
-use matrix_meaning::Kind;
 use memory::NoMemory;
+use rooted_trees::RootedTrees;
 use std::alloc::Global;
-use tree_model::Tree;
 
 /// The work of a nest on each of its copies. It carries all that its meaning rests on but the modulus.
 #[derive(Drop)]
 pub enum Work {
-    /// The transform of the tree's size by this root, in straight-line code. The root is 0 for the Walsh-Hadamard transform.
-    Kernel { kind: Kind, root: u64, tree: Tree },
+    /// The tensor product of the trees' transforms, in straight-line code.
+    Kernel(RootedTrees),
     /// A longer leaf by its rows: each the sum of the items' products with powers of a root of this size.
     Rows { root: u64, size: u64 },
     /// The same transform for any root, each row by Horner's rule.
@@ -30,7 +29,7 @@ impl Work {
         ensures { result ≡ work_size (plain_work self.now) }
     {
         match self {
-            Work::Kernel { tree, .. } => tree.size(),
+            Work::Kernel(trees) => trees.size(),
             Work::Rows { size, .. } | Work::Horner { size, .. } | Work::Copy { size } => *size,
             Work::Tile { lanes } => lanes * lanes,
         }
@@ -53,7 +52,7 @@ impl Work {
     {
         match self {
             Work::Rows { .. } | Work::Horner { .. } => false,
-            Work::Kernel { .. } | Work::Tile { .. } | Work::Copy { .. } => true,
+            Work::Kernel(_) | Work::Tile { .. } | Work::Copy { .. } => true,
         }
     }
 
@@ -62,14 +61,7 @@ impl Work {
         ensures { IfOk result (λ work. plain_work work ≡ plain_work self.now) }
     {
         match self {
-            Work::Kernel { kind, root, tree } => {
-                let tree = tree.copied(alloc)?;
-                Ok(Work::Kernel {
-                    kind: *kind,
-                    root: *root,
-                    tree,
-                })
-            }
+            Work::Kernel(trees) => Ok(Work::Kernel(trees.copied(alloc)?)),
             Work::Rows { root, size } => Ok(Work::Rows {
                 root: *root,
                 size: *size,

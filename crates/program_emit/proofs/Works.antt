@@ -28,13 +28,13 @@ work-of h z w is can = (subst (CanWork h) is can.runs.work, subst (λ (v : Plain
 
 pub kernel-words : (h : PlainMachine) (z : PlainNest) (kind : Kind) (root : ℕ) (t : Breakdown) → z.work ≡ kernel kind root t → CanEmit h z → HasWordSizes t
 kernel-words h z kind root t is can =
-    let work = work-of h z (kernel kind root t) is can in
+    let work = work-of h z (kernel trees) is can in
     let small = work.1 in word_sizes kind t work.0.0 (omega arith)
 
 -- the code of a kernel has an output for each item
 pub kernel-sized : (h : PlainMachine) (z : PlainNest) (kind : Kind) (root : ℕ) (t : Breakdown) → z.work ≡ kernel kind root t → CanEmit h z → length (kernel_of h.modulus h.lanes kind t root).outs ≡ size_of t
 kernel-sized h z kind root t is can =
-    let work = work-of h z (kernel kind root t) is can in
+    let work = work-of h z (kernel trees) is can in
     (kernel-runs h 1 kind t root can.modulus work.0.0 work.0.1 0 can.lanes.0).sized
 
 can-list : (factors : PlainFactors) → 0 < factor_count factors → factor_count factors < 2 ^ 32 → CanList factors

@@ -16,7 +16,7 @@ use crate::row_statements::{statements_of_horner, statements_of_rows};
 use crate::site::Site;
 use crate::tile_statements::statements_of_tile;
 use icode::program::Stmt;
-use kernel_gen::tree_kernel;
+use kernel_gen::trees_kernel;
 use memory::NoMemory;
 use passes::{Nest, Work};
 use std::alloc::Global;
@@ -42,8 +42,8 @@ pub(crate) fn emit_work(
     ensures registers { IfOk result (λ e. let z = plain_nest nest.now in e.registers ≡ nest_registers (plain_host host.now) z z.work) }
 {
     match &nest.work {
-        Work::Kernel { kind, root, tree } => {
-            let made = tree_kernel(alloc, &host.modulus, host.lanes, *kind, tree, *root)?;
+        Work::Kernel(trees) => {
+            let made = trees_kernel(alloc, &host.modulus, host.lanes, trees)?;
             let statements = statements_of_kernel(alloc, nest, &made, site)?;
             let registers = registers_with(&nest.multiplier, made.regs, made.inputs);
             Ok(Emitted {

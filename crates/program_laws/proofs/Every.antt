@@ -114,8 +114,8 @@ module _ (P : Action → Type 0) (free : IsFree P) where
     StoresHave p = (vs : List ℕ) (k r : ℕ) → AreInRange (loop_counts c p) vs → k < vectors_of p.work → P (Store (target + store_at c p q vs k) r)
 
     in-copy : (p : PlainNest) (w : PlainWork) → LoadsHave (working p w) → StoresHave (working p w) → (vs : List ℕ) → AreInRange (loop_counts c (working p w)) vs → All P (copy_acts c (working p w) w source target q vs)
-    in-copy p (kernel kind root t) load store vs range =
-        in-made c (working p (kernel kind root t)) source target q vs (size_of t) (λ k r below. load vs k r range below) (λ k r below. store vs k r range below) (kernel_of c.modulus c.lanes kind t root) c.modulus
+    in-copy p (kernel trees) load store vs range =
+        in-made c (working p (kernel trees)) source target q vs (size_of t) (λ k r below. load vs k r range below) (λ k r below. store vs k r range below) (kernel_of c.modulus c.lanes kind t root) c.modulus
         (tree-operates c.modulus c.lanes large kind t root (list_below (size_of t) (λ k. k)) (size_of t))
     in-copy p (rows root n) load store vs range =
         let z : PlainNest = working p (rows root n) in

@@ -58,7 +58,7 @@ module _ (room count : ℕ) (counts : List ℕ) (size : ℕ) (sums : List Sum) (
 
 place-below : (room count : ℕ) (counts : List ℕ) (w : PlainWork) (sums : List Sum) (vs : List ℕ) (k : ℕ) → IsLoose w → NamesItems w sums → list_all (is_limited room count (slice_index (counts ++ work_size w ∷ work_size w ∷ []))) sums ≡ true →
     AreInRange (loops_of counts) vs → k < work_size w → store_place w sums vs k < count
-place-below room count counts (kernel kind root t) sums vs k loose names tested range under = alone-below room count counts (work_size (kernel kind root t)) sums names.sound tested vs range k (let enough = names.enough in omega arith)
+place-below room count counts (kernel trees) sums vs k loose names tested range under = alone-below room count counts (work_size (kernel trees)) sums names.sound tested vs range k (let enough = names.enough in omega arith)
 place-below room count counts (rows root n) sums vs k loose names tested range under = row-below room count counts n sums names.sound tested vs range k under (let enough = names.enough in omega arith)
 place-below room count counts (horner root n) sums vs k loose names tested range under = row-below room count counts n sums names.sound tested vs range k under (let enough = names.enough in omega arith)
 place-below room count counts (tile v) sums vs k loose names tested range under = absurd loose

@@ -28,7 +28,7 @@ length-order (p ∷ ps) = let all = length-append (in_order ps) (p ∷ []) in le
 -- ---- one processor and one lane
 
 plain-framed : (n m : ℕ) (z : PlainNest) (w : PlainWork) → z.counts ≡ if_several 1 1 ++ (framed_lanes (plain_machine n m) w ++ z.counts)
-plain-framed n m z (kernel kind root t) = refl
+plain-framed n m z (kernel trees) = refl
 plain-framed n m z (rows root size) = refl
 plain-framed n m z (horner root size) = refl
 plain-framed n m z (tile v) = refl

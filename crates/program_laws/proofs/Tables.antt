@@ -74,7 +74,7 @@ module _ (c : PlainMachine) (residues : 0 < c.modulus) where
   powers-within root n tables some h = with_table-within c.modulus residues tables (powers_of c.modulus root n) h (list-within c.modulus residues n (power_mod c.modulus root) some (λ k. power_below c.modulus root k residues))
 
   work-within : (w : PlainWork) (tables : List (List ℕ)) → CanWork c w → AreWithin tables → AreWithin (tables_of_work c.modulus w tables)
-  work-within (kernel kind root t) tables can h = h
+  work-within (kernel trees) tables can h = h
   work-within (rows root n) tables can h = powers-within root n tables can.0 h
   work-within (horner root n) tables can h = powers-within root n tables can h
   work-within (tile v) tables can h = h

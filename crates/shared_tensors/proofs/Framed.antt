@@ -44,14 +44,14 @@ names-renumbered k w sums h = record { enough = let same = length-map (renumbere
 -- ---- work
 
 can-work : (h : PlainMachine) (n : ℕ) (w : PlainWork) → IsNoTile w → CanWork (plain_machine n h.modulus) w → CanWork h w
-can-work h n (kernel kind root t) none can = can
+can-work h n (kernel trees) none can = can
 can-work h n (rows root d) none can = can
 can-work h n (horner root d) none can = can
 can-work h n (tile v) none can = absurd (none v refl)
 can-work h n (copy d) none can = can
 
 pub lanes-of : (h : PlainMachine) (w : PlainWork) → IsNoTile w → framed_lanes h w ≡ if_several h.lanes h.lanes
-lanes-of h (kernel kind root t) none = refl
+lanes-of h (kernel trees) none = refl
 lanes-of h (rows root d) none = refl
 lanes-of h (horner root d) none = refl
 lanes-of h (tile v) none = absurd (none v refl)
@@ -84,7 +84,7 @@ module _ (h : PlainMachine) (path : Path) (up : Sum → Sum) (wraps : Wraps h pa
 
   loads-lane : (w : PlainWork) (sums : List Sum) (q lane k : ℕ) (vs : List ℕ) → IsNoTile w → NamesItems w sums → k < vectors_of w → (h.lanes ≡ 1 → lane ≡ 0) →
       load_place w (map up sums) (values_of h w q lane vs) (item_of w k lane) ≡ load_place w (map up sums) (values_of h w q 0 vs) (item_of w k 0) + lane
-  loads-lane (kernel kind root t) sums q lane k vs plain names below none = let enough = names.enough in sum-lane sums k q lane vs (omega (arith, enough, below)) none
+  loads-lane (kernel trees) sums q lane k vs plain names below none = let enough = names.enough in sum-lane sums k q lane vs (omega (arith, enough, below)) none
   loads-lane (rows root d) sums q lane k vs plain names below none = let enough = names.enough in sum-more sums q lane vs (0 ∷ k ∷ []) (omega (arith, enough)) none
   loads-lane (horner root d) sums q lane k vs plain names below none = let enough = names.enough in sum-more sums q lane vs (0 ∷ (d - 1 - k) ∷ []) (omega (arith, enough)) none
   loads-lane (tile v) sums q lane k vs plain names below none = absurd (plain v refl)
@@ -92,7 +92,7 @@ module _ (h : PlainMachine) (path : Path) (up : Sum → Sum) (wraps : Wraps h pa
 
   stores-lane : (w : PlainWork) (sums : List Sum) (q lane k : ℕ) (vs : List ℕ) → IsNoTile w → NamesItems w sums → k < vectors_of w → (h.lanes ≡ 1 → lane ≡ 0) →
       store_place w (map up sums) (values_of h w q lane vs) (item_of w k lane) ≡ store_place w (map up sums) (values_of h w q 0 vs) (item_of w k 0) + lane
-  stores-lane (kernel kind root t) sums q lane k vs plain names below none = let enough = names.enough in sum-lane sums k q lane vs (omega (arith, enough, below)) none
+  stores-lane (kernel trees) sums q lane k vs plain names below none = let enough = names.enough in sum-lane sums k q lane vs (omega (arith, enough, below)) none
   stores-lane (rows root d) sums q lane k vs plain names below none = let enough = names.enough in sum-more sums q lane vs (k ∷ []) (omega (arith, enough)) none
   stores-lane (horner root d) sums q lane k vs plain names below none = let enough = names.enough in sum-more sums q lane vs (k ∷ []) (omega (arith, enough)) none
   stores-lane (tile v) sums q lane k vs plain names below none = absurd (plain v refl)
@@ -121,7 +121,7 @@ module _ (h : PlainMachine) (path : Path) (up : Sum → Sum) (wraps : Wraps h pa
 
   factors-lane : (w : PlainWork) (sums : List Sum) (q lane k : ℕ) (vs : List ℕ) → IsNoTile w →
       store_place w (map (renumbered (length path)) sums) (values_of h w q lane vs) (item_of w k lane) ≡ store_place w (map (renumbered (length path)) sums) (values_of h w q 0 vs) (item_of w k 0) + lane_step w * lane
-  factors-lane (kernel kind root t) sums q lane k vs plain = factor-alone sums k q lane vs
+  factors-lane (kernel trees) sums q lane k vs plain = factor-alone sums k q lane vs
   factors-lane (rows root d) sums q lane k vs plain = factor-more sums q lane vs (k ∷ [])
   factors-lane (horner root d) sums q lane k vs plain = factor-more sums q lane vs (k ∷ [])
   factors-lane (tile v) sums q lane k vs plain = absurd (plain v refl)
@@ -136,7 +136,7 @@ module _ (h : PlainMachine) (path : Path) (up : Sum → Sum) (wraps : Wraps h pa
       ∙ ap (λ e. value e (slice_index (vs ++ 0 ∷ k ∷ []))) (sym (at-map up z.gathers 0 some))
 
   pub alike-wrapped : (z : PlainNest) (w : PlainWork) → NamesItems w z.gathers → LoadsAlike z w → LoadsAlike (wrapped path up z) w
-  alike-wrapped z (kernel kind root t) names same = tt
+  alike-wrapped z (kernel trees) names same = tt
   alike-wrapped z (rows root d) names same = let e = names.enough in row-alike z (omega (arith, e)) same
   alike-wrapped z (horner root d) names same = let e = names.enough in row-alike z (omega (arith, e)) same
   alike-wrapped z (tile v) names same = tt
@@ -171,7 +171,7 @@ with-places k None used more = refl
 with-places k (Some d) used more = refl
 
 nest-registers : (h : PlainMachine) (n : ℕ) (path : Path) (up : Sum → Sum) (z : PlainNest) (w : PlainWork) → nest_registers h (wrapped path up z) w ≡ nest_registers (plain_lanes n h.modulus h.lanes) z w
-nest-registers h n path up z (kernel kind root t) = with-places (length path) z.multiplier _ _
+nest-registers h n path up z (kernel trees) = with-places (length path) z.multiplier _ _
 nest-registers h n path up z (rows root d) = with-places (length path) z.multiplier _ _
 nest-registers h n path up z (horner root d) = with-places (length path) z.multiplier _ _
 nest-registers h n path up z (tile v) = with-places (length path) z.multiplier _ _

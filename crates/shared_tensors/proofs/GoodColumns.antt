@@ -127,7 +127,7 @@ sum-alone path s sums i counts vs within h =
 
 pub load-column : (path : Path) (s : ℕ) (w : PlainWork) (sums : List Sum) (counts vs : List ℕ) (k : ℕ) → HasLanes 0 w → NamesItems w sums → AreInRange (loops_of (map count_of path ++ counts)) vs → k < work_size w →
     load_place w (map (column_sum path s) sums) vs k ≡ load_place w sums (rest_of path vs) k * s + place path 1 vs 0
-load-column path s (kernel kind root t) sums counts vs k loose names h below = sum-alone path s sums k counts vs (omega (arith, names.enough, below)) h
+load-column path s (kernel trees) sums counts vs k loose names h below = sum-alone path s sums k counts vs (omega (arith, names.enough, below)) h
 load-column path s (rows root d) sums counts vs k loose names h below = sum-more path s sums 0 counts vs (0 ∷ k ∷ []) (omega (arith, names.enough)) h
 load-column path s (horner root d) sums counts vs k loose names h below = sum-more path s sums 0 counts vs (0 ∷ (d - 1 - k) ∷ []) (omega (arith, names.enough)) h
 load-column path s (tile v) sums counts vs k loose names h below = absurd (no-tile v k loose below)
@@ -135,7 +135,7 @@ load-column path s (copy d) sums counts vs k loose names h below = sum-alone pat
 
 pub store-column : (path : Path) (s : ℕ) (w : PlainWork) (sums : List Sum) (counts vs : List ℕ) (k : ℕ) → HasLanes 0 w → NamesItems w sums → AreInRange (loops_of (map count_of path ++ counts)) vs → k < work_size w →
     store_place w (map (column_sum path s) sums) vs k ≡ store_place w sums (rest_of path vs) k * s + place path 1 vs 0
-store-column path s (kernel kind root t) sums counts vs k loose names h below = sum-alone path s sums k counts vs (omega (arith, names.enough, below)) h
+store-column path s (kernel trees) sums counts vs k loose names h below = sum-alone path s sums k counts vs (omega (arith, names.enough, below)) h
 store-column path s (rows root d) sums counts vs k loose names h below = sum-more path s sums 0 counts vs (k ∷ []) (omega (arith, names.enough)) h
 store-column path s (horner root d) sums counts vs k loose names h below = sum-more path s sums 0 counts vs (k ∷ []) (omega (arith, names.enough)) h
 store-column path s (tile v) sums counts vs k loose names h below = absurd (no-tile v k loose below)
@@ -156,7 +156,7 @@ factor-alone path sums i counts vs h =
 -- the factors' places are those of the part: under any path
 pub factor-behind : (path : Path) (w : PlainWork) (sums : List Sum) (counts vs : List ℕ) (k : ℕ) → AreInRange (loops_of (map count_of path ++ counts)) vs →
     store_place w (map (renumbered (length path)) sums) vs k ≡ store_place w sums (rest_of path vs) k
-factor-behind path (kernel kind root t) sums counts vs k h = factor-alone path sums k counts vs h
+factor-behind path (kernel trees) sums counts vs k h = factor-alone path sums k counts vs h
 factor-behind path (rows root d) sums counts vs k h = factor-more path sums 0 counts vs (k ∷ []) h
 factor-behind path (horner root d) sums counts vs k h = factor-more path sums 0 counts vs (k ∷ []) h
 factor-behind path (tile v) sums counts vs k h = ap (λ a. a + k % v) (factor-alone path sums (k / v) counts vs h)

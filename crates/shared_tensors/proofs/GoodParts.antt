@@ -24,7 +24,7 @@ use Rattle.tensor_paths.specs.Path.{Reads}
 -- ---- passes with no tiles
 
 no-lanes : (w : PlainWork) → ((v : ℕ) → w ≡ tile v → ⊥) → HasLanes 0 w
-no-lanes (kernel kind root t) none = tt
+no-lanes (kernel trees) none = tt
 no-lanes (rows root d) none = tt
 no-lanes (horner root d) none = tt
 no-lanes (tile v) none = absurd (none v refl)
@@ -36,7 +36,7 @@ pub record HasNoVectors (lanes : ℕ) (w : PlainWork) : Type 0 where
   pub whole : (counts : List ℕ) (sums : List Sum) → AreWhole counts w sums
 
 pub no-lanes-for : (lanes : ℕ) (w : PlainWork) → HasLanes 0 w → HasNoVectors lanes w
-no-lanes-for lanes (kernel kind root t) h = record { tiles = tt; whole = λ counts sums. tt }
+no-lanes-for lanes (kernel trees) h = record { tiles = tt; whole = λ counts sums. tt }
 no-lanes-for lanes (rows root d) h = record { tiles = tt; whole = λ counts sums. tt }
 no-lanes-for lanes (horner root d) h = record { tiles = tt; whole = λ counts sums. tt }
 no-lanes-for lanes (tile v) h =

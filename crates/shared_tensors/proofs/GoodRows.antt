@@ -64,7 +64,7 @@ no-tile v k none below = let some = factor_positive v v k below in omega (arith,
 
 pub load-row : (path : Path) (n : ℕ) (w : PlainWork) (sums : List Sum) (counts vs : List ℕ) (k : ℕ) → HasLanes 0 w → NamesItems w sums → AreInRange (loops_of (map count_of path ++ counts)) vs → k < work_size w →
     load_place w (map (up path n 0) sums) vs k ≡ place path n vs (load_place w sums (rest_of path vs) k)
-load-row path n (kernel kind root t) sums counts vs k loose names h below = sum-alone path n sums k counts vs (omega (arith, names.enough, below)) h
+load-row path n (kernel trees) sums counts vs k loose names h below = sum-alone path n sums k counts vs (omega (arith, names.enough, below)) h
 load-row path n (rows root d) sums counts vs k loose names h below = sum-more path n sums 0 counts vs (0 ∷ k ∷ []) (omega (arith, names.enough)) h
 load-row path n (horner root d) sums counts vs k loose names h below = sum-more path n sums 0 counts vs (0 ∷ (d - 1 - k) ∷ []) (omega (arith, names.enough)) h
 load-row path n (tile v) sums counts vs k loose names h below = absurd (no-tile v k loose below)
@@ -72,7 +72,7 @@ load-row path n (copy d) sums counts vs k loose names h below = sum-alone path n
 
 pub store-row : (path : Path) (n : ℕ) (w : PlainWork) (sums : List Sum) (counts vs : List ℕ) (k : ℕ) → HasLanes 0 w → NamesItems w sums → AreInRange (loops_of (map count_of path ++ counts)) vs → k < work_size w →
     store_place w (map (up path n 0) sums) vs k ≡ place path n vs (store_place w sums (rest_of path vs) k)
-store-row path n (kernel kind root t) sums counts vs k loose names h below = sum-alone path n sums k counts vs (omega (arith, names.enough, below)) h
+store-row path n (kernel trees) sums counts vs k loose names h below = sum-alone path n sums k counts vs (omega (arith, names.enough, below)) h
 store-row path n (rows root d) sums counts vs k loose names h below = sum-more path n sums 0 counts vs (k ∷ []) (omega (arith, names.enough)) h
 store-row path n (horner root d) sums counts vs k loose names h below = sum-more path n sums 0 counts vs (k ∷ []) (omega (arith, names.enough)) h
 store-row path n (tile v) sums counts vs k loose names h below = absurd (no-tile v k loose below)

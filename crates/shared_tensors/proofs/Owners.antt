@@ -106,7 +106,7 @@ module _ (owner : ℕ → ℕ) (n : ℕ) (path : Path) (up : Sum → Sum) (own :
 
   load-owned : (w : PlainWork) (sums : List Sum) (q k : ℕ) (counts vs : List ℕ) → IsNoTile w → NamesItems w sums → k < work_size w → AreInRange (loops_of (map count_of path ++ counts)) vs → slice_index vs 0 ≡ q → load_place w sums (rest_of path vs) k < n →
       owner (load_place w (map up sums) vs k) ≡ q
-  load-owned (kernel kind root t) sums q k counts vs plain names below range at low = let e = names.enough in alone-owned sums k q counts vs (omega (arith, e, below)) range at low
+  load-owned (kernel trees) sums q k counts vs plain names below range at low = let e = names.enough in alone-owned sums k q counts vs (omega (arith, e, below)) range at low
   load-owned (rows root d) sums q k counts vs plain names below range at low = let e = names.enough in sum-owned sums 0 q counts vs (0 ∷ k ∷ []) (omega (arith, e)) range at low
   load-owned (horner root d) sums q k counts vs plain names below range at low = let e = names.enough in sum-owned sums 0 q counts vs (0 ∷ (d - 1 - k) ∷ []) (omega (arith, e)) range at low
   load-owned (tile v) sums q k counts vs plain names below range at low = absurd (plain v refl)
@@ -114,7 +114,7 @@ module _ (owner : ℕ → ℕ) (n : ℕ) (path : Path) (up : Sum → Sum) (own :
 
   store-owned : (w : PlainWork) (sums : List Sum) (q k : ℕ) (counts vs : List ℕ) → IsNoTile w → NamesItems w sums → k < work_size w → AreInRange (loops_of (map count_of path ++ counts)) vs → slice_index vs 0 ≡ q → store_place w sums (rest_of path vs) k < n →
       owner (store_place w (map up sums) vs k) ≡ q
-  store-owned (kernel kind root t) sums q k counts vs plain names below range at low = let e = names.enough in alone-owned sums k q counts vs (omega (arith, e, below)) range at low
+  store-owned (kernel trees) sums q k counts vs plain names below range at low = let e = names.enough in alone-owned sums k q counts vs (omega (arith, e, below)) range at low
   store-owned (rows root d) sums q k counts vs plain names below range at low = let e = names.enough in sum-owned sums 0 q counts vs (k ∷ []) (omega (arith, e)) range at low
   store-owned (horner root d) sums q k counts vs plain names below range at low = let e = names.enough in sum-owned sums 0 q counts vs (k ∷ []) (omega (arith, e)) range at low
   store-owned (tile v) sums q k counts vs plain names below range at low = absurd (plain v refl)

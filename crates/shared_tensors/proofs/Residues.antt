@@ -37,7 +37,7 @@ matrix-alike m n e x y h i below =
     ∙ sym (at-list_below n _ i below))
 
 work-alike : (m : ℕ) (w : PlainWork) (x y : List ℕ) → AreAlike m (work_size w) x y → AreAlike m (work_size w) (work_on m w x) (work_on m w y)
-work-alike m (kernel kind root t) x y h = matrix-alike m _ _ x y h
+work-alike m (kernel trees) x y h = matrix-alike m _ _ x y h
 work-alike m (rows root d) x y h = matrix-alike m d _ x y h
 work-alike m (horner root d) x y h = matrix-alike m d _ x y h
 work-alike m (tile v) x y h = λ i below.

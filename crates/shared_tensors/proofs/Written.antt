@@ -51,21 +51,21 @@ frame-by true more is = absurd (cc)
 frame-by false more is = omega arith
 
 pub frame-of : (h : PlainMachine) (w : PlainWork) → IsFrame (frame_of h w)
-frame-of h (kernel kind root t) is = frame-by (h.procs == 1) _ is
+frame-of h (kernel trees) is = frame-by (h.procs == 1) _ is
 frame-of h (rows root d) is = frame-by (h.procs == 1) _ is
 frame-of h (horner root d) is = frame-by (h.procs == 1) _ is
 frame-of h (tile v) is = frame-by (h.procs == 1) _ is
 frame-of h (copy d) is = frame-by (h.procs == 1) _ is
 
 pub loads-le : (w : PlainWork) → loads_inside w ≤ 2
-loads-le (kernel kind root t) = omega arith
+loads-le (kernel trees) = omega arith
 loads-le (rows root d) = omega arith
 loads-le (horner root d) = omega arith
 loads-le (tile v) = omega arith
 loads-le (copy d) = omega arith
 
 pub stores-le : (w : PlainWork) → stores_inside w ≤ 2
-stores-le (kernel kind root t) = omega arith
+stores-le (kernel trees) = omega arith
 stores-le (rows root d) = omega arith
 stores-le (horner root d) = omega arith
 stores-le (tile v) = omega arith
@@ -78,14 +78,14 @@ drop-by false true p v loops = refl
 drop-by false false p v loops = refl
 
 first-of : (h : PlainMachine) (w : PlainWork) → IsNoTile w → first_loop h w ≡ one_if_several h.procs + one_if_several h.lanes
-first-of h (kernel kind root t) none = refl
+first-of h (kernel trees) none = refl
 first-of h (rows root d) none = refl
 first-of h (horner root d) none = refl
 first-of h (tile v) none = absurd (none v refl)
 first-of h (copy d) none = refl
 
 plain-loops : (n m : ℕ) (w : PlainWork) (counts : List ℕ) → drop (first_loop (plain_machine n m) w) counts ≡ counts
-plain-loops n m (kernel kind root t) counts = refl
+plain-loops n m (kernel trees) counts = refl
 plain-loops n m (rows root d) counts = refl
 plain-loops n m (horner root d) counts = refl
 plain-loops n m (tile v) counts = refl

@@ -83,14 +83,14 @@ turn-item m n cs v two low is below =
     }
 
 loaded-items : (m depth : ℕ) (cs : ℕ → ℕ) (w : PlainWork) → HasRows w → work_size w ≤ 2 ^ 20 → depth + 2 ≤ m → cs (depth + 1) ≡ work_size w → AreItems m (work_size w) cs (items_in w depth)
-loaded-items m depth cs (kernel kind root t) long high shown is = range-items m (work_size (kernel kind root t)) cs 0 (work_size (kernel kind root t)) high (omega arith)
+loaded-items m depth cs (kernel trees) long high shown is = range-items m (work_size (kernel trees)) cs 0 (work_size (kernel trees)) high (omega arith)
 loaded-items m depth cs (rows root n) long high shown is = (variable-item m n cs (depth + 1) long is (omega (arith, shown)), tt)
 loaded-items m depth cs (horner root n) long high shown is = (turn-item m n cs (depth + 1) long high is (omega (arith, shown)), tt)
 loaded-items m depth cs (tile v) long high shown is = tile-items m v cs 0 v high (omega arith)
 loaded-items m depth cs (copy n) long high shown is = range-items m n cs 0 n high (omega arith)
 
 stored-items : (m depth : ℕ) (cs : ℕ → ℕ) (w : PlainWork) → HasRows w → work_size w ≤ 2 ^ 20 → depth + 2 ≤ m → cs depth ≡ work_size w → AreItems m (work_size w) cs (items_out w depth)
-stored-items m depth cs (kernel kind root t) long high shown is = range-items m (work_size (kernel kind root t)) cs 0 (work_size (kernel kind root t)) high (omega arith)
+stored-items m depth cs (kernel trees) long high shown is = range-items m (work_size (kernel trees)) cs 0 (work_size (kernel trees)) high (omega arith)
 stored-items m depth cs (rows root n) long high shown is = (variable-item m n cs depth long is (omega (arith, shown)), tt)
 stored-items m depth cs (horner root n) long high shown is = (variable-item m n cs depth long is (omega (arith, shown)), tt)
 stored-items m depth cs (tile v) long high shown is = tile-items m v cs 0 v high (omega arith)

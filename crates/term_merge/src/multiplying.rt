@@ -186,6 +186,6 @@ fn is_tile(work: &Work) -> bool
 {
     match work {
         Work::Tile { .. } => true,
-        Work::Kernel { .. } | Work::Rows { .. } | Work::Horner { .. } | Work::Copy { .. } => false,
+        Work::Kernel(_) | Work::Rows { .. } | Work::Horner { .. } | Work::Copy { .. } => false,
     }
 }

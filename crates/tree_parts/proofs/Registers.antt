@@ -19,7 +19,7 @@ use Rattle.tree_parts.proofs.Alike.{kernel-alike}
 
 module _ (c : Request) (v : ℕ) where
   registers-alike : (z : PlainNest) (w : PlainWork) → nest_registers (machine_of c) z w ≡ nest_registers (plain_lanes c.size c.modulus v) z w
-  registers-alike z (kernel kind root t) = ap (λ n. with_multiplier z.multiplier n (work_size (kernel kind root t))) (kernel-alike c.modulus c.lanes v kind t root)
+  registers-alike z (kernel trees) = ap (λ n. with_multiplier z.multiplier n (work_size (kernel trees))) (kernel-alike c.modulus c.lanes v kind t root)
   registers-alike z (rows root size) = refl
   registers-alike z (horner root size) = refl
   registers-alike z (tile lanes) = refl

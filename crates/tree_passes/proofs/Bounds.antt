@@ -38,7 +38,7 @@ with-grown [] entries = omega arith
 with-grown (table ∷ tables) entries = grown-pick (is_table table entries) table tables (with_table tables entries) (with-grown tables entries)
 
 work-grown : (m : ℕ) (w : PlainWork) (tables : List (List ℕ)) → length (tables_of_work m w tables) ≤ length tables + 1
-work-grown m (kernel kind root t) tables = omega arith
+work-grown m (kernel trees) tables = omega arith
 work-grown m (rows root size) tables = let more = with-grown tables (powers_of m root size) in omega (arith, more)
 work-grown m (horner root size) tables = let more = with-grown tables (powers_of m root size) in omega (arith, more)
 work-grown m (tile lanes) tables = omega arith

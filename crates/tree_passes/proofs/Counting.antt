@@ -80,14 +80,14 @@ module _ (c : Request) (p : PlainPass) (valid : IsValid c) (known : IsKnown c p)
       ∙ spread-diagonal (has_diagonal p.diagonal) (copies_in (map count_of p.path)) n c.size c.weight x fill
       ∙ ap (λ k. k * x + (if has_diagonal p.diagonal then c.weight * c.size else 0)) (copies-are p.path)
 
-  kernel-counts : (t : Breakdown) → p.work ≡ transforming t → is_kernel c (size_of t) ≡ true → With (kernel c.kind (node_root c (size_of t)) t)
+  kernel-counts : (t : Breakdown) → p.work ≡ transforming t → is_kernel c (size_of t) ≡ true → With (kernel (single c.kind (node_root c (size_of t)) t))
   kernel-counts t is e =
       let n = size_of t in
       let node = node-of c p valid known.shaped known.framed t is in
       let same : kernel_cost c.weight c.modulus c.kind t (node_root c n) ≡ cost_of c t =
       cost-same c t (c.size / n) (let some = valid.in_range.size.0 in omega (arith, some)) node.formed (product_div c.size n node.divides) e in
       let fill = whole (transforming t) is in (
-        operations-of (kernel c.kind (node_root c n) t) n (cost_of c t) refl fill same ∙ sym (ap (trees.pass_cost c c.size) (counted-is (transforming t) is)),
+        operations-of (kernel (single c.kind (node_root c n) t)) n (cost_of c t) refl fill same ∙ sym (ap (trees.pass_cost c c.size) (counted-is (transforming t) is)),
         (let one : copies_in (map count_of p.path) * n + 0 ≡ c.size = omega (arith, fill) in one) ∙ short-loads c c.size t (kernel-short c n e) ∙ sym (ap (trees.pass_loads c c.size) (counted-is (transforming t) is)),
       )
 

@@ -31,10 +31,10 @@ use Rattle.tree_passes.specs.Laws.{machine_of}
 -- ---- what no tile is
 
 -- what kernels and longer leaves have in common
-pub node-is : {A : Type 0} (f : PlainWork → A) (x : A) (c : Request) (t : Breakdown) → ((kind : Kind) (root : ℕ) → f (kernel kind root t) ≡ x) → ((root : ℕ) → f (rows root (size_of t)) ≡ x) → f (node_work c t) ≡ x
+pub node-is : {A : Type 0} (f : PlainWork → A) (x : A) (c : Request) (t : Breakdown) → ((kind : Kind) (root : ℕ) → f (kernel trees) ≡ x) → ((root : ℕ) → f (rows root (size_of t)) ≡ x) → f (node_work c t) ≡ x
 node-is f x c t on_kernel on_rows = pick (is_kernel c (size_of t)) c.kind
   where
-    pick : (b : Bool) (kind : Kind) → f (if b then kernel kind (node_root c (size_of t)) t else long_work kind (node_root c (size_of t)) t) ≡ x
+    pick : (b : Bool) (kind : Kind) → f (if b then kernel (single kind (node_root c (size_of t)) t) else long_work kind (node_root c (size_of t)) t) ≡ x
     pick true kind = on_kernel kind (node_root c (size_of t))
     pick false Dft = on_rows (node_root c (size_of t))
     pick false Wht = on_kernel Wht (node_root c (size_of t))
@@ -127,12 +127,12 @@ module _ (c : Request) (p : PlainPass) (valid : IsValid c) (shape : IsShaped c c
 
   -- what holds of kernels of nodes, of rows of longer leaves and of tiles holds of a pass's work
   pub by-work : (P : PlainWork → Type 0) →
-      ((t : Breakdown) → p.work ≡ transforming t → is_kernel c (size_of t) ≡ true → P (kernel c.kind (node_root c (size_of t)) t)) →
+      ((t : Breakdown) → p.work ≡ transforming t → is_kernel c (size_of t) ≡ true → P (kernel (single c.kind (node_root c (size_of t)) t))) →
       ((t : Breakdown) → p.work ≡ transforming t → is_kernel c (size_of t) ≡ false → c.kind ≡ Dft → P (rows (node_root c (size_of t)) (size_of t))) →
       ((v : ℕ) → p.work ≡ tiling v → P (tile v)) → P (loop_work c p.work)
   by-work P on_kernel on_rows on_tile = pick p.work refl
     where
-      node : (t : Breakdown) → p.work ≡ transforming t → (b : Bool) → is_kernel c (size_of t) ≡ b → P (if b then kernel c.kind (node_root c (size_of t)) t else long_work c.kind (node_root c (size_of t)) t)
+      node : (t : Breakdown) → p.work ≡ transforming t → (b : Bool) → is_kernel c (size_of t) ≡ b → P (if b then kernel (single c.kind (node_root c (size_of t)) t) else long_work c.kind (node_root c (size_of t)) t)
       node t is true e = on_kernel t is e
       node t is false e =
           let long = long-of t is e in
@@ -146,7 +146,7 @@ module _ (c : Request) (p : PlainPass) (valid : IsValid c) (shape : IsShaped c c
   pub can-work : CanWork (machine_of c) (loop_work c p.work)
   can-work = by-work (CanWork (machine_of c)) kernels rows-work tiles
     where
-      kernels : (t : Breakdown) → p.work ≡ transforming t → is_kernel c (size_of t) ≡ true → CanWork (machine_of c) (kernel c.kind (node_root c (size_of t)) t)
+      kernels : (t : Breakdown) → p.work ≡ transforming t → is_kernel c (size_of t) ≡ true → CanWork (machine_of c) (kernel (single c.kind (node_root c (size_of t)) t))
       kernels t is e = ((node-of t is).formed, any-root c t valid (node-of t is).divides)
 
       rows-work : (t : Breakdown) → p.work ≡ transforming t → is_kernel c (size_of t) ≡ false → c.kind ≡ Dft → CanWork (machine_of c) (rows (node_root c (size_of t)) (size_of t))

@@ -88,14 +88,14 @@ is-frame : (h : PlainMachine) (w : PlainWork) → IsFrame (frame_of h w)
 is-frame h w e = frame-pick (h.procs == 1) (lane_variables h w) e
 
 inside-le : (w : PlainWork) → loads_inside w ≤ 2
-inside-le (kernel kind root t) = omega arith
+inside-le (kernel trees) = omega arith
 inside-le (rows root size) = omega arith
 inside-le (works.horner root size) = omega arith
 inside-le (tile lanes) = omega arith
 inside-le (works.copy size) = omega arith
 
 stores-le : (w : PlainWork) → stores_inside w ≤ 2
-stores-le (kernel kind root t) = omega arith
+stores-le (kernel trees) = omega arith
 stores-le (rows root size) = omega arith
 stores-le (works.horner root size) = omega arith
 stores-le (tile lanes) = omega arith
@@ -262,7 +262,7 @@ module _ (c : Request) (p : PlainPass) (valid : IsValid c) (known : IsKnown c p)
   pub few-registers : (y : PlainNest) → nest_registers h y w < 2 ^ 20
   few-registers y = by-work c p valid known.shaped known.framed (λ v. nest_registers h y v < 2 ^ 20) kernels long tiles
     where
-      kernels : (t : Breakdown) → p.work ≡ transforming t → is_kernel c (size_of t) ≡ true → nest_registers h y (kernel c.kind (node_root c (size_of t)) t) < 2 ^ 20
+      kernels : (t : Breakdown) → p.work ≡ transforming t → is_kernel c (size_of t) ≡ true → nest_registers h y (kernel (single c.kind (node_root c (size_of t)) t)) < 2 ^ 20
       kernels t is e =
           let n = size_of t in
           let root = node_root c n in
