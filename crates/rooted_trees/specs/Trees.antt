@@ -5,7 +5,7 @@ use Rattle.matrix_meaning.specs.Kind.{transform}
 use Rattle.operators.specs.Operator.{Operator, on_blocks, on_columns}
 use Rattle.rooted_trees.specs.declared.RootedTree.{RootedTree}
 use Rattle.rooted_trees.specs.declared.RootedTrees.{RootedTrees}
-use Rattle.rooted_trees.specs.declared.RootedTrees.TheVariants.{Single, Tensor}
+use Rattle.rooted_trees.specs.declared.RootedTrees.TheVariants.{Single, Tensor'}
 use Rattle.tree_model.specs.Breakdown.{Breakdown, breakdown_of, size_of, HasWordSizes}
 
 -- a tree for each dimension, the last one fastest
@@ -18,7 +18,7 @@ alone t = single t.kind t.root (breakdown_of t.tree)
 
 abbrev pub plain_trees : RootedTrees → PlainTrees
 plain_trees (Single only) = alone only
-plain_trees (Tensor first p others) = tensor first.kind first.root (breakdown_of first.tree) (plain_trees others)
+plain_trees (Tensor' first p others) = tensor first.kind first.root (breakdown_of first.tree) (plain_trees others)
 
 -- the product of the sizes
 abbrev pub trees_size : PlainTrees → ℕ
