@@ -10,6 +10,7 @@ ghost use Rattle.rooted_trees.specs.Trees.{plain_trees, trees_size, AreWords};
 use memory::NoMemory;
 use passes::{Merged, Nest, Work, items_in, items_out};
 use rooted_trees::RootedTrees;
+use smallvec::SmallVec;
 use std::alloc::Global;
 
 /// The merged passes of trees in straight-line code, for one processor and one lane.
@@ -22,7 +23,7 @@ pub fn merge_kernel(alloc: Global, trees: RootedTrees) -> Result<Merged, NoMemor
     let gathers = items_in(alloc, &work, 0)?;
     let scatters = items_out(alloc, &work, 0)?;
     let nest = Nest {
-        counts: Vec::new(alloc),
+        counts: SmallVec::new(alloc),
         work,
         gathers,
         multiplier: None,
