@@ -34,6 +34,26 @@ dft 4x64 mod 257 root 16x249
 dft 16x16 mod 257 root 2x129 procs 4 line 4 lanes 4
 """
 
+# Those that are, or are not, straight-line code of several dimensions.
+KERNELS = """
+dft 2x2 mod 17 root 16x16 unroll 2
+dft 2x3 mod 7 root 6x2 unroll 5
+dft 2x3 mod 7 root 6x2 unroll 6 weight 5
+dft 2x2x2 mod 17 root 16x16x16
+dft 2x2x2 mod 17 root 16x16x16 unroll 7
+dft 2x2x2x2 mod 15 root 4x11x14x1 unroll 16
+dft 16x2x4 mod 17 root 3x16x4
+dft 2x16x2x3 mod 97 root 96x8x1x35 weight 5
+dft 8x8 mod 17 root 2x9 unroll 63
+dft 8x8 mod 17 root 2x9 unroll 64
+dft 4x4x4 mod 17 root 4x13x1 unroll 64
+dft 11x2x2 mod 23 root 2x22x22 unroll 4
+dft 4x2x2 mod 17 root 4x16x1 lanes 2
+dft 4x2x2 mod 17 root 4x16x1 procs 2 line 2 lanes 2
+dft 4x2x2 mod 17 root 4x16x1 procs 2 line 2 lanes 2 unroll 3
+dft 4x4 mod 17 root 4x13 procs 2 unroll 16
+"""
+
 # Lines that are refused, with status and note.
 REFUSED = [
     ("dft 2x2 mod 17 root 16", 3, "syntax at byte 22"),
@@ -105,9 +125,27 @@ def dimension_request(numbers, is_spread):
     return f"dft {words[0]} mod {modulus} root {words[1]} {options}unroll {unroll}{numbers.one_of(WEIGHTS)}"
 
 
+def kernel_request(numbers, is_spread):
+    """A request of at most 64 words, which unrolls as much as some of its last dimensions have, or one less. Where the whole
+    is shared, these are not all."""
+    procs, line, lanes = numbers.one_of([(1, 1, 2), (2, 1, 1), (2, 2, 2), (2, 2, 1)]) if is_spread else (1, 1, 1)
+    least = lcm(procs * line if procs > 1 else 1, lanes)
+    found = sizes(numbers, least, least)
+    while prod(found) > 64 or len(found) < 2 + is_spread:
+        found = sizes(numbers, least, least)
+    words = prod(found[numbers.below(len(found) - 1 - is_spread) + is_spread :])
+    unroll = words - numbers.below(2)
+    modulus, element = numbers.one_of([*PRIMES, *((m, None) for m in COMPOSITES)])
+    roots = [str(root(numbers, modulus, element, n)) for n in found]
+    options = f"procs {procs} line {line} lanes {lanes} " if is_spread else ""
+    weight = numbers.one_of(WEIGHTS)
+    return f"dft {'x'.join(map(str, found))} mod {modulus} root {'x'.join(roots)} {options}unroll {unroll}{weight}"
+
+
 def dimension_requests(numbers):
     random = [dimension_request(numbers, at % 2 == 1) for at in range(140)]
-    return NAMED.split("\n")[1:-1] + random
+    kernels = [kernel_request(numbers, at % 3 == 2) for at in range(30)]
+    return NAMED.split("\n")[1:-1] + KERNELS.split("\n")[1:-1] + kernels + random
 
 
 def lines_read(sweep):

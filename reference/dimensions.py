@@ -23,6 +23,11 @@ class Several(namedtuple("Several", "sizes roots modulus procs line lanes unroll
         rest = (self.unroll, self.budget, self.weight)
         return tuple(Request("dft", n, self.modulus, w, 1, 1, 1, *rest) for n, w in zip(self.sizes, self.roots))
 
+    @property
+    def others(self):
+        """The dimensions behind the first, on one processor and one lane."""
+        return self._replace(sizes=self.sizes[1:], roots=self.roots[1:], procs=1, line=1, lanes=1)
+
 
 def read_request(line):
     """A request of one size or of several dimensions."""

@@ -1,7 +1,6 @@
 """Programs of trees: their passes, statements and texts."""
 
 from collections import namedtuple
-from math import prod
 
 from dimensions import Several
 from transforms import COOLEY_TUKEY, GOOD_THOMAS, LEAF, entry, forward, is_kernel, is_plain, last_factor, powers, tree_size
@@ -73,13 +72,20 @@ def value_at(place, turns):
     return value
 
 
-# Straight-line code: the node's inputs are in the registers 0 to d-1, and each action takes the next register.
+def words_of(request, tree):
+    """The words of a tree, or of several dimensions by a tree for each."""
+    return request.size if isinstance(request, Several) else tree_size(tree)
+
+
+# Straight-line code: the inputs are in the first registers, and each action takes the next register.
 
 
 class Kernel:
+    """The code of a tree, or of several dimensions together by a tree for each."""
+
     def __init__(self, request, tree):
-        self.request, self.actions, self.next = request, [], tree_size(tree)
-        self.outputs = self.node(tree, list(range(self.next)))
+        self.modulus, self.actions, self.next = request.modulus, [], words_of(request, tree)
+        self.outputs = self.of(request, tree, list(range(self.next)))
 
     def push(self, word, *operands):
         register = self.next
@@ -91,49 +97,61 @@ class Kernel:
         """The register times the factor, of which 1 costs nothing and -1 no product."""
         if factor == 1:
             return register
-        return self.push("neg", register) if factor == self.request.modulus - 1 else self.push("mul", register, factor)
+        return self.push("neg", register) if factor == self.modulus - 1 else self.push("mul", register, factor)
 
-    def leaf(self, inputs):
+    def leaf(self, request, inputs):
         """The sums of the definition, row by row."""
         d, outputs = len(inputs), []
         for k in range(d):
             total = inputs[0]
             for l in range(1, d):
-                factor = entry(self.request, d, k, l)
+                factor = entry(request, d, k, l)
                 if factor == 1:
                     total = self.push("add", total, inputs[l])
-                elif factor == self.request.modulus - 1:
+                elif factor == self.modulus - 1:
                     total = self.push("sub", total, inputs[l])
                 else:
                     total = self.push("add", total, self.push("mul", inputs[l], factor))
             outputs.append(total)
         return outputs
 
-    def right_inputs(self, rule, inputs, r, s, i):
+    def right_inputs(self, request, rule, inputs, r, s, i):
         """What the right part takes in its turn i."""
         if rule == GOOD_THOMAS:
             return [inputs[(s * i + r * j) % (r * s)] for j in range(s)]
-        return [inputs[j * r + i if self.request.kind == "dft" else i * s + j] for j in range(s)]
+        return [inputs[j * r + i if request.kind == "dft" else i * s + j] for j in range(s)]
 
-    def node(self, tree, inputs):
+    def node(self, request, tree, inputs):
         """The registers of the node's outputs."""
         if tree[0] == LEAF:
-            return self.leaf(inputs)
+            return self.leaf(request, inputs)
         rule, r, left, right = tree
         d, s = len(inputs), len(inputs) // r
         between = []
         for i in range(r):
-            values = self.node(right, self.right_inputs(rule, inputs, r, s, i))
-            if rule == COOLEY_TUKEY and self.request.kind == "dft":
-                values = [self.multiplied(v, powers(self.request, d)[i * k]) for k, v in enumerate(values)]
+            values = self.node(request, right, self.right_inputs(request, rule, inputs, r, s, i))
+            if rule == COOLEY_TUKEY and request.kind == "dft":
+                values = [self.multiplied(v, powers(request, d)[i * k]) for k, v in enumerate(values)]
             between += values
-        lists = [self.node(left, [between[i * s + k] for i in range(r)]) for k in range(s)]
+        lists = [self.node(request, left, [between[i * s + k] for i in range(r)]) for k in range(s)]
         return [lists[k % s][k % r if rule == GOOD_THOMAS else k // s] for k in range(d)]
+
+    def of(self, request, tree, inputs):
+        """The registers of the outputs. Of several dimensions the others' code on each row, and then the first one's on
+        each column."""
+        if not isinstance(request, Several):
+            return self.node(request, tree, inputs)
+        first, s = request.parts[0], request.size // request.sizes[0]
+        if s == 1:
+            return self.node(first, tree[0], inputs)
+        rows = [self.of(request.others, tree[1:], inputs[at : at + s]) for at in range(0, len(inputs), s)]
+        columns = [self.node(first, tree[0], list(column)) for column in zip(*rows)]
+        return [column[k] for k in range(first.size) for column in columns]
 
 
 # Passes, from right to left, each with the loops around it and the places that it loads and stores as functions of its
-# own places. A kernel or long leaf has a tree of the request, and a tile has none. The diagonal, or the constant for all,
-# multiplies what is stored.
+# own places. A kernel or long leaf has a tree of the request (a kernel of several dimensions one for each), and a tile has
+# none. The diagonal, or the constant for all, multiplies what is stored.
 
 Pass = namedtuple("Pass", "request tree loops loaded stored diagonal phase")
 Diagonal = namedtuple("Diagonal", "table place")
@@ -246,33 +264,38 @@ def spread_tree(request, tree):
     )
 
 
-def product_passes(parts, trees, phase, loops, place):
-    """The passes of several dimensions: those of the others on each row, and then those of the first on each column."""
-    part, s = parts[0], prod(other.size for other in parts[1:])
-    if parts[1:]:
-        rows, i = opened(loops, part.size)
-        yield from product_passes(parts[1:], trees[1:], phase, rows, composed(place, lambda k: plus(times(i, s), k)))
+def product_passes(request, trees, phase, loops, place):
+    """The passes of dimensions on one processor: one of straight-line code, or those of the others on each row, and then
+    those of the first on each column."""
+    if is_kernel(request, request.size):
+        yield Pass(request, trees, loops, place, place, None, phase)
+        return
+    first, s = request.parts[0], request.size // request.sizes[0]
+    if s > 1:
+        rows, i = opened(loops, first.size)
+        along = composed(place, lambda k: plus(times(i, s), k))
+        yield from product_passes(request.others, trees[1:], phase, rows, along)
     columns, j = opened(loops, s)
     here = composed(place, lambda k: plus(times(k, s), j))
-    yield from passes(part, trees[0], phase, columns, here, here, here, None)
+    yield from passes(first, trees[0], phase, columns, here, here, here, None)
 
 
 def spread_product(request, trees):
     """The passes of several dimensions, spread between the first and the others."""
-    parts = request.parts
+    first = request.parts[0]
     yield from spread_passes(
         request,
-        parts[0].size,
+        first.size,
         None,
-        lambda loops, loaded, kept, factors: product_passes(parts[1:], trees[1:], 0, loops, kept),
-        lambda phase, loops, column: passes(parts[0], trees[0], phase, loops, column, column, column, None),
+        lambda loops, loaded, kept, factors: product_passes(request.others, trees[1:], 0, loops, kept),
+        lambda phase, loops, column: passes(first, trees[0], phase, loops, column, column, column, None),
     )
 
 
 def all_passes(request, tree):
     """The passes of a tree, or of several dimensions by a tree for each."""
     if isinstance(request, Several):
-        plain = lambda: product_passes(request.parts, tree, 0, (), lambda k: k)
+        plain = lambda: product_passes(request, tree, 0, (), lambda k: k)
         return list(plain() if is_plain(request) else spread_product(request, tree))
     if is_plain(request):
         return list(passes(request, tree, 0, (), *[lambda k: k] * 3, None))
@@ -286,8 +309,8 @@ def phase_count(request):
 def loads_and_stores(request, tree):
     """A pass loads each word once, and a long leaf's pass each word for each of its outputs; each stores each word."""
     chain = all_passes(request, tree)
-    long_sizes = [tree_size(one.tree) for one in chain if one.tree and not is_kernel(one.request, tree_size(one.tree))]
-    repeated = sum(request.size * (d - 1) for d in long_sizes)
+    sizes = [(one.request, words_of(one.request, one.tree)) for one in chain if one.tree]
+    repeated = sum(request.size * (d - 1) for asked, d in sizes if not is_kernel(asked, d))
     return request.size * len(chain) + repeated, request.size * len(chain)
 
 
@@ -314,7 +337,7 @@ class Emitter:
     def body(self, one, read, written):
         if one.tree is None:
             return self.tile(one, read, written)
-        emit = self.kernel if is_kernel(one.request, tree_size(one.tree)) else self.leaf
+        emit = self.kernel if is_kernel(one.request, words_of(one.request, one.tree)) else self.leaf
         return emit(one, read, written)
 
     def table(self, values):
@@ -338,7 +361,7 @@ class Emitter:
     def kernel(self, one, read, written):
         kernel = Kernel(one.request, one.tree)
         self.registers = max(self.registers, kernel.next)
-        statements = [("ld", k, read, one.loaded(constant(k))) for k in range(tree_size(one.tree))]
+        statements = [("ld", k, read, one.loaded(constant(k))) for k in range(len(kernel.outputs))]
         statements += kernel.actions
         for k, register in enumerate(kernel.outputs):
             statements += self.stores(one, written, constant(k), register, kernel.next + k)

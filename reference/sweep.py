@@ -465,7 +465,7 @@ def main():
     lines_read(sweep)
     taken_back = [undone(sweep, line, numbers) for line in requests() + spread_requests()]
     assert sum(taken_back) >= 40, "too few inverses take a transform back"
-    for line in filter(is_small, NAMED.split("\n")[1:-1] + spread_requests() + several[:60]):
+    for line in filter(is_small, NAMED.split("\n")[1:-1] + spread_requests() + several[:90]):
         runs(sweep, line, numbers)
         strangers(sweep, line, numbers)
     changed = [plans(sweep, lines) for lines in requests_at_each_weight()]
