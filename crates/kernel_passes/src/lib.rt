@@ -1,15 +1,16 @@
 //! The merged passes of straight-line code alone: one pass, of one nest, of one kernel.
 #![tactic(auto)]
 
-ghost use Rattle.std.specs.Prelude.{◌≡◌, ◌^◌, ◌<◌, IfOk};
+ghost use Rattle.std.specs.Prelude.{◌≡◌, IfOk};
 ghost use Rattle.kernel_passes.specs.Laws.{KernelsAreParts, KernelsCanProgram, KernelsCount, KernelsTransform};
 ghost use Rattle.kernel_passes.specs.Merged.{kernel_merged};
 ghost use Rattle.passes.specs.Views.{plain_merged};
-ghost use Rattle.rooted_trees.specs.Trees.{plain_trees, trees_size, AreWords};
+ghost use Rattle.rooted_trees.specs.Trees.{AreWords, plain_trees};
 
 use memory::NoMemory;
 use passes::{Merged, Nest, Work, items_in, items_out};
 use rooted_trees::RootedTrees;
+use smallvec::SmallVec;
 use std::alloc::Global;
 
 /// The merged passes of trees in straight-line code, for one processor and one lane.
@@ -22,7 +23,7 @@ pub fn merge_kernel(alloc: Global, trees: RootedTrees) -> Result<Merged, NoMemor
     let gathers = items_in(alloc, &work, 0)?;
     let scatters = items_out(alloc, &work, 0)?;
     let nest = Nest {
-        counts: Vec::new(alloc),
+        counts: SmallVec::new(alloc),
         work,
         gathers,
         multiplier: None,
