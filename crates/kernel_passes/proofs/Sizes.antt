@@ -4,9 +4,11 @@ use Rattle.std.proofs.Math.Nat.{mul-le-mul}
 use Rattle.code_laws.specs.Lanes.{operations}
 use Rattle.code_laws.proofs.ByLane.{weight_of_one}
 use Rattle.kernel_gen.specs.Kernel.{trees_cost, trees_kernel}
+use Rattle.kernel_gen.proofs.Alike.{trees-alike}
 use Rattle.kernel_gen.proofs.Kernels.{firsts}
 use Rattle.kernel_gen.proofs.Pieces.{DoesAt}
-use Rattle.kernel_gen.proofs.Products.{trees-alike, trees-does, trees-few}
+use Rattle.kernel_gen.proofs.KernelSizes.{trees-few}
+use Rattle.kernel_gen.proofs.Products.{trees-does}
 use Rattle.kernel_passes.specs.Laws.{IsKernel}
 use Rattle.kernel_passes.specs.Merged.{kernel_nest}
 use Rattle.pass_actions.specs.Machine.{PlainMachine}
