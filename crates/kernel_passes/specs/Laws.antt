@@ -22,11 +22,10 @@ KernelsCanProgram =
     (h : PlainMachine) (trees : PlainTrees) → IsHost h → h.procs ≡ 1 → h.lanes ≡ 1 →
     trees_size trees ≡ h.size → IsKernel h.modulus trees → CanProgram h (kernel_merged trees)
 
--- they are part of a tensor product
+-- they can be part of a tensor product, and their places have no parts but constants
 abbrev pub KernelsAreParts : Type 0
 KernelsAreParts =
-    (m room : ℕ) (trees : PlainTrees) → IsKernel m trees → 1 ≤ room → room ≤ 64 →
-    IsPart (trees_size trees) m room (kernel_merged trees)
+    (m room : ℕ) (trees : PlainTrees) → IsKernel m trees → IsPart (trees_size trees) m room (kernel_merged trees)
 
 -- they do the transforms to every list, whatever its numbers
 abbrev pub KernelsTransform : Type 0

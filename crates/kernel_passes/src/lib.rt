@@ -1,11 +1,11 @@
 //! The merged passes of straight-line code alone: one pass, of one nest, of one kernel.
 #![tactic(auto)]
 
-ghost use Rattle.std.specs.Prelude.{◌≡◌, ◌^◌, ◌<◌, IfOk};
+ghost use Rattle.std.specs.Prelude.{◌≡◌, IfOk};
 ghost use Rattle.kernel_passes.specs.Laws.{KernelsAreParts, KernelsCanProgram, KernelsCount, KernelsTransform};
 ghost use Rattle.kernel_passes.specs.Merged.{kernel_merged};
 ghost use Rattle.passes.specs.Views.{plain_merged};
-ghost use Rattle.rooted_trees.specs.Trees.{plain_trees, trees_size, AreWords};
+ghost use Rattle.rooted_trees.specs.Trees.{AreWords, plain_trees};
 
 use memory::NoMemory;
 use passes::{Merged, Nest, Work, items_in, items_out};
