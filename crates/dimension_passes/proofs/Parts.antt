@@ -1,5 +1,5 @@
 -- The merged passes of dimensions are parts of tensor products.
-use Rattle.std.proofs.Common.{◌≡◌, ℕ, ◌+◌, ◌≤◌, inl, inr, arith, refl, sym, ap, subst, List, [], ◌∷◌, length}
+use Rattle.std.proofs.Common.{◌≡◌, ℕ, ◌+◌, ◌*◌, ◌≤◌, inl, inr, arith, refl, sym, ap, subst, List, [], ◌∷◌, length}
 use Rattle.std.proofs.Math.Nat.{mul-one}
 use Rattle.dimension_plans.specs.declared.SeveralRequest.{SeveralRequest}
 use Rattle.dimension_plans.specs.Several.{part_of, AreAdmissible, AreValid, FitsFirst, IsSeveralRequest}
@@ -90,7 +90,7 @@ plain_part r d (e ∷ more) (t ∷ ts) few valid small h =
     let next : room_for more + 1 ≡ room = omega arith in
     let right = plain_part r e more ts (omega (arith, few)) (others_of r d (e ∷ more) valid) (others_small d (e ∷ more) max_size (first_of r d (e ∷ more) valid).0 small) h.1 in
     merged_by_unroll (IsPart n r.modulus room) r d e more t ts
-    (λ short. subst (λ size. IsPart size r.modulus room (kernel_merged trees)) (rooted-size r d (e ∷ more) (t ∷ ts) h) (kernels_are_parts r.modulus room trees (straight r d e more (t ∷ ts) valid h short) (omega arith) (omega (arith, few))))
+    (λ short. subst (λ size. IsPart size r.modulus room (kernel_merged trees)) (rooted-size r d (e ∷ more) (t ∷ ts) h) (kernels_are_parts r.modulus room trees (straight r d e more (t ∷ ts) valid h short)))
     (subst (λ some. IsPart n r.modulus some (tensored 1 1 (tree_merged (part_of r d) t) (plain_passes r (e ∷ more) ts))) next
     (tensored_is_part n r.modulus d.size (size_in (e ∷ more)) (room_for more) (tree_merged (part_of r d) t) (plain_passes r (e ∷ more) ts) (omega (arith, few)) (both_parts r d e more t ts few valid small h.0 right)))
 
