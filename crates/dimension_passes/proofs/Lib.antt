@@ -1,3 +1,6 @@
+pub mod Requests
+pub mod Straight
+pub mod Choices
 pub mod Parts
 pub mod Programs
 pub mod Means

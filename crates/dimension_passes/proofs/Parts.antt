@@ -1,34 +1,31 @@
 -- The merged passes of dimensions are parts of tensor products.
-use Rattle.std.proofs.Common.{◌≡◌, ℕ, ◌+◌, ◌*◌, ◌≤◌, inl, inr, true, arith, refl, sym, ap, subst, List, [], ◌∷◌, length, ◌&&◌}
-use Rattle.std.specs.Prelude.{◌==◌}
-use Rattle.std.proofs.Math.Nat.{mul-le-mul, mul-one}
-use Rattle.std.proofs.lemmas.Bool.Decides.{nat_tests}
-use Rattle.std.proofs.lemmas.List.Elements.{All-head, All-tail}
+use Rattle.std.proofs.Common.{◌≡◌, ℕ, ◌+◌, ◌*◌, ◌≤◌, inl, inr, arith, refl, sym, ap, subst, List, [], ◌∷◌, length}
+use Rattle.std.proofs.Math.Nat.{mul-one}
 use Rattle.dimension_plans.specs.declared.SeveralRequest.{SeveralRequest}
 use Rattle.dimension_plans.specs.Several.{part_of, AreAdmissible, AreValid, FitsFirst, IsSeveralRequest}
-use Rattle.dimension_plans.proofs.Plans.{others_no_more, others_positive}
 use Rattle.dimensions.specs.declared.Dimension.{Dimension}
-use Rattle.dimensions.specs.declared.Dimensions.{Dimensions}
-use Rattle.dimensions.specs.declared.Dimensions.TheVariants.{One, Two, Three, Four}
 use Rattle.dimensions.specs.Transform.{listed, size_in}
 use Rattle.formula_lower.specs.Merged.{tree_merged}
-use Rattle.matrix_meaning.specs.Valid.{IsValid}
+use Rattle.kernel_passes.specs.Laws.{IsKernel}
+use Rattle.kernel_passes.specs.Merged.{kernel_merged}
 use Rattle.operators.specs.Sizes.{max_size}
 use Rattle.pass_actions.specs.Machine.{plain_machine}
 use Rattle.pass_programs.specs.Contract.{IsHost}
 use Rattle.shared_tensors.specs.Laws.{AreParts, CanShare, IsPart}
+use Rattle.shared_tensors.specs.Tensored.{tensored}
 use Rattle.tree_model.specs.Admissible.{IsAdmissible}
 use Rattle.tree_model.specs.Breakdown.{Breakdown}
 use Rattle.tree_parts.specs.Parts.{IsForPart}
 use Rattle.tree_parts.proofs.TreesAreParts.{trees_are_parts}
 use Rattle.dimension_passes.specs.Laws.{AreTreesFor}
-use Rattle.dimension_passes.specs.Merged.{machine_of, plain_passes}
+use Rattle.dimension_passes.specs.Merged.{machine_of, plain_passes, rooted}
+use Rattle.kernel_passes.proofs.KernelsAreParts.{kernels_are_parts}
 use Rattle.shared_tensors.proofs.PartAgain.{tensored_is_part}
+use Rattle.dimension_passes.proofs.Choices.{merged_by_unroll, plain_counts}
+use Rattle.dimension_passes.proofs.Requests.{IsDimension, few_listed, first_of, others_of, others_small, two_in}
+use Rattle.dimension_passes.proofs.Straight.{rooted-makes, rooted-size}
 
 -- ---- one dimension
-
-abbrev pub IsDimension : SeveralRequest → Dimension → Type 0
-IsDimension r d = (2 ≤ d.size) × IsValid (part_of r d)
 
 pub for_part : (r : SeveralRequest) (d : Dimension) → IsDimension r d → IsForPart (part_of r d)
 for_part r d h = record { valid = h.1; two = h.0; procs = refl; line = refl; lanes = refl }
@@ -38,19 +35,6 @@ one_part : (r : SeveralRequest) (d : Dimension) (t : Breakdown) (room : ℕ) →
 one_part r d t room valid h enough high = trees_are_parts (part_of r d) t room (for_part r d valid) h enough high
 
 -- ---- several, for one processor and one lane
-
-pub first_of : (r : SeveralRequest) (d : Dimension) (others : List Dimension) → AreValid r (d ∷ others) → IsDimension r d
-first_of r d others valid = All-head (IsDimension r) d others valid
-
-pub others_of : (r : SeveralRequest) (d : Dimension) (others : List Dimension) → AreValid r (d ∷ others) → AreValid r others
-others_of r d others valid = All-tail (IsDimension r) d others valid
-
-two_in : (r : SeveralRequest) (d : Dimension) (others : List Dimension) → AreValid r (d ∷ others) → 2 ≤ size_in (d ∷ others)
-two_in r d others valid =
-    let two = (first_of r d others valid).0 in
-    let some = others_positive r d others (d ∷ others) refl valid in
-    let more : 2 * 1 ≤ d.size * size_in others = mul-le-mul {n₁ = 2} {m₁ = 1} {n₂ = d.size} {m₂ = size_in others} two some in
-    omega (arith, more)
 
 pub plain_shares : (r : SeveralRequest) (d e : Dimension) (more : List Dimension) → AreValid r (d ∷ e ∷ more) → size_in (d ∷ e ∷ more) ≤ max_size →
     CanShare (plain_machine (size_in (d ∷ e ∷ more)) r.modulus) d.size (size_in (e ∷ more))
@@ -72,14 +56,27 @@ plain_shares r d e more valid small =
 abbrev pub room_for : List Dimension → ℕ
 room_for others = 41 + length others
 
-pub others_small : (d : Dimension) (others : List Dimension) → 2 ≤ d.size → size_in (d ∷ others) ≤ max_size → size_in others ≤ max_size
-others_small d others two small = others_no_more d others (d ∷ others) max_size refl two small
-
 module _ (r : SeveralRequest) (d e : Dimension) (more : List Dimension) (t : Breakdown) (ts : List Breakdown) (few : length (e ∷ more) ≤ 3) (valid : AreValid r (d ∷ e ∷ more)) (small : size_in (d ∷ e ∷ more) ≤ max_size) where
   both_parts : IsAdmissible (part_of r d) t → IsPart (size_in (e ∷ more)) r.modulus (room_for more) (plain_passes r (e ∷ more) ts) →
       AreParts (plain_machine (size_in (d ∷ e ∷ more)) r.modulus) d.size (size_in (e ∷ more)) (room_for more) (tree_merged (part_of r d) t) (plain_passes r (e ∷ more) ts)
   both_parts h right =
       record { shares = plain_shares r d e more valid small; left_part = one_part r d t (room_for more) (first_of r d (e ∷ more) valid) h (omega arith) (omega (arith, few)); right_part = right }
+
+-- trees of no more words than are unrolled are straight-line code
+pub straight : (r : SeveralRequest) (d e : Dimension) (more : List Dimension) (ts : List Breakdown) → AreValid r (d ∷ e ∷ more) → AreAdmissible r (d ∷ e ∷ more) ts → size_in (d ∷ e ∷ more) ≤ r.unroll →
+    IsKernel r.modulus (rooted (d ∷ e ∷ more) ts)
+straight r d e more ts valid h short =
+    let range = (first_of r d (e ∷ more) valid).1.in_range in
+    let large = range.modulus in
+    let unroll = range.unroll in
+    let two = two_in r d (e ∷ more) valid in
+    let size = rooted-size r d (e ∷ more) ts h in
+    record {
+      modulus = (large.0, omega (arith, large));
+      makes = rooted-makes r d (e ∷ more) ts valid h;
+      two = omega (arith, size, two);
+      short = omega (arith, size, short, unroll);
+    }
 
 pub plain_part : (r : SeveralRequest) (d : Dimension) (others : List Dimension) (ts : List Breakdown) → length others ≤ 3 → AreValid r (d ∷ others) → size_in (d ∷ others) ≤ max_size → AreAdmissible r (d ∷ others) ts →
     IsPart (size_in (d ∷ others)) r.modulus (room_for others) (plain_passes r (d ∷ others) ts)
@@ -87,34 +84,22 @@ plain_part r d others [] few valid small h = absurd h
 plain_part r d [] (t ∷ ts) few valid small h =
     subst (λ n. IsPart n r.modulus 41 (tree_merged (part_of r d) t)) (sym (mul-one d.size)) (one_part r d t 41 (first_of r d [] valid) h.0 (omega arith) (omega arith))
 plain_part r d (e ∷ more) (t ∷ ts) few valid small h =
-    let next : room_for more + 1 ≡ room_for (e ∷ more) = omega arith in
-    let right = plain_part r e more ts (omega (arith, few)) (others_of r d (e ∷ more) valid) (others_small d (e ∷ more) (first_of r d (e ∷ more) valid).0 small) h.1 in
-    subst (λ room. IsPart (size_in (d ∷ e ∷ more)) r.modulus room (plain_passes r (d ∷ e ∷ more) (t ∷ ts))) next
-    (tensored_is_part (size_in (d ∷ e ∷ more)) r.modulus d.size (size_in (e ∷ more)) (room_for more) (tree_merged (part_of r d) t) (plain_passes r (e ∷ more) ts) (omega (arith, few))
-    (both_parts r d e more t ts few valid small h.0 right))
+    let room = room_for (e ∷ more) in
+    let n = size_in (d ∷ e ∷ more) in
+    let trees = rooted (d ∷ e ∷ more) (t ∷ ts) in
+    let next : room_for more + 1 ≡ room = omega arith in
+    let right = plain_part r e more ts (omega (arith, few)) (others_of r d (e ∷ more) valid) (others_small d (e ∷ more) max_size (first_of r d (e ∷ more) valid).0 small) h.1 in
+    merged_by_unroll (IsPart n r.modulus room) r d e more t ts
+    (λ short. subst (λ size. IsPart size r.modulus room (kernel_merged trees)) (rooted-size r d (e ∷ more) (t ∷ ts) h) (kernels_are_parts r.modulus room trees (straight r d e more (t ∷ ts) valid h short)))
+    (subst (λ some. IsPart n r.modulus some (tensored 1 1 (tree_merged (part_of r d) t) (plain_passes r (e ∷ more) ts))) next
+    (tensored_is_part n r.modulus d.size (size_in (e ∷ more)) (room_for more) (tree_merged (part_of r d) t) (plain_passes r (e ∷ more) ts) (omega (arith, few)) (both_parts r d e more t ts few valid small h.0 right)))
 
 pub plain_parts : (r : SeveralRequest) (d e : Dimension) (more : List Dimension) (t : Breakdown) (ts : List Breakdown) → length (e ∷ more) ≤ 3 → AreValid r (d ∷ e ∷ more) → size_in (d ∷ e ∷ more) ≤ max_size → AreAdmissible r (d ∷ e ∷ more) (t ∷ ts) →
     AreParts (plain_machine (size_in (d ∷ e ∷ more)) r.modulus) d.size (size_in (e ∷ more)) (room_for more) (tree_merged (part_of r d) t) (plain_passes r (e ∷ more) ts)
 plain_parts r d e more t ts few valid small h =
-    both_parts r d e more t ts few valid small h.0 (plain_part r e more ts (omega (arith, few)) (others_of r d (e ∷ more) valid) (others_small d (e ∷ more) (first_of r d (e ∷ more) valid).0 small) h.1)
+    both_parts r d e more t ts few valid small h.0 (plain_part r e more ts (omega (arith, few)) (others_of r d (e ∷ more) valid) (others_small d (e ∷ more) max_size (first_of r d (e ∷ more) valid).0 small) h.1)
 
 -- ---- the whole
-
-pub few_listed : (ds : Dimensions) → length (listed ds) ≤ 4
-few_listed (One a) = omega arith
-few_listed (Two a b) = omega arith
-few_listed (Three a b c) = omega arith
-few_listed (Four a b c d) = omega arith
-
-pub some_listed : (ds : Dimensions) → 1 ≤ length (listed ds)
-some_listed (One a) = omega arith
-some_listed (Two a b) = omega arith
-some_listed (Three a b c) = omega arith
-some_listed (Four a b c d) = omega arith
-
--- where there is one processor and one lane nothing is shared
-plain_counts : (p v : ℕ) → (p == 1 && v == 1) ≡ true → (p ≡ 1) × (v ≡ 1)
-plain_counts p v h = (grind (arith, nat_tests), grind (arith, nat_tests))
 
 module _ (r : SeveralRequest) (d e : Dimension) (more : List Dimension) (is : listed r.dimensions ≡ d ∷ e ∷ more) (request : IsSeveralRequest r) where
   pub all_valid : AreValid r (d ∷ e ∷ more)
@@ -126,7 +111,7 @@ module _ (r : SeveralRequest) (d e : Dimension) (more : List Dimension) (is : li
   pub few_others : length (e ∷ more) ≤ 3
   few_others = let few : length (d ∷ e ∷ more) ≤ 4 = subst (λ ds. length ds ≤ 4) is (few_listed r.dimensions) in omega (arith, few)
 
-  host : IsHost (machine_of r)
+  pub host : IsHost (machine_of r)
   host =
       let range = request.whole in
       let large = range.modulus in
@@ -138,7 +123,7 @@ module _ (r : SeveralRequest) (d e : Dimension) (more : List Dimension) (is : li
       let product : d.size * size_in (e ∷ more) ≡ (machine_of r).size = ap size_in (sym is) in
       elim fits [
         | inl plain_whole ↦
-            let one = plain_counts r.procs r.lanes plain_whole in
+            let one = plain_counts r plain_whole in
             let procs = one.0 in
             let lanes = one.1 in
             record {

@@ -12,7 +12,7 @@ use Rattle.pass_actions.specs.Machine.{PlainMachine}
 use Rattle.passes.specs.Merged.{PlainMerged}
 use Rattle.rooted_trees.specs.Trees.{PlainTrees, single, tensor}
 use Rattle.shared_tensors.specs.Tensored.{tensored}
-use Rattle.tree_model.specs.Breakdown.{Breakdown}
+use Rattle.tree_model.specs.Breakdown.{Breakdown, leaf}
 use Rattle.tree_model.specs.Cost.{is_plain}
 
 -- the machine that the request asks for
@@ -29,11 +29,15 @@ machine_of r =
 abbrev pub no_passes : PlainMerged
 no_passes = record { size = 1; procs = 1; lanes = 1; phases = [] }
 
+abbrev pub no_trees : PlainTrees
+no_trees = single Dft 1 (leaf 1)
+
 -- trees with the roots of their dimensions
-abbrev pub rooted : Dimension → List Dimension → Breakdown → List Breakdown → PlainTrees
-rooted d [] t ts = single Dft d.root t
-rooted d (e ∷ others) t [] = single Dft d.root t
-rooted d (e ∷ others) t (u ∷ us) = tensor Dft d.root t (rooted e others u us)
+abbrev pub rooted : List Dimension → List Breakdown → PlainTrees
+rooted [] ts = no_trees
+rooted (d ∷ others) [] = no_trees
+rooted (d ∷ []) (t ∷ ts) = single Dft d.root t
+rooted (d ∷ e ∷ others) (t ∷ ts) = tensor Dft d.root t (rooted (e ∷ others) ts)
 
 -- For one processor and one lane. Several dimensions together are straight-line code
 -- where they have no more words than the request unrolls
@@ -42,7 +46,7 @@ plain_passes r [] ts = no_passes
 plain_passes r (d ∷ others) [] = no_passes
 plain_passes r (d ∷ []) (t ∷ ts) = tree_merged (part_of r d) t
 plain_passes r (d ∷ e ∷ others) (t ∷ ts) =
-    if nat_le (size_in (d ∷ e ∷ others)) r.unroll then kernel_merged (rooted d (e ∷ others) t ts)
+    if nat_le (size_in (d ∷ e ∷ others)) r.unroll then kernel_merged (rooted (d ∷ e ∷ others) (t ∷ ts))
     else tensored 1 1 (tree_merged (part_of r d) t) (plain_passes r (e ∷ others) ts)
 
 -- the processors and lanes share the whole between the first dimension and the others

@@ -1,15 +1,16 @@
 //! The merged passes of several dimensions: what they do and count, and that a program can be made of them.
 #![tactic(auto)]
 
-ghost use Rattle.std.specs.Prelude.{◌≡◌, ◌≤◌, map, IfOk};
+ghost use Rattle.std.specs.Prelude.{◌≡◌, ◌≤◌, length, map, IfOk};
 ghost use Rattle.dimension_passes.specs.Laws.{AreTreesFor, SeveralCanProgram, SeveralCount, SeveralMeans};
-ghost use Rattle.dimension_passes.specs.Merged.{plain_passes, several_merged};
+ghost use Rattle.dimension_passes.specs.Merged.{plain_passes, rooted, several_merged};
 ghost use Rattle.dimension_plans.specs.Several.{part_of, AreAdmissible, AreValid};
 ghost use Rattle.dimensions.specs.Transform.{listed, size_in};
 ghost use Rattle.formula_lower.specs.Merged.{tree_merged};
 ghost use Rattle.matrix_meaning.specs.Valid.{IsValid};
 ghost use Rattle.operators.specs.Sizes.{max_size};
 ghost use Rattle.passes.specs.Views.{plain_merged};
+ghost use Rattle.rooted_trees.specs.Trees.{plain_trees};
 ghost use Rattle.tree_model.specs.Admissible.{IsAdmissible};
 ghost use Rattle.tree_model.specs.Breakdown.{breakdown_of};
 
@@ -35,7 +36,8 @@ pub fn merge_several(
     ensures { IfOk result (λ merged.
         plain_merged merged ≡ several_merged request.now (map breakdown_of trees.now)) }
 {
-    if request.procs == 1 && request.lanes == 1 {
+    let whole = Ctx::new(&request.whole());
+    if whole.is_plain() {
         let merged = merge_plain(alloc, request, &request.dimensions, trees)?;
         return Ok(merged);
     }
@@ -67,34 +69,41 @@ fn merge_plain(
     let Some((tree, later)) = trees.split_first() else {
         unreachable!()
     };
-    match dimensions.parts() {
-        (first, None) => Ok(merge_part(alloc, request, &first, tree)?),
-        _ if dimensions.size() <= request.unroll => {
-            let merged = merge_kernel(alloc, rooted(alloc, dimensions, trees)?)?;
-            Ok(merged)
-        }
-        (first, Some(others)) => {
-            let columns = merge_part(alloc, request, &first, tree)?;
-            let rows = merge_plain(alloc, request, &others, later)?;
-            let merged = tensor_product(alloc, 1, 1, columns, rows)?;
-            Ok(merged)
-        }
+    let (first, others) = dimensions.parts();
+    let Some(others) = others else {
+        let merged = merge_part(alloc, request, &first, tree)?;
+        return Ok(merged);
+    };
+    if dimensions.size() <= request.unroll {
+        let trees = rooted(alloc, dimensions, trees)?;
+        let merged = merge_kernel(alloc, trees)?;
+        return Ok(merged);
     }
+    let columns = merge_part(alloc, request, &first, tree)?;
+    let rows = merge_plain(alloc, request, &others, later)?;
+    let merged = tensor_product(alloc, 1, 1, columns, rows)?;
+    Ok(merged)
 }
 
-// The trees with the roots of these dimensions.
+// The trees with the roots of their dimensions.
 fn rooted(
     alloc: Global,
     dimensions: &Dimensions,
     trees: &[Tree],
 ) -> Result<RootedTrees, NoMemory>
+    requires { length trees.now ≡ length (listed dimensions.now) }
+    ensures { IfOk result (λ made.
+        plain_trees made ≡ rooted (listed dimensions.now) (map breakdown_of trees.now)) }
 {
     let Some((tree, later)) = trees.split_first() else {
         unreachable!()
     };
-    let (Dimension { root, .. }, others) = dimensions.parts();
-    let tree = tree.copied(alloc)?;
-    let first = RootedTree { kind: Kind::Dft, root, tree };
+    let (first, others) = dimensions.parts();
+    let first = RootedTree {
+        kind: Kind::Dft,
+        root: first.root,
+        tree: tree.copied(alloc)?,
+    };
     match others {
         None => Ok(RootedTrees::Single(first)),
         Some(others) => {
