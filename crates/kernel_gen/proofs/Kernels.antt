@@ -21,7 +21,7 @@ use Rattle.kernel_gen.proofs.Trees.{does-leaf, does-tree}
 abbrev pub firsts : ℕ → List ℕ
 firsts n = list_below n (λ k. k)
 
-firsts-below : (n : ℕ) → AllBelow n (firsts n)
+pub firsts-below : (n : ℕ) → AllBelow n (firsts n)
 firsts-below n =
     AllBelow-at n (firsts n) (λ i within.
     let inside : i < n = rw (length-list_below n (λ k. k)) at within in
@@ -44,7 +44,7 @@ root-any Wht m t w root = tt
 root-any Dft m (leaf d) w root = tt
 root-any Dft m (node rule a b) w root = root
 
-does-any : (m lanes lane weight : ℕ) (kind : Kind) (t : Breakdown) (w : ℕ) → 2 ≤ m → lane < lanes → IsWellFormed kind t → AllowsRoot m w kind t →
+pub does-any : (m lanes lane weight : ℕ) (kind : Kind) (t : Breakdown) (w : ℕ) → 2 ≤ m → lane < lanes → IsWellFormed kind t → AllowsRoot m w kind t →
     Does m lanes lane weight (size_of t) (size_of t) (kernel_cost weight m kind t w) (tree_make m lanes kind t w) (transform kind m (size_of t) w)
 does-any m lanes lane weight Wht t w modulus there formed root = does-tree m lanes lane weight modulus there Wht t w formed tt
 does-any m lanes lane weight Dft (leaf d) w modulus there formed root = does-leaf m lanes lane weight modulus there Dft d w formed

@@ -13,3 +13,6 @@ pub mod Writes
 pub mod Turns
 pub mod Parts
 pub mod Reduced
+pub mod KernelSizes
+pub mod Alike
+pub mod Products

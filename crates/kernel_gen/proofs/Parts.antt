@@ -1,5 +1,5 @@
 -- The code of a node is written by that of its parts.
-use Rattle.std.proofs.Common.{◌≡◌, ℕ, ◌+◌, ◌*◌, ◌++◌, List, [], length, sym, ap, ap₂, subst, ◌∙◌, add-zero}
+use Rattle.std.proofs.Common.{◌≡◌, ℕ, ◌+◌, ◌*◌, ◌%◌, ◌++◌, List, [], length, sym, ap, ap₂, subst, ◌∙◌, add-zero}
 use Rattle.icode.specs.declared.action.Action.{Action}
 use Rattle.matrix_meaning.specs.declared.Kind.{Kind}
 use Rattle.operators.specs.Identities.{turn}
@@ -10,10 +10,14 @@ use Rattle.ring_mod.specs.Residue.{power_mod}
 use Rattle.tree_model.specs.declared.tree.Rule.{Rule}
 use Rattle.tree_model.specs.declared.tree.Rule.TheVariants.{Gt, Ct, Split}
 use Rattle.tree_model.specs.Breakdown.{Breakdown, node, size_of}
+use Rattle.rooted_trees.specs.Trees.{PlainTrees, single, tensor, trees_size}
+use Rattle.kernel_gen.specs.declared.straight.Kernel.{Kernel as KernelRecord}
 use Rattle.kernel_gen.specs.declared.writer.Writer.{Writer}
 use Rattle.kernel_gen.specs.Making.{Made, Maker, pick_make, then_make, rows_make}
-use Rattle.kernel_gen.specs.Kernel.{columns_make, twiddled_make, node_make, tree_make, kernel_of}
+use Rattle.kernel_gen.specs.Kernel.{columns_make, twiddled_make, node_make, tree_make, trees_make}
+use Rattle.kernel_gen.specs.Kernels.{made_of}
 use Rattle.kernel_gen.specs.Writing.{next_of, Wrote}
+use Rattle.kernel_gen.proofs.Reduced.{tree-reduced}
 use Rattle.kernel_gen.proofs.Writes.{wrote-pick, wrote-then, wrote-lanes}
 
 -- the parts of a tree, as the code has them: the trees, their sizes, and their roots
@@ -72,16 +76,38 @@ module _ (m : ℕ) (kind : Kind) (tree a b : Breakdown) (root r s left right : �
       (wrote-then old mid new rows (then_make columns back) x y outs p
       (wrote-then mid new new columns back y z outs (columns_too old mid new y z p.code.lanes q) (wrote-pick new (gather (r * s) (good_thomas_out r s)) z outs outs_are))))
 
-abbrev pub made_with : List Action → List ℕ → ℕ → Made
+-- ---- several dimensions
+
+pub wrote_single : (m lanes : ℕ) (trees : PlainTrees) (kind : Kind) (root reduced : ℕ) (tree : Breakdown) (old new : Writer) (ins outs : List ℕ) →
+    trees ≡ single kind root tree → reduced ≡ root % m → Wrote old new (tree_make m lanes kind tree reduced) ins outs → Wrote old new (trees_make m lanes trees) ins outs
+wrote_single m lanes trees kind root reduced tree old new ins outs trees_are reduced_is p =
+    subst (λ (make : Maker). Wrote old new make ins outs)
+    (ap (tree_make m lanes kind tree) reduced_is ∙ tree-reduced m lanes kind tree root ∙ sym (ap (trees_make m lanes) trees_are)) p
+
+pub wrote_tensor : (m : ℕ) (trees others : PlainTrees) (kind : Kind) (root reduced r s : ℕ) (tree : Breakdown) (old mid new : Writer) (ins y z : List ℕ) →
+    trees ≡ tensor kind root tree others → reduced ≡ root % m → r ≡ size_of tree → s ≡ trees_size others →
+    Wrote old mid (rows_make r s (λ _. trees_make m old.lanes others)) ins y →
+    Wrote mid new (columns_make r s (tree_make m mid.lanes kind tree reduced)) y z → Wrote old new (trees_make m old.lanes trees) ins z
+wrote_tensor m trees others kind root reduced r s tree old mid new ins y z trees_are reduced_is r_is s_is p q =
+    let rows : Maker = rows_make r s (λ _. trees_make m old.lanes others) in
+    let columns : Maker = columns_make r s (tree_make m old.lanes kind tree reduced) in
+    subst (λ (make : Maker). Wrote old new make ins z)
+    (ap (λ (a : Maker). node_make m old.lanes Split r s 1 a (trees_make m old.lanes others)) (ap (tree_make m old.lanes kind tree) reduced_is ∙ tree-reduced m old.lanes kind tree root)
+    ∙ ap₂ (λ i j. node_make m old.lanes Split i j 1 (tree_make m old.lanes kind tree root) (trees_make m old.lanes others)) r_is s_is
+    ∙ sym (ap (trees_make m old.lanes) trees_are))
+    (wrote-then old mid new rows columns ins y z p
+    (wrote-lanes mid new old.lanes mid.lanes (λ n. columns_make r s (tree_make m n kind tree reduced)) y z p.code.lanes q))
+
+abbrev made_with : List Action → List ℕ → ℕ → Made
 made_with acts outs next = record { acts = acts; outs = outs; next = next }
 
 -- a whole kernel
-pub kernel_written : (m lanes : ℕ) (kind : Kind) (t : Breakdown) (root : ℕ) (old new : Writer) (ins outs : List ℕ) (regs : ℕ) →
-    old.actions.items ≡ [] → old.inputs ≡ size_of t → ins ≡ list_below (size_of t) (λ k. k) → Wrote old new (tree_make m lanes kind t root) ins outs → regs ≡ next_of new →
-    made_with new.actions.items outs regs ≡ kernel_of m lanes kind t root
-kernel_written m lanes kind t root old new ins outs regs none inputs ins_are p regs_are =
-    let first : next_of old ≡ size_of t = ap₂ (λ n xs. n + length {A = Action} xs) inputs none ∙ add-zero (size_of t) in
-    let made = tree_make m lanes kind t root ins (next_of old) in
-    ap₂ (λ acts ys. made_with acts ys regs) (p.code.actions ∙ ap (λ xs. xs ++ made.acts) none) p.outs_are
+pub kernel_written : (make : Maker) (n : ℕ) (old new : Writer) (ins outs : List ℕ) (k : KernelRecord) →
+    old.actions.items ≡ [] → old.inputs ≡ n → ins ≡ list_below n (λ k. k) → Wrote old new make ins outs →
+    k.actions.items ≡ new.actions.items → k.outputs.items ≡ outs → k.regs ≡ next_of new → made_of k ≡ make (list_below n (λ k. k)) n
+kernel_written make n old new ins outs k none inputs ins_are p acts_are outs_are regs_are =
+    let first : next_of old ≡ n = ap₂ (λ n xs. n + length {A = Action} xs) inputs none ∙ add-zero n in
+    let made = make ins (next_of old) in
+    ap₂ (λ acts ys. made_with acts ys k.regs) (acts_are ∙ p.code.actions ∙ ap (λ xs. xs ++ made.acts) none) (outs_are ∙ p.outs_are)
     ∙ ap (made_with made.acts made.outs) (regs_are ∙ p.code.next_is)
-    ∙ ap₂ (tree_make m lanes kind t root) ins_are first
+    ∙ ap₂ make ins_are first

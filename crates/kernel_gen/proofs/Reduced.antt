@@ -30,7 +30,7 @@ rule-reduced m lanes Ct r s w a b =
     ap (λ (power : ℕ → ℕ). then_make (pick_make (turn r s)) (then_make (rows_make r s (λ i. then_make b (diagonal_make m lanes s (λ k. power (i * k))))) (columns_make r s a))) (powers-reduced m w)
 rule-reduced m lanes Split r s w a b = refl
 
-tree-reduced : (m lanes : ℕ) (kind : Kind) (t : Breakdown) (w : ℕ) → tree_make m lanes kind t (w % m) ≡ tree_make m lanes kind t w
+pub tree-reduced : (m lanes : ℕ) (kind : Kind) (t : Breakdown) (w : ℕ) → tree_make m lanes kind t (w % m) ≡ tree_make m lanes kind t w
 tree-reduced m lanes kind (leaf d) w = ap (λ (e : ℕ → ℕ → ℕ). matrix_make m lanes e d) (entries-reduced kind m w)
 tree-reduced m lanes kind (node rule a b) w =
     ap₂ (λ x y. node_make m lanes rule (size_of a) (size_of b) (w % m) (tree_make m lanes kind a x) (tree_make m lanes kind b y)) (power_mod-reduced m w (size_of b)) (power_mod-reduced m w (size_of a))

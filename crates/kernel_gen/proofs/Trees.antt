@@ -102,7 +102,7 @@ module _ (m lanes lane weight : ℕ) (modulus : 2 ≤ m) (there : lane < lanes) 
       (does-columns m lanes lane weight r s cost a left p)
       (does-pick m lanes lane weight (r * s) (r * s) (good_thomas_out r s) (λ i below. good_thomas_out_below r s i below))))))
 
-  does-split : (r s w cost price : ℕ) (a b : Maker) (f left right : Operator) →
+  pub does-split : (r s w cost price : ℕ) (a b : Maker) (f left right : Operator) →
       ((x : List ℕ) → f x ≡ on_columns r s left (on_blocks r s right x)) → ((x : List ℕ) → length (f x) ≡ r * s) →
       Does m lanes lane weight r r cost a left → Does m lanes lane weight s s price b right →
       Does m lanes lane weight (r * s) (r * s) (s * cost + r * price + rule_cost weight m Split r s w) (node_make m lanes Split r s w a b) f

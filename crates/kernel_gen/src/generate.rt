@@ -1,9 +1,10 @@
 // Kernels.
-ghost use Rattle.std.specs.Prelude.{◌≡◌, ◌%◌, ◌^◌, ◌<◌, ◌≤◌, vec_len, IfOk};
+ghost use Rattle.std.specs.Prelude.{◌≡◌, ◌%◌, ◌^◌, ◌<◌, ◌≤◌, [], vec_len, IfOk};
 ghost use Rattle.operators.specs.Sum.{list_below};
 ghost use Rattle.tree_model.specs.Breakdown.{breakdown_of, size_of, HasWordSizes, IsWellFormed};
 ghost use Rattle.kernel_gen.specs.Kernel.{kernel_of, node_kernel, trees_kernel};
 ghost use Rattle.rooted_trees.specs.Trees.{plain_trees, trees_size, AreWords};
+ghost use Rattle.kernel_gen.specs.Writing.{next_of};
 ghost use Rattle.kernel_gen.specs.Kernels.{made_of, CostsDefinition, CostsNode, IsStraight, TransformsBy, TransformsNode};
 
 use crate::straight::Kernel;
@@ -23,6 +24,41 @@ fn first_registers(alloc: Global, n: u64) -> Result<Vec<u64>, NoMemory>
     Ok((0..n).map(|k| k).collect(alloc)?)
 }
 
+// Nothing yet, on so many inputs.
+fn begun(alloc: Global, lanes: u64, inputs: u64) -> Writer
+    ensures lanes { result.lanes ≡ lanes }
+    ensures inputs { result.inputs ≡ inputs }
+    ensures actions { result.actions.items ≡ [] }
+{
+    Writer {
+        lanes,
+        inputs,
+        actions: Vec::new(alloc),
+    }
+}
+
+// What was written, with these outputs.
+fn ended(writer: Writer, outputs: Vec<u64>) -> Kernel
+    requires { writer.inputs < 2 ^ 32 }
+    ensures inputs { result.inputs ≡ writer.inputs }
+    ensures actions { result.actions.items ≡ writer.actions.items }
+    ensures outputs { result.outputs.items ≡ outputs.items }
+    ensures regs { result.regs ≡ next_of writer }
+{
+    let regs = writer.next();
+    let Writer {
+        inputs,
+        actions,
+        ..
+    } = writer;
+    Kernel {
+        inputs,
+        actions,
+        outputs,
+        regs,
+    }
+}
+
 /// The code of trees with their roots, one for each dimension, modulo the modulus, on registers of so many lanes.
 pub fn trees_kernel(
     alloc: Global,
@@ -39,20 +75,9 @@ pub fn trees_kernel(
 {
     let inputs = trees.size();
     let first = first_registers(alloc, inputs)?;
-    let mut writer = Writer {
-        lanes,
-        inputs,
-        actions: Vec::new(alloc),
-    };
+    let mut writer = begun(alloc, lanes, inputs);
     let outputs = writer.put_trees(alloc, modulus, trees, &first)?;
-    let regs = writer.next();
-    let Writer { actions, .. } = writer;
-    Ok(Kernel {
-        inputs,
-        actions,
-        outputs,
-        regs,
-    })
+    Ok(ended(writer, outputs))
 }
 
 // The code of a tree for this root.
@@ -72,20 +97,9 @@ fn tree_kernel(
 {
     let inputs = t.size();
     let first = first_registers(alloc, inputs)?;
-    let mut writer = Writer {
-        lanes,
-        inputs,
-        actions: Vec::new(alloc),
-    };
+    let mut writer = begun(alloc, lanes, inputs);
     let outputs = writer.put_tree(alloc, modulus, kind, t, modulus.reduce(root), &first)?;
-    let regs = writer.next();
-    let Writer { actions, .. } = writer;
-    Ok(Kernel {
-        inputs,
-        actions,
-        outputs,
-        regs,
-    })
+    Ok(ended(writer, outputs))
 }
 
 /// The code of a Fourier transform of at most eight items by its definition, on one lane. The root may be any number: it need

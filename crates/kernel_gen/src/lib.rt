@@ -1,12 +1,12 @@
 //! Straight-line code of breakdown trees.
 #![tactic(auto)]
 
+mod dimensions;
 mod generate;
 mod matrix;
 mod nodes;
 mod places;
 mod straight;
-mod trees;
 mod writer;
 
 pub use generate::{dft_kernel, kernel, trees_kernel};

@@ -1,6 +1,5 @@
 pub mod Limits
 pub mod Within
-pub mod Alike
 pub mod Registers
 pub mod Tiles
 pub mod Shallow

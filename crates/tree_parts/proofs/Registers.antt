@@ -2,6 +2,7 @@
 use Rattle.std.proofs.Common.{◌≡◌, ℕ, ◌^◌, ◌<◌, refl, ap, subst, arith, List, [], ◌∷◌, All}
 use Rattle.std.specs.Prelude.{max}
 use Rattle.std.proofs.lemmas.List.Elements.{All-nil, All-cons}
+use Rattle.kernel_gen.proofs.Alike.{trees-alike}
 use Rattle.loop_merge.specs.Merge.{PlainPass}
 use Rattle.loop_merge.specs.Nests.{loop_of, loop_work}
 use Rattle.matrix_meaning.specs.declared.Request.{Request}
@@ -15,11 +16,10 @@ use Rattle.tree_passes.specs.Laws.{machine_of}
 use Rattle.tree_passes.proofs.Known.{AllKnown}
 use Rattle.tree_passes.proofs.Owned.{nests_in}
 use Rattle.tree_passes.proofs.Writes.{IsKnown, few-registers}
-use Rattle.tree_parts.proofs.Alike.{kernel-alike}
 
 module _ (c : Request) (v : ℕ) where
   registers-alike : (z : PlainNest) (w : PlainWork) → nest_registers (machine_of c) z w ≡ nest_registers (plain_lanes c.size c.modulus v) z w
-  registers-alike z (kernel trees) = ap (λ n. with_multiplier z.multiplier n (work_size (kernel trees))) (kernel-alike c.modulus c.lanes v kind t root)
+  registers-alike z (kernel trees) = ap (λ n. with_multiplier z.multiplier n (work_size (kernel trees))) (trees-alike c.modulus c.lanes v trees)
   registers-alike z (rows root size) = refl
   registers-alike z (horner root size) = refl
   registers-alike z (tile lanes) = refl

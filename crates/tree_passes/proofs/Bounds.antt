@@ -19,9 +19,9 @@ use Rattle.tensor_paths.specs.Path.{Path, copies_of, count_of}
 use Rattle.tensor_paths.proofs.Under.{size_under-copies}
 use Rattle.tree_model.specs.Breakdown.{size_of}
 use Rattle.tree_model.specs.Cost.{node_root}
+use Rattle.kernel_gen.proofs.KernelSizes.{cost-le}
 use Rattle.tree_passes.specs.Laws.{machine_of}
 use Rattle.tree_passes.proofs.Frames.{loop-size}
-use Rattle.tree_passes.proofs.KernelSizes.{cost-le}
 use Rattle.tree_passes.proofs.Known.{AllKnown}
 use Rattle.tree_passes.proofs.Owned.{nests_in}
 use Rattle.tree_passes.proofs.Works.{by-work, node-of}

@@ -7,6 +7,7 @@ use Rattle.std.specs.Option.{option_map}
 use Rattle.index_fn.specs.Mapping.{Mapping}
 use Rattle.code_laws.specs.Lanes.{operations}
 use Rattle.code_laws.proofs.ByLane.{weight_of_one}
+use Rattle.kernel_gen.proofs.KernelSizes.{cost-le}
 use Rattle.kernel_gen.specs.Kernel.{kernel_cost, kernel_of}
 use Rattle.kernel_gen.proofs.Kernels.{firsts, kernel-does}
 use Rattle.kernel_gen.proofs.NodeCosts.{kernel-short}
@@ -46,7 +47,7 @@ use Rattle.tree_model.specs.Cost.{is_kernel, node_root}
 use Rattle.tree_passes.specs.Laws.{machine_of}
 use Rattle.tree_passes.proofs.Frames.{loop-size, nest-framed}
 use Rattle.tree_passes.proofs.Items.{gathers-coded, scatters-coded, factors-coded, factors-few}
-use Rattle.tree_passes.proofs.KernelSizes.{cost-le, small_kernel}
+use Rattle.tree_passes.proofs.KernelSizes.{small_kernel}
 use Rattle.tree_passes.proofs.Loops.{IsCount, counts-drop, length-drop, length-tensors, loop-counts, path-weight, weight-small}
 use Rattle.tree_passes.proofs.Places.{taken-is, moves-vectors, finds-factors, residues-of}
 use Rattle.tree_passes.proofs.Sized.{under-least}

@@ -1,7 +1,6 @@
-use Rattle.std.proofs.Common.{◌*◌, ap, ◌∙◌, sym, subst, arith}
+use Rattle.std.proofs.Common.{◌∙◌, sym, subst, arith}
 use Rattle.matrix_meaning.specs.declared.Kind.TheVariants.{Dft}
 use Rattle.tree_model.specs.Breakdown.{leaf}
-use Rattle.kernel_gen.specs.Kernel.{kernel_of, kernel_cost}
 use Rattle.kernel_gen.specs.Kernels.{TransformsBy, CostsDefinition, IsStraight}
 use Rattle.kernel_gen.specs.Making.{Made}
 use Rattle.kernel_gen.proofs.Kernels.{kernels_transform, kernels_cost, kernels_straight}

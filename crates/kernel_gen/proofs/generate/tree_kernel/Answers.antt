@@ -1,7 +1,7 @@
 use Rattle.std.proofs.Common.{ap, ◌∙◌}
 use Rattle.operators.specs.Sum.{list_below}
-use Rattle.tree_model.specs.Breakdown.{breakdown_of}
-use Rattle.kernel_gen.specs.Kernel.{kernel_of}
+use Rattle.tree_model.specs.Breakdown.{breakdown_of, size_of}
+use Rattle.kernel_gen.specs.Kernel.{kernel_of, tree_make}
 use Rattle.kernel_gen.proofs.Parts.{kernel_written}
 use Rattle.kernel_gen.proofs.Reduced.{kernel-reduced}
 use Rattle.kernel_gen.proofs.generate.tree_kernel.Goals as goal
@@ -10,8 +10,11 @@ pub returns-clause-code : goal.returns-clause-code
 returns-clause-code c =
     let m = c.args.modulus.now in
     let t = breakdown_of c.args.t.now in
-    kernel_written m c.args.lanes c.args.kind t c.reduce.result
-    (record { lanes = c.args.lanes; inputs = c.size-inputs.result; actions = c.new.result }) c.put_tree.new.self c.deref.result.now c.in_ok-outputs.outputs.items c.next-regs.result
-    c.new.ensures.items c.size-inputs.ensures (c.deref.ensures.value ∙ c.in_ok-first.ensures.value ∙ ap (λ n. list_below n (λ k. k)) c.size-inputs.ensures) c.in_ok-outputs.ensures.code c.next-regs.ensures
+    let lanes = c.begun-writer.result.lanes in
+    kernel_written (tree_make m lanes c.args.kind t c.reduce.result) (size_of t)
+    c.begun-writer.result c.put_tree.new.self c.deref.result.now c.in_ok-outputs.outputs.items c.ended.result
+    c.begun-writer.ensures.actions (c.begun-writer.ensures.inputs ∙ c.size-inputs.ensures) (c.deref.ensures.value ∙ c.in_ok-first.ensures.value ∙ ap (λ n. list_below n (λ k. k)) c.size-inputs.ensures) c.in_ok-outputs.ensures.code
+    c.ended.ensures.actions c.ended.ensures.outputs c.ended.ensures.regs
+    ∙ ap (λ n. kernel_of m n c.args.kind t c.reduce.result) c.begun-writer.ensures.lanes
     ∙ ap (kernel_of m c.args.lanes c.args.kind t) c.reduce.ensures.value
     ∙ kernel-reduced m c.args.lanes c.args.kind t c.args.root

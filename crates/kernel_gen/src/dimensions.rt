@@ -61,14 +61,17 @@ impl Writer {
     {
         match trees {
             RootedTrees::Single(only) => {
-                self.put_tree(alloc, m, only.kind, &only.tree, m.reduce(only.root), ins)
+                let root = m.reduce(only.root);
+                let outs = self.put_tree(alloc, m, only.kind, &only.tree, root, ins)?;
+                Ok(outs)
             }
             RootedTrees::Tensor(first, others) => {
                 let r = first.tree.size();
                 let s = others.size();
                 let root = m.reduce(first.root);
                 let rows = self.put_trees_in_rows(alloc, m, others, r, s, ins)?;
-                self.put_columns(alloc, m, first.kind, &first.tree, root, r, s, &rows)
+                let outs = self.put_columns(alloc, m, first.kind, &first.tree, root, r, s, &rows)?;
+                Ok(outs)
             }
         }
     }

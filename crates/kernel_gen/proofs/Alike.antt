@@ -2,7 +2,7 @@
 use Rattle.std.proofs.Common.{◌≡◌, ℕ, zero, suc, ◌+◌, ◌-◌, ◌*◌, Bool, true, false, refl, ap₂, List, [], ◌∷◌, ◌++◌, subst, if◌then◌else◌}
 use Rattle.std.specs.Prelude.{◌==◌}
 use Rattle.icode.specs.declared.action.Action.TheVariants.{Add, Sub, Neg}
-use Rattle.kernel_gen.specs.Kernel.{columns_make, kernel_of, node_make, tree_make, twiddled_make}
+use Rattle.kernel_gen.specs.Kernel.{columns_make, node_make, tree_make, trees_kernel, trees_make, twiddled_make}
 use Rattle.kernel_gen.specs.Making.{Made, Maker, Term, beside_make, diagonal_make, factor_make, matrix_make, pick_make, row_make, rows_make, sum_make, term_make, then_make, times}
 use Rattle.matrix_meaning.specs.declared.Kind.{Kind}
 use Rattle.matrix_meaning.specs.Kind.{entry_of}
@@ -10,6 +10,7 @@ use Rattle.operators.specs.Identities.{turn}
 use Rattle.operators.specs.Operator.{Operator, block, gather, good_thomas_in, good_thomas_out}
 use Rattle.operators.specs.Sum.{list_below}
 use Rattle.ring_mod.specs.Residue.{power_mod}
+use Rattle.rooted_trees.specs.Trees.{PlainTrees, single, tensor, trees_size}
 use Rattle.tree_model.specs.declared.tree.Rule.{Rule}
 use Rattle.tree_model.specs.declared.tree.Rule.TheVariants.{Gt, Ct, Split}
 use Rattle.tree_model.specs.Breakdown.{Breakdown, leaf, node, size_of}
@@ -136,5 +137,10 @@ module _ (m v u : ℕ) where
   alike-tree kind (node rule a b) w =
       alike-node rule (size_of a) (size_of b) w _ _ _ _ (alike-tree kind a (power_mod m w (size_of b))) (alike-tree kind b (power_mod m w (size_of a)))
 
-  pub kernel-alike : (kind : Kind) (t : Breakdown) (w : ℕ) → (kernel_of m v kind t w).next ≡ (kernel_of m u kind t w).next
-  kernel-alike kind t w = (alike-tree kind t w (list_below (size_of t) (λ k. k)) (size_of t)).next
+  alike-trees : (trees : PlainTrees) → AreAlike (trees_make m v trees) (trees_make m u trees)
+  alike-trees (single kind root tree) = alike-tree kind tree root
+  alike-trees (tensor kind root tree others) =
+      alike-node Split (size_of tree) (trees_size others) 1 _ _ _ _ (alike-tree kind tree root) (alike-trees others)
+
+  pub trees-alike : (trees : PlainTrees) → (trees_kernel m v trees).next ≡ (trees_kernel m u trees).next
+  trees-alike trees = (alike-trees trees (list_below (trees_size trees) (λ k. k)) (trees_size trees)).next
