@@ -20,7 +20,7 @@ use Rattle.passes.specs.Copies.{loops_of, all_stored}
 use Rattle.passes.specs.Nest.{PlainMultiplier, PlainNest, load_place, store_place, copies_of, multiplied_on, nests_on}
 use Rattle.passes.specs.Work.{PlainWork, kernel, rows, horner, tile, copy, work_size, work_on, vectors_of}
 use Rattle.tensor_paths.specs.Path as paths
-use Rattle.tree_model.specs.Breakdown.{size_of}
+use Rattle.rooted_trees.proofs.Products.{trees-below}
 
 pub words_apart : (n source target i o a : ℕ) → AreApart n source target → i < n → o < n → a ≡ source + i → a ≡ target + o → ⊥
 words_apart n source target i o a (inl before) low high is meant = omega (arith, before, low, high, is, meant)
@@ -39,7 +39,7 @@ sums-below : (m n : ℕ) (f : ℕ → ℕ) (k : ℕ) → 0 < m → k < n → sli
 sums-below m n f k some below = subst (λ v. v < m) (sym (at-list_below n (λ i. f i % m) k below)) (mod-lt (f k) some)
 
 worked-below : (m : ℕ) (w : PlainWork) (y : List ℕ) (k : ℕ) → 0 < m → ((j : ℕ) → j < work_size w → slice_index y j < m) → k < work_size w → slice_index (work_on m w y) k < m
-worked-below m (kernel trees) y k some small below = sums-below m (size_of t) _ k some below
+worked-below m (kernel trees) y k some small below = trees-below m trees y k some below
 worked-below m (rows root size) y k some small below = sums-below m size _ k some below
 worked-below m (horner root size) y k some small below = sums-below m size _ k some below
 worked-below m (tile v) y k some small below =

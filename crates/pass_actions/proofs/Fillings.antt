@@ -5,9 +5,7 @@ use Rattle.icode.specs.declared.action.Action.{Action}
 use Rattle.icode.specs.declared.action.Action.TheVariants.{Tile}
 use Rattle.code_laws.specs.Nests.{AreInRange}
 use Rattle.code_laws.proofs.Fills.{Fills}
-use Rattle.kernel_gen.specs.Kernel.{kernel_of}
-use Rattle.matrix_meaning.specs.declared.Kind.{Kind}
-use Rattle.matrix_meaning.specs.Kind.{transform}
+use Rattle.kernel_gen.specs.Kernel.{trees_kernel}
 use Rattle.operators.specs.Sum.{sum_below}
 use Rattle.operators.proofs.Lists.{at-list_below, list_below-same, place_below}
 use Rattle.operators.proofs.Places.{turn_at}
@@ -27,7 +25,7 @@ use Rattle.pass_actions.proofs.Tasks.{Task, IsReady}
 use Rattle.pass_actions.proofs.TileCopies.{turned, tile-computes}
 use Rattle.passes.specs.Nest.{PlainNest, load_place}
 use Rattle.passes.specs.Work.{PlainWork, kernel, rows, horner, tile, copy, vectors_of}
-use Rattle.tree_model.specs.Breakdown.{Breakdown, size_of}
+use Rattle.rooted_trees.specs.Trees.{PlainTrees, trees_size, trees_on}
 
 -- the same loops round other work
 abbrev pub working : PlainNest → PlainWork → PlainNest
@@ -54,19 +52,19 @@ module _ (c : PlainMachine) (zs : List PlainNest) (can : CanRun c zs) (source ta
   abbrev pub CopiesFill : (p : PlainNest) → Contains zs p → Type 0
   CopiesFill p one = (vs : List ℕ) → AreInRange (facts c zs can p one source target q x apart part small).framed.loops vs → CopyFills p vs (copy_acts c p p.work source target q vs)
 
-  module _ (p : PlainNest) (kind : Kind) (root : ℕ) (t : Breakdown) (one : Contains zs (working p (kernel trees))) where
+  module _ (p : PlainNest) (trees : PlainTrees) (one : Contains zs (working p (kernel trees))) where
     kernel-fills : CopiesFill (working p (kernel trees)) one
     kernel-fills vs range =
         let z : PlainNest = working p (kernel trees) in
-        let n = size_of t in
-        let f = transform kind c.modulus n root in
-        let made = kernel_of c.modulus c.lanes kind t root in
+        let n = trees_size trees in
+        let f = trees_on c.modulus trees in
+        let made = trees_kernel c.modulus c.lanes trees in
         let from : ℕ → ℕ = λ k. source + load_at c z q vs k in
         let few : with_multiplier p.multiplier made.next n ≤ regs = registers-le c zs z one in
         let work = (facts c zs can z one source target q x apart part small).work in
         body-fills c z p.multiplier regs target q whole n from made.acts (slice_index made.outs) made.next (value_of whole n from f) vs can.lanes few
         (kernel-computes c regs whole 1 n _ from made f can.lanes (finish-few p.multiplier made.next n regs few)
-        (kernel-runs c 1 kind t root can.modulus work.0 work.1)
+        (kernel-runs c 1 trees can.modulus work)
         (λ k lane under there. input-below c zs can z one source target q x apart part small vs range k lane under there))
         (λ k under lane there. input-word c zs can z one source target q x apart part small vs range k lane under there)
         (λ k under lane there. output-word c zs can z one source target q x apart part small vs range k lane under there)
@@ -159,7 +157,7 @@ module _ (c : PlainMachine) (zs : List PlainNest) (can : CanRun c zs) (source ta
         ∙ at-list_below n (λ j. slice_index x (load_place z.work z.gathers (on c zs can z one source target q x apart part small lane vs) j)) k under)))
 
   copies-of : (p : PlainNest) (w : PlainWork) (one : Contains zs (working p w)) → CopiesFill (working p w) one
-  copies-of p (kernel trees) one = kernel-fills p kind root t one
+  copies-of p (kernel trees) one = kernel-fills p trees one
   copies-of p (rows root n) one = rows-filled p root n one
   copies-of p (horner root n) one = horner-filled p root n one
   copies-of p (tile v) one =

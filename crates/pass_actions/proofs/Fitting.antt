@@ -8,7 +8,7 @@ use Rattle.icode.specs.declared.action.Action.{Action}
 use Rattle.icode.specs.declared.action.Action.TheVariants.{Load, Store, Zero, Add, Sub, Neg, Mul, Tile}
 use Rattle.code_laws.specs.Lanes.{AreArithmetic}
 use Rattle.code_laws.specs.Nests.{bodies, nest, loads}
-use Rattle.kernel_gen.specs.Kernel.{kernel_of}
+use Rattle.kernel_gen.specs.Kernel.{trees_kernel}
 use Rattle.kernel_gen.proofs.Below.{at-AllBelow}
 use Rattle.operators.specs.Sum.{list_below}
 use Rattle.ring_mod.specs.Residue.{power_mod}
@@ -17,13 +17,13 @@ use Rattle.pass_actions.specs.Laws.{CanRun, CanRunNest, IsFit}
 use Rattle.pass_actions.specs.Machine.{PlainMachine, loop_counts}
 use Rattle.pass_actions.proofs.Copies.{nest-can}
 use Rattle.pass_actions.proofs.Fillings.{working, registers-le}
-use Rattle.pass_actions.proofs.KernelActions.{AreOperations, tree-operates, lane_residues, power_below}
+use Rattle.pass_actions.proofs.KernelActions.{AreOperations, trees-operates, lane_residues, power_below}
 use Rattle.pass_actions.proofs.Kernels.{kernel-runs}
 use Rattle.pass_actions.proofs.Rows.{row_acts}
 use Rattle.pass_actions.proofs.StraightCopies.{ends_of, copy_body, finish-few}
 use Rattle.passes.specs.Nest.{PlainMultiplier, PlainNest, factor_at}
 use Rattle.passes.specs.Work.{PlainWork, kernel, rows, horner, tile, copy}
-use Rattle.tree_model.specs.Breakdown.{size_of}
+use Rattle.rooted_trees.specs.Trees.{trees_size}
 
 module _ (regs lanes m : ℕ) where
   abbrev Fit : List Action → Type 0
@@ -139,11 +139,11 @@ module _ (c : PlainMachine) (lanes : 0 < c.lanes) (modulus : 2 ≤ c.modulus) (r
   copy-fits : (p : PlainNest) (w : PlainWork) → CanRunNest c (working p w) → nest_registers c (working p w) w ≤ regs → (vs : List ℕ) → Fits (copy_acts c (working p w) w source target q vs)
   copy-fits p (kernel trees) can few vs =
       let z : PlainNest = working p (kernel trees) in
-      let n = size_of t in
-      let made = kernel_of c.modulus c.lanes kind t root in
-      let done = kernel-runs c 1 kind t root modulus can.work.0 can.work.1 0 lanes in
+      let n = trees_size trees in
+      let made = trees_kernel c.modulus c.lanes trees in
+      let done = kernel-runs c 1 trees modulus can.work 0 lanes in
       fit-body c z target q regs vs some p.multiplier made.acts (slice_index made.outs) made.next n (λ k. source + load_at c z q vs k) can.residues done.grows few
-      (fit-operations regs c.lanes c.modulus made.next made.acts (finish-few p.multiplier made.next n regs few) done.arithmetic (tree-operates c.modulus c.lanes modulus kind t root (list_below n (λ k. k)) n))
+      (fit-operations regs c.lanes c.modulus made.next made.acts (finish-few p.multiplier made.next n regs few) done.arithmetic (trees-operates c.modulus c.lanes modulus trees (list_below n (λ k. k)) n))
       (λ k below. at-AllBelow made.next made.outs k done.below (let sized = done.sized in omega arith))
   copy-fits p (rows root n) can few vs =
       let z : PlainNest = working p (rows root n) in

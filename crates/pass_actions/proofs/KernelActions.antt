@@ -20,7 +20,8 @@ use Rattle.tree_model.specs.declared.tree.Rule.{Rule}
 use Rattle.tree_model.specs.declared.tree.Rule.TheVariants.{Gt, Ct, Split}
 use Rattle.tree_model.specs.Breakdown.{Breakdown, leaf, node, size_of}
 use Rattle.kernel_gen.specs.Making.{Made, Maker, Term, times, pick_make, then_make, beside_make, rows_make, term_make, sum_make, row_make, matrix_make, factor_make, diagonal_make}
-use Rattle.kernel_gen.specs.Kernel.{columns_make, twiddled_make, node_make, tree_make}
+use Rattle.kernel_gen.specs.Kernel.{columns_make, twiddled_make, node_make, tree_make, trees_make}
+use Rattle.rooted_trees.specs.Trees.{PlainTrees, single, tensor, trees_size}
 
 -- an operation modulo m
 abbrev pub IsOperation : ℕ → Action → Type 0
@@ -140,11 +141,16 @@ module _ (m lanes : ℕ) (large : 2 ≤ m) where
       (columns-operate r s a h))
   node-operates Split r s w a b h k = then-operates (rows_make r s (λ _. b)) (columns_make r s a) (rows-operate r s (λ _. b) (λ i. k)) (columns-operate r s a h)
 
-  pub tree-operates : (kind : Kind) (t : Breakdown) (w : ℕ) (ins : List ℕ) (next : ℕ) → AreOperations m (tree_make m lanes kind t w ins next).acts
+  tree-operates : (kind : Kind) (t : Breakdown) (w : ℕ) (ins : List ℕ) (next : ℕ) → AreOperations m (tree_make m lanes kind t w ins next).acts
   tree-operates kind (leaf d) w = matrix-operates (entry_of kind m w) (λ k l. entry_below kind m w k l large) d
   tree-operates kind (node rule a b) w =
       node-operates rule (size_of a) (size_of b) w (tree_make m lanes kind a (power_mod m w (size_of b))) (tree_make m lanes kind b (power_mod m w (size_of a)))
       (tree-operates kind a (power_mod m w (size_of b))) (tree-operates kind b (power_mod m w (size_of a)))
+
+  pub trees-operates : (trees : PlainTrees) (ins : List ℕ) (next : ℕ) → AreOperations m (trees_make m lanes trees ins next).acts
+  trees-operates (single kind root tree) = tree-operates kind tree root
+  trees-operates (tensor kind root tree others) =
+      node-operates Split (size_of tree) (trees_size others) 1 (tree_make m lanes kind tree root) (trees_make m lanes others) (tree-operates kind tree root) (trees-operates others)
 
 -- ---- counts
 

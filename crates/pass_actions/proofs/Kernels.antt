@@ -1,13 +1,11 @@
--- The kernel of a tree, on each lane: a leaf may have any root.
+-- The kernel of trees, on each lane: a leaf may have any root.
 use Rattle.std.proofs.Common.{ℕ, ◌≤◌}
-use Rattle.kernel_gen.specs.Kernel.{AllowsRoot, kernel_of, kernel_cost}
-use Rattle.kernel_gen.proofs.Kernels.{kernel-does}
-use Rattle.matrix_meaning.specs.declared.Kind.{Kind}
-use Rattle.matrix_meaning.specs.Kind.{transform}
+use Rattle.kernel_gen.specs.Kernel.{CanMake, trees_kernel, trees_cost}
+use Rattle.kernel_gen.proofs.Products.{trees-does}
 use Rattle.pass_actions.proofs.KernelCopies.{DoesOnLanes}
 use Rattle.pass_actions.specs.Machine.{PlainMachine}
-use Rattle.tree_model.specs.Breakdown.{Breakdown, size_of, IsWellFormed}
+use Rattle.rooted_trees.specs.Trees.{PlainTrees, trees_size, trees_on}
 
-pub kernel-runs : (c : PlainMachine) (weight : ℕ) (kind : Kind) (t : Breakdown) (w : ℕ) → 2 ≤ c.modulus → IsWellFormed kind t → AllowsRoot c.modulus w kind t →
-    DoesOnLanes c weight (size_of t) (kernel_cost weight c.modulus kind t w) (kernel_of c.modulus c.lanes kind t w) (transform kind c.modulus (size_of t) w)
-kernel-runs c weight kind t w large formed root lane there = kernel-does c.modulus c.lanes lane weight kind t w large there formed root
+pub kernel-runs : (c : PlainMachine) (weight : ℕ) (trees : PlainTrees) → 2 ≤ c.modulus → CanMake c.modulus trees →
+    DoesOnLanes c weight (trees_size trees) (trees_cost weight c.modulus trees) (trees_kernel c.modulus c.lanes trees) (trees_on c.modulus trees)
+kernel-runs c weight trees large can lane there = trees-does c.modulus c.lanes lane weight trees large there can

@@ -7,7 +7,7 @@ use Rattle.icode.specs.declared.action.Action.TheVariants.{Tile}
 use Rattle.icode.specs.Machine.{counts_of, weighted}
 use Rattle.code_laws.proofs.ByLane.{weighted_is_by_lane}
 use Rattle.code_laws.specs.Nests.{nest}
-use Rattle.kernel_gen.specs.Kernel.{kernel_of, kernel_cost}
+use Rattle.kernel_gen.specs.Kernel.{trees_kernel, trees_cost}
 use Rattle.operators.specs.Sum.{list_below}
 use Rattle.pass_actions.specs.Acts.{load_at, copy_acts, nest_acts, pass_acts, term_acts, horner_acts}
 use Rattle.pass_actions.specs.Laws.{CanRun, CanRunNest, CanWork, IsFramed}
@@ -16,14 +16,14 @@ use Rattle.pass_actions.specs.Costs.{work_cost, work_loads, pass_cost, pass_load
 use Rattle.pass_actions.proofs.Counting.{Tally, counts, tally, counts-same, products_of, counts-append, counts-nest, counts-body, counts-rows, counts-items}
 use Rattle.pass_actions.proofs.Fillings.{working}
 use Rattle.pass_actions.proofs.Framed.{loops-are, copies_beside, copies-framed}
-use Rattle.pass_actions.proofs.KernelActions.{tree-operates, no-traffic}
+use Rattle.pass_actions.proofs.KernelActions.{trees-operates, no-traffic}
 use Rattle.pass_actions.proofs.Kernels.{kernel-runs}
 use Rattle.passes.specs.Copies.{AreInside}
 use Rattle.passes.specs.Counts.{copies_in, multiplier_cost, nest_cost}
 use Rattle.passes.specs.Nest.{PlainMultiplier, PlainNest, copies_of}
 use Rattle.passes.specs.Work.{PlainWork, kernel, rows, horner, tile, copy, work_size}
 use Rattle.passes.proofs.Counting.{items_of, items-once}
-use Rattle.tree_model.specs.Breakdown.{size_of}
+use Rattle.rooted_trees.specs.Trees.{trees_size}
 
 products-are : (weight : ℕ) (o : Option PlainMultiplier) (w : PlainWork) → multiplier_cost weight o w ≡ work_size w * products_of weight o
 products-are weight None w = omega arith
@@ -66,12 +66,12 @@ module _ (weight : ℕ) (c : PlainMachine) (lanes : 0 < c.lanes) (modulus : 2 �
   copy-counts : (p : PlainNest) (w : PlainWork) → CanWork c w → CopyCounts (working p w)
   copy-counts p (kernel trees) can vs =
       let z : PlainNest = working p (kernel trees) in
-      let n = size_of t in
-      let price = kernel_cost weight c.modulus kind t root in
-      let made = kernel_of c.modulus c.lanes kind t root in
-      let none = no-traffic c.modulus c.lanes made.acts (tree-operates c.modulus c.lanes modulus kind t root (list_below n (λ k. k)) n) in
+      let n = trees_size trees in
+      let price = trees_cost weight c.modulus trees in
+      let made = trees_kernel c.modulus c.lanes trees in
+      let none = no-traffic c.modulus c.lanes made.acts (trees-operates c.modulus c.lanes modulus trees (list_below n (λ k. k)) n) in
       let of_code : tally weight c.lanes made.acts ≡ counts (c.lanes * price) 0 0 =
-      counts-same _ _ (ap (λ o. c.lanes * o) (kernel-runs c weight kind t root modulus can.0 can.1 0 lanes).costs) none.0 none.1 in
+      counts-same _ _ (ap (λ o. c.lanes * o) (kernel-runs c weight trees modulus can 0 lanes).costs) none.0 none.1 in
       counts-body weight c z target q vs p.multiplier made.acts (slice_index made.outs) made.next n (c.lanes * price) (λ k. source + load_at c z q vs k) of_code
       ∙ counts-same _ _ (kernel_share c.lanes price n (products_of weight p.multiplier) ∙ ap (λ m. c.lanes * (price + m)) (sym (products-are weight p.multiplier z.work))) (swap n c.lanes) (swap n c.lanes)
   copy-counts p (rows root n) can vs =

@@ -7,7 +7,7 @@ use Rattle.icode.specs.declared.action.Action.TheVariants.{Load, Tile}
 use Rattle.code_laws.specs.Lanes.{operations, weighted_operations}
 use Rattle.code_laws.proofs.ByLane.{weight_of_one}
 use Rattle.code_laws.specs.Nests.{bodies, nest, loads}
-use Rattle.kernel_gen.specs.Kernel.{kernel_of}
+use Rattle.kernel_gen.specs.Kernel.{trees_kernel}
 use Rattle.operators.specs.Sum.{list_below}
 use Rattle.pass_actions.specs.Acts.{load_at, finish_acts, rows_acts, items_acts, term_acts, horner_acts, copy_acts, nest_acts, pass_acts}
 use Rattle.pass_actions.specs.Laws.{CanRun, CanRunNest, CanWork}
@@ -16,13 +16,13 @@ use Rattle.pass_actions.specs.Costs.{pass_cost, pass_loads}
 use Rattle.pass_actions.proofs.Copies.{nest-can}
 use Rattle.pass_actions.proofs.Counting.{Tally, counts-append, tally}
 use Rattle.pass_actions.proofs.Fillings.{working}
-use Rattle.pass_actions.proofs.KernelActions.{AreOperations, tree-operates, no-traffic, length-operations}
+use Rattle.pass_actions.proofs.KernelActions.{AreOperations, trees-operates, no-traffic, length-operations}
 use Rattle.pass_actions.proofs.PassCounts.{counts-are, stores-are}
 use Rattle.pass_actions.proofs.Rows.{row_acts}
 use Rattle.pass_actions.proofs.StraightCopies.{ends_of, copy_body}
 use Rattle.passes.specs.Nest.{PlainMultiplier, PlainNest}
 use Rattle.passes.specs.Work.{PlainWork, kernel, rows, horner, tile, copy}
-use Rattle.tree_model.specs.Breakdown.{size_of}
+use Rattle.rooted_trees.specs.Trees.{trees_size}
 
 module _ (lanes : ℕ) (some : 0 < lanes) where
   -- the bound of a list
@@ -98,10 +98,10 @@ module _ (c : PlainMachine) (some : 0 < c.lanes) (modulus : 2 ≤ c.modulus) (so
   copy-room : (p : PlainNest) (w : PlainWork) → CanWork c w → (vs : List ℕ) → HasRoom c.lanes some 0 (copy_acts c (working p w) w source target q vs)
   copy-room p (kernel trees) can vs =
       let z : PlainNest = working p (kernel trees) in
-      let n = size_of t in
-      let made = kernel_of c.modulus c.lanes kind t root in
+      let n = trees_size trees in
+      let made = trees_kernel c.modulus c.lanes trees in
       less c.lanes some 0 n (copy_body c z p.multiplier made.acts (slice_index made.outs) made.next n (λ k. source + load_at c z q vs k) target q vs) (omega arith)
-      (room-body c z target q vs some p.multiplier made.acts (slice_index made.outs) made.next n 0 (λ k. source + load_at c z q vs k) (room-operations c.lanes some c.modulus made.acts (tree-operates c.modulus c.lanes modulus kind t root (list_below n (λ k. k)) n)))
+      (room-body c z target q vs some p.multiplier made.acts (slice_index made.outs) made.next n 0 (λ k. source + load_at c z q vs k) (room-operations c.lanes some c.modulus made.acts (trees-operates c.modulus c.lanes modulus trees (list_below n (λ k. k)) n)))
   copy-room p (rows root n) can vs = let z : PlainNest = working p (rows root n) in room-rows c z target q vs some n (term_acts c z root source q vs) (λ k l. omega arith)
   copy-room p (horner root n) can vs = let z : PlainNest = working p (horner root n) in room-rows c z target q vs some n (horner_acts c z root n source q vs) (λ k l. omega arith)
   copy-room p (tile v) can vs =

@@ -9,7 +9,7 @@ use Rattle.icode.specs.Actions.{FactorsFit}
 use Rattle.icode.specs.Limits.{is_body_within}
 use Rattle.icode.specs.Plain.{PlainBody, AndStmts, NoStmts, Do, Loop}
 use Rattle.icode.specs.Plain as statements
-use Rattle.kernel_gen.specs.Kernel.{kernel_of}
+use Rattle.kernel_gen.specs.Kernel.{trees_kernel}
 use Rattle.kernel_gen.proofs.Below.{at-AllBelow}
 use Rattle.operators.specs.Sum.{list_below}
 use Rattle.perm_algebra.specs.Affine.{Sum, constant}
@@ -20,7 +20,7 @@ use Rattle.pass_actions.specs.Machine.{PlainMachine, PlainFrame, frame_of, loop_
 use Rattle.pass_programs.specs.Statements.{diagonal_of, diagonal_number, one_factor, powers_of, finish_body, followed_by, horner_body, in_a_row, product_place, loads_body, multiplier_number, nest_body, place_at, powers_number, rows_body, straight_body, tables_of_multiplier, tables_of_nest, tables_of_work, term_body, with_diagonal, work_body}
 use Rattle.pass_programs.proofs.BodyLimits.{ArePlaces, both, finish-within, horner-within, loads-within, product-within, small-is, straight-within, term-within, within-do, within-followed, within-in_a_row, within-loop, within-nested}
 use Rattle.pass_actions.proofs.Fillings.{working}
-use Rattle.pass_actions.proofs.KernelActions.{AreOperations, tree-operates}
+use Rattle.pass_actions.proofs.KernelActions.{AreOperations, trees-operates}
 use Rattle.pass_actions.proofs.Kernels.{kernel-runs}
 use Rattle.pass_programs.proofs.OneFactor.{OneIsBelow, one-below}
 use Rattle.pass_programs.proofs.SharedTables.{number-small, with_table-longer}
@@ -28,7 +28,7 @@ use Rattle.pass_actions.proofs.StraightCopies.{finish-few}
 use Rattle.passes.specs.Merge.{limits_of}
 use Rattle.passes.specs.Nest.{PlainMultiplier, PlainNest}
 use Rattle.passes.specs.Work.{PlainWork, kernel, rows, horner, tile, copy}
-use Rattle.tree_model.specs.Breakdown.{size_of}
+use Rattle.rooted_trees.specs.Trees.{trees_size}
 
 places-within : (cs : ℕ → ℕ) (f : PlainFrame) (n open_loops : ℕ) (sums : List Sum) → n ≤ length sums → AreWithin cs f open_loops sums → ArePlaces f n open_loops sums
 places-within cs f n open_loops sums enough h i below = h.within i (constant 0) (omega arith)
@@ -109,19 +109,19 @@ module _ (c : PlainMachine) (lanes : 0 < c.lanes) (modulus : 2 ≤ c.modulus) (s
       is_body_within m (work_body c (working p w) w (length (loop_counts c (working p w))) powers table source target) (length (loop_counts c (working p w))) ≡ true
   work-within p (kernel trees) can writes few =
       let z : PlainNest = working p (kernel trees) in
-      let n = size_of t in
+      let n = trees_size trees in
       let f = frame_of c z.work in
       let deep = length (loop_counts c z) in
       let all : deep + 0 ≡ deep = omega arith in
-      let made = kernel_of c.modulus c.lanes kind t root in
-      let done = kernel-runs c 1 kind t root modulus can.work.0 can.work.1 0 lanes in
+      let made = trees_kernel c.modulus c.lanes trees in
+      let done = kernel-runs c 1 trees modulus can.work 0 lanes in
       let grows = done.grows in
       let used : made.next < 2 ^ 20 = let least = finish-few p.multiplier made.next n (nest_registers c z z.work) (omega arith) in omega arith in
       let outputs : ℕ → PlainBody = λ k. finish_body f 0 z.multiplier z.scatters deep table target k (slice_index made.outs k) (made.next + k) in
       within-followed m (loads_body f z deep n source) (followed_by (straight_body made.acts) (in_a_row n outputs)) deep
       (loads-within m f z n deep source (omega arith) (alone-within z n z.gathers writes.gathers.0.enough writes.gathers.1))
       (within-followed m (straight_body made.acts) (in_a_row n outputs) deep
-      (straight-within m c.lanes made.next deep made.acts lanes (omega arith) done.arithmetic (operations-fit m made.acts (tree-operates m c.lanes modulus kind t root (list_below n (λ k. k)) n)))
+      (straight-within m c.lanes made.next deep made.acts lanes (omega arith) done.arithmetic (operations-fit m made.acts (trees-operates m c.lanes modulus trees (list_below n (λ k. k)) n)))
       (within-in_a_row m n outputs deep
       (λ k below.
       let out : slice_index made.outs k < made.next = at-AllBelow made.next made.outs k done.below (let sized = done.sized in omega arith) in

@@ -5,7 +5,7 @@ use Rattle.icode.specs.declared.program.Array.{Array}
 use Rattle.icode.specs.Actions.{steps_of_body}
 use Rattle.icode.specs.Plain.{PlainProgram}
 use Rattle.code_laws.specs.Nests.{AreInRange}
-use Rattle.kernel_gen.specs.Kernel.{kernel_of}
+use Rattle.kernel_gen.specs.Kernel.{trees_kernel}
 use Rattle.operators.proofs.Lists.{row-of, column-of}
 use Rattle.perm_algebra.specs.Affine.{Sum, constant, value}
 use Rattle.pass_actions.specs.Acts.{load_at, store_at, copy_acts, nest_acts, term_acts, horner_acts}
@@ -28,7 +28,7 @@ use Rattle.passes.specs.Merge.{limits_of}
 use Rattle.passes.specs.Nest.{PlainMultiplier, PlainNest, store_place, sum_value}
 use Rattle.passes.specs.Work.{PlainWork, kernel, rows, horner, tile, copy, work_size, vectors_of}
 use Rattle.tensor_paths.specs.Path as paths
-use Rattle.tree_model.specs.Breakdown.{size_of}
+use Rattle.rooted_trees.specs.Trees.{trees_size}
 
 -- ---- tables
 
@@ -173,7 +173,7 @@ module _ (c : PlainMachine) (lanes : 0 < c.lanes) (modulus : 2 ≤ c.modulus) (p
   emits-copy p (kernel trees) can writes has vs range =
       let z : PlainNest = working p (kernel trees) in
       let deep = length (loop_counts c z) in
-      emits-made c z program here lanes q source target table vs has.diagonal (size_of t) (kernel_of c.modulus c.lanes kind t root) (kernel-runs c 1 kind t root modulus can.work.0 can.work.1 0 lanes).constant
+      emits-made c z program here lanes q source target table vs has.diagonal (trees_size trees) (trees_kernel c.modulus c.lanes trees) (kernel-runs c 1 trees modulus can.work 0 lanes).constant
       (λ k below. is-loaded c lanes z can writes q part vs range k below deep k vs (alone-coded c lanes z can writes q part vs range z.gathers k writes.gathers.1 writes.gathers.0.sound))
       (λ k below.
       is-stored c lanes z can writes q part vs range k below 0 deep k vs refl (alone-coded c lanes z can writes q part vs range z.scatters k writes.scatters.1 writes.scatters.0.sound)

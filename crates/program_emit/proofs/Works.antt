@@ -2,8 +2,8 @@
 use Rattle.std.proofs.Common.{◌≡◌, ℕ, zero, suc, ◌+◌, ◌^◌, ◌<◌, ◌≤◌, List, [], ◌∷◌, ◌++◌, length, length-append, get_or, map, refl, sym, ap, ◌∙◌, arith, subst, All}
 use Rattle.std.specs.Prelude.{Option, Some, None}
 use Rattle.std.proofs.lemmas.List.{get_or-map, length-map}
-use Rattle.kernel_gen.specs.Kernel.{kernel_of}
-use Rattle.matrix_meaning.specs.declared.Kind.{Kind}
+use Rattle.kernel_gen.specs.Kernel.{trees_kernel}
+use Rattle.kernel_gen.proofs.Products.{trees-words}
 use Rattle.pass_actions.specs.Acts.{nest_registers, pass_registers}
 use Rattle.pass_actions.specs.Laws.{CanWork}
 use Rattle.pass_actions.specs.Machine.{PlainMachine}
@@ -16,8 +16,7 @@ use Rattle.passes.specs.Nest.{PlainFactors, values, twiddles, repeated, spread, 
 use Rattle.passes.specs.Views.{plain_nest}
 use Rattle.passes.specs.Work.{PlainWork, kernel, work_size}
 use Rattle.passes.specs.declared.nest.Nest.{Nest}
-use Rattle.tree_model.specs.Breakdown.{Breakdown, size_of, HasWordSizes}
-use Rattle.tree_model.proofs.Sizes.{word_sizes}
+use Rattle.rooted_trees.specs.Trees.{PlainTrees, trees_size, AreWords}
 use Rattle.program_emit.specs.Conditions.{CanEmit, CanEmitAll, CanEmitPhases, CanList, HasFactors}
 use Rattle.program_emit.proofs.Diagonals.{columns-some, inner-some}
 
@@ -26,16 +25,17 @@ use Rattle.program_emit.proofs.Diagonals.{columns-some, inner-some}
 work-of : (h : PlainMachine) (z : PlainNest) (w : PlainWork) → z.work ≡ w → CanEmit h z → CanWork h w × (work_size w < 2 ^ 32)
 work-of h z w is can = (subst (CanWork h) is can.runs.work, subst (λ (v : PlainWork). work_size v < 2 ^ 32) is can.writes.items)
 
-pub kernel-words : (h : PlainMachine) (z : PlainNest) (kind : Kind) (root : ℕ) (t : Breakdown) → z.work ≡ kernel kind root t → CanEmit h z → HasWordSizes t
-kernel-words h z kind root t is can =
-    let work = work-of h z (kernel trees) is can in
-    let small = work.1 in word_sizes kind t work.0.0 (omega arith)
+pub kernel-words : (h : PlainMachine) (z : PlainNest) (trees : PlainTrees) → z.work ≡ kernel trees → CanEmit h z → AreWords trees
+kernel-words h z trees is can = let work = work-of h z (kernel trees) is can in trees-words h.modulus trees work.0 work.1
+
+pub kernel-small : (h : PlainMachine) (z : PlainNest) (trees : PlainTrees) → z.work ≡ kernel trees → CanEmit h z → trees_size trees < 2 ^ 32
+kernel-small h z trees is can = (work-of h z (kernel trees) is can).1
 
 -- the code of a kernel has an output for each item
-pub kernel-sized : (h : PlainMachine) (z : PlainNest) (kind : Kind) (root : ℕ) (t : Breakdown) → z.work ≡ kernel kind root t → CanEmit h z → length (kernel_of h.modulus h.lanes kind t root).outs ≡ size_of t
-kernel-sized h z kind root t is can =
+pub kernel-sized : (h : PlainMachine) (z : PlainNest) (trees : PlainTrees) → z.work ≡ kernel trees → CanEmit h z → length (trees_kernel h.modulus h.lanes trees).outs ≡ trees_size trees
+kernel-sized h z trees is can =
     let work = work-of h z (kernel trees) is can in
-    (kernel-runs h 1 kind t root can.modulus work.0.0 work.0.1 0 can.lanes.0).sized
+    (kernel-runs h 1 trees can.modulus work.0 0 can.lanes.0).sized
 
 can-list : (factors : PlainFactors) → 0 < factor_count factors → factor_count factors < 2 ^ 32 → CanList factors
 can-list (values entries) some small = tt

@@ -7,18 +7,18 @@ use Rattle.icode.specs.Actions.{lane_factors}
 use Rattle.icode.specs.declared.action.Action.{Action}
 use Rattle.icode.specs.declared.action.Action.TheVariants.{Load, Store, Zero, Add, Sub, Neg, Mul, Tile}
 use Rattle.code_laws.specs.Nests.{bodies, nest, loads, AreInRange}
-use Rattle.kernel_gen.specs.Kernel.{kernel_of}
+use Rattle.kernel_gen.specs.Kernel.{trees_kernel}
 use Rattle.kernel_gen.specs.Making.{Made}
 use Rattle.operators.specs.Sum.{list_below}
 use Rattle.ring_mod.specs.Residue.{power_mod}
 use Rattle.pass_actions.specs.Acts.{load_at, store_at, factors_at, finish_acts, made_acts, tile_acts, rows_acts, items_acts, term_acts, horner_acts, copy_acts, nest_acts, pass_acts}
 use Rattle.pass_actions.specs.Machine.{PlainMachine, loop_counts}
 use Rattle.pass_actions.proofs.Fillings.{working}
-use Rattle.pass_actions.proofs.KernelActions.{AreOperations, tree-operates}
+use Rattle.pass_actions.proofs.KernelActions.{AreOperations, trees-operates}
 use Rattle.pass_actions.proofs.Rows.{row_acts}
 use Rattle.passes.specs.Nest.{PlainMultiplier, PlainNest}
 use Rattle.passes.specs.Work.{PlainWork, kernel, rows, horner, tile, copy, vectors_of}
-use Rattle.tree_model.specs.Breakdown.{size_of}
+use Rattle.rooted_trees.specs.Trees.{trees_size}
 
 -- a property of actions that the arithmetic has
 pub record IsFree (P : Action → Type 0) : Type 0 where
@@ -115,8 +115,8 @@ module _ (P : Action → Type 0) (free : IsFree P) where
 
     in-copy : (p : PlainNest) (w : PlainWork) → LoadsHave (working p w) → StoresHave (working p w) → (vs : List ℕ) → AreInRange (loop_counts c (working p w)) vs → All P (copy_acts c (working p w) w source target q vs)
     in-copy p (kernel trees) load store vs range =
-        in-made c (working p (kernel trees)) source target q vs (size_of t) (λ k r below. load vs k r range below) (λ k r below. store vs k r range below) (kernel_of c.modulus c.lanes kind t root) c.modulus
-        (tree-operates c.modulus c.lanes large kind t root (list_below (size_of t) (λ k. k)) (size_of t))
+        in-made c (working p (kernel trees)) source target q vs (trees_size trees) (λ k r below. load vs k r range below) (λ k r below. store vs k r range below) (trees_kernel c.modulus c.lanes trees) c.modulus
+        (trees-operates c.modulus c.lanes large trees (list_below (trees_size trees) (λ k. k)) (trees_size trees))
     in-copy p (rows root n) load store vs range =
         let z : PlainNest = working p (rows root n) in
         in-rows c z source target q vs n (λ k r below. load vs k r range below) (λ k r below. store vs k r range below) (term_acts c z root source q vs)

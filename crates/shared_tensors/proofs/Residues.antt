@@ -13,6 +13,7 @@ use Rattle.passes.specs.Good.{AreGoodNests, AreGoodPasses, IsGoodPass}
 use Rattle.passes.specs.Merged.{phase_on}
 use Rattle.passes.specs.Nest.{PlainMultiplier, PlainNest, copies_of, multiplied_on, nests_on}
 use Rattle.passes.specs.Work.{PlainWork, kernel, rows, horner, tile, copy, work_on, work_size}
+use Rattle.rooted_trees.proofs.Products.{trees-same}
 use Rattle.tensor_paths.specs.Loop.{nest_sum}
 use Rattle.tensor_paths.specs.Path.{Path, AreInRange, count_of}
 
@@ -37,7 +38,7 @@ matrix-alike m n e x y h i below =
     ∙ sym (at-list_below n _ i below))
 
 work-alike : (m : ℕ) (w : PlainWork) (x y : List ℕ) → AreAlike m (work_size w) x y → AreAlike m (work_size w) (work_on m w x) (work_on m w y)
-work-alike m (kernel trees) x y h = matrix-alike m _ _ x y h
+work-alike m (kernel trees) x y h = λ i below. ap (λ z. slice_index z i % m) (trees-same m trees x y h)
 work-alike m (rows root d) x y h = matrix-alike m d _ x y h
 work-alike m (horner root d) x y h = matrix-alike m d _ x y h
 work-alike m (tile v) x y h = λ i below.
