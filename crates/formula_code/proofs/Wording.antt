@@ -13,6 +13,7 @@ use Rattle.formula_lower.specs.Terms.{one_more, halvings, hadamard_term, fourier
 use Rattle.formula_lower.proofs.Lowers.{coprime}
 use Rattle.formula_lower.proofs.Moves.{left_positive, back-wrapped, strided-move, in-move, out-move}
 use Rattle.formula_lower.proofs.Parts.{size-more}
+use Rattle.rooted_trees.specs.Trees.{single}
 use Rattle.sigma_lower.specs.Wrapped.{wrapped, unit_of}
 use Rattle.sigma_lower.proofs.Closed.{IsClosed, thomas_in-closed, thomas_back-closed}
 use Rattle.sigma_lower.proofs.Lowering.{AreCoprime, both_units}

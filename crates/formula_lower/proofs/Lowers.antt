@@ -26,6 +26,7 @@ use Rattle.passes.specs.Work.{kernel, horner}
 use Rattle.passes.proofs.CopiesMerge.{low, high}
 use Rattle.passes.proofs.Keeps.{under-vector, under-none, vector-fill, both-equal, front, back, front-vector, back-vector}
 use Rattle.passes.proofs.Walk.{vector-below}
+use Rattle.rooted_trees.specs.Trees.{single}
 use Rattle.formula_lower.specs.Terms.{one_more, halvings, hadamard_term, fourier_term, term_of, Lowers, LowerKeeps}
 use Rattle.formula_lower.proofs.Moves.{left_positive, move-wrapped, strided-move, in-move, out-move}
 use Rattle.formula_lower.proofs.Parts.{transform-work, nest-lowers, move-lowers, diag-lowers, product-lowers, lowers-as, size-more, more-lowers, under-keeps}

@@ -9,6 +9,7 @@ use Rattle.passes.specs.Loops.{PlainLoop, Looping, begun, looped, InOrder}
 use Rattle.passes.specs.Merge.{is_tile}
 use Rattle.passes.specs.Work.{kernel}
 use Rattle.passes.proofs.Listed.{merge_listed}
+use Rattle.rooted_trees.specs.Trees.{single}
 use Rattle.formula_lower.specs.Order.{IsOrderedPhase, AllOrdered, TreesOrdered, AllLoops, TreesAreLoops}
 use Rattle.formula_lower.specs.Shared.{embed, phase_term}
 use Rattle.formula_lower.specs.Trees.{long_work}

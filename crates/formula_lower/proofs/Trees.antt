@@ -16,6 +16,7 @@ use Rattle.passes.specs.Work.{PlainWork, kernel, work_size, work_on}
 use Rattle.passes.proofs.Nests.{moves-no-words}
 use Rattle.passes.proofs.Keeps.{scatter-same}
 use Rattle.passes.proofs.Walk.{vector-below}
+use Rattle.rooted_trees.specs.Trees.{single}
 use Rattle.formula_lower.specs.Terms.{Lowers}
 use Rattle.formula_lower.specs.Trees.{long_work, node_work, core_term}
 use Rattle.formula_lower.proofs.Lowers.{gath-lowers}

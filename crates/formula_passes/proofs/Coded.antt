@@ -28,6 +28,7 @@ use Rattle.passes.proofs.Walk.{and-left, and-right}
 use Rattle.perm_algebra.specs.Affine.{Sum, constant, levels, parts, peak, top}
 use Rattle.perm_algebra.proofs.AffineLaws.{value-le-top}
 use Rattle.program_laws.specs.Plain.{IsPlainNest}
+use Rattle.rooted_trees.specs.Trees.{single, tensor}
 use Rattle.tensor_paths.specs.Path.{AreInRange}
 use Rattle.tree_model.specs.Breakdown.{leaf, node}
 use Rattle.formula_passes.proofs.Costs.{leaf-root}
@@ -112,6 +113,7 @@ pub some-items : (w : PlainWork) → IsFormulaWork w → 0 < work_size w
 some-items (kernel (single Dft root (leaf d))) h = omega (arith, h.0)
 some-items (kernel (single Wht root (leaf d))) h = omega (arith, h.0.0)
 some-items (kernel (single kind root (node rule a b))) h = absurd h
+some-items (kernel (tensor kind root t others)) h = absurd h
 some-items (rows root d) h = absurd h
 some-items (horner root d) h = h
 some-items (tile v) h = absurd h
@@ -120,6 +122,7 @@ some-items (copy d) h = h
 can-work : (n m : ℕ) (w : PlainWork) → IsFormulaWork w → CanWork (plain_machine n m) w
 can-work n m (kernel (single kind root (leaf d))) h = (h.0, leaf-root m root d kind)
 can-work n m (kernel (single kind root (node rule a b))) h = absurd h
+can-work n m (kernel (tensor kind root t others)) h = absurd h
 can-work n m (rows root d) h = absurd h
 can-work n m (horner root d) h = h
 can-work n m (tile v) h = absurd h

@@ -23,6 +23,7 @@ use Rattle.passes.specs.Counts.{copies_in, multiplier_cost}
 use Rattle.passes.specs.Nest.{PlainMultiplier, PlainNest, copies_of}
 use Rattle.passes.specs.Work.{PlainWork, kernel, rows, horner, tile, copy, work_size}
 use Rattle.passes.proofs.Counting.{items_of}
+use Rattle.rooted_trees.specs.Trees.{single, tensor}
 use Rattle.spl_ast.specs.Formula.{Formula, Identity, Fourier, Hadamard, Twiddles, Diagonal, Stride, Permutation, GoodThomasIn, GoodThomasOut, Product, TensorLeft, TensorRight, DirectSum, Pending, size_of, parts_of}
 use Rattle.spl_ast.specs.Shape.{IsShaped}
 use Rattle.tree_model.specs.Breakdown.{leaf, node}
@@ -68,7 +69,7 @@ with-le (Some d) used more = omega arith
 nest-few : (n m : ℕ) (z : PlainNest) (w : PlainWork) → 2 ≤ m → IsFormulaWork w → nest_registers (plain_machine n m) z w < 2 ^ 20
 nest-few n m z (kernel (single kind root (leaf d))) large work =
     let made = kernel_of m 1 kind (leaf d) root in
-    let does : DoesAt m 1 0 1 d (kernel_cost 1 m kind (leaf d) root) (firsts d) d made (transform kind m d root) = kernel-runs (plain_machine n m) 1 kind (leaf d) root large work.0 (leaf-root m root d kind) 0 (omega arith) in
+    let does : DoesAt m 1 0 1 d (kernel_cost 1 m kind (leaf d) root) (firsts d) d made (transform kind m d root) = kernel-runs (plain_machine n m) 1 (single kind root (leaf d)) large (work.0, leaf-root m root d kind) 0 (omega arith) in
     let next : made.next ≡ d + operations made.acts = does.next_is in
     let counted : operations made.acts ≡ kernel_cost 1 m kind (leaf d) root = sym (weight_of_one made.acts) ∙ does.costs in
     let price = leaf-cost m d root kind in
@@ -76,6 +77,7 @@ nest-few n m z (kernel (single kind root (leaf d))) large work =
     let used = with-le z.multiplier made.next d in
     omega (arith, used, next, counted, price, square, work.1)
 nest-few n m z (kernel (single kind root (node rule a b))) large work = absurd work
+nest-few n m z (kernel (tensor kind root t others)) large work = absurd work
 nest-few n m z (rows root d) large work = absurd work
 nest-few n m z (horner root d) large work = let used = with-le z.multiplier 3 1 in omega (arith, used)
 nest-few n m z (tile v) large work = absurd work

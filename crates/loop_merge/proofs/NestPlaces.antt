@@ -8,6 +8,7 @@ use Rattle.std.proofs.lemmas.Bool.Decides.{nat_tests}
 use Rattle.std.proofs.lemmas.List.Elements.{All-nil, All-cons}
 use Rattle.formula_lower.specs.Trees.{long_work}
 use Rattle.index_fn.specs.Mapping.{Mapping}
+use Rattle.rooted_trees.specs.Trees.{single}
 use Rattle.loop_merge.specs.Items.{item_of, counts_of, items_of, places_of}
 use Rattle.loop_merge.specs.Merge.{PlainPass, merged_of}
 use Rattle.loop_merge.specs.Nests.{loop_work, loop_of}

@@ -21,6 +21,7 @@ use Rattle.passes.specs.Merged.{PlainMerged}
 use Rattle.passes.specs.Nest.{PlainNest}
 use Rattle.passes.specs.Work as works
 use Rattle.passes.specs.Work.{PlainWork, kernel, rows, tile}
+use Rattle.rooted_trees.specs.Trees.{single}
 use Rattle.sigma_lower.specs.Work as lowered
 use Rattle.sigma_lower.specs.Work.{transforming, tiling, work_size}
 use Rattle.tensor_paths.specs.Path.{copies_of, count_of}

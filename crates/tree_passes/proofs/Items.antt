@@ -20,6 +20,7 @@ use Rattle.passes.specs.Nest.{inner_of}
 use Rattle.passes.specs.Work as works
 use Rattle.passes.specs.Work.{kernel, rows, tile}
 use Rattle.perm_algebra.specs.Affine.{Fits, Sum, constant, variable, levels, parts, simplified}
+use Rattle.rooted_trees.specs.Trees.{single}
 use Rattle.shared_passes.specs.Shared.{IsFramed}
 use Rattle.sigma_lower.specs.Work as lowered
 use Rattle.sigma_lower.specs.Work.{transforming, tiling, work_size}
@@ -80,7 +81,7 @@ abbrev ItemsIn : PlainPass → works.PlainWork → List Sum → Type 0
 ItemsIn p w items = All (Item p (works.work_size w)) items
 
 module _ (c : Request) (p : PlainPass) (valid : IsValid c) (shape : IsShaped c c.size p) (frame : IsFramed c p) where
-  kernel-items : (kind : Kind) (root : ℕ) (t : Breakdown) → ItemsIn p (kernel trees) (map constant (range_with_len 0 (size_of t)))
+  kernel-items : (kind : Kind) (root : ℕ) (t : Breakdown) → ItemsIn p (kernel (single kind root t)) (map constant (range_with_len 0 (size_of t)))
   kernel-items kind root t = all-constants (Item p (size_of t)) (λ i. i) 0 (size_of t) (λ i low. constant-item p (runs p (size_of t)) (length p.path + 2) (size_of t) i (omega (arith, low)))
 
   tile-items : (v : ℕ) → ItemsIn p (tile v) (map (λ k. constant (k * v)) (range_with_len 0 v))

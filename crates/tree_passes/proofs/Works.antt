@@ -16,6 +16,7 @@ use Rattle.matrix_meaning.specs.declared.Request.{Request}
 use Rattle.matrix_meaning.specs.Valid.{IsValid}
 use Rattle.pass_actions.specs.Laws.{CanWork}
 use Rattle.passes.specs.Work.{PlainWork, kernel, rows, tile}
+use Rattle.rooted_trees.specs.Trees.{single}
 use Rattle.shared_passes.specs.Shared.{framed, HasLanes, IsFramed}
 use Rattle.sigma_lower.specs.Work as lowered
 use Rattle.sigma_lower.specs.Work.{transforming, tiling, work_size}
@@ -31,7 +32,7 @@ use Rattle.tree_passes.specs.Laws.{machine_of}
 -- ---- what no tile is
 
 -- what kernels and longer leaves have in common
-pub node-is : {A : Type 0} (f : PlainWork → A) (x : A) (c : Request) (t : Breakdown) → ((kind : Kind) (root : ℕ) → f (kernel trees) ≡ x) → ((root : ℕ) → f (rows root (size_of t)) ≡ x) → f (node_work c t) ≡ x
+pub node-is : {A : Type 0} (f : PlainWork → A) (x : A) (c : Request) (t : Breakdown) → ((kind : Kind) (root : ℕ) → f (kernel (single kind root t)) ≡ x) → ((root : ℕ) → f (rows root (size_of t)) ≡ x) → f (node_work c t) ≡ x
 node-is f x c t on_kernel on_rows = pick (is_kernel c (size_of t)) c.kind
   where
     pick : (b : Bool) (kind : Kind) → f (if b then kernel (single kind (node_root c (size_of t)) t) else long_work kind (node_root c (size_of t)) t) ≡ x

@@ -38,6 +38,7 @@ use Rattle.passes.specs.Work.{PlainWork, kernel, rows, tile}
 use Rattle.passes.proofs.Natural.{names-out, ranged, values-are}
 use Rattle.passes.proofs.Nests.{names-simplified}
 use Rattle.perm_algebra.specs.Affine.{Sum, constant, variable, value, simplified}
+use Rattle.rooted_trees.specs.Trees.{single}
 use Rattle.shared_passes.specs.Shared.{HasLanes, IsFramed}
 use Rattle.sigma_lower.specs.Work.{transforming, tiling}
 use Rattle.tensor_paths.specs.Path.{Path, AreInRange, count_of, place, size_under}
