@@ -29,7 +29,7 @@ use Rattle.tree_parts.proofs.PassesCount.{passes_count}
 use Rattle.dimension_passes.specs.Counts.{DimensionPass, kernels_of, pass_of, cost_of_pass, loads_of_pass, passes_in, shared_passes_in}
 use Rattle.dimension_passes.specs.Laws.{AreTreesFor, SeveralCount}
 use Rattle.dimension_passes.specs.Merged.{machine_of, plain_passes, rooted, shared_passes}
-use Rattle.kernel_passes.proofs.KernelsCount.{kernels_count}
+use Rattle.kernel_passes.proofs.Counts.{kernels_count}
 use Rattle.shared_tensors.proofs.Counts.{tensored_counts}
 use Rattle.dimension_passes.proofs.Choices.{by_shares, by_unroll, merged_by_unroll}
 use Rattle.dimension_passes.proofs.Parts.{all_small, all_valid, few_others, for_part, plain_parts, room_for, whole_parts}

@@ -18,7 +18,7 @@ use Rattle.tree_model.specs.Breakdown.{Breakdown}
 use Rattle.tree_parts.proofs.TreesTransform.{trees_transform}
 use Rattle.dimension_passes.specs.Laws.{AreTreesFor, SeveralMeans}
 use Rattle.dimension_passes.specs.Merged.{machine_of, plain_passes, rooted, shared_passes}
-use Rattle.kernel_passes.proofs.KernelsTransform.{kernels_transform}
+use Rattle.kernel_passes.proofs.Means.{kernels_transform}
 use Rattle.shared_tensors.proofs.Meaning.{tensored_means}
 use Rattle.dimension_passes.proofs.Choices.{by_shares, merged_by_unroll}
 use Rattle.dimension_passes.proofs.Parts.{all_small, all_valid, few_others, for_part, plain_parts, room_for, straight, whole_parts}

@@ -19,7 +19,7 @@ use Rattle.tree_parts.specs.Parts.{IsForPart}
 use Rattle.tree_parts.proofs.TreesAreParts.{trees_are_parts}
 use Rattle.dimension_passes.specs.Laws.{AreTreesFor}
 use Rattle.dimension_passes.specs.Merged.{machine_of, plain_passes, rooted}
-use Rattle.kernel_passes.proofs.KernelsAreParts.{kernels_are_parts}
+use Rattle.kernel_passes.proofs.Parts.{kernels_are_parts}
 use Rattle.shared_tensors.proofs.PartAgain.{tensored_is_part}
 use Rattle.dimension_passes.proofs.Choices.{merged_by_unroll, plain_counts}
 use Rattle.dimension_passes.proofs.Requests.{IsDimension, few_listed, first_of, others_of, others_small, two_in}

@@ -10,7 +10,7 @@ use Rattle.shared_tensors.specs.Tensored.{tensored}
 use Rattle.tree_model.specs.Breakdown.{Breakdown}
 use Rattle.dimension_passes.specs.Laws.{AreTreesFor, SeveralCanProgram}
 use Rattle.dimension_passes.specs.Merged.{machine_of, plain_passes, rooted, shared_passes}
-use Rattle.kernel_passes.proofs.KernelsCanProgram.{kernels_can_program}
+use Rattle.kernel_passes.proofs.Programs.{kernels_can_program}
 use Rattle.shared_tensors.proofs.PartAgain.{tensored_can_program}
 use Rattle.dimension_passes.proofs.Choices.{by_shares, merged_by_unroll}
 use Rattle.dimension_passes.proofs.Parts.{all_valid, few_others, host, room_for, straight, whole_parts}
