@@ -1,5 +1,5 @@
 -- Room for the paths of a formula, and the steps of a WHT.
-use Rattle.std.proofs.Common.{◌≡◌, ℕ, zero, suc, ◌*◌, ◌/◌, ◌+◌, ◌^◌, ◌<◌, ◌≤◌, arith, refl, sym, ap, ◌∙◌, [], ◌∷◌, ◌++◌, inl, inr, subst, mul_comm}
+use Rattle.std.proofs.Common.{◌≡◌, ℕ, zero, suc, ◌*◌, ◌/◌, ◌^◌, ◌<◌, ◌≤◌, arith, refl, sym, ap, ◌∙◌, [], ◌∷◌, ◌++◌, inl, inr, subst, mul_comm}
 use Rattle.std.proofs.Math.Nat.{pow-succ'}
 use Rattle.std.proofs.lemmas.Bool.{cases_eq}
 use Rattle.std.proofs.lemmas.Bool.Decides.{nat_tests}
@@ -12,7 +12,7 @@ use Rattle.formula_lower.specs.Terms.{one_more, halvings, hadamard_term}
 use Rattle.formula_lower.proofs.Lowers.{halvings-power, power-above}
 use Rattle.formula_lower.proofs.Parts.{grown-one}
 use Rattle.sigma_lower.specs.Room.{HasRoom}
-use Rattle.spl_ast.specs.Formula.{Formula, Stride, Product, TensorLeft, TensorRight, DirectSum, size_of}
+use Rattle.spl_ast.specs.Formula.{Formula, Stride, Product, TensorLeft, TensorRight, size_of}
 use Rattle.spl_ast.specs.Shape.{IsShaped}
 use Rattle.spl_ast.proofs.Vectors.{size_is_size}
 use Rattle.tensor_paths.specs.declared.Tensor.{Tensor}
