@@ -1,7 +1,7 @@
 -- The merged passes of several dimensions count what the cost model does.
-use Rattle.std.proofs.Common.{◌≡◌, ℕ, ◌*◌, ◌≤◌, Bool, true, false, refl, sym, ap, ap₂, ◌∙◌, arith, subst, if◌then◌else◌, nat_le, List, [], ◌∷◌, ◌++◌, length, append_assoc}
+use Rattle.std.proofs.Common.{◌≡◌, ℕ, ◌*◌, ◌≤◌, Bool, true, false, refl, sym, ap, ap₂, ◌∙◌, arith, if◌then◌else◌, nat_le, List, [], ◌∷◌, ◌++◌, length, append_assoc}
 use Rattle.std.specs.Prelude.{map, ◌==◌}
-use Rattle.std.proofs.Math.Nat.{mul-one, one-mul}
+use Rattle.std.proofs.Math.Nat.{one-mul}
 use Rattle.std.proofs.lemmas.Bool.Decides.{nat_tests}
 use Rattle.std.proofs.lemmas.List.{map-append}
 use Rattle.std.proofs.lemmas.Simd.{map-map}

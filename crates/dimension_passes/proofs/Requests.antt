@@ -73,7 +73,7 @@ known_behind r d others t ts known =
       admissible = known.admissible.1;
     }
 
-pub known_of : (r : SeveralRequest) (ts : List Breakdown) → AreTreesFor r ts → AreKnown r (listed r.dimensions) ts
+known_of : (r : SeveralRequest) (ts : List Breakdown) → AreTreesFor r ts → AreKnown r (listed r.dimensions) ts
 known_of r ts trees = record { few = few_listed r.dimensions; valid = trees.request.parts; small = trees.request.whole.size.1; admissible = trees.admissible }
 
 pub known_whole : (r : SeveralRequest) (ds : List Dimension) (ts : List Breakdown) → listed r.dimensions ≡ ds → AreTreesFor r ts → AreKnown r ds ts
