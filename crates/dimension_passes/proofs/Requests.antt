@@ -1,5 +1,5 @@
 -- What is known of a request's dimensions.
-use Rattle.std.proofs.Common.{◌≡◌, ℕ, suc, ◌*◌, ◌<◌, ◌≤◌, arith, refl, ap, List, [], ◌∷◌, length}
+use Rattle.std.proofs.Common.{◌≡◌, ℕ, suc, ◌*◌, ◌<◌, ◌≤◌, arith, refl, ap, subst, List, [], ◌∷◌, length}
 use Rattle.std.proofs.Math.Nat.{mul-le-mul}
 use Rattle.std.proofs.lemmas.List.Elements.{All-head, All-tail}
 use Rattle.dimension_plans.specs.declared.SeveralRequest.{SeveralRequest}
@@ -10,7 +10,9 @@ use Rattle.dimensions.specs.declared.Dimensions.{Dimensions}
 use Rattle.dimensions.specs.declared.Dimensions.TheVariants.{One, Two, Three, Four}
 use Rattle.dimensions.specs.Transform.{listed, size_in}
 use Rattle.matrix_meaning.specs.Valid.{IsValid}
+use Rattle.operators.specs.Sizes.{max_size}
 use Rattle.tree_model.specs.Breakdown.{Breakdown}
+use Rattle.dimension_passes.specs.Laws.{AreTreesFor}
 
 abbrev pub IsDimension : SeveralRequest → Dimension → Type 0
 IsDimension r d = (2 ≤ d.size) × IsValid (part_of r d)
@@ -53,6 +55,29 @@ others_as_many d ds whole t ts all is trees same =
     let dimensions : length whole ≡ length (d ∷ ds) = ap length is in
     let behind : length all ≡ length (t ∷ ts) = ap length trees in
     omega (arith, same, dimensions, behind)
+
+-- what is known of dimensions and their trees
+pub record AreKnown (r : SeveralRequest) (ds : List Dimension) (ts : List Breakdown) : Type 0 where
+  pub few : length ds ≤ 4
+  pub valid : AreValid r ds
+  pub small : size_in ds ≤ max_size
+  pub admissible : AreAdmissible r ds ts
+
+pub known_behind : (r : SeveralRequest) (d : Dimension) (others : List Dimension) (t : Breakdown) (ts : List Breakdown) → AreKnown r (d ∷ others) (t ∷ ts) → AreKnown r others ts
+known_behind r d others t ts known =
+    let few = known.few in
+    record {
+      few = omega (arith, few);
+      valid = others_of r d others known.valid;
+      small = others_small d others max_size (first_of r d others known.valid).0 known.small;
+      admissible = known.admissible.1;
+    }
+
+known_of : (r : SeveralRequest) (ts : List Breakdown) → AreTreesFor r ts → AreKnown r (listed r.dimensions) ts
+known_of r ts trees = record { few = few_listed r.dimensions; valid = trees.request.parts; small = trees.request.whole.size.1; admissible = trees.admissible }
+
+pub known_whole : (r : SeveralRequest) (ds : List Dimension) (ts : List Breakdown) → listed r.dimensions ≡ ds → AreTreesFor r ts → AreKnown r ds ts
+known_whole r ds ts is trees = subst (λ es. AreKnown r es ts) is (known_of r ts trees)
 
 -- there is a tree for each dimension
 pub admitted_as_many : (r : SeveralRequest) (ds : List Dimension) (ts : List Breakdown) → AreAdmissible r ds ts → length ts ≡ length ds

@@ -1,5 +1,5 @@
 -- Trees of several dimensions as straight-line code: its size, its meaning and its cost.
-use Rattle.std.proofs.Common.{◌≡◌, ℕ, ◌+◌, ◌*◌, ◌%◌, ◌<◌, ◌≤◌, Bool, true, false, arith, refl, sym, ap, ap₂, ◌∙◌, subst, if◌then◌else◌, List, [], ◌∷◌, pow-suc}
+use Rattle.std.proofs.Common.{◌≡◌, ℕ, ◌+◌, ◌*◌, ◌%◌, ◌<◌, ◌≤◌, Bool, true, false, arith, refl, sym, ap, ap₂, ◌∙◌, if◌then◌else◌, List, [], ◌∷◌, pow-suc}
 use Rattle.std.specs.Prelude.{nat_le, ◌==◌}
 use Rattle.std.proofs.Math.Nat.{mod-eq_of_lt, mul-le-mul_left, mul-one, one-mul, pow-zero}
 use Rattle.std.proofs.lemmas.Bool.Decides.{nat_tests}

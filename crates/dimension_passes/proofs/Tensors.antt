@@ -1,5 +1,5 @@
 -- What the passes of two parts need to be those of a tensor product.
-use Rattle.std.proofs.Common.{◌≡◌, ℕ, ◌^◌, ◌<◌, ◌≤◌, Bool, true, false, if◌then◌else◌, nat_le, arith, refl, sym, ap, ap₂, ◌∙◌, subst, List, [], ◌∷◌, length}
+use Rattle.std.proofs.Common.{◌≡◌, ℕ, ◌<◌, ◌≤◌, Bool, false, if◌then◌else◌, nat_le, arith, refl, sym, ap, ap₂, ◌∙◌, subst, List, [], ◌∷◌, length}
 use Rattle.std.proofs.lemmas.Bool.Decides.{nat_tests}
 use Rattle.dimension_plans.specs.declared.SeveralRequest.{SeveralRequest}
 use Rattle.dimension_plans.specs.Several.{part_of, whole_of, AreAdmissible, AreValid}
@@ -19,7 +19,7 @@ use Rattle.tree_model.specs.Breakdown.{Breakdown}
 use Rattle.tree_model.specs.Cost.{is_plain}
 use Rattle.dimension_passes.specs.Laws.{AreTreesFor}
 use Rattle.dimension_passes.specs.Merged.{plain_passes, rooted, several_merged, shared_passes}
-use Rattle.dimension_passes.proofs.Parts.{few_others, plain_parts, room_for, whole_parts}
+use Rattle.dimension_passes.proofs.Parts.{all_known, plain_parts, room_for, whole_parts}
 use Rattle.dimension_passes.proofs.Straight.{rooted-makes, rooted-size}
 
 tensor_of : (h : PlainMachine) (r s room : ℕ) (left right : PlainMerged) → room ≤ 56 → AreParts h r s room left right → CanTensor h.procs h.lanes left right
@@ -55,7 +55,7 @@ plain_tensor r d (e ∷ more) whole t ts all columns rows is trees some few vali
     let count : length whole ≡ length (d ∷ e ∷ more) = ap length is in
     made 1 1 r d (e ∷ more) t ts columns rows (record { columns_are = columns_are; rows_are = rows_are })
     (tensor_of _ d.size (size_in (e ∷ more)) (room_for more) (tree_merged (part_of r d) t) (plain_passes r (e ∷ more) ts) (omega (arith, few, count))
-    (plain_parts r d e more t ts (omega (arith, few, count)) (subst (AreValid r) is valid) (subst (λ es. size_in es ≤ max_size) is small) (others_admitted r d (e ∷ more) whole t ts all is trees h)))
+    (plain_parts r d e more t ts (record { few = omega (arith, few, count); valid = subst (AreValid r) is valid; small = subst (λ es. size_in es ≤ max_size) is small; admissible = others_admitted r d (e ∷ more) whole t ts all is trees h })))
 
 -- and for those of the request
 pub whole_tensor : (r : SeveralRequest) (d : Dimension) (others : List Dimension) (t : Breakdown) (ts all : List Breakdown) (columns rows : PlainMerged) →
@@ -63,10 +63,11 @@ pub whole_tensor : (r : SeveralRequest) (d : Dimension) (others : List Dimension
     columns ≡ tree_merged (part_of r d) t → rows ≡ plain_passes r others ts → CanTensor r.procs r.lanes columns rows
 whole_tensor r d [] t ts all columns rows is trees some h columns_are rows_are = absurd (omega (arith, some))
 whole_tensor r d (e ∷ more) t ts all columns rows is trees some h columns_are rows_are =
-    let few = few_others r d e more is h.request in
+    let fitting = subst (AreTreesFor r) trees h in
+    let few = (all_known r d e more t ts is fitting).few in
     made r.procs r.lanes r d (e ∷ more) t ts columns rows (record { columns_are = columns_are; rows_are = rows_are })
     (tensor_of _ d.size (size_in (e ∷ more)) (room_for more) (tree_merged (part_of r d) t) (plain_passes r (e ∷ more) ts) (omega (arith, few))
-    (whole_parts r d e more is h.request t ts (subst (AreTreesFor r) trees h)))
+    (whole_parts r d e more t ts is fitting))
 
 -- ---- what is merged
 

@@ -1,5 +1,5 @@
 -- The merged passes of several dimensions: those of each tree by the request for its dimension,
--- as the passes of their tensor product.
+-- as the passes of their tensor product, or the straight-line code of all.
 use Rattle.std.specs.Prelude.{if◌then◌else◌, nat_le, List, [], ◌∷◌}
 use Rattle.dimension_plans.specs.declared.SeveralRequest.{SeveralRequest}
 use Rattle.dimension_plans.specs.Several.{part_of, whole_of}

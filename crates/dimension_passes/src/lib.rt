@@ -86,11 +86,7 @@ fn merge_plain(
 }
 
 // The trees with the roots of their dimensions.
-fn rooted(
-    alloc: Global,
-    dimensions: &Dimensions,
-    trees: &[Tree],
-) -> Result<RootedTrees, NoMemory>
+fn rooted(alloc: Global, dimensions: &Dimensions, trees: &[Tree]) -> Result<RootedTrees, NoMemory>
     requires { length trees.now ≡ length (listed dimensions.now) }
     ensures { IfOk result (λ made.
         plain_trees made ≡ rooted (listed dimensions.now) (map breakdown_of trees.now)) }
