@@ -1,5 +1,5 @@
 -- A program can be made of the passes of straight-line code.
-use Rattle.std.proofs.Common.{◌<◌, arith, refl, sym, List, [], ◌∷◌, All, length}
+use Rattle.std.proofs.Common.{◌<◌, arith, refl, sym, List, [], ◌∷◌, length}
 use Rattle.std.proofs.lemmas.List.Elements.{All-nil, All-cons}
 use Rattle.kernel_passes.specs.Laws.{KernelsCanProgram}
 use Rattle.kernel_passes.specs.Merged.{kernel_nest}

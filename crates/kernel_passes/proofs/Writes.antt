@@ -68,7 +68,7 @@ module _ (h : PlainMachine) (trees : PlainTrees) (host : IsHost h) (one_proc : h
       let none = ap length no-loops in (
         good.nests.0.gathers,
         sums-written 64 h.size (limits_of z) (frame_of h (kernel trees)) (length (loop_counts h z) + 0) (all_items trees) (written.frame-of h (kernel trees)) (omega (arith, none)) (omega arith) high
-        (items-limited 64 h.size (limits_of z) trees high size),
+            (items-limited 64 h.size (limits_of z) trees high size),
       )
 
   abbrev IsCount : ℕ → Type 0
