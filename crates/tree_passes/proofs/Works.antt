@@ -23,7 +23,7 @@ use Rattle.sigma_lower.specs.Work.{transforming, tiling, work_size}
 use Rattle.tensor_paths.specs.declared.Tensor.TheVariants.{Blocks, Columns}
 use Rattle.tensor_paths.specs.Path.{Path, copies_of, size_under}
 use Rattle.tensor_paths.proofs.Under.{size_under-copies}
-use Rattle.tree_model.specs.Breakdown.{Breakdown, leaf, node, size_of, IsWellFormed}
+use Rattle.tree_model.specs.Breakdown.{Breakdown, leaf, size_of, IsWellFormed}
 use Rattle.tree_model.specs.Cost.{is_kernel, is_plain, node_root}
 use Rattle.tree_model.proofs.Sizes.{one_le_size_of}
 use Rattle.tree_model.proofs.Splits.{mod-product}
