@@ -9,7 +9,8 @@ use Rattle.rooted_trees.specs.Trees.{PlainTrees, trees_on, trees_size}
 use Rattle.shared_tensors.specs.Laws.{IsPart}
 use Rattle.kernel_passes.specs.Merged.{kernel_merged}
 
--- trees of which a kernel can be made modulo m, for two words at least and as many as straight-line code may be for
+-- trees of which a kernel can be made modulo m, for two words at least and no more than
+-- straight-line code may be for
 pub record IsKernel (m : ℕ) (trees : PlainTrees) : Type 0 where
   pub modulus : (2 ≤ m) × (m < 2 ^ 62)
   pub makes : CanMake m trees
@@ -25,7 +26,8 @@ KernelsCanProgram =
 -- they can be part of a tensor product, and their places have no parts but constants
 abbrev pub KernelsAreParts : Type 0
 KernelsAreParts =
-    (m room : ℕ) (trees : PlainTrees) → IsKernel m trees → IsPart (trees_size trees) m room (kernel_merged trees)
+    (m room : ℕ) (trees : PlainTrees) → IsKernel m trees →
+    IsPart (trees_size trees) m room (kernel_merged trees)
 
 -- they do the transforms to every list, whatever its numbers
 abbrev pub KernelsTransform : Type 0
@@ -36,7 +38,8 @@ KernelsTransform =
 -- they cost what the trees do, and load each word once
 pub record CountsKernel (m : ℕ) (trees : PlainTrees) : Type 0 where
   pub costs : (weight : ℕ) →
-      map (pass_cost weight m) (all_passes (kernel_merged trees).phases) ≡ trees_cost weight m trees ∷ []
+      map (pass_cost weight m) (all_passes (kernel_merged trees).phases)
+      ≡ trees_cost weight m trees ∷ []
   pub loads : map pass_loads (all_passes (kernel_merged trees).phases) ≡ trees_size trees ∷ []
 
 abbrev pub KernelsCount : Type 0
