@@ -427,7 +427,7 @@ def strangers(sweep, line, numbers):
     for _ in range(14):
         changed = numbers.one_of(change)(numbers, whole)
         if numbers.below(4) == 0:
-            changed = numbers.one_of(change)(numbers, changed or whole)
+            changed = numbers.one_of(change)(numbers, changed if re.search("[0-9]", changed) else whole)
         given = numbers.one_of([f"{changed}\n{text}"] * 9 + [changed])
         if not is_long(given):
             sweep.compare("exec", given, executed(given.encode()))
