@@ -2,13 +2,14 @@
 use Rattle.std.proofs.Common.{◌≡◌, ℕ, zero, suc, ◌+◌, ◌-◌, ◌*◌, ◌<◌, ◌≤◌, ◌∷◌, ◌++◌, length, replicate, sym, ap, ap₂, ◌∙◌, subst, arith, zero-add, suc-add}
 use Rattle.std.specs.Prelude.{slice_index_or}
 use Rattle.icode.specs.declared.program.Program.{Program}
+use Rattle.icode.specs.Headers.{without_statements}
 use Rattle.icode.specs.Plain.{PlainProgram}
 use Rattle.icode.specs.Program.{plain_program, code_of, Fits}
 use Rattle.icode.specs.Machine.{Code, first_open, start}
 use Rattle.par_machine.specs.declared.phase.Routine.{Routine}
 use Rattle.par_machine.specs.Context.{Context}
 use Rattle.par_machine.specs.declared.machine.Machine.TheInside.{Inside}
-use Rattle.par_machine.specs.Header.{header_of, without_statements}
+use Rattle.par_machine.specs.Header.{header_of}
 use Rattle.par_machine.specs.Lengths.{HasLengths}
 use Rattle.par_machine.specs.Processors.{fresh, registers_of, cursors_of, counts_of_all}
 use Rattle.par_machine.specs.Frame.{Frame, code_of_frame, room_of, IsRoutine, IsReady}

@@ -7,15 +7,16 @@ use Rattle.operators.specs.Sum.{sum_below}
 use Rattle.operators.proofs.Sums.{sum_below-append}
 use Rattle.icode.specs.declared.action.Action.{Action}
 use Rattle.icode.specs.declared.program.Stmt.{Stmt}
-use Rattle.icode.specs.Plain.{PlainProgram, PlainOp, PlainBody, NoStmts, Load, Store, Zero, Add, Sub, Neg, MulConst, MulTable, Tile, plain_op, plain_body, plain_phases}
-use Rattle.icode.specs.Actions.{Step, StepFits, step_of, steps_of_body, steps_of_phase, actions_of, plain_code, PlainFits}
+use Rattle.icode.specs.Plain.{PlainProgram, PlainBody, NoStmts, plain_op, plain_body, plain_phases}
+use Rattle.icode.specs.Actions.{Step, StepFits, steps_of_body, steps_of_phase, actions_of, plain_code, PlainFits}
+use Rattle.icode.specs.Headers.{without_statements}
 use Rattle.icode.specs.Lengths.{len_of_body}
+use Rattle.icode.proofs.Headers.{bare_step, fits_bare}
 use Rattle.icode.proofs.Lengths.{body_length}
 use Rattle.par_machine.specs.declared.cursor.Instruction.{Instruction}
 use Rattle.par_machine.specs.declared.cursor.Instruction.TheVariants.{Act, Again}
 use Rattle.par_machine.specs.declared.phase.Routine.{Routine}
 use Rattle.par_machine.specs.Position.{Position, positions, first_position}
-use Rattle.par_machine.specs.Header.{without_statements}
 use Rattle.par_machine.specs.Hand.{step_with, step_at, action_of_step, Runs}
 use Rattle.par_machine.specs.Frame.{code_of_frame, places_of, lens_of, total, IsRoutine}
 use Rattle.par_machine.specs.Plays.{seen, Plays, IsCompiled}
@@ -74,17 +75,6 @@ take_phases (x ∷ phases) (suc n) le = ap (λ ys. plain_body x.items ∷ ys) (t
 
 -- The header stands for the program
 
-bare_step : (p : PlainProgram) (op : PlainOp) (vs : List ℕ) (q : ℕ) → step_of (without_statements p) op vs q ≡ step_of p op vs q
-bare_step p (Load register array place) vs q = refl
-bare_step p (Store array place register) vs q = refl
-bare_step p (Zero register) vs q = refl
-bare_step p (Add register left right) vs q = refl
-bare_step p (Sub register left right) vs q = refl
-bare_step p (Neg register source) vs q = refl
-bare_step p (MulConst register source factor) vs q = refl
-bare_step p (MulTable register source table place step) vs q = refl
-bare_step p (Tile register source) vs q = refl
-
 bare_with : (p : PlainProgram) (vs : List ℕ) (q : ℕ) (o : Option Instruction) → step_with (without_statements p) vs q o ≡ step_with p vs q o
 bare_with p vs q None = refl
 bare_with p vs q (Some (Act op depth)) = ap (λ (s : Step). Some s) (bare_step p (plain_op op) (take depth vs) q)
@@ -96,9 +86,6 @@ bare_at p code q place = bare_with p place.values q (slice_get code place.at)
 bare_steps : (p : PlainProgram) (code : List Instruction) (q : ℕ) (places : List Position) → map (λ (place : Position). step_at (without_statements p) code q place) places ≡ map (λ (place : Position). step_at p code q place) places
 bare_steps p code q [] = refl
 bare_steps p code q (place ∷ places) = ap₂ (λ o os. o ∷ os) (bare_at p code q place) (bare_steps p code q places)
-
-fits_bare : (p : PlainProgram) (s : Step) → StepFits p s → StepFits (without_statements p) s
-fits_bare p s h = record { numbers = h.numbers; place = h.place; registers = h.registers; factors = h.factors }
 
 -- Lists of actions
 

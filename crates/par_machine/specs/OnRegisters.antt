@@ -1,11 +1,7 @@
 -- Operations on registers.
-use Rattle.std.specs.Prelude.{ℕ, ◌+◌, []}
-use Rattle.icode.specs.declared.action.Action.{Action}
+use Rattle.std.specs.Prelude.{ℕ, ◌+◌}
 use Rattle.icode.specs.declared.action.Counts.{Counts}
-use Rattle.icode.specs.Actions.{step_of}
 use Rattle.icode.specs.Plain.{PlainOp, Load, Store, Zero, MulConst, MulTable, Tile}
-use Rattle.icode.specs.declared.shape.Shape.{Shape}
-use Rattle.par_machine.specs.Header.{header_with}
 
 -- the operation loads and stores nothing
 abbrev pub IsOnRegisters : PlainOp → Type 0
@@ -41,7 +37,3 @@ counted_op lanes _ c = record c { operations = c.operations + lanes }
 abbrev pub HasNoPlace : PlainOp → Type 0
 HasNoPlace (MulTable register source table place step) = ⊥
 HasNoPlace op = IsOnRegisters op
-
--- the action of such an operation, to which tables, loops and processors do not matter
-abbrev pub placeless_action : Shape → PlainOp → Action
-placeless_action shape op = (step_of (header_with shape []) op [] 0).action

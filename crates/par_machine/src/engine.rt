@@ -2,7 +2,8 @@
 
 ghost use Rattle.std.specs.Prelude.{◌≡◌, IfOk};
 ghost use Rattle.icode.specs.Program.{plain_program};
-ghost use Rattle.par_machine.specs.Header.{header_of, without_statements};
+ghost use Rattle.icode.specs.Headers.{without_statements};
+ghost use Rattle.par_machine.specs.Header.{header_of};
 
 use crate::initial::copy_tables;
 use icode::header::shape_of;

@@ -1,7 +1,6 @@
 //! The machine that runs loop code: several processors over one memory, one action of one processor at a time.
 #![tactic(auto)]
 
-mod action;
 mod compile;
 mod cursor;
 mod engine;
@@ -9,7 +8,6 @@ mod initial;
 mod machine;
 mod perform;
 mod phase;
-mod place;
 mod processor;
 mod scale;
 

@@ -9,7 +9,6 @@ ghost use Rattle.par_machine.specs.OnRegisters.{IsOnRegisters, operations_of, mu
 ghost use Rattle.par_machine.specs.Performed.{HasRoom, OpIsWithin, step_by, action_by, performed};
 
 use crate::engine::Engine;
-use crate::place::place_value;
 use crate::scale::{scale_by_constant, scale_by_entries};
 use icode::action::Counts;
 use icode::address::address_at;
@@ -46,7 +45,7 @@ pub(crate) fn perform(
             array,
             place,
         } => {
-            let at = address_at(shape.room, *array, place_value(place, values, proc));
+            let at = address_at(shape.room, *array, place.value(values, proc));
             copy_lanes(memory, at, registers, *register * lanes, lanes);
         }
         Op::Store {
@@ -54,7 +53,7 @@ pub(crate) fn perform(
             place,
             register,
         } => {
-            let at = address_at(shape.room, *array, place_value(place, values, proc));
+            let at = address_at(shape.room, *array, place.value(values, proc));
             copy_lanes(registers, *register * lanes, memory, at, lanes);
         }
         _ => perform_on_registers(engine, op, values, proc, registers),
@@ -117,7 +116,7 @@ fn perform_on_registers(engine: &Engine, op: &Op, values: &[u64], proc: u64, reg
             step,
         } => {
             let entries = &engine.tables[*table as usize];
-            let at = place_value(place, values, proc);
+            let at = place.value(values, proc);
             scale_by_entries(shape, registers, (*register, *source), entries, at, *step);
         }
         Op::Tile { register, source } => transpose(registers, *register, *source, shape.lanes),

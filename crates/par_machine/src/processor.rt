@@ -8,7 +8,6 @@ ghost use Rattle.par_machine.specs.Played.{CanPlay, playing, played, step_here};
 ghost use Rattle.par_machine.specs.Performed.{HasRoom};
 ghost use Rattle.par_machine.specs.Processors.{fresh, as_new, rewound, with_registers, IsAct, passed_over};
 
-use crate::action::action_of;
 use crate::cursor::{Instruction, OPEN_LOOPS, rest};
 use crate::engine::Engine;
 use crate::initial::zeros;
@@ -114,7 +113,8 @@ impl Processor {
     {
         match &code[self.at as usize] {
             Instruction::Act { op, depth } => {
-                action_of(engine, op, &self.values[..*depth as usize], proc)
+                let values = &self.values[..*depth as usize];
+                op.action(&engine.shape, &engine.tables, values, proc)
             }
             Instruction::Again { .. } => unreachable!(),
         }

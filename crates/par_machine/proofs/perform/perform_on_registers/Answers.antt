@@ -18,7 +18,7 @@ scale_by_entries-requires-clause-factors c =
     let below : All (λ f. f < shape.modulus) (table_factors shape.lanes entries at step) = rw c.in-MulTable.is at c.requires.fits.factors in
     let same = table_is tables c.in-MulTable.table c.index-entries.result.now (omega (arith, within)) c.index-entries.ensures in
     subst (λ (xs : List ℕ). All (λ f. f < shape.modulus) xs)
-    (ap₂ (λ (es : List ℕ) (n : ℕ). table_factors shape.lanes es n step) (same ∙ sym c.deref.ensures.value) (sym c.place_value-at.ensures)) below
+    (ap₂ (λ (es : List ℕ) (n : ℕ). table_factors shape.lanes es n step) (same ∙ sym c.deref.ensures.value) (sym c.value-at.ensures)) below
 
 pub transpose-requires-clause-apart : goal.transpose-requires-clause-apart
 transpose-requires-clause-apart c =
