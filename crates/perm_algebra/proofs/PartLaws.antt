@@ -3,14 +3,6 @@ use Rattle.std.proofs.Common.{◌≡◌, ℕ, zero, suc, ◌+◌, ◌-◌, min, 
 use Rattle.perm_algebra.specs.Fits.{InRange}
 use Rattle.std.proofs.lemmas.Nat.{le-div, div-add-mod', mod_below, mul-le, div_below, mul-add-lt}
 
-pub scaled_part : (p f g r s k : ℕ) → g ≡ k * f → s ≡ k * r → g * p + s ≡ k * (f * p + r)
-scaled_part p f g r s k e d = let spread : k * f * p + k * r ≡ k * (f * p + r) = omega arith in rw (e, d) spread
-
--- a part whose factor no longer fits is always 0
-pub dropped_part : (p f r s k : ℕ) → 2 ^ 64 ≤ k * f → k * (f * p + r) < 2 ^ 64 → s ≡ k * r → s ≡ k * (f * p + r)
-dropped_part zero f r s k big fits d = d ∙ ap (λ n. k * n) (omega arith)
-dropped_part (suc p) f r s k big fits d = absurd (omega (arith, fits, big))
-
 pub quotient_le : (a b d : ℕ) → 1 ≤ d → a ≤ b → a / d ≤ b / d
 quotient_le a b d pos h = le-div (a / d) b d pos (omega (arith, div-add-mod' a d))
 

@@ -18,7 +18,7 @@ use index_fn::Index;
 use memory::NoMemory;
 pub use parts::{Parts, divide, greatest, others, reduce, residues};
 use std::alloc::Global;
-pub use sums::{copy, join, scale_sum};
+pub use sums::{both, copy, join, multiple, scale_sum};
 
 /// A sum of a constant and of multiples of variables, remainders and quotients. Each part has its factor, and then the
 /// rest of the sum; the constant ends it. A variable is a number: what it runs below is the count at that number.
@@ -52,9 +52,8 @@ pub fn simplify(alloc: Global, f: &Index, arg: &Affine, counts: &[u64]) -> Resul
         }
         Index::Constant(value) => Ok(Affine::Constant(*value)),
         Index::Stride(base, step) => {
-            let multiple = scale_sum(alloc, counts, *step, copy(alloc, arg)?)?;
-            let sum = join(alloc, counts, Affine::Constant(*base), multiple)?;
-            Ok(sum)
+            let by_step = multiple(counts, *step, copy(alloc, arg)?);
+            Ok(both(counts, Affine::Constant(*base), by_step))
         }
         Index::StridePermutation(r, s) => {
             let sum = turn(alloc, counts, *r, *s, arg)?;
@@ -76,10 +75,8 @@ pub fn simplify(alloc: Global, f: &Index, arg: &Affine, counts: &[u64]) -> Resul
         Index::Tensor(f, c, g, d) => {
             let Parts { quot, rem } = divide(alloc, counts, arg, *d)?;
             let left = simplify(alloc, f, &quot, counts)?;
-            let left = scale_sum(alloc, counts, *c, left)?;
             let right = simplify(alloc, g, &rem, counts)?;
-            let sum = join(alloc, counts, left, right)?;
-            Ok(sum)
+            Ok(both(counts, multiple(counts, *c, left), right))
         }
         Index::Composed(f, g) => {
             let inner = simplify(alloc, g, arg, counts)?;
@@ -102,9 +99,7 @@ fn turn(alloc: Global, counts: &[u64], r: u64, s: u64, arg: &Affine) -> Result<A
     ensures form { HasRoomFor (slice_index counts.now) (Strided r s) (plain_sum arg.now) → IfOk result (λ sum. plain_sum sum ≡ simplified (slice_index counts.now) (Strided r s) (plain_sum arg.now)) }
 {
     let Parts { quot, rem } = divide(alloc, counts, arg, s)?;
-    let rem = scale_sum(alloc, counts, r, rem)?;
-    let sum = join(alloc, counts, rem, quot)?;
-    Ok(sum)
+    Ok(both(counts, multiple(counts, r, rem), quot))
 }
 
 // `a` times the quotient by `s` and `b` times the remainder, modulo `r * s`.
@@ -127,9 +122,7 @@ fn mix(
     ensures form { (CanDivide (slice_index counts.now) s (plain_sum arg.now) × (let parts : Divided = divided (slice_index counts.now) s (plain_sum arg.now) in CanMix (slice_index counts.now) (r * s) a b parts.quot parts.rem)) → IfOk result (λ sum. plain_sum sum ≡ (let parts : Divided = divided (slice_index counts.now) s (plain_sum arg.now) in reduced (slice_index counts.now) (r * s) (joined (scaled a parts.quot) (scaled b parts.rem)))) }
 {
     let Parts { quot, rem } = divide(alloc, counts, arg, s)?;
-    let quot = scale_sum(alloc, counts, a, quot)?;
-    let rem = scale_sum(alloc, counts, b, rem)?;
-    let both = join(alloc, counts, quot, rem)?;
+    let both = both(counts, multiple(counts, a, quot), multiple(counts, b, rem));
     let sum = reduce(alloc, counts, r * s, &both)?;
     Ok(sum)
 }
@@ -152,10 +145,9 @@ fn remainders(
     ensures form { HasRoomFor (slice_index counts.now) (ThomasOut r s) (plain_sum arg.now) → IfOk result (λ sum. plain_sum sum ≡ simplified (slice_index counts.now) (ThomasOut r s) (plain_sum arg.now)) }
 {
     let Parts { quot: _, rem } = divide(alloc, counts, arg, r)?;
-    let left = scale_sum(alloc, counts, s, rem)?;
+    let left = multiple(counts, s, rem);
     let Parts { quot: _, rem } = divide(alloc, counts, arg, s)?;
-    let sum = join(alloc, counts, left, rem)?;
-    Ok(sum)
+    Ok(both(counts, left, rem))
 }
 
 /// A simplified sum has the function's value: a law of the definitions.

@@ -21,35 +21,39 @@ fn multiples(alloc: Global, s: u64, sum: &Affine) -> Result<Affine, NoMemory>
     requires { 0 < s }
     ensures { IfOk result (λ a. plain_sum a ≡ head s (plain_sum sum.now)) }
 {
+    let mut whole = copy(alloc, sum)?;
+    keep_multiples(s, &mut whole);
+    Ok(whole)
+}
+
+fn keep_multiples(s: u64, sum: &mut Affine)
+    requires { 0 < s }
+    ensures { plain_sum sum.new ≡ head s (plain_sum sum.old) }
+{
     match sum {
-        Affine::Constant(c) => Ok(Affine::Constant(*c / s)),
-        Affine::Variable(factor, variable, rest) => {
-            let rest = multiples(alloc, s, rest)?;
+        Affine::Constant(c) => *c /= s,
+        Affine::Variable(factor, _, rest) => {
+            keep_multiples(s, rest);
             if *factor % s == 0 {
-                let rest = Box::new(alloc, rest)?;
-                Ok(Affine::Variable(*factor / s, *variable, rest))
+                *factor /= s;
             } else {
-                Ok(rest)
+                *sum = taken(rest);
             }
         }
-        Affine::Remainder(factor, of, divisor, rest) => {
-            let rest = multiples(alloc, s, rest)?;
+        Affine::Remainder(factor, _, _, rest) => {
+            keep_multiples(s, rest);
             if *factor % s == 0 {
-                let of = Box::new(alloc, copy(alloc, of)?)?;
-                let rest = Box::new(alloc, rest)?;
-                Ok(Affine::Remainder(*factor / s, of, *divisor, rest))
+                *factor /= s;
             } else {
-                Ok(rest)
+                *sum = taken(rest);
             }
         }
-        Affine::Quotient(factor, of, divisor, rest) => {
-            let rest = multiples(alloc, s, rest)?;
+        Affine::Quotient(factor, _, _, rest) => {
+            keep_multiples(s, rest);
             if *factor % s == 0 {
-                let of = Box::new(alloc, copy(alloc, of)?)?;
-                let rest = Box::new(alloc, rest)?;
-                Ok(Affine::Quotient(*factor / s, of, *divisor, rest))
+                *factor /= s;
             } else {
-                Ok(rest)
+                *sum = taken(rest);
             }
         }
     }
@@ -60,35 +64,33 @@ pub fn others(alloc: Global, s: u64, sum: &Affine) -> Result<Affine, NoMemory>
     requires { 0 < s }
     ensures { IfOk result (λ a. plain_sum a ≡ rest_of s (plain_sum sum.now)) }
 {
+    let mut left = copy(alloc, sum)?;
+    keep_others(s, &mut left);
+    Ok(left)
+}
+
+fn keep_others(s: u64, sum: &mut Affine)
+    requires { 0 < s }
+    ensures { plain_sum sum.new ≡ rest_of s (plain_sum sum.old) }
+{
     match sum {
-        Affine::Constant(c) => Ok(Affine::Constant(*c % s)),
-        Affine::Variable(factor, variable, rest) => {
-            let rest = others(alloc, s, rest)?;
-            if *factor % s != 0 {
-                let rest = Box::new(alloc, rest)?;
-                Ok(Affine::Variable(*factor, *variable, rest))
-            } else {
-                Ok(rest)
+        Affine::Constant(c) => *c %= s,
+        Affine::Variable(factor, _, rest) => {
+            keep_others(s, rest);
+            if *factor % s == 0 {
+                *sum = taken(rest);
             }
         }
-        Affine::Remainder(factor, of, divisor, rest) => {
-            let rest = others(alloc, s, rest)?;
-            if *factor % s != 0 {
-                let of = Box::new(alloc, copy(alloc, of)?)?;
-                let rest = Box::new(alloc, rest)?;
-                Ok(Affine::Remainder(*factor, of, *divisor, rest))
-            } else {
-                Ok(rest)
+        Affine::Remainder(factor, _, _, rest) => {
+            keep_others(s, rest);
+            if *factor % s == 0 {
+                *sum = taken(rest);
             }
         }
-        Affine::Quotient(factor, of, divisor, rest) => {
-            let rest = others(alloc, s, rest)?;
-            if *factor % s != 0 {
-                let of = Box::new(alloc, copy(alloc, of)?)?;
-                let rest = Box::new(alloc, rest)?;
-                Ok(Affine::Quotient(*factor, of, *divisor, rest))
-            } else {
-                Ok(rest)
+        Affine::Quotient(factor, _, _, rest) => {
+            keep_others(s, rest);
+            if *factor % s == 0 {
+                *sum = taken(rest);
             }
         }
     }
@@ -99,38 +101,46 @@ pub fn residues(alloc: Global, s: u64, sum: &Affine) -> Result<Affine, NoMemory>
     requires { 0 < s }
     ensures { IfOk result (λ a. plain_sum a ≡ mods s (plain_sum sum.now)) }
 {
+    let mut small = copy(alloc, sum)?;
+    keep_residues(s, &mut small);
+    Ok(small)
+}
+
+fn keep_residues(s: u64, sum: &mut Affine)
+    requires { 0 < s }
+    ensures { plain_sum sum.new ≡ mods s (plain_sum sum.old) }
+{
     match sum {
-        Affine::Constant(c) => Ok(Affine::Constant(*c % s)),
-        Affine::Variable(factor, variable, rest) => {
-            let rest = residues(alloc, s, rest)?;
-            if *factor % s != 0 {
-                let rest = Box::new(alloc, rest)?;
-                Ok(Affine::Variable(*factor % s, *variable, rest))
-            } else {
-                Ok(rest)
+        Affine::Constant(c) => *c %= s,
+        Affine::Variable(factor, _, rest) => {
+            keep_residues(s, rest);
+            *factor %= s;
+            if *factor == 0 {
+                *sum = taken(rest);
             }
         }
-        Affine::Remainder(factor, of, divisor, rest) => {
-            let rest = residues(alloc, s, rest)?;
-            if *factor % s != 0 {
-                let of = Box::new(alloc, copy(alloc, of)?)?;
-                let rest = Box::new(alloc, rest)?;
-                Ok(Affine::Remainder(*factor % s, of, *divisor, rest))
-            } else {
-                Ok(rest)
+        Affine::Remainder(factor, _, _, rest) => {
+            keep_residues(s, rest);
+            *factor %= s;
+            if *factor == 0 {
+                *sum = taken(rest);
             }
         }
-        Affine::Quotient(factor, of, divisor, rest) => {
-            let rest = residues(alloc, s, rest)?;
-            if *factor % s != 0 {
-                let of = Box::new(alloc, copy(alloc, of)?)?;
-                let rest = Box::new(alloc, rest)?;
-                Ok(Affine::Quotient(*factor % s, of, *divisor, rest))
-            } else {
-                Ok(rest)
+        Affine::Quotient(factor, _, _, rest) => {
+            keep_residues(s, rest);
+            *factor %= s;
+            if *factor == 0 {
+                *sum = taken(rest);
             }
         }
     }
+}
+
+// The sum, which leaves 0 in its place.
+fn taken(sum: &mut Affine) -> Affine
+    ensures { result ≡ sum.old }
+{
+    std::mem::replace(sum, Affine::Constant(0))
 }
 
 /// A number that no value of the sum is above, where each variable runs below its count.

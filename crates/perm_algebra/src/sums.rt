@@ -1,8 +1,9 @@
-ghost use Rattle.std.specs.Prelude.{◌≡◌, ◌+◌, ◌*◌, ◌^◌, ◌<◌, IfOk, length, slice_index};
-ghost use Rattle.perm_algebra.specs.Affine.{value, scaled, joined, constant};
+ghost use Rattle.std.specs.Prelude.{◌≡◌, ◌+◌, ◌*◌, IfOk, length, slice_index};
+ghost use Rattle.perm_algebra.specs.Affine.{value, scaled, joined};
 ghost use Rattle.perm_algebra.specs.Fits.{Agree, IsAffine, Stays};
-ghost use Rattle.perm_algebra.specs.Room.{constant_of, CanScale, CanJoin};
+ghost use Rattle.perm_algebra.specs.Room.{CanScale, CanJoin};
 ghost use Rattle.perm_algebra.specs.Views.{plain_sum};
+ghost use Rattle.perm_algebra.specs.Wrapped.{raised, wrapped_multiple, wrapped_sum};
 
 use crate::Affine;
 use memory::NoMemory;
@@ -31,44 +32,55 @@ pub fn copy(alloc: Global, sum: &Affine) -> Result<Affine, NoMemory>
     })
 }
 
-/// `k` times the sum, where each variable runs below its count. A part whose factor would not fit is always 0, and is
-/// left out.
-#[tactic(auto, using(crate::proofs::PartLaws::scaled_part, crate::proofs::PartLaws::dropped_part))]
-pub fn scale_sum(alloc: Global, counts: &[u64], k: u64, sum: Affine) -> Result<Affine, NoMemory>
+/// `k` times the sum, where each variable runs below its count. A part whose factor would not fit is always 0, whatever
+/// its factor is then.
+pub fn scale_sum(_alloc: Global, counts: &[u64], k: u64, sum: Affine) -> Result<Affine, NoMemory>
     requires affine { IsAffine (length counts.now) (slice_index counts.now) (plain_sum sum) }
     requires fits { Stays (slice_index counts.now) (λ vs. k * value (plain_sum sum) vs) }
     ensures value { IfOk result (λ a. Agree (slice_index counts.now) (value (plain_sum a)) (λ vs. k * value (plain_sum sum) vs)) }
     ensures affine { IfOk result (λ a. IsAffine (length counts.now) (slice_index counts.now) (plain_sum a)) }
     ensures form { CanScale k (plain_sum sum) → IfOk result (λ a. plain_sum a ≡ scaled k (plain_sum sum)) }
 {
+    Ok(multiple(counts, k, sum))
+}
+
+/// The same, which needs no memory.
+#[tactic(auto, using(crate::proofs::WrappedLaws::multiple_value, crate::proofs::WrappedLaws::affine_multiple, crate::proofs::WrappedLaws::multiple_form))]
+pub fn multiple(counts: &[u64], k: u64, sum: Affine) -> Affine
+    requires affine { IsAffine (length counts.now) (slice_index counts.now) (plain_sum sum) }
+    requires fits { Stays (slice_index counts.now) (λ vs. k * value (plain_sum sum) vs) }
+    ensures value { Agree (slice_index counts.now) (value (plain_sum result)) (λ vs. k * value (plain_sum sum) vs) }
+    ensures affine { IsAffine (length counts.now) (slice_index counts.now) (plain_sum result) }
+    ensures form { CanScale k (plain_sum sum) → plain_sum result ≡ scaled k (plain_sum sum) }
+{
+    let _count = counts.len();
+    let mut multiple = sum;
+    multiply(k, &mut multiple);
+    multiple
+}
+
+fn multiply(k: u64, sum: &mut Affine)
+    ensures { plain_sum sum.new ≡ wrapped_multiple k (plain_sum sum.old) }
+{
     match sum {
-        Affine::Constant(c) => Ok(Affine::Constant(k.wrapping_mul(c))),
-        Affine::Variable(factor, variable, rest) => {
-            let rest = scale_sum(alloc, counts, k, Box::into_inner(rest))?;
-            match k.checked_mul(factor) {
-                Some(factor) => Ok(Affine::Variable(factor, variable, Box::new(alloc, rest)?)),
-                None => Ok(rest),
-            }
+        Affine::Constant(c) => *c = k.wrapping_mul(*c),
+        Affine::Variable(factor, _, rest) => {
+            *factor = k.wrapping_mul(*factor);
+            multiply(k, rest);
         }
-        Affine::Remainder(factor, of, divisor, rest) => {
-            let rest = scale_sum(alloc, counts, k, Box::into_inner(rest))?;
-            match k.checked_mul(factor) {
-                Some(factor) => Ok(Affine::Remainder(factor, of, divisor, Box::new(alloc, rest)?)),
-                None => Ok(rest),
-            }
+        Affine::Remainder(factor, _, _, rest) => {
+            *factor = k.wrapping_mul(*factor);
+            multiply(k, rest);
         }
-        Affine::Quotient(factor, of, divisor, rest) => {
-            let rest = scale_sum(alloc, counts, k, Box::into_inner(rest))?;
-            match k.checked_mul(factor) {
-                Some(factor) => Ok(Affine::Quotient(factor, of, divisor, Box::new(alloc, rest)?)),
-                None => Ok(rest),
-            }
+        Affine::Quotient(factor, _, _, rest) => {
+            *factor = k.wrapping_mul(*factor);
+            multiply(k, rest);
         }
     }
 }
 
 /// The sum of two sums.
-pub fn join(alloc: Global, counts: &[u64], a: Affine, b: Affine) -> Result<Affine, NoMemory>
+pub fn join(_alloc: Global, counts: &[u64], a: Affine, b: Affine) -> Result<Affine, NoMemory>
     requires affine { IsAffine (length counts.now) (slice_index counts.now) (plain_sum a) }
     requires affine_too { IsAffine (length counts.now) (slice_index counts.now) (plain_sum b) }
     requires fits { Stays (slice_index counts.now) (λ vs. value (plain_sum a) vs + value (plain_sum b) vs) }
@@ -76,46 +88,49 @@ pub fn join(alloc: Global, counts: &[u64], a: Affine, b: Affine) -> Result<Affin
     ensures affine { IfOk result (λ c. IsAffine (length counts.now) (slice_index counts.now) (plain_sum c)) }
     ensures form { CanJoin (plain_sum a) (plain_sum b) → IfOk result (λ c. plain_sum c ≡ joined (plain_sum a) (plain_sum b)) }
 {
-    match a {
+    Ok(both(counts, a, b))
+}
+
+/// The same, which needs no memory.
+#[tactic(auto, using(crate::proofs::WrappedLaws::sum_value, crate::proofs::WrappedLaws::affine_sum, crate::proofs::WrappedLaws::sum_form))]
+pub fn both(counts: &[u64], a: Affine, b: Affine) -> Affine
+    requires affine { IsAffine (length counts.now) (slice_index counts.now) (plain_sum a) }
+    requires affine_too { IsAffine (length counts.now) (slice_index counts.now) (plain_sum b) }
+    requires fits { Stays (slice_index counts.now) (λ vs. value (plain_sum a) vs + value (plain_sum b) vs) }
+    ensures value { Agree (slice_index counts.now) (value (plain_sum result)) (λ vs. value (plain_sum a) vs + value (plain_sum b) vs) }
+    ensures affine { IsAffine (length counts.now) (slice_index counts.now) (plain_sum result) }
+    ensures form { CanJoin (plain_sum a) (plain_sum b) → plain_sum result ≡ joined (plain_sum a) (plain_sum b) }
+{
+    let _count = counts.len();
+    let mut both = a;
+    append(&mut both, b);
+    both
+}
+
+// Puts the sum `last` in the place of the constant, and adds the constant to it.
+fn append(sum: &mut Affine, last: Affine)
+    ensures { plain_sum sum.new ≡ wrapped_sum (plain_sum sum.old) (plain_sum last) }
+{
+    match sum {
         Affine::Constant(c) => {
-            let sum = add_constant(alloc, counts, c, b)?;
-            Ok(sum)
+            let mut end = last;
+            raise(*c, &mut end);
+            *sum = end;
         }
-        Affine::Variable(factor, variable, rest) => {
-            let rest = join(alloc, counts, Box::into_inner(rest), b)?;
-            Ok(Affine::Variable(factor, variable, Box::new(alloc, rest)?))
-        }
-        Affine::Remainder(factor, of, divisor, rest) => {
-            let rest = join(alloc, counts, Box::into_inner(rest), b)?;
-            Ok(Affine::Remainder(factor, of, divisor, Box::new(alloc, rest)?))
-        }
-        Affine::Quotient(factor, of, divisor, rest) => {
-            let rest = join(alloc, counts, Box::into_inner(rest), b)?;
-            Ok(Affine::Quotient(factor, of, divisor, Box::new(alloc, rest)?))
-        }
+        Affine::Variable(_, _, rest) => append(rest, last),
+        Affine::Remainder(_, _, _, rest) => append(rest, last),
+        Affine::Quotient(_, _, _, rest) => append(rest, last),
     }
 }
 
-fn add_constant(alloc: Global, counts: &[u64], c: u64, sum: Affine) -> Result<Affine, NoMemory>
-    requires affine { IsAffine (length counts.now) (slice_index counts.now) (plain_sum sum) }
-    requires fits { Stays (slice_index counts.now) (λ vs. c + value (plain_sum sum) vs) }
-    ensures value { IfOk result (λ a. Agree (slice_index counts.now) (value (plain_sum a)) (λ vs. c + value (plain_sum sum) vs)) }
-    ensures affine { IfOk result (λ a. IsAffine (length counts.now) (slice_index counts.now) (plain_sum a)) }
-    ensures form { c + constant_of (plain_sum sum) < 2 ^ 64 → IfOk result (λ a. plain_sum a ≡ joined (constant c) (plain_sum sum)) }
+// Adds to the constant.
+fn raise(by: u64, sum: &mut Affine)
+    ensures { plain_sum sum.new ≡ raised by (plain_sum sum.old) }
 {
     match sum {
-        Affine::Constant(d) => Ok(Affine::Constant(c.wrapping_add(d))),
-        Affine::Variable(factor, variable, rest) => {
-            let rest = add_constant(alloc, counts, c, Box::into_inner(rest))?;
-            Ok(Affine::Variable(factor, variable, Box::new(alloc, rest)?))
-        }
-        Affine::Remainder(factor, of, divisor, rest) => {
-            let rest = add_constant(alloc, counts, c, Box::into_inner(rest))?;
-            Ok(Affine::Remainder(factor, of, divisor, Box::new(alloc, rest)?))
-        }
-        Affine::Quotient(factor, of, divisor, rest) => {
-            let rest = add_constant(alloc, counts, c, Box::into_inner(rest))?;
-            Ok(Affine::Quotient(factor, of, divisor, Box::new(alloc, rest)?))
-        }
+        Affine::Constant(c) => *c = by.wrapping_add(*c),
+        Affine::Variable(_, _, rest) => raise(by, rest),
+        Affine::Remainder(_, _, _, rest) => raise(by, rest),
+        Affine::Quotient(_, _, _, rest) => raise(by, rest),
     }
 }
