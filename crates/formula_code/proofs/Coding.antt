@@ -1,5 +1,7 @@
 -- A program that performs a formula's passes is its code.
 use Rattle.std.proofs.Common.{◌≡◌, ℕ, ◌^◌, ◌<◌, ◌≤◌, List, [], ◌∷◌, ◌++◌, map, refl, sym, ap, ap₂, ◌∙◌, arith, subst, Vec, Global}
+use Rattle.std.specs.Prelude.{reverse}
+use Rattle.std.proofs.lemmas.List.{reverse-append}
 use Rattle.formula_code.specs.Code.{IsCodeOf}
 use Rattle.formula_lower.specs.Terms.{term_of}
 use Rattle.formula_lower.proofs.Lowers.{lowers}
@@ -16,11 +18,11 @@ use Rattle.joined_copies.specs.Joined.{all_joined}
 use Rattle.joined_copies.proofs.Passes.{joined-order, joined_are_plain}
 use Rattle.pass_actions.specs.Machine.{plain_machine}
 use Rattle.pass_programs.specs.Contract.{CanProgram, Performs}
-use Rattle.passes.specs.Good.{IsGoodTerm}
 use Rattle.passes.specs.Limits.{HasSeveral}
 use Rattle.passes.specs.Merge.{passes_of}
 use Rattle.passes.specs.Merged.{PlainMerged}
 use Rattle.passes.specs.Nest.{PlainNest}
+use Rattle.passes.specs.Sigma.{passes_in_order}
 use Rattle.passes.specs.Views.{plain_nest}
 use Rattle.passes.specs.declared.nest.Nest.{Nest}
 use Rattle.passes.specs.Term.{PlainTerm}
@@ -30,22 +32,23 @@ use Rattle.program_laws.proofs.Plain.{plain-can}
 use Rattle.spl_ast.specs.Formula.{Formula, parts_of, size_of}
 use Rattle.spl_ast.specs.Shape.{IsShaped}
 use Rattle.spl_ast.proofs.Vectors.{shaped_size}
-use Rattle.term_merge.specs.Views as merging
+use Rattle.term_merge.specs.Known.{IsGood}
 
 -- ---- the term of a formula
 
-pub term_good : (m n : ℕ) (f : Formula) (t : PlainTerm) → 2 ≤ m → IsShaped f → n ≡ size_of f → t ≡ term_of m [] f → IsGoodTerm 0 n t
+pub term_good : (m n : ℕ) (f : Formula) (t : PlainTerm) → 2 ≤ m → IsShaped f → n ≡ size_of f → t ≡ term_of m [] f → IsGood n t
 term_good m n f t large shaped size is =
-    subst (λ s. IsGoodTerm 0 n s) (sym is) (subst (λ k. IsGoodTerm 0 k (term_of m [] f)) (sym size) (lowers m [] f (omega (arith, large)) (shaped_size f shaped) shaped).good)
+    let lowered = lowers m [] f (omega (arith, large)) (shaped_size f shaped) shaped in
+    subst (IsGood n) (sym is) (subst (λ k. IsGood k (term_of m [] f)) (sym size) (record { lanes = 0; term = lowered.good }))
 
 pub term_several : (m : ℕ) (f : Formula) (t : PlainTerm) → IsShaped f → t ≡ term_of m [] f → HasSeveral t
 term_several m f t shaped is = subst HasSeveral (sym is) (term-several m [] f tt shaped)
 
 -- ---- passes in one phase
 
-same-order : (ps : List (List PlainNest)) → merging.in_order ps ≡ in_order ps
+same-order : (ps : List (List PlainNest)) → reverse ps ≡ in_order ps
 same-order [] = refl
-same-order (zs ∷ ps) = ap (λ qs. qs ++ zs ∷ []) (same-order ps)
+same-order (zs ∷ ps) = reverse-append (zs ∷ []) ps ∙ ap (λ qs. qs ++ zs ∷ []) (same-order ps)
 
 abbrev in_phase : ℕ → List (List PlainNest) → PlainMerged
 in_phase n ps = record { size = n; procs = 1; lanes = 1; phases = ps ∷ [] }
@@ -54,7 +57,7 @@ in_phase n ps = record { size = n; procs = 1; lanes = 1; phases = ps ∷ [] }
 abbrev pub phases_of : ℕ → List (Vec (Vec Nest Global) Global) → PlainMerged
 phases_of n phases = record { size = n; procs = 1; lanes = 1; phases = map (λ ps. map (λ zs. map plain_nest zs.items) ps.items) phases }
 
-pub one_phase : (m n : ℕ) (f : Formula) (t : PlainTerm) (ps qs : List (List PlainNest)) → n ≡ size_of f → t ≡ term_of m [] f → ps ≡ merging.in_order (passes_of n t) → qs ≡ all_joined ps →
+pub one_phase : (m n : ℕ) (f : Formula) (t : PlainTerm) (ps qs : List (List PlainNest)) → n ≡ size_of f → t ≡ term_of m [] f → ps ≡ passes_in_order n t → qs ≡ all_joined ps →
     in_phase n qs ≡ formula_merged m f
 one_phase m n f t ps qs size is listed joined =
     let order : all_joined ps ≡ in_order (all_joined (passes_of n t)) = ap all_joined (listed ∙ same-order (passes_of n t)) ∙ sym (joined-order (passes_of n t)) in

@@ -56,7 +56,7 @@ diagonal-moves v path (steps.twiddles r s) h = tt
 diagonal-moves v path (thomas_in r s) h = absurd h
 diagonal-moves v path (thomas_out r s) h = absurd h
 
-embed-core : (c : Request) (path : Path) (k : PlainCore) → embed c (lowered_core path k) ≡ core_term c path k
+pub embed-core : (c : Request) (path : Path) (k : PlainCore) → embed c (lowered_core path k) ≡ core_term c path k
 embed-core c path (piece t) = refl
 embed-core c path (turns r s) = refl
 embed-core c path (steps.twiddles r s) = refl
@@ -88,7 +88,7 @@ pub record AreSizes (c : Request) (path : Path) (k : PlainCore) : Type 0 where
   pub high : size_under path (core_size k) ≤ 1048576
   pub low : core_size k ≤ 1048576
 
-sizes-of : (c : Request) (s : PlainStep) → IsValid c → IsGood c s → AreSizes c s.path s.core
+pub sizes-of : (c : Request) (s : PlainStep) → IsValid c → IsGood c s → AreSizes c s.path s.core
 sizes-of c s valid h =
     let size = h.size in
     let d = core_size s.core in

@@ -12,3 +12,9 @@ pub mod SharedTrees
 pub mod Ordered
 pub mod HaveLoops
 pub mod TreesKeep
+pub mod Numbers
+pub mod TightPaths
+pub mod CanMerge
+mod Roomy
+pub mod Sigmas
+pub mod Costs

@@ -11,7 +11,7 @@ use Rattle.rooted_trees.specs.Trees.{single}
 use Rattle.formula_lower.specs.Terms.{one_more, halvings, hadamard_term}
 use Rattle.formula_lower.proofs.Lowers.{halvings-power, power-above}
 use Rattle.formula_lower.proofs.Parts.{grown-one}
-use Rattle.sigma_lower.specs.Room.{HasRoom}
+use Rattle.passes.specs.Room.{HasRoom}
 use Rattle.spl_ast.specs.Formula.{Formula, Stride, Product, TensorLeft, TensorRight, size_of}
 use Rattle.spl_ast.specs.Shape.{IsShaped}
 use Rattle.spl_ast.proofs.Vectors.{size_is_size}

@@ -6,7 +6,7 @@ use Rattle.matrix_meaning.specs.declared.Kind.TheVariants.{Dft, Wht}
 use Rattle.matrix_meaning.specs.declared.Request.{Request}
 use Rattle.matrix_meaning.specs.Valid.{IsValid}
 use Rattle.passes.specs.Loops.{PlainLoop, Looping, begun, looped, InOrder}
-use Rattle.passes.specs.Merge.{is_tile}
+use Rattle.passes.specs.Merge.{is_tile, unbounded}
 use Rattle.passes.specs.Work.{kernel}
 use Rattle.passes.proofs.Listed.{merge_listed}
 use Rattle.rooted_trees.specs.Trees.{single}
@@ -303,7 +303,7 @@ trees_ordered c t valid h = pick-tree c t valid h (is_plain c) refl
 
 all-loops : (c : Request) (phases : List (List PlainTerm)) → AllOrdered c phases → AllLoops c phases
 all-loops c [] h = tt
-all-loops c (ts ∷ more) h = (λ some. merge_listed c.size (phase_term c ts) (record { in_order = h.0.in_order; none_waits = h.0.none_waits; some = some }), all-loops c more h.1)
+all-loops c (ts ∷ more) h = (λ some. merge_listed unbounded c.size (phase_term c ts) (record { in_order = h.0.in_order; none_waits = h.0.none_waits; some = some }) tt, all-loops c more h.1)
 
 -- no copy pass arises
 pub trees_are_loops : TreesAreLoops

@@ -6,6 +6,7 @@ use Rattle.matrix_meaning.specs.declared.Kind.TheVariants.{Dft}
 use Rattle.passes.specs.Limits.{AreSeveral, HasSeveral}
 use Rattle.passes.specs.Term.{nest}
 use Rattle.passes.specs.Work.{kernel, horner}
+use Rattle.passes.proofs.Several.{several-push}
 use Rattle.rooted_trees.specs.Trees.{single}
 use Rattle.formula_lower.specs.Terms.{one_more, halvings, hadamard_term, fourier_term, term_of}
 use Rattle.spl_ast.specs.Formula.{Formula, Identity, Fourier, Hadamard, Twiddles, Diagonal, Stride, Permutation, GoodThomasIn, GoodThomasOut, Product, TensorLeft, TensorRight, DirectSum, Pending}
@@ -15,20 +16,16 @@ use Rattle.tensor_paths.specs.declared.Tensor.TheVariants.{Blocks, Columns}
 use Rattle.tensor_paths.specs.Path.{Path, count_of}
 use Rattle.tree_model.specs.Breakdown.{leaf}
 
-several-append : (path : Path) (t : Tensor) → AreSeveral path → 2 ≤ count_of t → AreSeveral (path ++ t ∷ [])
-several-append [] t h two = (two, tt)
-several-append (u ∷ path) t h two = (h.0, several-append path t h.1 two)
-
 several-more : (path : Path) (t : Tensor) → AreSeveral path → 1 ≤ count_of t → AreSeveral (one_more path t)
 several-more path t h some =
     elim (cases_eq (count_of t) 1) [
       | inl one ↦ let is : one_more path t ≡ path = grind (arith, nat_tests) in subst AreSeveral (sym is) h
-      | inr other ↦ let is : one_more path t ≡ path ++ t ∷ [] = grind (arith, nat_tests) in subst AreSeveral (sym is) (several-append path t h (omega (arith, some, other)))
+      | inr other ↦ let is : one_more path t ≡ path ++ t ∷ [] = grind (arith, nat_tests) in subst AreSeveral (sym is) (several-push path t h (omega (arith, some, other)))
     ]
 
 hadamard-several : (path : Path) (k : ℕ) → AreSeveral path → HasSeveral (hadamard_term path k)
 hadamard-several path zero h = tt
-hadamard-several path (suc k) h = (hadamard-several (path ++ Blocks 2 ∷ []) k (several-append path (Blocks 2) h (omega arith)), (several-more path (Columns (2 ^ k)) h (omega (arith, pow_pos k)), tt))
+hadamard-several path (suc k) h = (hadamard-several (path ++ Blocks 2 ∷ []) k (several-push path (Blocks 2) h (omega arith)), (several-more path (Columns (2 ^ k)) h (omega (arith, pow_pos k)), tt))
 
 fourier-several : (path : Path) (n w : ℕ) → AreSeveral path → HasSeveral (fourier_term path n w)
 fourier-several path n w h =

@@ -103,11 +103,11 @@ phase-blocks d fs = pick-all (d.lanes == 1) (map kept fs) (laned_from d None fs)
 
 -- ---- phases
 
-all-left : (P : PlainFactor → Type 0) (fs gs : List PlainFactor) → All P (fs ++ gs) → All P fs
+pub all-left : (P : PlainFactor → Type 0) (fs gs : List PlainFactor) → All P (fs ++ gs) → All P fs
 all-left P [] gs h = All-nil P
 all-left P (f ∷ fs) gs h = All-cons P f fs (All-head P f (fs ++ gs) h) (all-left P fs gs (All-tail P f (fs ++ gs) h))
 
-all-right : (P : PlainFactor → Type 0) (fs gs : List PlainFactor) → All P (fs ++ gs) → All P gs
+pub all-right : (P : PlainFactor → Type 0) (fs gs : List PlainFactor) → All P (fs ++ gs) → All P gs
 all-right P [] gs h = h
 all-right P (f ∷ fs) gs h = all-right P fs gs (All-tail P f (fs ++ gs) h)
 

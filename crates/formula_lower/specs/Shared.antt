@@ -6,7 +6,7 @@ use Rattle.operators.specs.Operator.{Operator}
 use Rattle.passes.specs.Good.{AreBlocks, AreGoodPasses, IsGoodTerm, IsVector}
 use Rattle.passes.specs.Merge.{Room, passes_within}
 use Rattle.passes.specs.Nest.{passes_on, twiddles}
-use Rattle.passes.specs.Term.{PlainTerm, gath, scat, diag, nest, term_on}
+use Rattle.passes.specs.Term.{PlainTerm, gath, scat, diag, nest, product, term_on}
 use Rattle.passes.specs.Work.{tile}
 use Rattle.formula_lower.specs.Trees.{node_work, in_turn}
 use Rattle.sigma_lower.specs.Good.{IsGood}
@@ -29,6 +29,11 @@ embed c (lowered.nest path (tiling v)) = nest path (tile v)
 -- the terms of a phase
 abbrev pub phase_term : Request → List lowered.PlainTerm → PlainTerm
 phase_term c ts = in_turn (map (embed c) ts)
+
+-- the terms of factors, one after the other, and then this one
+abbrev pub factors_before : Request → ℕ → ℕ → List PlainFactor → PlainTerm → PlainTerm
+factors_before c p v [] t = t
+factors_before c p v (f ∷ fs) t = product (embed c (lowered.factor_term p v f)) (factors_before c p v fs t)
 
 -- tiles stand in blocks
 abbrev pub HasBlocks : PlainFactor → Type 0

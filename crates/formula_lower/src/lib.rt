@@ -1,16 +1,18 @@
-//! Formulas as terms: the same meaning, in as many operations.
+//! Formulas, and trees for processors and lanes, as terms: the same meaning, in as many operations.
 #![tactic(auto)]
 
-mod lower;
+mod formula;
+mod tree;
 
 ghost use Rattle.formula_lower.specs.Compiled.{FormulasCompile};
-ghost use Rattle.formula_lower.specs.Merged.{PhasesHaveLoops, TreesKeep};
+ghost use Rattle.formula_lower.specs.Merged.{PhasesHaveLoops, SigmaCosts, TreesCanMerge, TreesKeep};
 ghost use Rattle.formula_lower.specs.Operations.{LowerCounts};
 ghost use Rattle.formula_lower.specs.Terms.{LowerKeeps};
 ghost use Rattle.formula_lower.specs.Order.{TreesAreLoops, TreesOrdered};
 ghost use Rattle.formula_lower.specs.Shared.{FactorsEmbed, SharedTreesMerge, TreesEmbed};
 
-pub use lower::lower_formula;
+pub use formula::lower_formula;
+pub use tree::lower;
 
 /// The term of a formula does what the formula does: a law of the definitions.
 pub fn lower_keeps()
@@ -60,4 +62,14 @@ pub fn phases_have_loops()
 /// The merged passes of a tree do its transform: a law of the definitions.
 pub fn trees_keep()
     ensures { TreesKeep }
+{}
+
+/// The terms of a tree can be merged: a law of the definitions.
+pub fn trees_can_merge()
+    ensures { TreesCanMerge }
+{}
+
+/// The terms of a tree have as many operations as the tree costs: a law of the definitions.
+pub fn sigma_costs()
+    ensures { SigmaCosts }
 {}

@@ -1,21 +1,17 @@
 -- What is known of a nest of a formula's passes, with places within the limits, lets a program be made of it.
 use Rattle.std.proofs.Common.{◌≡◌, ℕ, zero, suc, ◌-◌, ◌*◌, ◌^◌, ◌<◌, ◌≤◌, true, List, [], ◌∷◌, ◌++◌, All, length, map, refl, sym, arith, subst, Some, inl, inr}
-use Rattle.std.specs.Prelude.{◌&&◌, drop, nat_le, nat_lt, slice_index, slice_index_or, IsTrue}
+use Rattle.std.specs.Prelude.{◌&&◌, drop, nat_le, nat_lt, slice_index, slice_index_or}
 use Rattle.std.specs.List.{list_all}
 use Rattle.std.proofs.Math.Nat.{mul-le-mul, mul-le-mul_left, mul-le-mul_right, pow-succ'}
 use Rattle.std.proofs.Math.Pow.{pow_mono}
 use Rattle.std.proofs.lemmas.Bool.{cases_lt}
 use Rattle.std.proofs.lemmas.Bool.Decides.{nat_tests}
-use Rattle.std.proofs.lemmas.List.Elements.{All-nil, All-cons, All-weaker}
-use Rattle.icode.specs.Limits.{is_expr_within}
+use Rattle.std.proofs.lemmas.List.Elements.{All-nil, All-cons}
 use Rattle.matrix_meaning.specs.declared.Kind.TheVariants.{Dft, Wht}
 use Rattle.pass_actions.specs.Laws.{CanWork}
-use Rattle.pass_actions.specs.Machine.{PlainFrame, plain_machine, frame_of, first_loop, loop_counts}
-use Rattle.pass_programs.specs.Conditions.{AreWithin, CanWrite, CanWriteNest, FitsWord, LoadsAlike, loads_inside, stores_inside}
-use Rattle.pass_programs.specs.Expressions.{expr_of}
-use Rattle.pass_programs.specs.Small.{CanBeCoded, IsFrame}
-use Rattle.pass_programs.proofs.TestedSums.{tested_sums_are_coded}
-use Rattle.pass_programs.proofs.Within.{expressions_are_within}
+use Rattle.pass_actions.specs.Machine.{plain_machine, first_loop, loop_counts}
+use Rattle.pass_programs.specs.Conditions.{CanWriteNest, LoadsAlike}
+use Rattle.pass_programs.proofs.TestedLists.{loads-le, stores-le, sums-written}
 use Rattle.passes.specs.Copies.{loops_of}
 use Rattle.passes.specs.Counts.{copies_in}
 use Rattle.passes.specs.Good.{AreGoodNests, IsGoodNest, NamesItems}
@@ -49,20 +45,6 @@ limited-at : (room n : ℕ) (cs : ℕ → ℕ) (sums : List Sum) (i : ℕ) → l
 limited-at room n cs [] i h within = absurd (omega arith)
 limited-at room n cs (e ∷ es) zero h within = and-left (is_limited room n cs e) _ h
 limited-at room n cs (e ∷ es) (suc i) h within = limited-at room n cs es i (and-right (is_limited room n cs e) _ h) (omega (arith, within))
-
-coded-all : (n : ℕ) (cs : ℕ → ℕ) (sums : List Sum) → n ≤ 2 ^ 20 → list_all (is_limited 64 n cs) sums ≡ true → All (CanBeCoded cs) sums
-coded-all n cs [] high h = All-nil (CanBeCoded cs)
-coded-all n cs (e ∷ es) high h =
-    All-cons (CanBeCoded cs) e es (tested_sums_are_coded 64 n cs e (omega arith) high (and-left (is_limited 64 n cs e) _ h)) (coded-all n cs es high (and-right (is_limited 64 n cs e) _ h))
-
-sums-within : (n : ℕ) (cs : ℕ → ℕ) (f : PlainFrame) (open_loops : ℕ) (sums : List Sum) → IsFrame f → open_loops ≤ 64 → n ≤ 2 ^ 20 → list_all (is_limited 64 n cs) sums ≡ true → AreWithin cs f open_loops sums
-sums-within n cs f open_loops sums frame shallow high h =
-    let all = coded-all n cs sums high h in
-    record {
-      writable = All-weaker (CanBeCoded cs) CanWrite (λ e k. k.writable) sums all;
-      words = All-weaker (CanBeCoded cs) (FitsWord cs) (λ e k. k.fits) sums all;
-      within = All-weaker (CanBeCoded cs) (λ e. IsTrue (is_expr_within (expr_of f open_loops e) open_loops)) (λ e k. expressions_are_within f open_loops e frame shallow k.small) sums all;
-    }
 
 -- a sum within the limits stays below its bound
 value-below : (count : ℕ) (cs : ℕ → ℕ) (sums : List Sum) (i : ℕ) (vs : List ℕ) (w : PlainWork) → NamesItems w sums → list_all (is_limited 64 count cs) sums ≡ true → i < length sums → ((d : ℕ) → slice_index vs d ≤ cs d - 1) → sum_value sums i vs < count
@@ -144,23 +126,6 @@ no-frame n m (horner root d) counts = refl
 no-frame n m (tile v) counts = refl
 no-frame n m (copy d) counts = refl
 
-one-frame : (n m : ℕ) (w : PlainWork) → IsFrame (frame_of (plain_machine n m) w)
-one-frame n m w e = absurd (cc)
-
-inside-le : (w : PlainWork) → loads_inside w ≤ 2
-inside-le (kernel trees) = omega arith
-inside-le (rows root d) = omega arith
-inside-le (horner root d) = omega arith
-inside-le (tile v) = omega arith
-inside-le (copy d) = omega arith
-
-stores-le : (w : PlainWork) → stores_inside w ≤ 2
-stores-le (kernel trees) = omega arith
-stores-le (rows root d) = omega arith
-stores-le (horner root d) = omega arith
-stores-le (tile v) = omega arith
-stores-le (copy d) = omega arith
-
 -- ---- nests
 
 module _ (m n : ℕ) (high : n ≤ 1048576) where
@@ -191,17 +156,16 @@ module _ (m n : ℕ) (high : n ≤ 1048576) where
     writes : CanWriteNest (plain_machine n m) z
     writes =
         let deep = shallow in
-        let more = inside-le z.work in
+        let more = loads-le z.work in
         let after = stores-le z.work in
-        let frame = one-frame n m z.work in
         record {
-          gathers = (made.gathers, sums-within n (limits_of z) (frame_of (plain_machine n m) z.work) _ z.gathers frame (omega (arith, deep, more)) (omega (arith, high)) loads);
-          scatters = (made.scatters, sums-within n (limits_of z) (frame_of (plain_machine n m) z.work) _ z.scatters frame (omega (arith, deep, after)) (omega (arith, high)) stores);
+          gathers = (made.gathers, sums-written 64 n (limits_of z) (plain_machine n m) z.work _ z.gathers (omega (arith, deep, more)) (omega arith) (omega (arith, high)) loads);
+          scatters = (made.scatters, sums-written 64 n (limits_of z) (plain_machine n m) z.work _ z.scatters (omega (arith, deep, after)) (omega arith) (omega (arith, high)) stores);
           multiplier = λ d is.
               let one = diagonal d is in
               let some = one.1.some in
               let few = one.1.few in
-              (one.0, sums-within (factor_count d.factors) (limits_of z) (frame_of (plain_machine n m) z.work) _ d.places frame (omega (arith, deep, after)) (omega (arith, few)) (places d is), some, omega (arith, few));
+              (one.0, sums-written 64 (factor_count d.factors) (limits_of z) (plain_machine n m) z.work _ d.places (omega (arith, deep, after)) (omega arith) (omega (arith, few)) (places d is), some, omega (arith, few));
           alike = alike-as z z.work refl made.work made.alike;
           items = let few = few-items in omega (arith, few);
           shallow = omega (arith, deep);

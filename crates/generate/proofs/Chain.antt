@@ -1,9 +1,10 @@
 -- From a tree to its merged passes, and to a request's.
-use Rattle.std.proofs.Common.{◌≡◌, ℕ, List, ap, ap₂, ◌∙◌, refl, subst, sym}
+use Rattle.std.proofs.Common.{◌≡◌, ℕ, ap, ap₂, ◌∙◌, refl, subst, sym}
 use Rattle.std.specs.Int.{IsGcd}
-use Rattle.formula_lower.specs.Merged.{tree_merged}
+use Rattle.formula_lower.specs.Merged.{sigma_of, tree_merged}
 use Rattle.icode.specs.Plain.{PlainProgram}
 use Rattle.inverse_requests.specs.Inverted.{inverted}
+use Rattle.loop_merge.proofs.LoopLimits.{trees_merge}
 use Rattle.matrix_meaning.specs.declared.Direction.{Direction}
 use Rattle.matrix_meaning.specs.declared.Direction.TheVariants.{Forward, Inverse}
 use Rattle.matrix_meaning.specs.declared.Request.{Request}
@@ -14,17 +15,18 @@ use Rattle.multiplied_passes.specs.declared.Pick.TheVariants.{First}
 use Rattle.pass_programs.specs.Contract.{CanProgram, Performs}
 use Rattle.passes.specs.Merged.{PlainMerged}
 use Rattle.passes.specs.Nest.{repeated}
+use Rattle.passes.specs.Sigma.{PlainSigma, merged_of}
 use Rattle.program_emit.specs.Conditions.{machine_for}
 use Rattle.request_passes.specs.Merged.{directed_merged, division_by_size, inverse_merged, request_merged}
 use Rattle.request_passes.proofs.Requests.{requests_can_program}
 use Rattle.ring_mod.specs.Inverse.{inverse_mod}
-use Rattle.sigma_lower.specs.Lowered.{sigma_of, sigmas_of}
-use Rattle.sigma_spl.specs.Plain.{PlainSigma}
 use Rattle.smp_rewrite.specs.Cut.{smp_of}
 use Rattle.smp_rewrite.specs.Smp.{PlainSmp}
 use Rattle.tree_model.specs.Admissible.{IsAdmissible}
 use Rattle.tree_model.specs.Breakdown.{Breakdown}
 use Rattle.tree_passes.specs.Laws.{machine_of}
+use Rattle.tree_passes.specs.Merged.{IsMergedTree}
+use Rattle.tree_passes.proofs.Merged.{trees_are_merged}
 use Rattle.vec_rewrite.specs.Turning.{vec_of}
 use Rattle.vec_rewrite.specs.Vectors.{PlainVec}
 
@@ -32,10 +34,15 @@ use Rattle.vec_rewrite.specs.Vectors.{PlainVec}
 pub vectors_are : (c : Request) (t : Breakdown) (blocks : PlainSmp) (vectors : PlainVec) → blocks ≡ smp_of c t → vectors ≡ vec_of c blocks → vectors ≡ vec_of c (smp_of c t)
 vectors_are c t blocks vectors dealt turned = turned ∙ ap (vec_of c) dealt
 
--- and so are the formulas with loops that are handed on
-pub loops_are : (c : Request) (t : Breakdown) (blocks : PlainSmp) (vectors : PlainVec) (loops given : List PlainSigma) → blocks ≡ smp_of c t → vectors ≡ vec_of c blocks → loops ≡ sigmas_of c vectors → given ≡ loops →
-    given ≡ sigma_of c t
-loops_are c t blocks vectors loops given dealt turned lowered handed = handed ∙ lowered ∙ ap (sigmas_of c) (vectors_are c t blocks vectors dealt turned)
+-- and so are its terms, which are merged into its passes
+pub tree-merges : (c : Request) (t : Breakdown) (blocks : PlainSmp) (vectors : PlainVec) (sigma : PlainSigma) (merged : PlainMerged) → IsValid c → IsAdmissible c t →
+    blocks ≡ smp_of c t → vectors ≡ vec_of c blocks → sigma ≡ sigma_of c vectors → merged ≡ merged_of sigma → merged ≡ tree_merged c t
+tree-merges c t blocks vectors sigma merged valid h dealt turned lowered made =
+    made ∙ ap merged_of (lowered ∙ ap (sigma_of c) (vectors_are c t blocks vectors dealt turned)) ∙ trees_merge c t valid h
+
+-- so all that holds of a tree's passes holds of them
+pub tree-holds : (c : Request) (t : Breakdown) (merged : PlainMerged) → IsValid c → IsAdmissible c t → merged ≡ tree_merged c t → IsMergedTree c t merged
+tree-holds c t merged valid h same = subst (IsMergedTree c t) (sym same) (trees_are_merged c t valid h)
 
 -- the machine of a request's passes is the request's
 host-is : (r : Request) (t : Breakdown) → machine_of r ≡ machine_for r.modulus r.line (request_merged r t)

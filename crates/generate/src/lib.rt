@@ -14,13 +14,14 @@ ghost use Rattle.tree_model.specs.Admissible.{IsAdmissible};
 ghost use Rattle.tree_model.specs.Breakdown.{breakdown_of};
 ghost use Rattle.tree_model.specs.Cost.{whole_cost};
 ghost use Rattle.tree_passes.specs.Laws.{machine_of};
+ghost use Rattle.tree_passes.specs.Merged.{IsMergedTree};
 ghost use Rattle.generate.specs.Good.{IsGood, IsLean};
 ghost use Rattle.generate.specs.Planned.{IsPlanned, IsAdmitted, IsBarred, IsRooted, has_root, root_power};
 ghost use Rattle.plan_faults.specs.declared.generating.GenerateFault.TheVariants as fault;
 
+use formula_lower::lower;
 use icode::program::Program;
 use inverse_requests::inverted;
-use loop_merge::merge;
 use matrix_meaning::{Direction, Kind, Request};
 use memory::NoMemory;
 use multiplied_passes::{Pick, multiply_last};
@@ -29,9 +30,9 @@ use plan_faults::GenerateFault;
 use plan_search::{Plan, best};
 use program_emit::emit_on;
 use ring_mod::Modulus;
-use sigma_lower::lower;
 use smp_rewrite::to_smp;
 use std::alloc::Global;
+use term_merge::merge;
 use tree_model::{Ctx, Tree, divides, extra_cost};
 use vec_rewrite::to_vec;
 
@@ -178,16 +179,19 @@ fn merge_inverse(alloc: Global, c: &Ctx, tree: &Tree) -> Result<Merged, NoMemory
     Ok(merged)
 }
 
-/// The merged passes of a tree: its products of tensors, cut for processors and lanes, become loops, and the loops are
+/// The merged passes of a tree: its products of tensors, cut for processors and lanes, become terms, and the terms are
 /// merged.
 pub fn merge_tree(alloc: Global, c: &Ctx, tree: &Tree) -> Result<Merged, NoMemory>
     requires { IsAdmissible c.now (breakdown_of tree.now) }
-    ensures { IfOk result (λ merged.
+    ensures merged { IfOk result (λ merged.
         plain_merged merged ≡ tree_merged c.now (breakdown_of tree.now)) }
+    ensures tree { IfOk result (λ merged.
+        IsMergedTree c.now (breakdown_of tree.now) (plain_merged merged)) }
 {
+    let _request = c.request();
     let blocks = to_smp(alloc, c, tree)?;
     let vectors = to_vec(alloc, c, blocks)?;
-    let loops = lower(alloc, c, &vectors)?;
-    let merged = merge(alloc, c, &loops)?;
+    let sigma = lower(alloc, c, vectors)?;
+    let merged = merge(alloc, sigma)?;
     Ok(merged)
 }

@@ -16,8 +16,7 @@ use Rattle.passes.specs.Merge.{limits_of}
 use Rattle.passes.specs.Nest.{PlainNest, load_place}
 use Rattle.passes.specs.Work.{kernel}
 use Rattle.rooted_trees.specs.Trees.{PlainTrees, trees_size}
-use Rattle.shared_tensors.proofs.Written as written
-use Rattle.shared_tensors.proofs.Written.{sums-written}
+use Rattle.pass_programs.proofs.TestedLists.{sums-written}
 
 -- the only lane is the first
 only-lane : (f : ℕ → ℕ) (lane : ℕ) → lane < 1 → f lane ≡ f 0 + lane
@@ -67,7 +66,7 @@ module _ (h : PlainMachine) (trees : PlainTrees) (host : IsHost h) (one_proc : h
       let high : h.size ≤ 2 ^ 20 = (let most = host.size.1 in omega (arith, most)) in
       let none = ap length no-loops in (
         good.nests.0.gathers,
-        sums-written 64 h.size (limits_of z) (frame_of h (kernel trees)) (length (loop_counts h z) + 0) (all_items trees) (written.frame-of h (kernel trees)) (omega (arith, none)) (omega arith) high
+        sums-written 64 h.size (limits_of z) h (kernel trees) (length (loop_counts h z) + 0) (all_items trees) (omega (arith, none)) (omega arith) high
             (items-limited 64 h.size (limits_of z) trees high size),
       )
 

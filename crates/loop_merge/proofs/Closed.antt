@@ -4,13 +4,8 @@ use Rattle.std.specs.Prelude.{Some}
 use Rattle.index_fn.specs.Mapping.{Mapping, Strided, ThomasIn, ThomasBack, at, IsDefinedAt}
 use Rattle.matrix_meaning.specs.declared.Request.{Request}
 use Rattle.operators.proofs.Lists.{factor_positive}
-use Rattle.perm_algebra.specs.Affine.{Sum, value, IsSound, simplified}
-use Rattle.perm_algebra.specs.Fits.{InRange}
-use Rattle.perm_algebra.proofs.PartLaws.{in_range_at}
-use Rattle.perm_algebra.proofs.Values.{simplifies}
 use Rattle.loop_merge.specs.Merge.{PlainDiagonal, PlainPass, new_pass, scattered, multiplied, at_last}
 use Rattle.loop_merge.specs.Placed.{diagonal_places}
-use Rattle.loop_merge.specs.Reach.{AreDefined, AreFormed}
 use Rattle.loop_merge.proofs.PlaceLimits.{none_is_some, multiplied-is}
 use Rattle.loop_merge.proofs.PartRules.{IsSize, IsRuleIn, rule_in, coprime_in}
 use Rattle.loop_merge.proofs.TreePasses.{rule_waiting, rule_passes, tree_passes}
@@ -134,13 +129,3 @@ closed_passes c size path waiting (node rule a b) whole h e w =
     (passes_rule c size rule path r s _ _ here
     (closed_passes c size (path ++ Columns s ∷ []) [] a whole h.1 (size_under-push path (Columns s) r ∙ e) tt)
     (closed_passes c size (path ++ Blocks r ∷ []) (rule_waiting rule path r s waiting) b whole h.2 (size_under-push path (Blocks r) s ∙ e) (waiting_closed c size rule path r s waiting here w)))
-
--- ---- one function after the other, at a sum below n
-
-pub defined-all : (n : ℕ) (cs : ℕ → ℕ) (fs : List Mapping) (e : Sum) → AreFormed fs → AreClosed n fs → IsSound e → ((vs : ℕ → ℕ) → InRange cs vs → value e vs < n) → AreDefined cs fs e
-defined-all n cs [] e formed closed sound below = tt
-defined-all n cs (f ∷ fs) e formed closed sound below = (
-  λ vs range. closed.0.defined (value e vs) (below vs range),
-  defined-all n cs fs (simplified cs f e) formed.1 closed.1 (simplifies cs (λ _. 0) f e formed.0.formed formed.0.no_list sound (λ d. omega arith)).sound
-      (λ vs range. rw (simplifies cs vs f e formed.0.formed formed.0.no_list sound (λ d. in_range_at cs vs d range)).value_is (closed.0.below (value e vs) (below vs range))),
-)

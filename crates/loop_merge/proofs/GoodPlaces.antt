@@ -1,15 +1,13 @@
 -- What holds of the places of a tree's passes: they are within the limits, of functions that are well formed and permute the whole, and their copies fill it.
-use Rattle.std.proofs.Common.{◌≡◌, ◌≤◌, true, false, List, [], sym, subst}
+use Rattle.std.proofs.Common.{◌≡◌, true, List, [], sym, subst}
 use Rattle.matrix_meaning.specs.declared.Request.{Request}
 use Rattle.matrix_meaning.specs.Valid.{IsValid}
 use Rattle.loop_merge.specs.Merge.{PlainPass, merged_of}
 use Rattle.loop_merge.specs.Placed.{AllLimited}
-use Rattle.loop_merge.specs.Reach.{AreReachable}
 use Rattle.loop_merge.proofs.Closed.{AreClosedPasses, closed_passes}
 use Rattle.loop_merge.proofs.PartRules.{IsSize}
 use Rattle.loop_merge.proofs.PlaceLimits.{size_in, tree_limited}
 use Rattle.loop_merge.proofs.PlaceValues.{AreFormedPasses, formed_passes}
-use Rattle.loop_merge.proofs.Reaching.{all_reachable}
 use Rattle.loop_merge.proofs.Shaped.{AreShaped, shaped_passes}
 use Rattle.loop_merge.proofs.TreePasses.{tree_passes}
 use Rattle.loop_merge.proofs.Wholes.{plain_passes}
@@ -22,9 +20,6 @@ pub record HaveGoodPlaces (c : Request) (ps : List PlainPass) : Type 0 where
   pub formed : AreFormedPasses ps
   pub closed : AreClosedPasses c.size ps
   pub shaped : AreShaped c c.size ps
-
-pub good_reaches : (c : Request) (ps : List PlainPass) → IsValid c → (is_plain c ≡ false → 2 ≤ c.size) → HaveGoodPlaces c ps → AreReachable c ps
-good_reaches c ps valid shared h = all_reachable c ps valid shared h.shaped h.formed h.closed h.limited
 
 -- on one processor and one lane
 pub tree_good : (c : Request) (t : Breakdown) → IsValid c → IsAdmissible c t → HaveGoodPlaces c (tree_passes c [] [] t)

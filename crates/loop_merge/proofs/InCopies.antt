@@ -1,13 +1,13 @@
 -- Places in copies that any sums name: a natural place is one where the loops' variables name the copy.
 use Rattle.std.proofs.Common.{◌≡◌, ℕ, ◌+◌, ◌*◌, ◌<◌, ◌≤◌, arith, refl, sym, ap, ◌∙◌, List, [], ◌∷◌, subst, le-mul_of_pos_right}
 use Rattle.index_fn.specs.Mapping.{Mapping}
-use Rattle.perm_algebra.specs.Affine.{Fits, Sum, constant, variable, top, scaled, joined, Divided, simplified}
+use Rattle.perm_algebra.specs.Affine.{Sum, constant, variable, top, scaled, joined, Divided, simplified}
 use Rattle.perm_algebra.specs.Room.{CanScale, CanJoin, HasRoomFor}
 use Rattle.perm_algebra.proofs.AffineLaws.{top-scaled}
 use Rattle.perm_algebra.proofs.Shape.{divided-joined}
 use Rattle.perm_algebra.proofs.Sizes.{positive-product}
 use Rattle.sigma_lower.specs.Wrapped.{wrapped}
-use Rattle.loop_merge.specs.Placed.{place_sum, AreCounts}
+use Rattle.loop_merge.specs.Placed.{Fits, place_sum, AreCounts}
 use Rattle.loop_merge.proofs.PlaceRoom.{can_scale, can_join, can_divide, le-mul_left, scaled-top}
 use Rattle.loop_merge.proofs.PlaceSums.{parts-fit, variable-fits}
 use Rattle.tensor_paths.specs.declared.Tensor.TheVariants.{Blocks, Columns}

@@ -1,12 +1,12 @@
 -- The item of its copy that stands at a natural place.
 use Rattle.std.proofs.Common.{◌≡◌, ℕ, ◌+◌, ◌*◌, ◌<◌, ◌≤◌, arith, refl, sym, ap, ◌∙◌, [], ◌∷◌, subst, le-mul_of_pos_right}
-use Rattle.perm_algebra.specs.Affine.{Fits, Sum, constant, variable, scaled, joined, Divided, simplified}
+use Rattle.perm_algebra.specs.Affine.{Sum, constant, variable, scaled, joined, Divided, simplified}
 use Rattle.perm_algebra.specs.Room.{CanScale, CanJoin, HasRoomFor}
 use Rattle.perm_algebra.proofs.AffineLaws.{top-scaled}
 use Rattle.perm_algebra.proofs.Shape.{divided-joined, joined-zero}
 use Rattle.perm_algebra.proofs.Sizes.{joined-end, scaled-one}
 use Rattle.sigma_lower.specs.Wrapped.{inner_of}
-use Rattle.loop_merge.specs.Placed.{place_sum, AreCounts}
+use Rattle.loop_merge.specs.Placed.{Fits, place_sum, AreCounts}
 use Rattle.loop_merge.proofs.PlaceRoom.{can_divide, can_join, can_scale, le-mul_left}
 use Rattle.loop_merge.proofs.PlaceSums.{place_sum-fits, size-positive, variable-fits}
 use Rattle.tensor_paths.specs.declared.Tensor.TheVariants.{Blocks, Columns}

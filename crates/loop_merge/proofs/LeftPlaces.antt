@@ -1,30 +1,28 @@
 -- The places of the left part of a shared root: those of the part alone, in the copies that processors, lanes and loops name.
-use Rattle.std.proofs.Common.{◌≡◌, ℕ, ◌+◌, ◌*◌, ◌/◌, ◌^◌, ◌<◌, ◌≤◌, arith, refl, sym, ap, ap₂, ◌∙◌, List, [], ◌∷◌, ◌++◌, length, if◌then◌else◌, subst, mul_comm}
+use Rattle.std.proofs.Common.{◌≡◌, ℕ, ◌+◌, ◌*◌, ◌/◌, ◌<◌, ◌≤◌, arith, refl, sym, ap, ap₂, ◌∙◌, List, [], ◌∷◌, ◌++◌, length, if◌then◌else◌, subst, mul_comm}
 use Rattle.std.specs.Prelude.{◌==◌, map, Option, None, Some}
 use Rattle.std.specs.Option.{option_map}
-use Rattle.std.proofs.Math.Nat.{mul-le-mul_left}
-use Rattle.std.proofs.lemmas.Nat.{pow-add}
 use Rattle.index_fn.specs.Mapping.{Mapping}
 use Rattle.matrix_meaning.specs.declared.Request.{Request}
-use Rattle.perm_algebra.specs.Affine.{Fits, Sum, constant, variable, levels, parts, scaled, joined, Divided, simplified}
+use Rattle.passes.specs.Limits.{AreSeveral}
+use Rattle.perm_algebra.specs.Affine.{Sum, constant, variable, scaled, joined, Divided, simplified}
 use Rattle.perm_algebra.specs.Room.{CanScale, CanJoin, HasRoomFor}
 use Rattle.perm_algebra.proofs.AffineLaws.{top-scaled}
 use Rattle.perm_algebra.proofs.Shape.{divided-joined}
-use Rattle.perm_algebra.proofs.Sizes.{joined-end, scaled-one, levels-scaled, levels-joined, parts-scaled, parts-joined}
+use Rattle.perm_algebra.proofs.Sizes.{joined-end, scaled-one}
 use Rattle.loop_merge.specs.Merge.{PlainDiagonal, PlainPass}
-use Rattle.loop_merge.specs.Placed.{AllRoom, place_sum, AreCounts, all_simplified, diagonal_places, IsWithinLimits, IsLimitedPass}
+use Rattle.loop_merge.specs.Placed.{Fits, IsCarried, place_sum, AreCounts, all_simplified, diagonal_places, IsLimitedPass}
 use Rattle.loop_merge.proofs.InCopies.{placed, AreCopies, placed-fits}
 use Rattle.loop_merge.proofs.LineMoves.{LeadsTo, AreThree, leads-none, leads-step, leads-join, leads-same, dealt-leads}
 use Rattle.loop_merge.proofs.Moved.{placed-columns}
-use Rattle.loop_merge.proofs.PlaceLimits.{Carries, Multiplying, IsPlacedPass, none_is_some, counts-positive, exponent_small, limited-by}
+use Rattle.loop_merge.proofs.PlaceLimits.{IsMultiplied, IsPlacedPass}
 use Rattle.loop_merge.proofs.PlaceRoom.{can_scale, can_join, can_divide}
-use Rattle.loop_merge.proofs.PlaceSums.{parts-fit, size-positive, all_simplified-append}
-use Rattle.loop_merge.proofs.RightPlaces.{wide-all, weight-wide}
+use Rattle.loop_merge.proofs.PlaceSums.{parts-fit, size-positive}
+use Rattle.loop_merge.proofs.RightPlaces.{wide-all}
 use Rattle.loop_merge.proofs.RootPasses.{on_all, if_dealt, left_diagonal, left_pass}
 use Rattle.loop_merge.proofs.RootShares.{AreShares, columns_some, tiles_are, tiles_fill, dealt_small, columns_high, rows_high}
-use Rattle.loop_merge.proofs.Shaped.{IsWide}
-use Rattle.loop_merge.proofs.Staying.{StaysIn, stays-begin, stays-end, stays-room, all_room-append}
-use Rattle.loop_merge.proofs.WithinPlaces.{size-all, simplified-within, room-within, natural-placed, natural-copies, parts_in, AreFlat, parts-placed, levels-placed, parts-from, flat-from}
+use Rattle.loop_merge.proofs.Staying.{StaysIn, stays-begin, carried-end, carried-push}
+use Rattle.loop_merge.proofs.WithinPlaces.{size-all, simplified-within, room-within, natural-placed, natural-copies}
 use Rattle.sigma_lower.specs.Root.{left_path}
 use Rattle.sigma_lower.specs.Work.{work_size}
 use Rattle.sigma_lower.specs.Wrapped.{inner_of}
@@ -36,9 +34,6 @@ use Rattle.tensor_paths.specs.Path.{Path, grown, size_under}
 pub size_under-append : (path more : Path) (n : ℕ) → size_under (path ++ more) n ≡ size_under path (size_under more n)
 size_under-append [] more n = refl
 size_under-append (t ∷ path) more n = ap (grown t) (size_under-append path more n)
-
-flat-joined : (k : ℕ) (q j : Sum) → levels q ≡ 0 → levels j ≡ 0 → levels (joined (scaled k q) j) ≡ 0
-flat-joined k q j one other = omega (arith, levels-joined (scaled k q) j 0 (omega (arith, levels-scaled k q, one)) (omega (arith, other)))
 
 pub place_sum-append : (path more : Path) (n d : ℕ) (e : Sum) → place_sum (path ++ more) n d e ≡ place_sum path (size_under more n) d (place_sum more n (d + length path) e)
 place_sum-append [] more n d e = ap (λ i. place_sum more n i e) (omega arith)
@@ -57,12 +52,12 @@ counts-append (Columns c ∷ path) more n d cs h =
 
 -- ---- diagonals
 
-some-is : (a b : PlainDiagonal) → ◌≡◌ {A = Option PlainDiagonal} (Some a) (Some b) → a ≡ b
+some-is : {A : Type 0} (a b : A) → ◌≡◌ {A = Option A} (Some a) (Some b) → a ≡ b
 some-is a b e = cc
 
--- what is mapped to a diagonal is one
-pub mapped-some : (f : PlainDiagonal → PlainDiagonal) (o : Option PlainDiagonal) (x : PlainDiagonal) → option_map f o ≡ Some x → (d : PlainDiagonal) × (o ≡ Some d) × (f d ≡ x)
-mapped-some f None x e = absurd (none_is_some x e)
+-- what is mapped to something is something
+pub mapped-some : {A B : Type 0} (f : A → B) (o : Option A) (x : B) → option_map f o ≡ Some x → (d : A) × (o ≡ Some d) × (f d ≡ x)
+mapped-some f None x e = absurd (cc)
 mapped-some f (Some d) x e = (d, refl, some-is (f d) x e)
 
 -- ---- a pass of the part alone, in all copies
@@ -80,7 +75,7 @@ module _ (size p v m s : ℕ) (h : AreShares size p v m s) where
   pub left_fills : size_under (left_path p v s) m ≡ size
   left_fills = size-all three m ∙ left_whole
 
-  pub left_wide : IsWide (left_path p v s)
+  pub left_wide : AreSeveral (left_path p v s)
   left_wide = wide-all three (h.procs, (h.lanes, (columns_some size p v m s h, tt)))
 
   whole_fills : size_under whole m ≡ size
@@ -91,8 +86,6 @@ module _ (size p v m s : ℕ) (h : AreShares size p v m s) where
     pub lane : Sum
     pub column : Sum
     pub copies : AreCopies whole (lane ∷ column ∷ []) cs
-    pub flat : AreFlat (lane ∷ column ∷ [])
-    pub few : parts_in (lane ∷ column ∷ []) ≤ length (left_path p v s)
     pub dealt : (k : ℕ) (e : Sum) → k ≡ p * m → Fits m e cs → LeadsTo cs size (if_dealt k p v m s) (place_sum (left_path p v s) m d e) (placed whole m (lane ∷ column ∷ []) e)
 
   pub spread : (cs : ℕ → ℕ) (d : ℕ) → AreCounts (left_path p v s) m d cs → Spread cs d
@@ -104,7 +97,6 @@ module _ (size p v m s : ℕ) (h : AreShares size p v m s) where
       let d2 : ℕ = if v == 1 then d1 else d1 + 1 in
       let j : Sum = if k == 1 then constant 0 else variable 1 d2 (constant 0) in
       let named = natural-copies three m d cs counts in
-      let flat = flat-from three d in
       let both : AreThree cs p v k q l j = record { processor = named.0; lane = named.1.0; other = named.1.1.0 } in
       let column : Sum = joined (scaled k q) j in
       let fits : Fits (s / v) column cs = subst (λ i. Fits i column cs) (sym (tiles_are size p v m s h ∙ mul_comm k p)) (parts-fit p k q j cs (columns_some size p v m s h) named.0 named.1.1.0) in
@@ -112,8 +104,6 @@ module _ (size p v m s : ℕ) (h : AreShares size p v m s) where
         lane = l;
         column = column;
         copies = (named.1.0, (fits, tt));
-        flat = (flat.1.0, (flat-joined k q j flat.0 flat.1.1.0, tt));
-        few = omega (arith, parts-from three d, parts-joined (scaled k q) j, parts-scaled k q);
         dealt = λ i e is inside.
             leads-same cs size (if_dealt i p v m s) (place_sum (left_path p v s) m d e) _ _ (natural-placed three m d e)
             (subst (LeadsTo cs size (if_dealt i p v m s) (placed three m (q ∷ l ∷ j ∷ []) e))
@@ -146,25 +136,6 @@ module _ (size p v m s : ℕ) (h : AreShares size p v m s) where
 
   -- ---- within the limits
 
-  -- tensors of the root and k more within the part double the words k and as often as there are tensors
-  weights : (k n : ℕ) → 2 ^ k * n ≤ m → 2 ^ (length (left_path p v s) + k) * n ≤ size
-  weights k n inner =
-      let a : ℕ = 2 ^ length (left_path p v s) in
-      let outer : a * m ≤ size = omega (arith, weight-wide (left_path p v s) m left_wide, left_fills) in
-      let more : a * (2 ^ k * n) ≤ a * m = mul-le-mul_left a inner in
-      subst (λ w. w * n ≤ size) (sym (pow-add 2 (length (left_path p v s)) k)) (omega (arith, outer, more))
-
-  -- sums of the part within the limits are so in all copies
-  limited-whole : (cs : ℕ → ℕ) (sp : Spread cs 0) (e g y : Sum) (k n : ℕ) → 0 < n → 2 ^ k * n ≤ m → g ≡ placed whole m (sp.lane ∷ sp.column ∷ []) y → Fits size g cs → levels y ≤ levels e + k → parts y ≤ parts e + 2 * k → IsWithinLimits cs size e g
-  limited-whole cs sp e g y k n positive weight is fits deep long =
-      let us : List Sum = sp.lane ∷ sp.column ∷ [] in
-      let small : length (left_path p v s) + k ≤ 20 = exponent_small (length (left_path p v s) + k) n size positive (weights k n weight) h.whole.high in
-      record {
-        fits = fits;
-        levels = omega (arith, ap levels is, levels-placed whole m us y sp.flat, deep, small);
-        parts = omega (arith, ap parts is, parts-placed whole m us y, sp.few, long, small);
-      }
-
   -- the item of its copy, at the place in all copies
   inner-whole : (cs : ℕ → ℕ) (sp : Spread cs 0) (path : Path) (n : ℕ) (y : Sum) → Fits m y cs → n ≤ 1048576 → HasRoomFor cs (inner_of path n) y → Fits n (simplified cs (inner_of path n) y) cs →
       (simplified cs (inner_of (Columns s ∷ path) n) (placed whole m (sp.lane ∷ sp.column ∷ []) y) ≡ simplified cs (inner_of path n) y) × HasRoomFor cs (inner_of (Columns s ∷ path) n) (placed whole m (sp.lane ∷ sp.column ∷ []) y)
@@ -190,30 +161,18 @@ module _ (size p v m s : ℕ) (h : AreShares size p v m s) where
       )
 
   -- the places of a diagonal within the part are those in all copies
-  left_multiplied : (cs : ℕ → ℕ) (sp : Spread cs 0) (q : PlainPass) (e : Sum) (o : PlainDiagonal) → size_under q.path (work_size q.work) ≡ m → AreCounts q.path (work_size q.work) (0 + length (left_path p v s)) cs → Fits (work_size q.work) e cs →
-      Multiplying m q o → o.rows * o.cols ≤ m →
-      IsWithinLimits cs (o.rows * o.cols) e (all_simplified cs (diagonal_places (left_diagonal p v m s o)) (place_sum (left_path p v s ++ q.path) (work_size q.work) 0 e))
-      × AllRoom cs (diagonal_places (left_diagonal p v m s o)) (place_sum (left_path p v s ++ q.path) (work_size q.work) 0 e)
-  left_multiplied cs sp q e o fills counts fits part within =
+  left_multiplied : (cs : ℕ → ℕ) (sp : Spread cs 0) (q : PlainPass) (e : Sum) (o : PlainDiagonal) → size_under q.path (work_size q.work) ≡ m → IsMultiplied cs m q o (0 + length (left_path p v s)) e → o.rows * o.cols ≤ m →
+      IsCarried cs size (o.rows * o.cols) (diagonal_places (left_diagonal p v m s o)) (place_sum (left_path p v s ++ q.path) (work_size q.work) 0 e)
+  left_multiplied cs sp q e o fills part within =
       let n : ℕ = work_size q.work in
-      let d : ℕ = 0 + length (left_path p v s) in
       let rc : ℕ = o.rows * o.cols in
       let from : Sum = place_sum (left_path p v s ++ q.path) n 0 e in
-      let inner : Sum = place_sum q.path n d e in
-      let y : Sum = all_simplified cs o.places inner in
-      let z : Sum = simplified cs (inner_of o.path rc) y in
+      let inner : Sum = place_sum q.path n (0 + length (left_path p v s)) e in
       let places : List Mapping = if_dealt (m * p) p v m s ++ map (on_all v m s) o.places in
       let item : Mapping = inner_of (Columns s ∷ o.path) rc in
-      let stays = part.stays cs d e counts fits in
-      let lead = part-leads cs q.path o.places n (m * p) e sp fills (mul_comm m p) stays in
-      let carried : Carries cs rc e z part.exponent = subst (λ g. Carries cs rc e g part.exponent) (all_simplified-append cs o.places (inner_of o.path rc) inner) (part.carries cs d e counts fits) in
-      let high : rc ≤ 1048576 = omega (arith, within, rows_high size p v m s h) in
-      let at_item = inner-whole cs sp o.path rc y (stays-end cs m o.places inner stays) high (part.room cs d e counts fits) carried.fits in
-      let is : all_simplified cs (places ++ item ∷ []) from ≡ z = all_simplified-append cs places item from ∙ ap (simplified cs item) lead.is ∙ at_item.0 in
-      let small : part.exponent ≤ 20 = exponent_small part.exponent n rc (counts-positive q.path n d cs counts) part.weight high in (
-        limited-by cs rc e (all_simplified cs (places ++ item ∷ []) from) z part.exponent small is carried,
-        all_room-append cs places item from (stays-room cs size places from lead.stays) (subst (HasRoomFor cs item) (sym lead.is) at_item.1),
-      )
+      let lead = part-leads cs q.path o.places n (m * p) e sp fills (mul_comm m p) part.stays in
+      let at_item = inner-whole cs sp o.path rc (all_simplified cs o.places inner) (carried-end cs m m o.places inner part.stays) (omega (arith, within, rows_high size p v m s h)) part.room part.fits in
+      carried-push cs size rc places item from lead.stays (subst (HasRoomFor cs item) (sym lead.is) at_item.1) (subst (λ g. Fits rc g cs) (sym (ap (simplified cs item) lead.is ∙ at_item.0)) part.fits)
 
   -- a pass of the part alone within the limits is so in all copies
   pub left_limited : (c : Request) (q : PlainPass) → c.size ≡ size → size_under q.path (work_size q.work) ≡ m → IsPlacedPass m [] m q → IsLimitedPass c (left_pass p v m s q)
@@ -222,31 +181,15 @@ module _ (size p v m s : ℕ) (h : AreShares size p v m s) where
       let d : ℕ = 0 + length (left_path p v s) in
       let split = counts-append (left_path p v s) q.path n 0 cs counts in
       let sp : Spread cs 0 = spread cs 0 (subst (λ i. AreCounts (left_path p v s) i 0 cs) fills split.0) in
-      let positive : 0 < n = counts-positive q.path n d cs split.1 in
       let from : Sum = place_sum (left_path p v s ++ q.path) n 0 e in
-      let inner : Sum = place_sum q.path n d e in
-      let gather_stays = placed_part.gathers.stays cs d e split.1 fits in
-      let scatter_stays = placed_part.scatters.stays cs d e split.1 fits in
-      let gathered = part-leads cs q.path q.befores n (p * m) e sp fills refl gather_stays in
-      let stored = part-leads cs q.path q.afters n (m * p) e sp fills (mul_comm m p) scatter_stays in
-      let carried = placed_part.gathers.carries cs d e split.1 fits in
-      let there = placed_part.scatters.placed cs d e split.1 fits in
       let befores : List Mapping = if_dealt (p * m) p v m s ++ map (on_all v m s) q.befores in
       let afters : List Mapping = if_dealt (m * p) p v m s ++ map (on_all v m s) q.afters in
       record {
-        gathers = subst (λ i. IsWithinLimits cs i e (all_simplified cs befores from)) (sym sized)
-            (limited-whole cs sp e (all_simplified cs befores from) _ placed_part.gathers.exponent n positive placed_part.gathers.weight gathered.is (stays-end cs size befores from gathered.stays) carried.levels carried.parts);
-        scatters = subst (λ i. IsWithinLimits cs i e (all_simplified cs afters from)) (sym sized)
-            (limited-whole cs sp e (all_simplified cs afters from) _ placed_part.scatters.exponent n positive placed_part.scatters.weight stored.is (stays-end cs size afters from stored.stays)
-            (omega (arith, ap levels there.is, there.carries.levels)) (omega (arith, ap parts there.is, there.carries.parts)));
-        gather_room = stays-room cs size befores from gathered.stays;
-        scatter_room = stays-room cs size afters from stored.stays;
-        multiplies = λ o is.
+        loads = subst (λ i. IsCarried cs i i befores from) (sym sized) (part-leads cs q.path q.befores n (p * m) e sp fills refl (placed_part.gathers cs d e split.1 fits)).stays;
+        stores = subst (λ i. IsCarried cs i i afters from) (sym sized) (part-leads cs q.path q.afters n (m * p) e sp fills (mul_comm m p) (placed_part.scatters.stays cs d e split.1 fits)).stays;
+        factors = λ o is.
             let found = mapped-some (left_diagonal p v m s) q.diagonal o is in
             let part = placed_part.multiplies found.0 found.1 in
-            subst (λ x. IsWithinLimits cs (x.rows * x.cols) e (all_simplified cs (diagonal_places x) from)) found.2 (left_multiplied cs sp q e found.0 fills split.1 fits part.0 part.1).0;
-        multiply_room = λ o is.
-            let found = mapped-some (left_diagonal p v m s) q.diagonal o is in
-            let part = placed_part.multiplies found.0 found.1 in
-            subst (λ x. AllRoom cs (diagonal_places x) from) found.2 (left_multiplied cs sp q e found.0 fills split.1 fits part.0 part.1).1;
+            subst (λ x. IsCarried cs c.size (x.rows * x.cols) (diagonal_places x) from) found.2
+            (subst (λ i. IsCarried cs i (found.0.rows * found.0.cols) (diagonal_places (left_diagonal p v m s found.0)) from) (sym sized) (left_multiplied cs sp q e found.0 fills (part.0 cs d e split.1 fits) part.1));
       }

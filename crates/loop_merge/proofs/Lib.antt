@@ -1,6 +1,6 @@
 pub mod TreePasses
 pub mod TermOrder
-pub mod Lasts
+pub mod TameSums
 pub mod PlaceSums
 pub mod PlaceLimits
 pub mod PlaceValues
@@ -20,15 +20,13 @@ pub mod Staying
 pub mod InnerPlaces
 pub mod Shaped
 pub mod Closed
-pub mod Reaching
 pub mod GoodPlaces
 pub mod RootPasses
 pub mod RootMerging
 pub mod Wholes
 pub mod RootDealt
 pub mod Counts
-pub mod Walks
 pub mod TreePlaces
+pub mod LoopItems
 pub mod LoopNests
-pub mod NestPlaces
-pub mod NestLists
+pub mod LoopLimits

@@ -4,10 +4,11 @@ use Rattle.std.specs.Prelude.{◌==◌}
 use Rattle.std.proofs.Math.Nat.{div-add-mod'}
 use Rattle.index_fn.specs.Mapping.{Mapping, Strided}
 use Rattle.operators.proofs.Lists.{factor_positive}
-use Rattle.perm_algebra.specs.Affine.{Fits, Sum, constant, scaled, joined, simplified}
+use Rattle.perm_algebra.specs.Affine.{Sum, constant, scaled, joined, simplified}
 use Rattle.perm_algebra.specs.Room.{HasRoomFor}
 use Rattle.perm_algebra.proofs.Shape.{turned-joined}
-use Rattle.loop_merge.specs.Placed.{all_simplified}
+use Rattle.perm_algebra.proofs.Sizes.{positive-product}
+use Rattle.loop_merge.specs.Placed.{Fits, all_simplified}
 use Rattle.loop_merge.proofs.InCopies.{placed, AreCopies, placed-fits}
 use Rattle.loop_merge.proofs.Moved.{joined-assoc, scaled-joined, scaled-scaled, placed-swap}
 use Rattle.loop_merge.proofs.PlaceSums.{parts-fit}
@@ -152,7 +153,7 @@ pub tile-item : (v k : ℕ) → constant k ≡ joined (scaled v (constant (k / v
 tile-item v k = ap constant (omega (arith, div-add-mod' k v))
 
 pub number-fits : (n k : ℕ) (cs : ℕ → ℕ) → k < n → Fits n (constant k) cs
-number-fits n k cs below = record { proper = tt; small = below; plain = tt }
+number-fits n k cs below = record { proper = tt; small = below; tame = tt; few = positive-product n n (omega (arith, below)) (omega (arith, below)) }
 
 pub grouped-leads : (p v r t n size : ℕ) (q g i : Sum) (k : ℕ) (cs : ℕ → ℕ) → Fits p q cs → Fits r g cs → Fits t i cs → k < v * v → size ≡ t * v → size_under (Blocks p ∷ Blocks r ∷ Blocks t ∷ []) (v * v) ≡ n → n ≤ 1048576 → t * v ≤ 1048576 →
     LeadsTo cs n (wrapped (within_all (Columns v ∷ Blocks p ∷ Blocks r ∷ []) []) size (Strided t v) ∷ []) (placed (Blocks p ∷ Blocks r ∷ Blocks t ∷ []) (v * v) (q ∷ g ∷ i ∷ []) (constant k))

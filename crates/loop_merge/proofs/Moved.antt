@@ -1,6 +1,7 @@
 -- Sums put together in another order: tensors that trade places, two tensors of columns as one, and a tensor of one copy.
 use Rattle.std.proofs.Common.{◌≡◌, ℕ, ◌-◌, ◌*◌, ◌≤◌, arith, sym, ap, ap₂, ◌∙◌, List, ◌∷◌, le-mul_of_pos_right}
-use Rattle.perm_algebra.specs.Affine.{Fits, Sum, constant, variable, remainder, quotient, scaled, joined}
+use Rattle.loop_merge.specs.Placed.{Fits}
+use Rattle.perm_algebra.specs.Affine.{Sum, constant, variable, remainder, quotient, scaled, joined}
 use Rattle.perm_algebra.proofs.Shape.{joined-zero}
 use Rattle.perm_algebra.proofs.Sizes.{joined-end, scaled-one}
 use Rattle.loop_merge.proofs.InCopies.{placed}

@@ -1,7 +1,9 @@
 -- Where scaled, joined and divided sums fit 64 bits.
-use Rattle.std.proofs.Common.{ℕ, ◌+◌, ◌-◌, ◌*◌, ◌^◌, ◌<◌, ◌≤◌, arith, sym, ◌∙◌, subst, le-mul_of_pos_right}
-use Rattle.std.proofs.Math.Nat.{mul-le-mul_left}
-use Rattle.perm_algebra.specs.Affine.{IsProper, Sum, constant, variable, remainder, quotient, top, peak, scaled, joined}
+use Rattle.std.proofs.Common.{ℕ, ◌+◌, ◌-◌, ◌*◌, ◌/◌, ◌%◌, ◌^◌, ◌<◌, ◌≤◌, inl, inr, arith, sym, ◌∙◌, subst, le-mul_of_pos_right}
+use Rattle.std.proofs.Math.Nat.{mul-le-mul_left, mul-le-mul_right, mod-le}
+use Rattle.std.proofs.lemmas.Bool.{cases_eq}
+use Rattle.std.proofs.lemmas.Bool.Decides.{nat_tests}
+use Rattle.perm_algebra.specs.Affine.{IsProper, Sum, constant, variable, remainder, quotient, top, peak, scaled, joined, mods}
 use Rattle.perm_algebra.specs.Room.{constant_of, HasTop, CanScale, CanJoin, CanDivide}
 use Rattle.perm_algebra.proofs.Shape.{rest-joined, rest-small}
 
@@ -38,3 +40,24 @@ le-mul_left a b h = let more : b ≤ b * a = le-mul_of_pos_right {m = a} b h in 
 
 pub scaled-top : (a t b : ℕ) → t < b → a * t ≤ b * a
 scaled-top a t b h = let more : a * t ≤ a * b = mul-le-mul_left a (omega arith) in omega arith
+
+factor-le : (f n x : ℕ) → f % n * x ≤ f * x
+factor-le f n x = mul-le-mul_right x (mod-le f n)
+
+pub top-mods : (n : ℕ) (e : Sum) (cs : ℕ → ℕ) → top (mods n e) cs ≤ top e cs
+top-mods n (constant c) cs = mod-le c n
+top-mods n (variable f d rest) cs =
+    elim (cases_eq (f % n) 0) [
+      | inl gone ↦ grind (arith, nat_tests, top-mods n rest cs)
+      | inr other ↦ grind (arith, nat_tests, factor-le f n (cs d - 1), top-mods n rest cs)
+    ]
+top-mods n (remainder f of m rest) cs =
+    elim (cases_eq (f % n) 0) [
+      | inl gone ↦ grind (arith, nat_tests, top-mods n rest cs)
+      | inr other ↦ grind (arith, nat_tests, factor-le f n (m - 1), top-mods n rest cs)
+    ]
+top-mods n (quotient f of m rest) cs =
+    elim (cases_eq (f % n) 0) [
+      | inl gone ↦ grind (arith, nat_tests, top-mods n rest cs)
+      | inr other ↦ grind (arith, nat_tests, factor-le f n (top of cs / m), top-mods n rest cs)
+    ]

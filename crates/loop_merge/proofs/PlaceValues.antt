@@ -1,15 +1,16 @@
 -- The sums of a pass have the values of its places.
-use Rattle.std.proofs.Common.{◌≡◌, ℕ, zero, suc, ◌+◌, ◌*◌, ◌<◌, Bool, true, false, ◌≤◌, arith, refl, ap, ap₂, ◌∙◌, List, [], ◌∷◌, ◌++◌, if◌then◌else◌, zero-mul, mul-zero, inl, inr, subst, eq-zero-or-pos}
+use Rattle.std.proofs.Common.{◌≡◌, ℕ, zero, suc, ◌*◌, ◌<◌, Bool, true, false, ◌≤◌, arith, refl, ap, ◌∙◌, List, [], ◌∷◌, ◌++◌, if◌then◌else◌, zero-mul, mul-zero, inl, inr, subst, eq-zero-or-pos}
 use Rattle.std.specs.Prelude.{Some}
 use Rattle.index_fn.specs.Mapping.{Mapping, Strided, ThomasIn, ThomasBack, at}
 use Rattle.matrix_meaning.specs.declared.Kind.{Kind}
 use Rattle.matrix_meaning.specs.declared.Request.{Request}
-use Rattle.perm_algebra.specs.Affine.{Sum, constant, variable, value, IsSound, scaled, simplified, AreBelowCounts}
-use Rattle.perm_algebra.proofs.AffineLaws.{value-scaled, value-joined}
-use Rattle.perm_algebra.proofs.Values.{simplifies, sound-scaled, sound-joined}
+use Rattle.perm_algebra.specs.Affine.{Sum, value, IsSound, simplified, AreBelowCounts}
+use Rattle.perm_algebra.proofs.Values.{simplifies}
 use Rattle.loop_merge.specs.Merge.{PlainDiagonal, PlainPass, through, new_pass, scattered, multiplied, at_last}
-use Rattle.loop_merge.specs.Placed.{place_sum, all_simplified, loop_values}
-use Rattle.loop_merge.specs.Reach.{IsFormed, AreFormed}
+use Rattle.loop_merge.specs.Placed.{place_sum, all_simplified}
+use Rattle.passes.specs.Good.{IsFormed}
+use Rattle.passes.specs.Loops.{AreFormed}
+use Rattle.passes.proofs.Natural.{loop_values, sound-place_sum, value-place_sum}
 use Rattle.loop_merge.proofs.PlaceLimits.{none_is_some, multiplied-is}
 use Rattle.loop_merge.proofs.PartRules.{IsSize, IsRuleIn, rule_in, coprime_in}
 use Rattle.loop_merge.proofs.TreePasses.{rule_waiting, rule_passes, tree_passes}
@@ -36,23 +37,6 @@ value-all cs vs [] e h range sound = refl
 value-all cs vs (f ∷ fs) e h range sound =
     let one = simplifies cs vs f e h.0.formed h.0.no_list sound range in
     value-all cs vs fs (simplified cs f e) h.1 range one.sound ∙ ap (through fs) one.value_is
-
-pub sound-place_sum : (path : Path) (n d : ℕ) (e : Sum) → IsSound e → IsSound (place_sum path n d e)
-sound-place_sum [] n d e h = h
-sound-place_sum (Blocks c ∷ path) n d e h = sound-joined (scaled (size_under path n) (variable 1 d (constant 0))) (place_sum path n (d + 1) e) tt (sound-place_sum path n (d + 1) e h)
-sound-place_sum (Columns c ∷ path) n d e h = sound-joined (scaled c (place_sum path n (d + 1) e)) (variable 1 d (constant 0)) (sound-scaled c (place_sum path n (d + 1) e) (sound-place_sum path n (d + 1) e h)) tt
-
-value-place_sum : (path : Path) (n d : ℕ) (e : Sum) (vs : ℕ → ℕ) → value (place_sum path n d e) vs ≡ place path n (loop_values path d vs) (value e vs)
-value-place_sum [] n d e vs = refl
-value-place_sum (Blocks c ∷ path) n d e vs =
-    let size = size_under path n in
-    value-joined (scaled size (variable 1 d (constant 0))) (place_sum path n (d + 1) e) vs
-    ∙ ap₂ (λ x y. x + y) (value-scaled size (variable 1 d (constant 0)) vs) (value-place_sum path n (d + 1) e vs)
-    ∙ ap (λ x. x + place path n (loop_values path (d + 1) vs) (value e vs)) (omega arith)
-value-place_sum (Columns c ∷ path) n d e vs =
-    value-joined (scaled c (place_sum path n (d + 1) e)) (variable 1 d (constant 0)) vs
-    ∙ ap (λ x. x + (1 * vs d + 0)) (value-scaled c (place_sum path n (d + 1) e) vs ∙ ap (λ y. c * y) (value-place_sum path n (d + 1) e vs))
-    ∙ omega arith
 
 pub value-at_place : (cs vs : ℕ → ℕ) (path : Path) (n : ℕ) (fs : List Mapping) (e : Sum) → AreFormed fs → AreBelowCounts vs cs → IsSound e →
     value (all_simplified cs fs (place_sum path n 0 e)) vs ≡ through fs (place path n (loop_values path 0 vs) (value e vs))

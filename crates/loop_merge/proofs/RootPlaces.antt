@@ -1,25 +1,26 @@
 -- What holds of the places of a shared tree's passes.
 use Rattle.std.proofs.Common.{◌≡◌, ℕ, ◌*◌, ◌/◌, ◌<◌, ◌≤◌, Bool, true, false, arith, refl, sym, ap, ◌∙◌, List, [], ◌∷◌, ◌++◌, if◌then◌else◌, subst, mul_comm, append-nil}
 use Rattle.std.specs.Prelude.{◌==◌, map, Option, None, Some}
-use Rattle.std.proofs.Math.Nat.{mul-le-mul_left}
 use Rattle.index_fn.specs.Mapping.{Mapping, Same, Strided}
 use Rattle.matrix_meaning.specs.declared.Request.{Request}
 use Rattle.matrix_meaning.specs.Valid.{IsValid}
 use Rattle.loop_merge.specs.Merge.{PlainDiagonal, PlainPass, multiplied, at_last, in_order}
 use Rattle.loop_merge.specs.Placed.{AllLimited, diagonal_places}
-use Rattle.loop_merge.specs.Reach.{IsFormed, AreFormed}
+use Rattle.passes.specs.Good.{IsFormed}
+use Rattle.passes.specs.Loops.{AreFormed}
+use Rattle.passes.proofs.Several.{several-append}
 use Rattle.loop_merge.proofs.Closed.{AreClosed, IsClosed, IsClosedPass, AreClosedPasses, closed-under, strided-closed, closed-inner, closed-append, closed_passes}
 use Rattle.loop_merge.proofs.Closed as closed
 use Rattle.loop_merge.proofs.GoodPlaces.{HaveGoodPlaces}
 use Rattle.loop_merge.proofs.LeftPlaces.{size_under-append, mapped-some, left_fills, left_wide, left_limited}
 use Rattle.loop_merge.proofs.PartRules.{IsSize}
-use Rattle.loop_merge.proofs.PlaceLimits.{Gathering, ArePlaced, none_is_some, multiplied-is, placed-multiplied, all_limited, whole_placed}
+use Rattle.loop_merge.proofs.PlaceLimits.{Gathering, gathering-natural, ArePlaced, none_is_some, multiplied-is, placed-multiplied, all_limited, whole_placed}
 use Rattle.loop_merge.proofs.PlaceValues.{IsFormedPass, AreFormedPasses, wrapped-formed, strided-formed, formed_passes}
 use Rattle.loop_merge.proofs.PlaceValues as values
-use Rattle.loop_merge.proofs.RightPlaces.{right_fills, right_wide, gathering-turned, gathering-natural, right_placed}
+use Rattle.loop_merge.proofs.RightPlaces.{right_fills, right_wide, gathering-turned, right_placed}
 use Rattle.loop_merge.proofs.RootPasses.{turned_waiting, tile_before, tile_after, if_lanes, on_all, if_dealt, left_diagonal, left_pass, root_passes}
 use Rattle.loop_merge.proofs.RootShares.{AreShares, shares_of, rows_some, tiles_some, lines_small, dealt_small, vectors_small, tiles_small, rows_product, columns_product, tiles_product, whole_product, rows_size}
-use Rattle.loop_merge.proofs.Shaped.{IsWide, IsShaped, AreShaped, shaped-append, shaped-last, multiplied-shaped, shaped_passes}
+use Rattle.loop_merge.proofs.Shaped.{IsShaped, AreShaped, shaped-append, shaped-last, multiplied-shaped, shaped_passes}
 use Rattle.loop_merge.proofs.TilePlaces.{tile_fills, tile_wide, KeepWithin, none_keep, grouped_keep, tile_with, tile_limited}
 use Rattle.loop_merge.proofs.TreePasses.{tree_passes, at_last-append}
 use Rattle.loop_merge.proofs.WithinPlaces.{size-all}
@@ -91,13 +92,6 @@ closed-front : (n : ℕ) (fs : List Mapping) (f : Mapping) → AreClosed n (fs +
 closed-front n [] f h = tt
 closed-front n (g ∷ fs) f h = (h.0, closed-front n fs f h.1)
 
-wide-append : (path more : Path) → IsWide path → IsWide more → IsWide (path ++ more)
-wide-append [] more h k = k
-wide-append (t ∷ path) more h k = (h.0, wide-append path more h.1 k)
-
-two-words : (r s n : ℕ) → 2 ≤ r → 2 ≤ s → r * s ≡ n → 2 ≤ n
-two-words r s n h k is = let more : r * 1 ≤ r * s = mul-le-mul_left r (omega (arith, k)) in omega (arith, h, more, is)
-
 -- ---- the parts of a root
 
 module _ (c : Request) (p v r s : ℕ) (h : AreShares c.size p v r s) where
@@ -135,14 +129,14 @@ module _ (c : Request) (p v r s : ℕ) (h : AreShares c.size p v r s) where
 
   right_tree : (b : Breakdown) (waiting : List Mapping) → IsWellFormed c.kind b → size_of b ≡ s → Gathering size (right_path p v r) waiting s → AreGoodFunctions size waiting → ArePlaced size [] size (tree_passes c (right_path p v r) waiting b)
   right_tree b waiting formed is g fs =
-      right_placed c size (right_path p v r) waiting b h.whole (right_wide size p v r s h) formed (ap (size_under (right_path p v r)) is ∙ right_fills size p v r s h) (subst (Gathering size (right_path p v r) waiting) (sym is) g)
+      right_placed c size (right_path p v r) waiting b h.whole formed (ap (size_under (right_path p v r)) is ∙ right_fills size p v r s h) (subst (Gathering size (right_path p v r) waiting) (sym is) g)
 
   right_good : (b : Breakdown) (waiting : List Mapping) → IsWellFormed c.kind b → size_of b ≡ s → Gathering size (right_path p v r) waiting s → AreGoodFunctions size waiting → HaveGoodPlaces c (tree_passes c (right_path p v r) waiting b)
   right_good b waiting formed is g fs =
       let path : Path = right_path p v r in
       let fills : size_under path (size_of b) ≡ size = ap (size_under path) is ∙ right_fills size p v r s h in
       record {
-        limited = all_limited c (tree_passes c path waiting b) h.whole.high (right_tree b waiting formed is g fs);
+        limited = all_limited c (tree_passes c path waiting b) (right_tree b waiting formed is g fs);
         formed = formed_passes c size path waiting b h.whole formed fills fs.formed;
         closed = closed_passes c size path waiting b h.whole formed fills fs.closed;
         shaped = shaped_passes c size path waiting b (right_wide size p v r s h) formed fills;
@@ -207,7 +201,7 @@ module _ (c : Request) (p v r s : ℕ) (h : AreShares c.size p v r s) where
   multiplied_tree ps placed_passes good =
       let low : r * s ≤ 1048576 = omega (arith, h.product, h.whole.high) in
       record {
-        limited = all_limited c (at_last (multiplied [] r s) ps) h.whole.high
+        limited = all_limited c (at_last (multiplied [] r s) ps)
             (subst (λ n. ArePlaced size [] n (at_last (multiplied [] r s) ps)) h.product (placed-multiplied size [] r s ps low low (omega (arith, h.product)) (subst (λ n. ArePlaced size [] n ps) (sym h.product) placed_passes)));
         formed = values.passes-last (multiplied [] r s) ps (λ q k. values.multiplied-formed [] r s q (omega (arith, h.product, h.whole.low)) k) good.formed;
         closed = closed.passes-last size (multiplied [] r s) ps (λ q k. closed.multiplied-closed size [] r s q (closed-inner size [] (r * s) h.whole.high h.product (omega (arith, h.product))) k) good.closed;
@@ -230,7 +224,7 @@ module _ (c : Request) (p v r s : ℕ) (h : AreShares c.size p v r s) where
       HaveGoodPlaces c (if_lanes v (tile_before p v r s) ++ (tree_passes c (right_path p v r) [] b ++ if_lanes v (tile_after p v r s)))
   split_good b formed is =
       let ps : List PlainPass = tree_passes c (right_path p v r) [] b in
-      let g : Gathering size (right_path p v r) [] s = gathering-natural size (right_path p v r) s (right_wide size p v r s h) (right_fills size p v r s h) in
+      let g : Gathering size (right_path p v r) [] s = gathering-natural size (right_path p v r) s (right_fills size p v r s h) in
       good-append c (if_lanes v (tile_before p v r s)) (ps ++ if_lanes v (tile_after p v r s)) (good-if c (v == 1) (tile_before p v r s) before_good)
       (good-append c ps (if_lanes v (tile_after p v r s)) (right_good b [] formed is g (functions-none size)) (good-if c (v == 1) (tile_after p v r s) after_good))
 
@@ -288,7 +282,7 @@ module _ (c : Request) (p v r s : ℕ) (h : AreShares c.size p v r s) where
   left_shaped : (q : PlainPass) → IsShaped c r q → IsShaped c size (left_pass p v r s q)
   left_shaped q shape =
       record {
-        wide = wide-append (left_path p v s) q.path (left_wide size p v r s h) shape.wide;
+        wide = several-append (left_path p v s) q.path (left_wide size p v r s h) shape.wide;
         fills = size_under-append (left_path p v s) q.path (work_size q.work) ∙ ap (size_under (left_path p v s)) shape.fills ∙ left_fills size p v r s h;
         work = shape.work;
         multiplies = λ o is.
@@ -330,10 +324,3 @@ root_good c (node Ct a b) valid h shared =
 root_good c (node Split a b) valid h shared =
     let shares = shares_of c (size_of a) (size_of b) valid (h.root refl shared) in
     phases_good c (c.procs == 1) _ _ (split_good c c.procs c.lanes (size_of a) (size_of b) shares b h.well_formed.2 refl) (left_good c c.procs c.lanes (size_of a) (size_of b) shares a h.well_formed.1 refl)
-
--- and has at least two words
-pub shared_size : (c : Request) (t : Breakdown) → IsValid c → IsAdmissible c t → is_plain c ≡ false → 2 ≤ c.size
-shared_size c (leaf d) valid h shared = absurd (h.root refl shared)
-shared_size c (node Gt a b) valid h shared = absurd (h.root refl shared)
-shared_size c (node Ct a b) valid h shared = two-words (size_of a) (size_of b) c.size (h.root refl shared).left (h.root refl shared).right (h.root refl shared).product
-shared_size c (node Split a b) valid h shared = two-words (size_of a) (size_of b) c.size (h.root refl shared).left (h.root refl shared).right (h.root refl shared).product

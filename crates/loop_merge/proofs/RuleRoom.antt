@@ -1,40 +1,17 @@
 -- The permutations of a rule have room at the places under its tensor.
-use Rattle.std.proofs.Common.{◌≡◌, ℕ, ◌+◌, ◌-◌, ◌*◌, ◌/◌, ◌%◌, ◌^◌, ◌<◌, ◌≤◌, inl, inr, arith, sym, subst, mul-le-mul_left, le-mul_of_pos_right}
-use Rattle.std.proofs.Math.Nat.{mul-le-mul_right, mod-le}
-use Rattle.std.proofs.lemmas.Bool.{cases_eq}
-use Rattle.std.proofs.lemmas.Bool.Decides.{nat_tests}
+use Rattle.std.proofs.Common.{◌≡◌, ℕ, ◌+◌, ◌*◌, ◌^◌, ◌<◌, ◌≤◌, arith, sym, subst, mul-le-mul_left, le-mul_of_pos_right}
 use Rattle.std.proofs.lemmas.Nat.{mul-le}
 use Rattle.index_fn.specs.Mapping.{Strided, ThomasIn, ThomasBack}
-use Rattle.perm_algebra.specs.Affine.{IsProper, Fits, Sum, constant, variable, remainder, quotient, top, scaled, joined, Divided, mods}
+use Rattle.perm_algebra.specs.Affine.{IsProper, Sum, constant, variable, top, scaled, joined, Divided, mods}
 use Rattle.perm_algebra.specs.Room.{CanScale, CanJoin, CanMix, HasRoomFor}
 use Rattle.perm_algebra.proofs.AffineLaws.{top-scaled, top-joined}
 use Rattle.perm_algebra.proofs.Reduced.{mods-proper}
 use Rattle.perm_algebra.proofs.Shape.{divided-joined}
 use Rattle.perm_algebra.proofs.Sizes.{proper-joined, proper-scaled}
-use Rattle.loop_merge.proofs.PlaceRoom.{has_top, can_scale, can_join, can_divide}
+use Rattle.loop_merge.specs.Placed.{Fits}
+use Rattle.loop_merge.proofs.PlaceRoom.{has_top, top-mods, can_scale, can_join, can_divide}
 use Rattle.loop_merge.proofs.PlaceSums.{tensor_sum, variable-fits}
 use Rattle.tensor_paths.specs.declared.Tensor.TheVariants.{Blocks, Columns}
-
-factor-le : (f n x : ℕ) → f % n * x ≤ f * x
-factor-le f n x = mul-le-mul_right x (mod-le f n)
-
-pub top-mods : (n : ℕ) (e : Sum) (cs : ℕ → ℕ) → top (mods n e) cs ≤ top e cs
-top-mods n (constant c) cs = mod-le c n
-top-mods n (variable f d rest) cs =
-    elim (cases_eq (f % n) 0) [
-      | inl gone ↦ grind (arith, nat_tests, top-mods n rest cs)
-      | inr other ↦ grind (arith, nat_tests, factor-le f n (cs d - 1), top-mods n rest cs)
-    ]
-top-mods n (remainder f of m rest) cs =
-    elim (cases_eq (f % n) 0) [
-      | inl gone ↦ grind (arith, nat_tests, top-mods n rest cs)
-      | inr other ↦ grind (arith, nat_tests, factor-le f n (m - 1), top-mods n rest cs)
-    ]
-top-mods n (quotient f of m rest) cs =
-    elim (cases_eq (f % n) 0) [
-      | inl gone ↦ grind (arith, nat_tests, top-mods n rest cs)
-      | inr other ↦ grind (arith, nat_tests, factor-le f n (top of cs / m), top-mods n rest cs)
-    ]
 
 -- two multiples whose greatest values sum below 2^64
 can_mix : (n a b : ℕ) (e g : Sum) (cs : ℕ → ℕ) → 0 < a → 0 < b → IsProper e cs → IsProper g cs → a * top e cs + b * top g cs < 2 ^ 64 → CanMix cs n a b e g

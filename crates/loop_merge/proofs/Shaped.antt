@@ -1,28 +1,21 @@
 -- The passes of a tree: their paths have factors of at least 2, round a part of the tree.
-use Rattle.std.proofs.Common.{◌≡◌, ℕ, ◌*◌, ◌≤◌, Bool, true, false, ◌∙◌, refl, List, [], ◌∷◌, ◌++◌, if◌then◌else◌, subst}
+use Rattle.std.proofs.Common.{◌≡◌, ℕ, ◌*◌, Bool, true, false, ◌∙◌, refl, List, [], ◌∷◌, ◌++◌, if◌then◌else◌, subst}
 use Rattle.std.specs.Prelude.{Some}
 use Rattle.index_fn.specs.Mapping.{Mapping}
 use Rattle.matrix_meaning.specs.declared.Request.{Request}
 use Rattle.loop_merge.specs.Merge.{PlainDiagonal, PlainPass, new_pass, scattered, multiplied, at_last}
 use Rattle.loop_merge.proofs.PlaceLimits.{none_is_some, multiplied-is}
 use Rattle.loop_merge.proofs.TreePasses.{rule_waiting, rule_passes, tree_passes}
+use Rattle.passes.specs.Limits.{AreSeveral}
+use Rattle.passes.proofs.Several.{several-push}
 use Rattle.sigma_lower.specs.Work.{PlainWork, transforming, tiling, work_size}
-use Rattle.tensor_paths.specs.declared.Tensor.{Tensor}
 use Rattle.tensor_paths.specs.declared.Tensor.TheVariants.{Blocks, Columns}
-use Rattle.tensor_paths.specs.Path.{Path, count_of, size_under}
+use Rattle.tensor_paths.specs.Path.{Path, size_under}
 use Rattle.tensor_paths.proofs.Under.{size_under-push}
 use Rattle.tree_model.specs.declared.tree.Rule.{Rule}
 use Rattle.tree_model.specs.declared.tree.Rule.TheVariants.{Gt, Ct, Split}
 use Rattle.tree_model.specs.Breakdown.{Breakdown, leaf, node, size_of, IsWellFormed}
 use Rattle.tree_model.specs.Cost.{is_kernel}
-
-abbrev pub IsWide : Path → Type 0
-IsWide [] = Unit {0}
-IsWide (t ∷ path) = (2 ≤ count_of t) × IsWide path
-
-wide-push : (path : Path) (t : Tensor) → IsWide path → 2 ≤ count_of t → IsWide (path ++ t ∷ [])
-wide-push [] t h two = (two, tt)
-wide-push (u ∷ path) t h two = (h.0, wide-push path t h.1 two)
 
 pub not_both : (b : Bool) → b ≡ true → b ≡ false → ⊥
 not_both b h g = cc
@@ -38,7 +31,7 @@ IsShapedWork c (tiling v) = Unit {0}
 
 -- the copies fill so many words, and so do those of a diagonal
 pub record IsShaped (c : Request) (size : ℕ) (p : PlainPass) : Type 0 where
-  pub wide : IsWide p.path
+  pub wide : AreSeveral p.path
   pub fills : size_under p.path (work_size p.work) ≡ size
   pub work : IsShapedWork c p.work
   pub multiplies : (d : PlainDiagonal) → p.diagonal ≡ Some d → size_under d.path (d.rows * d.cols) ≡ size
@@ -56,7 +49,7 @@ shaped-last c size f [] step h = tt
 shaped-last c size f (p ∷ []) step h = (step p h.0, tt)
 shaped-last c size f (p ∷ q ∷ ps) step h = (h.0, shaped-last c size f (q ∷ ps) step h.1)
 
-pub new-shaped : (c : Request) (size : ℕ) (path : Path) (waiting : List Mapping) (w : PlainWork) → IsWide path → size_under path (work_size w) ≡ size → IsShapedWork c w → IsShaped c size (new_pass path w waiting)
+pub new-shaped : (c : Request) (size : ℕ) (path : Path) (waiting : List Mapping) (w : PlainWork) → AreSeveral path → size_under path (work_size w) ≡ size → IsShapedWork c w → IsShaped c size (new_pass path w waiting)
 new-shaped c size path waiting w wide fills work = record { wide = wide; fills = fills; work = work; multiplies = λ d e. absurd (none_is_some d e) }
 
 pub scattered-shaped : (c : Request) (size : ℕ) (f : Mapping) (p : PlainPass) → IsShaped c size p → IsShaped c size (scattered f p)
@@ -81,7 +74,7 @@ shaped_pick : (c : Request) (size : ℕ) (b : Bool) (ps qs : List PlainPass) →
 shaped_pick c size true ps qs h k = h refl
 shaped_pick c size false ps qs h k = k
 
-pub shaped_passes : (c : Request) (size : ℕ) (path : Path) (waiting : List Mapping) (t : Breakdown) → IsWide path → IsWellFormed c.kind t → size_under path (size_of t) ≡ size → AreShaped c size (tree_passes c path waiting t)
+pub shaped_passes : (c : Request) (size : ℕ) (path : Path) (waiting : List Mapping) (t : Breakdown) → AreSeveral path → IsWellFormed c.kind t → size_under path (size_of t) ≡ size → AreShaped c size (tree_passes c path waiting t)
 shaped_passes c size path waiting (leaf d) wide h e = (new-shaped c size path waiting (transforming (leaf d)) wide e (h, λ long. refl), tt)
 shaped_passes c size path waiting (node rule a b) wide h e =
     let r = size_of a in
@@ -89,5 +82,5 @@ shaped_passes c size path waiting (node rule a b) wide h e =
     shaped_pick c size (is_kernel c (r * s)) _ _
     (λ kernel. (new-shaped c size path waiting (transforming (node rule a b)) wide e (h, λ long. absurd (not_both (is_kernel c (r * s)) kernel long)), tt))
     (shaped_rule c size rule path r s _ _ e
-    (shaped_passes c size (path ++ Columns s ∷ []) [] a (wide-push path (Columns s) wide h.0.right) h.1 (size_under-push path (Columns s) r ∙ e))
-    (shaped_passes c size (path ++ Blocks r ∷ []) (rule_waiting rule path r s waiting) b (wide-push path (Blocks r) wide h.0.left) h.2 (size_under-push path (Blocks r) s ∙ e)))
+    (shaped_passes c size (path ++ Columns s ∷ []) [] a (several-push path (Columns s) wide h.0.right) h.1 (size_under-push path (Columns s) r ∙ e))
+    (shaped_passes c size (path ++ Blocks r ∷ []) (rule_waiting rule path r s waiting) b (several-push path (Blocks r) wide h.0.left) h.2 (size_under-push path (Blocks r) s ∙ e)))

@@ -1,23 +1,21 @@
 -- The places of tiles.
-use Rattle.std.proofs.Common.{◌≡◌, ℕ, ◌+◌, ◌*◌, ◌/◌, ◌%◌, ◌<◌, ◌≤◌, arith, refl, sym, ap, ◌∙◌, List, [], ◌∷◌, ◌++◌, length, if◌then◌else◌, subst}
+use Rattle.std.proofs.Common.{◌≡◌, ℕ, ◌+◌, ◌*◌, ◌/◌, ◌<◌, arith, sym, ap, ◌∙◌, List, [], ◌∷◌, ◌++◌, if◌then◌else◌, subst}
 use Rattle.std.specs.Prelude.{◌==◌, Option, Some}
 use Rattle.index_fn.specs.Mapping.{Mapping, Same}
 use Rattle.matrix_meaning.specs.declared.Request.{Request}
-use Rattle.perm_algebra.specs.Affine.{Fits, Sum, constant, variable, levels, parts, scaled, joined}
-use Rattle.perm_algebra.proofs.Sizes.{positive-product, levels-joined, parts-joined}
+use Rattle.passes.specs.Limits.{AreSeveral}
+use Rattle.perm_algebra.specs.Affine.{Sum, constant, variable}
 use Rattle.loop_merge.specs.Merge.{PlainDiagonal, PlainPass}
-use Rattle.loop_merge.specs.Placed.{AllRoom, place_sum, AreCounts, all_simplified, diagonal_places, IsWithinLimits, ArePlacesLimited, IsLimitedPass}
+use Rattle.loop_merge.specs.Placed.{Fits, IsCarried, place_sum, AreCounts, all_simplified, diagonal_places, ArePlacesLimited, IsLimitedPass}
 use Rattle.loop_merge.proofs.LineMoves.{LeadsTo, leads-same, grouped-leads, number-fits}
-use Rattle.loop_merge.proofs.PlaceLimits.{exponent_small}
-use Rattle.loop_merge.proofs.PlaceSums.{all_simplified-append}
-use Rattle.loop_merge.proofs.RightPlaces.{wide-all, weight-wide, natural-levels, natural-parts, natural-fits}
+use Rattle.loop_merge.proofs.PlaceLimits.{natural-fits}
+use Rattle.loop_merge.proofs.RightPlaces.{wide-all}
 use Rattle.loop_merge.proofs.RootShares.{AreShares, rows_some, tiles_fill, tiles_some, tiles_small}
-use Rattle.loop_merge.proofs.Shaped.{IsWide}
-use Rattle.loop_merge.proofs.Staying.{stays-end, stays-room, all_room-append}
-use Rattle.loop_merge.proofs.WithinPlaces.{size-all, natural-placed, natural-copies, parts_in, parts-placed, levels-placed, parts-from, flat-from}
+use Rattle.loop_merge.proofs.Staying.{StaysIn, carried-end, carried-push}
+use Rattle.loop_merge.proofs.WithinPlaces.{size-all, natural-placed, natural-copies}
 use Rattle.sigma_lower.specs.Root.{tile_path, vectors_grouped}
 use Rattle.sigma_lower.specs.Work.{tiling}
-use Rattle.tensor_paths.specs.declared.Tensor.TheVariants.{Blocks, Columns}
+use Rattle.tensor_paths.specs.declared.Tensor.TheVariants.{Blocks}
 use Rattle.tensor_paths.specs.Path.{Path, size_under}
 
 module _ (size p v r s : ℕ) (h : AreShares size p v r s) where
@@ -32,29 +30,15 @@ module _ (size p v r s : ℕ) (h : AreShares size p v r s) where
   pub tile_fills : size_under (tile_path p v r s) (v * v) ≡ size
   tile_fills = size-all three (v * v) ∙ tile_whole
 
-  pub tile_wide : IsWide (tile_path p v r s)
+  pub tile_wide : AreSeveral (tile_path p v r s)
   tile_wide = wide-all three (h.procs, (rows_some size p v r s h, (tiles_some size p v r s h, tt)))
-
-  -- few tensors
-  tile_short : length (tile_path p v r s) ≤ 20
-  tile_short =
-      exponent_small (length (tile_path p v r s)) (v * v) size (positive-product v v h.lanes h.lanes) (omega (arith, weight-wide (tile_path p v r s) (v * v) tile_wide, tile_fills)) h.whole.high
 
   -- functions that keep the places of tiles' items within the limits
   abbrev pub KeepWithin : List Mapping → Type 0
-  KeepWithin fs =
-      (cs : ℕ → ℕ) (k : ℕ) → AreCounts (tile_path p v r s) (v * v) 0 cs → k < v * v →
-      IsWithinLimits cs size (constant k) (all_simplified cs fs (place_sum (tile_path p v r s) (v * v) 0 (constant k))) × AllRoom cs fs (place_sum (tile_path p v r s) (v * v) 0 (constant k))
+  KeepWithin fs = (cs : ℕ → ℕ) (k : ℕ) → AreCounts (tile_path p v r s) (v * v) 0 cs → k < v * v → StaysIn cs size fs (place_sum (tile_path p v r s) (v * v) 0 (constant k))
 
   pub none_keep : KeepWithin []
-  none_keep cs k counts below = (
-    record {
-      fits = natural-fits size (tile_path p v r s) (v * v) 0 (constant k) cs tile_fills counts (number-fits (v * v) k cs below);
-      levels = omega (arith, natural-levels (tile_path p v r s) (v * v) 0 (constant k));
-      parts = omega (arith, natural-parts (tile_path p v r s) (v * v) 0 (constant k), tile_short);
-    },
-    tt,
-  )
+  none_keep cs k counts below = natural-fits size (tile_path p v r s) (v * v) 0 (constant k) cs tile_fills counts (number-fits (v * v) k cs below)
 
   pub grouped_keep : (g : ℕ) → g ≡ s / v * v → KeepWithin (vectors_grouped g p v r s ∷ [])
   grouped_keep n is cs k counts below =
@@ -65,23 +49,10 @@ module _ (size p v r s : ℕ) (h : AreShares size p v r s) where
       let d2 : ℕ = if r / p / v == 1 then d1 else d1 + 1 in
       let i : Sum = if t == 1 then constant 0 else variable 1 d2 (constant 0) in
       let named = natural-copies three (v * v) 0 cs counts in
-      let flat = flat-from three 0 in
-      let few : parts_in (q ∷ g ∷ i ∷ []) ≡ length (tile_path p v r s) = parts-from three 0 in
       let from : Sum = place_sum (tile_path p v r s) (v * v) 0 (constant k) in
-      let inner : Sum = joined (scaled t (constant (k / v))) i in
-      let outer : Path = Columns v ∷ Blocks p ∷ Blocks (r / p / v) ∷ [] in
-      let us : List Sum = constant (k % v) ∷ q ∷ g ∷ [] in
       let lead : LeadsTo cs size (vectors_grouped n p v r s ∷ []) from _ =
       leads-same cs size (vectors_grouped n p v r s ∷ []) from _ _ (natural-placed three (v * v) 0 (constant k))
-      (grouped-leads p v (r / p / v) t size n q g i k cs named.0 named.1.0 named.1.1.0 below is tile_whole h.whole.high (tiles_small size p v r s h)) in
-      let shallow : levels inner ≤ 0 = levels-joined (scaled t (constant (k / v))) i 0 (omega arith) (omega (arith, flat.1.1.0)) in (
-        record {
-          fits = stays-end cs size (vectors_grouped n p v r s ∷ []) from lead.stays;
-          levels = omega (arith, ap levels lead.is, levels-placed outer (t * v) us inner (refl, (flat.0, (flat.1.0, tt))), shallow);
-          parts = omega (arith, ap parts lead.is, parts-placed outer (t * v) us inner, parts-joined (scaled t (constant (k / v))) i, few, tile_short);
-        },
-        stays-room cs size (vectors_grouped n p v r s ∷ []) from lead.stays,
-      )
+      (grouped-leads p v (r / p / v) t size n q g i k cs named.0 named.1.0 named.1.1.0 below is tile_whole h.whole.high (tiles_small size p v r s h)) in lead.stays
 
   -- a pass over tiles with such functions, and with the diagonal of the root after it or none
   abbrev pub tile_with : List Mapping → Option PlainDiagonal → List Mapping → PlainPass
@@ -97,14 +68,10 @@ module _ (size p v r s : ℕ) (h : AreShares size p v r s) where
       let other = after cs k counts below in
       subst (ArePlacesLimited c (tile_with befores diagonal afters) cs) (sym is)
       (record {
-        gathers = subst (λ m. IsWithinLimits cs m (constant k) (all_simplified cs befores from)) (sym sized) one.0;
-        scatters = subst (λ m. IsWithinLimits cs m (constant k) (all_simplified cs afters from)) (sym sized) other.0;
-        gather_room = one.1;
-        scatter_room = other.1;
-        multiplies = λ d e.
-            subst (λ x. IsWithinLimits cs (x.rows * x.cols) (constant k) (all_simplified cs (diagonal_places x) from)) (root d e)
-            (subst (λ m. IsWithinLimits cs m (constant k) (all_simplified cs (afters ++ Same ∷ []) from)) (sym h.product)
-            (subst (IsWithinLimits cs size (constant k)) (sym (all_simplified-append cs afters Same from)) other.0));
-        multiply_room = λ d e.
-            subst (λ x. AllRoom cs (diagonal_places x) from) (root d e) (all_room-append cs afters Same from other.1 tt);
+        loads = subst (λ m. IsCarried cs m m befores from) (sym sized) one;
+        stores = subst (λ m. IsCarried cs m m afters from) (sym sized) other;
+        factors = λ d e.
+            subst (λ x. IsCarried cs c.size (x.rows * x.cols) (diagonal_places x) from) (root d e)
+            (subst (λ m. IsCarried cs m (r * s) (afters ++ Same ∷ []) from) (sym sized)
+            (carried-push cs size (r * s) afters Same from other tt (subst (λ m. Fits m (all_simplified cs afters from) cs) (sym h.product) (carried-end cs size size afters from other))));
       })

@@ -5,7 +5,7 @@ use Rattle.index_fn.specs.Mapping.{Mapping, Strided, ThomasIn, ThomasBack}
 use Rattle.matrix_meaning.specs.declared.Request.{Request}
 use Rattle.loop_merge.specs.Merge.{PlainPass, Merging, new_pass, scattered, multiplied, at_last, merge_term, merged, passes_of_terms}
 use Rattle.loop_merge.specs.Laws.{has_diagonal, counted_as, counted}
-use Rattle.sigma_lower.specs.Term.{PlainTerm, lowered}
+use Rattle.sigma_lower.specs.Term.{lowered}
 use Rattle.sigma_lower.specs.Work.{PlainWork, transforming, tiling}
 use Rattle.sigma_lower.specs.Wrapped.{wrapped, unit_of}
 use Rattle.steps.specs.Step.{PlainStep, step, piece, turns, twiddles, thomas_in, thomas_out, rule_steps, steps_of}
@@ -74,9 +74,6 @@ full_passes c path waiting (node rule a b) =
     (full_rule rule path (size_of a) (size_of b) (tree_passes c (path ++ Columns (size_of b) ∷ []) [] a) _ (full_passes c (path ++ Columns (size_of b) ∷ []) [] a))
 
 -- ---- merging makes them
-
-lowered_all : List PlainStep → List PlainTerm
-lowered_all ss = map lowered ss
 
 merged-append : (st : Merging) (ss ts : List PlainStep) → merged st (map lowered (ss ++ ts)) ≡ merged (merged st (map lowered ss)) (map lowered ts)
 merged-append st [] ts = refl

@@ -4,10 +4,9 @@ use Rattle.matrix_meaning.specs.declared.Request.{Request}
 use Rattle.matrix_meaning.specs.Valid.{IsValid}
 use Rattle.loop_merge.specs.Merge.{in_order, merged_of}
 use Rattle.loop_merge.specs.Placed.{PlacesAreLimited}
-use Rattle.loop_merge.specs.Reach.{AreReachable}
-use Rattle.loop_merge.proofs.GoodPlaces.{HaveGoodPlaces, good_reaches, plain_good}
+use Rattle.loop_merge.proofs.GoodPlaces.{HaveGoodPlaces, plain_good}
 use Rattle.loop_merge.proofs.RootMerging.{root_merged}
-use Rattle.loop_merge.proofs.RootPlaces.{root_good, shared_size}
+use Rattle.loop_merge.proofs.RootPlaces.{root_good}
 use Rattle.tree_model.specs.Admissible.{IsAdmissible}
 use Rattle.tree_model.specs.Breakdown.{Breakdown}
 use Rattle.tree_model.specs.Cost.{is_plain}
@@ -21,7 +20,3 @@ tree_good_places c t valid h = good_either c t valid h (is_plain c) refl
 
 pub places_are_limited : PlacesAreLimited
 places_are_limited c t valid h = (tree_good_places c t valid h).limited
-
--- each place can be made with words of 64 bits
-pub tree_reachable : (c : Request) (t : Breakdown) → IsValid c → IsAdmissible c t → AreReachable c (merged_of c t)
-tree_reachable c t valid h = good_reaches c (merged_of c t) valid (shared_size c t valid h) (tree_good_places c t valid h)

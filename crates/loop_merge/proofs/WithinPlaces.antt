@@ -1,11 +1,10 @@
 -- Places under tensors of which those of one copy are left out: they are the places under all of them, where 0 names the one copy.
-use Rattle.std.proofs.Common.{◌≡◌, ℕ, ◌+◌, ◌≤◌, Bool, true, false, arith, refl, sym, ap, ap₂, ◌∙◌, List, [], ◌∷◌, length, if◌then◌else◌, subst}
+use Rattle.std.proofs.Common.{◌≡◌, ℕ, ◌+◌, ◌≤◌, Bool, true, false, arith, refl, sym, ap, ap₂, ◌∙◌, List, [], ◌∷◌, if◌then◌else◌, subst}
 use Rattle.std.specs.Prelude.{◌==◌}
 use Rattle.index_fn.specs.Mapping.{Mapping}
-use Rattle.perm_algebra.specs.Affine.{Fits, Sum, constant, variable, levels, parts, scaled, joined, simplified}
+use Rattle.perm_algebra.specs.Affine.{Sum, constant, variable, scaled, joined, simplified}
 use Rattle.perm_algebra.specs.Room.{HasRoomFor}
-use Rattle.perm_algebra.proofs.Sizes.{levels-scaled, levels-joined, parts-scaled, parts-joined}
-use Rattle.loop_merge.specs.Placed.{place_sum, AreCounts}
+use Rattle.loop_merge.specs.Placed.{Fits, place_sum, AreCounts}
 use Rattle.loop_merge.proofs.InCopies.{placed, AreCopies, simplified-placed, room-placed}
 use Rattle.loop_merge.proofs.Moved.{fits-one, placed-one_block, placed-one_column}
 use Rattle.loop_merge.proofs.PlaceSums.{variable-fits}
@@ -88,7 +87,7 @@ natural-placed [] n d e = refl
 natural-placed (t ∷ ts) n d e = natural-pick (count_of t == 1) t (within_all ts []) ts n d e (is-one (count_of t)) (size-all ts n) (λ i. natural-placed ts n i e)
 
 zero-fits : (n : ℕ) (cs : ℕ → ℕ) → n ≡ 1 → Fits n (constant 0) cs
-zero-fits n cs one = record { proper = tt; small = omega arith; plain = tt }
+zero-fits n cs one = record { proper = tt; small = omega arith; tame = tt; few = rw one (omega arith) }
 
 natural-copies-pick : (b : Bool) (t : Tensor) (path ts : Path) (n d : ℕ) (cs : ℕ → ℕ) → (b ≡ true → count_of t ≡ 1) → AreCounts (if b then path else t ∷ path) n d cs → ((i : ℕ) → AreCounts path n i cs → AreCopies ts (copies_from ts i) cs) →
     AreCopies (t ∷ ts) ((if b then constant 0 else variable 1 d (constant 0)) ∷ copies_from ts (if b then d else d + 1)) cs
@@ -99,44 +98,3 @@ natural-copies-pick false (Columns c) path ts n d cs one h inner = (variable-fit
 pub natural-copies : (ts : Path) (n d : ℕ) (cs : ℕ → ℕ) → AreCounts (within_all ts []) n d cs → AreCopies ts (copies_from ts d) cs
 natural-copies [] n d cs h = tt
 natural-copies (t ∷ ts) n d cs h = natural-copies-pick (count_of t == 1) t (within_all ts []) ts n d cs (is-one (count_of t)) h (λ i g. natural-copies ts n i cs g)
-
--- ---- how deep and how long
-
-abbrev pub parts_in : List Sum → ℕ
-parts_in [] = 0
-parts_in (u ∷ us) = parts u + parts_in us
-
-abbrev pub AreFlat : List Sum → Type 0
-AreFlat [] = Unit {0}
-AreFlat (u ∷ us) = (levels u ≡ 0) × AreFlat us
-
-pub parts-placed : (path : Path) (n : ℕ) (us : List Sum) (e : Sum) → parts (placed path n us e) ≤ parts_in us + parts e
-parts-placed [] n us e = omega arith
-parts-placed (t ∷ path) n [] e = omega arith
-parts-placed (Blocks c ∷ path) n (u ∷ us) e = omega (arith, parts-joined (scaled (size_under path n) u) (placed path n us e), parts-scaled (size_under path n) u, parts-placed path n us e)
-parts-placed (Columns c ∷ path) n (u ∷ us) e = omega (arith, parts-joined (scaled c (placed path n us e)) u, parts-scaled c (placed path n us e), parts-placed path n us e)
-
-pub levels-placed : (path : Path) (n : ℕ) (us : List Sum) (e : Sum) → AreFlat us → levels (placed path n us e) ≤ levels e
-levels-placed [] n us e h = omega arith
-levels-placed (t ∷ path) n [] e h = omega arith
-levels-placed (Blocks c ∷ path) n (u ∷ us) e h =
-    levels-joined (scaled (size_under path n) u) (placed path n us e) (levels e) (omega (arith, levels-scaled (size_under path n) u, h.0)) (levels-placed path n us e h.1)
-levels-placed (Columns c ∷ path) n (u ∷ us) e h =
-    levels-joined (scaled c (placed path n us e)) u (levels e) (omega (arith, levels-scaled c (placed path n us e), levels-placed path n us e h.1)) (omega (arith, h.0))
-
-from-pick : (b : Bool) (t : Tensor) (path ts : Path) (d : ℕ) → ((i : ℕ) → parts_in (copies_from ts i) ≡ length path) →
-    parts (if b then constant 0 else variable 1 d (constant 0)) + parts_in (copies_from ts (if b then d else d + 1)) ≡ length (if b then path else t ∷ path)
-from-pick true t path ts d is = omega (arith, is d)
-from-pick false t path ts d is = omega (arith, is (d + 1))
-
-pub parts-from : (ts : Path) (d : ℕ) → parts_in (copies_from ts d) ≡ length (within_all ts [])
-parts-from [] d = refl
-parts-from (t ∷ ts) d = from-pick (count_of t == 1) t (within_all ts []) ts d (λ i. parts-from ts i)
-
-flat-one : (b : Bool) (d : ℕ) → levels (if b then constant 0 else variable 1 d (constant 0)) ≡ 0
-flat-one true d = refl
-flat-one false d = refl
-
-pub flat-from : (ts : Path) (d : ℕ) → AreFlat (copies_from ts d)
-flat-from [] d = tt
-flat-from (t ∷ ts) d = (flat-one (count_of t == 1) d, flat-from ts (if count_of t == 1 then d else d + 1))

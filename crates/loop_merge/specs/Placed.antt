@@ -1,9 +1,10 @@
 -- The places of passes as sums of the loops' variables.
-use Rattle.std.specs.Prelude.{◌≡◌, ℕ, ◌+◌, ◌*◌, ◌<◌, ◌≤◌, List, [], ◌∷◌, ◌++◌, Some}
+use Rattle.std.specs.Prelude.{◌≡◌, ℕ, ◌+◌, ◌*◌, ◌^◌, ◌<◌, ◌≤◌, true, List, [], ◌∷◌, ◌++◌, Some}
 use Rattle.index_fn.specs.Mapping.{Mapping}
 use Rattle.matrix_meaning.specs.declared.Request.{Request}
 use Rattle.matrix_meaning.specs.Valid.{IsValid}
-use Rattle.perm_algebra.specs.Affine.{Fits, Sum, constant, levels, parts, simplified}
+use Rattle.passes.specs.Merge.{total, are_small}
+use Rattle.perm_algebra.specs.Affine.{Sum, constant, variable, remainder, quotient, top, parts, HasNoQuotient, IsProper, simplified}
 use Rattle.perm_algebra.specs.Room.{HasRoomFor}
 use Rattle.sigma_lower.specs.Work.{PlainWork, transforming, tiling, work_size}
 use Rattle.sigma_lower.specs.Wrapped.{inner_of}
@@ -20,39 +21,42 @@ AreCounts [] n d cs = 0 < n
 AreCounts (Blocks c ∷ path) n d cs = (cs d ≡ c) × (2 ≤ c) × AreCounts path n (d + 1) cs
 AreCounts (Columns c ∷ path) n d cs = (cs d ≡ c) × (2 ≤ c) × AreCounts path n (d + 1) cs
 
--- every number on the way fits 64 bits
-abbrev pub AllRoom : (ℕ → ℕ) → List Mapping → Sum → Type 0
-AllRoom cs [] e = Unit {0}
-AllRoom cs (f ∷ fs) e = HasRoomFor cs f e × AllRoom cs fs (simplified cs f e)
+-- what is divided by m, and m itself, stand in small numbers
+pub record IsSmallPart (cs : ℕ → ℕ) (of : Sum) (m : ℕ) : Type 0 where
+  pub divisor : m < 2 ^ 32
+  pub sum : total of < 2 ^ 32
+  pub word : top of cs < 2 ^ 64
+  pub small : are_small cs of ≡ true
+  pub plain : HasNoQuotient of
 
--- the places of the item that e names in its copy: where it is loaded from, and where it is stored
-abbrev pub gather_sum : (ℕ → ℕ) → PlainPass → Sum → Sum
-gather_sum cs p e = all_simplified cs p.befores (place_sum p.path (work_size p.work) 0 e)
+-- each remainder is of small numbers, and there is no quotient
+abbrev pub IsTame : (ℕ → ℕ) → Sum → Type 0
+IsTame cs (constant c) = Unit {0}
+IsTame cs (variable f d rest) = IsTame cs rest
+IsTame cs (remainder f of m rest) = IsSmallPart cs of m × IsTame cs rest
+IsTame cs (quotient f of m rest) = ⊥
 
-abbrev pub scatter_sum : (ℕ → ℕ) → PlainPass → Sum → Sum
-scatter_sum cs p e = all_simplified cs p.afters (place_sum p.path (work_size p.work) 0 e)
+-- a sum that stays below the size, in few parts, each of which counts
+pub record Fits (size : ℕ) (e : Sum) (cs : ℕ → ℕ) : Type 0 where
+  pub proper : IsProper e cs
+  pub small : top e cs < size
+  pub tame : IsTame cs e
+  pub few : 2 ^ parts e ≤ size * size
 
--- the place of that item in its ct's diagonal
+-- one function after the other keeps it in n words and leads it to one of count places, and every number in between fits 64 bits
+abbrev pub IsCarried : (ℕ → ℕ) → ℕ → ℕ → List Mapping → Sum → Type 0
+IsCarried cs n count [] e = Fits count e cs
+IsCarried cs n count (f ∷ fs) e = Fits n e cs × HasRoomFor cs f e × IsCarried cs n count fs (simplified cs f e)
+
+-- the functions that lead to the place of an item in its ct's diagonal
 abbrev pub diagonal_places : PlainDiagonal → List Mapping
 diagonal_places d = d.places ++ inner_of d.path (d.rows * d.cols) ∷ []
 
-abbrev pub diagonal_sum : (ℕ → ℕ) → PlainPass → PlainDiagonal → Sum → Sum
-diagonal_sum cs p d e = all_simplified cs (diagonal_places d) (place_sum p.path (work_size p.work) 0 e)
-
--- what a place may be, for a list of so many items: below its size, with no quotient, and not too deep or long
-pub record IsWithinLimits (cs : ℕ → ℕ) (size : ℕ) (e g : Sum) : Type 0 where
-  pub fits : Fits size g cs
-  pub levels : levels g ≤ levels e + 20
-  pub parts : parts g ≤ parts e + 40
-
--- the places of a pass are within the limits
+-- no place of the item that e names in its copy is over a limit, nor is any on the way there: where it is loaded from, where it is stored, and its place in its ct's diagonal
 pub record ArePlacesLimited (c : Request) (p : PlainPass) (cs : ℕ → ℕ) (e : Sum) : Type 0 where
-  pub gathers : IsWithinLimits cs c.size e (gather_sum cs p e)
-  pub scatters : IsWithinLimits cs c.size e (scatter_sum cs p e)
-  pub gather_room : AllRoom cs p.befores (place_sum p.path (work_size p.work) 0 e)
-  pub scatter_room : AllRoom cs p.afters (place_sum p.path (work_size p.work) 0 e)
-  pub multiplies : (d : PlainDiagonal) → p.diagonal ≡ Some d → IsWithinLimits cs (d.rows * d.cols) e (diagonal_sum cs p d e)
-  pub multiply_room : (d : PlainDiagonal) → p.diagonal ≡ Some d → AllRoom cs (diagonal_places d) (place_sum p.path (work_size p.work) 0 e)
+  pub loads : IsCarried cs c.size c.size p.befores (place_sum p.path (work_size p.work) 0 e)
+  pub stores : IsCarried cs c.size c.size p.afters (place_sum p.path (work_size p.work) 0 e)
+  pub factors : (d : PlainDiagonal) → p.diagonal ≡ Some d → IsCarried cs c.size (d.rows * d.cols) (diagonal_places d) (place_sum p.path (work_size p.work) 0 e)
 
 -- a sum that may name an item: any for a transform, and a number for a tile, whose items are written out one by one
 abbrev pub IsName : PlainWork → Sum → Type 0
@@ -68,8 +72,3 @@ AllLimited c (p ∷ ps) = IsLimitedPass c p × AllLimited c ps
 
 abbrev pub PlacesAreLimited : Type 0
 PlacesAreLimited = (c : Request) (t : Breakdown) → IsValid c → IsAdmissible c t → AllLimited c (merged_of c t)
-
--- the values of the path's loops, where the loop d has the value vs d
-abbrev pub loop_values : Path → ℕ → (ℕ → ℕ) → List ℕ
-loop_values [] d vs = []
-loop_values (t ∷ path) d vs = vs d ∷ loop_values path (d + 1) vs

@@ -15,3 +15,4 @@ mod Limits
 pub mod PassesEmit
 pub mod Within
 pub mod TestedSums
+pub mod TestedLists

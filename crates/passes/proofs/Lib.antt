@@ -11,6 +11,10 @@ pub mod Small
 pub mod Limited
 pub mod HornerRows
 pub mod PassPlaces
+pub mod Carried
 pub mod Listed
 pub mod GoodLoops
 pub mod Numbered
+pub mod Phases
+pub mod Several
+pub mod Fitting

@@ -1,5 +1,5 @@
 -- Sums within the limits, under tensors and behind other words.
-use Rattle.std.proofs.Common.{◌≡◌, ℕ, zero, suc, ◌+◌, ◌*◌, ◌-◌, ◌/◌, ◌^◌, ◌<◌, ◌≤◌, Bool, true, arith, refl, sym, ap, ap₂, ◌∙◌, [], ◌∷◌, length, subst}
+use Rattle.std.proofs.Common.{◌≡◌, ℕ, zero, suc, ◌+◌, ◌*◌, ◌-◌, ◌/◌, ◌^◌, ◌<◌, ◌≤◌, true, arith, refl, sym, ap, ap₂, ◌∙◌, [], ◌∷◌, length, subst}
 use Rattle.std.specs.Prelude.{nat_lt, max, ◌&&◌}
 use Rattle.std.proofs.Math.Nat.{mul-le-mul}
 use Rattle.std.proofs.lemmas.Bool.Decides.{nat_tests}

@@ -83,7 +83,7 @@ carries-last : (room n count : ℕ) (cs : ℕ → ℕ) (fs : List Mapping) (e : 
 carries-last room n count cs [] e h = h
 carries-last room n count cs (f ∷ fs) e h = carries-last room n count cs fs (simplified cs f e) (and-right (has_room cs f e) _ (and-right (is_limited room n cs e) _ h))
 
-carries-all : (room n count : ℕ) (cs : ℕ → ℕ) (fs : List Mapping) (es : List Sum) → list_all (carries_sum room n count cs fs) es ≡ true → list_all (is_limited room count cs) (map (all_simplified cs fs) es) ≡ true
+pub carries-all : (room n count : ℕ) (cs : ℕ → ℕ) (fs : List Mapping) (es : List Sum) → list_all (carries_sum room n count cs fs) es ≡ true → list_all (is_limited room count cs) (map (all_simplified cs fs) es) ≡ true
 carries-all room n count cs fs [] h = refl
 carries-all room n count cs fs (e ∷ es) h =
     both-true _ _ (carries-last room n count cs fs e (and-left (carries_sum room n count cs fs e) _ h)) (carries-all room n count cs fs es (and-right (carries_sum room n count cs fs e) _ h))

@@ -11,4 +11,7 @@ pub mod Horner
 pub mod Places
 pub mod Loops
 pub mod Merged
+pub mod Room
+pub mod Words
+pub mod Sigma
 pub mod Views

@@ -1,9 +1,10 @@
 -- Loops by the functions that make their places: what merging makes of terms in order, where no place is over a limit.
 use Rattle.std.specs.Prelude.{◌≡◌, ℕ, ◌<◌, true, List, [], ◌∷◌, ◌++◌, length, map, slice_index, Option, Some, None}
+use Rattle.std.specs.List.{list_all}
 use Rattle.index_fn.specs.Mapping.{Mapping, at}
 use Rattle.passes.specs.Copies.{loops_of}
 use Rattle.passes.specs.Good.{MovesVectors, CanNest, IsFormed, IsGoodTerm}
-use Rattle.passes.specs.Merge.{place_sum, items_in, items_out, all_simplified, suits, unbounded, passes_within}
+use Rattle.passes.specs.Merge.{place_sum, items_in, items_out, all_simplified, carries_sum, suits, Room, most, unbounded, passes_within}
 use Rattle.passes.specs.Nest.{PlainFactors, factor_count, PlainMultiplier, PlainNest, load_place, store_place}
 use Rattle.passes.specs.Term.{PlainTerm, same, gath, scat, diag, nest, move, product, beside, inner_of}
 use Rattle.passes.specs.Work.{PlainWork, tile, work_size}
@@ -116,9 +117,24 @@ pub record IsOrdered (t : PlainTerm) : Type 0 where
 abbrev pub one_nest : PlainLoop → List PlainNest
 one_nest p = nest_of p ∷ []
 
+-- what functions make of the natural places of items, one after the other, stays within the limits, and so does every number in between
+abbrev pub AreCarried : (room n count : ℕ) → PlainLoop → List Mapping → List Sum → Type 0
+AreCarried room n count p fs items = list_all (carries_sum room n count (limits_in p) fs) (map (place_sum p.path (work_size p.work) 0) items) ≡ true
+
+pub record IsLimitedLoop (room n : ℕ) (p : PlainLoop) : Type 0 where
+  pub loads : AreCarried room n n p p.befores (items_in p.work (length p.path))
+  pub stores : AreCarried room n n p p.afters (items_out p.work (length p.path))
+  pub factors : (d : PlainTaken) → p.taken ≡ Some d → AreCarried room n (factor_count d.factors) p d.places (items_out p.work (length p.path))
+
+-- no place on the way to those of the loops is over a limit
+abbrev pub AreLimitedLoops : Room → ℕ → List PlainLoop → Type 0
+AreLimitedLoops unbounded n ps = Unit {0}
+AreLimitedLoops (most room) n [] = Unit {0}
+AreLimitedLoops (most room) n (p ∷ ps) = IsLimitedLoop room n p × AreLimitedLoops (most room) n ps
+
 -- The passes of a term in order are its loops, one by one: none is copies alone
 abbrev pub MergeListed : Type 0
-MergeListed = (n : ℕ) (t : PlainTerm) → IsOrdered t → passes_within unbounded n t ≡ map one_nest (loops_in t)
+MergeListed = (room : Room) (n : ℕ) (t : PlainTerm) → IsOrdered t → AreLimitedLoops room n (loops_in t) → passes_within room n t ≡ map one_nest (loops_in t)
 
 -- ---- places
 

@@ -2,6 +2,7 @@
 use Rattle.std.specs.Prelude.{map}
 use Rattle.std.specs.Option.{option_map}
 use Rattle.passes.specs.Merged.{PlainMerged}
+use Rattle.passes.specs.Sigma.{PlainSigma}
 use Rattle.passes.specs.Nest.{PlainFactors, values, twiddles, repeated, spread, PlainMultiplier, PlainNest}
 use Rattle.passes.specs.Work.{PlainWork, kernel, rows, horner, tile, copy}
 use Rattle.passes.specs.declared.nest.Factors.{Factors}
@@ -9,6 +10,7 @@ use Rattle.passes.specs.declared.nest.Factors.TheVariants.{Values, Twiddles, Rep
 use Rattle.passes.specs.declared.nest.Merged.{Merged}
 use Rattle.passes.specs.declared.nest.Multiplier.{Multiplier}
 use Rattle.passes.specs.declared.nest.Nest.{Nest}
+use Rattle.passes.specs.declared.term.Sigma.{Sigma}
 use Rattle.passes.specs.declared.term.Term.{Term}
 use Rattle.passes.specs.declared.term.Term.TheVariants.{Same, Gather, Scatter, Diagonal, Copies, Move, Product', Beside'}
 use Rattle.passes.specs.Term.{PlainTerm, same, gath, scat, diag, nest, move, product, beside}
@@ -56,3 +58,6 @@ plain_term (Copies path work) = nest path.items (plain_work work)
 plain_term (Move path places) = move path.items places.items
 plain_term (Product' p a q b) = product (plain_term a) (plain_term b)
 plain_term (Beside' path n p a k q b) = beside path.items n (plain_term a) k (plain_term b)
+
+abbrev pub plain_sigma : Sigma → PlainSigma
+plain_sigma g = record { size = g.size; procs = g.procs; lanes = g.lanes; phases = map plain_term g.phases.items }

@@ -7,17 +7,20 @@ ghost use Rattle.passes.specs.Horner.{HornerRow};
 ghost use Rattle.passes.specs.Limits.{MergeLimits};
 ghost use Rattle.passes.specs.Loops.{LoopsAreGood, LoopsHavePlaces, MergeListed};
 ghost use Rattle.passes.specs.Places.{PassStores};
+ghost use Rattle.passes.specs.Sigma.{SigmaMerges};
 ghost use Rattle.passes.specs.CopiesLaws.{KeepsOnce, LoadsGather, LoopsScale, StandSideBySide, StandUnder, StoresScatter};
 
 mod items;
 mod nest;
+mod sizes;
 mod term;
 mod variables;
 mod work;
 
 pub use items::{items_in, items_out};
 pub use nest::{Factors, Merged, Multiplier, Nest};
-pub use term::Term;
+pub use sizes::size_of_whole;
+pub use term::{Sigma, Term};
 pub use variables::{counts, limits};
 pub use work::Work;
 
@@ -69,4 +72,9 @@ pub fn loops_have_places()
 /// The loops of a good term in order can be named by sums: a law of the definitions.
 pub fn loops_are_good()
     ensures { LoopsAreGood }
+{}
+
+/// The passes of good terms in phases do what the terms do, in their operations: a law of the definitions.
+pub fn sigma_merges()
+    ensures { SigmaMerges }
 {}

@@ -39,3 +39,16 @@ pub enum Term {
         second: Box<Term>,
     },
 }
+
+/// The terms of each phase, with a barrier after each: on arrays of `size` words, for so many processors and lanes. Clauses
+/// see it as a `PlainSigma` (Franchetti et al., 2005).
+#[derive(Drop)]
+pub struct Sigma {
+    /// How many words an array has.
+    pub size: u64,
+    /// How many processors share each phase.
+    pub procs: u64,
+    /// How many lanes a register has.
+    pub lanes: u64,
+    pub phases: Vec<Term>,
+}

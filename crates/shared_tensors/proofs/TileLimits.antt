@@ -9,6 +9,7 @@ use Rattle.std.proofs.lemmas.Nat.{div-mul-add, mod-mul-add}
 use Rattle.pass_actions.specs.Laws.{CanRunNest}
 use Rattle.pass_actions.specs.Machine.{PlainMachine, first_loop, if_several, loop_counts, values_of}
 use Rattle.pass_programs.specs.Conditions.{CanWriteNest, CanWritePass}
+use Rattle.pass_programs.proofs.TestedLists.{sums-written}
 use Rattle.passes.specs.Copies.{AreInside, StoreOnce}
 use Rattle.passes.specs.Good.{AreSound, NamesItems}
 use Rattle.passes.specs.Limits.{AreSeveral}
@@ -24,7 +25,6 @@ use Rattle.shared_tensors.proofs.Limits.{counts-first, roomier}
 use Rattle.shared_tensors.proofs.EqualShares.{AreShares, are_shared, several-within, share-word}
 use Rattle.shared_tensors.proofs.PathSizes.{all-tiles, size-group}
 use Rattle.shared_tensors.proofs.GoodTiles.{row-sums, side-sums}
-use Rattle.shared_tensors.proofs.Written.{frame-of, sums-written}
 use Rattle.smp_rewrite.specs.Smp.{within}
 use Rattle.tensor_paths.specs.declared.Tensor.TheVariants.{Blocks}
 use Rattle.tensor_paths.specs.Path.{Path, count_of, size_under}
@@ -271,12 +271,11 @@ module _ (h : PlainMachine) (r s : ℕ) (can : CanShare h r s) (left : AreShares
 
     tile-writes : CanWriteNest h z
     tile-writes =
-        let frame = frame-of h (tile v) in
         let deep : length (loop_counts h z) ≤ 2 = subst (λ l. length l ≤ 2) (sym loops-are) inner-short in
         let square : v * v ≤ 16 * 16 = mul-le-mul few-lanes few-lanes in
         record {
-          gathers = (names from from_sound, sums-written 64 h.size cs _ _ _ frame (omega (arith, deep)) (omega arith) high (all-tested 64 h.size cs from v 0 (λ k low below. from_limited k (omega (arith, below)))));
-          scatters = (names to to_sound, sums-written 64 h.size cs _ _ _ frame (omega (arith, deep)) (omega arith) high (all-tested 64 h.size cs to v 0 (λ k low below. to_limited k (omega (arith, below)))));
+          gathers = (names from from_sound, sums-written 64 h.size cs h (tile v) _ _ (omega (arith, deep)) (omega arith) high (all-tested 64 h.size cs from v 0 (λ k low below. from_limited k (omega (arith, below)))));
+          scatters = (names to to_sound, sums-written 64 h.size cs h (tile v) _ _ (omega (arith, deep)) (omega arith) high (all-tested 64 h.size cs to v 0 (λ k low below. to_limited k (omega (arith, below)))));
           multiplier = λ d is. absurd (cc);
           alike = tt;
           items = omega (arith, square);

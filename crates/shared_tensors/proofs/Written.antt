@@ -1,19 +1,15 @@
 -- A nest of a part can be written for every machine, where it is wrapped for its processors and lanes.
 use Rattle.std.proofs.Common.{◌≡◌, ℕ, ◌+◌, ◌^◌, ◌<◌, ◌≤◌, Bool, true, false, arith, refl, sym, ap, ap₂, ◌∙◌, List, [], ◌∷◌, ◌++◌, length, map, subst, All, Some}
-use Rattle.std.specs.Prelude.{◌&&◌, ◌==◌, drop, if◌then◌else◌, not, IsTrue}
+use Rattle.std.specs.Prelude.{◌&&◌, ◌==◌, drop, if◌then◌else◌}
 use Rattle.std.specs.List.{list_all}
 use Rattle.std.proofs.lemmas.List.{length-append}
-use Rattle.std.proofs.lemmas.List.Elements.{All-nil, All-cons, All-append, All-head, All-tail, All-weaker}
-use Rattle.icode.specs.Limits.{is_expr_within}
+use Rattle.std.proofs.lemmas.List.Elements.{All-nil, All-cons, All-append, All-head, All-tail}
 use Rattle.operators.specs.Sizes.{max_size}
 use Rattle.pass_actions.specs.Acts.{pass_registers}
 use Rattle.pass_actions.specs.Laws.{CanRunNest}
-use Rattle.pass_actions.specs.Machine.{PlainFrame, PlainMachine, first_loop, frame_of, loop_counts, one_if_several, plain_machine}
-use Rattle.pass_programs.specs.Conditions.{AreWithin, CanWrite, CanWriteNest, CanWritePass, FitsWord, loads_inside, stores_inside}
-use Rattle.pass_programs.specs.Expressions.{expr_of}
-use Rattle.pass_programs.specs.Small.{CanBeCoded, IsFrame}
-use Rattle.pass_programs.proofs.TestedSums.{tested_sums_are_coded}
-use Rattle.pass_programs.proofs.Within.{expressions_are_within}
+use Rattle.pass_actions.specs.Machine.{PlainMachine, first_loop, loop_counts, one_if_several, plain_machine}
+use Rattle.pass_programs.specs.Conditions.{CanWriteNest, CanWritePass}
+use Rattle.pass_programs.proofs.TestedLists.{loads-le, stores-le, sums-written}
 use Rattle.passes.proofs.Within.{both-true}
 use Rattle.passes.specs.Copies.{AreInside, StoreOnce}
 use Rattle.passes.specs.Good.{NamesItems}
@@ -28,48 +24,7 @@ use Rattle.shared_tensors.proofs.Limits.{wrapped}
 use Rattle.shared_tensors.proofs.Wraps.{Wraps}
 use Rattle.tensor_paths.specs.Path.{Path}
 
--- ---- sums
-
-coded-all : (room n : ℕ) (cs : ℕ → ℕ) (sums : List Sum) → room ≤ 64 → n ≤ 2 ^ 20 → list_all (is_limited room n cs) sums ≡ true → All (CanBeCoded cs) sums
-coded-all room n cs [] few high h = All-nil (CanBeCoded cs)
-coded-all room n cs (e ∷ es) few high h =
-    All-cons (CanBeCoded cs) e es (tested_sums_are_coded room n cs e few high (and-left (is_limited room n cs e) _ h)) (coded-all room n cs es few high (and-right (is_limited room n cs e) _ h))
-
-pub sums-written : (room n : ℕ) (cs : ℕ → ℕ) (f : PlainFrame) (open_loops : ℕ) (sums : List Sum) → IsFrame f → open_loops ≤ 64 → room ≤ 64 → n ≤ 2 ^ 20 → list_all (is_limited room n cs) sums ≡ true → AreWithin cs f open_loops sums
-sums-written room n cs f open_loops sums frame shallow few high h =
-    let all = coded-all room n cs sums few high h in
-    record {
-      writable = All-weaker (CanBeCoded cs) CanWrite (λ e k. k.writable) sums all;
-      words = All-weaker (CanBeCoded cs) (FitsWord cs) (λ e k. k.fits) sums all;
-      within = All-weaker (CanBeCoded cs) (λ e. IsTrue (is_expr_within (expr_of f open_loops e) open_loops)) (λ e k. expressions_are_within f open_loops e frame shallow k.small) sums all;
-    }
-
 -- ---- frames
-
-frame-by : (b : Bool) (more : ℕ) → not b ≡ true → 0 < (if b then 0 else 1) + more
-frame-by true more is = absurd (cc)
-frame-by false more is = omega arith
-
-pub frame-of : (h : PlainMachine) (w : PlainWork) → IsFrame (frame_of h w)
-frame-of h (kernel trees) is = frame-by (h.procs == 1) _ is
-frame-of h (rows root d) is = frame-by (h.procs == 1) _ is
-frame-of h (horner root d) is = frame-by (h.procs == 1) _ is
-frame-of h (tile v) is = frame-by (h.procs == 1) _ is
-frame-of h (copy d) is = frame-by (h.procs == 1) _ is
-
-pub loads-le : (w : PlainWork) → loads_inside w ≤ 2
-loads-le (kernel trees) = omega arith
-loads-le (rows root d) = omega arith
-loads-le (horner root d) = omega arith
-loads-le (tile v) = omega arith
-loads-le (copy d) = omega arith
-
-pub stores-le : (w : PlainWork) → stores_inside w ≤ 2
-stores-le (kernel trees) = omega arith
-stores-le (rows root d) = omega arith
-stores-le (horner root d) = omega arith
-stores-le (tile v) = omega arith
-stores-le (copy d) = omega arith
 
 drop-by : (one single : Bool) (p v : ℕ) (loops : List ℕ) → drop ((if one then 0 else 1) + (if single then 0 else 1)) ((if one then [] else p ∷ []) ++ ((if single then [] else v ∷ []) ++ loops)) ≡ loops
 drop-by true true p v loops = refl
@@ -153,16 +108,15 @@ module _ (h : PlainMachine) (path : Path) (up : Sum → Sum) (wraps : Wraps h pa
         let deep = open-loops z known in
         let more = loads-le z.work in
         let after = stores-le z.work in
-        let frame = frame-of h z.work in
         record {
-          gathers = (names-wrapped h path up wraps z.work z.gathers known.writes.gathers.0, sums-written 64 h.size cs (frame_of h z.work) _ (round z).gathers frame (omega (arith, deep, more)) (omega arith) high (and-left gathers-test _ places));
-          scatters = (names-wrapped h path up wraps z.work z.scatters known.writes.scatters.0, sums-written 64 h.size cs (frame_of h z.work) _ (round z).scatters frame (omega (arith, deep, after)) (omega arith) high (and-right gathers-test _ places));
+          gathers = (names-wrapped h path up wraps z.work z.gathers known.writes.gathers.0, sums-written 64 h.size cs h z.work _ (round z).gathers (omega (arith, deep, more)) (omega arith) high (and-left gathers-test _ places));
+          scatters = (names-wrapped h path up wraps z.work z.scatters known.writes.scatters.0, sums-written 64 h.size cs h z.work _ (round z).scatters (omega (arith, deep, after)) (omega arith) high (and-right gathers-test _ places));
           multiplier = λ d is.
               let old =
               of-places (λ d. NamesItems z.work d.places × (0 < factor_count d.factors) × (factor_count d.factors < 2 ^ 32) × (factor_count d.factors ≤ max_size)) (length path) z.multiplier d is
               (λ e one. (names-renumbered (length path) z.work e.places (known.writes.multiplier e one).0, (known.writes.multiplier e one).2, (known.writes.multiplier e one).3, known.shallow.factors e one)) in
               let short = old.3 in
-              (old.0, sums-written 64 (factor_count d.factors) cs (frame_of h z.work) _ d.places frame (omega (arith, deep, after)) (omega arith) (omega (arith, short)) (factor-test d is), old.1, old.2);
+              (old.0, sums-written 64 (factor_count d.factors) cs h z.work _ d.places (omega (arith, deep, after)) (omega arith) (omega (arith, short)) (factor-test d is), old.1, old.2);
           alike = alike-wrapped h path up wraps z z.work known.writes.gathers.0 known.writes.alike;
           items = known.writes.items;
           shallow = omega (arith, deep);

@@ -17,9 +17,9 @@ pub(crate) fn shared_path(
     requires { (0 < procs) × (0 < lanes) }
     ensures { IfOk result (λ path. path.items ≡ shared_path procs lanes count) }
 {
-    let blocks = within(alloc, Tensor::Blocks(count / procs / lanes), &[])?;
-    let beside = within(alloc, Tensor::Columns(lanes), &blocks)?;
-    let path = within(alloc, Tensor::Blocks(procs), &beside)?;
+    let blocks = within(Tensor::Blocks(count / procs / lanes), Vec::new(alloc))?;
+    let beside = within(Tensor::Columns(lanes), blocks)?;
+    let path = within(Tensor::Blocks(procs), beside)?;
     Ok(path)
 }
 
@@ -33,8 +33,8 @@ pub(crate) fn group_path(
     requires { (0 < procs) × (0 < lanes) }
     ensures { IfOk result (λ path. path.items ≡ group_path procs lanes rows) }
 {
-    let blocks = within(alloc, Tensor::Blocks(rows / procs / lanes), &[])?;
-    let path = within(alloc, Tensor::Blocks(procs), &blocks)?;
+    let blocks = within(Tensor::Blocks(rows / procs / lanes), Vec::new(alloc))?;
+    let path = within(Tensor::Blocks(procs), blocks)?;
     Ok(path)
 }
 
@@ -43,6 +43,6 @@ pub(crate) fn across(alloc: Global, lanes: u64, columns: u64) -> Result<Vec<Tens
     requires { 0 < lanes }
     ensures { IfOk result (λ path. path.items ≡ across lanes columns) }
 {
-    let path = within(alloc, Tensor::Blocks(columns / lanes), &[])?;
+    let path = within(Tensor::Blocks(columns / lanes), Vec::new(alloc))?;
     Ok(path)
 }

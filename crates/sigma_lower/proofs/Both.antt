@@ -1,23 +1,18 @@
--- All phases: their formulas fit, and do what the formula for lanes does.
+-- All phases: their terms do what the formula for lanes does.
 use Rattle.std.proofs.Common.{◌≡◌, ℕ, ◌/◌, Bool, true, false, arith, refl, sym, ap, ap₂, ◌∙◌, List, [], ◌∷◌, ◌++◌, if◌then◌else◌}
-use Rattle.std.specs.Prelude.{All, map, ◌==◌}
+use Rattle.std.specs.Prelude.{map, ◌==◌}
 use Rattle.std.specs.List.{flat_map}
 use Rattle.std.proofs.lemmas.Bool.Decides.{nat_tests}
 use Rattle.std.proofs.lemmas.List.{map-append}
-use Rattle.std.proofs.lemmas.List.Elements.{All-nil, All-cons}
 use Rattle.matrix_meaning.specs.declared.Request.{Request}
 use Rattle.matrix_meaning.specs.Valid.{IsValid}
-use Rattle.sigma_lower.specs.Lowered.{product_of, sigmas_of, all_mean, IsWhole, IsVecOf, SigmaTransforms}
+use Rattle.sigma_lower.specs.Good.{IsVecOf}
 use Rattle.sigma_lower.specs.Term.{PlainTerm, lowered, factor_term, terms_on, terms_in, phases_on, LoweredTransforms, PlainTerms}
 use Rattle.sigma_lower.proofs.Goods.{vec_good, phases_good}
 use Rattle.sigma_lower.proofs.Lowering.{factors_on}
-use Rattle.sigma_lower.proofs.Meanings.{mean-factors, whole_vector}
-use Rattle.sigma_lower.proofs.Wholes.{whole_factors}
-use Rattle.sigma_spl.specs.Meaning.{mean}
 use Rattle.smp_rewrite.specs.Cut.{factors_of, cut, smp_of}
 use Rattle.smp_rewrite.proofs.Factors.{cut-factors}
 use Rattle.smp_rewrite.proofs.TreeLaws.{smp_transforms}
-use Rattle.spl_ast.specs.Meaning.{IsVector}
 use Rattle.steps.specs.Meaning.{all_on, transform_of}
 use Rattle.steps.specs.Step.{PlainStep, steps_of}
 use Rattle.steps.proofs.StepMeanings.{all_on-append}
@@ -36,35 +31,6 @@ both-on c g x =
     let step = factor_step g.procs g.lanes in
     ap (λ ss. all_on c ss x) (map-append step g.first g.second) ∙ all_on-append c (map step g.first) (map step g.second) x
 
--- what holds of two phases, or of both as one
-whole-pick : (c : Request) (g : PlainVec) (b : Bool) → IsValid c → IsVecOf c g → All (IsWhole c) (map (product_of c) (map (map (factor_term g.procs g.lanes)) (if b then (g.first ++ g.second) ∷ [] else g.first ∷ g.second ∷ [])))
-whole-pick c g true valid h =
-    let ft = factor_term g.procs g.lanes in
-    All-cons (IsWhole c) (product_of c (map ft (g.first ++ g.second))) [] (whole_factors c g.procs g.lanes (g.first ++ g.second) valid (vec_good c g valid h)) (All-nil (IsWhole c))
-whole-pick c g false valid h =
-    let ft = factor_term g.procs g.lanes in
-    let both = phases_good c g valid h in
-    All-cons (IsWhole c) (product_of c (map ft g.first)) (product_of c (map ft g.second) ∷ []) (whole_factors c g.procs g.lanes g.first valid both.0)
-    (All-cons (IsWhole c) (product_of c (map ft g.second)) [] (whole_factors c g.procs g.lanes g.second valid both.1) (All-nil (IsWhole c)))
-
-pub sigmas_whole : (c : Request) (g : PlainVec) → IsValid c → IsVecOf c g → All (IsWhole c) (sigmas_of c g)
-sigmas_whole c g valid h = whole-pick c g (g.procs == 1) valid h
-
-mean-pick : (c : Request) (g : PlainVec) (b : Bool) (x : List ℕ) → IsValid c → IsVecOf c g → IsVector c.modulus c.size x →
-    all_mean c (map (product_of c) (map (map (factor_term g.procs g.lanes)) (if b then (g.first ++ g.second) ∷ [] else g.first ∷ g.second ∷ []))) x ≡ vec_on c g x
-mean-pick c g true x valid h u = mean-factors c g.procs g.lanes (g.first ++ g.second) x valid (vec_good c g valid h) u
-mean-pick c g false x valid h u =
-    let p = g.procs in
-    let v = g.lanes in
-    let both = phases_good c g valid h in
-    let first = product_of c (map (factor_term p v) g.first) in
-    mean-factors c p v g.second (mean c [] first x) valid both.1 (whole_vector c first x valid (whole_factors c p v g.first valid both.0) u)
-    ∙ ap (all_on c (map (factor_step p v) g.second)) (mean-factors c p v g.first x valid both.0 u)
-    ∙ sym (both-on c g x)
-
-pub sigmas_mean : (c : Request) (g : PlainVec) (x : List ℕ) → IsValid c → IsVecOf c g → IsVector c.modulus c.size x → all_mean c (sigmas_of c g) x ≡ vec_on c g x
-sigmas_mean c g x valid h u = mean-pick c g (g.procs == 1) x valid h u
-
 terms-pick : (c : Request) (g : PlainVec) (b : Bool) (x : List ℕ) → IsValid c → IsVecOf c g →
     phases_on c (map (map (factor_term g.procs g.lanes)) (if b then (g.first ++ g.second) ∷ [] else g.first ∷ g.second ∷ [])) x ≡ vec_on c g x
 terms-pick c g true x valid h = factors_on c g.procs g.lanes (g.first ++ g.second) x (vec_good c g valid h)
@@ -74,7 +40,7 @@ terms-pick c g false x valid h =
     let both = phases_good c g valid h in
     factors_on c p v g.second (terms_on c (map (factor_term p v) g.first) x) both.1 ∙ ap (all_on c (map (factor_step p v) g.second)) (factors_on c p v g.first x both.0) ∙ sym (both-on c g x)
 
-terms_mean : (c : Request) (g : PlainVec) (x : List ℕ) → IsValid c → IsVecOf c g → phases_on c (terms_in g) x ≡ vec_on c g x
+pub terms_mean : (c : Request) (g : PlainVec) (x : List ℕ) → IsValid c → IsVecOf c g → phases_on c (terms_in g) x ≡ vec_on c g x
 terms_mean c g x valid h = terms-pick c g (g.procs == 1) x valid h
 
 -- ---- trees
@@ -84,9 +50,6 @@ tree_on c t x valid h = (vec_keeps c (smp_of c t) valid (record { tree = t; admi
 
 pub lowered_transforms : LoweredTransforms
 lowered_transforms c t x valid h = terms_mean c (vec_of c (smp_of c t)) x valid (record { tree = t; admissible = h; form = refl }) ∙ tree_on c t x valid h
-
-pub sigma_transforms : SigmaTransforms
-sigma_transforms c t x valid h u = sigmas_mean c (vec_of c (smp_of c t)) x valid (record { tree = t; admissible = h; form = refl }) u ∙ tree_on c t x valid h
 
 -- ---- one processor and one lane
 

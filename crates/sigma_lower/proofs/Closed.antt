@@ -7,7 +7,7 @@ use Rattle.matrix_meaning.specs.declared.Request.{Request}
 use Rattle.operators.proofs.Lists.{factor_positive}
 use Rattle.sigma_lower.specs.Wrapped.{wrapped}
 use Rattle.sigma_lower.proofs.Permuted.{StaysBelow, wrapped-below}
-use Rattle.sigma_spl.proofs.Moves.{right_positive}
+use Rattle.sigma_lower.proofs.Sizes.{right_positive}
 use Rattle.tensor_paths.specs.declared.Tensor.TheVariants.{Blocks, Columns}
 use Rattle.tensor_paths.specs.Path.{Path, size_under}
 
@@ -21,7 +21,7 @@ le-mul_left r s h = let more : 1 * s ≤ r * s = mul-le 1 s r s h (omega arith) 
 
 -- ---- under tensors
 
-wrapped-defined : (path : Path) (n : ℕ) (f : Mapping) → IsClosed n f → size_under path n ≤ 1048576 → (i : ℕ) → i < size_under path n → IsDefinedAt (wrapped path n f) i
+pub wrapped-defined : (path : Path) (n : ℕ) (f : Mapping) → IsClosed n f → size_under path n ≤ 1048576 → (i : ℕ) → i < size_under path n → IsDefinedAt (wrapped path n f) i
 wrapped-defined [] n f h high i below = h.defined i below
 wrapped-defined (Blocks c ∷ path) n f h high i below =
     let size = size_under path n in

@@ -6,7 +6,6 @@ use Rattle.std.proofs.lemmas.List.{map-append}
 use Rattle.std.proofs.lemmas.List.Elements.{All-nil, All-cons, All-head, All-tail, All-append, All-take, All-drop}
 use Rattle.matrix_meaning.specs.declared.Request.{Request}
 use Rattle.matrix_meaning.specs.Valid.{IsValid}
-use Rattle.sigma_spl.proofs.Moves.{right_positive}
 use Rattle.smp_rewrite.specs.Cut.{whole_factor, cut_factors, factors_of, first_count, smp_of}
 use Rattle.smp_rewrite.specs.Smp as smp
 use Rattle.smp_rewrite.specs.Smp.{within}
@@ -24,27 +23,27 @@ use Rattle.vec_rewrite.specs.Laws.{HasLanes}
 use Rattle.vec_rewrite.specs.Turning.{kept, settled, grouped, order_after, narrowed, block_factors, laned, laned_from, phase_of, vec_of}
 use Rattle.vec_rewrite.specs.Vectors.{PlainFactor, lanes, diagonals, move_before, move_after, tiles, PlainVec, factor_step, vec_steps}
 use Rattle.vec_rewrite.proofs.LaneShapes.{vec_shaped}
-use Rattle.sigma_lower.specs.Good.{AreCoprime, IsGoodCore, IsGood, AreGood}
-use Rattle.sigma_lower.specs.Lowered.{IsVecOf}
+use Rattle.sigma_lower.specs.Good.{AreCoprime, IsGoodCore, IsGood, AreGood, IsVecOf}
 use Rattle.sigma_lower.proofs.Lowering.{good_steps}
+use Rattle.sigma_lower.proofs.Sizes.{right_positive}
 
--- ---- what a core needs apart from its size
+-- ---- what a core needs apart from its size, where that of a piece is said of its tree
 
-abbrev IsApt : PlainCore → Type 0
-IsApt (piece t) = HasWordSizes t
-IsApt (turns r s) = Unit {0}
-IsApt (twiddles r s) = Unit {0}
-IsApt (thomas_in r s) = AreCoprime r s
-IsApt (thomas_out r s) = AreCoprime r s
+abbrev pub IsApt : (Breakdown → Type 0) → PlainCore → Type 0
+IsApt Q (piece t) = Q t
+IsApt Q (turns r s) = Unit {0}
+IsApt Q (twiddles r s) = Unit {0}
+IsApt Q (thomas_in r s) = AreCoprime r s
+IsApt Q (thomas_out r s) = AreCoprime r s
 
-apt-core : (k : PlainCore) → IsGoodCore k → IsApt k
+apt-core : (k : PlainCore) → IsGoodCore k → IsApt HasWordSizes k
 apt-core (piece t) h = h
 apt-core (turns r s) h = tt
 apt-core (twiddles r s) h = tt
 apt-core (thomas_in r s) h = h
 apt-core (thomas_out r s) h = h
 
-good-core : (path : Path) (k : PlainCore) (n : ℕ) → IsApt k → size_under path (core_size k) ≡ n → 0 < n → IsGoodCore k
+good-core : (path : Path) (k : PlainCore) (n : ℕ) → IsApt HasWordSizes k → size_under path (core_size k) ≡ n → 0 < n → IsGoodCore k
 good-core path (piece t) n h e positive = h
 good-core path (turns r s) n h e positive =
     let whole : copies_of path * (r * s) ≡ n = sym (size_under-copies path (r * s)) ∙ e in
@@ -54,137 +53,146 @@ good-core path (twiddles r s) n h e positive = tt
 good-core path (thomas_in r s) n h e positive = h
 good-core path (thomas_out r s) n h e positive = h
 
-apt-steps : (c : Request) (ss : List PlainStep) → AreGood c ss → All (λ s. IsApt s.core) ss
-apt-steps c [] h = All-nil (λ s. IsApt s.core)
-apt-steps c (s ∷ ss) h = All-cons (λ s. IsApt s.core) s ss (apt-core s.core h.0.core) (apt-steps c ss h.1)
+apt-steps : (c : Request) (ss : List PlainStep) → AreGood c ss → All (λ s. IsApt HasWordSizes s.core) ss
+apt-steps c [] h = All-nil (λ s. IsApt HasWordSizes s.core)
+apt-steps c (s ∷ ss) h = All-cons (λ s. IsApt HasWordSizes s.core) s ss (apt-core s.core h.0.core) (apt-steps c ss h.1)
 
--- ---- factors for processors: the cores of the steps, and stride permutations
+-- ---- factors for processors: the cores of the steps, and stride permutations; for lanes the same, and tiles
 
-abbrev IsAptFactor : smp.PlainFactor → Type 0
-IsAptFactor (smp.blocks s) = IsApt s.core
-IsAptFactor (smp.diagonals s) = IsApt s.core
-IsAptFactor (smp.move_before s) = IsApt s.core
-IsAptFactor (smp.move_after s) = IsApt s.core
+abbrev pub IsAptFactor : (Breakdown → Type 0) → smp.PlainFactor → Type 0
+IsAptFactor Q (smp.blocks s) = IsApt Q s.core
+IsAptFactor Q (smp.diagonals s) = IsApt Q s.core
+IsAptFactor Q (smp.move_before s) = IsApt Q s.core
+IsAptFactor Q (smp.move_after s) = IsApt Q s.core
 
-apt-one : (f : smp.PlainFactor) → IsAptFactor f → All IsAptFactor (f ∷ [])
-apt-one f h = All-cons IsAptFactor f [] h (All-nil IsAptFactor)
+abbrev pub IsAptLane : (Breakdown → Type 0) → PlainFactor → Type 0
+IsAptLane Q (lanes s) = IsApt Q s.core
+IsAptLane Q (diagonals s) = IsApt Q s.core
+IsAptLane Q (move_before s) = IsApt Q s.core
+IsAptLane Q (move_after s) = IsApt Q s.core
+IsAptLane Q (tiles path) = Unit {0}
 
-whole-apt : (path : Path) (k : PlainCore) → IsApt k → All IsAptFactor (whole_factor path k ∷ [])
-whole-apt path (piece t) h = apt-one (smp.blocks (step path (piece t))) h
-whole-apt path (turns r s) h = apt-one (smp.move_before (step path (turns r s))) h
-whole-apt path (twiddles r s) h = apt-one (smp.diagonals (step path (twiddles r s))) h
-whole-apt path (thomas_in r s) h = apt-one (smp.move_before (step path (thomas_in r s))) h
-whole-apt path (thomas_out r s) h = apt-one (smp.move_after (step path (thomas_out r s))) h
+module _ (Q : Breakdown → Type 0) where
+  apt-one : (f : smp.PlainFactor) → IsAptFactor Q f → All (IsAptFactor Q) (f ∷ [])
+  apt-one f h = All-cons (IsAptFactor Q) f [] h (All-nil (IsAptFactor Q))
 
-cut-apt : (n p : ℕ) (path : Path) (k : PlainCore) → IsApt k → All IsAptFactor (cut_factors n p path k)
-cut-apt n p [] (piece t) h = whole-apt [] (piece t) h
-cut-apt n p [] (turns r s) h =
-    All-cons IsAptFactor (smp.move_before (step (within (Columns (r / p)) []) (turns p s))) (smp.blocks (step [] (turns (r / p) s)) ∷ []) tt (apt-one (smp.blocks (step [] (turns (r / p) s))) tt)
-cut-apt n p [] (twiddles r s) h = whole-apt [] (twiddles r s) h
-cut-apt n p [] (thomas_in r s) h = whole-apt [] (thomas_in r s) h
-cut-apt n p [] (thomas_out r s) h = whole-apt [] (thomas_out r s) h
-cut-apt n p (Blocks r ∷ path) k h = apt-one (smp.blocks (step (within (Blocks (r / p)) path) k)) h
-cut-apt n p (Columns s ∷ path) (piece t) h =
-    let before = smp.move_before (step (within (Columns (s / p)) []) (turns p (n / s))) in
-    let middle = smp.blocks (step (within (Columns (s / p)) path) (piece t)) in
-    let after = smp.move_after (step (within (Columns (s / p)) []) (turns (n / s) p)) in
-    All-cons IsAptFactor before (middle ∷ after ∷ []) tt (All-cons IsAptFactor middle (after ∷ []) h (apt-one after tt))
-cut-apt n p (Columns s ∷ path) (turns a b) h = whole-apt (Columns s ∷ path) (turns a b) h
-cut-apt n p (Columns s ∷ path) (twiddles a b) h = whole-apt (Columns s ∷ path) (twiddles a b) h
-cut-apt n p (Columns s ∷ path) (thomas_in a b) h = whole-apt (Columns s ∷ path) (thomas_in a b) h
-cut-apt n p (Columns s ∷ path) (thomas_out a b) h = whole-apt (Columns s ∷ path) (thomas_out a b) h
+  whole-apt : (path : Path) (k : PlainCore) → IsApt Q k → All (IsAptFactor Q) (whole_factor path k ∷ [])
+  whole-apt path (piece t) h = apt-one (smp.blocks (step path (piece t))) h
+  whole-apt path (turns r s) h = apt-one (smp.move_before (step path (turns r s))) h
+  whole-apt path (twiddles r s) h = apt-one (smp.diagonals (step path (twiddles r s))) h
+  whole-apt path (thomas_in r s) h = apt-one (smp.move_before (step path (thomas_in r s))) h
+  whole-apt path (thomas_out r s) h = apt-one (smp.move_after (step path (thomas_out r s))) h
 
-pick-apt : (b : Bool) (fs gs : List smp.PlainFactor) → All IsAptFactor fs → All IsAptFactor gs → All IsAptFactor (if b then fs else gs)
-pick-apt true fs gs h k = h
-pick-apt false fs gs h k = k
+  cut-apt : (n p : ℕ) (path : Path) (k : PlainCore) → IsApt Q k → All (IsAptFactor Q) (cut_factors n p path k)
+  cut-apt n p [] (piece t) h = whole-apt [] (piece t) h
+  cut-apt n p [] (turns r s) h =
+      All-cons (IsAptFactor Q) (smp.move_before (step (within (Columns (r / p)) []) (turns p s))) (smp.blocks (step [] (turns (r / p) s)) ∷ []) tt (apt-one (smp.blocks (step [] (turns (r / p) s))) tt)
+  cut-apt n p [] (twiddles r s) h = whole-apt [] (twiddles r s) h
+  cut-apt n p [] (thomas_in r s) h = whole-apt [] (thomas_in r s) h
+  cut-apt n p [] (thomas_out r s) h = whole-apt [] (thomas_out r s) h
+  cut-apt n p (Blocks r ∷ path) k h = apt-one (smp.blocks (step (within (Blocks (r / p)) path) k)) h
+  cut-apt n p (Columns s ∷ path) (piece t) h =
+      let before = smp.move_before (step (within (Columns (s / p)) []) (turns p (n / s))) in
+      let middle = smp.blocks (step (within (Columns (s / p)) path) (piece t)) in
+      let after = smp.move_after (step (within (Columns (s / p)) []) (turns (n / s) p)) in
+      All-cons (IsAptFactor Q) before (middle ∷ after ∷ []) tt (All-cons (IsAptFactor Q) middle (after ∷ []) h (apt-one after tt))
+  cut-apt n p (Columns s ∷ path) (turns a b) h = whole-apt (Columns s ∷ path) (turns a b) h
+  cut-apt n p (Columns s ∷ path) (twiddles a b) h = whole-apt (Columns s ∷ path) (twiddles a b) h
+  cut-apt n p (Columns s ∷ path) (thomas_in a b) h = whole-apt (Columns s ∷ path) (thomas_in a b) h
+  cut-apt n p (Columns s ∷ path) (thomas_out a b) h = whole-apt (Columns s ∷ path) (thomas_out a b) h
 
-flat-apt : (n p : ℕ) (ss : List PlainStep) → All (λ s. IsApt s.core) ss → All IsAptFactor (flat_map (factors_of n p) ss)
-flat-apt n p [] h = All-nil IsAptFactor
-flat-apt n p (s ∷ ss) h =
-    let core : IsApt s.core = All-head (λ s. IsApt s.core) s ss h in
-    All-append IsAptFactor (factors_of n p s) (flat_map (factors_of n p) ss)
-    (pick-apt (p == 1) (smp.blocks s ∷ []) (cut_factors n p s.path s.core) (apt-one (smp.blocks s) core) (cut-apt n p s.path s.core core))
-    (flat-apt n p ss (All-tail (λ s. IsApt s.core) s ss h))
+  pick-apt : (b : Bool) (fs gs : List smp.PlainFactor) → All (IsAptFactor Q) fs → All (IsAptFactor Q) gs → All (IsAptFactor Q) (if b then fs else gs)
+  pick-apt true fs gs h k = h
+  pick-apt false fs gs h k = k
 
--- ---- factors for lanes: the same, and tiles
+  flat-apt : (n p : ℕ) (ss : List PlainStep) → All (λ s. IsApt Q s.core) ss → All (IsAptFactor Q) (flat_map (factors_of n p) ss)
+  flat-apt n p [] h = All-nil (IsAptFactor Q)
+  flat-apt n p (s ∷ ss) h =
+      let core : IsApt Q s.core = All-head (λ s. IsApt Q s.core) s ss h in
+      All-append (IsAptFactor Q) (factors_of n p s) (flat_map (factors_of n p) ss)
+      (pick-apt (p == 1) (smp.blocks s ∷ []) (cut_factors n p s.path s.core) (apt-one (smp.blocks s) core) (cut-apt n p s.path s.core core))
+      (flat-apt n p ss (All-tail (λ s. IsApt Q s.core) s ss h))
 
-abbrev IsAptLane : PlainFactor → Type 0
-IsAptLane (lanes s) = IsApt s.core
-IsAptLane (diagonals s) = IsApt s.core
-IsAptLane (move_before s) = IsApt s.core
-IsAptLane (move_after s) = IsApt s.core
-IsAptLane (tiles path) = Unit {0}
+  lane-one : (f : PlainFactor) → IsAptLane Q f → All (IsAptLane Q) (f ∷ [])
+  lane-one f h = All-cons (IsAptLane Q) f [] h (All-nil (IsAptLane Q))
 
-lane-one : (f : PlainFactor) → IsAptLane f → All IsAptLane (f ∷ [])
-lane-one f h = All-cons IsAptLane f [] h (All-nil IsAptLane)
+  settled-apt : (d : Deal) (o : Option Grid) → All (IsAptLane Q) (settled d o)
+  settled-apt d None = All-nil (IsAptLane Q)
+  settled-apt d (Some g) =
+      let after = move_after (step (within (Blocks d.procs) (within (Blocks g.groups) [])) (turns d.lanes g.tiles)) in
+      All-cons (IsAptLane Q) (tiles (within (Blocks g.groups) (within (Blocks g.tiles) []))) (after ∷ []) tt (lane-one after tt)
 
-settled-apt : (d : Deal) (o : Option Grid) → All IsAptLane (settled d o)
-settled-apt d None = All-nil IsAptLane
-settled-apt d (Some g) =
-    let after = move_after (step (within (Blocks d.procs) (within (Blocks g.groups) [])) (turns d.lanes g.tiles)) in
-    All-cons IsAptLane (tiles (within (Blocks g.groups) (within (Blocks g.tiles) []))) (after ∷ []) tt (lane-one after tt)
+  grouped-apt : (d : Deal) (o : Option Grid) (g : Grid) → All (IsAptLane Q) (grouped d o g)
+  grouped-apt d None g =
+      let before = move_before (step (within (Blocks d.procs) (within (Blocks g.groups) [])) (turns g.tiles d.lanes)) in
+      let across = tiles (within (Blocks g.groups) (within (Blocks g.tiles) [])) in All-cons (IsAptLane Q) before (across ∷ []) tt (lane-one across tt)
+  grouped-apt d (Some h) g = All-nil (IsAptLane Q)
 
-grouped-apt : (d : Deal) (o : Option Grid) (g : Grid) → All IsAptLane (grouped d o g)
-grouped-apt d None g =
-    let before = move_before (step (within (Blocks d.procs) (within (Blocks g.groups) [])) (turns g.tiles d.lanes)) in
-    let across = tiles (within (Blocks g.groups) (within (Blocks g.tiles) [])) in All-cons IsAptLane before (across ∷ []) tt (lane-one across tt)
-grouped-apt d (Some h) g = All-nil IsAptLane
+  settled-then : (d : Deal) (o : Option Grid) (f : PlainFactor) → IsAptLane Q f → All (IsAptLane Q) (settled d o ++ f ∷ [])
+  settled-then d o f h = All-append (IsAptLane Q) (settled d o) (f ∷ []) (settled-apt d o) (lane-one f h)
 
-settled-then : (d : Deal) (o : Option Grid) (f : PlainFactor) → IsAptLane f → All IsAptLane (settled d o ++ f ∷ [])
-settled-then d o f h = All-append IsAptLane (settled d o) (f ∷ []) (settled-apt d o) (lane-one f h)
+  narrowed-apt : (v : ℕ) (path : Path) (k : PlainCore) → IsApt Q k → IsApt Q (narrowed v path k).core
+  narrowed-apt v [] k h = h
+  narrowed-apt v (Blocks r ∷ path) k h = h
+  narrowed-apt v (Columns s ∷ path) k h = h
 
-narrowed-apt : (v : ℕ) (path : Path) (k : PlainCore) → IsApt k → IsApt (narrowed v path k).core
-narrowed-apt v [] k h = h
-narrowed-apt v (Blocks r ∷ path) k h = h
-narrowed-apt v (Columns s ∷ path) k h = h
+  block-apt : (d : Deal) (o : Option Grid) (path : Path) (k : PlainCore) → IsApt Q k → All (IsAptLane Q) (block_factors d o path k)
+  block-apt d o [] (piece t) h = settled-then d o (lanes (step [] (piece t))) h
+  block-apt d o [] (turns r s) h = settled-then d o (lanes (step [] (turns (r / d.lanes) s))) tt
+  block-apt d o [] (twiddles r s) h = settled-then d o (diagonals (step (within (Blocks d.procs) []) (twiddles r s))) tt
+  block-apt d o [] (thomas_in r s) h = settled-then d o (lanes (step [] (thomas_in r s))) h
+  block-apt d o [] (thomas_out r s) h = settled-then d o (lanes (step [] (thomas_out r s))) h
+  block-apt d o (Blocks r ∷ path) k h =
+      let g : Grid = record { groups = r / d.lanes; tiles = d.block / r / d.lanes } in
+      let lane = lanes (step (within (Blocks (r / d.lanes)) path) k) in
+      All-append (IsAptLane Q) (grouped d o g) (lane ∷ []) (grouped-apt d o g) (lane-one lane h)
+  block-apt d o (Columns s ∷ path) (piece t) h = settled-then d o (lanes (narrowed d.lanes (Columns s ∷ path) (piece t))) h
+  block-apt d o (Columns s ∷ path) (turns a b) h = settled-then d o (lanes (narrowed d.lanes (Columns s ∷ path) (turns a b))) h
+  block-apt d o (Columns s ∷ path) (twiddles a b) h = settled-then d o (diagonals (step (within (Blocks d.procs) (Columns s ∷ path)) (twiddles a b))) h
+  block-apt d o (Columns s ∷ path) (thomas_in a b) h = settled-then d o (lanes (narrowed d.lanes (Columns s ∷ path) (thomas_in a b))) h
+  block-apt d o (Columns s ∷ path) (thomas_out a b) h = settled-then d o (lanes (narrowed d.lanes (Columns s ∷ path) (thomas_out a b))) h
 
-block-apt : (d : Deal) (o : Option Grid) (path : Path) (k : PlainCore) → IsApt k → All IsAptLane (block_factors d o path k)
-block-apt d o [] (piece t) h = settled-then d o (lanes (step [] (piece t))) h
-block-apt d o [] (turns r s) h = settled-then d o (lanes (step [] (turns (r / d.lanes) s))) tt
-block-apt d o [] (twiddles r s) h = settled-then d o (diagonals (step (within (Blocks d.procs) []) (twiddles r s))) tt
-block-apt d o [] (thomas_in r s) h = settled-then d o (lanes (step [] (thomas_in r s))) h
-block-apt d o [] (thomas_out r s) h = settled-then d o (lanes (step [] (thomas_out r s))) h
-block-apt d o (Blocks r ∷ path) k h =
-    let g : Grid = record { groups = r / d.lanes; tiles = d.block / r / d.lanes } in
-    let lane = lanes (step (within (Blocks (r / d.lanes)) path) k) in
-    All-append IsAptLane (grouped d o g) (lane ∷ []) (grouped-apt d o g) (lane-one lane h)
-block-apt d o (Columns s ∷ path) (piece t) h = settled-then d o (lanes (narrowed d.lanes (Columns s ∷ path) (piece t))) h
-block-apt d o (Columns s ∷ path) (turns a b) h = settled-then d o (lanes (narrowed d.lanes (Columns s ∷ path) (turns a b))) h
-block-apt d o (Columns s ∷ path) (twiddles a b) h = settled-then d o (diagonals (step (within (Blocks d.procs) (Columns s ∷ path)) (twiddles a b))) h
-block-apt d o (Columns s ∷ path) (thomas_in a b) h = settled-then d o (lanes (narrowed d.lanes (Columns s ∷ path) (thomas_in a b))) h
-block-apt d o (Columns s ∷ path) (thomas_out a b) h = settled-then d o (lanes (narrowed d.lanes (Columns s ∷ path) (thomas_out a b))) h
+  laned-apt : (d : Deal) (o : Option Grid) (f : smp.PlainFactor) → IsAptFactor Q f → All (IsAptLane Q) (laned d o f)
+  laned-apt d o (smp.blocks s) h = block-apt d o s.path s.core h
+  laned-apt d o (smp.diagonals s) h = settled-then d o (diagonals s) h
+  laned-apt d o (smp.move_before s) h = settled-then d o (move_before (narrowed d.lanes s.path s.core)) (narrowed-apt d.lanes s.path s.core h)
+  laned-apt d o (smp.move_after s) h = settled-then d o (move_after (narrowed d.lanes s.path s.core)) (narrowed-apt d.lanes s.path s.core h)
 
-laned-apt : (d : Deal) (o : Option Grid) (f : smp.PlainFactor) → IsAptFactor f → All IsAptLane (laned d o f)
-laned-apt d o (smp.blocks s) h = block-apt d o s.path s.core h
-laned-apt d o (smp.diagonals s) h = settled-then d o (diagonals s) h
-laned-apt d o (smp.move_before s) h = settled-then d o (move_before (narrowed d.lanes s.path s.core)) (narrowed-apt d.lanes s.path s.core h)
-laned-apt d o (smp.move_after s) h = settled-then d o (move_after (narrowed d.lanes s.path s.core)) (narrowed-apt d.lanes s.path s.core h)
+  from-apt : (d : Deal) (o : Option Grid) (fs : List smp.PlainFactor) → All (IsAptFactor Q) fs → All (IsAptLane Q) (laned_from d o fs)
+  from-apt d o [] h = settled-apt d o
+  from-apt d o (f ∷ fs) h =
+      All-append (IsAptLane Q) (laned d o f) (laned_from d (order_after d f) fs) (laned-apt d o f (All-head (IsAptFactor Q) f fs h)) (from-apt d (order_after d f) fs (All-tail (IsAptFactor Q) f fs h))
 
-from-apt : (d : Deal) (o : Option Grid) (fs : List smp.PlainFactor) → All IsAptFactor fs → All IsAptLane (laned_from d o fs)
-from-apt d o [] h = settled-apt d o
-from-apt d o (f ∷ fs) h =
-    All-append IsAptLane (laned d o f) (laned_from d (order_after d f) fs) (laned-apt d o f (All-head IsAptFactor f fs h)) (from-apt d (order_after d f) fs (All-tail IsAptFactor f fs h))
+  kept-one : (f : smp.PlainFactor) → IsAptFactor Q f → IsAptLane Q (kept f)
+  kept-one (smp.blocks s) h = h
+  kept-one (smp.diagonals s) h = h
+  kept-one (smp.move_before s) h = h
+  kept-one (smp.move_after s) h = h
 
-kept-one : (f : smp.PlainFactor) → IsAptFactor f → IsAptLane (kept f)
-kept-one (smp.blocks s) h = h
-kept-one (smp.diagonals s) h = h
-kept-one (smp.move_before s) h = h
-kept-one (smp.move_after s) h = h
+  kept-apt : (fs : List smp.PlainFactor) → All (IsAptFactor Q) fs → All (IsAptLane Q) (map kept fs)
+  kept-apt [] h = All-nil (IsAptLane Q)
+  kept-apt (f ∷ fs) h = All-cons (IsAptLane Q) (kept f) (map kept fs) (kept-one f (All-head (IsAptFactor Q) f fs h)) (kept-apt fs (All-tail (IsAptFactor Q) f fs h))
 
-kept-apt : (fs : List smp.PlainFactor) → All IsAptFactor fs → All IsAptLane (map kept fs)
-kept-apt [] h = All-nil IsAptLane
-kept-apt (f ∷ fs) h = All-cons IsAptLane (kept f) (map kept fs) (kept-one f (All-head IsAptFactor f fs h)) (kept-apt fs (All-tail IsAptFactor f fs h))
+  pick-lane : (b : Bool) (fs gs : List PlainFactor) → All (IsAptLane Q) fs → All (IsAptLane Q) gs → All (IsAptLane Q) (if b then fs else gs)
+  pick-lane true fs gs h k = h
+  pick-lane false fs gs h k = k
 
-pick-lane : (b : Bool) (fs gs : List PlainFactor) → All IsAptLane fs → All IsAptLane gs → All IsAptLane (if b then fs else gs)
-pick-lane true fs gs h k = h
-pick-lane false fs gs h k = k
+  phase-apt : (d : Deal) (fs : List smp.PlainFactor) → All (IsAptFactor Q) fs → All (IsAptLane Q) (phase_of d fs)
+  phase-apt d fs h = pick-lane (d.lanes == 1) (map kept fs) (laned_from d None fs) (kept-apt fs h) (from-apt d None fs h)
 
-phase-apt : (d : Deal) (fs : List smp.PlainFactor) → All IsAptFactor fs → All IsAptLane (phase_of d fs)
-phase-apt d fs h = pick-lane (d.lanes == 1) (map kept fs) (laned_from d None fs) (kept-apt fs h) (from-apt d None fs h)
+  -- the factors of a tree whose steps are apt
+  pub tree-apt : (c : Request) (t : Breakdown) → All (λ s. IsApt Q s.core) (steps_of c [] t) → All (IsAptLane Q) ((vec_of c (smp_of c t)).first ++ (vec_of c (smp_of c t)).second)
+  tree-apt c t apt =
+      let ss = steps_of c [] t in
+      let k = first_count c.procs ss in
+      let g = vec_of c (smp_of c t) in
+      let d : Deal = record { procs = c.procs; block = c.size / c.procs; lanes = c.lanes } in
+      All-append (IsAptLane Q) g.first g.second (phase-apt d (smp_of c t).first (flat-apt c.size c.procs (take k ss) (All-take (λ s. IsApt Q s.core) k ss apt)))
+      (phase-apt d (smp_of c t).second (flat-apt c.size c.procs (drop k ss) (All-drop (λ s. IsApt Q s.core) k ss apt)))
 
 -- ---- all factors
 
-good-factor : (c : Request) (p v : ℕ) (f : PlainFactor) → IsValid c → HasLanes c.size p v f → IsAptLane f → IsGood c (factor_step p v f)
+good-factor : (c : Request) (p v : ℕ) (f : PlainFactor) → IsValid c → HasLanes c.size p v f → IsAptLane HasWordSizes f → IsGood c (factor_step p v f)
 good-factor c p v (lanes s) valid h apt =
     let path = within (Blocks p) (within (Columns v) s.path) in
     let n = core_size s.core in
@@ -203,24 +211,18 @@ good-factor c p v (tiles path) valid h apt =
     let size = size-within (Blocks p) path (v * v) ∙ h in
     record { size = size; core = good-core (within (Blocks p) path) (turns v v) c.size tt size valid.in_range.size.0 }
 
-good-factors : (c : Request) (p v : ℕ) (fs : List PlainFactor) → IsValid c → All (HasLanes c.size p v) fs → All IsAptLane fs → AreGood c (map (factor_step p v) fs)
+good-factors : (c : Request) (p v : ℕ) (fs : List PlainFactor) → IsValid c → All (HasLanes c.size p v) fs → All (IsAptLane HasWordSizes) fs → AreGood c (map (factor_step p v) fs)
 good-factors c p v [] valid h apt = tt
 good-factors c p v (f ∷ fs) valid h apt = (
-  good-factor c p v f valid (All-head (HasLanes c.size p v) f fs h) (All-head IsAptLane f fs apt),
-  good-factors c p v fs valid (All-tail (HasLanes c.size p v) f fs h) (All-tail IsAptLane f fs apt),
+  good-factor c p v f valid (All-head (HasLanes c.size p v) f fs h) (All-head (IsAptLane HasWordSizes) f fs apt),
+  good-factors c p v fs valid (All-tail (HasLanes c.size p v) f fs h) (All-tail (IsAptLane HasWordSizes) f fs apt),
 )
 
 tree-good : (c : Request) (t : Breakdown) → IsValid c → IsAdmissible c t → AreGood c (vec_steps (vec_of c (smp_of c t)))
 tree-good c t valid h =
-    let ss = steps_of c [] t in
-    let k = first_count c.procs ss in
     let g = vec_of c (smp_of c t) in
-    let d : Deal = record { procs = c.procs; block = c.size / c.procs; lanes = c.lanes } in
-    let apt = apt-steps c ss (good_steps c [] t valid h.well_formed h.size) in
     good-factors c c.procs c.lanes (g.first ++ g.second) valid (vec_shaped c (smp_of c t) valid (record { tree = t; admissible = h; form = refl }))
-    (All-append IsAptLane g.first g.second
-    (phase-apt d (smp_of c t).first (flat-apt c.size c.procs (take k ss) (All-take (λ s. IsApt s.core) k ss apt)))
-    (phase-apt d (smp_of c t).second (flat-apt c.size c.procs (drop k ss) (All-drop (λ s. IsApt s.core) k ss apt))))
+    (tree-apt HasWordSizes c t (apt-steps c (steps_of c [] t) (good_steps c [] t valid h.well_formed h.size)))
 
 -- the steps of a formula for lanes are good
 pub vec_good : (c : Request) (g : PlainVec) → IsValid c → IsVecOf c g → AreGood c (vec_steps g)

@@ -24,7 +24,6 @@ use Rattle.smp_rewrite.proofs.Cores.{core-reads, core-gives}
 use Rattle.steps.specs.Meaning.{core_size, core_on, step_on, all_on}
 use Rattle.steps.specs.Step.{PlainCore, piece, turns, twiddles, thomas_in, thomas_out, PlainStep, rule_steps, steps_of}
 use Rattle.steps.proofs.WordSizes.{word_sizes}
-use Rattle.sigma_spl.proofs.Moves.{within_whole}
 use Rattle.tensor_paths.specs.declared.Tensor.TheVariants.{Blocks, Columns}
 use Rattle.tensor_paths.specs.Loop.{loop_on}
 use Rattle.tensor_paths.specs.Path.{Path, size_under, copies_of, under, place, Reads}
@@ -39,10 +38,11 @@ use Rattle.sigma_lower.specs.Term.{nest, lowered_core, after_core, factor_term, 
 use Rattle.sigma_lower.specs.Work.{PlainWork, transforming, tiling, work_size, work_on}
 use Rattle.sigma_lower.specs.Wrapped.{wrapped, unit_below, unit_of}
 use Rattle.sigma_lower.proofs.Permuted.{StaysBelow, gather-under, scale-under, wrapped-permutes}
+use Rattle.sigma_lower.proofs.Sizes.{within_whole}
 -- ---- the steps of a tree are good: of the request's size, and with the factors that their permutations need
 
 pub use Rattle.sigma_lower.specs.Good.{AreCoprime, IsGoodCore, IsGood, AreGood}
-pub use Rattle.sigma_spl.proofs.Moves.{part-le}
+pub use Rattle.sigma_lower.proofs.Sizes.{part-le}
 
 pub good-append : (c : Request) (ss ts : List PlainStep) → AreGood c ss → AreGood c ts → AreGood c (ss ++ ts)
 good-append c [] ts h k = k

@@ -1,12 +1,16 @@
--- Steps of the request's size, with the factors that their permutations need.
+-- Steps of the request's size, with the factors that their permutations need; and formulas for lanes of trees.
 use Rattle.std.specs.Prelude.{◌≡◌, ℕ, ◌*◌, ◌<◌, ◌≤◌, List, [], ◌∷◌}
 use Rattle.std.specs.Int.{IsGcd}
 use Rattle.matrix_meaning.specs.declared.Request.{Request}
 use Rattle.operators.specs.Sizes.{max_size}
+use Rattle.smp_rewrite.specs.Cut.{smp_of}
 use Rattle.steps.specs.Meaning.{core_size}
 use Rattle.steps.specs.Step.{PlainCore, piece, turns, twiddles, thomas_in, thomas_out, PlainStep}
 use Rattle.tensor_paths.specs.Path.{size_under}
-use Rattle.tree_model.specs.Breakdown.{HasWordSizes}
+use Rattle.tree_model.specs.Admissible.{IsAdmissible}
+use Rattle.tree_model.specs.Breakdown.{Breakdown, HasWordSizes}
+use Rattle.vec_rewrite.specs.Turning.{vec_of}
+use Rattle.vec_rewrite.specs.Vectors.{PlainVec}
 
 pub record AreCoprime (r s : ℕ) : Type 0 where
   pub left : 0 < r
@@ -28,3 +32,9 @@ pub record IsGood (c : Request) (s : PlainStep) : Type 0 where
 abbrev pub AreGood : Request → List PlainStep → Type 0
 AreGood c [] = Unit {0}
 AreGood c (s ∷ ss) = IsGood c s × AreGood c ss
+
+-- the formula for lanes of some admissible tree
+pub record IsVecOf (c : Request) (g : PlainVec) : Type 0 where
+  pub tree : Breakdown
+  pub admissible : IsAdmissible c tree
+  pub form : g ≡ vec_of c (smp_of c tree)

@@ -56,17 +56,18 @@ pub fn to_smp(alloc: Global, c: &Ctx, tree: &Tree) -> Result<SmpSpl, NoMemory>
 {
     let _request = c.request();
     let steps = steps_of_tree(alloc, c, tree)?;
-    let formula = cut_steps(alloc, c, &steps)?;
+    let formula = cut_steps(alloc, c, steps)?;
     Ok(formula)
 }
 
 // The formula of steps.
-fn cut_steps(alloc: Global, c: &Ctx, steps: &[Step]) -> Result<SmpSpl, NoMemory>
-    requires { All (λ s. step_size (plain_step s) ≡ c.now.size) steps.now }
-    ensures { IfOk result (λ f. plain_smp f ≡ cut c.now.size c.now.procs c.now.line (map plain_step steps.now)) }
+fn cut_steps(alloc: Global, c: &Ctx, steps: Vec<Step>) -> Result<SmpSpl, NoMemory>
+    requires { All (λ s. step_size (plain_step s) ≡ c.now.size) steps.items }
+    ensures { IfOk result (λ f. plain_smp f ≡ cut c.now.size c.now.procs c.now.line (map plain_step steps.items)) }
 {
     let request = c.request();
-    let (right, left) = steps.split_at(first_count(request.procs, steps));
+    let mut right = steps;
+    let left = right.split_off(first_count(request.procs, &right))?;
     let first = factors_in(alloc, c, right)?;
     let second = factors_in(alloc, c, left)?;
     Ok(SmpSpl {
@@ -114,9 +115,9 @@ fn is_left(step: &Step) -> bool
 }
 
 // The factors of steps.
-fn factors_in(alloc: Global, c: &Ctx, steps: &[Step]) -> Result<Vec<Factor>, NoMemory>
-    requires { All (λ s. step_size (plain_step s) ≡ c.now.size) steps.now }
-    ensures { IfOk result (λ factors. map plain_factor factors.items ≡ flat_map (factors_of c.now.size c.now.procs) (map plain_step steps.now)) }
+fn factors_in(alloc: Global, c: &Ctx, steps: Vec<Step>) -> Result<Vec<Factor>, NoMemory>
+    requires { All (λ s. step_size (plain_step s) ≡ c.now.size) steps.items }
+    ensures { IfOk result (λ factors. map plain_factor factors.items ≡ flat_map (factors_of c.now.size c.now.procs) (map plain_step steps.items)) }
 {
     let mut factors = Vec::new(alloc);
     for step in steps {
@@ -130,15 +131,14 @@ fn add_factors(
     alloc: Global,
     c: &Ctx,
     factors: &mut Vec<Factor>,
-    step: &Step,
+    step: Step,
 ) -> Result<(), NoMemory>
-    requires { step_size (plain_step step.now) ≡ c.now.size }
-    ensures { OnOk result (map plain_factor factors.new.items ≡ map plain_factor factors.old.items ++ factors_of c.now.size c.now.procs (plain_step step.now)) }
+    requires { step_size (plain_step step) ≡ c.now.size }
+    ensures { OnOk result (map plain_factor factors.new.items ≡ map plain_factor factors.old.items ++ factors_of c.now.size c.now.procs (plain_step step)) }
 {
     let request = c.request();
     if request.procs == 1 {
-        let block = step_of(alloc, &step.path, &step.core)?;
-        factors.push(Factor::Blocks(block))?;
+        factors.push(Factor::Blocks(step))?;
         return Ok(());
     }
     add_cut(alloc, request.size, request.procs, factors, step)
@@ -150,12 +150,12 @@ fn add_cut(
     size: u64,
     procs: u64,
     factors: &mut Vec<Factor>,
-    step: &Step,
+    step: Step,
 ) -> Result<(), NoMemory>
     requires procs { 0 < procs }
     requires low { 0 < size }
-    requires size { step_size (plain_step step.now) ≡ size }
-    ensures { OnOk result (map plain_factor factors.new.items ≡ map plain_factor factors.old.items ++ cut_factors size procs (plain_step step.now).path (plain_step step.now).core) }
+    requires size { step_size (plain_step step) ≡ size }
+    ensures { OnOk result (map plain_factor factors.new.items ≡ map plain_factor factors.old.items ++ cut_factors size procs (plain_step step).path (plain_step step).core) }
 {
     match (step.path.split_first(), &step.core) {
         (None, Core::Turns { rows, cols }) => {
@@ -165,34 +165,35 @@ fn add_cut(
             factors.push(Factor::MoveBefore(before))?;
             factors.push(Factor::Blocks(block))?;
         }
-        (Some((Tensor::Blocks(rows), rest)), core) => {
-            let block = step_within(alloc, Tensor::Blocks(rows / procs), rest, core)?;
+        (Some((Tensor::Blocks(rows), rest)), _) => {
+            let rest = rest.to_vec(alloc)?;
+            let block = step_within(Tensor::Blocks(rows / procs), rest, step.core)?;
             factors.push(Factor::Blocks(block))?;
         }
         (Some((Tensor::Columns(cols), rest)), Core::Piece(_)) => {
             let (width, rows) = (cols / procs, size / cols);
             let before = turn(alloc, width, procs, rows)?;
-            let block = step_within(alloc, Tensor::Columns(width), rest, &step.core)?;
+            let rest = rest.to_vec(alloc)?;
+            let block = step_within(Tensor::Columns(width), rest, step.core)?;
             let after = turn(alloc, width, rows, procs)?;
             factors.push(Factor::MoveBefore(before))?;
             factors.push(Factor::Blocks(block))?;
             factors.push(Factor::MoveAfter(after))?;
         }
-        _ => factors.push(whole_factor(alloc, step)?)?,
+        _ => factors.push(whole_factor(step))?,
     }
     Ok(())
 }
 
 // A permutation of whole lines or a diagonal, as it is.
-fn whole_factor(alloc: Global, step: &Step) -> Result<Factor, NoMemory>
-    ensures { IfOk result (λ f. plain_factor f ≡ whole_factor (plain_step step.now).path (plain_step step.now).core) }
+fn whole_factor(step: Step) -> Factor
+    ensures { plain_factor result ≡ whole_factor (plain_step step).path (plain_step step).core }
 {
-    let whole = step_of(alloc, &step.path, &step.core)?;
     match &step.core {
-        Core::Piece(_) => Ok(Factor::Blocks(whole)),
-        Core::Twiddles { .. } => Ok(Factor::Diagonals(whole)),
-        Core::Turns { .. } | Core::ThomasIn { .. } => Ok(Factor::MoveBefore(whole)),
-        Core::ThomasOut { .. } => Ok(Factor::MoveAfter(whole)),
+        Core::Piece(_) => Factor::Blocks(step),
+        Core::Twiddles { .. } => Factor::Diagonals(step),
+        Core::Turns { .. } | Core::ThomasIn { .. } => Factor::MoveBefore(step),
+        Core::ThomasOut { .. } => Factor::MoveAfter(step),
     }
 }
 
@@ -201,68 +202,29 @@ fn turn(alloc: Global, width: u64, rows: u64, cols: u64) -> Result<Step, NoMemor
     ensures { IfOk result (λ s. plain_step s ≡ step (within (Columns width) []) (turns rows cols)) }
 {
     step_within(
-        alloc,
         Tensor::Columns(width),
-        &[],
-        &Core::Turns { rows, cols },
+        Vec::new(alloc),
+        Core::Turns { rows, cols },
     )
 }
 
 /// A step under one more tensor, unless that has a single copy.
-pub fn step_within(
-    alloc: Global,
-    tensor: Tensor,
-    path: &[Tensor],
-    core: &Core,
-) -> Result<Step, NoMemory>
-    ensures { IfOk result (λ s. plain_step s ≡ step (within tensor path.now) (plain_core core.now)) }
+pub fn step_within(tensor: Tensor, path: Vec<Tensor>, core: Core) -> Result<Step, NoMemory>
+    ensures { IfOk result (λ s. plain_step s ≡ step (within tensor path.items) (plain_core core)) }
 {
-    let path = within(alloc, tensor, path)?;
-    step_of(alloc, &path, core)
+    let path = within(tensor, path)?;
+    Ok(Step { path, core })
 }
 
 /// The path with one more tensor around it, unless that has a single copy.
-pub fn within(alloc: Global, tensor: Tensor, path: &[Tensor]) -> Result<Vec<Tensor>, NoMemory>
-    ensures { IfOk result (λ longer. longer.items ≡ within tensor path.now) }
+pub fn within(tensor: Tensor, path: Vec<Tensor>) -> Result<Vec<Tensor>, NoMemory>
+    ensures { IfOk result (λ longer. longer.items ≡ within tensor path.items) }
 {
-    let mut longer = path.to_vec(alloc)?;
+    let mut longer = path;
     if tensor.count() != 1 {
         longer.insert(0, tensor)?;
     }
     Ok(longer)
-}
-
-/// A step of this path and core, in other memory.
-pub fn step_of(alloc: Global, path: &[Tensor], core: &Core) -> Result<Step, NoMemory>
-    ensures { IfOk result (λ s. plain_step s ≡ step path.now (plain_core core.now)) }
-{
-    let path = path.to_vec(alloc)?;
-    let core = copied(alloc, core)?;
-    Ok(Step { path, core })
-}
-
-fn copied(alloc: Global, core: &Core) -> Result<Core, NoMemory>
-    ensures { IfOk result (λ other. plain_core other ≡ plain_core core.now) }
-{
-    match core {
-        Core::Piece(tree) => Ok(Core::Piece(tree.copied(alloc)?)),
-        Core::Turns { rows, cols } => Ok(Core::Turns {
-            rows: *rows,
-            cols: *cols,
-        }),
-        Core::Twiddles { rows, cols } => Ok(Core::Twiddles {
-            rows: *rows,
-            cols: *cols,
-        }),
-        Core::ThomasIn { rows, cols } => Ok(Core::ThomasIn {
-            rows: *rows,
-            cols: *cols,
-        }),
-        Core::ThomasOut { rows, cols } => Ok(Core::ThomasOut {
-            rows: *rows,
-            cols: *cols,
-        }),
-    }
 }
 
 /// The formula of a tree does its transform: a law of the definitions.

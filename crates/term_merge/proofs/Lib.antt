@@ -12,3 +12,4 @@ pub mod States
 pub mod Merged
 pub mod Depths
 pub mod Changes
+pub mod Whole

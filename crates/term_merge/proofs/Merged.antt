@@ -3,34 +3,21 @@ use Rattle.std.proofs.Common.{◌≡◌, ℕ, ◌+◌, ◌-◌, ◌^◌, ◌<◌
 use Rattle.std.specs.Prelude.{map}
 use Rattle.std.proofs.Math.Nat.{mul-le-mul_right}
 use Rattle.index_fn.specs.Mapping.{Mapping}
-use Rattle.passes.specs.Good.{IsGoodTerm}
 use Rattle.passes.specs.Limits.{AreSeveral, AreWithin, HasSeveral}
 use Rattle.passes.specs.Merge.{most, Merging, nothing, can_scatter, scattered, back_of, from_end, settled, ended, with_pass, with_passes, sides, merged}
 use Rattle.passes.specs.Nest.{PlainNest}
 use Rattle.passes.specs.Term.{PlainTerm, same, gath, scat, diag, nest, move, product, beside}
-use Rattle.passes.proofs.Keeps.{merged-reaches}
 use Rattle.passes.proofs.Limited.{IsRound, few-round, round-inner, sides-within}
-use Rattle.passes.proofs.Walk.{AreMoves, Stands, chosen}
+use Rattle.passes.proofs.Walk.{chosen}
 use Rattle.tensor_paths.specs.Path.{Path, size_under}
-use Rattle.term_merge.specs.Known.{AreReadyPasses, AreKnownPasses, IsKnownPass, HasRoom, IsKnown, AreSteps, AreWords}
+use Rattle.term_merge.specs.Known.{IsGood, AreReadyPasses, AreKnownPasses, IsKnownPass, HasRoom, IsKnown, AreSteps, AreWords}
 use Rattle.term_merge.proofs.Passes.{known-scattered}
 use Rattle.term_merge.proofs.Readies.{low, steps-end}
 use Rattle.term_merge.proofs.Sided.{ready-sides}
 use Rattle.term_merge.proofs.States.{known-nest, known-move, known-append, known-settled, known-pass, known-scatter, steps-scatter, known-diagonal, steps-diagonal}
 
-record Kept (room n : ℕ) (st : Merging) : Type 0 where
-  pub waiting : AreSteps n st.waiting
-  pub passes : AreKnownPasses room n st.passes
-
-moves : (n : ℕ) (fs : List Mapping) → AreSteps n fs → AreMoves 0 n fs
-moves n [] h = tt
-moves n (f ∷ fs) h = (h.0.moves, moves n fs h.1)
-
-stands : (room n : ℕ) (st : Merging) → IsKnown room n st → Stands 0 1 n st
-stands room n st h = record { moves = moves n st.waiting h.waiting; good = h.good }
-
 pub nothing-known : (room n : ℕ) → IsKnown room n nothing
-nothing-known room n = record { waiting = tt; good = tt; passes = tt }
+nothing-known room n = record { waiting = tt; passes = tt }
 
 -- ---- direct sums
 
@@ -94,35 +81,31 @@ known-sides room n path k l ps qs h several inner size p q =
 
 -- ---- terms
 
-none-kept : (room n : ℕ) → Kept room n nothing
-none-kept room n = record { waiting = tt; passes = tt }
-
-kept : (room n : ℕ) (st : Merging) (t : PlainTerm) → HasRoom room n → IsGoodTerm 0 n t → HasSeveral t → AreWords n t → Kept room n st → Kept room n (merged (most room) n st t)
-kept room n st same h good several words k = k
-kept room n st (gath f) h good several words k = record { waiting = (record { moves = good; numbers = words }, k.waiting); passes = k.passes }
-kept room n st (scat f) h good several words k =
-    record { waiting = steps-scatter room n h st.waiting st.passes f (record { moves = good.1; numbers = words.1 }) k.waiting; passes = known-scatter room n h st.waiting st.passes f good.0.there k.passes }
-kept room n st (diag path factors) h good several words k =
-    record { waiting = steps-diagonal room n h st.waiting st.passes path factors k.waiting; passes = known-diagonal room n h st.waiting st.passes path factors good k.waiting k.passes }
-kept room n st (nest path w) h good several words k = record { waiting = tt; passes = known-pass room n h st _ (known-nest room n h path w good several words) k.waiting k.passes }
-kept room n st (move path ks) h good several words k = record { waiting = tt; passes = known-pass room n h st _ (known-move room n h path ks good several) k.waiting k.passes }
-kept room n st (product a b) h good several words k = kept room n (merged (most room) n st a) b h good.1 several.1 words.1 (kept room n st a h good.0 several.0 words.0 k)
-kept room n st (beside path k a l b) h good several words is =
-    let inner = inner-room room n path k l h several.0 good.0 good.1 good.2 in
+pub merged-known : (room n : ℕ) (st : Merging) (t : PlainTerm) → HasRoom room n → IsGood n t → HasSeveral t → AreWords n t → IsKnown room n st → IsKnown room n (merged (most room) n st t)
+merged-known room n st same h good several words k = k
+merged-known room n st (gath f) h good several words k = record { waiting = (record { lanes = good.lanes; moves = good.term; numbers = words }, k.waiting); passes = k.passes }
+merged-known room n st (scat f) h good several words k =
+    record {
+      waiting = steps-scatter room n h st.waiting st.passes f (record { lanes = good.lanes; moves = good.term.1; numbers = words.1 }) k.waiting;
+      passes = known-scatter room n h st.waiting st.passes f good.term.0.there k.passes;
+    }
+merged-known room n st (diag path factors) h good several words k =
+    record { waiting = steps-diagonal room n h st.waiting st.passes path factors k.waiting; passes = known-diagonal room n h st.waiting st.passes path factors good.term k.waiting k.passes }
+merged-known room n st (nest path w) h good several words k = record { waiting = tt; passes = known-pass room n h st _ (known-nest room n h path w good several words) k.waiting k.passes }
+merged-known room n st (move path ks) h good several words k = record { waiting = tt; passes = known-pass room n h st _ (known-move room n h path ks good several) k.waiting k.passes }
+merged-known room n st (product a b) h good several words k =
+    merged-known room n (merged (most room) n st a) b h (record { lanes = good.lanes; term = good.term.1 }) several.1 words.1
+    (merged-known room n st a h (record { lanes = good.lanes; term = good.term.0 }) several.0 words.0 k)
+merged-known room n st (beside path k a l b) h good several words is =
+    let inner = inner-room room n path k l h several.0 good.term.0 good.term.1 good.term.2 in
     let r = room - length path in
-    let first = kept r k nothing a inner.left good.3 several.1 words.0 (none-kept r k) in
-    let second = kept r l nothing b inner.right good.4 several.2 words.1 (none-kept r l) in
+    let first = merged-known r k nothing a inner.left (record { lanes = 0; term = good.term.3 }) several.1 words.0 (nothing-known r k) in
+    let second = merged-known r l nothing b inner.right (record { lanes = 0; term = good.term.4 }) several.2 words.1 (nothing-known r l) in
     let ps = ended (most r) k (from_end (merged (most r) k nothing a).waiting) (merged (most r) k nothing a).passes in
     let qs = ended (most r) l (from_end (merged (most r) l nothing b).waiting) (merged (most r) l nothing b).passes in
-    let both = known-sides room n path k l ps qs h several.0 inner good.2
+    let both = known-sides room n path k l ps qs h several.0 inner good.term.2
     (known-ended r k inner.left _ _ (steps-end k _ first.waiting) first.passes) (known-ended r l inner.right _ _ (steps-end l _ second.waiting) second.passes) in
     record { waiting = steps-passes room n st (sides path k l ps qs) is.waiting; passes = known-passes room n h st (sides path k l ps qs) both is.waiting is.passes }
-
-pub merged-known : (room n : ℕ) (st : Merging) (t : PlainTerm) → HasRoom room n → IsGoodTerm 0 n t → HasSeveral t → AreWords n t → IsKnown room n st → IsKnown room n (merged (most room) n st t)
-merged-known room n st t h good several words k =
-    let reach = merged-reaches 0 1 n (most room) st t (omega arith) h.some good (stands room n st k) in
-    let next = kept room n st t h good several words (record { waiting = k.waiting; passes = k.passes }) in
-    record { waiting = next.waiting; good = reach.stands.good; passes = next.passes }
 
 pub whole-room : (n : ℕ) → 0 < n → n ≤ 2 ^ 20 → HasRoom 64 n
 whole-room n some high = let round : IsRound 0 n = omega (arith, high) in record { some = some; most = omega arith; round = round }
@@ -152,7 +135,7 @@ rooms room n r path k l h several left right size is =
 pub few-tensors : (room n : ℕ) (path : Path) (k l : ℕ) → HasRoom room n → AreSeveral path → 0 < k → 0 < l → size_under path (k + l) ≡ n → length path ≤ room
 few-tensors room n path k l h several left right size = let inner = inner-room room n path k l h several left right size in omega (arith, inner.short)
 
-pub part-known : (r k : ℕ) (start st : Merging) (a : PlainTerm) → HasRoom r k → IsGoodTerm 0 k a → HasSeveral a → AreWords k a → start ≡ nothing → st ≡ merged (most r) k start a → IsKnown r k st
+pub part-known : (r k : ℕ) (start st : Merging) (a : PlainTerm) → HasRoom r k → IsGood k a → HasSeveral a → AreWords k a → start ≡ nothing → st ≡ merged (most r) k start a → IsKnown r k st
 part-known r k start st a h good several words s e = subst (IsKnown r k) (sym (e ∙ ap (λ b. merged (most r) k b a) s)) (merged-known r k nothing a h good several words (nothing-known r k))
 
 pub part-ended : (r k : ℕ) (st : Merging) (ps : List (List PlainNest)) → HasRoom r k → IsKnown r k st → ps ≡ ended (most r) k (from_end st.waiting) st.passes → AreKnownPasses r k ps

@@ -11,7 +11,7 @@ use Rattle.passes.specs.Merge.{place_sum}
 use Rattle.passes.proofs.Natural.{sound-place_sum}
 use Rattle.passes.proofs.Small.{HasCounts, place-small, max-lt}
 use Rattle.passes.proofs.Within.{IsSmall}
-use Rattle.sigma_spl.specs.Room.{HasRoom}
+use Rattle.passes.specs.Room.{HasRoom}
 use Rattle.tensor_paths.specs.declared.Tensor.TheVariants.{Blocks, Columns}
 use Rattle.tensor_paths.specs.Path.{Path, size_under}
 use Rattle.term_merge.specs.Placed.{CanName}

@@ -1,5 +1,5 @@
 -- Passes that take a function: their tests, and what is known of them.
-use Rattle.std.proofs.Common.{◌≡◌, ℕ, zero, suc, ◌+◌, ◌<◌, Bool, true, false, arith, refl, sym, ap, ap₂, ◌∙◌, List, [], ◌∷◌, length, subst, Some}
+use Rattle.std.proofs.Common.{◌≡◌, ℕ, zero, suc, ◌+◌, ◌<◌, Bool, true, false, arith, refl, sym, ap, ap₂, ◌∙◌, List, [], ◌∷◌, length, subst}
 use Rattle.std.specs.Prelude.{map, get_or, ◌&&◌}
 use Rattle.std.specs.List.{list_all}
 use Rattle.index_fn.specs.Mapping.{Mapping}

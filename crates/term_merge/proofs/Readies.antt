@@ -42,7 +42,7 @@ counts-place n (Blocks c ∷ path) d v e fits h =
 counts-place n (Columns c ∷ path) d v e fits h =
     counts-joined n (scaled c (place_sum path d (v + 1) e)) (variable 1 v (constant 0)) (counts-scaled n c _ (counts-place n path d (v + 1) e (omega (arith, fits)) h)) (omega (arith, fits), tt)
 
-ready-places : (n : ℕ) (path : Path) (d : ℕ) (es : List Sum) → length path ≤ n → AreReady n es → AreReady n (map (place_sum path d 0) es)
+pub ready-places : (n : ℕ) (path : Path) (d : ℕ) (es : List Sum) → length path ≤ n → AreReady n es → AreReady n (map (place_sum path d 0) es)
 ready-places n path d [] fits h = tt
 ready-places n path d (e ∷ es) fits h =
     (record { counts = counts-place n path d 0 e (omega (arith, fits)) h.0.counts; sound = sound-place_sum path d 0 e h.0.sound }, ready-places n path d es fits h.1)
@@ -65,7 +65,7 @@ ready-in depth (horner root size) some = (record { counts = ((omega arith, tt), 
 ready-in depth (tile v) some = ready-starts (depth + 2) v (range_with_len 0 v)
 ready-in depth (copy size) some = ready-constants (depth + 2) (range_with_len 0 size)
 
-ready-out : (depth : ℕ) (w : PlainWork) → AreReady (depth + 2) (items_out w depth)
+pub ready-out : (depth : ℕ) (w : PlainWork) → AreReady (depth + 2) (items_out w depth)
 ready-out depth (kernel trees) = ready-constants (depth + 2) (range_with_len 0 (work_size (kernel trees)))
 ready-out depth (rows root size) = ready-variable (depth + 2) depth (omega arith)
 ready-out depth (horner root size) = ready-variable (depth + 2) depth (omega arith)

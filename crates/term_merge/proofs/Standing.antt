@@ -98,6 +98,17 @@ last-first xs ys x is = ap from_last is ∙ ap plain_passes (reverse-append ys (
 pub same-first : (xs ys : List (Vec Nest Global)) → xs ≡ ys ++ [] → from_last xs ≡ from_last ys
 same-first xs ys is = ap from_last (is ∙ append-nil ys)
 
+pub turned-passes : (xs ys : List (Vec Nest Global)) (ps : List (List PlainNest)) → ys ≡ reverse xs → plain_passes xs ≡ ps → plain_passes ys ≡ reverse ps
+turned-passes xs ys ps turned is = ap plain_passes turned ∙ each xs ∙ ap reverse is
+  where
+    each : (qs : List (Vec Nest Global)) → plain_passes (reverse qs) ≡ reverse (plain_passes qs)
+    each [] = refl
+    each (q ∷ qs) =
+        ap plain_passes (reverse-append (q ∷ []) qs)
+        ∙ map-append plain_pass (reverse qs) (q ∷ [])
+        ∙ ap (λ rs. rs ++ plain_pass q ∷ []) (each qs)
+        ∙ sym (reverse-append (plain_pass q ∷ []) (plain_passes qs))
+
 pub twice-turned : (xs ys : List (Vec Nest Global)) → ys ≡ reverse xs → from_last ys ≡ plain_passes xs
 twice-turned xs ys is = ap from_last is ∙ ap plain_passes (reverse-reverse xs)
 

@@ -5,7 +5,7 @@ use Rattle.index_fn.specs.Mapping.{Mapping}
 use Rattle.perm_algebra.specs.Affine.{Sum, constant}
 use Rattle.perm_algebra.specs.Room.{IsReady}
 use Rattle.perm_algebra.proofs.Counted.{ready-simplified}
-use Rattle.passes.specs.Good.{IsFormed, IsGoodTerm}
+use Rattle.passes.specs.Good.{IsFormed}
 use Rattle.passes.specs.Limits.{HasSeveral}
 use Rattle.passes.specs.Merge.{most, Merging, Taking, limits_of, all_simplified, can_gather, can_scatter, can_multiply, gathered, multiplied, suits, copying, new_nest, items_in, back_of, take_gathers, copy_by, copies_before, settled, with_pass, factor_places, with_copy, with_diagonal, with_scatter, is_within}
 use Rattle.passes.specs.Nest.{PlainFactors, spread, factor_count, PlainNest}
@@ -17,7 +17,7 @@ use Rattle.passes.proofs.Walk.{chosen, and-right}
 use Rattle.passes.proofs.Within.{within-multiplied}
 use Rattle.sum_limits.specs.Leading.{CanCarry}
 use Rattle.tensor_paths.specs.Path.{Path, size_under}
-use Rattle.term_merge.specs.Known.{AreReady, IsReadyPass, IsKnownPass, AreKnownPasses, HasRoom, IsStep, AreSteps}
+use Rattle.term_merge.specs.Known.{IsGood, AreReady, IsReadyPass, IsKnownPass, AreKnownPasses, HasRoom, IsStep, AreSteps}
 use Rattle.term_merge.proofs.Carries.{carry-places}
 use Rattle.term_merge.proofs.Passes.{known-gathered, known-scattered}
 use Rattle.term_merge.proofs.Readies.{ready-new, ready-in, ready-constants, low, known-copying, known-by}
@@ -29,21 +29,21 @@ module _ (room n : ℕ) (h : HasRoom room n) where
   short path d several item size =
       let inner = few-round (64 - room + length path) d item (round-inner path (64 - room) d several.0 (subst (IsRound (64 - room)) (sym size) h.round)) in omega (arith, inner, h.most)
 
-  pub known-nest : (path : Path) (w : PlainWork) → IsGoodTerm 0 n (nest path w) → HasSeveral (nest path w) → HasWords w → IsKnownPass room n (new_nest path w (items_in w (length path)) ∷ [])
+  pub known-nest : (path : Path) (w : PlainWork) → IsGood n (nest path w) → HasSeveral (nest path w) → HasWords w → IsKnownPass room n (new_nest path w (items_in w (length path)) ∷ [])
   known-nest path w good several words =
-      let item = inner_positive path (work_size w) (subst (λ z. 0 < z) (sym good.1) h.some) in
-      let high : size_under path (work_size w) ≤ 2 ^ 20 = omega (arith, good.1, low room n h) in
+      let item = inner_positive path (work_size w) (subst (λ z. 0 < z) (sym good.term.1) h.some) in
+      let high : size_under path (work_size w) ≤ 2 ^ 20 = omega (arith, good.term.1, low room n h) in
       record {
-        within = subst (λ z. is_within room z (new_nest path w (items_in w (length path)) ∷ []) ≡ true) good.1 (new-within room 0 path w good.0 several.1 several.0 item high (short path (work_size w) (several.0, tt) item good.1));
+        within = subst (λ z. is_within room z (new_nest path w (items_in w (length path)) ∷ []) ≡ true) good.term.1 (new-within room good.lanes path w good.term.0 several.1 several.0 item high (short path (work_size w) (several.0, tt) item good.term.1));
         ready = ready-new path w (items_in w (length path)) words (ready-in (length path) w item);
       }
 
-  pub known-move : (path : Path) (ks : List ℕ) → IsGoodTerm 0 n (move path ks) → HasSeveral (move path ks) → IsKnownPass room n (new_nest path (copy (length ks)) (map constant ks) ∷ [])
+  pub known-move : (path : Path) (ks : List ℕ) → IsGood n (move path ks) → HasSeveral (move path ks) → IsKnownPass room n (new_nest path (copy (length ks)) (map constant ks) ∷ [])
   known-move path ks good several =
-      let item = inner_positive path (length ks) (subst (λ z. 0 < z) (sym good.1) h.some) in
-      let high : size_under path (length ks) ≤ 2 ^ 20 = omega (arith, good.1, low room n h) in
+      let item = inner_positive path (length ks) (subst (λ z. 0 < z) (sym good.term.1) h.some) in
+      let high : size_under path (length ks) ≤ 2 ^ 20 = omega (arith, good.term.1, low room n h) in
       record {
-        within = subst (λ z. is_within room z (new_nest path (copy (length ks)) (map constant ks) ∷ []) ≡ true) good.1 (moved-within room path ks several item high (short path (length ks) (several, tt) item good.1) good.0);
+        within = subst (λ z. is_within room z (new_nest path (copy (length ks)) (map constant ks) ∷ []) ≡ true) good.term.1 (moved-within room path ks several item high (short path (length ks) (several, tt) item good.term.1) good.term.0);
         ready = ready-new path (copy (length ks)) (map constant ks) tt (ready-constants (length path + 2) ks);
       }
 

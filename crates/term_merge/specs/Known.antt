@@ -1,36 +1,28 @@
 -- What is known while a term is merged: each number on the way is a word.
 use Rattle.std.specs.Prelude.{◌≡◌, ℕ, ◌+◌, ◌-◌, ◌*◌, ◌^◌, ◌<◌, ◌≤◌, true, List, [], ◌∷◌, length, Option, Some, None}
-use Rattle.index_fn.specs.Mapping.{Mapping, ThomasIn, ThomasOut, Paired, After, IsDefinedAt}
+use Rattle.index_fn.specs.Mapping.{Mapping}
 use Rattle.perm_algebra.specs.Affine.{Sum}
 use Rattle.perm_algebra.specs.Room.{IsReady}
-use Rattle.passes.specs.Good.{IsMove, AreGoodPasses}
-use Rattle.passes.specs.Merge.{Merging, back_of, is_within}
+use Rattle.passes.specs.Good.{IsGoodTerm, IsMove}
+use Rattle.passes.specs.Merge.{Merging, is_within}
 use Rattle.passes.specs.Nest.{PlainMultiplier, PlainNest}
-use Rattle.passes.specs.Term.{PlainTerm, gath, scat, nest, product, beside}
+use Rattle.passes.specs.Term.{PlainTerm}
 use Rattle.passes.specs.Work.{HasWords}
+pub use Rattle.passes.specs.Words.{AreWords, HasNumbers, HasSmallFactors, IsDefinedBelow}
 
--- ---- functions
+-- ---- terms
 
--- what is tried to undo it stays a word
-abbrev pub HasSmallFactors : Mapping → Type 0
-HasSmallFactors (ThomasIn r s) = r * s < 2 ^ 21
-HasSmallFactors (ThomasOut r s) = r * s < 2 ^ 21
-HasSmallFactors (Paired f c g d) = HasSmallFactors f × HasSmallFactors g
-HasSmallFactors (After f g) = HasSmallFactors f × HasSmallFactors g
-HasSmallFactors f = Unit {0}
+-- a term that is good for some number of lanes
+pub record IsGood (n : ℕ) (t : PlainTerm) : Type 0 where
+  pub lanes : ℕ
+  pub term : IsGoodTerm lanes n t
 
-abbrev pub IsDefinedBelow : ℕ → Mapping → Type 0
-IsDefinedBelow n f = (i : ℕ) → i < n → IsDefinedAt f i
-
--- a function of words, and back
-pub record HasNumbers (n : ℕ) (f : Mapping) : Type 0 where
-  pub small : HasSmallFactors f
-  pub there : IsDefinedBelow n f
-  pub back : IsDefinedBelow n (back_of f)
+-- ---- permutations
 
 -- a permutation that waits
 pub record IsStep (n : ℕ) (f : Mapping) : Type 0 where
-  pub moves : IsMove 0 n f
+  pub lanes : ℕ
+  pub moves : IsMove lanes n f
   pub numbers : HasNumbers n f
 
 abbrev pub AreSteps : ℕ → List Mapping → Type 0
@@ -81,16 +73,4 @@ pub record HasRoom (room n : ℕ) : Type 0 where
 
 pub record IsKnown (room n : ℕ) (st : Merging) : Type 0 where
   pub waiting : AreSteps n st.waiting
-  pub good : AreGoodPasses 0 1 n st.passes
   pub passes : AreKnownPasses room n st.passes
-
--- ---- terms
-
--- each number of a term's functions and works is a word
-abbrev pub AreWords : ℕ → PlainTerm → Type 0
-AreWords n (gath f) = HasNumbers n f
-AreWords n (scat f) = HasNumbers n f × HasNumbers n (back_of f)
-AreWords n (nest path w) = HasWords w
-AreWords n (product a b) = AreWords n a × AreWords n b
-AreWords n (beside path k a l b) = AreWords k a × AreWords l b
-AreWords n t = Unit {0}

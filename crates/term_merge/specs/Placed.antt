@@ -1,11 +1,10 @@
 -- Where a place under tensors can be made with words of 64 bits.
-use Rattle.std.specs.Prelude.{ℕ, ◌+◌, ◌*◌, ◌^◌, ◌<◌, List, [], ◌∷◌, length, slice_index}
+use Rattle.std.specs.Prelude.{ℕ, ◌+◌, ◌^◌, ◌<◌, List, [], ◌∷◌, length, slice_index}
 use Rattle.perm_algebra.specs.Affine.{Sum, constant, variable, value, scaled}
 use Rattle.perm_algebra.specs.Fits.{IsAffine, Stays}
 use Rattle.perm_algebra.specs.Room.{CanScale, CanJoin}
 use Rattle.passes.specs.Merge.{place_sum}
-use Rattle.passes.specs.Nest.{PlainFactors, values, twiddles, repeated, spread, factor_count}
-use Rattle.sigma_spl.specs.Room.{HasRoom}
+use Rattle.passes.specs.Room.{HasRoom}
 use Rattle.tensor_paths.specs.declared.Tensor.TheVariants.{Blocks, Columns}
 use Rattle.tensor_paths.specs.Path.{Path, size_under}
 
@@ -25,10 +24,3 @@ CanName m cs (Columns c ∷ path) n d e =
 abbrev pub AllNamed : List ℕ → Path → ℕ → List Sum → Type 0
 AllNamed counts path n [] = Unit {0}
 AllNamed counts path n (e ∷ es) = CanName (length counts) (slice_index counts) path n 0 e × AllNamed counts path n es
-
--- how many factors there are is a word
-abbrev pub HasCount : PlainFactors → Type 0
-HasCount (values entries) = Unit {0}
-HasCount (twiddles r s root) = r * s < 2 ^ 64
-HasCount (repeated v n) = Unit {0}
-HasCount (spread path factors) = HasCount factors × HasRoom path (factor_count factors)

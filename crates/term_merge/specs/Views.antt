@@ -1,5 +1,5 @@
 -- What the code's passes and states of merging stand for.
-use Rattle.std.specs.Prelude.{List, [], ◌∷◌, ◌++◌, map, reverse, Some, Vec}
+use Rattle.std.specs.Prelude.{List, map, reverse, Some, Vec}
 use Rattle.std.proofs.Common.{Global}
 use Rattle.index_fn.specs.Index.{mapping_of}
 use Rattle.passes.specs.Merge.{Merging}
@@ -16,6 +16,10 @@ plain_pass zs = map plain_nest zs.items
 
 abbrev pub plain_passes : List (Vec Nest Global) → List (List PlainNest)
 plain_passes ps = map plain_pass ps
+
+-- those of each phase
+abbrev pub plain_phases : List (Vec (Vec Nest Global) Global) → List (List (List PlainNest))
+plain_phases phases = map (λ ps. plain_passes ps.items) phases
 
 -- those of a list that stands the other way round
 abbrev pub from_last : List (Vec Nest Global) → List (List PlainNest)
@@ -38,8 +42,3 @@ multiplied_by z d places =
 
 abbrev pub plain_sums : Vec Affine Global → List Sum
 plain_sums es = map plain_sum es.items
-
--- passes, the latest first, in their order
-abbrev pub in_order : List (List PlainNest) → List (List PlainNest)
-in_order [] = []
-in_order (zs ∷ ps) = in_order ps ++ zs ∷ []

@@ -5,15 +5,13 @@ ghost use Rattle.index_fn.specs.Mapping.{IsWellFormed, ThomasIn};
 ghost use Rattle.passes.specs.Merge.{back_of, backs_of, factor_places, inverse_below, unit_below};
 ghost use Rattle.passes.specs.Nest.{factor_count, inner_of};
 ghost use Rattle.passes.specs.Views.{plain_factors};
-ghost use Rattle.sigma_spl.specs.Room.{HasRoom};
+ghost use Rattle.passes.specs.Room.{HasCount, HasRoom};
 ghost use Rattle.tensor_paths.specs.Path.{size_under};
 ghost use Rattle.term_merge.specs.Known.{AreSteps, HasSmallFactors};
-ghost use Rattle.term_merge.specs.Placed.{HasCount};
 
 use index_fn::Index;
 use memory::NoMemory;
-use passes::Factors;
-use sigma_spl::size_of_whole;
+use passes::{Factors, size_of_whole};
 use std::alloc::Global;
 use tensor_paths::Tensor;
 
@@ -102,7 +100,7 @@ fn is_inverse(r: u64, s: u64, b: u64) -> bool
 }
 
 /// How many factors there are.
-#[tactic(auto, using(crate::proofs::Fitting::has_count))]
+#[tactic(auto, using(passes::proofs::Fitting::has_count))]
 pub(crate) fn factor_count(path: &[Tensor], factors: &Factors) -> u64
     requires some { 0 < size_under path.now (factor_count (plain_factors factors.now)) }
     requires high { size_under path.now (factor_count (plain_factors factors.now)) ≤ 2 ^ 20 }
@@ -128,7 +126,7 @@ fn count_in(factors: &Factors) -> u64
 }
 
 /// The functions that lead from a place of the last pass, past the gathers that wait, to its factor.
-#[tactic(auto, using(crate::proofs::Fitting::part_room))]
+#[tactic(auto, using(passes::proofs::Fitting::part_room))]
 pub(crate) fn factor_places(
     alloc: Global,
     size: u64,

@@ -10,6 +10,7 @@ mod lifted;
 mod merging;
 mod multiplying;
 mod nests;
+mod phases;
 mod placed;
 mod places;
 mod sides;
@@ -17,12 +18,12 @@ mod state;
 mod steps;
 
 ghost use Rattle.std.specs.Prelude.{◌≡◌, ◌^◌, ◌<◌, ◌≤◌, IfOk, map};
-ghost use Rattle.passes.specs.Good.{IsGoodTerm};
 ghost use Rattle.passes.specs.Limits.{HasSeveral};
-ghost use Rattle.passes.specs.Merge.{if_any, passes_of};
+ghost use Rattle.passes.specs.Merge.{if_any};
+ghost use Rattle.passes.specs.Sigma.{passes_in_order};
 ghost use Rattle.passes.specs.Views.{plain_nest, plain_term};
-ghost use Rattle.term_merge.specs.Known.{AreWords};
-ghost use Rattle.term_merge.specs.Views.{in_order, plain_passes};
+ghost use Rattle.term_merge.specs.Known.{AreWords, IsGood};
+ghost use Rattle.term_merge.specs.Views.{plain_passes};
 
 use crate::copies::with_first;
 use crate::firsts::{FirstPass, parted};
@@ -30,22 +31,23 @@ use crate::merging::{finished, merged, nothing};
 use crate::nests::copying;
 use memory::NoMemory;
 use passes::{Nest, Term};
+pub use phases::merge;
 use std::alloc::Global;
 use sum_limits::Limits;
 
 /// The passes of a term on lists of `size` words, in their order: within the limits of programs.
 pub fn merge_term(alloc: Global, size: u64, term: Term) -> Result<Vec<Vec<Nest>>, NoMemory>
     requires size { (0 < size) × (size ≤ 2 ^ 20) }
-    requires good { IsGoodTerm 0 size (plain_term term) }
+    requires good { IsGood size (plain_term term) }
     requires several { HasSeveral (plain_term term) }
     requires words { AreWords size (plain_term term) }
-    ensures { IfOk result (λ ps. map (λ zs. map plain_nest zs.items) ps.items ≡ in_order (passes_of size (plain_term term))) }
+    ensures { IfOk result (λ ps. map (λ zs. map plain_nest zs.items) ps.items ≡ passes_in_order size (plain_term term)) }
 {
     let limits = Limits { size, room: 64 };
     let state = merged(alloc, term, nothing(alloc), limits)?;
     let passes = finished(alloc, state, limits)?;
-    let passes = if_any(alloc, size, passes)?;
-    let passes = in_order(alloc, passes)?;
+    let mut passes = if_any(alloc, size, passes)?;
+    passes.reverse();
     Ok(passes)
 }
 
@@ -63,20 +65,6 @@ fn if_any(alloc: Global, size: u64, passes: Vec<Vec<Nest>>) -> Result<Vec<Vec<Ne
         Some(FirstPass { first, others }) => {
             let passes = with_first(first, others)?;
             Ok(passes)
-        }
-    }
-}
-
-// Passes, the latest first, in their order.
-fn in_order(alloc: Global, passes: Vec<Vec<Nest>>) -> Result<Vec<Vec<Nest>>, NoMemory>
-    ensures { IfOk result (λ ps. plain_passes ps.items ≡ in_order (plain_passes passes.items)) }
-{
-    match parted(passes) {
-        None => Ok(Vec::new(alloc)),
-        Some(FirstPass { first, others }) => {
-            let mut turned = in_order(alloc, others)?;
-            turned.push(first)?;
-            Ok(turned)
         }
     }
 }

@@ -1,13 +1,12 @@
 // A term, part by part.
 ghost use Rattle.std.specs.Prelude.{◌≡◌, ◌∷◌, [], IfOk, map};
 ghost use Rattle.index_fn.specs.Index.{mapping_of};
-ghost use Rattle.passes.specs.Good.{IsGoodTerm};
 ghost use Rattle.passes.specs.Limits.{HasSeveral};
 ghost use Rattle.passes.specs.Merge.{ended, from_end, merged, most, nothing, with_passes};
 ghost use Rattle.passes.specs.Term.{move, nest};
 ghost use Rattle.passes.specs.Views.{plain_nest, plain_term, plain_work};
 ghost use Rattle.passes.specs.Work.{HasWords};
-ghost use Rattle.term_merge.specs.Known.{AreKnownPasses, AreSteps, AreWords, HasRoom, IsKnown};
+ghost use Rattle.term_merge.specs.Known.{AreKnownPasses, AreSteps, AreWords, HasRoom, IsGood, IsKnown};
 ghost use Rattle.term_merge.specs.Views.{plain_merging, plain_passes};
 
 use crate::copies::with_before;
@@ -32,7 +31,7 @@ pub(crate) fn merged(
 ) -> Result<Merging, NoMemory>
     requires room { HasRoom limits.room limits.size }
     requires known { IsKnown limits.room limits.size (plain_merging state) }
-    requires good { IsGoodTerm 0 limits.size (plain_term term) }
+    requires good { IsGood limits.size (plain_term term) }
     requires several { HasSeveral (plain_term term) }
     requires words { AreWords limits.size (plain_term term) }
     ensures { IfOk result (λ next. plain_merging next ≡ merged (most limits.room) limits.size (plain_merging state) (plain_term term)) }
@@ -100,7 +99,7 @@ fn with_copies(
 ) -> Result<Merging, NoMemory>
     requires room { HasRoom limits.room limits.size }
     requires known { IsKnown limits.room limits.size (plain_merging state) }
-    requires good { IsGoodTerm 0 limits.size (nest path.now (plain_work work)) }
+    requires good { IsGood limits.size (nest path.now (plain_work work)) }
     requires several { HasSeveral (nest path.now (plain_work work)) }
     requires words { HasWords (plain_work work) }
     ensures { IfOk result (λ next. plain_merging next ≡ merged (most limits.room) limits.size (plain_merging state) (nest path.now (plain_work work))) }
@@ -120,7 +119,7 @@ fn with_moved(
 ) -> Result<Merging, NoMemory>
     requires room { HasRoom limits.room limits.size }
     requires known { IsKnown limits.room limits.size (plain_merging state) }
-    requires good { IsGoodTerm 0 limits.size (move path.now places.now) }
+    requires good { IsGood limits.size (move path.now places.now) }
     requires several { HasSeveral (move path.now places.now) }
     ensures { IfOk result (λ next. plain_merging next ≡ merged (most limits.room) limits.size (plain_merging state) (move path.now places.now)) }
 {

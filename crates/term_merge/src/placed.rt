@@ -6,8 +6,8 @@ ghost use Rattle.perm_algebra.specs.Views.{plain_sum};
 ghost use Rattle.term_merge.specs.Placed.{CanName};
 
 use memory::NoMemory;
+use passes::size_of_whole;
 use perm_algebra::{Affine, copy, join, scale_sum};
-use sigma_spl::size_of_whole;
 use std::alloc::Global;
 use tensor_paths::Tensor;
 

@@ -7,6 +7,7 @@ use Rattle.std.proofs.lemmas.List.Sums.{sum_by-cons}
 use Rattle.loop_merge.specs.Laws.{counted}
 use Rattle.loop_merge.specs.Merge.{PlainPass, merged_of}
 use Rattle.loop_merge.specs.Nests.{loop_of, loop_work}
+use Rattle.loop_merge.proofs.LoopItems.{loop-size}
 use Rattle.loop_merge.proofs.Counts.{merge_counts}
 use Rattle.matrix_meaning.specs.declared.Request.{Request}
 use Rattle.matrix_meaning.specs.Valid.{IsValid}
@@ -23,10 +24,9 @@ use Rattle.tree_model.specs.Breakdown.{Breakdown}
 use Rattle.tree_model.specs.Passes.{passes_of}
 use Rattle.tree_passes.proofs.Bounds.{copies-are, modest, multiplier-le}
 use Rattle.tree_passes.proofs.Few.{few_merged, has_passes}
-use Rattle.tree_passes.proofs.Frames.{loop-size}
 use Rattle.tree_passes.proofs.Known.{AllKnown}
 use Rattle.tree_passes.proofs.Owned.{nests_in}
-use Rattle.tree_passes.proofs.Sized.{under-least}
+use Rattle.tree_passes.proofs.Loops.{under-least}
 use Rattle.tree_passes.proofs.Writes.{IsKnown}
 use Rattle.tree_parts.proofs.Tiles.{whole-is}
 
@@ -81,7 +81,7 @@ module _ (c : Request) (valid : IsValid c) where
       let z = nest_of (loop_of c p) in
       let m = modest c valid p known in
       let fills : size_under p.path n ≡ c.size = ap (size_under p.path) (loop-size c p.work) ∙ known.shaped.fills in
-      let least = under-least p.path n known.sized.wide known.loop.some in
+      let least = under-least p.path n known.shaped.wide known.loop.some in
       let whole : copies_in (map count_of p.path) * n ≡ c.size = ap (λ x. x * n) (copies-are p.path) ∙ sym (size_under-copies p.path n) ∙ fills in
       spread (copies_in (map count_of p.path)) n c.size (work_cost 1 c.modulus w) (multiplier_cost 1 z.multiplier w) (work_loads w) whole (omega (arith, least, fills)) m.operations (multiplier-le 1 z.multiplier w) m.loads
 

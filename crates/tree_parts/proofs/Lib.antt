@@ -1,4 +1,3 @@
-pub mod Limits
 pub mod Within
 pub mod Registers
 pub mod Tiles

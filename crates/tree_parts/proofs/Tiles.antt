@@ -6,6 +6,7 @@ use Rattle.std.proofs.lemmas.List.Elements.{All-nil, All-cons}
 use Rattle.loop_merge.specs.Laws.{counted, counted_as}
 use Rattle.loop_merge.specs.Merge.{PlainPass, merged_of}
 use Rattle.loop_merge.specs.Nests.{loop_of, loop_work}
+use Rattle.loop_merge.proofs.LoopItems.{node-is}
 use Rattle.loop_merge.proofs.Counts.{merge_counts}
 use Rattle.matrix_meaning.specs.declared.Request.{Request}
 use Rattle.matrix_meaning.specs.Valid.{IsValid}
@@ -22,7 +23,6 @@ use Rattle.tree_model.specs.Passes.{Pass, nodes, tiles, passes_of, tiled_passes,
 use Rattle.tree_model.specs.declared.tree.Rule.{Rule}
 use Rattle.tree_model.specs.declared.tree.Rule.TheVariants.{Gt, Ct, Split}
 use Rattle.tree_passes.proofs.Owned.{nests_in}
-use Rattle.tree_passes.proofs.Works.{node-is}
 
 -- ---- as the cost model counts them
 

@@ -1,9 +1,10 @@
 -- The merged passes of every tree are a part.
-use Rattle.std.proofs.Common.{◌≡◌, ℕ, ◌+◌, ◌*◌, ◌^◌, ◌<◌, ◌≤◌, sym, ap, ◌∙◌, subst, List, All, length}
+use Rattle.std.proofs.Common.{◌≡◌, ℕ, ◌+◌, ◌*◌, ◌^◌, ◌<◌, ◌≤◌, arith, sym, ap, ◌∙◌, subst, List, All, length}
 use Rattle.std.specs.Prelude.{sum_by}
 use Rattle.formula_lower.specs.Merged.{tree_merged}
 use Rattle.loop_merge.specs.Merge.{merged_of, merged_phases}
 use Rattle.loop_merge.specs.Nests.{nests_of}
+use Rattle.loop_merge.proofs.LoopLimits.{tree_loops}
 use Rattle.loop_merge.proofs.LoopNests.{tree_nests}
 use Rattle.matrix_meaning.specs.declared.Request.{Request}
 use Rattle.pass_actions.specs.Machine.{PlainMachine, plain_machine}
@@ -40,7 +41,7 @@ nests-are-part c t room h admissible enough high =
     let machine = plain_machine c.size c.modulus in
     record {
       programs = subst (CanProgram machine) (tree_nests c t h.valid admissible) (subst (λ m. CanProgram m (tree_merged c t)) (machine-is c h) (trees_can_program c t h.valid admissible));
-      within = subst (AreWithin room c.size) passes (passes-within room c (merged_of c t) enough high h.valid known);
+      within = subst (AreWithin room c.size) passes (passes-within room c (merged_of c t) (tree_loops room c t (omega (arith, enough)) h.valid admissible));
       shallow = subst (All (All (IsShallow room))) passes (passes-shallow room c (merged_of c t) enough h.valid known);
       no_tiles = subst (All (All HasNoTile)) passes (no-tiles c t h.valid admissible h.lanes);
       registers = λ v few. subst (All (λ zs. pass_registers (plain_lanes c.size c.modulus v) zs < 2 ^ 20)) passes (few-in-passes c v (merged_of c t) h.valid known);

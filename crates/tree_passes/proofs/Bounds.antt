@@ -3,6 +3,7 @@ use Rattle.std.proofs.Common.{◌≡◌, ℕ, zero, suc, ◌+◌, ◌*◌, ◌^�
 use Rattle.std.proofs.Math.Nat.{mul-le-mul}
 use Rattle.loop_merge.specs.Merge.{PlainPass}
 use Rattle.loop_merge.specs.Nests.{loop_work, loop_of}
+use Rattle.loop_merge.proofs.LoopItems.{loop-size}
 use Rattle.matrix_meaning.specs.declared.Request.{Request}
 use Rattle.matrix_meaning.specs.Valid.{IsValid}
 use Rattle.pass_actions.specs.Costs.{pass_cost, pass_loads, work_cost, work_loads}
@@ -21,7 +22,6 @@ use Rattle.tree_model.specs.Breakdown.{size_of}
 use Rattle.tree_model.specs.Cost.{node_root}
 use Rattle.kernel_gen.proofs.KernelSizes.{cost-le}
 use Rattle.tree_passes.specs.Laws.{machine_of}
-use Rattle.tree_passes.proofs.Frames.{loop-size}
 use Rattle.tree_passes.proofs.Known.{AllKnown}
 use Rattle.tree_passes.proofs.Owned.{nests_in}
 use Rattle.tree_passes.proofs.Works.{by-work, node-of}

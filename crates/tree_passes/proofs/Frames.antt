@@ -4,12 +4,12 @@ use Rattle.std.specs.Prelude.{◌==◌, if◌then◌else◌}
 use Rattle.loop_merge.specs.Items as shared
 use Rattle.loop_merge.specs.Merge.{PlainPass}
 use Rattle.loop_merge.specs.Nests.{loop_work, loop_of}
+use Rattle.loop_merge.proofs.LoopItems.{node-is}
 use Rattle.matrix_meaning.specs.declared.Request.{Request}
 use Rattle.operators.proofs.Lists.{place_below}
 use Rattle.pass_actions.specs.Machine.{framed_lanes, if_several, item_of, lane_step, values_of}
 use Rattle.pass_actions.specs.Laws as actions
 use Rattle.passes.specs.Loops.{nest_of}
-use Rattle.passes.specs.Work as works
 use Rattle.passes.specs.Work.{vectors_of}
 use Rattle.shared_passes.specs.Shared.{framed, HasLanes, IsFramed, step_of}
 use Rattle.sigma_lower.specs.Work.{PlainWork, transforming, tiling, work_size}
@@ -18,13 +18,8 @@ use Rattle.tensor_paths.specs.declared.Tensor.{Tensor}
 use Rattle.tensor_paths.specs.declared.Tensor.TheVariants.{Blocks, Columns}
 use Rattle.tensor_paths.specs.Path.{Path, count_of, AreInRange}
 use Rattle.tree_passes.specs.Laws.{machine_of}
-use Rattle.tree_passes.proofs.Works.{node-is}
 
 -- ---- work
-
-pub loop-size : (c : Request) (w : PlainWork) → works.work_size (loop_work c w) ≡ work_size w
-loop-size c (transforming t) = node-is works.work_size (work_size (transforming t)) c t (λ kind root. refl) (λ root. refl)
-loop-size c (tiling v) = refl
 
 pub loop-values : (c : Request) (w : PlainWork) (q lane : ℕ) (vs : List ℕ) → values_of (machine_of c) (loop_work c w) q lane vs ≡ shared.values_of c w q lane vs
 loop-values c (transforming t) q lane vs = node-is (λ w. values_of (machine_of c) w q lane vs) (shared.values_of c (transforming t) q lane vs) c t (λ kind root. refl) (λ root. refl)

@@ -10,9 +10,9 @@ use Rattle.formula_lower.proofs.Ordered.{trees_are_loops, trees_ordered}
 use Rattle.formula_lower.proofs.SharedTrees.{shared_trees_merge, trees_embed}
 use Rattle.loop_merge.specs.Merge.{PlainPass, passes_of_terms, in_order, merged_of}
 use Rattle.loop_merge.specs.Nests.{loop_of}
-use Rattle.loop_merge.specs.Placed.{AllLimited}
 use Rattle.loop_merge.proofs.Closed.{AreClosedPasses}
 use Rattle.loop_merge.proofs.GoodPlaces.{HaveGoodPlaces}
+use Rattle.loop_merge.proofs.LoopLimits.{tree_loops}
 use Rattle.loop_merge.proofs.LoopNests.{loops_listed}
 use Rattle.loop_merge.proofs.PlaceValues.{AreFormedPasses}
 use Rattle.loop_merge.proofs.Shaped.{AreShaped}
@@ -20,8 +20,8 @@ use Rattle.loop_merge.proofs.TreePlaces.{tree_good_places}
 use Rattle.matrix_meaning.specs.declared.Request.{Request}
 use Rattle.matrix_meaning.specs.Valid.{IsValid}
 use Rattle.passes.specs.Good.{AreGoodPasses, IsGoodPass}
-use Rattle.passes.specs.Loops.{PlainLoop, AreGoodLoops, IsGoodLoop, loops_in, one_nest}
-use Rattle.passes.specs.Merge.{unbounded}
+use Rattle.passes.specs.Loops.{PlainLoop, AreGoodLoops, AreLimitedLoops, IsGoodLoop, loops_in, one_nest}
+use Rattle.passes.specs.Merge.{most, unbounded}
 use Rattle.passes.proofs.GoodLoops.{loops_are_good}
 use Rattle.shared_passes.specs.Shared.{AllFramed}
 use Rattle.shared_passes.proofs.Framed.{passes_are_framed}
@@ -30,7 +30,6 @@ use Rattle.sigma_lower.proofs.Both.{plain_terms}
 use Rattle.sigma_lower.proofs.RootTerms.{shared_terms}
 use Rattle.tree_model.specs.Admissible.{IsAdmissible}
 use Rattle.tree_model.specs.Breakdown.{Breakdown}
-use Rattle.tree_passes.proofs.SizedPasses.{AreSizedPasses, sized_passes}
 use Rattle.tree_passes.proofs.Writes.{IsKnown}
 
 -- a loop whose nest is a good pass
@@ -77,24 +76,23 @@ abbrev pub AllKnown : Request → List PlainPass → Type 0
 AllKnown c [] = Unit {0}
 AllKnown c (p ∷ ps) = IsKnown c p × AllKnown c ps
 
-all-known : (c : Request) (ps : List PlainPass) → AllFramed c ps → AreShaped c c.size ps → AllLimited c ps → AreFormedPasses ps → AreClosedPasses c.size ps → AreSizedPasses c.size ps → AreGood c (map (loop_of c) ps) → AllKnown c ps
-all-known c [] framed shaped limited formed closed sized good = tt
-all-known c (p ∷ ps) framed shaped limited formed closed sized good = (
+all-known : (c : Request) (ps : List PlainPass) → AllFramed c ps → AreShaped c c.size ps → AreLimitedLoops (most 64) c.size (map (loop_of c) ps) → AreFormedPasses ps → AreClosedPasses c.size ps → AreGood c (map (loop_of c) ps) → AllKnown c ps
+all-known c [] framed shaped limited formed closed good = tt
+all-known c (p ∷ ps) framed shaped limited formed closed good = (
   record {
     framed = framed.0;
     shaped = shaped.0;
     limited = limited.0;
     formed = formed.0;
     closed = closed.0;
-    sized = sized.0;
     loop = good.0.loop;
     good = good.0.pass;
   },
-  all-known c ps framed.1 shaped.1 limited.1 formed.1 closed.1 sized.1 good.1,
+  all-known c ps framed.1 shaped.1 limited.1 formed.1 closed.1 good.1,
 )
 
 pub tree-known : (c : Request) (t : Breakdown) → IsValid c → IsAdmissible c t → AllKnown c (merged_of c t)
 tree-known c t valid h =
     let places : HaveGoodPlaces c (merged_of c t) = tree_good_places c t valid h in
-    all-known c (merged_of c t) (passes_are_framed plain_terms shared_terms c t valid h) places.shaped places.limited places.formed places.closed (sized_passes c t valid h)
+    all-known c (merged_of c t) (passes_are_framed plain_terms shared_terms c t valid h) places.shaped (tree_loops 64 c t (omega arith) valid h) places.formed places.closed
     (good-phases c (lowered_of c t) valid (trees_embed c t valid h) (trees_ordered c t valid h) (phases_have_loops c t valid h) (trees_are_loops c t valid h) (shared_trees_merge unbounded c t valid h).good)

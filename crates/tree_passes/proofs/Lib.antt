@@ -2,13 +2,6 @@ pub mod Works
 pub mod Frames
 pub mod Places
 pub mod Loops
-pub mod Bounded
-pub mod Sized
-pub mod Shares
-pub mod SizedTerms
-pub mod SizedPasses
-pub mod Sums
-pub mod Items
 pub mod KernelSizes
 pub mod Writes
 pub mod Known
@@ -20,3 +13,4 @@ pub mod Counting
 pub mod Adding
 pub mod Parts
 pub mod Lean
+pub mod Merged

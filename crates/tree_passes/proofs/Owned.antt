@@ -3,6 +3,7 @@ use Rattle.std.proofs.Common.{◌≡◌, ℕ, zero, suc, ◌<◌, List, [], ◌�
 use Rattle.std.specs.Prelude.{Contains}
 use Rattle.loop_merge.specs.Merge.{PlainPass, gather_place, scatter_place, in_order}
 use Rattle.loop_merge.specs.Nests.{loop_of}
+use Rattle.loop_merge.proofs.LoopItems.{loop-size}
 use Rattle.matrix_meaning.specs.declared.Request.{Request}
 use Rattle.pass_actions.specs.Laws.{IsLoadedBy, IsStoredBy}
 use Rattle.pass_programs.specs.Contract.{AllOwn, AllShared, ArePhasesShared, FirstOwns, IsOwner}
@@ -15,7 +16,6 @@ use Rattle.shared_passes.specs.Shared as shared
 use Rattle.sigma_lower.specs.Work.{work_size}
 use Rattle.tensor_paths.specs.Path.{AreInRange}
 use Rattle.tree_passes.specs.Laws.{machine_of}
-use Rattle.tree_passes.proofs.Frames.{loop-size}
 use Rattle.tree_passes.proofs.Known.{AllKnown}
 use Rattle.tree_passes.proofs.Places.{load-is, store-is}
 use Rattle.tree_passes.proofs.Writes.{IsKnown}

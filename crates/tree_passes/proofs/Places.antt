@@ -6,6 +6,7 @@ use Rattle.loop_merge.specs.Items as shared
 use Rattle.loop_merge.specs.Merge.{diagonal_place}
 use Rattle.loop_merge.specs.Merge.{PlainDiagonal, PlainPass, through, gather_place, scatter_place}
 use Rattle.loop_merge.specs.Nests.{loop_work, loop_of, taken_of}
+use Rattle.loop_merge.proofs.LoopItems.{loop-size}
 use Rattle.loop_merge.proofs.Closed.{AreClosed, IsClosedPass, inner-below}
 use Rattle.loop_merge.proofs.PlaceValues.{through-end}
 use Rattle.loop_merge.proofs.Shaped.{IsShaped}
@@ -29,7 +30,7 @@ use Rattle.tensor_paths.specs.Path.{count_of, place, AreInRange}
 use Rattle.tensor_paths.proofs.PathPlaces.{place-below}
 use Rattle.tree_model.specs.Cost.{node_root}
 use Rattle.tree_passes.specs.Laws.{machine_of}
-use Rattle.tree_passes.proofs.Frames.{loop-size, loop-values, loop-vectors, loop-item, loop-step, range-of, named, values-named, IsShare, share-of, item-below}
+use Rattle.tree_passes.proofs.Frames.{loop-values, loop-vectors, loop-item, loop-step, range-of, named, values-named, IsShare, share-of, item-below}
 
 -- a nest's diagonal is that of its pass
 pub record IsTaken (c : Request) (p : PlainPass) (m : PlainMultiplier) : Type 0 where

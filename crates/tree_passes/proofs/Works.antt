@@ -3,7 +3,8 @@ use Rattle.std.proofs.Common.{◌≡◌, ◌≢◌, ℕ, zero, suc, ◌*◌, ◌
 use Rattle.std.proofs.lemmas.Bool.{cases_lt}
 use Rattle.std.proofs.lemmas.Bool.Decides.{nat_tests}
 use Rattle.std.specs.Prelude.{◌==◌, ◌&&◌, if◌then◌else◌}
-use Rattle.formula_lower.specs.Trees.{long_work, node_work}
+use Rattle.formula_lower.proofs.CanMerge.{long-or-whole}
+use Rattle.formula_lower.specs.Trees.{long_work}
 use Rattle.kernel_gen.specs.Kernel.{IsRoot}
 use Rattle.kernel_gen.proofs.RequestNodes.{any-root, root-of}
 use Rattle.kernel_gen.proofs.Sizes.{node_below}
@@ -28,17 +29,6 @@ use Rattle.tree_model.specs.Cost.{is_kernel, is_plain, node_root}
 use Rattle.tree_model.proofs.Sizes.{one_le_size_of}
 use Rattle.tree_model.proofs.Splits.{mod-product}
 use Rattle.tree_passes.specs.Laws.{machine_of}
-
--- ---- what no tile is
-
--- what kernels and longer leaves have in common
-pub node-is : {A : Type 0} (f : PlainWork → A) (x : A) (c : Request) (t : Breakdown) → ((kind : Kind) (root : ℕ) → f (kernel (single kind root t)) ≡ x) → ((root : ℕ) → f (rows root (size_of t)) ≡ x) → f (node_work c t) ≡ x
-node-is f x c t on_kernel on_rows = pick (is_kernel c (size_of t)) c.kind
-  where
-    pick : (b : Bool) (kind : Kind) → f (if b then kernel (single kind (node_root c (size_of t)) t) else long_work kind (node_root c (size_of t)) t) ≡ x
-    pick true kind = on_kernel kind (node_root c (size_of t))
-    pick false Dft = on_rows (node_root c (size_of t))
-    pick false Wht = on_kernel Wht (node_root c (size_of t))
 
 -- ---- a request that is not plain has several copies
 
@@ -66,10 +56,6 @@ several-copies : (c : Request) (t : Breakdown) (loops : Path) → is_plain c ≡
 several-copies c t loops shared = several-both (c.procs == 1) (c.lanes == 1) c.procs c.lanes loops refl refl shared
 
 -- ---- nodes and longer leaves
-
--- what is no kernel is longer than the limit, or it is the whole of a request that is shared
-long-or-whole : (c : Request) (n : ℕ) → is_kernel c n ≡ false → n ≤ c.unroll → (n ≡ c.size) × (is_plain c ≡ false)
-long-or-whole c n e short = grind (arith, nat_tests, e, short)
 
 -- a leaf of more than two items is one of a Fourier transform
 long-kind : (kind : Kind) (d : ℕ) → IsWellFormed kind (leaf d) → 2 < d → kind ≡ Dft

@@ -1,8 +1,9 @@
 -- Each pass of a tree can be run and written.
-use Rattle.std.proofs.Common.{◌≡◌, ℕ, zero, suc, ◌+◌, ◌-◌, ◌^◌, ◌<◌, ◌≤◌, Bool, true, false, List, [], ◌∷◌, ◌++◌, All, length, map, refl, sym, ap, ap₂, ◌∙◌, arith, subst, Option, Some, None, if◌then◌else◌}
-use Rattle.std.specs.Prelude.{◌==◌, max, not, nat_le, slice_index, slice_index_or}
+use Rattle.std.proofs.Common.{◌≡◌, ℕ, zero, suc, ◌+◌, ◌-◌, ◌*◌, ◌^◌, ◌<◌, ◌≤◌, true, false, List, [], ◌∷◌, ◌++◌, All, length, map, refl, sym, ap, ap₂, ◌∙◌, arith, subst, Option, Some, None}
+use Rattle.std.specs.Prelude.{max, nat_le, slice_index, slice_index_or}
 use Rattle.std.proofs.lemmas.Bool.Decides.{nat_tests}
 use Rattle.std.proofs.lemmas.List.Elements.{All-nil, All-cons, All-weaker}
+use Rattle.std.specs.List.{list_all}
 use Rattle.std.specs.Option.{option_map}
 use Rattle.index_fn.specs.Mapping.{Mapping}
 use Rattle.code_laws.specs.Lanes.{operations}
@@ -13,9 +14,9 @@ use Rattle.kernel_gen.proofs.Kernels.{firsts, kernel-does}
 use Rattle.kernel_gen.proofs.NodeCosts.{kernel-short}
 use Rattle.kernel_gen.proofs.Pieces.{DoesAt}
 use Rattle.kernel_gen.proofs.RequestNodes.{any-root}
-use Rattle.loop_merge.specs.Merge.{PlainPass, through}
+use Rattle.loop_merge.specs.Merge.{PlainDiagonal, PlainPass, through}
 use Rattle.loop_merge.specs.Nests.{loop_work, loop_of, taken_of}
-use Rattle.loop_merge.specs.Placed.{IsLimitedPass}
+use Rattle.loop_merge.proofs.LoopItems.{diagonal-size, loop-size}
 use Rattle.loop_merge.proofs.Closed.{IsClosedPass}
 use Rattle.loop_merge.proofs.PlaceValues.{IsFormedPass, value-at_place}
 use Rattle.loop_merge.proofs.Shaped.{IsShaped}
@@ -25,18 +26,19 @@ use Rattle.matrix_meaning.specs.Kind.{transform}
 use Rattle.matrix_meaning.specs.Valid.{IsValid}
 use Rattle.pass_actions.specs.Acts.{nest_registers, with_multiplier}
 use Rattle.pass_actions.specs.Laws.{CanRun, CanRunNest}
-use Rattle.pass_actions.specs.Machine.{PlainMachine, frame_of, lane_variables, first_loop, loop_counts}
+use Rattle.pass_actions.specs.Machine.{PlainMachine, frame_of, first_loop, loop_counts}
 use Rattle.pass_programs.specs.Conditions.{AreWithin, CanWriteNest, CanWritePass, LoadsAlike, loads_inside, stores_inside}
-use Rattle.pass_programs.specs.Small.{IsFrame}
+use Rattle.pass_programs.proofs.TestedLists.{loads-le, stores-le, sums-written}
 use Rattle.passes.specs.Copies.{loops_of}
 use Rattle.passes.specs.Good.{IsGoodPass, NamesItems}
-use Rattle.passes.specs.Loops.{IsGoodLoop, AreFormed, limits_in, nest_of, one_nest}
-use Rattle.passes.specs.Merge.{items_out, all_simplified, limits_of, place_sum}
+use Rattle.passes.specs.Loops.{IsGoodLoop, IsLimitedLoop, AreFormed, limits_in, nest_of, one_nest, places_by}
+use Rattle.passes.specs.Merge.{items_in, items_out, all_simplified, is_limited, limits_of, place_sum}
 use Rattle.passes.specs.Nest.{PlainMultiplier, PlainNest, factor_count}
 use Rattle.passes.specs.Work as works
 use Rattle.passes.specs.Work.{PlainWork, kernel, rows, tile}
 use Rattle.passes.proofs.Natural.{names-out, ranged, values-are}
 use Rattle.passes.proofs.Nests.{names-simplified}
+use Rattle.passes.proofs.Within.{carries-all}
 use Rattle.perm_algebra.specs.Affine.{Sum, constant, variable, value, simplified}
 use Rattle.rooted_trees.specs.Trees.{single}
 use Rattle.shared_passes.specs.Shared.{HasLanes, IsFramed}
@@ -45,24 +47,19 @@ use Rattle.tensor_paths.specs.Path.{Path, AreInRange, count_of, place, size_unde
 use Rattle.tree_model.specs.Breakdown.{Breakdown, size_of}
 use Rattle.tree_model.specs.Cost.{is_kernel, node_root}
 use Rattle.tree_passes.specs.Laws.{machine_of}
-use Rattle.tree_passes.proofs.Frames.{loop-size, nest-framed}
-use Rattle.tree_passes.proofs.Items.{gathers-coded, scatters-coded, factors-coded, factors-few}
+use Rattle.tree_passes.proofs.Frames.{nest-framed}
 use Rattle.tree_passes.proofs.KernelSizes.{small_kernel}
-use Rattle.tree_passes.proofs.Loops.{IsCount, counts-drop, length-drop, length-tensors, loop-counts, path-weight, weight-small}
+use Rattle.tree_passes.proofs.Loops.{IsCount, counts-drop, length-drop, length-tensors, loop-counts, path-weight, under-least, weight-small}
 use Rattle.tree_passes.proofs.Places.{taken-is, moves-vectors, finds-factors, residues-of}
-use Rattle.tree_passes.proofs.Sized.{under-least}
-use Rattle.tree_passes.proofs.SizedPasses.{IsSizedPass}
-use Rattle.tree_passes.proofs.Sums.{coded-within}
 use Rattle.tree_passes.proofs.Works.{by-work, can-work, node-of}
 
 -- what is known of a pass of a tree
 pub record IsKnown (c : Request) (p : PlainPass) : Type 0 where
   pub framed : IsFramed c p
   pub shaped : IsShaped c c.size p
-  pub limited : IsLimitedPass c p
+  pub limited : IsLimitedLoop 64 c.size (loop_of c p)
   pub formed : IsFormedPass p
   pub closed : IsClosedPass c.size p
-  pub sized : IsSizedPass c.size p
   pub loop : IsGoodLoop c.lanes (loop_of c p)
   pub good : IsGoodPass c.lanes c.modulus c.size (one_nest (loop_of c p))
 
@@ -79,29 +76,6 @@ names-all w cs (f ∷ fs) sums formed h = subst (NamesItems w) (map-twice sums) 
     map-twice : (sums : List Sum) → map (all_simplified cs fs) (map (simplified cs f) sums) ≡ map (all_simplified cs (f ∷ fs)) sums
     map-twice [] = refl
     map-twice (e ∷ es) = ap (λ rest. all_simplified cs fs (simplified cs f e) ∷ rest) (map-twice es)
-
--- ---- frames
-
-frame-pick : (b : Bool) (more : ℕ) → not b ≡ true → 0 < (if b then 0 else 1) + more
-frame-pick true more e = absurd (cc)
-frame-pick false more e = omega arith
-
-is-frame : (h : PlainMachine) (w : PlainWork) → IsFrame (frame_of h w)
-is-frame h w e = frame-pick (h.procs == 1) (lane_variables h w) e
-
-inside-le : (w : PlainWork) → loads_inside w ≤ 2
-inside-le (kernel trees) = omega arith
-inside-le (rows root size) = omega arith
-inside-le (works.horner root size) = omega arith
-inside-le (tile lanes) = omega arith
-inside-le (works.copy size) = omega arith
-
-stores-le : (w : PlainWork) → stores_inside w ≤ 2
-stores-le (kernel trees) = omega arith
-stores-le (rows root size) = omega arith
-stores-le (works.horner root size) = omega arith
-stores-le (tile lanes) = omega arith
-stores-le (works.copy size) = omega arith
 
 -- ---- registers
 
@@ -184,11 +158,11 @@ module _ (c : Request) (p : PlainPass) (valid : IsValid c) (known : IsKnown c p)
   fills = ap (size_under p.path) (loop-size c p.work) ∙ known.shaped.fills
 
   all-counts : All IsCount (map count_of p.path)
-  all-counts = loop-counts p.path (works.work_size w) known.sized.wide known.loop.some (omega (arith, fills, high))
+  all-counts = loop-counts p.path (works.work_size w) known.shaped.wide known.loop.some (omega (arith, fills, high))
 
   few-loops : length p.path ≤ 20
   few-loops =
-      let weight = path-weight p.path (works.work_size w) known.sized.wide known.loop.some in
+      let weight = path-weight p.path (works.work_size w) known.shaped.wide known.loop.some in
       weight-small (length p.path) (omega (arith, weight, fills, high))
 
   shallow : length (loop_counts h z) ≤ 20
@@ -199,7 +173,7 @@ module _ (c : Request) (p : PlainPass) (valid : IsValid c) (known : IsKnown c p)
       omega (arith, dropped, all, few)
 
   pub n-small : works.work_size w ≤ 1048576
-  n-small = let least = under-least p.path (works.work_size w) known.sized.wide known.loop.some in omega (arith, least, fills, high)
+  n-small = let least = under-least p.path (works.work_size w) known.shaped.wide known.loop.some in omega (arith, least, fills, high)
 
   -- the nest with other work
   abbrev pub with_work : PlainWork → PlainNest
@@ -222,10 +196,21 @@ module _ (c : Request) (p : PlainPass) (valid : IsValid c) (known : IsKnown c p)
       each root n vs row k range below under = at-row-of root n vs row k range below under ∙ sym (at-row-of root n vs 0 k range (omega (arith, below)) under)
 
   open-loads : length (loop_counts h z) + loads_inside w ≤ 64
-  open-loads = let few = shallow in let more = inside-le w in omega (arith, few, more)
+  open-loads = let few = shallow in let more = loads-le w in omega (arith, few, more)
 
   open-stores : length (loop_counts h z) + stores_inside w ≤ 64
   open-stores = let few = shallow in let more = stores-le w in omega (arith, few, more)
+
+  -- the sums pass merging's test
+  gathers-tested : list_all (is_limited 64 c.size (limits_of z)) z.gathers ≡ true
+  gathers-tested = carries-all 64 c.size c.size (limits_of z) p.befores (map (place_sum p.path (works.work_size w) 0) (items_in w (length p.path))) known.limited.loads
+
+  scatters-tested : list_all (is_limited 64 c.size (limits_of z)) z.scatters ≡ true
+  scatters-tested = carries-all 64 c.size c.size (limits_of z) p.afters (map (place_sum p.path (works.work_size w) 0) (items_out w (length p.path))) known.limited.stores
+
+  factors-tested : (d : PlainDiagonal) → p.diagonal ≡ Some d → list_all (is_limited 64 (d.rows * d.cols) (limits_of z)) (places_by (loop_of c p) (taken_of c d).places (items_out w (length p.path))) ≡ true
+  factors-tested d is =
+      carries-all 64 c.size (d.rows * d.cols) (limits_of z) (taken_of c d).places (map (place_sum p.path (works.work_size w) 0) (items_out w (length p.path))) (known.limited.factors (taken_of c d) (ap (option_map (taken_of c)) is))
 
   -- what is asked for of a multiplier
   abbrev CanMultiply : PlainMultiplier → Type 0
@@ -235,22 +220,22 @@ module _ (c : Request) (p : PlainPass) (valid : IsValid c) (known : IsKnown c p)
   can-multiply : (d : PlainMultiplier) → z.multiplier ≡ Some d → CanMultiply d
   can-multiply d is =
       let t = taken-is c p d is in
-      let few = factors-few c p valid known.shaped known.framed known.limited known.sized known.loop.some t.diagonal t.is in
-      let two = few.0 in
+      let few = diagonal-size c p valid known.shaped t.diagonal t.is in
+      let some = few.0 in
       let most = few.1 in
       let formed = (known.loop.taken (taken_of c t.diagonal) (ap (option_map (taken_of c)) t.is)).formed in
       subst CanMultiply (sym t.same) (
         names-all w (limits_in (loop_of c p)) (taken_of c t.diagonal).places (map (place_sum p.path (works.work_size w) 0) (items_out w (length p.path))) formed (names-out c.lanes p.path w known.loop.nested),
-        coded-within (limits_of z) (frame_of h w) _ _ (is-frame h w) open-stores (factors-coded c p valid known.shaped known.framed known.limited known.sized known.loop.some t.diagonal t.is),
-        omega (arith, two),
-        omega (arith, most),
+        sums-written 64 (t.diagonal.rows * t.diagonal.cols) (limits_of z) h w _ _ open-stores (omega arith) (omega (arith, most, high)) (factors-tested t.diagonal t.is),
+        omega (arith, some),
+        omega (arith, most, high),
       )
 
   writes-nest : CanWriteNest h z
   writes-nest =
       record {
-        gathers = (known.good.nests.0.gathers, coded-within (limits_of z) (frame_of h w) _ z.gathers (is-frame h w) open-loads (gathers-coded c p valid known.shaped known.framed known.limited known.sized known.loop.some));
-        scatters = (known.good.nests.0.scatters, coded-within (limits_of z) (frame_of h w) _ z.scatters (is-frame h w) open-stores (scatters-coded c p valid known.shaped known.framed known.limited known.sized known.loop.some));
+        gathers = (known.good.nests.0.gathers, sums-written 64 c.size (limits_of z) h w _ z.gathers open-loads (omega arith) (omega (arith, high)) gathers-tested);
+        scatters = (known.good.nests.0.scatters, sums-written 64 c.size (limits_of z) h w _ z.scatters open-stores (omega arith) (omega (arith, high)) scatters-tested);
         multiplier = can-multiply;
         alike = alike;
         items = let small = n-small in omega (arith, small);

@@ -5,6 +5,7 @@ ghost use Rattle.tree_passes.specs.Computes.{TreesCompute};
 ghost use Rattle.tree_passes.specs.Counts.{TreesCount};
 ghost use Rattle.tree_passes.specs.Laws.{TreesCanProgram};
 ghost use Rattle.tree_passes.specs.Lean.{TreesAreLean};
+ghost use Rattle.tree_passes.specs.Merged.{TreesAreMerged};
 
 /// A program can be made of the merged passes of every valid request and admissible tree, for any processors, line and lanes: a
 /// law of the definitions.
@@ -25,4 +26,10 @@ pub fn trees_compute()
 /// Each processor's actions are one part for each pass of the tree, with its share of the pass's counts: a law of the definitions.
 pub fn trees_are_lean()
     ensures { TreesAreLean }
+{}
+
+/// They do the transform in the tree's operations, at places within the limits, and in each phase each line has one owner: a law
+/// of the definitions.
+pub fn trees_are_merged()
+    ensures { TreesAreMerged }
 {}

@@ -8,7 +8,8 @@ use Rattle.operators.proofs.Lists.{factor_positive}
 use Rattle.smp_rewrite.specs.declared.Factor.{Factor}
 use Rattle.smp_rewrite.specs.Laws.{HasShape, IsShaped}
 use Rattle.smp_rewrite.specs.Smp.{PlainFactor, blocks, diagonals, move_before, move_after, PlainSmp}
-use Rattle.smp_rewrite.specs.Views.{plain_factor}
+use Rattle.smp_rewrite.specs.Views.{plain_factor, plain_smp}
+use Rattle.smp_rewrite.specs.declared.SmpSpl.{SmpSpl}
 use Rattle.smp_rewrite.proofs.TreeLaws.{smp_shaped}
 use Rattle.tensor_paths.specs.declared.Tensor.TheVariants.{Blocks, Columns}
 use Rattle.tensor_paths.specs.Path.{Path, size_under}
@@ -46,14 +47,14 @@ back P (f ∷ fs) gs h = back P fs gs (All-tail P f (fs ++ gs) h)
 shaped : (c : Request) (f : PlainSmp) → IsValid c → IsSmpOf c f → IsShaped c f
 shaped c f valid h = subst (IsShaped c) (sym h.form) (smp_shaped c h.tree valid h.admissible)
 
-pub first-rows : (c : Request) (f : PlainSmp) (fs : List Factor) → IsValid c → IsSmpOf c f → map plain_factor fs ≡ f.first → All (λ f. HasRows (plain_factor f)) fs
-first-rows c f fs valid h e =
+pub first_rows : (c : Request) (f : SmpSpl) → IsValid c → IsSmpOf c (plain_smp f) → All (λ g. HasRows (plain_factor g)) f.first.items
+first_rows c f valid h =
     let low : 1 ≤ c.size = valid.in_range.size.0 in
-    all-rows c.size f.procs f.line fs (omega (arith, low))
-    (subst (All (HasShape c.size f.procs f.line)) (sym e) (front (HasShape c.size f.procs f.line) f.first f.second (shaped c f valid h)))
+    all-rows c.size f.procs f.line f.first.items (omega (arith, low))
+    (front (HasShape c.size f.procs f.line) (plain_smp f).first (plain_smp f).second (shaped c (plain_smp f) valid h))
 
-pub second-rows : (c : Request) (f : PlainSmp) (fs : List Factor) → IsValid c → IsSmpOf c f → map plain_factor fs ≡ f.second → All (λ f. HasRows (plain_factor f)) fs
-second-rows c f fs valid h e =
+pub second_rows : (c : Request) (f : SmpSpl) → IsValid c → IsSmpOf c (plain_smp f) → All (λ g. HasRows (plain_factor g)) f.second.items
+second_rows c f valid h =
     let low : 1 ≤ c.size = valid.in_range.size.0 in
-    all-rows c.size f.procs f.line fs (omega (arith, low))
-    (subst (All (HasShape c.size f.procs f.line)) (sym e) (back (HasShape c.size f.procs f.line) f.first f.second (shaped c f valid h)))
+    all-rows c.size f.procs f.line f.second.items (omega (arith, low))
+    (back (HasShape c.size f.procs f.line) (plain_smp f).first (plain_smp f).second (shaped c (plain_smp f) valid h))

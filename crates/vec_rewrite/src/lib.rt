@@ -18,7 +18,7 @@ ghost use Rattle.vec_rewrite.specs.Vectors.{factor_step, vec_on, vec_share, vec_
 ghost use Rattle.vec_rewrite.specs.Views.{plain_vec, plain_vec_factor};
 
 use memory::NoMemory;
-use smp_rewrite::{Factor, SmpSpl, step_of, step_within, to_smp, within};
+use smp_rewrite::{Factor, SmpSpl, step_within, to_smp, within};
 use std::alloc::Global;
 use steps::{Core, Step};
 use tensor_paths::Tensor;
@@ -87,14 +87,15 @@ pub fn to_vec(alloc: Global, c: &Ctx, f: SmpSpl) -> Result<VecSpl, NoMemory>
     ensures shape { IfOk result (λ g. IsLaned c.now (plain_vec g)) }
 {
     let _request = c.request();
-    let formula = lanes_of(alloc, c, &f)?;
+    let formula = lanes_of(alloc, c, f)?;
     Ok(formula)
 }
 
 // Both phases.
-fn lanes_of(alloc: Global, c: &Ctx, f: &SmpSpl) -> Result<VecSpl, NoMemory>
-    requires { IsSmpOf c.now (plain_smp f.now) }
-    ensures { IfOk result (λ g. plain_vec g ≡ vec_of c.now (plain_smp f.now)) }
+#[tactic(auto, using(crate::proofs::Rows::first_rows, crate::proofs::Rows::second_rows))]
+fn lanes_of(alloc: Global, c: &Ctx, f: SmpSpl) -> Result<VecSpl, NoMemory>
+    requires { IsSmpOf c.now (plain_smp f) }
+    ensures { IfOk result (λ g. plain_vec g ≡ vec_of c.now (plain_smp f)) }
 {
     let request = c.request();
     let deal = Deal {
@@ -102,8 +103,8 @@ fn lanes_of(alloc: Global, c: &Ctx, f: &SmpSpl) -> Result<VecSpl, NoMemory>
         block: request.size / f.procs,
         lanes: request.lanes,
     };
-    let first = phase(alloc, deal, &f.first)?;
-    let second = phase(alloc, deal, &f.second)?;
+    let first = phase(alloc, deal, f.first)?;
+    let second = phase(alloc, deal, f.second)?;
     Ok(VecSpl {
         procs: f.procs,
         lanes: request.lanes,
@@ -113,10 +114,10 @@ fn lanes_of(alloc: Global, c: &Ctx, f: &SmpSpl) -> Result<VecSpl, NoMemory>
 }
 
 // The factors of one phase.
-fn phase(alloc: Global, d: Deal, factors: &[Factor]) -> Result<Vec<VecFactor>, NoMemory>
+fn phase(alloc: Global, d: Deal, factors: Vec<Factor>) -> Result<Vec<VecFactor>, NoMemory>
     requires lanes { 0 < d.lanes }
-    requires rows { All (λ f. HasRows (plain_factor f)) factors.now }
-    ensures { IfOk result (λ out. map plain_vec_factor out.items ≡ phase_of d (map plain_factor factors.now)) }
+    requires rows { All (λ f. HasRows (plain_factor f)) factors.items }
+    ensures { IfOk result (λ out. map plain_vec_factor out.items ≡ phase_of d (map plain_factor factors.items)) }
 {
     if d.lanes == 1 {
         let same = kept_all(alloc, factors)?;
@@ -128,39 +129,39 @@ fn phase(alloc: Global, d: Deal, factors: &[Factor]) -> Result<Vec<VecFactor>, N
 }
 
 // On one lane each factor is as it was.
-fn kept_all(alloc: Global, factors: &[Factor]) -> Result<Vec<VecFactor>, NoMemory>
-    ensures { IfOk result (λ out. map plain_vec_factor out.items ≡ map kept (map plain_factor factors.now)) }
+fn kept_all(alloc: Global, factors: Vec<Factor>) -> Result<Vec<VecFactor>, NoMemory>
+    ensures { IfOk result (λ out. map plain_vec_factor out.items ≡ map kept (map plain_factor factors.items)) }
 {
     let mut out = Vec::new(alloc);
     for factor in factors {
-        let same = kept(alloc, factor)?;
-        out.push(same)?;
+        out.push(kept(factor))?;
     }
     Ok(out)
 }
 
-fn kept(alloc: Global, factor: &Factor) -> Result<VecFactor, NoMemory>
-    ensures { IfOk result (λ f. plain_vec_factor f ≡ kept (plain_factor factor.now)) }
+fn kept(factor: Factor) -> VecFactor
+    ensures { plain_vec_factor result ≡ kept (plain_factor factor) }
 {
     match factor {
-        Factor::Blocks(s) => Ok(VecFactor::Lanes(step_of(alloc, &s.path, &s.core)?)),
-        Factor::Diagonals(s) => Ok(VecFactor::Diagonals(step_of(alloc, &s.path, &s.core)?)),
-        Factor::MoveBefore(s) => Ok(VecFactor::MoveBefore(step_of(alloc, &s.path, &s.core)?)),
-        Factor::MoveAfter(s) => Ok(VecFactor::MoveAfter(step_of(alloc, &s.path, &s.core)?)),
+        Factor::Blocks(step) => VecFactor::Lanes(step),
+        Factor::Diagonals(step) => VecFactor::Diagonals(step),
+        Factor::MoveBefore(step) => VecFactor::MoveBefore(step),
+        Factor::MoveAfter(step) => VecFactor::MoveAfter(step),
     }
 }
 
 // The factors on several lanes.
-fn laned_all(alloc: Global, d: Deal, factors: &[Factor]) -> Result<Vec<VecFactor>, NoMemory>
+fn laned_all(alloc: Global, d: Deal, factors: Vec<Factor>) -> Result<Vec<VecFactor>, NoMemory>
     requires lanes { 0 < d.lanes }
-    requires rows { All (λ f. HasRows (plain_factor f)) factors.now }
-    ensures { IfOk result (λ out. map plain_vec_factor out.items ≡ laned_from d None (map plain_factor factors.now)) }
+    requires rows { All (λ f. HasRows (plain_factor f)) factors.items }
+    ensures { IfOk result (λ out. map plain_vec_factor out.items ≡ laned_from d None (map plain_factor factors.items)) }
 {
     let mut out = Vec::new(alloc);
     let mut order = None;
     for factor in factors {
+        let after = order_after(d, &factor);
         add_laned(alloc, d, &mut out, order, factor)?;
-        order = order_after(d, factor);
+        order = after;
     }
     add_settled(alloc, d, &mut out, order)?;
     Ok(out)
@@ -202,17 +203,17 @@ fn add_laned(
     d: Deal,
     out: &mut Vec<VecFactor>,
     order: Option<Grid>,
-    factor: &Factor,
+    factor: Factor,
 ) -> Result<(), NoMemory>
     requires lanes { 0 < d.lanes }
-    requires rows { HasRows (plain_factor factor.now) }
-    ensures { OnOk result (map plain_vec_factor out.new.items ≡ map plain_vec_factor out.old.items ++ laned d order (plain_factor factor.now)) }
+    requires rows { HasRows (plain_factor factor) }
+    ensures { OnOk result (map plain_vec_factor out.new.items ≡ map plain_vec_factor out.old.items ++ laned d order (plain_factor factor)) }
 {
     match factor {
         Factor::Blocks(step) => add_block(alloc, d, out, order, step),
         Factor::Diagonals(step) => {
             add_settled(alloc, d, out, order)?;
-            out.push(VecFactor::Diagonals(step_of(alloc, &step.path, &step.core)?))?;
+            out.push(VecFactor::Diagonals(step))?;
             Ok(())
         }
         Factor::MoveBefore(step) => {
@@ -234,32 +235,36 @@ fn add_block(
     d: Deal,
     out: &mut Vec<VecFactor>,
     order: Option<Grid>,
-    step: &Step,
+    step: Step,
 ) -> Result<(), NoMemory>
     requires lanes { 0 < d.lanes }
-    requires rows { HasRowsUnder (plain_step step.now).path }
-    ensures { OnOk result (map plain_vec_factor out.new.items ≡ map plain_vec_factor out.old.items ++ block_factors d order (plain_step step.now).path (plain_step step.now).core) }
+    requires rows { HasRowsUnder (plain_step step).path }
+    ensures { OnOk result (map plain_vec_factor out.new.items ≡ map plain_vec_factor out.old.items ++ block_factors d order (plain_step step).path (plain_step step).core) }
 {
     match (step.path.split_first(), &step.core) {
         (None, Core::Turns { rows, cols }) => {
-            let turns = Core::Turns {
+            let core = Core::Turns {
                 rows: rows / d.lanes,
                 cols: *cols,
             };
             add_settled(alloc, d, out, order)?;
-            out.push(VecFactor::Lanes(step_of(alloc, &[], &turns)?))?;
+            out.push(VecFactor::Lanes(Step {
+                path: step.path,
+                core,
+            }))?;
         }
-        (Some((Tensor::Blocks(rows), rest)), core) => {
+        (Some((Tensor::Blocks(rows), rest)), _) => {
             let grid = Grid {
                 groups: rows / d.lanes,
                 tiles: d.block / rows / d.lanes,
             };
             add_grouped(alloc, d, out, order, grid)?;
-            let lane = step_within(alloc, Tensor::Blocks(grid.groups), rest, core)?;
+            let rest = rest.to_vec(alloc)?;
+            let lane = step_within(Tensor::Blocks(grid.groups), rest, step.core)?;
             out.push(VecFactor::Lanes(lane))?;
         }
         (None | Some((Tensor::Columns(_), _)), Core::Twiddles { .. }) => {
-            let whole = step_within(alloc, Tensor::Blocks(d.procs), &step.path, &step.core)?;
+            let whole = step_within(Tensor::Blocks(d.procs), step.path, step.core)?;
             add_settled(alloc, d, out, order)?;
             out.push(VecFactor::Diagonals(whole))?;
         }
@@ -272,15 +277,16 @@ fn add_block(
 }
 
 // What each lane does of a step in columns.
-fn narrowed(alloc: Global, lanes: u64, step: &Step) -> Result<Step, NoMemory>
+fn narrowed(alloc: Global, lanes: u64, step: Step) -> Result<Step, NoMemory>
     requires { 0 < lanes }
-    ensures { IfOk result (λ s. plain_step s ≡ narrowed lanes (plain_step step.now).path (plain_step step.now).core) }
+    ensures { IfOk result (λ s. plain_step s ≡ narrowed lanes (plain_step step).path (plain_step step).core) }
 {
     match step.path.split_first() {
         Some((Tensor::Columns(cols), rest)) => {
-            step_within(alloc, Tensor::Columns(cols / lanes), rest, &step.core)
+            let rest = rest.to_vec(alloc)?;
+            step_within(Tensor::Columns(cols / lanes), rest, step.core)
         }
-        Some((Tensor::Blocks(_), _)) | None => step_of(alloc, &step.path, &step.core),
+        Some((Tensor::Blocks(_), _)) | None => Ok(step),
     }
 }
 
@@ -323,21 +329,16 @@ fn add_grouped(
 fn tiles(alloc: Global, grid: Grid) -> Result<Vec<Tensor>, NoMemory>
     ensures { IfOk result (λ path. path.items ≡ within (Blocks grid.groups) (within (Blocks grid.tiles) [])) }
 {
-    let across = within(alloc, Tensor::Blocks(grid.tiles), &[])?;
-    within(alloc, Tensor::Blocks(grid.groups), &across)
+    let across = within(Tensor::Blocks(grid.tiles), Vec::new(alloc))?;
+    within(Tensor::Blocks(grid.groups), across)
 }
 
 // `L(rows * cols, rows)` in each group of each block.
 fn group_turn(alloc: Global, d: Deal, grid: Grid, rows: u64, cols: u64) -> Result<Step, NoMemory>
     ensures { IfOk result (λ s. plain_step s ≡ step (within (Blocks d.procs) (within (Blocks grid.groups) [])) (turns rows cols)) }
 {
-    let groups = within(alloc, Tensor::Blocks(grid.groups), &[])?;
-    step_within(
-        alloc,
-        Tensor::Blocks(d.procs),
-        &groups,
-        &Core::Turns { rows, cols },
-    )
+    let groups = within(Tensor::Blocks(grid.groups), Vec::new(alloc))?;
+    step_within(Tensor::Blocks(d.procs), groups, Core::Turns { rows, cols })
 }
 
 /// For one processor and one lane the steps of a tree stay as they are: a law of the definitions.

@@ -4,14 +4,14 @@ ghost use Rattle.tree_model.specs.Admissible.{IsAdmissible};
 ghost use Rattle.tree_model.specs.Breakdown.{breakdown_of};
 
 use crate::contexts::{context, tree_of};
-use loop_merge::merge;
+use formula_lower::lower;
 use memory::NoMemory;
 use passes::{Merged, Nest};
 use perm_algebra::Affine;
-use sigma_lower::lower;
 use std::alloc::{AllocError, Global};
 use std::fmt::Write;
 use std::test::Fail;
+use term_merge::merge;
 use tree_model::{Ctx, Tree, admissible};
 use vec_rewrite::vec_of_tree;
 use worked_rows::check;
@@ -32,9 +32,9 @@ dft 6 mod 7 root 3 unroll 2; gt 2 3|1 ld 0+(0+v0*3+v2*2)%6*1 st 0+v0*3+v1*1 ld 0
 fn merged_tree(alloc: Global, c: &Ctx, tree: &Tree) -> Result<Merged, NoMemory>
     requires { IsAdmissible c.now (breakdown_of tree.now) }
 {
-    let formula = vec_of_tree(alloc, c, tree)?;
-    let formulas = lower(alloc, c, &formula)?;
-    merge(alloc, c, &formulas)
+    let vectors = vec_of_tree(alloc, c, tree)?;
+    let sigma = lower(alloc, c, vectors)?;
+    merge(alloc, sigma)
 }
 
 fn write_sums(text: &mut String, word: &str, sums: &[Affine]) -> Result<(), AllocError> {

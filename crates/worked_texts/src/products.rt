@@ -1,8 +1,6 @@
-// Products of vectors: by the definition, by the formula of a tree, and by its formulas with loops.
+// Products of vectors: by the definition, by the formula of a tree, and by its terms.
 
-ghost use Rattle.std.specs.Prelude.{◌≡◌, ◌<◌, ◌↔◌, vec_len, All, IfOk, IsTrue, map};
-ghost use Rattle.sigma_lower.specs.Lowered.{all_mean, IsWhole};
-ghost use Rattle.sigma_spl.specs.Views.{plain_sigma};
+ghost use Rattle.std.specs.Prelude.{◌≡◌, ◌<◌, ◌↔◌, vec_len, All, IfOk, IsTrue};
 ghost use Rattle.spl_ast.specs.Meaning.{IsVector};
 ghost use Rattle.steps.specs.Meaning.{transform_of};
 ghost use Rattle.tree_model.specs.Admissible.{IsAdmissible};
@@ -10,11 +8,11 @@ ghost use Rattle.tree_model.specs.Breakdown.{breakdown_of};
 
 use crate::contexts::{context, tree_of};
 use breakdown::{expand, expand_request};
+use formula_lower::lower;
 use matrix_meaning::times_plain;
 use memory::NoMemory;
+use plain_terms::apply_plain;
 use ring_mod::Modulus;
-use sigma_lower::lower;
-use sigma_spl::Sigma;
 use spl_ast::Spl;
 use std::alloc::Global;
 use std::test::Fail;
@@ -22,33 +20,18 @@ use tree_model::{Ctx, Tree, admissible};
 use vec_rewrite::vec_of_tree;
 use worked_rows::{check, joined, numbers};
 
-// The transform of `x`, by the plain product of the tree's formulas.
+// The transform of `x`, by the terms of the tree, each by its definition.
 fn times(alloc: Global, c: &Ctx, tree: &Tree, x: &[u64]) -> Result<Vec<u64>, NoMemory>
     requires admissible { IsAdmissible c.now (breakdown_of tree.now) }
     requires vector { IsVector c.now.modulus c.now.size x.now }
     ensures { IfOk result (λ y. y.items ≡ transform_of c.now c.now.size x.now) }
 {
-    let _request = c.request();
+    let request = c.request();
+    let modulus = Modulus::new(request.modulus).unwrap();
     let vectors = vec_of_tree(alloc, c, tree)?;
-    let formulas = lower(alloc, c, &vectors)?;
-    let y = apply_all(alloc, c, &formulas, x)?;
+    let sigma = lower(alloc, c, vectors)?;
+    let y = apply_plain(alloc, &modulus, &sigma, x)?;
     Ok(y)
-}
-
-// All formulas, one after the other.
-fn apply_all(alloc: Global, c: &Ctx, formulas: &[Sigma], x: &[u64]) -> Result<Vec<u64>, NoMemory>
-    requires whole { All (IsWhole c.now) (map plain_sigma formulas.now) }
-    requires vector { IsVector c.now.modulus c.now.size x.now }
-    ensures { IfOk result (λ y. y.items ≡ all_mean c.now (map plain_sigma formulas.now) x.now) }
-{
-    match formulas.split_first() {
-        None => Ok(x.to_vec(alloc)?),
-        Some((formula, rest)) => {
-            let y = Sigma::apply_plain(alloc, c, formula, x)?;
-            let all = apply_all(alloc, c, rest, &y)?;
-            Ok(all)
-        }
-    }
 }
 
 fn is_vector(modulus: u64, size: u64, x: &[u64]) -> bool
@@ -106,7 +89,7 @@ fn applied(alloc: Global, c: &Ctx, formula: &Spl, x: &[u64]) -> Result<Vec<u64>,
     Ok(Spl::apply_plain(alloc, &m, formula, x)?)
 }
 
-fn by_loops(alloc: Global, c: &Ctx, tree: &Tree, x: &[u64]) -> Result<Vec<u64>, Fail>
+fn by_terms(alloc: Global, c: &Ctx, tree: &Tree, x: &[u64]) -> Result<Vec<u64>, Fail>
     requires admissible { IsAdmissible c.now (breakdown_of tree.now) }
     requires vector { IsVector c.now.modulus c.now.size x.now }
 {
@@ -121,8 +104,8 @@ fn agreed(alloc: Global, c: &Ctx, tree: &Tree, x: &[u64]) -> Result<String, Fail
     if by_formula(alloc, c, tree, x)?.as_slice() != first.as_slice() {
         return Ok("another by the formula".to_string(alloc)?);
     }
-    if by_loops(alloc, c, tree, x)?.as_slice() != first.as_slice() {
-        return Ok("another by loops".to_string(alloc)?);
+    if by_terms(alloc, c, tree, x)?.as_slice() != first.as_slice() {
+        return Ok("another by terms".to_string(alloc)?);
     }
     joined(alloc, &first)
 }

@@ -1,8 +1,12 @@
 use Rattle.std.specs.Prelude.{[], ◌∷◌, ◌++◌, map}
 use Rattle.std.proofs.Common.{ap, ◌∙◌}
 use Rattle.passes.specs.Views.{plain_nest, plain_term}
-use Rattle.formula_code.proofs.Coding.{phases_of, one_phase}
+use Rattle.formula_code.proofs.Coding.{phases_of, one_phase, term_good}
 use Rattle.formula_code.proofs.merge_formula.Goals as goal
+
+pub merge_term-requires-clause-good : goal.merge_term-requires-clause-good
+merge_term-requires-clause-good c =
+    term_good c.args.modulus.now c.rows-size.result c.args.formula.now (plain_term c.in_ok-term.term) c.get-modulus.ensures.at_least_two c.rows-size.ensures.shaped c.rows-size.ensures.value c.in_ok-term.ensures
 
 pub returns : goal.returns
 returns c =

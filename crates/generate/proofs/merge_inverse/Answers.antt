@@ -44,4 +44,4 @@ returns c =
     let size = ap (λ (z : Request). z.size) c.request-request.ensures.value in
     let value : c.unwrap-value.result ≡ inverse_mod c.unwrap-modulus.result c.request-request.result.size = rw c.unwrap-value.ensures at c.inverse.ensures.value in
     inverse-same r c.new-backward.result t (plain_merged c.in_ok-passes.passes) (plain_merged c.in_ok-merged.merged) c.unwrap-value.result c.unwrap-modulus.result c.request-request.result.size
-    backward c.in_ok-passes.ensures value modulus size c.in_ok-merged.ensures
+    backward c.in_ok-passes.ensures.merged value modulus size c.in_ok-merged.ensures

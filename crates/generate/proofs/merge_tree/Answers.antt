@@ -1,9 +1,10 @@
-use Rattle.std.proofs.Common.{map, ap}
-use Rattle.sigma_spl.specs.Views.{plain_sigma}
+use Rattle.std.proofs.Common.{◌≡◌}
+use Rattle.formula_lower.specs.Merged.{tree_merged}
+use Rattle.passes.specs.Views.{plain_merged, plain_sigma}
 use Rattle.smp_rewrite.specs.Views.{plain_smp}
 use Rattle.tree_model.specs.Breakdown.{breakdown_of}
 use Rattle.vec_rewrite.specs.Views.{plain_vec}
-use Rattle.generate.proofs.Chain.{vectors_are, loops_are}
+use Rattle.generate.proofs.Chain.{vectors_are, tree-holds, tree-merges}
 use Rattle.generate.proofs.merge_tree.Goals as goal
 
 pub to_vec-requires : goal.to_vec-requires
@@ -18,18 +19,14 @@ lower-requires c =
       form = vectors_are c.args.c.now tree (plain_smp c.in_ok-blocks.blocks) (plain_vec c.in_ok-vectors.vectors) c.in_ok-blocks.ensures.form c.in_ok-vectors.ensures.form;
     }
 
-pub merge-requires : goal.merge-requires
-merge-requires c =
-    let tree = breakdown_of c.args.tree.now in (
-      tree,
-      c.requires,
-      loops_are c.args.c.now tree (plain_smp c.in_ok-blocks.blocks) (plain_vec c.in_ok-vectors.vectors) (map plain_sigma c.in_ok-loops.loops.items) (map plain_sigma c.deref.result.now)
-          c.in_ok-blocks.ensures.form c.in_ok-vectors.ensures.form c.in_ok-loops.ensures.form (ap (map plain_sigma) c.deref.ensures.value),
-    )
+-- the passes are the tree's
+is-merged : (c : goal.In_ok-merged) → plain_merged c.in_ok-merged.merged ≡ tree_merged c.args.c.now (breakdown_of c.args.tree.now)
+is-merged c =
+    tree-merges c.args.c.now (breakdown_of c.args.tree.now) (plain_smp c.in_ok-blocks.blocks) (plain_vec c.in_ok-vectors.vectors) (plain_sigma c.in_ok-sigma.sigma) (plain_merged c.in_ok-merged.merged)
+    c.request-request.ensures.valid c.requires c.in_ok-blocks.ensures.form c.in_ok-vectors.ensures.form c.in_ok-sigma.ensures.form c.in_ok-merged.ensures.merged
 
-pub returns : goal.returns
-returns c =
-    let tree = breakdown_of c.args.tree.now in
-    c.in_ok-merged.ensures.merged tree c.requires
-    (loops_are c.args.c.now tree (plain_smp c.in_ok-blocks.blocks) (plain_vec c.in_ok-vectors.vectors) (map plain_sigma c.in_ok-loops.loops.items) (map plain_sigma c.deref.result.now)
-    c.in_ok-blocks.ensures.form c.in_ok-vectors.ensures.form c.in_ok-loops.ensures.form (ap (map plain_sigma) c.deref.ensures.value))
+pub returns-clause-merged : goal.returns-clause-merged
+returns-clause-merged c = is-merged c
+
+pub returns-clause-tree : goal.returns-clause-tree
+returns-clause-tree c = tree-holds c.args.c.now (breakdown_of c.args.tree.now) (plain_merged c.in_ok-merged.merged) c.request-request.ensures.valid c.requires (is-merged c)

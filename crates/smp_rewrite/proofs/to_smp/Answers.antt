@@ -1,7 +1,5 @@
 use Rattle.std.proofs.Common.{◌≡◌, ◌*◌, ap, sym, subst, ◌∙◌}
-use Rattle.std.specs.Prelude.{map}
 use Rattle.matrix_meaning.specs.Valid.{IsValid}
-use Rattle.steps.specs.Views.{plain_step}
 use Rattle.tree_model.specs.Breakdown.{breakdown_of}
 use Rattle.smp_rewrite.specs.Cut.{cut, smp_of}
 use Rattle.smp_rewrite.specs.Laws.{IsShaped}
@@ -13,7 +11,7 @@ use Rattle.smp_rewrite.proofs.to_smp.Goals as goal
 
 pub cut_steps-requires : goal.cut_steps-requires
 cut_steps-requires c =
-    sized_steps c.args.c.now (breakdown_of c.args.tree.now) c.deref.result.now c.requires (ap (map plain_step) c.deref.ensures.value ∙ c.in_ok-steps.ensures.form)
+    sized_steps c.args.c.now (breakdown_of c.args.tree.now) c.in_ok-steps.steps.items c.requires c.in_ok-steps.ensures.form
 
 pub returns : goal.returns
 returns c =
@@ -21,7 +19,7 @@ returns c =
     let tree = breakdown_of c.args.tree.now in
     let valid : IsValid request = c.request-request.ensures.valid in
     let form : plain_smp c.in_ok-formula.formula ≡ smp_of request tree =
-    c.in_ok-formula.ensures ∙ ap (cut request.size request.procs request.line) (ap (map plain_step) c.deref.ensures.value ∙ c.in_ok-steps.ensures.form) in
+    c.in_ok-formula.ensures ∙ ap (cut request.size request.procs request.line) c.in_ok-steps.ensures.form in
     record {
       form = form;
       meaning = λ x. ap (λ f. smp_on request f x) form ∙ smp_transforms request tree x valid c.requires;

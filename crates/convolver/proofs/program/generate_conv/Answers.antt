@@ -27,7 +27,7 @@ emit_on-requires c =
     let ds = c.in_ok-diagonal.diagonal.items in
     let valid = planned-valid r t c.requires.request c.requires.plan in
     let same = joined-same r c.new-forward.result c.new-backward.result t ds (plain_merged c.in_ok-first.first) (plain_merged c.in_ok-second.second) (plain_merged c.in_ok-joined.joined)
-    c.new-forward.ensures (c.new-backward.ensures ∙ c.inverted.ensures) c.in_ok-first.ensures c.in_ok-second.ensures c.in_ok-joined.ensures.joined in
+    c.new-forward.ensures (c.new-backward.ensures ∙ c.inverted.ensures) c.in_ok-first.ensures.merged c.in_ok-second.ensures.merged c.in_ok-joined.ensures.joined in
     let listed : ds ≡ factors_of r c.args.h.now = c.in_ok-diagonal.ensures.value ∙ ap (λ z. factors_of z c.args.h.now) c.new-forward.ensures in
     let size : length ds ≡ r.size = ap length listed ∙ length-list_below r.size _ in
     let below : All (λ d. d < r.modulus) ds = subst (λ (z : Request). All (λ d. d < z.modulus) ds) c.new-forward.ensures c.in_ok-diagonal.ensures.residues in
@@ -42,7 +42,7 @@ returns c =
     let ds = c.in_ok-diagonal.diagonal.items in
     let valid = planned-valid r t c.requires.request c.requires.plan in
     let same = joined-same r c.new-forward.result c.new-backward.result t ds (plain_merged c.in_ok-first.first) (plain_merged c.in_ok-second.second) (plain_merged c.in_ok-joined.joined)
-    c.new-forward.ensures (c.new-backward.ensures ∙ c.inverted.ensures) c.in_ok-first.ensures c.in_ok-second.ensures c.in_ok-joined.ensures.joined in
+    c.new-forward.ensures (c.new-backward.ensures ∙ c.inverted.ensures) c.in_ok-first.ensures.merged c.in_ok-second.ensures.merged c.in_ok-joined.ensures.joined in
     let listed : ds ≡ factors_of r c.args.h.now = c.in_ok-diagonal.ensures.value ∙ ap (λ z. factors_of z c.args.h.now) c.new-forward.ensures in
     let residues : c.unwrap-modulus.result ≡ r.modulus = rw c.unwrap-modulus.ensures at c.new.ensures.value in
     let performs = conv-performs r t ds (plain_merged c.in_ok-joined.joined) c.unwrap-modulus.result r.line (plain_program c.in_ok-program.program) same residues refl c.in_ok-program.ensures.performs in

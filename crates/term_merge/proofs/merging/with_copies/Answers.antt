@@ -7,7 +7,7 @@ use Rattle.term_merge.proofs.States.{known-nest}
 use Rattle.term_merge.proofs.merging.with_copies.Goals as goal
 
 pub natural_nest-requires-clause-some : goal.natural_nest-requires-clause-some
-natural_nest-requires-clause-some c = inner_positive c.args.path.now (work_size (plain_work c.args.work)) (subst (λ z. 0 < z) (sym c.requires.good.1) c.requires.room.some)
+natural_nest-requires-clause-some c = inner_positive c.args.path.now (work_size (plain_work c.args.work)) (subst (λ z. 0 < z) (sym c.requires.good.term.1) c.requires.room.some)
 
 pub with_pass-requires-clause-known : goal.with_pass-requires-clause-known
 with_pass-requires-clause-known c =

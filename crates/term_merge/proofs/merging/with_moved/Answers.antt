@@ -5,7 +5,7 @@ use Rattle.term_merge.proofs.States.{known-move}
 use Rattle.term_merge.proofs.merging.with_moved.Goals as goal
 
 pub moved_nest-requires-clause-some : goal.moved_nest-requires-clause-some
-moved_nest-requires-clause-some c = inner_positive c.args.path.now (length c.args.places.now) (subst (λ z. 0 < z) (sym c.requires.good.1) c.requires.room.some)
+moved_nest-requires-clause-some c = inner_positive c.args.path.now (length c.args.places.now) (subst (λ z. 0 < z) (sym c.requires.good.term.1) c.requires.room.some)
 
 pub with_pass-requires-clause-known : goal.with_pass-requires-clause-known
 with_pass-requires-clause-known c =

@@ -1,5 +1,0 @@
-use Rattle.sigma_lower.proofs.Both as laws
-use Rattle.sigma_lower.proofs.sigma_transforms.Goals as goal
-
-pub returns : goal.returns
-returns c = laws.sigma_transforms

@@ -1,4 +1,0 @@
-pub mod Moves
-pub mod Means
-pub mod Stores
-pub mod Turns

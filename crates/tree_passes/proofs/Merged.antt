@@ -1,0 +1,33 @@
+-- The merged passes of a tree do its transform, in its operations, within the limits.
+use Rattle.std.proofs.Common.{refl, subst}
+use Rattle.formula_lower.specs.Merged.{tree_merged, tree_sigma}
+use Rattle.formula_lower.proofs.CanMerge.{trees_can_merge}
+use Rattle.loop_merge.proofs.LoopLimits.{trees_merge}
+use Rattle.matrix_meaning.specs.declared.Request.{Request}
+use Rattle.matrix_meaning.specs.Valid.{IsValid}
+use Rattle.passes.specs.Merged.{PlainMerged}
+use Rattle.passes.specs.Sigma.{ArePhases}
+use Rattle.passes.proofs.Phases.{sigma_merges}
+use Rattle.tree_model.specs.Admissible.{IsAdmissible}
+use Rattle.tree_model.specs.Breakdown.{Breakdown}
+use Rattle.tree_passes.specs.Merged.{TreesAreMerged}
+use Rattle.tree_passes.proofs.Counting.{trees_count}
+use Rattle.tree_passes.proofs.Lean.{trees-count-like, trees-transform}
+use Rattle.tree_passes.proofs.TreesCanProgram.{trees_can_program}
+
+phases-are : (c : Request) (t : Breakdown) → IsValid c → IsAdmissible c t → ArePhases c.lanes c.size (tree_merged c t).phases
+phases-are c t valid h =
+    subst (λ (g : PlainMerged). ArePhases g.lanes g.size g.phases) (trees_merge c t valid h) (sigma_merges (tree_sigma c t) (trees_can_merge c t valid h)).phases
+
+pub trees_are_merged : TreesAreMerged
+trees_are_merged c t valid h =
+    record {
+      size = refl;
+      procs = refl;
+      lanes = refl;
+      meaning = λ x vector. trees-transform c t x valid h vector;
+      phases = (trees-count-like c t valid h).phases;
+      counts = trees_count c t valid h;
+      stores = phases-are c t valid h;
+      owners = (trees_can_program c t valid h).shared;
+    }
