@@ -5,6 +5,8 @@ ghost use Rattle.std.specs.Prelude.{◌<◌};
 use io_edge::{MemSink, MemSource};
 use spiral_main::spiral_run;
 use std::alloc::Global;
+use std::fmt::Display;
+use std::process::Abort;
 use std::test::Fail;
 
 /// How the source and the sinks behave: how many bytes a read gives at most, which read fails and which write, how many
@@ -27,12 +29,13 @@ pub(crate) const AMPLE: Outside = Outside {
     note_room: 200,
 };
 
-/// What a call answers, writes and notes.
+/// A call's code, and its streams: what is left to read, and what it has written and noted.
 #[derive(Drop)]
-pub(crate) struct Seen {
-    pub(crate) code: u8,
-    pub(crate) output: MemSink,
-    pub(crate) note: MemSink,
+struct Seen {
+    code: u8,
+    source: MemSource,
+    output: MemSink,
+    note: MemSink,
 }
 
 fn list(alloc: Global, call: Option<u64>) -> Result<Vec<u64>, Fail> {
@@ -43,59 +46,124 @@ fn list(alloc: Global, call: Option<u64>) -> Result<Vec<u64>, Fail> {
     Ok(calls)
 }
 
-/// The words of a line, between its spaces.
+// The program's name, and the words behind it, between spaces. A dash stands for none.
 fn words_of(alloc: Global, line: &str) -> Result<Vec<String>, Fail> {
     let mut words = Vec::new(alloc);
-    for word in line.split(' ') {
-        words.push(word.to_string(alloc)?)?;
+    words.push("spiral".to_string(alloc)?)?;
+    if line != "-" {
+        for word in line.split(' ') {
+            words.push(word.to_string(alloc)?)?;
+        }
     }
     Ok(words)
 }
 
-fn source_of(alloc: Global, input: &[u8], outside: &Outside) -> Result<MemSource, Fail>
+fn source_of(alloc: Global, input: &str, outside: &Outside) -> Result<MemSource, Fail>
     requires { 0 < outside.now.step }
 {
-    let fails = list(alloc, outside.read_fails)?;
-    Ok(MemSource::new(input.to_vec(alloc)?, outside.step, fails))
+    let bytes = input.as_bytes().to_vec(alloc)?;
+    Ok(MemSource::new(bytes, outside.step, list(alloc, outside.read_fails)?))
 }
 
-fn sink_of(alloc: Global, outside: &Outside) -> Result<MemSink, Fail> {
-    let fails = list(alloc, outside.write_fails)?;
-    Ok(MemSink::new(alloc, outside.room, fails)?)
+fn sink_of(alloc: Global, room: u64, fails: Option<u64>) -> Result<MemSink, Fail> {
+    Ok(MemSink::new(alloc, room, list(alloc, fails)?)?)
 }
 
-/// The call of these words, which are joined by spaces, on this input.
-pub(crate) fn call(alloc: Global, line: &str, input: &[u8], outside: &Outside) -> Result<Seen, Fail>
+// What stands before a call.
+fn before(alloc: Global, input: &str, outside: &Outside) -> Result<Seen, Fail>
     requires { 0 < outside.now.step }
 {
-    let words = words_of(alloc, line)?;
-    let mut source = source_of(alloc, input, outside)?;
-    let mut output = sink_of(alloc, outside)?;
-    let mut note = MemSink::new(alloc, outside.note_room, Vec::new(alloc))?;
-    let status = spiral_run(alloc, &words, &mut source, &mut output, &mut note);
     Ok(Seen {
-        code: status.code(),
-        output,
-        note,
+        code: 0,
+        source: source_of(alloc, input, outside)?,
+        output: sink_of(alloc, outside.room, outside.write_fails)?,
+        note: sink_of(alloc, outside.note_room, None)?,
     })
 }
 
-/// What the call writes, as text.
-pub(crate) fn output_of(seen: &Seen) -> Result<&str, Fail> {
-    Ok(
-        std::str::from_utf8(seen.output.bytes())
-            .ok()
-            .ok_or("a text")?,
-    )
+// The call of the words, which are joined by spaces, on the input.
+fn call(alloc: Global, line: &str, input: &str, outside: &Outside) -> Result<Seen, Fail>
+    requires { 0 < outside.now.step }
+{
+    let words = words_of(alloc, line)?;
+    let mut seen = before(alloc, input, outside)?;
+    let status = spiral_run(
+        alloc,
+        &words,
+        &mut seen.source,
+        &mut seen.output,
+        &mut seen.note,
+    );
+    seen.code = status.code();
+    Ok(seen)
 }
 
-/// What the call notes, as text.
-pub(crate) fn note_of(seen: &Seen) -> Result<&str, Fail> {
-    Ok(std::str::from_utf8(seen.note.bytes()).ok().ok_or("a text")?)
+fn text_of(sink: &MemSink) -> Result<&str, Fail> {
+    Ok(std::str::from_utf8(sink.bytes()).ok().ok_or("a text")?)
 }
 
-/// The code, the output and the note of a call, as rows have them.
-pub(crate) fn told(alloc: Global, seen: &Seen) -> Result<String, Fail> {
-    let (output, note) = (output_of(seen)?, note_of(seen)?);
+fn told_of(alloc: Global, seen: &Seen) -> Result<String, Fail> {
+    let (output, note) = (text_of(&seen.output)?, text_of(&seen.note)?);
     Ok(format!(in alloc; "{}; {output}; {note}", seen.code)?)
+}
+
+/// The code, the output and the note of a call over such streams, as rows have them.
+pub(crate) fn told_by(
+    alloc: Global,
+    line: &str,
+    input: &str,
+    outside: &Outside,
+) -> Result<String, Fail>
+    requires { 0 < outside.now.step }
+{
+    told_of(alloc, &call(alloc, line, input, outside)?)
+}
+
+/// The same where nothing fails.
+pub(crate) fn told(alloc: Global, line: &str, input: &str) -> Result<String, Fail> {
+    told_by(alloc, line, input, &AMPLE)
+}
+
+fn output_of(alloc: Global, seen: &Seen) -> Result<String, Fail> {
+    if seen.code != 0 {
+        return Err(Fail::from("a success"));
+    }
+    Ok(text_of(&seen.output)?.to_string(alloc)?)
+}
+
+/// What a call writes that succeeds.
+pub(crate) fn written(alloc: Global, line: &str, input: &str) -> Result<String, Fail> {
+    output_of(alloc, &call(alloc, line, input, &AMPLE)?)
+}
+
+/// The two texts of this case are one.
+pub(crate) fn same<D: Display + Drop>(rt: &impl Abort, seen: &str, wanted: &str, case: D) {
+    assert_eq!(rt; seen, wanted, "{case}");
+}
+
+/// The call of these words on this input tells what is wanted.
+pub(crate) fn tells(
+    rt: &impl Abort,
+    alloc: Global,
+    line: &str,
+    input: &str,
+    wanted: &str,
+) -> Result<(), Fail> {
+    let seen = told(alloc, line, input)?;
+    same(rt, &seen, wanted, line);
+    Ok(())
+}
+
+/// The same on a line of so many letters and what stands behind them.
+pub(crate) fn long_tells(
+    rt: &impl Abort,
+    alloc: Global,
+    line: &str,
+    len: usize,
+    behind: &str,
+    wanted: &str,
+) -> Result<(), Fail> {
+    let mut input = "x".repeat(alloc, len)?;
+    input.push_str(behind)?;
+    tells(rt, alloc, line, &input, wanted)
 }

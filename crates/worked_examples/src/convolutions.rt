@@ -1,11 +1,9 @@
 // Cyclic convolutions, and what `convolve` makes of their lines. The answers are those of reference/convolutions.py.
 
-ghost use Rattle.std.specs.Prelude.{◌<◌};
-
-use crate::call::{AMPLE, Outside, Seen, call, note_of, output_of};
+use crate::call::{long_tells, tells, written};
 use crate::rows::all_answer;
+use crate::streams::all_stream;
 use std::alloc::Global;
-use std::process::Abort;
 use std::test::Fail;
 
 // Rows as those of requests: the words behind the program's name, the input, the code, the output and the note.
@@ -117,94 +115,47 @@ fn lines_of_other_commands(rt: HostRuntime) -> Result<(), Fail> {
     all_answer(&rt, rt.alloc(), OTHERS)
 }
 
+fn with_vectors(alloc: Global) -> Result<String, Fail> {
+    let listing = written(alloc, "convolve --code", "conv 4 mod 17 root 4\n1 2 0 0\n")?;
+    Ok(format!(in alloc; "{listing}\n1 2 3 4\n0 1 0 0\n")?)
+}
+
 // The listing is run on other vectors as a stranger's is.
 #[test]
 fn convolution_by_its_listing(rt: HostRuntime) -> Result<(), Fail> {
-    let alloc = rt.alloc();
-    let asked = b"conv 4 mod 17 root 4\n1 2 0 0\n";
-    let listed = call(alloc, "spiral convolve --code", asked, &AMPLE)?;
-    assert_eq!(rt; listed.code, 0);
-    let given = format!(in alloc; "{}\n1 2 3 4\n0 1 0 0\n", output_of(&listed)?)?;
-    let run = call(alloc, "spiral exec", given.as_bytes(), &AMPLE)?;
-    assert_eq!(rt; run.code, 0);
-    assert_eq!(rt; output_of(&run)?, "9 4 7 10\n0 1 2 0\n");
-    Ok(())
+    let given = with_vectors(rt.alloc())?;
+    tells(&rt, rt.alloc(), "exec", &given, "0; 9 4 7 10\n0 1 2 0\n; ")
 }
 
 // A line of 257 bytes is not read.
 #[test]
 fn long_lines(rt: HostRuntime) -> Result<(), Fail> {
-    let line = "c".repeat(rt.alloc(), 257)?;
-    let seen = call(rt.alloc(), "spiral convolve", line.as_bytes(), &AMPLE)?;
-    assert_eq!(rt; seen.code, 13);
-    assert_eq!(rt; note_of(&seen)?, "spiral: more than 256 bytes\n");
-    Ok(())
+    let wanted = "13; ; spiral: more than 256 bytes\n";
+    long_tells(&rt, rt.alloc(), "convolve", 257, "", wanted)
 }
 
-fn failing(alloc: Global, words: &str, outside: &Outside) -> Result<Seen, Fail>
-    requires { 0 < outside.now.step }
-{
-    let input = b"conv 4 mod 17 root 4\n1 2 0 0\n1 2 3 4\n5 6 7 8\n";
-    call(alloc, words, input, outside)
-}
+// Rows as those of streams. A read that fails leaves the lines of the vectors before it, and a write that fails or a sink
+// that is full leaves a front of the text.
+const FAILING: &str = "\
+step 7 read 0; conv 4 mod 17 root 4/1 2 0 0/1 2 3 4/5 6 7 8/; 10; ; spiral: read failed/
+step 7 read 3; conv 4 mod 17 root 4/1 2 0 0/1 2 3 4/5 6 7 8/; 10; ; spiral: read failed/
+step 7 read 6; conv 4 mod 17 root 4/1 2 0 0/1 2 3 4/5 6 7 8/; 10; 9 4 7 10/; spiral: read failed/
+write 0; conv 4 mod 17 root 4/1 2 0 0/1 2 3 4/5 6 7 8/; 11; ; spiral: write failed/
+room 12; conv 4 mod 17 root 4/1 2 0 0/1 2 3 4/5 6 7 8/; 11; 9 4 7 10/4 1; spiral: write failed/
+";
 
-fn fail_read(rt: &impl Abort, alloc: Global, fails: u64, wanted: &str) -> Result<(), Fail> {
-    let outside = Outside {
-        step: 7,
-        read_fails: Some(fails),
-        ..AMPLE
-    };
-    let seen = failing(alloc, "spiral convolve", &outside)?;
-    assert_eq!(rt; seen.code, 10, "{fails}");
-    assert_eq!(rt; output_of(&seen)?, wanted, "{fails}");
-    Ok(())
-}
+// Behind h the listing needs no read.
+const FAILING_CODES: &str = "\
+write 0; conv 4 mod 17 root 4/1 2 0 0/1 2 3 4/5 6 7 8/; 11; ; spiral: write failed/
+step 29 read 1; conv 4 mod 17 root 4/1 2 0 0/1 2 3 4/5 6 7 8/; 0; program size 4 mod 17 procs 1 line 1 lanes 1 regs 17/table 0 values 5 15 4 11/phase/ld r0 X[0]/ld r1 X[1]/ld r2 X[2]/ld r3 X[3]/add r4 r0 r2/sub r5 r0 r2/add r6 r1 r3/sub r7 r1 r3/mul r8 r7 4/add r9 r4 r6/sub r10 r4 r6/add r11 r5 r8/sub r12 r5 r8/mul r13 r9 t0[0] step 0/st A[0] r13/mul r14 r11 t0[1] step 0/st A[1] r14/mul r15 r10 t0[2] step 0/st A[2] r15/mul r16 r12 t0[3] step 0/st A[3] r16/ld r0 A[0]/ld r1 A[1]/ld r2 A[2]/ld r3 A[3]/add r4 r0 r2/sub r5 r0 r2/add r6 r1 r3/sub r7 r1 r3/mul r8 r7 13/add r9 r4 r6/sub r10 r4 r6/add r11 r5 r8/sub r12 r5 r8/st Y[0] r9/st Y[1] r11/st Y[2] r10/st Y[3] r12/end/;\x20
+";
 
-// A read that fails leaves the lines of the vectors before it.
 #[test]
-fn failing_reads(rt: HostRuntime) -> Result<(), Fail> {
-    for (fails, wanted) in [(0, ""), (3, ""), (6, "9 4 7 10\n")] {
-        fail_read(&rt, rt.alloc(), fails, wanted)?;
-    }
-    Ok(())
-}
-
-// Behind h the listing needs none.
-#[test]
-fn a_read_that_the_listing_does_not_need(rt: HostRuntime) -> Result<(), Fail> {
-    let outside = Outside {
-        step: 29,
-        read_fails: Some(1),
-        ..AMPLE
-    };
-    let seen = failing(rt.alloc(), "spiral convolve --code", &outside)?;
-    assert_eq!(rt; seen.code, 0);
-    Ok(())
-}
-
-fn fail_write(rt: &impl Abort, alloc: Global, words: &str) -> Result<(), Fail> {
-    let outside = Outside {
-        write_fails: Some(0),
-        ..AMPLE
-    };
-    let seen = failing(alloc, words, &outside)?;
-    assert_eq!(rt; seen.code, 11, "{words}");
-    assert!(rt; seen.output.bytes().is_empty(), "{words}");
-    Ok(())
-}
-
-// A write that fails leaves a front of the text.
-#[test]
-fn failing_writes(rt: HostRuntime) -> Result<(), Fail> {
-    fail_write(&rt, rt.alloc(), "spiral convolve")?;
-    fail_write(&rt, rt.alloc(), "spiral convolve --code")
+fn failing_streams(rt: HostRuntime) -> Result<(), Fail> {
+    all_stream(&rt, rt.alloc(), "convolve", FAILING)
 }
 
 #[test]
-fn a_sink_that_is_full(rt: HostRuntime) -> Result<(), Fail> {
-    let outside = Outside { room: 12, ..AMPLE };
-    let seen = failing(rt.alloc(), "spiral convolve", &outside)?;
-    assert_eq!(rt; seen.code, 11);
-    assert_eq!(rt; output_of(&seen)?, "9 4 7 10\n4 1");
-    Ok(())
+fn failing_streams_of_listings(rt: HostRuntime) -> Result<(), Fail> {
+    all_stream(&rt, rt.alloc(), "convolve --code", FAILING_CODES)
 }

@@ -1,9 +1,8 @@
 // Formulas that anyone may have written, and what `compile` and `apply` make of them.
 
-ghost use Rattle.std.specs.Prelude.{◌<◌};
-
-use crate::call::{AMPLE, Outside, Seen, call, note_of, output_of};
+use crate::call::{long_tells, same, tells, told, written};
 use crate::rows::{all_answer, lines_of};
+use crate::streams::all_stream;
 use listing_text::read_listing;
 use std::alloc::Global;
 use std::process::Abort;
@@ -74,46 +73,53 @@ fn refused_formulas(rt: HostRuntime) -> Result<(), Fail> {
 
 // What `compile` writes for a formula: a listing, which `exec` runs on the data as `apply` does.
 fn compiled(alloc: Global, modulus: &str, input: &str) -> Result<String, Fail> {
-    let line = format!(in alloc; "spiral compile --mod {modulus}")?;
-    let seen = call(alloc, &line, input.as_bytes(), &AMPLE)?;
-    if seen.code != 0 || read_listing(alloc, seen.output.bytes()).is_err() {
+    let words = format!(in alloc; "compile --mod {modulus}")?;
+    let text = written(alloc, &words, input)?;
+    if read_listing(alloc, text.as_bytes()).is_err() {
         return Err(Fail::from("a listing"));
     }
-    Ok(output_of(&seen)?.to_string(alloc)?)
+    Ok(text)
 }
 
-// What `exec` makes of the listing and the data.
-fn executed(alloc: Global, listing: &str, input: &str) -> Result<String, Fail> {
+// The listing, and behind an empty line what stands behind the input's line.
+fn with_data(alloc: Global, listing: &str, input: &str) -> Result<String, Fail> {
     let data = match input.split_once('\n') {
         Some((_, data)) => data,
         None => "",
     };
-    let given = format!(in alloc; "{listing}\n{data}")?;
-    let seen = call(alloc, "spiral exec", given.as_bytes(), &AMPLE)?;
-    Ok(output_of(&seen)?.to_string(alloc)?)
+    Ok(format!(in alloc; "{listing}\n{data}")?)
 }
 
-fn applied(alloc: Global, words: &str, input: &str) -> Result<String, Fail> {
-    let line = format!(in alloc; "spiral {words}")?;
-    let seen = call(alloc, &line, input.as_bytes(), &AMPLE)?;
-    Ok(output_of(&seen)?.to_string(alloc)?)
+// What `exec` makes of the listing and the data.
+fn executed(alloc: Global, words: &str, input: &str) -> Result<String, Fail> {
+    let modulus = words.split(' ').nth(2).ok_or("a modulus")?;
+    let listing = compiled(alloc, modulus, input)?;
+    told(alloc, "exec", &with_data(alloc, &listing, input)?)
 }
 
-fn executes_as_applied(rt: &impl Abort, alloc: Global, row: &str) -> Result<(), Fail> {
+fn executes_as_applied(
+    rt: &impl Abort,
+    alloc: Global,
+    words: &str,
+    input: &str,
+) -> Result<(), Fail> {
+    let wanted = told(alloc, words, input)?;
+    let seen = executed(alloc, words, input)?;
+    same(rt, &seen, &wanted, words);
+    Ok(())
+}
+
+fn row_executes(rt: &impl Abort, alloc: Global, row: &str) -> Result<(), Fail> {
     let (words, rest) = field(row)?;
     let (input, _) = field(rest)?;
     let input = lines_of(alloc, input)?;
-    let modulus = words.split(' ').nth(2).ok_or("a modulus")?;
-    let run = executed(alloc, &compiled(alloc, modulus, &input)?, &input)?;
-    let wanted = applied(alloc, words, &input)?;
-    assert_eq!(rt; run.as_str(), wanted.as_str(), "{row}");
-    Ok(())
+    executes_as_applied(rt, alloc, words, &input)
 }
 
 #[test]
 fn compiled_formulas(rt: HostRuntime) -> Result<(), Fail> {
     for row in RESULTS.lines() {
-        executes_as_applied(&rt, rt.alloc(), row)?;
+        row_executes(&rt, rt.alloc(), row)?;
     }
     Ok(())
 }
@@ -121,29 +127,14 @@ fn compiled_formulas(rt: HostRuntime) -> Result<(), Fail> {
 // A line of 65,536 bytes is read, and a longer one is not.
 #[test]
 fn longest_lines(rt: HostRuntime) -> Result<(), Fail> {
-    let line = "X".repeat(rt.alloc(), 65536)?;
-    let read = call(
-        rt.alloc(),
-        "spiral compile --mod 17",
-        line.as_bytes(),
-        &AMPLE,
-    )?;
-    assert_eq!(rt; read.code, 3);
-    Ok(())
+    let wanted = "3; ; spiral: syntax at byte 0\n";
+    long_tells(&rt, rt.alloc(), "compile --mod 17", 65_536, "", wanted)
 }
 
 #[test]
 fn longer_lines(rt: HostRuntime) -> Result<(), Fail> {
-    let line = "X".repeat(rt.alloc(), 65537)?;
-    let unread = call(
-        rt.alloc(),
-        "spiral compile --mod 17",
-        line.as_bytes(),
-        &AMPLE,
-    )?;
-    assert_eq!(rt; unread.code, 13);
-    assert_eq!(rt; note_of(&unread)?, "spiral: more than 65536 bytes\n");
-    Ok(())
+    let wanted = "13; ; spiral: more than 65536 bytes\n";
+    long_tells(&rt, rt.alloc(), "compile --mod 17", 65_537, "", wanted)
 }
 
 // 128 open parts with one more in them.
@@ -156,53 +147,19 @@ fn deep(alloc: Global) -> Result<String, Fail> {
 #[test]
 fn deep_formulas(rt: HostRuntime) -> Result<(), Fail> {
     let text = deep(rt.alloc())?;
-    let seen = call(
-        rt.alloc(),
-        "spiral compile --mod 17",
-        text.as_bytes(),
-        &AMPLE,
-    )?;
-    assert_eq!(rt; seen.code, 17);
-    assert_eq!(rt; note_of(&seen)?, "spiral: formula too deep at byte 1025\n");
-    Ok(())
+    let wanted = "17; ; spiral: formula too deep at byte 1025\n";
+    tells(&rt, rt.alloc(), "compile --mod 17", &text, wanted)
 }
 
-fn failing(alloc: Global, outside: &Outside) -> Result<Seen, Fail>
-    requires { 0 < outside.now.step }
-{
-    let input = b"TIMES(LEFT(DFT(2,16),2),L(4,2))\n1 2 3 4\n";
-    call(alloc, "spiral apply --mod 17", input, outside)
-}
-
-// A read that fails in the line leaves no output, and so does a write that fails.
-fn fail_read(rt: &impl Abort, alloc: Global, fails: u64) -> Result<(), Fail> {
-    let outside = Outside {
-        step: 6,
-        read_fails: Some(fails),
-        ..AMPLE
-    };
-    let seen = failing(alloc, &outside)?;
-    assert_eq!(rt; seen.code, 10, "{fails}");
-    assert!(rt; seen.output.bytes().is_empty(), "{fails}");
-    Ok(())
-}
+// Rows as those of streams. A read that fails in the line leaves no output, and so does a write that fails.
+const FAILING: &str = "\
+step 6 read 0; TIMES(LEFT(DFT(2,16),2),L(4,2))/1 2 3 4/; 10; ; spiral: read failed/
+step 6 read 1; TIMES(LEFT(DFT(2,16),2),L(4,2))/1 2 3 4/; 10; ; spiral: read failed/
+step 6 read 5; TIMES(LEFT(DFT(2,16),2),L(4,2))/1 2 3 4/; 10; ; spiral: read failed/
+write 0; TIMES(LEFT(DFT(2,16),2),L(4,2))/1 2 3 4/; 11; ; spiral: write failed/
+";
 
 #[test]
-fn failing_reads(rt: HostRuntime) -> Result<(), Fail> {
-    for fails in [0, 1, 5] {
-        fail_read(&rt, rt.alloc(), fails)?;
-    }
-    Ok(())
-}
-
-#[test]
-fn failing_writes(rt: HostRuntime) -> Result<(), Fail> {
-    let outside = Outside {
-        write_fails: Some(0),
-        ..AMPLE
-    };
-    let seen = failing(rt.alloc(), &outside)?;
-    assert_eq!(rt; seen.code, 11);
-    assert!(rt; seen.output.bytes().is_empty());
-    Ok(())
+fn failing_streams(rt: HostRuntime) -> Result<(), Fail> {
+    all_stream(&rt, rt.alloc(), "apply --mod 17", FAILING)
 }

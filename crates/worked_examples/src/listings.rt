@@ -1,6 +1,6 @@
 // Listings of programs, letter for letter, as the rules of emission give them.
 
-use crate::call::{AMPLE, call, output_of};
+use crate::call::tells;
 use std::alloc::Global;
 use std::process::Abort;
 use std::test::Fail;
@@ -314,34 +314,38 @@ for (int l = 0; l < V; l++) Y[1 + l] = r[4][l];
 }
 ";
 
-fn is_listed(rt: &impl Abort, alloc: Global, line: &str, listing: &str) -> Result<(), Fail> {
-    let seen = call(alloc, "spiral code", line.as_bytes(), &AMPLE)?;
-    assert_eq!(rt; seen.code, 0, "{line}");
-    assert_eq!(rt; output_of(&seen)?, listing, "{line}");
-    Ok(())
+// Requests and their listings.
+const LISTED: [(&str, &str); 8] = [
+    ("dft 2 mod 15 root 4\n", PAIR),
+    ("dft 4 mod 17 root 4\n", FOUR),
+    ("dft 9 mod 19 root 4 unroll 16\n", NINE_KERNEL),
+    ("dft 9 mod 19 root 4 unroll 2\n", NINE_LEAVES),
+    ("dft 30 mod 31 root 3 unroll 2\n", THIRTY),
+    ("dft 15 mod 31 root 9\n", FIFTEEN),
+    ("dft 4 mod 17 root 4 procs 2 line 1\n", QUAD),
+    ("dft 4 mod 17 root 4 lanes 2\n", LANES),
+];
+
+fn is_listed(
+    rt: &impl Abort,
+    alloc: Global,
+    words: &str,
+    line: &str,
+    text: &str,
+) -> Result<(), Fail> {
+    let wanted = format!(in alloc; "0; {text}; ")?;
+    tells(rt, alloc, words, line, &wanted)
 }
 
 #[test]
 fn letter_for_letter(rt: HostRuntime) -> Result<(), Fail> {
-    let listings: [(&str, &str); 8] = [
-        ("dft 2 mod 15 root 4\n", PAIR),
-        ("dft 4 mod 17 root 4\n", FOUR),
-        ("dft 9 mod 19 root 4 unroll 16\n", NINE_KERNEL),
-        ("dft 9 mod 19 root 4 unroll 2\n", NINE_LEAVES),
-        ("dft 30 mod 31 root 3 unroll 2\n", THIRTY),
-        ("dft 15 mod 31 root 9\n", FIFTEEN),
-        ("dft 4 mod 17 root 4 procs 2 line 1\n", QUAD),
-        ("dft 4 mod 17 root 4 lanes 2\n", LANES),
-    ];
-    for (line, listing) in listings {
-        is_listed(&rt, rt.alloc(), line, listing)?;
+    for (line, listing) in LISTED {
+        is_listed(&rt, rt.alloc(), "code", line, listing)?;
     }
     Ok(())
 }
 
 #[test]
 fn c_letter_for_letter(rt: HostRuntime) -> Result<(), Fail> {
-    let seen = call(rt.alloc(), "spiral c", b"dft 2 mod 15 root 4\n", &AMPLE)?;
-    assert_eq!(rt; output_of(&seen)?, C_TEXT);
-    Ok(())
+    is_listed(&rt, rt.alloc(), "c", "dft 2 mod 15 root 4\n", C_TEXT)
 }

@@ -1,6 +1,6 @@
 // Calls whose answers are worked out from the definitions, or by the reference in reference/.
 
-use crate::call::{AMPLE, call, told};
+use crate::call::{same, told};
 use std::alloc::Global;
 use std::process::Abort;
 use std::test::Fail;
@@ -214,26 +214,17 @@ pub(crate) fn wanted_of(alloc: Global, answer: &str) -> Result<String, Fail> {
     wanted(alloc, code, output, note)
 }
 
-// The command line of the words.
-fn command_line(alloc: Global, words: &str) -> Result<String, Fail> {
-    Ok(match words {
-        "-" => "spiral".to_string(alloc)?,
-        _ => format!(in alloc; "spiral {words}")?,
-    })
-}
-
 fn answer(alloc: Global, words: &str, input: &str) -> Result<String, Fail> {
-    let line = command_line(alloc, words)?;
     let input = lines_of(alloc, input)?;
-    told(alloc, &call(alloc, &line, input.as_bytes(), &AMPLE)?)
+    told(alloc, words, &input)
 }
 
 fn answers_as(rt: &impl Abort, alloc: Global, row: &str) -> Result<(), Fail> {
     let (words, rest) = field(row)?;
     let (input, rest) = field(rest)?;
-    let seen = answer(alloc, words, input)?;
     let wanted = wanted_of(alloc, rest)?;
-    assert_eq!(rt; seen.as_str(), wanted.as_str(), "{row}");
+    let seen = answer(alloc, words, input)?;
+    same(rt, &seen, &wanted, row);
     Ok(())
 }
 

@@ -3,12 +3,11 @@
 
 ghost use Rattle.std.specs.Prelude.{◌≡◌, ◌<◌, All, IfOk, vec_len};
 
-use crate::call::{AMPLE, call, told};
+use crate::call::tells;
 use matrix_meaning::{Request, times_plain};
 use request_text::read_request;
 use ring_mod::Modulus;
 use std::alloc::Global;
-use std::fmt::Write;
 use std::process::Abort;
 use std::test::Fail;
 
@@ -261,31 +260,32 @@ fn vector_of_seed(alloc: Global, m: &Modulus, size: u64, seed: u64) -> Result<Ve
     }
 }
 
-// The sum over k of (k+1) times number k of the matrix times the seed's vector, by the definition.
-fn plain_sum(alloc: Global, request: &Request, seed: u64) -> Result<u64, Fail> {
-    let m = Modulus::new(request.modulus).ok_or("a modulus")?;
-    let root = m.reduce(request.root);
-    let x = vector_of_seed(alloc, &m, request.size, seed)?;
-    let y = times_plain(alloc, request.kind, request.size, root, m.get(), &x)?;
+// The sum over k of (k+1) times number k.
+fn weighted_sum(m: &Modulus, y: &[u64]) -> u64 {
     let mut sum = 0;
     for (k, value) in y.iter().enumerate() {
         let term = m.mul(m.reduce(k as u64 + 1), m.reduce(*value));
         sum = m.add(m.reduce(sum), term);
     }
-    Ok(sum)
+    sum
+}
+
+// That sum of the matrix times the seed's vector, by the definition.
+fn plain_sum(alloc: Global, request: &Request, seed: u64) -> Result<u64, Fail> {
+    let m = Modulus::new(request.modulus).ok_or("a modulus")?;
+    let root = m.reduce(request.root);
+    let x = vector_of_seed(alloc, &m, request.size, seed)?;
+    let y = times_plain(alloc, request.kind, request.size, root, m.get(), &x)?;
+    Ok(weighted_sum(&m, &y))
 }
 
 // The code and the text of a sample with this sum, and with the operations, loads and stores of the row.
 fn sample_text(alloc: Global, sum: u64, counts: &str) -> Result<String, Fail> {
-    let mut text = format!(in alloc; "0; sum {sum}\n")?;
-    for (name, count) in ["operations", "loads", "stores"]
-        .iter()
-        .zip(counts.split(' '))
-    {
-        write!(text, "{name} {count}\n")?;
-    }
-    text.push_str("; ")?;
-    Ok(text)
+    let (operations, rest) = counts.split_once(' ').ok_or("operations")?;
+    let (loads, stores) = rest.split_once(' ').ok_or("loads and stores")?;
+    Ok(format!(in alloc;
+        "0; sum {sum}\noperations {operations}\nloads {loads}\nstores {stores}\n; "
+    )?)
 }
 
 fn wanted_of(alloc: Global, seed: u64, line: &str, counts: &str) -> Result<String, Fail> {
@@ -293,17 +293,11 @@ fn wanted_of(alloc: Global, seed: u64, line: &str, counts: &str) -> Result<Strin
     sample_text(alloc, plain_sum(alloc, &request, seed)?, counts)
 }
 
-fn sampled(alloc: Global, seed: u64, line: &str) -> Result<String, Fail> {
-    let words = format!(in alloc; "spiral sample --seed {seed}")?;
-    told(alloc, &call(alloc, &words, line.as_bytes(), &AMPLE)?)
-}
-
 fn is_plain_sum(rt: &impl Abort, alloc: Global, seed: u64, row: &str) -> Result<(), Fail> {
     let (line, counts) = row.split_once(": ").ok_or("a row")?;
     let wanted = wanted_of(alloc, seed, line, counts)?;
-    let seen = sampled(alloc, seed, line)?;
-    assert_eq!(rt; seen.as_str(), wanted.as_str(), "{line}");
-    Ok(())
+    let words = format!(in alloc; "sample --seed {seed}")?;
+    tells(rt, alloc, &words, line, &wanted)
 }
 
 #[test]

@@ -1,9 +1,8 @@
 // Listings that anyone may have written, and what `exec` makes of them.
 
-ghost use Rattle.std.specs.Prelude.{◌<◌};
-
-use crate::call::{AMPLE, Outside, call, output_of, told};
+use crate::call::{long_tells, tells, written};
 use crate::rows::{lines_of, wanted, wanted_of};
+use crate::streams::streams_tell;
 use std::alloc::Global;
 use std::process::Abort;
 use std::test::Fail;
@@ -54,28 +53,21 @@ regs 6; regs 5; exec --schedule turns:0,2; /1 2 3 4; 20; -; bad register in phas
 -; -; exec run; /1 2 3 4; 2; -; usage
 ";
 
-fn executed(alloc: Global, words: &str, input: &str) -> Result<String, Fail> {
-    let line = format!(in alloc; "spiral {words}")?;
-    let seen = call(alloc, &line, input.as_bytes(), &AMPLE)?;
-    told(alloc, &seen)
-}
-
-// What `code` writes is run as `run` does it.
-fn listed(alloc: Global, request: &str, words: &str, data: &str) -> Result<String, Fail> {
-    let code = call(alloc, "spiral code", request.as_bytes(), &AMPLE)?;
+// What `code` writes for the request, and the data behind it.
+fn listed(alloc: Global, request: &str, data: &str) -> Result<String, Fail> {
+    let code = written(alloc, "code", request)?;
     let data = lines_of(alloc, data)?;
-    let input = format!(in alloc; "{}\n{data}", output_of(&code)?)?;
-    executed(alloc, words, &input)
+    Ok(format!(in alloc; "{code}\n{data}")?)
 }
 
+// It is run as `run` does it.
 fn listed_as(rt: &impl Abort, alloc: Global, row: &str) -> Result<(), Fail> {
     let (request, rest) = field(row)?;
     let (words, rest) = field(rest)?;
     let (data, output) = field(rest)?;
-    let got = listed(alloc, request, words, data)?;
+    let input = listed(alloc, request, data)?;
     let wanted = wanted(alloc, "0", output, "-")?;
-    assert_eq!(rt; got.as_str(), wanted.as_str(), "{row}");
-    Ok(())
+    tells(rt, alloc, words, &input, &wanted)
 }
 
 #[test]
@@ -86,19 +78,24 @@ fn listings_of_requests(rt: HostRuntime) -> Result<(), Fail> {
     Ok(())
 }
 
-// The listing with the new part in the place of the old one.
-fn changed(alloc: Global, old: &str, new: &str) -> Result<String, Fail> {
+fn replaced(alloc: Global, old: &str, new: &str) -> Result<String, Fail> {
     let old = lines_of(alloc, old)?;
-    if old.is_empty() {
-        return Ok(QUAD.to_string(alloc)?);
-    }
     let new = lines_of(alloc, new)?;
     Ok(QUAD.replacen(alloc, &old, &new, 1)?)
 }
 
-fn changed_answer(alloc: Global, listing: &str, words: &str, behind: &str) -> Result<String, Fail> {
+// The listing with the new part in the place of the old one.
+fn changed(alloc: Global, old: &str, new: &str) -> Result<String, Fail> {
+    match old {
+        "-" => Ok(QUAD.to_string(alloc)?),
+        _ => replaced(alloc, old, new),
+    }
+}
+
+fn changed_input(alloc: Global, old: &str, new: &str, behind: &str) -> Result<String, Fail> {
+    let listing = changed(alloc, old, new)?;
     let behind = lines_of(alloc, behind)?;
-    executed(alloc, words, &format!(in alloc; "{listing}{behind}")?)
+    Ok(format!(in alloc; "{listing}{behind}")?)
 }
 
 fn answers_as(rt: &impl Abort, alloc: Global, row: &str) -> Result<(), Fail> {
@@ -106,11 +103,9 @@ fn answers_as(rt: &impl Abort, alloc: Global, row: &str) -> Result<(), Fail> {
     let (new, rest) = field(rest)?;
     let (words, rest) = field(rest)?;
     let (behind, rest) = field(rest)?;
-    let listing = changed(alloc, old, new)?;
-    let got = changed_answer(alloc, &listing, words, behind)?;
+    let input = changed_input(alloc, old, new, behind)?;
     let wanted = wanted_of(alloc, rest)?;
-    assert_eq!(rt; got.as_str(), wanted.as_str(), "{row}");
-    Ok(())
+    tells(rt, alloc, words, &input, &wanted)
 }
 
 #[test]
@@ -121,36 +116,26 @@ fn changed_listings(rt: HostRuntime) -> Result<(), Fail> {
     Ok(())
 }
 
-fn cut_as(rt: &impl Abort, alloc: Global, text: &str, line: u64) -> Result<(), Fail> {
-    let got = executed(alloc, "exec", text)?;
-    let note = format!(in alloc; "listing syntax at line {line}")?;
-    let lost = wanted(alloc, "18", "-", &note)?;
-    let whole = line == 13 && text.ends_with('\n');
-    let right = if whole { "0; ; " } else { lost.as_str() };
-    assert_eq!(rt; got.as_str(), right, "{text}");
-    Ok(())
+fn is_lost(rt: &impl Abort, alloc: Global, input: &str, line: usize) -> Result<(), Fail> {
+    let lost = format!(in alloc; "18; ; spiral: listing syntax at line {line}\n")?;
+    tells(rt, alloc, "exec", input, &lost)
+}
+
+fn cut_as(rt: &impl Abort, alloc: Global, text: &str) -> Result<(), Fail> {
+    let line = text.split('\n').count();
+    if line == 13 && text.ends_with('\n') {
+        tells(rt, alloc, "exec", text, "0; ; ")
+    } else {
+        is_lost(rt, alloc, text, line)
+    }
 }
 
 // A listing that is cut is lost in the line that is not there whole, but where its first phase has just ended.
 #[test]
 fn cut_listings(rt: HostRuntime) -> Result<(), Fail> {
-    let mut line: u64 = 1;
-    let mut text = String::new(rt.alloc());
-    for letter in QUAD.chars() {
-        cut_as(&rt, rt.alloc(), &text, line)?;
-        text.push(letter)?;
-        if letter == '\n' {
-            line = line.saturating_add(1);
-        }
+    for len in 0..QUAD.len() {
+        cut_as(&rt, rt.alloc(), QUAD.get(..len).ok_or("a front")?)?;
     }
-    Ok(())
-}
-
-fn is_lost(rt: &impl Abort, alloc: Global, input: &str, line: u64) -> Result<(), Fail> {
-    let got = executed(alloc, "exec", input)?;
-    let note = format!(in alloc; "listing syntax at line {line}")?;
-    let lost = wanted(alloc, "18", "-", &note)?;
-    assert_eq!(rt; got.as_str(), lost.as_str(), "{input}");
     Ok(())
 }
 
@@ -160,87 +145,64 @@ fn other_line_ends(rt: HostRuntime) -> Result<(), Fail> {
     for input in ["", "\n", "\n1 2 3 4", "\n\n", "x"] {
         is_lost(&rt, rt.alloc(), input, 1)?;
     }
+    Ok(())
+}
+
+#[test]
+fn returns_at_line_ends(rt: HostRuntime) -> Result<(), Fail> {
     let returns = QUAD.replace(rt.alloc(), "\n", "\r\n")?;
     is_lost(&rt, rt.alloc(), &returns, 1)
+}
+
+fn is_lost_behind(rt: &impl Abort, alloc: Global, behind: &str) -> Result<(), Fail> {
+    let input = format!(in alloc; "{QUAD}{behind}")?;
+    is_lost(rt, alloc, &input, 21)
 }
 
 #[test]
 fn other_line_ends_behind(rt: HostRuntime) -> Result<(), Fail> {
     for behind in ["\r\n1 2 3 4", " \n1 2 3 4", "\t\n"] {
-        let input = format!(in rt.alloc(); "{QUAD}{behind}")?;
-        is_lost(&rt, rt.alloc(), &input, 21)?;
+        is_lost_behind(&rt, rt.alloc(), behind)?;
     }
     Ok(())
 }
 
-// 2^20 bytes, the last of them a line end.
-fn long(alloc: Global) -> Result<String, Fail> {
-    let mut text = "x".repeat(alloc, 1_048_575)?;
-    text.push('\n')?;
-    Ok(text)
-}
-
-// At most 2^20 bytes stand before the empty line.
+// At most 2^20 bytes stand before the empty line, the last of them a line end.
 #[test]
 fn longest_listings(rt: HostRuntime) -> Result<(), Fail> {
-    let mut text = long(rt.alloc())?;
-    is_lost(&rt, rt.alloc(), &text, 1)?;
-    text.push('\n')?;
-    is_lost(&rt, rt.alloc(), &text, 1)?;
-    text.push_str("1 2 3 4")?;
-    is_lost(&rt, rt.alloc(), &text, 1)
+    let wanted = "18; ; spiral: listing syntax at line 1\n";
+    for behind in ["\n", "\n\n", "\n\n1 2 3 4"] {
+        long_tells(&rt, rt.alloc(), "exec", 1_048_575, behind, wanted)?;
+    }
+    Ok(())
 }
 
 #[test]
 fn longer_listings(rt: HostRuntime) -> Result<(), Fail> {
-    let alloc = rt.alloc();
-    let text = long(alloc)?;
-    let input = format!(in alloc; "y{text}\n1 2 3 4")?;
-    let got = executed(alloc, "exec", &input)?;
-    let wanted = wanted(alloc, "13", "-", "more than 1048576 bytes")?;
-    assert_eq!(rt; got.as_str(), wanted.as_str());
-    Ok(())
+    let wanted = "13; ; spiral: more than 1048576 bytes\n";
+    long_tells(&rt, rt.alloc(), "exec", 1_048_576, "\n\n1 2 3 4", wanted)
 }
 
-fn failing(alloc: Global, outside: &Outside) -> Result<String, Fail>
-    requires { 0 < outside.now.step }
-{
+fn fails_as(rt: &impl Abort, alloc: Global, streams: &str, wanted: &str) -> Result<(), Fail> {
     let input = format!(in alloc; "{QUAD}\n1 2 3 4\n1 2 3 4\n")?;
-    let seen = call(alloc, "spiral exec", input.as_bytes(), outside)?;
-    told(alloc, &seen)
-}
-
-fn fail_as(rt: &impl Abort, alloc: Global, outside: &Outside, wanted: &str) -> Result<(), Fail>
-    requires { 0 < outside.now.step }
-{
-    let seen = failing(alloc, outside)?;
-    assert_eq!(rt; seen.as_str(), wanted);
-    Ok(())
-}
-
-fn fail_read(rt: &impl Abort, alloc: Global, fails: u64) -> Result<(), Fail> {
-    let outside = Outside {
-        step: 30,
-        read_fails: Some(fails),
-        ..AMPLE
-    };
-    fail_as(rt, alloc, &outside, "10; ; spiral: read failed\n")
+    streams_tell(rt, alloc, "exec", streams, &input, wanted)
 }
 
 // A read that fails in the listing leaves no output, and one that fails behind it the lines of whole vectors.
 #[test]
 fn failing_reads(rt: HostRuntime) -> Result<(), Fail> {
-    for fails in [0, 1, 3, 7] {
-        fail_read(&rt, rt.alloc(), fails)?;
+    for read in [
+        "step 30 read 0",
+        "step 30 read 1",
+        "step 30 read 3",
+        "step 30 read 7",
+    ] {
+        fails_as(&rt, rt.alloc(), read, "10; ; spiral: read failed\n")?;
     }
     Ok(())
 }
 
 #[test]
 fn failing_writes(rt: HostRuntime) -> Result<(), Fail> {
-    let outside = Outside {
-        write_fails: Some(0),
-        ..AMPLE
-    };
-    fail_as(&rt, rt.alloc(), &outside, "11; ; spiral: write failed\n")
+    fails_as(&rt, rt.alloc(), "write 0", "11; ; spiral: write failed\n")
 }

@@ -2,7 +2,8 @@
 
 ghost use Rattle.std.specs.Prelude.{◌<◌, IfOk};
 
-use crate::call::{AMPLE, Outside, call, note_of, output_of, told};
+use crate::call::{AMPLE, Outside, long_tells, same, tells, told_by};
+use crate::rows::wanted;
 use std::alloc::Global;
 use std::process::Abort;
 use std::test::Fail;
@@ -48,42 +49,55 @@ fn outside(text: &str) -> Result<Outside, Fail>
     Ok(outside)
 }
 
-fn streamed(alloc: Global, outside: &Outside, input: &str) -> Result<String, Fail>
-    requires { 0 < outside.now.step }
-{
-    told(
-        alloc,
-        &call(alloc, "spiral run", input.as_bytes(), outside)?,
-    )
+/// The call over streams that behave so tells what is wanted.
+pub(crate) fn streams_tell(
+    rt: &impl Abort,
+    alloc: Global,
+    line: &str,
+    streams: &str,
+    input: &str,
+    wanted: &str,
+) -> Result<(), Fail> {
+    let outside = outside(streams)?;
+    let seen = told_by(alloc, line, input, &outside)?;
+    same(rt, &seen, wanted, streams);
+    Ok(())
 }
 
-fn answers_as(rt: &impl Abort, alloc: Global, row: &str) -> Result<(), Fail> {
+fn answers_as(rt: &impl Abort, alloc: Global, line: &str, row: &str) -> Result<(), Fail> {
     let text = row.replace(alloc, "/", "\n")?;
     let (streams, rest) = field(&text)?;
     let (input, wanted) = field(rest)?;
-    let outside = outside(streams)?;
-    let seen = streamed(alloc, &outside, input)?;
-    assert_eq!(rt; seen.as_str(), wanted, "{row}");
+    streams_tell(rt, alloc, line, streams, input, wanted)
+}
+
+/// Each row's call of these words answers as the row has it: how the streams behave, the input, and what comes of it.
+pub(crate) fn all_stream(
+    rt: &impl Abort,
+    alloc: Global,
+    line: &str,
+    rows: &str,
+) -> Result<(), Fail> {
+    for row in rows.lines() {
+        answers_as(rt, alloc, line, row)?;
+    }
     Ok(())
 }
 
 #[test]
 fn streams_that_fail(rt: HostRuntime) -> Result<(), Fail> {
-    for row in STREAMS.lines() {
-        answers_as(&rt, rt.alloc(), row)?;
-    }
-    Ok(())
+    all_stream(&rt, rt.alloc(), "run", STREAMS)
 }
 
 /// A command and an input whose first line has 20 bytes, and the output where a read fails behind that line, where it fails
 /// at the input's end, and where none does.
-#[derive(Drop)]
-struct Failing {
-    line: String,
-    input: String,
-    early: String,
-    late: String,
-    text: String,
+#[derive(Clone, Copy)]
+struct Failing<'a> {
+    line: &'a str,
+    input: &'a str,
+    early: &'a str,
+    late: &'a str,
+    text: &'a str,
 }
 
 const FAILING: &str = "\
@@ -92,31 +106,38 @@ trace; dft 2 mod 15 root 4/1 1/; program size 2 mod 15 procs 1 line 1 lanes 1 re
 check; dft 4 mod 17 root 4/{\"rows\":[[2,2,\"leaf\",0,0],[4,9,\"ct\",2,2]],\"size\":4,\"version\":1}/; ; ; least 9/
 ";
 
-fn failing_of(alloc: Global, row: &str) -> Result<Failing, Fail> {
-    let text = row.replace(alloc, "/", "\n")?;
-    let mut fields = text.as_str().split("; ");
-    let command = fields.next().ok_or("a command")?;
+fn failing_of(row: &str) -> Result<Failing, Fail> {
+    let (line, rest) = field(row)?;
+    let (input, rest) = field(rest)?;
+    let (early, rest) = field(rest)?;
+    let (late, text) = field(rest)?;
     Ok(Failing {
-        line: format!(in alloc; "spiral {command}")?,
-        input: fields.next().ok_or("an input")?.to_string(alloc)?,
-        early: fields.next().ok_or("a text")?.to_string(alloc)?,
-        late: fields.next().ok_or("a text")?.to_string(alloc)?,
-        text: fields.next().ok_or("a text")?.to_string(alloc)?,
+        line,
+        input,
+        early,
+        late,
+        text,
     })
 }
 
-// The code and the output where the read of this number fails.
-fn wanted_at(failing: &Failing, call_number: usize) -> (u8, &str) {
-    let len = failing.input.as_bytes().len();
-    if call_number < 20 {
-        (10, "")
-    } else if call_number < len {
-        (10, failing.early.as_str())
-    } else if call_number == len {
-        (10, failing.late.as_str())
+// The output where the read of this number fails.
+fn front_at<'a>(failing: &Failing<'a>, at: usize) -> &'a str {
+    if at < 20 {
+        ""
+    } else if at < failing.input.len() {
+        failing.early
     } else {
-        (0, failing.text.as_str())
+        failing.late
     }
+}
+
+// What is wanted where the read of this number fails. There is one at the input's end, and none behind it.
+fn wanted_at(alloc: Global, failing: &Failing, at: usize) -> Result<String, Fail> {
+    if at > failing.input.len() {
+        return Ok(format!(in alloc; "0; {}; ", failing.text)?);
+    }
+    let front = front_at(failing, at);
+    Ok(format!(in alloc; "10; {front}; spiral: read failed\n")?)
 }
 
 fn fail_read(rt: &impl Abort, alloc: Global, failing: &Failing, at: usize) -> Result<(), Fail> {
@@ -125,16 +146,15 @@ fn fail_read(rt: &impl Abort, alloc: Global, failing: &Failing, at: usize) -> Re
         read_fails: Some(at as u64),
         ..AMPLE
     };
-    let seen = call(alloc, &failing.line, failing.input.as_bytes(), &outside)?;
-    let (code, wanted) = wanted_at(failing, at);
-    assert_eq!(rt; seen.code, code, "a fault at call {at}");
-    assert_eq!(rt; output_of(&seen)?, wanted, "a fault at call {at}");
+    let wanted = wanted_at(alloc, failing, at)?;
+    let seen = told_by(alloc, failing.line, failing.input, &outside)?;
+    same(rt, &seen, &wanted, at);
     Ok(())
 }
 
 // Bytes are read one by one, so each call reads the byte of its number, and the call behind the last finds the end.
 fn fail_reads(rt: &impl Abort, alloc: Global, failing: &Failing) -> Result<(), Fail> {
-    for at in 0..failing.input.as_bytes().len() + 2 {
+    for at in 0..failing.input.len() + 2 {
         fail_read(rt, alloc, failing, at)?;
     }
     Ok(())
@@ -145,46 +165,36 @@ fn fail_write(rt: &impl Abort, alloc: Global, failing: &Failing, room: usize) ->
         room: room as u64,
         ..AMPLE
     };
-    let seen = call(alloc, &failing.line, failing.input.as_bytes(), &outside)?;
-    let text = failing.text.as_bytes();
-    assert_eq!(rt; seen.code, 11, "room {room}");
-    assert_eq!(rt;
-        seen.output.bytes(),
-        &text[..room.min(text.len())],
-        "room {room}"
-    );
-    assert_eq!(rt; note_of(&seen)?, "spiral: write failed\n", "room {room}");
+    let front = failing.text.get(..room).ok_or("a front")?;
+    let wanted = format!(in alloc; "11; {front}; spiral: write failed\n")?;
+    let seen = told_by(alloc, failing.line, failing.input, &outside)?;
+    same(rt, &seen, &wanted, room);
     Ok(())
 }
 
 fn fail_writes(rt: &impl Abort, alloc: Global, failing: &Failing) -> Result<(), Fail> {
-    for room in 0..failing.text.as_bytes().len() {
+    for room in 0..failing.text.len() {
         fail_write(rt, alloc, failing, room)?;
     }
     Ok(())
 }
 
+fn fails(rt: &impl Abort, alloc: Global, row: &str) -> Result<(), Fail> {
+    let text = row.replace(alloc, "/", "\n")?;
+    let failing = failing_of(&text)?;
+    fail_reads(rt, alloc, &failing)?;
+    fail_writes(rt, alloc, &failing)
+}
+
 #[test]
 fn each_read_and_each_write_fails(rt: HostRuntime) -> Result<(), Fail> {
     for row in FAILING.lines() {
-        let failing = failing_of(rt.alloc(), row)?;
-        fail_reads(&rt, rt.alloc(), &failing)?;
-        fail_writes(&rt, rt.alloc(), &failing)?;
+        fails(&rt, rt.alloc(), row)?;
     }
     Ok(())
 }
 
-// The answer to the first bytes of an input whose line has 19 bytes. A number begins at each second byte behind it.
-fn cut(alloc: Global, len: usize, step: u64) -> Result<String, Fail>
-    requires { 0 < step }
-{
-    let outside = Outside { step, ..AMPLE };
-    let input = FOUR.as_bytes();
-    let front = &input[..len.min(input.len())];
-    told(alloc, &call(alloc, "spiral run", front, &outside)?)
-}
-
-// What is wanted of them.
+// What is wanted of the first bytes of an input whose line has 19 bytes. A number begins at each second byte behind it.
 fn wanted_cut(alloc: Global, len: usize) -> Result<String, Fail> {
     let have = len.saturating_sub(19) / 2;
     Ok(if len < 19 {
@@ -198,13 +208,20 @@ fn wanted_cut(alloc: Global, len: usize) -> Result<String, Fail> {
     })
 }
 
+fn cut_by(rt: &impl Abort, alloc: Global, len: usize, step: u64, wanted: &str) -> Result<(), Fail>
+    requires { 0 < step }
+{
+    let outside = Outside { step, ..AMPLE };
+    let front = FOUR.get(..len).ok_or("a front")?;
+    let seen = told_by(alloc, "run", front, &outside)?;
+    same(rt, &seen, wanted, len);
+    Ok(())
+}
+
 fn cut_as(rt: &impl Abort, alloc: Global, len: usize) -> Result<(), Fail> {
     let wanted = wanted_cut(alloc, len)?;
-    let by_bytes = cut(alloc, len, 1)?;
-    assert_eq!(rt; by_bytes.as_str(), wanted.as_str(), "{len} bytes");
-    let at_once = cut(alloc, len, 4096)?;
-    assert_eq!(rt; at_once.as_str(), wanted.as_str(), "{len} bytes");
-    Ok(())
+    cut_by(rt, alloc, len, 1, &wanted)?;
+    cut_by(rt, alloc, len, 4096, &wanted)
 }
 
 #[test]
@@ -216,52 +233,52 @@ fn inputs_cut_after_each_byte(rt: HostRuntime) -> Result<(), Fail> {
 }
 
 // As long as may be, and one byte more.
-fn long_line(alloc: Global, len: usize) -> Result<String, Fail> {
-    let mut line = Vec::new(alloc);
-    line.resize(len, b'x')?;
-    told(alloc, &call(alloc, "spiral run", &line, &AMPLE)?)
+#[test]
+fn long_lines(rt: HostRuntime) -> Result<(), Fail> {
+    let wanted = "3; ; spiral: syntax at byte 0\n";
+    long_tells(&rt, rt.alloc(), "run", 256, "", wanted)
 }
 
 #[test]
 fn lines_that_are_too_long(rt: HostRuntime) -> Result<(), Fail> {
-    let read = long_line(rt.alloc(), 256)?;
-    assert_eq!(rt; read.as_str(), "3; ; spiral: syntax at byte 0\n");
-    let unread = long_line(rt.alloc(), 257)?;
-    assert_eq!(rt; unread.as_str(), "13; ; spiral: more than 256 bytes\n");
-    Ok(())
+    let wanted = "13; ; spiral: more than 256 bytes\n";
+    long_tells(&rt, rt.alloc(), "run", 257, "", wanted)
 }
 
-fn long_certificate(alloc: Global, len: usize) -> Result<String, Fail> {
-    let mut input = b"dft 4 mod 17 root 4\n".to_vec(alloc)?;
-    input.resize(len, b' ')?;
-    told(alloc, &call(alloc, "spiral check", &input, &AMPLE)?)
+fn long_certificate(rt: &impl Abort, alloc: Global, len: usize, wanted: &str) -> Result<(), Fail> {
+    let spaces = " ".repeat(alloc, len)?;
+    let input = format!(in alloc; "dft 4 mod 17 root 4\n{spaces}")?;
+    tells(rt, alloc, "check", &input, wanted)
+}
+
+#[test]
+fn long_certificates(rt: HostRuntime) -> Result<(), Fail> {
+    let wanted = "14; ; spiral: certificate unreadable\n";
+    long_certificate(&rt, rt.alloc(), 65_536, wanted)
 }
 
 #[test]
 fn certificates_that_are_too_long(rt: HostRuntime) -> Result<(), Fail> {
-    let read = long_certificate(rt.alloc(), 20 + 65_536)?;
-    assert_eq!(rt; read.as_str(), "14; ; spiral: certificate unreadable\n");
-    let unread = long_certificate(rt.alloc(), 20 + 65_537)?;
-    assert_eq!(rt; unread.as_str(), "13; ; spiral: more than 65536 bytes\n");
-    Ok(())
+    let wanted = "13; ; spiral: more than 65536 bytes\n";
+    long_certificate(&rt, rt.alloc(), 65_537, wanted)
 }
 
-// So many turns of processor 0, named.
-fn named_turns(alloc: Global, turns: u64) -> Result<String, Fail> {
-    let input = b"dft 4 mod 17 root 4 procs 2 line 1\n1 2 3 4\n";
-    let mut line = String::from_str(alloc, "spiral run --schedule turns:0")?;
-    for _ in 1..turns {
-        line.push_str(",0")?;
-    }
-    told(alloc, &call(alloc, &line, input, &AMPLE)?)
+// A turn of processor 0, and so many more, named.
+fn named_turns(rt: &impl Abort, alloc: Global, more: usize, wanted: &str) -> Result<(), Fail> {
+    let turns = ",0".repeat(alloc, more)?;
+    let line = format!(in alloc; "run --schedule turns:0{turns}")?;
+    let input = "dft 4 mod 17 root 4 procs 2 line 1\n1 2 3 4\n";
+    tells(rt, alloc, &line, input, wanted)
 }
 
 // 65,536 turns, and one more.
 #[test]
 fn as_many_turns_as_can_be_named(rt: HostRuntime) -> Result<(), Fail> {
-    let whole = named_turns(rt.alloc(), 65_536)?;
-    assert_eq!(rt; whole.as_str(), "0; 10 7 15 6\n; ");
-    let more = named_turns(rt.alloc(), 65_537)?;
-    assert!(rt; more.as_str().starts_with("2; "));
-    Ok(())
+    named_turns(&rt, rt.alloc(), 65_535, "0; 10 7 15 6\n; ")
+}
+
+#[test]
+fn more_turns_than_can_be_named(rt: HostRuntime) -> Result<(), Fail> {
+    let wanted = wanted(rt.alloc(), "2", "-", "usage")?;
+    named_turns(&rt, rt.alloc(), 65_536, &wanted)
 }
