@@ -1,9 +1,8 @@
 -- What arithmetic does, lane by lane. No lane depends on another.
-use Rattle.std.specs.Prelude.{◌≡◌, ℕ, ◌+◌, ◌*◌, ◌<◌, ◌≤◌, List, [], ◌∷◌, length, slice_index, ◌==◌, if◌then◌else◌}
+use Rattle.std.specs.Prelude.{ℕ, ◌+◌, ◌*◌, ◌<◌, ◌≤◌, List, [], ◌∷◌, length, slice_index, ◌==◌, if◌then◌else◌}
 use Rattle.ring_mod.specs.Residue.{sum_mod, difference_mod, negation_mod, product_mod}
 use Rattle.icode.specs.declared.action.Action.{Action}
 use Rattle.icode.specs.declared.action.Action.TheVariants.{Load, Store, Zero, Add, Sub, Neg, Mul, Tile}
-use Rattle.icode.specs.Program.{lane_factors}
 
 -- the registers in one lane, by their numbers
 abbrev pub Registers : Type 0
@@ -47,21 +46,6 @@ IsArithmetic lanes bound (Tile r x) = ⊥
 abbrev pub AreArithmetic : ℕ → ℕ → List Action → Type 0
 AreArithmetic lanes bound [] = Unit {0}
 AreArithmetic lanes bound (action ∷ actions) = IsArithmetic lanes bound action × AreArithmetic lanes bound actions
-
--- arithmetic whose factors are one constant for all lanes
-abbrev pub IsConstant : ℕ → Action → Type 0
-IsConstant lanes (Load r address) = ⊥
-IsConstant lanes (Store address r) = ⊥
-IsConstant lanes (Zero r) = Unit {0}
-IsConstant lanes (Add r x y) = Unit {0}
-IsConstant lanes (Sub r x y) = Unit {0}
-IsConstant lanes (Neg r x) = Unit {0}
-IsConstant lanes (Mul r x factors) = factors ≡ lane_factors lanes (λ _. slice_index factors 0)
-IsConstant lanes (Tile r x) = ⊥
-
-abbrev pub AreConstant : ℕ → List Action → Type 0
-AreConstant lanes [] = Unit {0}
-AreConstant lanes (action ∷ actions) = IsConstant lanes action × AreConstant lanes actions
 
 -- the counted operations of an action in one lane, and of a list of actions
 abbrev pub operations_of : Action → ℕ

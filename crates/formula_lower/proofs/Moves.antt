@@ -9,6 +9,7 @@ use Rattle.index_fn.proofs.Onto.{onto}
 use Rattle.operators.specs.Loop.{IsPermutationBelow}
 use Rattle.operators.proofs.Lists.{place_below}
 use Rattle.passes.specs.Good.{IsFormed, IsMove}
+pub use Rattle.passes.proofs.Keeps.{left_positive, right_positive}
 use Rattle.passes.proofs.Nests.{moves-no-words}
 use Rattle.passes.specs.Merge.{inverse_below, back_of}
 use Rattle.ring_mod.proofs.Inverses.{AreInverses, inverse_of_s, inverse_of_r, inverses_of}
@@ -19,13 +20,6 @@ use Rattle.tensor_paths.specs.declared.Tensor.TheVariants.{Blocks, Columns}
 use Rattle.tensor_paths.specs.Path.{Path, size_under}
 
 -- ---- under tensors
-
-pub left_positive : (a b : ℕ) → 0 < a * b → 0 < a
-left_positive zero b h = absurd (let none : 0 * b ≡ 0 = omega arith in omega arith)
-left_positive (suc a) b h = omega arith
-
-pub right_positive : (a b : ℕ) → 0 < a * b → 0 < b
-right_positive a b h = left_positive b a (let e : b * a ≡ a * b = mul_comm b a in omega arith)
 
 formed-wrapped : (path : Path) (n : ℕ) (f : Mapping) → 0 < size_under path n → IsFormed f → IsFormed (wrapped path n f)
 formed-wrapped [] n f positive h = h

@@ -1,22 +1,17 @@
 -- The registers, operations, loads and tables of a formula's passes.
-use Rattle.std.proofs.Common.{◌≡◌, ℕ, zero, suc, ◌+◌, ◌-◌, ◌*◌, ◌/◌, ◌^◌, ◌<◌, ◌≤◌, Bool, true, false, List, [], ◌∷◌, length, map, sym, subst, ap, ◌∙◌, arith, Option, Some, None, if◌then◌else◌}
+use Rattle.std.proofs.Common.{◌≡◌, ℕ, zero, suc, ◌+◌, ◌-◌, ◌*◌, ◌/◌, ◌^◌, ◌<◌, ◌≤◌, Bool, true, false, List, [], ◌∷◌, length, map, sym, subst, ap, arith, Option, Some, None, if◌then◌else◌}
 use Rattle.std.specs.Prelude.{◌==◌, max, nat_le, nat_lt}
 use Rattle.std.proofs.Math.Nat.{mul-le-mul, mul-le-mul_left, mul-le-mul_right}
-use Rattle.code_laws.specs.Lanes.{operations}
-use Rattle.code_laws.proofs.ByLane.{weight_of_one}
 use Rattle.formula_lower.specs.Operations as formulas
 use Rattle.formula_lower.specs.Terms.{halvings}
 use Rattle.kernel_gen.specs.Kernel.{AllowsRoot, kernel_cost, kernel_of, product_cost, products_cost}
-use Rattle.kernel_gen.proofs.Kernels.{firsts}
-use Rattle.kernel_gen.proofs.Pieces.{DoesAt}
 use Rattle.matrix_meaning.specs.declared.Kind.{Kind}
 use Rattle.matrix_meaning.specs.declared.Kind.TheVariants.{Dft, Wht}
-use Rattle.matrix_meaning.specs.Kind.{entry_of, transform}
+use Rattle.matrix_meaning.specs.Kind.{entry_of}
 use Rattle.operators.specs.Sum.{sum_below}
 use Rattle.pass_actions.specs.Acts.{nest_registers, pass_registers, with_multiplier}
 use Rattle.pass_actions.specs.Costs.{pass_cost, pass_loads, work_cost, work_loads}
-use Rattle.pass_actions.specs.Machine.{plain_machine}
-use Rattle.pass_actions.proofs.Kernels.{kernel-runs}
+use Rattle.pass_actions.proofs.KernelActions.{trees-registers}
 use Rattle.pass_programs.specs.Program.{tables_through}
 use Rattle.pass_programs.specs.Statements.{diagonal_of, is_table, one_factor, powers_of, tables_after, tables_of_multiplier, tables_of_nest, tables_of_work, with_diagonal, with_table}
 use Rattle.passes.specs.Counts.{copies_in, multiplier_cost}
@@ -66,29 +61,27 @@ with-le : (o : Option PlainMultiplier) (used more : ℕ) → with_multiplier o u
 with-le None used more = omega arith
 with-le (Some d) used more = omega arith
 
-nest-few : (n m : ℕ) (z : PlainNest) (w : PlainWork) → 2 ≤ m → IsFormulaWork w → nest_registers (plain_machine n m) z w < 2 ^ 20
-nest-few n m z (kernel (single kind root (leaf d))) large work =
-    let made = kernel_of m 1 kind (leaf d) root in
-    let does : DoesAt m 1 0 1 d (kernel_cost 1 m kind (leaf d) root) (firsts d) d made (transform kind m d root) = kernel-runs (plain_machine n m) 1 (single kind root (leaf d)) large (work.0, leaf-root m root d kind) 0 (omega arith) in
-    let next : made.next ≡ d + operations made.acts = does.next_is in
-    let counted : operations made.acts ≡ kernel_cost 1 m kind (leaf d) root = sym (weight_of_one made.acts) ∙ does.costs in
+nest-few : (m : ℕ) (z : PlainNest) (w : PlainWork) → 2 ≤ m → IsFormulaWork w → nest_registers m z w < 2 ^ 20
+nest-few m z (kernel (single kind root (leaf d))) large work =
+    let made = kernel_of m kind (leaf d) root in
+    let next = trees-registers m (single kind root (leaf d)) large (work.0, leaf-root m root d kind) in
     let price = leaf-cost m d root kind in
     let square : d * d ≤ 8 * 8 = mul-le-mul {n₁ = d} {m₁ = d} {n₂ = 8} {m₂ = 8} work.1 work.1 in
     let used = with-le z.multiplier made.next d in
-    omega (arith, used, next, counted, price, square, work.1)
-nest-few n m z (kernel (single kind root (node rule a b))) large work = absurd work
-nest-few n m z (kernel (tensor kind root t others)) large work = absurd work
-nest-few n m z (rows root d) large work = absurd work
-nest-few n m z (horner root d) large work = let used = with-le z.multiplier 3 1 in omega (arith, used)
-nest-few n m z (tile v) large work = absurd work
-nest-few n m z (copy d) large work = let used = with-le z.multiplier 1 1 in omega (arith, used)
+    omega (arith, used, next, price, square, work.1)
+nest-few m z (kernel (single kind root (node rule a b))) large work = absurd work
+nest-few m z (kernel (tensor kind root t others)) large work = absurd work
+nest-few m z (rows root d) large work = absurd work
+nest-few m z (horner root d) large work = let used = with-le z.multiplier 3 1 in omega (arith, used)
+nest-few m z (tile v) large work = absurd work
+nest-few m z (copy d) large work = let used = with-le z.multiplier 1 1 in omega (arith, used)
 
 max-less : (a b n : ℕ) → a < n → b < n → max a b < n
 max-less a b n first second = omega (arith, first, second)
 
-pub pass-few : (n m : ℕ) (zs : List PlainNest) → 2 ≤ m → AreMade m zs → pass_registers (plain_machine n m) zs < 2 ^ 20
-pass-few n m [] large made = omega arith
-pass-few n m (z ∷ zs) large made = max-less _ _ (2 ^ 20) (nest-few n m z z.work large made.0.work) (pass-few n m zs large made.1)
+pub pass-few : (m : ℕ) (zs : List PlainNest) → 2 ≤ m → AreMade m zs → pass_registers m zs < 2 ^ 20
+pass-few m [] large made = omega arith
+pass-few m (z ∷ zs) large made = max-less _ _ (2 ^ 20) (nest-few m z z.work large made.0.work) (pass-few m zs large made.1)
 
 -- ---- operations and loads
 

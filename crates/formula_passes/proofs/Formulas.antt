@@ -11,6 +11,7 @@ use Rattle.formula_lower.specs.Terms.{one_more, halvings, hadamard_term, fourier
 use Rattle.formula_lower.proofs.Compiling.{formulas_compile}
 use Rattle.formula_lower.proofs.Lowers.{halvings-power, power-above, lowers}
 use Rattle.formula_lower.proofs.Several.{term-several}
+use Rattle.kernel_gen.proofs.Residues.{power_below}
 use Rattle.rooted_trees.specs.Trees.{single}
 use Rattle.formula_passes.specs.Laws.{FormulasCanProgram}
 use Rattle.formula_passes.proofs.Coded.{plain-nests}
@@ -33,8 +34,6 @@ use Rattle.passes.specs.Work.{kernel, horner}
 use Rattle.passes.proofs.Counting.{items_of, items-once}
 use Rattle.passes.proofs.Nests.{all-inside}
 use Rattle.program_laws.specs.Plain.{IsPlainPass, in_order}
-use Rattle.ring_mod.specs.Residue.{power_mod}
-use Rattle.ring_mod.proofs.Powers.{power_mod-mod}
 use Rattle.spl_ast.specs.Formula.{Formula, Identity, Fourier, Hadamard, Twiddles, Diagonal, Stride, Permutation, GoodThomasIn, GoodThomasOut, Product, TensorLeft, TensorRight, DirectSum, Pending, size_of, parts_of}
 use Rattle.spl_ast.specs.Shape.{IsShaped}
 use Rattle.spl_ast.proofs.Vectors.{shaped_size, size_is_size}
@@ -43,9 +42,6 @@ use Rattle.tensor_paths.specs.Path.{Path}
 use Rattle.tree_model.specs.Breakdown.{leaf}
 
 -- ---- the term of a formula
-
-power_below : (m w e : ℕ) → 0 < m → power_mod m w e < m
-power_below m w e some = subst (λ z. z < m) (power_mod-mod m w e) (mod-lt (power_mod m w e) some)
 
 residues-below : (m : ℕ) (entries : List ℕ) (i : ℕ) → 0 < m → slice_index (map (λ v. v % m) entries) i < m
 residues-below m [] i some = some
@@ -163,7 +159,7 @@ module _ (m n : ℕ) (large : 2 ≤ m) (some : 0 < n) (high : n ≤ 1048576) whe
   plain-pass : (zs : List PlainNest) → AreMade m zs → IsGoodPass 0 m n zs → is_within 64 n zs ≡ true → IsPlainPass n m zs
   plain-pass zs made good within =
       let items = all-items zs good in
-      record { nests = plain-nests m n high zs made good.nests within (omega (arith, items)); once = good.once; few = pass-few n m zs large made }
+      record { nests = plain-nests m n high zs made good.nests within (omega (arith, items)); once = good.once; few = pass-few m zs large made }
 
   plain-passes : (ps : List (List PlainNest)) → AllMade m ps → AreGoodPasses 0 m n ps → AreWithin 64 n ps → All (IsPlainPass n m) (in_order ps)
   plain-passes [] made good within = All-nil (IsPlainPass n m)

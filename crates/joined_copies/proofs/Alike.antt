@@ -4,7 +4,6 @@ use Rattle.std.specs.Prelude.{map, max}
 use Rattle.std.proofs.lemmas.List.Elements.{All-cons, All-head, All-tail}
 use Rattle.pass_actions.specs.Acts.{nest_registers, pass_registers}
 use Rattle.pass_actions.specs.Costs.{pass_loads, work_loads}
-use Rattle.pass_actions.specs.Machine.{PlainMachine}
 use Rattle.pass_programs.specs.Statements.{tables_after, tables_of_nest}
 use Rattle.passes.specs.Copies.{all_stored, hits, loops_of, stored}
 use Rattle.passes.specs.Counts.{CopiesAreFree, copies_in, nest_cost, pass_cost}
@@ -18,7 +17,7 @@ pub record AreAlike (zs ys : List PlainNest) : Type 0 where
   pub hit : (m w : ℕ) → hits (map (copies_of m) zs) w ≡ hits (map (copies_of m) ys) w
   pub costs : (weight : ℕ) (cost : PlainWork → ℕ) → CopiesAreFree cost → pass_cost weight cost zs ≡ pass_cost weight cost ys
   pub loads : pass_loads zs ≡ pass_loads ys
-  pub registers : (h : PlainMachine) → pass_registers h zs ≡ pass_registers h ys
+  pub registers : (m : ℕ) → pass_registers m zs ≡ pass_registers m ys
   pub tables : (m : ℕ) (tables : List (List ℕ)) → tables_after m zs tables ≡ tables_after m ys tables
   pub plain : (n m : ℕ) → n ≤ 1048576 → All (IsPlainNest n m) ys → All (IsPlainNest n m) zs
 
@@ -29,7 +28,7 @@ same zs =
       hit = λ m w. refl;
       costs = λ weight cost free. refl;
       loads = refl;
-      registers = λ h. refl;
+      registers = λ m. refl;
       tables = λ m tables. refl;
       plain = λ n m high all. all;
     }
@@ -41,7 +40,7 @@ then zs ys xs a b =
       hit = λ m w. a.hit m w ∙ b.hit m w;
       costs = λ weight cost free. a.costs weight cost free ∙ b.costs weight cost free;
       loads = a.loads ∙ b.loads;
-      registers = λ h. a.registers h ∙ b.registers h;
+      registers = λ m. a.registers m ∙ b.registers m;
       tables = λ m tables. a.tables m tables ∙ b.tables m tables;
       plain = λ n m high all. a.plain n m high (b.plain n m high all);
     }
@@ -54,7 +53,7 @@ behind z zs ys h =
       hit = λ m w. ap (λ a. loop_at (loops_of z.counts) (work_size z.work) (store_place z.work z.scatters) (λ vs k. 1) w + a) (h.hit m w);
       costs = λ weight cost free. ap (λ a. nest_cost weight cost z + a) (h.costs weight cost free);
       loads = ap (λ a. copies_in z.counts * work_loads z.work + a) h.loads;
-      registers = λ g. ap (max (nest_registers g z z.work)) (h.registers g);
+      registers = λ m. ap (max (nest_registers m z z.work)) (h.registers m);
       tables = λ m tables. h.tables m (tables_of_nest m z tables);
       plain = λ n m high all. All-cons (IsPlainNest n m) z zs (All-head (IsPlainNest n m) z ys all) (h.plain n m high (All-tail (IsPlainNest n m) z ys all));
     }

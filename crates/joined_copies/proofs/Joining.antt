@@ -70,7 +70,7 @@ module _ (cs ds : List ℕ) (k n p : ℕ) (first : AreCounted cs k) (second : Ar
         hit = λ m w. let all = reach m w in omega (arith, all);
         costs = λ weight cost free. three _ _ _ _ (pass_cost weight cost zs) (no-cost cost ((k + n) ∷ []) free) (none cost free);
         loads = let all = copies in omega (arith, all);
-        registers = λ h. max-one (pass_registers h zs);
+        registers = λ m. max-one (pass_registers m zs);
         tables = λ m tables. refl;
         plain = λ size m high all.
             let rest = All-tail (IsPlainNest size m) left (right ∷ zs) all in

@@ -44,7 +44,7 @@ module _ (n m : ℕ) (high : n ≤ 1048576) where
       record {
         nests = alike.plain n m high h.nests;
         once = λ w low. alike.hit m w ∙ h.once w low;
-        few = subst (λ a. a < 2 ^ 20) (sym (alike.registers (plain_machine n m))) h.few;
+        few = subst (λ a. a < 2 ^ 20) (sym (alike.registers m)) h.few;
       }
 
   passes-plain : (ps : List (List PlainNest)) → All (IsPlainPass n m) ps → All (IsPlainPass n m) (all_joined ps)

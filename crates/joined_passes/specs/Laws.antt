@@ -35,7 +35,7 @@ pub record CanJoin (h : PlainMachine) (g : PlainMerged) (ds : List ℕ) (k : Pla
   pub free : LastHas IsFree (all_passes g.phases)
   pub size : length ds ≡ h.size
   pub residues : All (λ d. d < h.modulus) ds
-  pub registers : LastHas (λ zs. pass_registers h (map (with_values ds) zs) < 2 ^ 20) (all_passes g.phases)
+  pub registers : LastHas (λ zs. pass_registers h.modulus (map (with_values ds) zs) < 2 ^ 20) (all_passes g.phases)
   pub actions : most_actions h (all_passes g.phases) + h.size + most_actions h (all_passes k.phases) < 2 ^ 59
   pub tables : 2 * (sum_by length (all_passes g.phases) + sum_by length (all_passes k.phases)) < 2 ^ 32
 

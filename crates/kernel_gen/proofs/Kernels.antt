@@ -1,9 +1,9 @@
 -- Kernels on the machine.
-use Rattle.std.proofs.Common.{◌≡◌, ℕ, ◌*◌, ◌<◌, ◌≤◌, ap, ◌∙◌, List, length, map}
+use Rattle.std.proofs.Common.{◌≡◌, ℕ, ◌*◌, ◌<◌, ◌≤◌, ap, ◌∙◌, List, map}
 use Rattle.std.proofs.lemmas.List.FromFn.{fill_by_all}
-use Rattle.code_laws.specs.Lanes.{Registers, lane_of, AreArithmetic}
+use Rattle.code_laws.specs.Lanes.{Registers, lane_of}
 use Rattle.code_laws.proofs.ByLane.{arithmetic_is_by_lane, weighted_is_by_lane}
-use Rattle.icode.specs.Machine.{Local, effects, counts_of, weighted}
+use Rattle.icode.specs.Machine.{counts_of, weighted}
 use Rattle.code_laws.proofs.Placing.{slice_index-map, length-mapped}
 use Rattle.matrix_meaning.specs.declared.Kind.{Kind}
 use Rattle.matrix_meaning.specs.declared.Kind.TheVariants.{Dft, Wht}
@@ -12,9 +12,11 @@ use Rattle.operators.specs.Sum.{list_below}
 use Rattle.operators.proofs.Lists.{length-list_below, at-list_below}
 use Rattle.tree_model.specs.Breakdown.{Breakdown, leaf, node, size_of, IsWellFormed}
 use Rattle.kernel_gen.specs.Kernel.{IsRoot, AllowsRoot, tree_make, kernel_of, kernel_cost}
-use Rattle.kernel_gen.specs.Kernels.{IsStraight}
+use Rattle.kernel_gen.specs.Instructions.{actions_by}
+use Rattle.kernel_gen.specs.Kernels.{IsStraight, TransformsBy}
 use Rattle.kernel_gen.proofs.Below.{AllBelow, AllBelow-all, AllBelow-at}
-use Rattle.kernel_gen.proofs.Pieces.{Does, DoesAt, AreArithmetic-more}
+use Rattle.kernel_gen.proofs.Instructions.{AreWithin-more, actions-arithmetic, actions-cost, actions-effect}
+use Rattle.kernel_gen.proofs.Pieces.{Does, DoesAt}
 use Rattle.kernel_gen.proofs.Trees.{does-leaf, does-tree}
 
 -- the first registers
@@ -44,63 +46,47 @@ root-any Wht m t w root = tt
 root-any Dft m (leaf d) w root = tt
 root-any Dft m (node rule a b) w root = root
 
-pub does-any : (m lanes lane weight : ℕ) (kind : Kind) (t : Breakdown) (w : ℕ) → 2 ≤ m → lane < lanes → IsWellFormed kind t → AllowsRoot m w kind t →
-    Does m lanes lane weight (size_of t) (size_of t) (kernel_cost weight m kind t w) (tree_make m lanes kind t w) (transform kind m (size_of t) w)
-does-any m lanes lane weight Wht t w modulus there formed root = does-tree m lanes lane weight modulus there Wht t w formed tt
-does-any m lanes lane weight Dft (leaf d) w modulus there formed root = does-leaf m lanes lane weight modulus there Dft d w formed
-does-any m lanes lane weight Dft (node rule a b) w modulus there formed root = does-tree m lanes lane weight modulus there Dft (node rule a b) w formed root
+pub does-any : (m weight : ℕ) (kind : Kind) (t : Breakdown) (w : ℕ) → 2 ≤ m → IsWellFormed kind t → AllowsRoot m w kind t →
+    Does m weight (size_of t) (size_of t) (kernel_cost weight m kind t w) (tree_make m kind t w) (transform kind m (size_of t) w)
+does-any m weight Wht t w modulus formed root = does-tree m weight modulus Wht t w formed tt
+does-any m weight Dft (leaf d) w modulus formed root = does-leaf m weight modulus Dft d w formed
+does-any m weight Dft (node rule a b) w modulus formed root = does-tree m weight modulus Dft (node rule a b) w formed root
 
--- what the kernel of a tree does in a lane
-pub kernel-does : (m lanes lane weight : ℕ) (kind : Kind) (t : Breakdown) (w : ℕ) → 2 ≤ m → lane < lanes → IsWellFormed kind t → AllowsRoot m w kind t →
-    DoesAt m lanes lane weight (size_of t) (kernel_cost weight m kind t w) (firsts (size_of t)) (size_of t) (kernel_of m lanes kind t w) (transform kind m (size_of t) w)
-kernel-does m lanes lane weight kind t w modulus there formed root =
-    let done : Does m lanes lane weight (size_of t) (size_of t) (kernel_cost weight m kind t w) (tree_make m lanes kind t w) (transform kind m (size_of t) w) =
-    does-any m lanes lane weight kind t w modulus there formed root in
-    done.at (firsts (size_of t)) (size_of t) (length-list_below (size_of t) _) (firsts-below (size_of t))
+-- what the kernel of a tree does
+pub kernel-does : (m weight : ℕ) (kind : Kind) (t : Breakdown) (w : ℕ) → 2 ≤ m → IsWellFormed kind t → AllowsRoot m w kind t →
+    DoesAt m weight (size_of t) (kernel_cost weight m kind t w) (firsts (size_of t)) (size_of t) (kernel_of m kind t w) (transform kind m (size_of t) w)
+kernel-does m weight kind t w modulus formed root =
+    (does-any m weight kind t w modulus formed root).at (firsts (size_of t)) (size_of t) (length-list_below (size_of t) _) (firsts-below (size_of t))
 
 -- in each lane its outputs are its tree's transform of the first registers, and it leaves the memory
-pub kernels_transform : (m lanes regs : ℕ) (kind : Kind) (t : Breakdown) (w : ℕ) (s : Local) → 2 ≤ m → 0 < lanes → IsWellFormed kind t → AllowsRoot m w kind t →
-    (kernel_of m lanes kind t w).next ≤ regs → regs * lanes ≤ length s.registers →
-    let made = kernel_of m lanes kind t w in
-    let after = effects m lanes made.acts s in
-    (after.memory ≡ s.memory)
-    × ((lane : ℕ) → lane < lanes → ((k : ℕ) → k < size_of t → lane_of lanes s.registers lane k < m) →
-    map (lane_of lanes after.registers lane) made.outs
-    ≡ transform kind m (size_of t) w (list_below (size_of t) (lane_of lanes s.registers lane)))
-kernels_transform m lanes regs kind t w s modulus some formed root room wide =
-    let made = kernel_of m lanes kind t w in
-    let first : DoesAt m lanes 0 1 (size_of t) (kernel_cost 1 m kind t w) (firsts (size_of t)) (size_of t) made (transform kind m (size_of t) w) =
-    kernel-does m lanes 0 1 kind t w modulus some formed root in
-    let are : AreArithmetic lanes regs made.acts = AreArithmetic-more lanes made.next regs made.acts room first.arithmetic in
-    let by_lane = arithmetic_is_by_lane m lanes regs made.acts s are wide in (
+pub kernels_transform : (m lanes : ℕ) (kind : Kind) (t : Breakdown) (w : ℕ) → 2 ≤ m → IsWellFormed kind t → AllowsRoot m w kind t → TransformsBy m lanes kind (size_of t) w (kernel_of m kind t w)
+kernels_transform m lanes kind t w modulus formed root regs s room wide =
+    let made = kernel_of m kind t w in
+    let done = kernel-does m 1 kind t w modulus formed root in
+    let by_lane = arithmetic_is_by_lane m lanes regs (actions_by lanes made.code) s (actions-arithmetic m regs lanes made.code (AreWithin-more m made.next regs made.code room done.within)) wide in (
       by_lane.0,
       λ lane there small.
           let g : Registers = lane_of lanes s.registers lane in
-          let done : DoesAt m lanes lane 1 (size_of t) (kernel_cost 1 m kind t w) (firsts (size_of t)) (size_of t) made (transform kind m (size_of t) w) =
-          kernel-does m lanes lane 1 kind t w modulus there formed root in
-          ap (λ (h : Registers). map h made.outs) (by_lane.1 lane there)
+          ap (λ (h : Registers). map h made.outs) (by_lane.1 lane there ∙ actions-effect m lanes lane made.code g there)
           ∙ done.values g (firsts-residues g m (size_of t) small)
           ∙ ap (transform kind m (size_of t) w) (map-firsts g (size_of t)),
     )
 
 -- with exactly the operations that the tree costs, in each lane, where a multiplication counts as `weight` of them
-pub kernels_cost : (weight m lanes : ℕ) (kind : Kind) (t : Breakdown) (w : ℕ) → 0 < weight → 2 ≤ m → 0 < lanes → IsWellFormed kind t → AllowsRoot m w kind t →
-    weighted weight (counts_of lanes (kernel_of m lanes kind t w).acts) ≡ lanes * kernel_cost weight m kind t w
-kernels_cost weight m lanes kind t w counted modulus some formed root =
-    let made = kernel_of m lanes kind t w in
-    let done : DoesAt m lanes 0 weight (size_of t) (kernel_cost weight m kind t w) (firsts (size_of t)) (size_of t) made (transform kind m (size_of t) w) =
-    kernel-does m lanes 0 weight kind t w modulus some formed root in
-    weighted_is_by_lane weight lanes made.acts counted ∙ ap (λ n. lanes * n) done.costs
+pub kernels_cost : (weight m lanes : ℕ) (kind : Kind) (t : Breakdown) (w : ℕ) → 0 < weight → 2 ≤ m → IsWellFormed kind t → AllowsRoot m w kind t →
+    weighted weight (counts_of lanes (actions_by lanes (kernel_of m kind t w).code)) ≡ lanes * kernel_cost weight m kind t w
+kernels_cost weight m lanes kind t w counted modulus formed root =
+    let code = (kernel_of m kind t w).code in
+    weighted_is_by_lane weight lanes (actions_by lanes code) counted
+    ∙ ap (λ n. lanes * n) (actions-cost weight lanes code ∙ (kernel-does m weight kind t w modulus formed root).costs)
 
 -- on its own registers alone
-pub kernels_straight : (m lanes : ℕ) (kind : Kind) (t : Breakdown) (w : ℕ) → 2 ≤ m → 0 < lanes → IsWellFormed kind t → AllowsRoot m w kind t → IsStraight lanes (size_of t) (kernel_of m lanes kind t w)
-kernels_straight m lanes kind t w modulus some formed root =
-    let made = kernel_of m lanes kind t w in
-    let done : DoesAt m lanes 0 1 (size_of t) (kernel_cost 1 m kind t w) (firsts (size_of t)) (size_of t) made (transform kind m (size_of t) w) =
-    kernel-does m lanes 0 1 kind t w modulus some formed root in
+pub kernels_straight : (m : ℕ) (kind : Kind) (t : Breakdown) (w : ℕ) → 2 ≤ m → IsWellFormed kind t → AllowsRoot m w kind t → IsStraight m (size_of t) (kernel_of m kind t w)
+kernels_straight m kind t w modulus formed root =
+    let made = kernel_of m kind t w in
+    let done = kernel-does m 1 kind t w modulus formed root in
     record {
-      arithmetic = done.arithmetic;
-      constant = done.constant;
+      within = done.within;
       outputs = AllBelow-all made.next made.outs done.below;
       registers = done.next_is;
     }

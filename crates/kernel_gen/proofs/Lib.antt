@@ -1,4 +1,6 @@
 pub mod Below
+pub mod Instructions
+pub mod Residues
 pub mod Pieces
 pub mod Rows
 pub mod Sums
@@ -14,5 +16,4 @@ pub mod Turns
 pub mod Parts
 pub mod Reduced
 pub mod KernelSizes
-pub mod Alike
 pub mod Products

@@ -1,5 +1,5 @@
 -- The code of a matrix whose first column is 1.
-use Rattle.std.proofs.Common.{◌≡◌, ℕ, zero, suc, ◌+◌, ◌-◌, ◌*◌, ◌%◌, ◌<◌, ◌≤◌, arith, refl, sym, ap, ap₂, ◌∙◌, List, [], ◌∷◌, ◌++◌, length, map, mod-lt, add-one}
+use Rattle.std.proofs.Common.{◌≡◌, ℕ, zero, suc, ◌+◌, ◌-◌, ◌*◌, ◌%◌, ◌<◌, arith, refl, sym, ap, ap₂, ◌∙◌, List, [], ◌∷◌, ◌++◌, length, map, mod-lt, add-one}
 use Rattle.std.specs.Prelude.{slice_index}
 use Rattle.std.proofs.Math.Nat.{one-mul}
 use Rattle.std.proofs.lemmas.List.FromFn.{map-range_with_len_more}
@@ -11,7 +11,7 @@ use Rattle.operators.proofs.Sums.{sum_below-same, sum_below-add}
 use Rattle.kernel_gen.specs.Making.{row_make, matrix_make}
 use Rattle.kernel_gen.specs.Kernel.{product_cost, products_cost}
 use Rattle.kernel_gen.proofs.Below.{AllBelow}
-use Rattle.kernel_gen.proofs.Pieces.{Does, DoesAt, does-same, does-price, does-size, does-none, does-beside}
+use Rattle.kernel_gen.proofs.Pieces.{Does, DoesAt, does_at-same, does-same, does-size, does-none, does-beside}
 use Rattle.kernel_gen.proofs.Rows.{sum_below-constant}
 use Rattle.kernel_gen.proofs.Sums.{dot, sum_on, sum_cost, does-sum}
 
@@ -62,45 +62,40 @@ row-cost weight m e ins one =
 list_below-last : (n : ℕ) (f : ℕ → ℕ) → list_below (suc n) f ≡ list_below n f ++ f n ∷ []
 list_below-last n f = ap (λ k. list_below k f) (sym (add-one n)) ∙ map-range_with_len_more f 0 n n (omega arith)
 
-module _ (m lanes lane weight : ℕ) (positive : 1 ≤ m) (there : lane < lanes) where
-  does-row : (n : ℕ) (e : ℕ → ℕ) → 0 < n → e 0 ≡ 1 → Does m lanes lane weight n 1 (row_cost weight m n e) (row_make m lanes e) (row_on m n e)
-  does-row n e some one =
-      record { at = at; residues = λ x size small. (mod-lt _ (omega arith), tt); width = λ x size. refl }
+module _ (m weight : ℕ) (positive : 0 < m) where
+  does-row : (n : ℕ) (e : ℕ → ℕ) → 0 < n → e 0 ≡ 1 → ((l : ℕ) → e l < m) → Does m weight n 1 (row_cost weight m n e) (row_make m e) (row_on m n e)
+  does-row n e some one small =
+      record { at = at; residues = λ x size residues. (mod-lt _ positive, tt); width = λ x size. refl }
     where
-      at : (ins : List ℕ) (next : ℕ) → length ins ≡ n → AllBelow next ins → DoesAt m lanes lane weight 1 (row_cost weight m n e) ins next (row_make m lanes e ins next) (row_on m n e)
+      at : (ins : List ℕ) (next : ℕ) → length ins ≡ n → AllBelow next ins → DoesAt m weight 1 (row_cost weight m n e) ins next (row_make m e ins next) (row_on m n e)
       at [] next size under = absurd (omega arith)
       at (i ∷ ins) next size under =
-          let done : DoesAt m lanes lane weight 1 (sum_cost weight m e 1 ins) (i ∷ ins) next (row_make m lanes e (i ∷ ins) next) (sum_on m e 1) = does-sum m lanes lane weight e 1 i ins next positive there under in
-          record {
-            next_is = done.next_is;
-            grows = done.grows;
-            kept = done.kept;
-            below = done.below;
-            sized = done.sized;
-            arithmetic = done.arithmetic;
-            constant = done.constant;
-            costs = done.costs ∙ row-cost weight m e ins one ∙ ap (λ k. row_cost weight m k e) size;
-            values = λ g small.
-                done.values g small ∙ row-value m e (g i) (map g ins) one
-                ∙ ap (λ k. row_on m (suc k) e (g i ∷ map g ins)) (length-mapped g ins)
-                ∙ ap (λ k. row_on m k e (g i ∷ map g ins)) size;
-          }
+          does_at-same m weight 1 (sum_cost weight m e 1 ins) (row_cost weight m n e) (i ∷ ins) next (row_make m e (i ∷ ins) next) (sum_on m e 1) (row_on m n e)
+          (row-cost weight m e ins one ∙ ap (λ k. row_cost weight m k e) size)
+          (λ g residues.
+          row-value m e (g i) (map g ins) one
+          ∙ ap (λ k. row_on m (suc k) e (g i ∷ map g ins)) (length-mapped g ins)
+          ∙ ap (λ k. row_on m k e (g i ∷ map g ins)) size)
+          (does-sum m weight positive e 1 i ins next small under)
 
-  does-matrix_rows : (n : ℕ) (e : ℕ → ℕ → ℕ) (k : ℕ) → 0 < n → ((i : ℕ) → i < k → e i 0 ≡ 1) →
-      Does m lanes lane weight n k (sum_below k (λ i. row_cost weight m n (e i))) (matrix_make m lanes e k) (λ x. list_below k (λ i. sum_below n (λ l. e i l * slice_index x l) % m))
-  does-matrix_rows n e zero some ones = does-none m lanes lane weight n
-  does-matrix_rows n e (suc k) some ones =
-      does-same m lanes lane weight n (suc k) (sum_below (suc k) (λ i. row_cost weight m n (e i))) (matrix_make m lanes e (suc k)) (λ x. list_below k (λ i. sum_below n (λ l. e i l * slice_index x l) % m) ++ row_on m n (e k) x) _
-      (λ x size small. sym (list_below-last k (λ i. sum_below n (λ l. e i l * slice_index x l) % m)))
+  does-matrix_rows : (n : ℕ) (e : ℕ → ℕ → ℕ) (k : ℕ) → 0 < n → ((i : ℕ) → e i 0 ≡ 1) → ((i l : ℕ) → e i l < m) →
+      Does m weight n k (sum_below k (λ i. row_cost weight m n (e i))) (matrix_make m e k) (λ x. list_below k (λ i. sum_below n (λ l. e i l * slice_index x l) % m))
+  does-matrix_rows n e zero some ones small = does-none m weight n
+  does-matrix_rows n e (suc k) some ones small =
+      let cost = sum_below (suc k) (λ i. row_cost weight m n (e i)) in
+      let first : Operator = λ x. list_below k (λ i. sum_below n (λ l. e i l * slice_index x l) % m) in
+      does-same m weight n (suc k) cost cost (matrix_make m e (suc k)) (λ x. first x ++ row_on m n (e k) x) _ refl
+      (λ x size residues. sym (list_below-last k (λ i. sum_below n (λ l. e i l * slice_index x l) % m)))
       (λ x size. length-list_below (suc k) _)
-      (does-size m lanes lane weight n n (k + 1) (suc k) (sum_below (suc k) (λ i. row_cost weight m n (e i))) (matrix_make m lanes e (suc k)) _ refl (omega arith)
-      (does-beside m lanes lane weight n k 1 (sum_below k (λ i. row_cost weight m n (e i))) (row_cost weight m n (e k)) (matrix_make m lanes e k) (row_make m lanes (e k)) (λ x. list_below k (λ i. sum_below n (λ l. e i l * slice_index x l) % m)) (row_on m n (e k))
-      (does-matrix_rows n e k some (λ i below. ones i (omega arith)))
-      (does-row n (e k) some (ones k (omega arith)))))
+      (does-size m weight n n (k + 1) (suc k) cost (matrix_make m e (suc k)) (λ x. first x ++ row_on m n (e k) x) refl (omega arith)
+      (does-beside m weight n k 1 (sum_below k (λ i. row_cost weight m n (e i))) (row_cost weight m n (e k)) (matrix_make m e k) (row_make m (e k)) first (row_on m n (e k))
+      (does-matrix_rows n e k some ones small)
+      (does-row n (e k) some (ones k) (small k))))
 
-  pub does-matrix : (n : ℕ) (e : ℕ → ℕ → ℕ) → 0 < n → ((i : ℕ) → e i 0 ≡ 1) →
-      Does m lanes lane weight n n (n * (n - 1) + products_cost weight m 0 e n n) (matrix_make m lanes e n) (matrix_times m n e)
-  does-matrix n e some ones =
-      does-price m lanes lane weight n n (sum_below n (λ i. row_cost weight m n (e i))) (n * (n - 1) + products_cost weight m 0 e n n) (matrix_make m lanes e n) (matrix_times m n e)
+  pub does-matrix : (n : ℕ) (e : ℕ → ℕ → ℕ) → 0 < n → ((i : ℕ) → e i 0 ≡ 1) → ((i l : ℕ) → e i l < m) →
+      Does m weight n n (n * (n - 1) + products_cost weight m 0 e n n) (matrix_make m e n) (matrix_times m n e)
+  does-matrix n e some ones small =
+      does-same m weight n n (sum_below n (λ i. row_cost weight m n (e i))) (n * (n - 1) + products_cost weight m 0 e n n) (matrix_make m e n) (matrix_times m n e) (matrix_times m n e)
       (sum_below-add n (λ _. n - 1) (λ i. sum_below n (λ l. product_cost weight m 0 (e i l))) ∙ ap (λ z. z + products_cost weight m 0 e n n) (sum_below-constant n (n - 1)))
-      (does-matrix_rows n e n some (λ i below. ones i))
+      (λ x size residues. refl) (λ x size. length-list_below n _)
+      (does-matrix_rows n e n some ones small)

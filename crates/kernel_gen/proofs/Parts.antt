@@ -1,6 +1,5 @@
 -- The code of a node is written by that of its parts.
 use Rattle.std.proofs.Common.{◌≡◌, ℕ, ◌+◌, ◌*◌, ◌%◌, ◌++◌, List, [], length, sym, ap, ap₂, subst, ◌∙◌, add-zero}
-use Rattle.icode.specs.declared.action.Action.{Action}
 use Rattle.matrix_meaning.specs.declared.Kind.{Kind}
 use Rattle.operators.specs.Identities.{turn}
 use Rattle.operators.specs.Operator.{good_thomas_in, good_thomas_out}
@@ -12,13 +11,14 @@ use Rattle.tree_model.specs.declared.tree.Rule.TheVariants.{Gt, Ct, Split}
 use Rattle.tree_model.specs.Breakdown.{Breakdown, node, size_of}
 use Rattle.rooted_trees.specs.Trees.{PlainTrees, single, tensor, trees_size}
 use Rattle.kernel_gen.specs.declared.straight.Kernel.{Kernel as KernelRecord}
+use Rattle.kernel_gen.specs.declared.straight.Instruction.{Instruction}
 use Rattle.kernel_gen.specs.declared.writer.Writer.{Writer}
 use Rattle.kernel_gen.specs.Making.{Made, Maker, pick_make, then_make, rows_make}
 use Rattle.kernel_gen.specs.Kernel.{columns_make, twiddled_make, node_make, tree_make, trees_make}
 use Rattle.kernel_gen.specs.Kernels.{made_of}
 use Rattle.kernel_gen.specs.Writing.{next_of, Wrote}
 use Rattle.kernel_gen.proofs.Reduced.{tree-reduced}
-use Rattle.kernel_gen.proofs.Writes.{wrote-pick, wrote-then, wrote-lanes}
+use Rattle.kernel_gen.proofs.Writes.{wrote-pick, wrote-then}
 
 -- the parts of a tree, as the code has them: the trees, their sizes, and their roots
 pub record ArePartsOf (m : ℕ) (rule : Rule) (tree a b : Breakdown) (root r s left right : ℕ) : Type 0 where
@@ -29,85 +29,76 @@ pub record ArePartsOf (m : ℕ) (rule : Rule) (tree a b : Breakdown) (root r s l
   pub right_is : right ≡ power_mod m root r
 
 module _ (m : ℕ) (kind : Kind) (tree a b : Breakdown) (root r s left right : ℕ) where
-  wrote-node : (rule : Rule) (lanes : ℕ) (old new : Writer) (ins outs : List ℕ) → ArePartsOf m rule tree a b root r s left right →
-      Wrote old new (node_make m lanes rule r s root (tree_make m lanes kind a left) (tree_make m lanes kind b right)) ins outs → Wrote old new (tree_make m lanes kind tree root) ins outs
-  wrote-node rule lanes old new ins outs parts whole =
-      let P = λ (p q u v : ℕ). Wrote old new (node_make m lanes rule p q root (tree_make m lanes kind a u) (tree_make m lanes kind b v)) ins outs in
+  wrote-node : (rule : Rule) (old new : Writer) (ins outs : List ℕ) → ArePartsOf m rule tree a b root r s left right →
+      Wrote old new (node_make m rule r s root (tree_make m kind a left) (tree_make m kind b right)) ins outs → Wrote old new (tree_make m kind tree root) ins outs
+  wrote-node rule old new ins outs parts whole =
+      let P = λ (p q u v : ℕ). Wrote old new (node_make m rule p q root (tree_make m kind a u) (tree_make m kind b v)) ins outs in
       let left_end : left ≡ power_mod m root (size_of b) = parts.left_is ∙ ap (power_mod m root) parts.s_is in
       let right_end : right ≡ power_mod m root (size_of a) = parts.right_is ∙ ap (power_mod m root) parts.r_is in
-      subst (λ (z : Breakdown). Wrote old new (tree_make m lanes kind z root) ins outs) (sym parts.tree_is)
+      subst (λ (z : Breakdown). Wrote old new (tree_make m kind z root) ins outs) (sym parts.tree_is)
       (subst (λ v. P (size_of a) (size_of b) (power_mod m root (size_of b)) v) right_end
       (subst (λ u. P (size_of a) (size_of b) u right) left_end
       (subst (λ q. P (size_of a) q left right) parts.s_is
       (subst (λ p. P p s left right) parts.r_is whole))))
 
-  -- the columns, with the number of lanes that the code began with
-  columns_too : (old mid new : Writer) (y z : List ℕ) → mid.lanes ≡ old.lanes → Wrote mid new (columns_make r s (tree_make m mid.lanes kind a left)) y z → Wrote mid new (columns_make r s (tree_make m old.lanes kind a left)) y z
-  columns_too old mid new y z same q = wrote-lanes mid new old.lanes mid.lanes (λ n. columns_make r s (tree_make m n kind a left)) y z same q
-
   pub wrote_ct : (old mid new : Writer) (ins x y z : List ℕ) → ArePartsOf m Ct tree a b root r s left right → x ≡ turn r s ins →
-      Wrote old mid (rows_make r s (twiddled_make m old.lanes s root (tree_make m old.lanes kind b right))) x y →
-      Wrote mid new (columns_make r s (tree_make m mid.lanes kind a left)) y z → Wrote old new (tree_make m old.lanes kind tree root) ins z
+      Wrote old mid (rows_make r s (twiddled_make m s root (tree_make m kind b right))) x y →
+      Wrote mid new (columns_make r s (tree_make m kind a left)) y z → Wrote old new (tree_make m kind tree root) ins z
   wrote_ct old mid new ins x y z parts x_is p q =
-      let rows : Maker = rows_make r s (twiddled_make m old.lanes s root (tree_make m old.lanes kind b right)) in
-      let columns : Maker = columns_make r s (tree_make m old.lanes kind a left) in
-      wrote-node Ct old.lanes old new ins z parts
+      let rows : Maker = rows_make r s (twiddled_make m s root (tree_make m kind b right)) in
+      let columns : Maker = columns_make r s (tree_make m kind a left) in
+      wrote-node Ct old new ins z parts
       (wrote-then old old new (pick_make (turn r s)) (then_make rows columns) ins x z (wrote-pick old (turn r s) ins x x_is)
-      (wrote-then old mid new rows columns x y z p (columns_too old mid new y z p.code.lanes q)))
+      (wrote-then old mid new rows columns x y z p q))
 
   pub wrote_split : (old mid new : Writer) (ins y z : List ℕ) → ArePartsOf m Split tree a b root r s left right →
-      Wrote old mid (rows_make r s (λ _. tree_make m old.lanes kind b right)) ins y →
-      Wrote mid new (columns_make r s (tree_make m mid.lanes kind a left)) y z → Wrote old new (tree_make m old.lanes kind tree root) ins z
+      Wrote old mid (rows_make r s (λ _. tree_make m kind b right)) ins y →
+      Wrote mid new (columns_make r s (tree_make m kind a left)) y z → Wrote old new (tree_make m kind tree root) ins z
   wrote_split old mid new ins y z parts p q =
-      wrote-node Split old.lanes old new ins z parts
-      (wrote-then old mid new (rows_make r s (λ _. tree_make m old.lanes kind b right)) (columns_make r s (tree_make m old.lanes kind a left)) ins y z p
-      (columns_too old mid new y z p.code.lanes q))
+      wrote-node Split old new ins z parts (wrote-then old mid new (rows_make r s (λ _. tree_make m kind b right)) (columns_make r s (tree_make m kind a left)) ins y z p q)
 
   pub wrote_gt : (old mid new : Writer) (ins x y z outs : List ℕ) → ArePartsOf m Gt tree a b root r s left right → x ≡ gather (r * s) (good_thomas_in r s) ins →
-      Wrote old mid (rows_make r s (λ _. tree_make m old.lanes kind b right)) x y →
-      Wrote mid new (columns_make r s (tree_make m mid.lanes kind a left)) y z →
-      outs ≡ gather (r * s) (good_thomas_out r s) z → Wrote old new (tree_make m old.lanes kind tree root) ins outs
+      Wrote old mid (rows_make r s (λ _. tree_make m kind b right)) x y →
+      Wrote mid new (columns_make r s (tree_make m kind a left)) y z →
+      outs ≡ gather (r * s) (good_thomas_out r s) z → Wrote old new (tree_make m kind tree root) ins outs
   wrote_gt old mid new ins x y z outs parts x_is p q outs_are =
-      let rows : Maker = rows_make r s (λ _. tree_make m old.lanes kind b right) in
-      let columns : Maker = columns_make r s (tree_make m old.lanes kind a left) in
+      let rows : Maker = rows_make r s (λ _. tree_make m kind b right) in
+      let columns : Maker = columns_make r s (tree_make m kind a left) in
       let back : Maker = pick_make (gather (r * s) (good_thomas_out r s)) in
-      wrote-node Gt old.lanes old new ins outs parts
+      wrote-node Gt old new ins outs parts
       (wrote-then old old new (pick_make (gather (r * s) (good_thomas_in r s))) (then_make rows (then_make columns back)) ins x outs (wrote-pick old (gather (r * s) (good_thomas_in r s)) ins x x_is)
       (wrote-then old mid new rows (then_make columns back) x y outs p
-      (wrote-then mid new new columns back y z outs (columns_too old mid new y z p.code.lanes q) (wrote-pick new (gather (r * s) (good_thomas_out r s)) z outs outs_are))))
+      (wrote-then mid new new columns back y z outs q (wrote-pick new (gather (r * s) (good_thomas_out r s)) z outs outs_are))))
 
 -- ---- several dimensions
 
-pub wrote_single : (m lanes : ℕ) (trees : PlainTrees) (kind : Kind) (root reduced : ℕ) (tree : Breakdown) (old new : Writer) (ins outs : List ℕ) →
-    trees ≡ single kind root tree → reduced ≡ root % m → Wrote old new (tree_make m lanes kind tree reduced) ins outs → Wrote old new (trees_make m lanes trees) ins outs
-wrote_single m lanes trees kind root reduced tree old new ins outs trees_are reduced_is p =
+pub wrote_single : (m : ℕ) (trees : PlainTrees) (kind : Kind) (root reduced : ℕ) (tree : Breakdown) (old new : Writer) (ins outs : List ℕ) →
+    trees ≡ single kind root tree → reduced ≡ root % m → Wrote old new (tree_make m kind tree reduced) ins outs → Wrote old new (trees_make m trees) ins outs
+wrote_single m trees kind root reduced tree old new ins outs trees_are reduced_is p =
     subst (λ (make : Maker). Wrote old new make ins outs)
-    (ap (tree_make m lanes kind tree) reduced_is ∙ tree-reduced m lanes kind tree root ∙ sym (ap (trees_make m lanes) trees_are)) p
+    (ap (tree_make m kind tree) reduced_is ∙ tree-reduced m kind tree root ∙ sym (ap (trees_make m) trees_are)) p
 
 pub wrote_tensor : (m : ℕ) (trees others : PlainTrees) (kind : Kind) (root reduced r s : ℕ) (tree : Breakdown) (old mid new : Writer) (ins y z : List ℕ) →
     trees ≡ tensor kind root tree others → reduced ≡ root % m → r ≡ size_of tree → s ≡ trees_size others →
-    Wrote old mid (rows_make r s (λ _. trees_make m old.lanes others)) ins y →
-    Wrote mid new (columns_make r s (tree_make m mid.lanes kind tree reduced)) y z → Wrote old new (trees_make m old.lanes trees) ins z
+    Wrote old mid (rows_make r s (λ _. trees_make m others)) ins y →
+    Wrote mid new (columns_make r s (tree_make m kind tree reduced)) y z → Wrote old new (trees_make m trees) ins z
 wrote_tensor m trees others kind root reduced r s tree old mid new ins y z trees_are reduced_is r_is s_is p q =
-    let rows : Maker = rows_make r s (λ _. trees_make m old.lanes others) in
-    let columns : Maker = columns_make r s (tree_make m old.lanes kind tree reduced) in
     subst (λ (make : Maker). Wrote old new make ins z)
-    (ap (λ (a : Maker). node_make m old.lanes Split r s 1 a (trees_make m old.lanes others)) (ap (tree_make m old.lanes kind tree) reduced_is ∙ tree-reduced m old.lanes kind tree root)
-    ∙ ap₂ (λ i j. node_make m old.lanes Split i j 1 (tree_make m old.lanes kind tree root) (trees_make m old.lanes others)) r_is s_is
-    ∙ sym (ap (trees_make m old.lanes) trees_are))
-    (wrote-then old mid new rows columns ins y z p
-    (wrote-lanes mid new old.lanes mid.lanes (λ n. columns_make r s (tree_make m n kind tree reduced)) y z p.code.lanes q))
+    (ap (λ (a : Maker). node_make m Split r s 1 a (trees_make m others)) (ap (tree_make m kind tree) reduced_is ∙ tree-reduced m kind tree root)
+    ∙ ap₂ (λ i j. node_make m Split i j 1 (tree_make m kind tree root) (trees_make m others)) r_is s_is
+    ∙ sym (ap (trees_make m) trees_are))
+    (wrote-then old mid new (rows_make r s (λ _. trees_make m others)) (columns_make r s (tree_make m kind tree reduced)) ins y z p q)
 
-abbrev made_with : List Action → List ℕ → ℕ → Made
-made_with acts outs next = record { acts = acts; outs = outs; next = next }
+abbrev made_with : List Instruction → List ℕ → ℕ → Made
+made_with code outs next = record { code = code; outs = outs; next = next }
 
 -- a whole kernel
 pub kernel_written : (make : Maker) (n : ℕ) (old new : Writer) (ins outs : List ℕ) (k : KernelRecord) →
-    old.actions.items ≡ [] → old.inputs ≡ n → ins ≡ list_below n (λ k. k) → Wrote old new make ins outs →
-    k.actions.items ≡ new.actions.items → k.outputs.items ≡ outs → k.regs ≡ next_of new → made_of k ≡ make (list_below n (λ k. k)) n
-kernel_written make n old new ins outs k none inputs ins_are p acts_are outs_are regs_are =
-    let first : next_of old ≡ n = ap₂ (λ n xs. n + length {A = Action} xs) inputs none ∙ add-zero n in
+    old.code.items ≡ [] → old.inputs ≡ n → ins ≡ list_below n (λ k. k) → Wrote old new make ins outs →
+    k.code.items ≡ new.code.items → k.outputs.items ≡ outs → k.regs ≡ next_of new → made_of k ≡ make (list_below n (λ k. k)) n
+kernel_written make n old new ins outs k none inputs ins_are p code_is outs_are regs_are =
+    let first : next_of old ≡ n = ap₂ (λ n xs. n + length {A = Instruction} xs) inputs none ∙ add-zero n in
     let made = make ins (next_of old) in
-    ap₂ (λ acts ys. made_with acts ys k.regs) (acts_are ∙ p.code.actions ∙ ap (λ xs. xs ++ made.acts) none) (outs_are ∙ p.outs_are)
-    ∙ ap (made_with made.acts made.outs) (regs_are ∙ p.code.next_is)
+    ap₂ (λ xs ys. made_with xs ys k.regs) (code_is ∙ p.code.code_is ∙ ap (λ xs. xs ++ made.code) none) (outs_are ∙ p.outs_are)
+    ∙ ap (made_with made.code made.outs) (regs_are ∙ p.code.next_is)
     ∙ ap₂ make ins_are first

@@ -24,17 +24,17 @@ entries-reduced : (kind : Kind) (m w : ℕ) → entry_of kind m (w % m) ≡ entr
 entries-reduced Dft m w = λ i k l. power_mod-reduced m w (k * l) i
 entries-reduced Wht m w = refl
 
-rule-reduced : (m lanes : ℕ) (rule : Rule) (r s w : ℕ) (a b : Maker) → node_make m lanes rule r s (w % m) a b ≡ node_make m lanes rule r s w a b
-rule-reduced m lanes Gt r s w a b = refl
-rule-reduced m lanes Ct r s w a b =
-    ap (λ (power : ℕ → ℕ). then_make (pick_make (turn r s)) (then_make (rows_make r s (λ i. then_make b (diagonal_make m lanes s (λ k. power (i * k))))) (columns_make r s a))) (powers-reduced m w)
-rule-reduced m lanes Split r s w a b = refl
+rule-reduced : (m : ℕ) (rule : Rule) (r s w : ℕ) (a b : Maker) → node_make m rule r s (w % m) a b ≡ node_make m rule r s w a b
+rule-reduced m Gt r s w a b = refl
+rule-reduced m Ct r s w a b =
+    ap (λ (power : ℕ → ℕ). then_make (pick_make (turn r s)) (then_make (rows_make r s (λ i. then_make b (diagonal_make m s (λ k. power (i * k))))) (columns_make r s a))) (powers-reduced m w)
+rule-reduced m Split r s w a b = refl
 
-pub tree-reduced : (m lanes : ℕ) (kind : Kind) (t : Breakdown) (w : ℕ) → tree_make m lanes kind t (w % m) ≡ tree_make m lanes kind t w
-tree-reduced m lanes kind (leaf d) w = ap (λ (e : ℕ → ℕ → ℕ). matrix_make m lanes e d) (entries-reduced kind m w)
-tree-reduced m lanes kind (node rule a b) w =
-    ap₂ (λ x y. node_make m lanes rule (size_of a) (size_of b) (w % m) (tree_make m lanes kind a x) (tree_make m lanes kind b y)) (power_mod-reduced m w (size_of b)) (power_mod-reduced m w (size_of a))
-    ∙ rule-reduced m lanes rule (size_of a) (size_of b) w (tree_make m lanes kind a (power_mod m w (size_of b))) (tree_make m lanes kind b (power_mod m w (size_of a)))
+pub tree-reduced : (m : ℕ) (kind : Kind) (t : Breakdown) (w : ℕ) → tree_make m kind t (w % m) ≡ tree_make m kind t w
+tree-reduced m kind (leaf d) w = ap (λ (e : ℕ → ℕ → ℕ). matrix_make m e d) (entries-reduced kind m w)
+tree-reduced m kind (node rule a b) w =
+    ap₂ (λ x y. node_make m rule (size_of a) (size_of b) (w % m) (tree_make m kind a x) (tree_make m kind b y)) (power_mod-reduced m w (size_of b)) (power_mod-reduced m w (size_of a))
+    ∙ rule-reduced m rule (size_of a) (size_of b) w (tree_make m kind a (power_mod m w (size_of b))) (tree_make m kind b (power_mod m w (size_of a)))
 
-pub kernel-reduced : (m lanes : ℕ) (kind : Kind) (t : Breakdown) (w : ℕ) → kernel_of m lanes kind t (w % m) ≡ kernel_of m lanes kind t w
-kernel-reduced m lanes kind t w = ap (λ (make : Maker). make (list_below (size_of t) (λ k. k)) (size_of t)) (tree-reduced m lanes kind t w)
+pub kernel-reduced : (m : ℕ) (kind : Kind) (t : Breakdown) (w : ℕ) → kernel_of m kind t (w % m) ≡ kernel_of m kind t w
+kernel-reduced m kind t w = ap (λ (make : Maker). make (list_below (size_of t) (λ k. k)) (size_of t)) (tree-reduced m kind t w)

@@ -30,27 +30,22 @@ root-of c t valid divides =
 pub any-root : (c : Request) (t : Breakdown) → IsValid c → c.size % size_of t ≡ 0 → AllowsRoot c.modulus (node_root c (size_of t)) c.kind t
 any-root c t valid divides = root-any c.kind c.modulus t (node_root c (size_of t)) (root-of c t valid divides)
 
-some_lanes : (c : Request) → IsValid c → 0 < c.lanes
-some_lanes c valid = let lanes = valid.in_range.lanes in omega arith
-
 pub nodes_transform : (c : Request) (t : Breakdown) → IsValid c → IsWellFormed c.kind t → c.size % size_of t ≡ 0 → TransformsNode c t (node_kernel c t)
-nodes_transform c t valid formed divides regs s room wide =
-    kernels_transform c.modulus c.lanes regs c.kind t (node_root c (size_of t)) s valid.in_range.modulus.0 (some_lanes c valid) formed (any-root c t valid divides) room wide
+nodes_transform c t valid formed divides = kernels_transform c.modulus c.lanes c.kind t (node_root c (size_of t)) valid.in_range.modulus.0 formed (any-root c t valid divides)
 
 pub nodes_cost : (c : Request) (t : Breakdown) → IsValid c → IsWellFormed c.kind t → c.size % size_of t ≡ 0 → CostsNode c t (node_kernel c t)
 nodes_cost c t valid formed divides is =
     let size = valid.in_range.size in
     let weight = valid.in_range.weight in
-    kernels_cost c.weight c.modulus c.lanes c.kind t (node_root c (size_of t)) (omega arith) valid.in_range.modulus.0 (some_lanes c valid) formed (any-root c t valid divides)
+    kernels_cost c.weight c.modulus c.lanes c.kind t (node_root c (size_of t)) (omega arith) valid.in_range.modulus.0 formed (any-root c t valid divides)
     ∙ ap (λ n. c.lanes * n) (cost-same c t _ (omega arith) formed (product_div c.size (size_of t) divides) is)
 
-pub nodes_straight : (c : Request) (t : Breakdown) → IsValid c → IsWellFormed c.kind t → c.size % size_of t ≡ 0 → IsStraight c.lanes (size_of t) (node_kernel c t)
-nodes_straight c t valid formed divides =
-    kernels_straight c.modulus c.lanes c.kind t (node_root c (size_of t)) valid.in_range.modulus.0 (some_lanes c valid) formed (any-root c t valid divides)
+pub nodes_straight : (c : Request) (t : Breakdown) → IsValid c → IsWellFormed c.kind t → c.size % size_of t ≡ 0 → IsStraight c.modulus (size_of t) (node_kernel c t)
+nodes_straight c t valid formed divides = kernels_straight c.modulus c.kind t (node_root c (size_of t)) valid.in_range.modulus.0 formed (any-root c t valid divides)
 
 -- code that was written for the fields of a request
-pub written_for : (c r : Request) (t : Breakdown) (m root d : ℕ) (made : Made) → made ≡ kernel_of m r.lanes r.kind t root → r ≡ c → m ≡ r.modulus → root ≡ node_root c d → d ≡ size_of t → made ≡ node_kernel c t
+pub written_for : (c r : Request) (t : Breakdown) (m root d : ℕ) (made : Made) → made ≡ kernel_of m r.kind t root → r ≡ c → m ≡ r.modulus → root ≡ node_root c d → d ≡ size_of t → made ≡ node_kernel c t
 written_for c r t m root d made written same modulus root_is size =
     written
-    ∙ ap₂ (λ k w. kernel_of k r.lanes r.kind t w) modulus root_is
-    ∙ ap₂ (λ (z : Request) (e : ℕ). kernel_of z.modulus z.lanes z.kind t (node_root c e)) same size
+    ∙ ap₂ (λ k w. kernel_of k r.kind t w) modulus root_is
+    ∙ ap₂ (λ (z : Request) (e : ℕ). kernel_of z.modulus z.kind t (node_root c e)) same size

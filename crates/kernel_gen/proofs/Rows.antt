@@ -3,14 +3,14 @@ use Rattle.std.proofs.Common.{◌≡◌, ℕ, zero, suc, ◌+◌, ◌*◌, ◌/�
 use Rattle.std.specs.Prelude.{slice_index}
 use Rattle.std.proofs.Math.Nat.{zero-mul}
 use Rattle.std.proofs.lemmas.List.FromFn.{fill_by_all}
-use Rattle.operators.specs.Identities.{turn}
-use Rattle.operators.specs.Operator.{Operator, block, on_blocks, on_columns, on_each_block, stride}
+use Rattle.operators.specs.Operator.{Operator, block, on_columns, on_each_block, stride}
 use Rattle.operators.specs.Sum.{sum_below, list_below}
 use Rattle.operators.proofs.Lists.{length-list_below, row-of, column-of}
 use Rattle.operators.proofs.Places.{list_below-append, stride_below, on_columns-turned}
-use Rattle.kernel_gen.specs.Making.{Maker, none_make, pick_make, then_make, rows_make}
+use Rattle.kernel_gen.specs.Making.{none_make, rows_make}
 use Rattle.kernel_gen.specs.Kernel.{columns_make}
-use Rattle.kernel_gen.proofs.Pieces.{Does, does-same, does-price, does-size, does-none, does-pick, does-then, does-beside}
+use Rattle.kernel_gen.proofs.Below.{length-joined}
+use Rattle.kernel_gen.proofs.Pieces.{Does, Piece, piece, does-same, does-size, does-none, does-beside, does-as, picked, joined}
 
 -- the rows one after another
 abbrev rows_on : ℕ → ℕ → (ℕ → Operator) → Operator
@@ -38,46 +38,47 @@ pub sum_below-constant : (n c : ℕ) → sum_below n (λ _. c) ≡ n * c
 sum_below-constant zero c = sym (zero-mul c)
 sum_below-constant (suc n) c = omega (arith, sum_below-constant n c)
 
-module _ (m lanes lane weight : ℕ) where
-  does-rows_on : (n r s : ℕ) (price : ℕ → ℕ) (piece : ℕ → Maker) (f : ℕ → Operator) → r * s ≤ n → ((i : ℕ) → i < r → Does m lanes lane weight s s (price i) (piece i) (f i)) →
-      Does m lanes lane weight n (r * s) (sum_below r price) (rows_make r s piece) (rows_on r s f)
-  does-rows_on n zero s price piece f room h =
-      does-size m lanes lane weight n n 0 (0 * s) 0 none_make (rows_on zero s f) refl (sym (zero-mul s)) (does-none m lanes lane weight n)
-  does-rows_on n (suc r) s price piece f room h =
-      does-size m lanes lane weight n n (r * s + s) (suc r * s) (sum_below (suc r) price) (rows_make (suc r) s piece) (rows_on (suc r) s f) refl (omega arith)
-      (does-price m lanes lane weight n (r * s + s) (sum_below r price + (0 + price r)) (sum_below r price + price r) (rows_make (suc r) s piece) (rows_on (suc r) s f) (omega arith)
-      (does-beside m lanes lane weight n (r * s) s (sum_below r price) (0 + price r) (rows_make r s piece) (then_make (pick_make (block s r)) (piece r)) (rows_on r s f) (λ x. f r (block s r x))
-      (does-rows_on n r s price piece f (omega arith) (λ i below. h i (omega arith)))
-      (does-then m lanes lane weight n s s 0 (price r) (pick_make (block s r)) (piece r) (block s r) (f r)
-      (does-pick m lanes lane weight n s (λ j. r * s + j) (λ j below. omega arith))
-      (h r (omega arith)))))
+module _ (m weight : ℕ) where
+  does-rows_on : (n r s : ℕ) (p : ℕ → Piece m weight s s) → r * s ≤ n →
+      Does m weight n (r * s) (sum_below r (λ i. (p i).price)) (rows_make r s (λ i. (p i).make)) (rows_on r s (λ i. (p i).op))
+  does-rows_on n zero s p room =
+      does-size m weight n n 0 (0 * s) 0 none_make (λ _. []) refl (sym (zero-mul s)) (does-none m weight n)
+  does-rows_on n (suc r) s p room =
+      let one : Piece m weight n s = joined m weight (picked m weight n s (λ j. r * s + j) (λ j below. omega arith)) (p r) in
+      let make = rows_make (suc r) s (λ i. (p i).make) in
+      let op = rows_on (suc r) s (λ i. (p i).op) in
+      let price = sum_below r (λ i. (p i).price) in
+      let cost = (p r).price in
+      let first = does-rows_on n r s p (omega arith) in
+      does-size m weight n n (r * s + s) (suc r * s) (price + cost) make op refl (omega arith)
+      (does-same m weight n (r * s + s) (price + (0 + cost)) (price + cost) make op op (omega arith) (λ x size small. refl)
+      (λ x size. length-joined (rows_on r s (λ i. (p i).op) x) _ ∙ ap₂ (λ a b. a + b) (first.width x size) (one.does.width x size))
+      (does-beside m weight n (r * s) s price (0 + cost) (rows_make r s (λ i. (p i).make)) one.make (rows_on r s (λ i. (p i).op)) one.op first one.does))
 
-  pub does-rows : (r s : ℕ) (price : ℕ → ℕ) (piece : ℕ → Maker) (f : ℕ → Operator) → ((i : ℕ) → i < r → Does m lanes lane weight s s (price i) (piece i) (f i)) →
-      Does m lanes lane weight (r * s) (r * s) (sum_below r price) (rows_make r s piece) (on_each_block r s f)
-  does-rows r s price piece f h =
-      does-same m lanes lane weight (r * s) (r * s) (sum_below r price) (rows_make r s piece) (rows_on r s f) (on_each_block r s f)
-      (λ x size small. rows_on-each r s f x (λ i y below. (h i below).width y))
+  pub does-rows : (r s : ℕ) (p : ℕ → Piece m weight s s) →
+      Does m weight (r * s) (r * s) (sum_below r (λ i. (p i).price)) (rows_make r s (λ i. (p i).make)) (on_each_block r s (λ i. (p i).op))
+  does-rows r s p =
+      let price = sum_below r (λ i. (p i).price) in
+      does-same m weight (r * s) (r * s) price price (rows_make r s (λ i. (p i).make)) (rows_on r s (λ i. (p i).op)) (on_each_block r s (λ i. (p i).op)) refl
+      (λ x size small. rows_on-each r s (λ i. (p i).op) x (λ i y below. (p i).does.width y))
       (λ x size. length-list_below (r * s) _)
-      (does-rows_on (r * s) r s price piece f (omega arith) h)
+      (does-rows_on (r * s) r s p (omega arith))
 
-  -- a piece on each block
-  pub does-blocks : (r s price : ℕ) (piece : Maker) (f : Operator) → Does m lanes lane weight s s price piece f →
-      Does m lanes lane weight (r * s) (r * s) (r * price) (rows_make r s (λ _. piece)) (on_blocks r s f)
-  does-blocks r s price piece f h =
-      does-price m lanes lane weight (r * s) (r * s) (sum_below r (λ _. price)) (r * price) (rows_make r s (λ _. piece)) (on_blocks r s f) (sum_below-constant r price)
-      (does-rows r s (λ _. price) (λ _. piece) (λ _. f) (λ i below. h))
+  -- a piece on each of r rows of s inputs
+  abbrev pub in_rows : (r s : ℕ) → (ℕ → Piece m weight s s) → Piece m weight (r * s) (r * s)
+  in_rows r s p = piece m weight (does-rows r s p)
 
-  -- a piece on each column
-  pub does-columns : (r s price : ℕ) (piece : Maker) (f : Operator) → Does m lanes lane weight r r price piece f →
-      Does m lanes lane weight (r * s) (r * s) (s * price) (columns_make r s piece) (on_columns r s f)
-  does-columns r s price piece f h =
-      does-same m lanes lane weight (r * s) (r * s) (s * price) (columns_make r s piece) (λ x. turn r s (on_blocks s r f (turn s r x))) (on_columns r s f)
-      (λ x size small. sym (on_columns-turned r s f x))
-      (λ x size. length-list_below (r * s) _)
-      (does-size m lanes lane weight (s * r) (r * s) (r * s) (r * s) (s * price) (columns_make r s piece) (λ x. turn r s (on_blocks s r f (turn s r x))) (mul_comm s r) refl
-      (does-price m lanes lane weight (s * r) (r * s) (0 + (s * price + 0)) (s * price) (columns_make r s piece) (λ x. turn r s (on_blocks s r f (turn s r x))) (omega arith)
-      (does-then m lanes lane weight (s * r) (s * r) (r * s) 0 (s * price + 0) (pick_make (turn s r)) (then_make (rows_make s r (λ _. piece)) (pick_make (turn r s))) (turn s r) (λ x. turn r s (on_blocks s r f x))
-      (does-pick m lanes lane weight (s * r) (s * r) (stride s r) (λ i below. (stride_below s r i below).1))
-      (does-then m lanes lane weight (s * r) (s * r) (r * s) (s * price) 0 (rows_make s r (λ _. piece)) (pick_make (turn r s)) (on_blocks s r f) (turn r s)
-      (does-blocks s r price piece f h)
-      (does-pick m lanes lane weight (s * r) (r * s) (stride r s) (λ i below. subst (λ n. stride r s i < n) (mul_comm r s) (stride_below r s i below).1))))))
+  pub does-columns : (r s : ℕ) (p : Piece m weight r r) → Does m weight (r * s) (r * s) (s * p.price) (columns_make r s p.make) (on_columns r s p.op)
+  does-columns r s p =
+      let whole : Piece m weight (s * r) (r * s) =
+      joined m weight (picked m weight (s * r) (s * r) (stride s r) (λ i below. (stride_below s r i below).1))
+      (joined m weight (in_rows s r (λ _. p)) (picked m weight (s * r) (r * s) (stride r s) (λ i below. subst (λ n. stride r s i < n) (mul_comm r s) (stride_below r s i below).1))) in
+      does-size m weight (s * r) (r * s) (r * s) (r * s) (s * p.price) (columns_make r s p.make) (on_columns r s p.op) (mul_comm s r) refl
+      (does-as m weight whole (s * p.price) (on_columns r s p.op)
+      (let each = sum_below-constant s p.price in let all : 0 + (sum_below s (λ _. p.price) + 0) ≡ s * p.price = omega arith in all)
+      (λ x size small. sym (on_columns-turned r s p.op x))
+      (λ x size. length-list_below (r * s) _))
+
+  -- a piece on each of s columns of r inputs
+  abbrev pub in_columns : (r s : ℕ) → Piece m weight r r → Piece m weight (r * s) (r * s)
+  in_columns r s p = piece m weight (does-columns r s p)

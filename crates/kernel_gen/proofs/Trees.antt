@@ -24,10 +24,11 @@ use Rattle.ring_mod.specs.Residue.{power_mod}
 use Rattle.ring_mod.proofs.Powers.{power_mod-zero, power_mod-part}
 use Rattle.tree_model.specs.declared.tree.Rule.TheVariants.{Gt, Ct, Split}
 use Rattle.tree_model.specs.Breakdown.{Breakdown, leaf, node, size_of, IsWellFormed}
-use Rattle.kernel_gen.specs.Making.{Maker, pick_make, then_make, rows_make, diagonal_make}
-use Rattle.kernel_gen.specs.Kernel.{IsRoot, columns_make, node_make, tree_make, product_cost, rule_cost, kernel_cost}
-use Rattle.kernel_gen.proofs.Pieces.{Does, does-same, does-price, does-pick, does-then}
-use Rattle.kernel_gen.proofs.Rows.{sum_below-constant, does-rows, does-blocks, does-columns}
+use Rattle.kernel_gen.specs.Making.{Maker}
+use Rattle.kernel_gen.specs.Kernel.{IsRoot, node_make, tree_make, product_cost, rule_cost, kernel_cost}
+use Rattle.kernel_gen.proofs.Pieces.{Does, Piece, piece, picked, joined, does-as}
+use Rattle.kernel_gen.proofs.Residues.{power_below, entry_below}
+use Rattle.kernel_gen.proofs.Rows.{sum_below-constant, in_rows, in_columns}
 use Rattle.kernel_gen.proofs.Factors.{does-diagonal}
 use Rattle.kernel_gen.proofs.Matrices.{does-matrix}
 
@@ -58,64 +59,49 @@ rows-twiddled m r s w f x =
     (sym (ap₂ (λ i j. i * j) (row-of a b s below) (column-of a b s below)))
     (sym (at-on_blocks r s f x a b row below)))
 
-module _ (m lanes lane weight : ℕ) (modulus : 2 ≤ m) (there : lane < lanes) where
+module _ (m weight : ℕ) (modulus : 2 ≤ m) where
+  -- a stride permutation
+  abbrev strided : (r s : ℕ) → Piece m weight (r * s) (r * s)
+  strided r s = picked m weight (r * s) (r * s) (stride r s) (λ i below. (stride_below r s i below).1)
+
   does-ct : (r s w cost price : ℕ) (a b : Maker) → power_mod m w (r * s) ≡ 1 % m →
-      Does m lanes lane weight r r cost a (transform Dft m r (power_mod m w s)) → Does m lanes lane weight s s price b (transform Dft m s (power_mod m w r)) →
-      Does m lanes lane weight (r * s) (r * s) (s * cost + r * price + rule_cost weight m Ct r s w) (node_make m lanes Ct r s w a b) (transform Dft m (r * s) w)
+      Does m weight r r cost a (transform Dft m r (power_mod m w s)) → Does m weight s s price b (transform Dft m s (power_mod m w r)) →
+      Does m weight (r * s) (r * s) (s * cost + r * price + rule_cost weight m Ct r s w) (node_make m Ct r s w a b) (transform Dft m (r * s) w)
   does-ct r s w cost price a b root p q =
-      let right : Operator = transform Dft m s (power_mod m w r) in
-      let left : Operator = transform Dft m r (power_mod m w s) in
       let factors = λ (i k : ℕ). power_mod m w (i * k) in
-      let charge = λ (i : ℕ). sum_below s (λ k. product_cost weight m 1 (factors i k)) in
-      let piece : ℕ → Maker = λ i. then_make b (diagonal_make m lanes s (factors i)) in
-      does-same m lanes lane weight (r * s) (r * s) (s * cost + r * price + rule_cost weight m Ct r s w) (node_make m lanes Ct r s w a b)
-      (λ x. on_columns r s left (on_each_block r s (λ i y. scale m s (factors i) (right y)) (turn r s x))) (transform Dft m (r * s) w)
+      let row : ℕ → Piece m weight s s = λ i. joined m weight (piece m weight q) (piece m weight (does-diagonal m weight (omega arith) s (factors i) (λ k. power_below m w (i * k) (omega arith)))) in
+      let left : Operator = transform Dft m r (power_mod m w s) in
+      let right : Operator = transform Dft m s (power_mod m w r) in
+      does-as m weight (joined m weight (strided r s) (joined m weight (in_rows m weight r s row) (in_columns m weight r s (piece m weight p))))
+      (s * cost + r * price + rule_cost weight m Ct r s w) (transform Dft m (r * s) w)
+      (let charge = λ (i : ℕ). sum_below s (λ k. product_cost weight m 1 (factors i k)) in
+      let total = sum_below-add r (λ _. price) charge in
+      let each = sum_below-constant r price in
+      let all : 0 + (sum_below r (λ i. price + charge i) + s * cost) ≡ s * cost + r * price + rule_cost weight m Ct r s w = omega arith in all)
       (λ x size small. ap (on_columns r s left) (rows-twiddled m r s w right (turn r s x)) ∙ sym (cooley_tukey m r s w x root))
       (λ x size. length-list_below (r * s) _)
-      (does-price m lanes lane weight (r * s) (r * s) (0 + (sum_below r (λ i. price + charge i) + s * cost)) (s * cost + r * price + rule_cost weight m Ct r s w) (node_make m lanes Ct r s w a b)
-      (λ x. on_columns r s left (on_each_block r s (λ i y. scale m s (factors i) (right y)) (turn r s x)))
-      (let total = sum_below-add r (λ _. price) charge in let each = sum_below-constant r price in omega arith)
-      (does-then m lanes lane weight (r * s) (r * s) (r * s) 0 (sum_below r (λ i. price + charge i) + s * cost) (pick_make (turn r s)) (then_make (rows_make r s piece) (columns_make r s a)) (turn r s) (λ x. on_columns r s left (on_each_block r s (λ i y. scale m s (factors i) (right y)) x))
-      (does-pick m lanes lane weight (r * s) (r * s) (stride r s) (λ i below. (stride_below r s i below).1))
-      (does-then m lanes lane weight (r * s) (r * s) (r * s) (sum_below r (λ i. price + charge i)) (s * cost) (rows_make r s piece) (columns_make r s a) (on_each_block r s (λ i y. scale m s (factors i) (right y))) (on_columns r s left)
-      (does-rows m lanes lane weight r s (λ i. price + charge i) piece (λ i y. scale m s (factors i) (right y)) (λ i below.
-      does-then m lanes lane weight s s s price (charge i) b (diagonal_make m lanes s (factors i)) right (scale m s (factors i)) q
-      (does-diagonal m lanes lane weight (omega arith) there s (factors i))))
-      (does-columns m lanes lane weight r s cost a left p))))
 
   does-gt : (r s w cost price : ℕ) (a b : Maker) (f left right : Operator) →
       ((x : List ℕ) → f x ≡ gather (r * s) (good_thomas_out r s) (on_columns r s left (on_blocks r s right (gather (r * s) (good_thomas_in r s) x)))) → ((x : List ℕ) → length (f x) ≡ r * s) →
-      Does m lanes lane weight r r cost a left → Does m lanes lane weight s s price b right →
-      Does m lanes lane weight (r * s) (r * s) (s * cost + r * price + rule_cost weight m Gt r s w) (node_make m lanes Gt r s w a b) f
+      Does m weight r r cost a left → Does m weight s s price b right →
+      Does m weight (r * s) (r * s) (s * cost + r * price + rule_cost weight m Gt r s w) (node_make m Gt r s w a b) f
   does-gt r s w cost price a b f left right law width p q =
-      does-same m lanes lane weight (r * s) (r * s) (s * cost + r * price + rule_cost weight m Gt r s w) (node_make m lanes Gt r s w a b)
-      (λ x. gather (r * s) (good_thomas_out r s) (on_columns r s left (on_blocks r s right (gather (r * s) (good_thomas_in r s) x)))) f
+      does-as m weight (joined m weight (picked m weight (r * s) (r * s) (good_thomas_in r s) (λ i below. good_thomas_in_below r s i below))
+      (joined m weight (in_rows m weight r s (λ _. piece m weight q))
+      (joined m weight (in_columns m weight r s (piece m weight p)) (picked m weight (r * s) (r * s) (good_thomas_out r s) (λ i below. good_thomas_out_below r s i below)))))
+      (s * cost + r * price + rule_cost weight m Gt r s w) f
+      (let each = sum_below-constant r price in let all : 0 + (sum_below r (λ _. price) + (s * cost + 0)) ≡ s * cost + r * price + rule_cost weight m Gt r s w = omega arith in all)
       (λ x size small. sym (law x)) (λ x size. width x)
-      (does-price m lanes lane weight (r * s) (r * s) (0 + (r * price + (s * cost + 0))) (s * cost + r * price + rule_cost weight m Gt r s w) (node_make m lanes Gt r s w a b)
-      (λ x. gather (r * s) (good_thomas_out r s) (on_columns r s left (on_blocks r s right (gather (r * s) (good_thomas_in r s) x))))
-      (omega arith)
-      (does-then m lanes lane weight (r * s) (r * s) (r * s) 0 (r * price + (s * cost + 0)) (pick_make (gather (r * s) (good_thomas_in r s))) (then_make (rows_make r s (λ _. b)) (then_make (columns_make r s a) (pick_make (gather (r * s) (good_thomas_out r s))))) (gather (r * s) (good_thomas_in r s)) (λ x. gather (r * s) (good_thomas_out r s) (on_columns r s left (on_blocks r s right x)))
-      (does-pick m lanes lane weight (r * s) (r * s) (good_thomas_in r s) (λ i below. good_thomas_in_below r s i below))
-      (does-then m lanes lane weight (r * s) (r * s) (r * s) (r * price) (s * cost + 0) (rows_make r s (λ _. b)) (then_make (columns_make r s a) (pick_make (gather (r * s) (good_thomas_out r s)))) (on_blocks r s right) (λ x. gather (r * s) (good_thomas_out r s) (on_columns r s left x))
-      (does-blocks m lanes lane weight r s price b right q)
-      (does-then m lanes lane weight (r * s) (r * s) (r * s) (s * cost) 0 (columns_make r s a) (pick_make (gather (r * s) (good_thomas_out r s))) (on_columns r s left) (gather (r * s) (good_thomas_out r s))
-      (does-columns m lanes lane weight r s cost a left p)
-      (does-pick m lanes lane weight (r * s) (r * s) (good_thomas_out r s) (λ i below. good_thomas_out_below r s i below))))))
 
   pub does-split : (r s w cost price : ℕ) (a b : Maker) (f left right : Operator) →
       ((x : List ℕ) → f x ≡ on_columns r s left (on_blocks r s right x)) → ((x : List ℕ) → length (f x) ≡ r * s) →
-      Does m lanes lane weight r r cost a left → Does m lanes lane weight s s price b right →
-      Does m lanes lane weight (r * s) (r * s) (s * cost + r * price + rule_cost weight m Split r s w) (node_make m lanes Split r s w a b) f
+      Does m weight r r cost a left → Does m weight s s price b right →
+      Does m weight (r * s) (r * s) (s * cost + r * price + rule_cost weight m Split r s w) (node_make m Split r s w a b) f
   does-split r s w cost price a b f left right law width p q =
-      does-same m lanes lane weight (r * s) (r * s) (s * cost + r * price + rule_cost weight m Split r s w) (node_make m lanes Split r s w a b)
-      (λ x. on_columns r s left (on_blocks r s right x)) f
+      does-as m weight (joined m weight (in_rows m weight r s (λ _. piece m weight q)) (in_columns m weight r s (piece m weight p)))
+      (s * cost + r * price + rule_cost weight m Split r s w) f
+      (let each = sum_below-constant r price in let all : sum_below r (λ _. price) + s * cost ≡ s * cost + r * price + rule_cost weight m Split r s w = omega arith in all)
       (λ x size small. sym (law x)) (λ x size. width x)
-      (does-price m lanes lane weight (r * s) (r * s) (r * price + s * cost) (s * cost + r * price + rule_cost weight m Split r s w) (node_make m lanes Split r s w a b)
-      (λ x. on_columns r s left (on_blocks r s right x))
-      (omega arith)
-      (does-then m lanes lane weight (r * s) (r * s) (r * s) (r * price) (s * cost) (rows_make r s (λ _. b)) (columns_make r s a) (on_blocks r s right) (on_columns r s left)
-      (does-blocks m lanes lane weight r s price b right q)
-      (does-columns m lanes lane weight r s cost a left p)))
 
   -- a tree for Walsh and Hadamard has a power of two as its size
   power_of_two : (t : Breakdown) → IsWellFormed Wht t → IsPowerOfTwo (size_of t)
@@ -134,12 +120,12 @@ module _ (m lanes lane weight : ℕ) (modulus : 2 ≤ m) (there : lane < lanes) 
   some_items Wht d formed = formed.0
 
   pub does-leaf : (kind : Kind) (d w : ℕ) → IsWellFormed kind (leaf d) →
-      Does m lanes lane weight d d (kernel_cost weight m kind (leaf d) w) (tree_make m lanes kind (leaf d) w) (transform kind m d w)
+      Does m weight d d (kernel_cost weight m kind (leaf d) w) (tree_make m kind (leaf d) w) (transform kind m d w)
   does-leaf kind d w formed =
-      does-matrix m lanes lane weight (omega arith) there d (entry_of kind m w) (some_items kind d formed) (λ i. first_column kind m w i modulus)
+      does-matrix m weight (omega arith) d (entry_of kind m w) (some_items kind d formed) (λ i. first_column kind m w i modulus) (λ k l. entry_below kind m w k l modulus)
 
   pub does-tree : (kind : Kind) (t : Breakdown) (w : ℕ) → IsWellFormed kind t → IsRoot kind m (size_of t) w →
-      Does m lanes lane weight (size_of t) (size_of t) (kernel_cost weight m kind t w) (tree_make m lanes kind t w) (transform kind m (size_of t) w)
+      Does m weight (size_of t) (size_of t) (kernel_cost weight m kind t w) (tree_make m kind t w) (transform kind m (size_of t) w)
   does-tree kind (leaf d) w formed root = does-leaf kind d w formed
   does-tree Dft (node Ct a b) w formed root =
       does-ct (size_of a) (size_of b) w _ _ _ _ root

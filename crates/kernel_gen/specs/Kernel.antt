@@ -32,30 +32,30 @@ abbrev pub columns_make : ℕ → ℕ → Maker → Maker
 columns_make r s a = then_make (pick_make (turn s r)) (then_make (rows_make s r (λ _. a)) (pick_make (turn r s)))
 
 -- a piece on row i of s inputs, and its outputs times the powers of w that the row has
-abbrev pub twiddled_make : ℕ → ℕ → ℕ → ℕ → Maker → ℕ → Maker
-twiddled_make m lanes s w b i = then_make b (diagonal_make m lanes s (λ k. power_mod m w (i * k)))
+abbrev pub twiddled_make : ℕ → ℕ → ℕ → Maker → ℕ → Maker
+twiddled_make m s w b i = then_make b (diagonal_make m s (λ k. power_mod m w (i * k)))
 
 -- two pieces, of sizes r and s, put together by a rule, for the root w
-abbrev pub node_make : ℕ → ℕ → Rule → ℕ → ℕ → ℕ → Maker → Maker → Maker
-node_make m lanes Gt r s w a b =
+abbrev pub node_make : ℕ → Rule → ℕ → ℕ → ℕ → Maker → Maker → Maker
+node_make m Gt r s w a b =
     then_make (pick_make (gather (r * s) (good_thomas_in r s))) (then_make (rows_make r s (λ _. b)) (then_make (columns_make r s a) (pick_make (gather (r * s) (good_thomas_out r s)))))
-node_make m lanes Ct r s w a b =
-    then_make (pick_make (turn r s)) (then_make (rows_make r s (twiddled_make m lanes s w b)) (columns_make r s a))
-node_make m lanes Split r s w a b = then_make (rows_make r s (λ _. b)) (columns_make r s a)
+node_make m Ct r s w a b =
+    then_make (pick_make (turn r s)) (then_make (rows_make r s (twiddled_make m s w b)) (columns_make r s a))
+node_make m Split r s w a b = then_make (rows_make r s (λ _. b)) (columns_make r s a)
 
 -- the code of a tree for the root w, modulo m
-abbrev pub tree_make : ℕ → ℕ → Kind → Breakdown → ℕ → Maker
-tree_make m lanes kind (leaf d) w = matrix_make m lanes (entry_of kind m w) d
-tree_make m lanes kind (node rule a b) w =
-    node_make m lanes rule (size_of a) (size_of b) w (tree_make m lanes kind a (power_mod m w (size_of b))) (tree_make m lanes kind b (power_mod m w (size_of a)))
+abbrev pub tree_make : ℕ → Kind → Breakdown → ℕ → Maker
+tree_make m kind (leaf d) w = matrix_make m (entry_of kind m w) d
+tree_make m kind (node rule a b) w =
+    node_make m rule (size_of a) (size_of b) w (tree_make m kind a (power_mod m w (size_of b))) (tree_make m kind b (power_mod m w (size_of a)))
 
 -- the code of a tree, with its inputs in the first registers
-abbrev pub kernel_of : ℕ → ℕ → Kind → Breakdown → ℕ → Made
-kernel_of m lanes kind t w = tree_make m lanes kind t w (list_below (size_of t) (λ k. k)) (size_of t)
+abbrev pub kernel_of : ℕ → Kind → Breakdown → ℕ → Made
+kernel_of m kind t w = tree_make m kind t w (list_below (size_of t) (λ k. k)) (size_of t)
 
 -- the code of a tree for a node of the request's transform
 abbrev pub node_kernel : Request → Breakdown → Made
-node_kernel c t = kernel_of c.modulus c.lanes c.kind t (node_root c (size_of t))
+node_kernel c t = kernel_of c.modulus c.kind t (node_root c (size_of t))
 
 -- a product by x: by 1 it is nothing, by -1 it costs `minus`, and else `weight`
 abbrev pub product_cost : ℕ → ℕ → ℕ → ℕ → ℕ
@@ -85,14 +85,14 @@ CanMake m (single kind root tree) = IsWellFormed kind tree × AllowsRoot m root 
 CanMake m (tensor kind root tree others) = (IsWellFormed kind tree × AllowsRoot m root kind tree) × CanMake m others
 
 -- the code of trees, one for each dimension, as by split
-abbrev pub trees_make : ℕ → ℕ → PlainTrees → Maker
-trees_make m lanes (single kind root tree) = tree_make m lanes kind tree root
-trees_make m lanes (tensor kind root tree others) =
-    node_make m lanes Split (size_of tree) (trees_size others) 1 (tree_make m lanes kind tree root) (trees_make m lanes others)
+abbrev pub trees_make : ℕ → PlainTrees → Maker
+trees_make m (single kind root tree) = tree_make m kind tree root
+trees_make m (tensor kind root tree others) =
+    node_make m Split (size_of tree) (trees_size others) 1 (tree_make m kind tree root) (trees_make m others)
 
 -- with its inputs in the first registers
-abbrev pub trees_kernel : ℕ → ℕ → PlainTrees → Made
-trees_kernel m lanes trees = trees_make m lanes trees (list_below (trees_size trees) (λ k. k)) (trees_size trees)
+abbrev pub trees_kernel : ℕ → PlainTrees → Made
+trees_kernel m trees = trees_make m trees (list_below (trees_size trees) (λ k. k)) (trees_size trees)
 
 -- what it costs: the first tree for each place of the other dimensions, and the others for each place of the first
 abbrev pub trees_cost : ℕ → ℕ → PlainTrees → ℕ

@@ -24,12 +24,11 @@ impl Writer {
         ins: &[u64],
     ) -> Result<Vec<u64>, NoMemory>
         requires inputs { self.old.inputs < 2 ^ 32 }
-        requires lanes { self.old.lanes ≤ 16 }
         requires words { AreWords (plain_trees trees.now) }
         requires row { s ≡ trees_size (plain_trees trees.now) }
         requires size { length ins.now ≡ r * s }
         ensures code { IfOk result (λ y. Wrote self.old self.new
-            (rows_make r s (λ _. trees_make m.now self.old.lanes (plain_trees trees.now)))
+            (rows_make r s (λ _. trees_make m.now (plain_trees trees.now)))
             ins.now y.items) }
         ensures size { IfOk result (λ y. vec_len y ≡ r * s) }
     {
@@ -52,11 +51,10 @@ impl Writer {
         ins: &[u64],
     ) -> Result<Vec<u64>, NoMemory>
         requires inputs { self.old.inputs < 2 ^ 32 }
-        requires lanes { self.old.lanes ≤ 16 }
         requires words { AreWords (plain_trees trees.now) }
         requires size { length ins.now ≡ trees_size (plain_trees trees.now) }
         ensures code { IfOk result (λ y. Wrote self.old self.new
-            (trees_make m.now self.old.lanes (plain_trees trees.now)) ins.now y.items) }
+            (trees_make m.now (plain_trees trees.now)) ins.now y.items) }
         ensures size { IfOk result (λ y. vec_len y ≡ trees_size (plain_trees trees.now)) }
     {
         match trees {

@@ -25,15 +25,13 @@ fn first_registers(alloc: Global, n: u64) -> Result<Vec<u64>, NoMemory>
 }
 
 // Nothing yet, on so many inputs.
-fn begun(alloc: Global, lanes: u64, inputs: u64) -> Writer
-    ensures lanes { result.lanes ≡ lanes }
+fn begun(alloc: Global, inputs: u64) -> Writer
     ensures inputs { result.inputs ≡ inputs }
-    ensures actions { result.actions.items ≡ [] }
+    ensures code { result.code.items ≡ [] }
 {
     Writer {
-        lanes,
         inputs,
-        actions: Vec::new(alloc),
+        code: Vec::new(alloc),
     }
 }
 
@@ -41,41 +39,34 @@ fn begun(alloc: Global, lanes: u64, inputs: u64) -> Writer
 fn ended(writer: Writer, outputs: Vec<u64>) -> Kernel
     requires { writer.inputs < 2 ^ 32 }
     ensures inputs { result.inputs ≡ writer.inputs }
-    ensures actions { result.actions.items ≡ writer.actions.items }
+    ensures code { result.code.items ≡ writer.code.items }
     ensures outputs { result.outputs.items ≡ outputs.items }
     ensures regs { result.regs ≡ next_of writer }
 {
     let regs = writer.next();
-    let Writer {
-        inputs,
-        actions,
-        ..
-    } = writer;
+    let Writer { inputs, code } = writer;
     Kernel {
         inputs,
-        actions,
+        code,
         outputs,
         regs,
     }
 }
 
-/// The code of trees with their roots, one for each dimension, modulo the modulus, on registers of so many lanes.
+/// The code of trees with their roots, one for each dimension, modulo the modulus.
 pub fn trees_kernel(
     alloc: Global,
     modulus: &Modulus,
-    lanes: u64,
     trees: &RootedTrees,
 ) -> Result<Kernel, NoMemory>
-    requires lanes { lanes ≤ 16 }
     requires words { AreWords (plain_trees trees.now) }
     requires size { trees_size (plain_trees trees.now) < 2 ^ 32 }
     ensures inputs { IfOk result (λ k. k.inputs ≡ trees_size (plain_trees trees.now)) }
-    ensures code { IfOk result (λ k.
-        made_of k ≡ trees_kernel modulus.now lanes (plain_trees trees.now)) }
+    ensures code { IfOk result (λ k. made_of k ≡ trees_kernel modulus.now (plain_trees trees.now)) }
 {
     let inputs = trees.size();
     let first = first_registers(alloc, inputs)?;
-    let mut writer = begun(alloc, lanes, inputs);
+    let mut writer = begun(alloc, inputs);
     let outputs = writer.put_trees(alloc, modulus, trees, &first)?;
     Ok(ended(writer, outputs))
 }
@@ -84,20 +75,19 @@ pub fn trees_kernel(
 fn tree_kernel(
     alloc: Global,
     modulus: &Modulus,
-    lanes: u64,
     kind: Kind,
     t: &Tree,
     root: u64,
 ) -> Result<Kernel, NoMemory>
-    requires lanes { lanes ≤ 16 }
     requires words { HasWordSizes (breakdown_of t.now) }
     requires size { size_of (breakdown_of t.now) < 2 ^ 32 }
     ensures inputs { IfOk result (λ k. k.inputs ≡ size_of (breakdown_of t.now)) }
-    ensures code { IfOk result (λ k. made_of k ≡ kernel_of modulus.now lanes kind (breakdown_of t.now) root) }
+    ensures code { IfOk result (λ k.
+        made_of k ≡ kernel_of modulus.now kind (breakdown_of t.now) root) }
 {
     let inputs = t.size();
     let first = first_registers(alloc, inputs)?;
-    let mut writer = begun(alloc, lanes, inputs);
+    let mut writer = begun(alloc, inputs);
     let outputs = writer.put_tree(alloc, modulus, kind, t, modulus.reduce(root), &first)?;
     Ok(ended(writer, outputs))
 }
@@ -109,10 +99,10 @@ pub fn dft_kernel(alloc: Global, m: &Modulus, d: u64, w: u64) -> Result<Kernel, 
     ensures inputs { IfOk result (λ k. k.inputs ≡ d) }
     ensures transforms { IfOk result (λ k. TransformsBy m.now 1 Kind.Dft d w (made_of k)) }
     ensures cost { IfOk result (λ k. CostsDefinition m.now d w (made_of k)) }
-    ensures straight { IfOk result (λ k. IsStraight 1 d (made_of k)) }
+    ensures straight { IfOk result (λ k. IsStraight m.now d (made_of k)) }
 {
     let _modulus = m.get();
-    let made = tree_kernel(alloc, m, 1, Kind::Dft, &Tree::Leaf(d), w)?;
+    let made = tree_kernel(alloc, m, Kind::Dft, &Tree::Leaf(d), w)?;
     Ok(made)
 }
 
@@ -126,11 +116,11 @@ pub fn kernel(alloc: Global, c: &Ctx, t: &Tree) -> Result<Kernel, NoMemory>
     ensures code { IfOk result (λ k. made_of k ≡ node_kernel c.now (breakdown_of t.now)) }
     ensures transforms { IfOk result (λ k. TransformsNode c.now (breakdown_of t.now) (made_of k)) }
     ensures cost { IfOk result (λ k. CostsNode c.now (breakdown_of t.now) (made_of k)) }
-    ensures straight { IfOk result (λ k. IsStraight c.now.lanes k.inputs (made_of k)) }
+    ensures straight { IfOk result (λ k. IsStraight c.now.modulus k.inputs (made_of k)) }
 {
     let request = c.request();
     let modulus = Modulus::new(request.modulus).unwrap();
     let root = node_root(c, t.size());
-    let made = tree_kernel(alloc, &modulus, request.lanes, request.kind, t, root)?;
+    let made = tree_kernel(alloc, &modulus, request.kind, t, root)?;
     Ok(made)
 }

@@ -10,4 +10,4 @@ mod straight;
 mod writer;
 
 pub use generate::{dft_kernel, kernel, trees_kernel};
-pub use straight::Kernel;
+pub use straight::{Instruction, Kernel};

@@ -22,12 +22,12 @@ impl Writer {
         ins: &[u64],
     ) -> Result<u64, NoMemory>
         requires inputs { self.old.inputs < 2 ^ 32 }
-        requires lanes { self.old.lanes ≤ 16 }
         requires root { root < m.now }
         requires row { k < length ins.now }
-        ensures code { let made = row_make m.now self.old.lanes (entry_of kind m.now root k) ins.now (next_of self.old) in
-            OnOk result (Appends self.old self.new made.acts made.next) }
-        ensures sum { IfOk result (λ r. (row_make m.now self.old.lanes (entry_of kind m.now root k) ins.now (next_of self.old)).outs ≡ r ∷ []) }
+        ensures code { let made = row_make m.now (entry_of kind m.now root k) ins.now (next_of self.old) in
+            OnOk result (Appends self.old self.new made.code made.next) }
+        ensures sum { let made = row_make m.now (entry_of kind m.now root k) ins.now (next_of self.old) in
+            IfOk result (λ r. made.outs ≡ r ∷ []) }
     {
         let n = ins.len() as u64;
         let mut acc = ins[0];
@@ -48,11 +48,12 @@ impl Writer {
         ins: &[u64],
     ) -> Result<Vec<u64>, NoMemory>
         requires inputs { self.old.inputs < 2 ^ 32 }
-        requires lanes { self.old.lanes ≤ 16 }
         requires root { root < m.now }
-        ensures code { let made = matrix_make m.now self.old.lanes (entry_of kind m.now root) (length ins.now) ins.now (next_of self.old) in
-            OnOk result (Appends self.old self.new made.acts made.next) }
-        ensures outs { IfOk result (λ y. y.items ≡ (matrix_make m.now self.old.lanes (entry_of kind m.now root) (length ins.now) ins.now (next_of self.old)).outs) }
+        ensures code { let make = matrix_make m.now (entry_of kind m.now root) (length ins.now) in
+            let made = make ins.now (next_of self.old) in
+            OnOk result (Appends self.old self.new made.code made.next) }
+        ensures outs { let make = matrix_make m.now (entry_of kind m.now root) (length ins.now) in
+            IfOk result (λ y. y.items ≡ (make ins.now (next_of self.old)).outs) }
         ensures size { IfOk result (λ y. vec_len y ≡ length ins.now) }
     {
         let mut outs = Vec::with_capacity(alloc, ins.len())?;
@@ -72,13 +73,13 @@ impl Writer {
         ins: &[u64],
     ) -> Result<Vec<u64>, NoMemory>
         requires inputs { self.old.inputs < 2 ^ 32 }
-        requires lanes { self.old.lanes ≤ 16 }
         requires root { root < m.now }
         requires room { i * length ins.now < 2 ^ 63 }
-        ensures code { let made = diagonal_make m.now self.old.lanes (length ins.now) (λ k. power_mod m.now root (i * k)) ins.now (next_of self.old) in
-            OnOk result (Appends self.old self.new made.acts made.next) }
-        ensures outs { let made = diagonal_make m.now self.old.lanes (length ins.now) (λ k. power_mod m.now root (i * k)) ins.now (next_of self.old) in
-            IfOk result (λ y. y.items ≡ made.outs) }
+        ensures code { let make = diagonal_make m.now (length ins.now) (λ k. power_mod m.now root (i * k)) in
+            let made = make ins.now (next_of self.old) in
+            OnOk result (Appends self.old self.new made.code made.next) }
+        ensures outs { let make = diagonal_make m.now (length ins.now) (λ k. power_mod m.now root (i * k)) in
+            IfOk result (λ y. y.items ≡ (make ins.now (next_of self.old)).outs) }
         ensures size { IfOk result (λ y. vec_len y ≡ length ins.now) }
     {
         let mut outs = Vec::with_capacity(alloc, ins.len())?;

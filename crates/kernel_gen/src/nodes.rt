@@ -28,12 +28,13 @@ impl Writer {
         ins: &[u64],
     ) -> Result<Vec<u64>, NoMemory>
         requires inputs { self.old.inputs < 2 ^ 32 }
-        requires lanes { self.old.lanes ≤ 16 }
         requires root { root < m.now }
         requires words { HasWordSizes (breakdown_of t.now) }
         requires row { s ≡ size_of (breakdown_of t.now) }
         requires size { length ins.now ≡ r * s }
-        ensures code { IfOk result (λ y. Wrote self.old self.new (rows_make r s (λ _. tree_make m.now self.old.lanes kind (breakdown_of t.now) root)) ins.now y.items) }
+        ensures code { IfOk result (λ y. Wrote self.old self.new
+            (rows_make r s (λ _. tree_make m.now kind (breakdown_of t.now) root))
+            ins.now y.items) }
         ensures size { IfOk result (λ y. vec_len y ≡ r * s) }
     {
         let mut outs = Vec::with_capacity(alloc, ins.len())?;
@@ -60,13 +61,14 @@ impl Writer {
         ins: &[u64],
     ) -> Result<Vec<u64>, NoMemory>
         requires inputs { self.old.inputs < 2 ^ 32 }
-        requires lanes { self.old.lanes ≤ 16 }
         requires root { root < m.now }
         requires twiddle { twiddle < m.now }
         requires words { HasWordSizes (breakdown_of t.now) }
         requires row { s ≡ size_of (breakdown_of t.now) }
         requires size { length ins.now ≡ r * s }
-        ensures code { IfOk result (λ y. Wrote self.old self.new (rows_make r s (twiddled_make m.now self.old.lanes s twiddle (tree_make m.now self.old.lanes kind (breakdown_of t.now) root))) ins.now y.items) }
+        ensures code { let tree = tree_make m.now kind (breakdown_of t.now) root in
+            IfOk result (λ y. Wrote self.old self.new
+            (rows_make r s (twiddled_make m.now s twiddle tree)) ins.now y.items) }
         ensures size { IfOk result (λ y. vec_len y ≡ r * s) }
     {
         let mut outs = Vec::with_capacity(alloc, ins.len())?;
@@ -93,12 +95,12 @@ impl Writer {
         ins: &[u64],
     ) -> Result<Vec<u64>, NoMemory>
         requires inputs { self.old.inputs < 2 ^ 32 }
-        requires lanes { self.old.lanes ≤ 16 }
         requires root { root < m.now }
         requires words { HasWordSizes (breakdown_of t.now) }
         requires column { r ≡ size_of (breakdown_of t.now) }
         requires size { length ins.now ≡ r * s }
-        ensures code { IfOk result (λ y. Wrote self.old self.new (columns_make r s (tree_make m.now self.old.lanes kind (breakdown_of t.now) root)) ins.now y.items) }
+        ensures code { IfOk result (λ y. Wrote self.old self.new
+            (columns_make r s (tree_make m.now kind (breakdown_of t.now) root)) ins.now y.items) }
         ensures size { IfOk result (λ y. vec_len y ≡ r * s) }
     {
         let columns = turned(alloc, s, r, ins)?;
@@ -119,11 +121,11 @@ impl Writer {
         ins: &[u64],
     ) -> Result<Vec<u64>, NoMemory>
         requires inputs { self.old.inputs < 2 ^ 32 }
-        requires lanes { self.old.lanes ≤ 16 }
         requires root { root < m.now }
         requires words { HasWordSizes (breakdown_of t.now) }
         requires size { length ins.now ≡ size_of (breakdown_of t.now) }
-        ensures code { IfOk result (λ y. Wrote self.old self.new (tree_make m.now self.old.lanes kind (breakdown_of t.now) root) ins.now y.items) }
+        ensures code { IfOk result (λ y. Wrote self.old self.new
+            (tree_make m.now kind (breakdown_of t.now) root) ins.now y.items) }
         ensures size { IfOk result (λ y. vec_len y ≡ size_of (breakdown_of t.now)) }
     {
         match t {

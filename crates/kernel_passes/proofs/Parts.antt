@@ -1,14 +1,12 @@
 -- The passes of straight-line code are a part.
-use Rattle.std.proofs.Common.{◌≡◌, ℕ, zero, suc, ◌+◌, ◌^◌, ◌<◌, ◌≤◌, true, arith, refl, List, [], ◌∷◌, All, map}
-use Rattle.std.specs.Prelude.{max}
+use Rattle.std.proofs.Common.{◌≡◌, ℕ, zero, suc, ◌+◌, ◌^◌, ◌≤◌, true, arith, refl, [], ◌∷◌, All, map}
 use Rattle.std.specs.List.{list_all, range_with_len}
 use Rattle.std.proofs.lemmas.List.Elements.{All-nil, All-cons}
 use Rattle.kernel_passes.specs.Laws.{IsKernel, KernelsAreParts}
 use Rattle.kernel_passes.specs.Merged.{all_items, kernel_merged, kernel_nest}
 use Rattle.kernel_passes.proofs.Nest.{items-limited}
 use Rattle.kernel_passes.proofs.Programs.{kernels_can_program}
-use Rattle.kernel_passes.proofs.Sizes.{actions-leave, registers-few}
-use Rattle.pass_actions.specs.Acts.{pass_registers}
+use Rattle.kernel_passes.proofs.Sizes.{actions-leave}
 use Rattle.pass_actions.specs.Machine.{plain_machine}
 use Rattle.pass_programs.specs.Contract.{IsHost}
 use Rattle.passes.specs.Merge.{is_limited, is_within, limits_of}
@@ -18,7 +16,7 @@ use Rattle.passes.proofs.Within.{both-true}
 use Rattle.perm_algebra.specs.Affine.{constant}
 use Rattle.perm_algebra.specs.Room.{HasCounts}
 use Rattle.rooted_trees.specs.Trees.{PlainTrees, trees_size}
-use Rattle.shared_tensors.specs.Laws.{HasNoTile, IsPart, IsShallow, plain_lanes}
+use Rattle.shared_tensors.specs.Laws.{HasNoTile, IsPart, IsShallow}
 
 -- what holds of the one pass
 one-pass : (P : PlainNest → Type 0) (z : PlainNest) → P z → All (All P) ((z ∷ []) ∷ [])
@@ -60,12 +58,6 @@ module _ (m room : ℕ) (trees : PlainTrees) (is : IsKernel m trees) where
         factors = λ d is. absurd (cc);
       }
 
-  max-less : (a b : ℕ) → a < b → max a 0 < b
-  max-less a b low = omega (arith, low)
-
-  abbrev Few : ℕ → List PlainNest → Type 0
-  Few v zs = pass_registers (plain_lanes n m v) zs < 2 ^ 20
-
   part : IsPart n m room (kernel_merged trees)
   part =
       record {
@@ -73,7 +65,6 @@ module _ (m room : ℕ) (trees : PlainTrees) (is : IsKernel m trees) where
         within = (within, tt);
         shallow = one-pass (IsShallow room) z shallow;
         no_tiles = one-pass HasNoTile z (no-tile trees);
-        registers = λ v few. All-cons (Few v) (z ∷ []) [] (max-less _ (2 ^ 20) (registers-few m trees is v)) (All-nil (Few v));
         actions = actions-leave m trees is (plain_machine n m) refl refl;
         nests = let two = is.two in omega (arith, two);
       }

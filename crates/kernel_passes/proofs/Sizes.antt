@@ -1,19 +1,14 @@
 -- How many registers and actions straight-line code has at most.
-use Rattle.std.proofs.Common.{◌≡◌, ℕ, ◌+◌, ◌*◌, ◌^◌, ◌<◌, ◌≤◌, arith, sym, ap, ◌∙◌, [], ◌∷◌, mul-le-mul_left}
+use Rattle.std.proofs.Common.{◌≡◌, ℕ, ◌+◌, ◌*◌, ◌^◌, ◌<◌, ◌≤◌, arith, ap, [], ◌∷◌, mul-le-mul_left}
 use Rattle.std.proofs.Math.Nat.{mul-le-mul}
-use Rattle.code_laws.specs.Lanes.{operations}
-use Rattle.code_laws.proofs.ByLane.{weight_of_one}
 use Rattle.kernel_gen.specs.Kernel.{trees_cost, trees_kernel}
-use Rattle.kernel_gen.proofs.Alike.{trees-alike}
-use Rattle.kernel_gen.proofs.Kernels.{firsts}
-use Rattle.kernel_gen.proofs.Pieces.{DoesAt}
 use Rattle.kernel_gen.proofs.KernelSizes.{trees-few}
-use Rattle.kernel_gen.proofs.Products.{trees-does}
 use Rattle.kernel_passes.specs.Laws.{IsKernel}
 use Rattle.kernel_passes.specs.Merged.{kernel_nest}
 use Rattle.pass_actions.specs.Machine.{PlainMachine}
+use Rattle.pass_actions.proofs.KernelActions.{trees-registers}
 use Rattle.pass_programs.specs.Contract.{most_actions}
-use Rattle.rooted_trees.specs.Trees.{PlainTrees, trees_on, trees_size}
+use Rattle.rooted_trees.specs.Trees.{PlainTrees, trees_size}
 
 module _ (m : ℕ) (trees : PlainTrees) (is : IsKernel m trees) where
   abbrev n : ℕ
@@ -22,18 +17,13 @@ module _ (m : ℕ) (trees : PlainTrees) (is : IsKernel m trees) where
   few-words : n * n ≤ 64 * 64
   few-words = mul-le-mul {n₁ = n} {m₁ = n} {n₂ = 64} {m₂ = 64} is.short is.short
 
-  -- on any number of lanes
-  pub registers-few : (lanes : ℕ) → (trees_kernel m lanes trees).next < 2 ^ 20
-  registers-few lanes =
-      let made = trees_kernel m 1 trees in
-      let does : DoesAt m 1 0 1 n (trees_cost 1 m trees) (firsts n) n made (trees_on m trees) = trees-does m 1 0 1 trees is.modulus.0 (omega arith) is.makes in
-      let next : made.next ≡ n + operations made.acts = does.next_is in
-      let counted : operations made.acts ≡ trees_cost 1 m trees = sym (weight_of_one made.acts) ∙ does.costs in
+  pub registers-few : (trees_kernel m trees).next < 2 ^ 20
+  registers-few =
+      let next = trees-registers m trees is.modulus.0 is.makes in
       let price = trees-few m trees is.makes in
-      let alike : (trees_kernel m lanes trees).next ≡ made.next = trees-alike m lanes 1 trees in
       let square = few-words in
       let short = is.short in
-      omega (arith, next, counted, price, alike, square, short)
+      omega (arith, next, price, square, short)
 
   module _ (h : PlainMachine) (modulus : h.modulus ≡ m) (size : n ≡ h.size) where
     actions-are : most_actions h ((kernel_nest trees ∷ []) ∷ []) ≡ trees_cost 1 m trees + 3 * n

@@ -91,5 +91,5 @@ module _ (h : PlainMachine) (trees : PlainTrees) (host : IsHost h) (one_proc : h
         line = host.line.0;
         runs = record { lanes = host.lanes.0; modulus = host.modulus.0; nests = All-cons (CanRunNest h) z [] run-nest (All-nil (CanRunNest h)); once = good.once };
         nests = All-cons (CanWriteNest h) z [] write-nest (All-nil (CanWriteNest h));
-        few = max-less _ (2 ^ 20) (registers-few h.modulus trees is h.lanes);
+        few = max-less _ (2 ^ 20) (registers-few h.modulus trees is);
       }

@@ -107,7 +107,7 @@ module _ (h : PlainMachine) (some : 0 < h.lanes) (words : 0 < h.size) where
           counts = can.counts;
         }
 
-    pass-can : (zs : List PlainNest) → pass_registers h (map (with_factors pick ds) zs) < 2 ^ 20 → CanWritePass h zs → CanWritePass h (map (with_factors pick ds) zs)
+    pass-can : (zs : List PlainNest) → pass_registers h.modulus (map (with_factors pick ds) zs) < 2 ^ 20 → CanWritePass h zs → CanWritePass h (map (with_factors pick ds) zs)
     pass-can zs few can =
         record {
           line = can.line;
@@ -121,7 +121,7 @@ module _ (h : PlainMachine) (some : 0 < h.lanes) (words : 0 < h.size) where
           few = few;
         }
 
-    pub last-can : (ps : List (List PlainNest)) → LastHas (λ zs. pass_registers h (map (with_factors pick ds) zs) < 2 ^ 20) ps → All (CanWritePass h) ps → All (CanWritePass h) (multiplied_last pick ds ps)
+    pub last-can : (ps : List (List PlainNest)) → LastHas (λ zs. pass_registers h.modulus (map (with_factors pick ds) zs) < 2 ^ 20) ps → All (CanWritePass h) ps → All (CanWritePass h) (multiplied_last pick ds ps)
     last-can [] few can = absurd few
     last-can (zs ∷ []) few can = All-cons (CanWritePass h) (map (with_factors pick ds) zs) [] (pass-can zs few (All-head (CanWritePass h) zs [] can)) (All-nil (CanWritePass h))
     last-can (zs ∷ ys ∷ ps) few can = All-cons (CanWritePass h) zs (multiplied_last pick ds (ys ∷ ps)) (All-head (CanWritePass h) zs (ys ∷ ps) can) (last-can (ys ∷ ps) few (All-tail (CanWritePass h) zs (ys ∷ ps) can))

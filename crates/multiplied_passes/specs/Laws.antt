@@ -54,7 +54,7 @@ pub record CanMultiply (h : PlainMachine) (pick : Pick) (ds : PlainFactors) (g :
   pub passes : CanProgram h g
   pub free : LastHas IsFree (all_passes g.phases)
   pub factors : CanFollow h pick ds
-  pub registers : LastHas (λ zs. pass_registers h (map (with_factors pick ds) zs) < 2 ^ 20) (all_passes g.phases)
+  pub registers : LastHas (λ zs. pass_registers h.modulus (map (with_factors pick ds) zs) < 2 ^ 20) (all_passes g.phases)
   pub actions : most_actions h (all_passes g.phases) + h.size < 2 ^ 59
   pub tables : 2 * sum_by length (all_passes g.phases) < 2 ^ 32
 

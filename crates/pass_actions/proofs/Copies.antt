@@ -86,7 +86,7 @@ module _ (c : PlainMachine) (zs : List PlainNest) (can : CanRun c zs) where
         fits = λ a o. let there = o.2 in let low = stored-below q o.0 o.1 in omega arith;
       }
 
-  pub ready-at : (source target q : ℕ) (x : List ℕ) (apart : AreApart c.size source target) (s : Local) → CanBegin c zs source target q x s → IsReady c.lanes (pass_registers c zs) (task_of source target q x apart) s
+  pub ready-at : (source target q : ℕ) (x : List ℕ) (apart : AreApart c.size source target) (s : Local) → CanBegin c zs source target q x s → IsReady c.lanes (pass_registers c.modulus zs) (task_of source target q x apart) s
   ready-at source target q x apart s begin =
       record {
         wide = begin.registers;

@@ -6,6 +6,9 @@ use Rattle.icode.specs.declared.action.Action.TheVariants.{Load, Store, Zero, Ad
 use Rattle.icode.specs.Machine.{counts_of}
 use Rattle.code_laws.specs.Lanes.{weighted_operations}
 use Rattle.code_laws.specs.Nests.{bodies, nest, loads}
+use Rattle.kernel_gen.specs.Instructions.{actions_by, code_cost}
+use Rattle.kernel_gen.specs.declared.straight.Instruction.{Instruction}
+use Rattle.kernel_gen.proofs.Instructions.{actions-cost, no-traffic}
 use Rattle.kernel_gen.proofs.Pieces.{weighted-append}
 use Rattle.pass_actions.specs.Acts.{finish_acts, items_acts, load_at, rows_acts}
 use Rattle.pass_actions.specs.Machine.{PlainMachine}
@@ -92,6 +95,10 @@ module _ (weight lanes : ℕ) where
       ∙ times-times t (copies_in loops) o l s
 
 -- ---- copies
+
+-- code has its cost on each lane
+pub counts-code : (weight lanes price : ℕ) (code : List Instruction) → code_cost weight code ≡ price → tally weight lanes (actions_by lanes code) ≡ counts (lanes * price) 0 0
+counts-code weight lanes price code costs = let none = no-traffic lanes code in counts-same _ _ (ap (λ o. lanes * o) (actions-cost weight lanes code ∙ costs)) none.0 none.1
 
 module _ (weight : ℕ) (c : PlainMachine) (p : PlainNest) (target q : ℕ) (vs : List ℕ) where
   counts-finish : (o : Option PlainMultiplier) (k from free : ℕ) → tally weight c.lanes (finish_acts c p o target q vs k from free) ≡ counts (c.lanes * products_of weight o) 0 c.lanes

@@ -5,7 +5,9 @@ use Rattle.icode.specs.declared.action.Action.{Action}
 use Rattle.icode.specs.declared.action.Action.TheVariants.{Tile}
 use Rattle.code_laws.specs.Nests.{AreInRange}
 use Rattle.code_laws.proofs.Fills.{Fills}
+use Rattle.kernel_gen.specs.Instructions.{actions_by}
 use Rattle.kernel_gen.specs.Kernel.{trees_kernel}
+use Rattle.kernel_gen.proofs.Products.{trees-does}
 use Rattle.operators.specs.Sum.{sum_below}
 use Rattle.operators.proofs.Lists.{at-list_below, list_below-same, place_below}
 use Rattle.operators.proofs.Places.{turn_at}
@@ -18,7 +20,6 @@ use Rattle.pass_actions.proofs.Copies.{facts, task_of, items, on, input-word, ou
 use Rattle.pass_actions.proofs.Horner.{scaled-sum}
 use Rattle.pass_actions.proofs.Items.{items-fill}
 use Rattle.pass_actions.proofs.KernelCopies.{value_of, kernel-computes}
-use Rattle.pass_actions.proofs.Kernels.{kernel-runs}
 use Rattle.pass_actions.proofs.Rows.{rows-fill, row_sum, scaled_sum, entry_acts, scaled_acts, terms-turn, scaled-turn}
 use Rattle.pass_actions.proofs.StraightCopies.{CopyWords, body-fills, finish-few}
 use Rattle.pass_actions.proofs.Tasks.{Task, IsReady}
@@ -32,14 +33,14 @@ abbrev pub working : PlainNest → PlainWork → PlainNest
 working p w = record { counts = p.counts; work = w; gathers = p.gathers; multiplier = p.multiplier; scatters = p.scatters }
 
 -- the registers of a nest are among those of its pass
-pub registers-le : (c : PlainMachine) (zs : List PlainNest) (p : PlainNest) → Contains zs p → nest_registers c p p.work ≤ pass_registers c zs
+pub registers-le : (c : PlainMachine) (zs : List PlainNest) (p : PlainNest) → Contains zs p → nest_registers c.modulus p p.work ≤ pass_registers c.modulus zs
 registers-le c [] p one = absurd (omega (arith, one.1))
-registers-le c (z ∷ zs) p (zero, low, e) = let same : nest_registers c z z.work ≡ nest_registers c p p.work = ap (λ (y : PlainNest). nest_registers c y y.work) e in omega arith
+registers-le c (z ∷ zs) p (zero, low, e) = let same : nest_registers c.modulus z z.work ≡ nest_registers c.modulus p p.work = ap (λ (y : PlainNest). nest_registers c.modulus y y.work) e in omega arith
 registers-le c (z ∷ zs) p (suc i, low, e) = let rest = registers-le c zs p (i, omega arith, e) in omega arith
 
 module _ (c : PlainMachine) (zs : List PlainNest) (can : CanRun c zs) (source target q : ℕ) (x : List ℕ) (apart : AreApart c.size source target) (part : q < c.procs) (small : (i : ℕ) → i < c.size → slice_index x i < c.modulus) where
   abbrev pub regs : ℕ
-  regs = pass_registers c zs
+  regs = pass_registers c.modulus zs
 
   abbrev pub whole : Task
   whole = task_of c zs can source target q x apart
@@ -58,13 +59,13 @@ module _ (c : PlainMachine) (zs : List PlainNest) (can : CanRun c zs) (source ta
         let z : PlainNest = working p (kernel trees) in
         let n = trees_size trees in
         let f = trees_on c.modulus trees in
-        let made = trees_kernel c.modulus c.lanes trees in
+        let made = trees_kernel c.modulus trees in
         let from : ℕ → ℕ = λ k. source + load_at c z q vs k in
         let few : with_multiplier p.multiplier made.next n ≤ regs = registers-le c zs z one in
         let work = (facts c zs can z one source target q x apart part small).work in
-        body-fills c z p.multiplier regs target q whole n from made.acts (slice_index made.outs) made.next (value_of whole n from f) vs can.lanes few
-        (kernel-computes c regs whole 1 n _ from made f can.lanes (finish-few p.multiplier made.next n regs few)
-        (kernel-runs c 1 trees can.modulus work)
+        body-fills c z p.multiplier regs target q whole n from (actions_by c.lanes made.code) (slice_index made.outs) made.next (value_of whole n from f) vs can.lanes few
+        (kernel-computes c regs whole 1 n _ from made f (finish-few p.multiplier made.next n regs few)
+        (trees-does c.modulus 1 trees can.modulus work)
         (λ k lane under there. input-below c zs can z one source target q x apart part small vs range k lane under there))
         (λ k under lane there. input-word c zs can z one source target q x apart part small vs range k lane under there)
         (λ k under lane there. output-word c zs can z one source target q x apart part small vs range k lane under there)

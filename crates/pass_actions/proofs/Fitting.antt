@@ -5,20 +5,21 @@ use Rattle.std.proofs.lemmas.List.Elements.{All-nil, All-cons, All-append}
 use Rattle.icode.proofs.Lines.{Contains-head, Contains-tail}
 use Rattle.icode.specs.Actions.{lane_factors}
 use Rattle.icode.specs.declared.action.Action.{Action}
-use Rattle.icode.specs.declared.action.Action.TheVariants.{Load, Store, Zero, Add, Sub, Neg, Mul, Tile}
-use Rattle.code_laws.specs.Lanes.{AreArithmetic}
+use Rattle.icode.specs.declared.action.Action.TheVariants.{Load, Store, Zero, Add, Mul, Tile}
 use Rattle.code_laws.specs.Nests.{bodies, nest, loads}
+use Rattle.kernel_gen.specs.Instructions.{actions_by}
 use Rattle.kernel_gen.specs.Kernel.{trees_kernel}
 use Rattle.kernel_gen.proofs.Below.{at-AllBelow}
-use Rattle.operators.specs.Sum.{list_below}
+use Rattle.kernel_gen.proofs.Instructions.{factors-fit}
+use Rattle.kernel_gen.proofs.Products.{trees-does}
+use Rattle.kernel_gen.proofs.Residues.{power_below}
 use Rattle.ring_mod.specs.Residue.{power_mod}
 use Rattle.pass_actions.specs.Acts.{load_at, store_at, factors_at, finish_acts, rows_acts, items_acts, term_acts, horner_acts, copy_acts, nest_acts, pass_acts, with_multiplier, nest_registers, pass_registers}
 use Rattle.pass_actions.specs.Laws.{CanRun, CanRunNest, IsFit}
 use Rattle.pass_actions.specs.Machine.{PlainMachine, loop_counts}
 use Rattle.pass_actions.proofs.Copies.{nest-can}
 use Rattle.pass_actions.proofs.Fillings.{working, registers-le}
-use Rattle.pass_actions.proofs.KernelActions.{AreOperations, trees-operates, lane_residues, power_below}
-use Rattle.pass_actions.proofs.Kernels.{kernel-runs}
+use Rattle.pass_actions.proofs.KernelActions.{code-fits}
 use Rattle.pass_actions.proofs.Rows.{row_acts}
 use Rattle.pass_actions.proofs.StraightCopies.{ends_of, copy_body, finish-few}
 use Rattle.passes.specs.Nest.{PlainMultiplier, PlainNest, factor_at}
@@ -46,22 +47,6 @@ module _ (regs lanes m : ℕ) where
   fit-nest [] body each outer = each outer
   fit-nest (count ∷ counts) body each outer = fit-bodies count (λ v. nest counts body (outer ++ v ∷ [])) (λ v below. fit-nest counts body each (outer ++ v ∷ []))
 
-  -- operations below a bound of registers
-  pub fit-operations : (bound : ℕ) (actions : List Action) → bound ≤ regs → AreArithmetic lanes bound actions → AreOperations m actions → Fit actions
-  fit-operations bound [] low are h = fit-none
-  fit-operations bound (Load r address ∷ actions) low are h = absurd h.0
-  fit-operations bound (Store address r ∷ actions) low are h = absurd h.0
-  fit-operations bound (Zero r ∷ actions) low are h = absurd h.0
-  fit-operations bound (Tile r x ∷ actions) low are h = absurd h.0
-  fit-operations bound (Add r x y ∷ actions) low are h =
-      fit-cons (Add r x y) actions (record { registers = (omega (arith, low, are.0.0), omega (arith, low, are.0.1), omega (arith, low, are.0.2)); factors = tt }) (fit-operations bound actions low are.1 h.1)
-  fit-operations bound (Sub r x y ∷ actions) low are h =
-      fit-cons (Sub r x y) actions (record { registers = (omega (arith, low, are.0.0), omega (arith, low, are.0.1), omega (arith, low, are.0.2)); factors = tt }) (fit-operations bound actions low are.1 h.1)
-  fit-operations bound (Neg r x ∷ actions) low are h =
-      fit-cons (Neg r x) actions (record { registers = (omega (arith, low, are.0.0), omega (arith, low, are.0.1)); factors = tt }) (fit-operations bound actions low are.1 h.1)
-  fit-operations bound (Mul r x factors ∷ actions) low are h =
-      fit-cons (Mul r x factors) actions (record { registers = (omega (arith, low, are.0.0), omega (arith, low, are.0.1)); factors = h.0 }) (fit-operations bound actions low are.1 h.1)
-
   fit-loads : (n : ℕ) (from : ℕ → ℕ) → n ≤ regs → Fit (loads n from)
   fit-loads n from low = fit-bodies n (λ k. Load k (from k) ∷ []) (λ k below. fit-cons (Load k (from k)) [] (record { registers = omega arith; factors = tt }) fit-none)
 
@@ -82,7 +67,7 @@ module _ (c : PlainMachine) (p : PlainNest) (target q regs : ℕ) (vs : List ℕ
   fit-finish (Some d) k from free used more small low high few =
       let factors = factors_at c p d q vs k in
       fit-cons regs c.lanes c.modulus (Mul free from factors) (Store (target + store_at c p q vs k) free ∷ [])
-      (record { registers = (omega arith, omega arith); factors = lane_residues c.modulus c.lanes _ some (λ lane. small d refl _) })
+      (record { registers = (omega arith, omega arith); factors = factors-fit c.modulus c.lanes _ some (λ lane. small d refl _) })
       (fit-cons regs c.lanes c.modulus (Store (target + store_at c p q vs k) free) [] (record { registers = omega arith; factors = tt }) none)
 
   fit-body : (o : Option PlainMultiplier) (middle : List Action) (out : ℕ → ℕ) (used n : ℕ) (from : ℕ → ℕ) → AreResidues o → n ≤ used → with_multiplier o used n ≤ regs → AreFit middle → ((k : ℕ) → k < n → out k < used) →
@@ -116,14 +101,14 @@ module _ (c : PlainMachine) (p : PlainNest) (target q regs : ℕ) (vs : List ℕ
   fit-term root source room k l =
       let factors = lane_factors c.lanes (λ _. power_mod c.modulus root (k * l)) in
       fit-cons regs c.lanes c.modulus (Load 1 (source + load_at c p q vs l)) (Mul 2 1 factors ∷ Add 0 0 2 ∷ []) (record { registers = omega arith; factors = tt })
-      (fit-cons regs c.lanes c.modulus (Mul 2 1 factors) (Add 0 0 2 ∷ []) (record { registers = (omega arith, omega arith); factors = lane_residues c.modulus c.lanes (λ _. power_mod c.modulus root (k * l)) some (λ _. power_below c.modulus root (k * l) some) })
+      (fit-cons regs c.lanes c.modulus (Mul 2 1 factors) (Add 0 0 2 ∷ []) (record { registers = (omega arith, omega arith); factors = factors-fit c.modulus c.lanes (λ _. power_mod c.modulus root (k * l)) some (λ _. power_below c.modulus root (k * l) some) })
       (fit-cons regs c.lanes c.modulus (Add 0 0 2) [] (record { registers = (omega arith, omega arith, omega arith); factors = tt }) none))
 
   fit-horner : (root n source : ℕ) → 3 ≤ regs → (k t : ℕ) → AreFit (horner_acts c p root n source q vs k t)
   fit-horner root n source room k t =
       let factors = lane_factors c.lanes (λ _. power_mod c.modulus root k) in
       let from : ℕ = source + load_at c p q vs (n - 1 - t) in
-      fit-cons regs c.lanes c.modulus (Mul 1 0 factors) (Load 2 from ∷ Add 0 1 2 ∷ []) (record { registers = (omega arith, omega arith); factors = lane_residues c.modulus c.lanes (λ _. power_mod c.modulus root k) some (λ _. power_below c.modulus root k some) })
+      fit-cons regs c.lanes c.modulus (Mul 1 0 factors) (Load 2 from ∷ Add 0 1 2 ∷ []) (record { registers = (omega arith, omega arith); factors = factors-fit c.modulus c.lanes (λ _. power_mod c.modulus root k) some (λ _. power_below c.modulus root k some) })
       (fit-cons regs c.lanes c.modulus (Load 2 from) (Add 0 1 2 ∷ []) (record { registers = omega arith; factors = tt })
       (fit-cons regs c.lanes c.modulus (Add 0 1 2) [] (record { registers = (omega arith, omega arith, omega arith); factors = tt }) none))
 
@@ -136,14 +121,14 @@ module _ (c : PlainMachine) (lanes : 0 < c.lanes) (modulus : 2 ≤ c.modulus) (r
   abbrev pub Fits : List Action → Type 0
   Fits actions = All (IsFit regs c.lanes c.modulus) actions
 
-  copy-fits : (p : PlainNest) (w : PlainWork) → CanRunNest c (working p w) → nest_registers c (working p w) w ≤ regs → (vs : List ℕ) → Fits (copy_acts c (working p w) w source target q vs)
+  copy-fits : (p : PlainNest) (w : PlainWork) → CanRunNest c (working p w) → nest_registers c.modulus (working p w) w ≤ regs → (vs : List ℕ) → Fits (copy_acts c (working p w) w source target q vs)
   copy-fits p (kernel trees) can few vs =
       let z : PlainNest = working p (kernel trees) in
       let n = trees_size trees in
-      let made = trees_kernel c.modulus c.lanes trees in
-      let done = kernel-runs c 1 trees modulus can.work 0 lanes in
-      fit-body c z target q regs vs some p.multiplier made.acts (slice_index made.outs) made.next n (λ k. source + load_at c z q vs k) can.residues done.grows few
-      (fit-operations regs c.lanes c.modulus made.next made.acts (finish-few p.multiplier made.next n regs few) done.arithmetic (trees-operates c.modulus c.lanes modulus trees (list_below n (λ k. k)) n))
+      let made = trees_kernel c.modulus trees in
+      let done = trees-does c.modulus 1 trees modulus can.work in
+      fit-body c z target q regs vs some p.multiplier (actions_by c.lanes made.code) (slice_index made.outs) made.next n (λ k. source + load_at c z q vs k) can.residues (let next = done.next_is in omega (arith, next)) few
+      (code-fits c.modulus c.lanes made.next regs some (finish-few p.multiplier made.next n regs few) made.code done.within)
       (λ k below. at-AllBelow made.next made.outs k done.below (let sized = done.sized in omega arith))
   copy-fits p (rows root n) can few vs =
       let z : PlainNest = working p (rows root n) in
@@ -163,12 +148,12 @@ module _ (c : PlainMachine) (lanes : 0 < c.lanes) (modulus : 2 ≤ c.modulus) (r
       let z : PlainNest = working p (copy n) in
       fit-items c z target q regs vs some n source can.residues few
 
-  nests-fit : (zs : List PlainNest) → ((p : PlainNest) → Contains zs p → CanRunNest c p) → ((p : PlainNest) → Contains zs p → nest_registers c p p.work ≤ regs) → Fits (pass_acts c zs source target q)
+  nests-fit : (zs : List PlainNest) → ((p : PlainNest) → Contains zs p → CanRunNest c p) → ((p : PlainNest) → Contains zs p → nest_registers c.modulus p p.work ≤ regs) → Fits (pass_acts c zs source target q)
   nests-fit [] can few = fit-none regs c.lanes c.modulus
   nests-fit (z ∷ zs) can few =
       fit-append regs c.lanes c.modulus (nest_acts c z source target q) (pass_acts c zs source target q)
       (fit-nest regs c.lanes c.modulus (loop_counts c z) (copy_acts c z z.work source target q) (copy-fits z z.work (can z (Contains-head z zs)) (few z (Contains-head z zs))) [])
       (nests-fit zs (λ p one. can p (Contains-tail z zs p one)) (λ p one. few p (Contains-tail z zs p one)))
 
-pub pass-fits : (c : PlainMachine) (zs : List PlainNest) → CanRun c zs → (source target q : ℕ) → All (IsFit (pass_registers c zs) c.lanes c.modulus) (pass_acts c zs source target q)
-pass-fits c zs can source target q = nests-fit c can.lanes can.modulus (pass_registers c zs) source target q zs (nest-can c zs can) (registers-le c zs)
+pub pass-fits : (c : PlainMachine) (zs : List PlainNest) → CanRun c zs → (source target q : ℕ) → All (IsFit (pass_registers c.modulus zs) c.lanes c.modulus) (pass_acts c zs source target q)
+pass-fits c zs can source target q = nests-fit c can.lanes can.modulus (pass_registers c.modulus zs) source target q zs (nest-can c zs can) (registers-le c zs)

@@ -10,7 +10,6 @@ mod Horner
 mod Once
 pub mod Framed
 pub mod Copies
-pub mod Kernels
 mod Items
 pub mod Fillings
 mod Leaves

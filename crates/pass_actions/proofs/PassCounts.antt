@@ -7,17 +7,16 @@ use Rattle.icode.specs.declared.action.Action.TheVariants.{Tile}
 use Rattle.icode.specs.Machine.{counts_of, weighted}
 use Rattle.code_laws.proofs.ByLane.{weighted_is_by_lane}
 use Rattle.code_laws.specs.Nests.{nest}
+use Rattle.kernel_gen.specs.Instructions.{actions_by}
 use Rattle.kernel_gen.specs.Kernel.{trees_kernel, trees_cost}
-use Rattle.operators.specs.Sum.{list_below}
+use Rattle.kernel_gen.proofs.Products.{trees-does}
 use Rattle.pass_actions.specs.Acts.{load_at, copy_acts, nest_acts, pass_acts, term_acts, horner_acts}
 use Rattle.pass_actions.specs.Laws.{CanRun, CanRunNest, CanWork, IsFramed}
 use Rattle.pass_actions.specs.Machine.{PlainMachine}
 use Rattle.pass_actions.specs.Costs.{work_cost, work_loads, pass_cost, pass_loads}
-use Rattle.pass_actions.proofs.Counting.{Tally, counts, tally, counts-same, products_of, counts-append, counts-nest, counts-body, counts-rows, counts-items}
+use Rattle.pass_actions.proofs.Counting.{Tally, counts, tally, counts-same, products_of, counts-append, counts-nest, counts-body, counts-code, counts-rows, counts-items}
 use Rattle.pass_actions.proofs.Fillings.{working}
 use Rattle.pass_actions.proofs.Framed.{loops-are, copies_beside, copies-framed}
-use Rattle.pass_actions.proofs.KernelActions.{trees-operates, no-traffic}
-use Rattle.pass_actions.proofs.Kernels.{kernel-runs}
 use Rattle.passes.specs.Copies.{AreInside}
 use Rattle.passes.specs.Counts.{copies_in, multiplier_cost, nest_cost}
 use Rattle.passes.specs.Nest.{PlainMultiplier, PlainNest, copies_of}
@@ -68,11 +67,9 @@ module _ (weight : ℕ) (c : PlainMachine) (lanes : 0 < c.lanes) (modulus : 2 �
       let z : PlainNest = working p (kernel trees) in
       let n = trees_size trees in
       let price = trees_cost weight c.modulus trees in
-      let made = trees_kernel c.modulus c.lanes trees in
-      let none = no-traffic c.modulus c.lanes made.acts (trees-operates c.modulus c.lanes modulus trees (list_below n (λ k. k)) n) in
-      let of_code : tally weight c.lanes made.acts ≡ counts (c.lanes * price) 0 0 =
-      counts-same _ _ (ap (λ o. c.lanes * o) (kernel-runs c weight trees modulus can 0 lanes).costs) none.0 none.1 in
-      counts-body weight c z target q vs p.multiplier made.acts (slice_index made.outs) made.next n (c.lanes * price) (λ k. source + load_at c z q vs k) of_code
+      let made = trees_kernel c.modulus trees in
+      counts-body weight c z target q vs p.multiplier (actions_by c.lanes made.code) (slice_index made.outs) made.next n (c.lanes * price) (λ k. source + load_at c z q vs k)
+      (counts-code weight c.lanes price made.code (trees-does c.modulus weight trees modulus can).costs)
       ∙ counts-same _ _ (kernel_share c.lanes price n (products_of weight p.multiplier) ∙ ap (λ m. c.lanes * (price + m)) (sym (products-are weight p.multiplier z.work))) (swap n c.lanes) (swap n c.lanes)
   copy-counts p (rows root n) can vs =
       let z : PlainNest = working p (rows root n) in

@@ -1,22 +1,21 @@
 -- A pass has no more actions than it counts, and a zero or a tile for some of its stores.
-use Rattle.std.proofs.Common.{◌≡◌, ℕ, zero, suc, ◌+◌, ◌*◌, ◌<◌, ◌≤◌, arith, ap, List, [], ◌∷◌, ◌++◌, length, length-append, Contains, mul_comm, mul-le-mul_left, ◌∙◌}
+use Rattle.std.proofs.Common.{◌≡◌, ℕ, zero, suc, ◌+◌, ◌*◌, ◌<◌, ◌≤◌, arith, refl, ap, List, [], ◌∷◌, ◌++◌, length, length-append, Contains, mul_comm, mul-le-mul_left, ◌∙◌}
 use Rattle.std.specs.Prelude.{slice_index, Option, Some, None}
 use Rattle.icode.proofs.Lines.{Contains-head, Contains-tail}
 use Rattle.icode.specs.declared.action.Action.{Action}
 use Rattle.icode.specs.declared.action.Action.TheVariants.{Load, Tile}
-use Rattle.code_laws.specs.Lanes.{operations, weighted_operations}
-use Rattle.code_laws.proofs.ByLane.{weight_of_one}
 use Rattle.code_laws.specs.Nests.{bodies, nest, loads}
+use Rattle.kernel_gen.specs.Instructions.{actions_by, code_cost}
 use Rattle.kernel_gen.specs.Kernel.{trees_kernel}
-use Rattle.operators.specs.Sum.{list_below}
+use Rattle.kernel_gen.specs.declared.straight.Instruction.{Instruction}
 use Rattle.pass_actions.specs.Acts.{load_at, finish_acts, rows_acts, items_acts, term_acts, horner_acts, copy_acts, nest_acts, pass_acts}
 use Rattle.pass_actions.specs.Laws.{CanRun, CanRunNest, CanWork}
 use Rattle.pass_actions.specs.Machine.{PlainMachine, loop_counts}
 use Rattle.pass_actions.specs.Costs.{pass_cost, pass_loads}
 use Rattle.pass_actions.proofs.Copies.{nest-can}
-use Rattle.pass_actions.proofs.Counting.{Tally, counts-append, tally}
+use Rattle.pass_actions.proofs.Counting.{Tally, counts-append, counts-code, tally}
 use Rattle.pass_actions.proofs.Fillings.{working}
-use Rattle.pass_actions.proofs.KernelActions.{AreOperations, trees-operates, no-traffic, length-operations}
+use Rattle.pass_actions.proofs.KernelActions.{code-length}
 use Rattle.pass_actions.proofs.PassCounts.{counts-are, stores-are}
 use Rattle.pass_actions.proofs.Rows.{row_acts}
 use Rattle.pass_actions.proofs.StraightCopies.{ends_of, copy_body}
@@ -62,13 +61,13 @@ module _ (lanes : ℕ) (some : 0 < lanes) where
   room-loads : (n : ℕ) (from : ℕ → ℕ) → HasRoom 0 (loads n from)
   room-loads n from = less 0 (n * 0) (loads n from) (omega arith) (room-bodies 0 n (λ k. Load k (from k) ∷ []) (λ k. omega arith))
 
-  room-operations : (m : ℕ) (actions : List Action) → AreOperations m actions → HasRoom 0 actions
-  room-operations m actions are =
-      let long = length-operations m actions are in
-      let none = no-traffic m lanes actions are in
-      let o : lanes * weighted_operations 1 actions ≡ operations actions * lanes = ap (λ n. lanes * n) (weight_of_one actions) ∙ mul_comm lanes (operations actions) in
-      let several : operations actions * 1 ≤ operations actions * lanes = mul-le-mul_left (operations actions) some in
-      omega (arith, long, none.0, none.1, o, several)
+  room-code : (code : List Instruction) → HasRoom 0 (actions_by lanes code)
+  room-code code =
+      let long = code-length lanes code in
+      let counts = counts-code 1 lanes (code_cost 1 code) code refl in
+      let o = ap (λ (k : Tally). k.operations) counts ∙ mul_comm lanes (code_cost 1 code) in
+      let several : code_cost 1 code * 1 ≤ code_cost 1 code * lanes = mul-le-mul_left (code_cost 1 code) some in
+      omega (arith, long, o, several)
 
 module _ (c : PlainMachine) (p : PlainNest) (target q : ℕ) (vs : List ℕ) (some : 0 < c.lanes) where
   room-finish : (o : Option PlainMultiplier) (k from free : ℕ) → HasRoom c.lanes some 1 (finish_acts c p o target q vs k from free)
@@ -94,14 +93,14 @@ module _ (c : PlainMachine) (p : PlainNest) (target q : ℕ) (vs : List ℕ) (so
       less c.lanes some 0 (n * 0) (items_acts c p n source target q vs) (omega arith)
       (room-bodies c.lanes some 0 n (λ k. Load 0 (source + load_at c p q vs k) ∷ finish_acts c p p.multiplier target q vs k 0 1) (λ k. let last = room-finish p.multiplier k 0 1 in omega (arith, last)))
 
-module _ (c : PlainMachine) (some : 0 < c.lanes) (modulus : 2 ≤ c.modulus) (source target q : ℕ) where
+module _ (c : PlainMachine) (some : 0 < c.lanes) (source target q : ℕ) where
   copy-room : (p : PlainNest) (w : PlainWork) → CanWork c w → (vs : List ℕ) → HasRoom c.lanes some 0 (copy_acts c (working p w) w source target q vs)
   copy-room p (kernel trees) can vs =
       let z : PlainNest = working p (kernel trees) in
       let n = trees_size trees in
-      let made = trees_kernel c.modulus c.lanes trees in
-      less c.lanes some 0 n (copy_body c z p.multiplier made.acts (slice_index made.outs) made.next n (λ k. source + load_at c z q vs k) target q vs) (omega arith)
-      (room-body c z target q vs some p.multiplier made.acts (slice_index made.outs) made.next n 0 (λ k. source + load_at c z q vs k) (room-operations c.lanes some c.modulus made.acts (trees-operates c.modulus c.lanes modulus trees (list_below n (λ k. k)) n)))
+      let made = trees_kernel c.modulus trees in
+      less c.lanes some 0 n (copy_body c z p.multiplier (actions_by c.lanes made.code) (slice_index made.outs) made.next n (λ k. source + load_at c z q vs k) target q vs) (omega arith)
+      (room-body c z target q vs some p.multiplier (actions_by c.lanes made.code) (slice_index made.outs) made.next n 0 (λ k. source + load_at c z q vs k) (room-code c.lanes some made.code))
   copy-room p (rows root n) can vs = let z : PlainNest = working p (rows root n) in room-rows c z target q vs some n (term_acts c z root source q vs) (λ k l. omega arith)
   copy-room p (horner root n) can vs = let z : PlainNest = working p (horner root n) in room-rows c z target q vs some n (horner_acts c z root n source q vs) (λ k l. omega arith)
   copy-room p (tile v) can vs =
@@ -132,4 +131,4 @@ short_of procs o l s n cost loads size low co lo si =
 pub pass-short : (c : PlainMachine) (zs : List PlainNest) → CanRun c zs → (source target q : ℕ) → c.procs * length (pass_acts c zs source target q) ≤ pass_cost 1 c.modulus zs + pass_loads zs + 2 * c.size
 pass-short c zs can source target q =
     let are = counts-are 1 c can.lanes can.modulus source target q zs can in
-    short_of c.procs _ _ _ (length (pass_acts c zs source target q)) _ _ _ (nests-room c can.lanes can.modulus source target q zs (nest-can c zs can)) are.operations are.loads (stores-are 1 c can.lanes can.modulus source target q zs can)
+    short_of c.procs _ _ _ (length (pass_acts c zs source target q)) _ _ _ (nests-room c can.lanes source target q zs (nest-can c zs can)) are.operations are.loads (stores-are 1 c can.lanes can.modulus source target q zs can)

@@ -4,6 +4,7 @@ use Rattle.icode.specs.Actions.{lane_factors}
 use Rattle.icode.specs.declared.action.Action.{Action}
 use Rattle.icode.specs.declared.action.Action.TheVariants.{Load, Store, Zero, Add, Mul, Tile}
 use Rattle.code_laws.specs.Nests.{bodies, nest, loads}
+use Rattle.kernel_gen.specs.Instructions.{actions_by}
 use Rattle.kernel_gen.specs.Kernel.{trees_kernel}
 use Rattle.kernel_gen.specs.Making.{Made}
 use Rattle.pass_actions.specs.Machine.{PlainMachine, values_of, loop_counts, item_of}
@@ -34,7 +35,7 @@ finish_acts h z (Some d) target q vs k from free = Mul free from (factors_at h z
 -- straight-line code of n registers: loads, code, and stores
 abbrev pub made_acts : PlainMachine → PlainNest → ℕ → Made → ℕ → ℕ → ℕ → List ℕ → List Action
 made_acts h z n made source target q vs =
-    loads n (λ k. source + load_at h z q vs k) ++ (made.acts ++ bodies n (λ k. finish_acts h z z.multiplier target q vs k (slice_index made.outs k) (made.next + k)))
+    loads n (λ k. source + load_at h z q vs k) ++ (actions_by h.lanes made.code ++ bodies n (λ k. finish_acts h z z.multiplier target q vs k (slice_index made.outs k) (made.next + k)))
 
 -- a tile of v registers
 abbrev pub tile_acts : PlainMachine → PlainNest → ℕ → ℕ → ℕ → ℕ → List ℕ → List Action
@@ -58,7 +59,7 @@ items_acts h z size source target q vs = bodies size (λ k. Load 0 (source + loa
 
 -- a copy on each lane
 abbrev pub copy_acts : PlainMachine → PlainNest → PlainWork → ℕ → ℕ → ℕ → List ℕ → List Action
-copy_acts h z (kernel trees) source target q vs = made_acts h z (work_size (kernel trees)) (trees_kernel h.modulus h.lanes trees) source target q vs
+copy_acts h z (kernel trees) source target q vs = made_acts h z (work_size (kernel trees)) (trees_kernel h.modulus trees) source target q vs
 copy_acts h z (rows root size) source target q vs = rows_acts h z size (term_acts h z root source q vs) target q vs
 copy_acts h z (horner root size) source target q vs = rows_acts h z size (horner_acts h z root size source q vs) target q vs
 copy_acts h z (tile lanes) source target q vs = tile_acts h z lanes source target q vs
@@ -79,13 +80,14 @@ abbrev pub with_multiplier : Option PlainMultiplier → ℕ → ℕ → ℕ
 with_multiplier None used more = used
 with_multiplier (Some d) used more = used + more
 
-abbrev pub nest_registers : PlainMachine → PlainNest → PlainWork → ℕ
-nest_registers h z (kernel trees) = with_multiplier z.multiplier (trees_kernel h.modulus h.lanes trees).next (work_size (kernel trees))
-nest_registers h z (rows root size) = with_multiplier z.multiplier 3 1
-nest_registers h z (horner root size) = with_multiplier z.multiplier 3 1
-nest_registers h z (tile lanes) = with_multiplier z.multiplier (lanes + lanes) lanes
-nest_registers h z (copy size) = with_multiplier z.multiplier 1 1
+-- how many registers work uses modulo m, with a free one for each product of its items
+abbrev pub nest_registers : ℕ → PlainNest → PlainWork → ℕ
+nest_registers m z (kernel trees) = with_multiplier z.multiplier (trees_kernel m trees).next (work_size (kernel trees))
+nest_registers m z (rows root size) = with_multiplier z.multiplier 3 1
+nest_registers m z (horner root size) = with_multiplier z.multiplier 3 1
+nest_registers m z (tile lanes) = with_multiplier z.multiplier (lanes + lanes) lanes
+nest_registers m z (copy size) = with_multiplier z.multiplier 1 1
 
-abbrev pub pass_registers : PlainMachine → List PlainNest → ℕ
-pass_registers h [] = 0
-pass_registers h (z ∷ zs) = max (nest_registers h z z.work) (pass_registers h zs)
+abbrev pub pass_registers : ℕ → List PlainNest → ℕ
+pass_registers m [] = 0
+pass_registers m (z ∷ zs) = max (nest_registers m z z.work) (pass_registers m zs)

@@ -90,7 +90,7 @@ pub record IsStoredBy (h : PlainMachine) (zs : List PlainNest) (q w : ℕ) : Typ
 
 -- a state in which a processor may begin its part of a pass: the words of the first array that it loads are these residues
 pub record CanBegin (h : PlainMachine) (zs : List PlainNest) (source target q : ℕ) (x : List ℕ) (s : Local) : Type 0 where
-  pub registers : pass_registers h zs * h.lanes ≤ length s.registers
+  pub registers : pass_registers h.modulus zs * h.lanes ≤ length s.registers
   pub sources : source + h.size ≤ length s.memory
   pub targets : target + h.size ≤ length s.memory
   pub held : (w : ℕ) → IsLoadedBy h zs q w → slice_index s.memory (source + w) ≡ slice_index x w
@@ -116,7 +116,7 @@ pub record Runs (h : PlainMachine) (zs : List PlainNest) : Type 0 where
   pub operations : (weight source target q : ℕ) → 0 < weight → q < h.procs → h.procs * weighted weight (counts_of h.lanes (pass_acts h zs source target q)) ≡ pass_cost weight h.modulus zs
   pub loads : (source target q : ℕ) → q < h.procs → h.procs * (counts_of h.lanes (pass_acts h zs source target q)).loads ≡ pass_loads zs
   pub stores : (source target q : ℕ) → q < h.procs → h.procs * (counts_of h.lanes (pass_acts h zs source target q)).stores ≡ h.size
-  pub fit : (source target q : ℕ) → q < h.procs → All (IsFit (pass_registers h zs) h.lanes h.modulus) (pass_acts h zs source target q)
+  pub fit : (source target q : ℕ) → q < h.procs → All (IsFit (pass_registers h.modulus zs) h.lanes h.modulus) (pass_acts h zs source target q)
   pub short : (source target q : ℕ) → q < h.procs → h.procs * length (pass_acts h zs source target q) ≤ pass_cost 1 h.modulus zs + pass_loads zs + 2 * h.size
 
 -- every pass that can be run does

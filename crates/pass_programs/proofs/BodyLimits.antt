@@ -1,17 +1,16 @@
 -- The statements of a pass stand within the limits of programs.
 use Rattle.std.proofs.Common.{◌≡◌, ℕ, zero, suc, ◌+◌, ◌*◌, ◌^◌, ◌<◌, ◌≤◌, All, Bool, true, ◌&&◌, nat_lt, nat_le, List, [], ◌∷◌, length, refl, ap₂, arith, subst}
-use Rattle.std.specs.Prelude.{slice_index, Option, Some, None}
+use Rattle.std.specs.Prelude.{Option, Some, None}
 use Rattle.std.proofs.lemmas.Bool.Decides.{nat_tests}
-use Rattle.icode.specs.declared.action.Action.{Action}
-use Rattle.icode.specs.declared.action.Action.TheVariants as actions
 use Rattle.icode.specs.declared.program.Array.{Array}
-use Rattle.icode.specs.Actions.{FactorsFit}
 use Rattle.icode.proofs.Bools.{both_true}
 use Rattle.icode.specs.Limits.{is_small, is_small_positive, is_expr_within, is_op_within, is_body_within}
 use Rattle.icode.specs.Plain.{PlainBody, PlainExpr, PlainOp, NoStmts, AndStmts, Loop, Do, Load, Store, Add, MulTable}
-use Rattle.code_laws.specs.Lanes.{IsArithmetic, AreArithmetic}
+use Rattle.kernel_gen.specs.Instructions.{AreWithin, IsWithin, op_of}
+use Rattle.kernel_gen.specs.declared.straight.Instruction.{Instruction}
+use Rattle.kernel_gen.specs.declared.straight.Instruction.TheVariants as instructions
 use Rattle.pass_actions.specs.Machine.{PlainFrame}
-use Rattle.pass_programs.specs.Statements.{do_only, finish_body, followed_by, in_a_row, loads_body, loop_value, nested, one_factor, op_of, place_at, product_op, product_place, straight_body}
+use Rattle.pass_programs.specs.Statements.{do_only, finish_body, followed_by, in_a_row, loads_body, loop_value, nested, one_factor, place_at, product_op, product_place, straight_body}
 use Rattle.pass_programs.proofs.OneFactor.{OneIsBelow}
 use Rattle.passes.specs.Nest.{PlainMultiplier, PlainNest}
 use Rattle.perm_algebra.specs.Affine.{Sum}
@@ -84,21 +83,19 @@ module _ (m : ℕ) where
       is_body_within m (AndStmts (Do (Load 1 array input)) (AndStmts (Do (MulTable 2 1 table entry 0)) (AndStmts (Do (Add 0 0 2)) NoStmts))) open_loops ≡ true
   term-within open_loops table array input entry t h k = both _ _ h (both _ _ (both _ _ (small-is table t) k) refl)
 
-  op-within : (lanes next open_loops : ℕ) (a : Action) → 1 ≤ lanes → next < 2 ^ 32 → IsArithmetic lanes next a → FactorsFit m a → is_op_within m (op_of a) open_loops ≡ true
-  op-within lanes next open_loops (actions.Load r address) some small are fit = absurd are
-  op-within lanes next open_loops (actions.Store address r) some small are fit = absurd are
-  op-within lanes next open_loops (actions.Zero r) some small are fit = small-is r (omega (arith, are))
-  op-within lanes next open_loops (actions.Add r x y) some small are fit = both _ _ (small-is r (omega (arith, are.0))) (both _ _ (small-is x (omega (arith, are.1))) (small-is y (omega (arith, are.2))))
-  op-within lanes next open_loops (actions.Sub r x y) some small are fit = both _ _ (small-is r (omega (arith, are.0))) (both _ _ (small-is x (omega (arith, are.1))) (small-is y (omega (arith, are.2))))
-  op-within lanes next open_loops (actions.Neg r x) some small are fit = both _ _ (small-is r (omega (arith, are.0))) (small-is x (omega (arith, are.1)))
-  op-within lanes next open_loops (actions.Mul r x factors) some small are fit =
-      both _ _ (small-is r (omega (arith, are.0))) (both _ _ (small-is x (omega (arith, are.1))) (test-below (slice_index factors 0) m (fit 0 0 (omega (arith, are.2, some)))))
-  op-within lanes next open_loops (actions.Tile r x) some small are fit = absurd are
+  module _ (next open_loops : ℕ) (few : next < 2 ^ 32) where
+    small-register : (r : ℕ) → r < next → is_small r ≡ true
+    small-register r below = small-is r (omega (arith, below, few))
 
-  pub straight-within : (lanes next open_loops : ℕ) (more : List Action) → 1 ≤ lanes → next < 2 ^ 32 → AreArithmetic lanes next more → All (FactorsFit m) more → is_body_within m (straight_body more) open_loops ≡ true
-  straight-within lanes next open_loops [] some small are fit = refl
-  straight-within lanes next open_loops (a ∷ more) some small are fit =
-      both _ _ (op-within lanes next open_loops a some small are.0 (fit 0 a (omega arith))) (straight-within lanes next open_loops more some small are.1 (λ k d below. fit (suc k) d (omega arith)))
+    op-within : (i : Instruction) → IsWithin m next i → is_op_within m (op_of i) open_loops ≡ true
+    op-within (instructions.Add r x y) is = both _ _ (small-register r is.0) (both _ _ (small-register x is.1) (small-register y is.2))
+    op-within (instructions.Sub r x y) is = both _ _ (small-register r is.0) (both _ _ (small-register x is.1) (small-register y is.2))
+    op-within (instructions.Neg r x) is = both _ _ (small-register r is.0) (small-register x is.1)
+    op-within (instructions.Mul r x factor) is = both _ _ (small-register r is.0) (both _ _ (small-register x is.1) (test-below factor m is.2))
+
+    pub straight-within : (code : List Instruction) → AreWithin m next code → is_body_within m (straight_body code) open_loops ≡ true
+    straight-within [] are = refl
+    straight-within (i ∷ code) are = both _ _ (op-within i are.0) (straight-within code are.1)
 
 -- the place of an entry of a table of powers
 pub product-within : (depth n : ℕ) → 0 < n → n < 2 ^ 32 → is_expr_within (product_place depth n) (depth + 2) ≡ true

@@ -1,22 +1,24 @@
 -- The statements of a nest's copies are their actions, at places that are inside.
-use Rattle.std.proofs.Common.{◌≡◌, ℕ, ◌+◌, ◌-◌, ◌*◌, ◌%◌, ◌^◌, ◌<◌, ◌≤◌, List, [], ◌∷◌, ◌++◌, flat_map, length, refl, sym, ap, ◌∙◌, arith, mod-lt}
+use Rattle.std.proofs.Common.{◌≡◌, ℕ, ◌+◌, ◌-◌, ◌*◌, ◌%◌, ◌^◌, ◌<◌, ◌≤◌, List, [], ◌∷◌, ◌++◌, flat_map, length, refl, sym, ap, ◌∙◌, arith, mod-lt, subst}
 use Rattle.std.specs.Prelude.{slice_index, slice_index_or, Option, Some, None}
 use Rattle.std.specs.List.{range_with_len}
 use Rattle.icode.specs.declared.action.Action.{Action}
-use Rattle.icode.specs.declared.action.Action.TheVariants.{Load, Store, Zero, Add, Sub, Neg, Mul, Tile}
+use Rattle.icode.specs.declared.action.Action.TheVariants.{Load, Store, Zero, Add, Mul, Tile}
 use Rattle.icode.specs.declared.program.Array.{Array}
-use Rattle.icode.specs.Actions.{plain, lane_factors, step_of, steps_of_body}
+use Rattle.icode.specs.Actions.{Step, plain, lane_factors, step_of, steps_of_body}
 use Rattle.icode.specs.Expression.{sum_numbers}
-use Rattle.icode.specs.Plain.{PlainBody, PlainExpr, PlainProgram, AndStmts, NoStmts, Do, Loop}
+use Rattle.icode.specs.Plain.{PlainBody, PlainExpr, PlainProgram, AndStmts, Do, Loop}
 use Rattle.icode.specs.Plain as statements
-use Rattle.code_laws.specs.Lanes.{AreConstant}
 use Rattle.code_laws.specs.Nests.{bodies, loads}
+use Rattle.kernel_gen.specs.Instructions.{action_by, actions_by, op_of}
 use Rattle.kernel_gen.specs.Making.{Made}
+use Rattle.kernel_gen.specs.declared.straight.Instruction.{Instruction}
+use Rattle.kernel_gen.proofs.Instructions.{step-is}
 use Rattle.operators.proofs.Lists.{length-list_below, at-list_below}
 use Rattle.pass_actions.specs.Acts.{load_at, store_at, factors_at, finish_acts, made_acts, tile_acts, rows_acts, items_acts, term_acts, horner_acts}
 use Rattle.pass_programs.specs.Conditions.{IsInside}
 use Rattle.pass_actions.specs.Machine.{PlainMachine, frame_of, item_of, values_of, loop_counts}
-use Rattle.pass_programs.specs.Statements.{diagonal_of, one_factor, powers_of, product_op, do_only, in_a_row, followed_by, place_at, finish_body, straight_body, op_of, loads_body, made_body, tile_body, rows_body, items_body, loop_value, product_place, term_body, horner_body}
+use Rattle.pass_programs.specs.Statements.{diagonal_of, one_factor, powers_of, product_op, do_only, in_a_row, followed_by, place_at, finish_body, straight_body, loads_body, made_body, tile_body, rows_body, items_body, loop_value, product_place, term_body, horner_body}
 use Rattle.pass_programs.proofs.Coded.{IsCoded}
 use Rattle.pass_programs.proofs.Emits.{Emits, emits-none, emits-one, emits-append, emits-followed, emits-in_a_row, emits-looped, emits-loop, emits-then}
 use Rattle.pass_programs.proofs.OneFactor.{one-factor}
@@ -104,23 +106,14 @@ module _ (c : PlainMachine) (pass : PlainNest) (p : PlainProgram) (here : IsFor 
 
   -- ---- straight code
 
-  emits-action : (a : Action) (more : List Action) (vs : List ℕ) → (step_of p (op_of a) vs q).action ≡ a → IsInside (step_of p (op_of a) vs q) → Emits (steps_of_body p (straight_body more) vs q) more →
-      Emits (steps_of_body p (straight_body (a ∷ more)) vs q) (a ∷ more)
-  emits-action a more vs is within rest = emits-append (step_of p (op_of a) vs q ∷ []) (steps_of_body p (straight_body more) vs q) (a ∷ []) more (emits-one (step_of p (op_of a) vs q) a is within) rest
+  emits-instruction : (i : Instruction) (vs : List ℕ) → Emits (step_of p (op_of i) vs q ∷ []) (action_by c.lanes i ∷ [])
+  emits-instruction i vs =
+      let is : step_of p (op_of i) vs q ≡ plain (action_by c.lanes i) = step-is p i vs q ∙ ap (λ (n : ℕ). plain (action_by n i)) here.lanes in
+      emits-one (step_of p (op_of i) vs q) (action_by c.lanes i) (ap (λ (s : Step). s.action) is) (subst IsInside (sym is) (inside-plain (action_by c.lanes i)))
 
-  emits-straight : (more : List Action) (vs : List ℕ) → AreConstant c.lanes more → Emits (steps_of_body p (straight_body more) vs q) more
-  emits-straight [] vs are = emits-none
-  emits-straight (Load r address ∷ more) vs are = absurd are.0
-  emits-straight (Store address r ∷ more) vs are = absurd are.0
-  emits-straight (Zero r ∷ more) vs are = emits-action (Zero r) more vs refl (inside-plain (Zero r)) (emits-straight more vs are.1)
-  emits-straight (Add r x y ∷ more) vs are = emits-action (Add r x y) more vs refl (inside-plain (Add r x y)) (emits-straight more vs are.1)
-  emits-straight (Sub r x y ∷ more) vs are = emits-action (Sub r x y) more vs refl (inside-plain (Sub r x y)) (emits-straight more vs are.1)
-  emits-straight (Neg r x ∷ more) vs are = emits-action (Neg r x) more vs refl (inside-plain (Neg r x)) (emits-straight more vs are.1)
-  emits-straight (Mul r x factors ∷ more) vs are =
-      emits-action (Mul r x factors) more vs
-      (ap (λ (n : ℕ). Mul r x (lane_factors n (λ _. slice_index factors 0))) here.lanes ∙ ap (Mul r x) (sym are.0))
-      (record { numbers = omega arith; place = omega arith }) (emits-straight more vs are.1)
-  emits-straight (Tile r x ∷ more) vs are = absurd are.0
+  emits-straight : (code : List Instruction) (vs : List ℕ) → Emits (steps_of_body p (straight_body code) vs q) (actions_by c.lanes code)
+  emits-straight [] vs = emits-none
+  emits-straight (i ∷ code) vs = emits-then p q (op_of i) (straight_body code) vs (action_by c.lanes i) (actions_by c.lanes code) (emits-instruction i vs) (emits-straight code vs)
 
   module _ (table : ℕ) (vs : List ℕ) (there : HasDiagonal table) where
     -- the loads of the first n registers
@@ -132,16 +125,17 @@ module _ (c : PlainMachine) (pass : PlainNest) (p : PlainProgram) (here : IsFor 
         (λ k below. let at = places k below in emits-load c p here q (frame_of c pass.work) open_loops source pass.gathers k k vs (load_at c pass q vs k) at.coded at.inside)
 
     -- straight code of n registers, where its places are those of the code
-    pub emits-made : (n : ℕ) (made : Made) → AreConstant c.lanes made.acts → ((k : ℕ) → k < n → IsLoadedAt c pass q (length (loop_counts c pass)) k vs vs k) →
+    pub emits-made : (n : ℕ) (made : Made) → ((k : ℕ) → k < n → IsLoadedAt c pass q (length (loop_counts c pass)) k vs vs k) →
         ((k : ℕ) → k < n → IsStoredAt c pass q 0 (length (loop_counts c pass)) k vs vs k) →
         Emits (steps_of_body p (made_body (frame_of c pass.work) pass (length (loop_counts c pass)) n made table source target) vs q) (made_acts c pass n made (start_of c source) (start_of c target) q vs)
-    emits-made n made constants inputs stores =
+    emits-made n made inputs stores =
         let open_loops = length (loop_counts c pass) in
+        let acts : List Action = actions_by c.lanes made.code in
         let outputs : ℕ → PlainBody = λ k. finish_body (frame_of c pass.work) 0 pass.multiplier pass.scatters open_loops table target k (slice_index made.outs k) (made.next + k) in
         let finishes : ℕ → List Action = λ k. finish_acts c pass pass.multiplier (start_of c target) q vs k (slice_index made.outs k) (made.next + k) in
-        emits-followed p q (loads_body (frame_of c pass.work) pass open_loops n source) (followed_by (straight_body made.acts) (in_a_row n outputs)) vs (loads n (λ k. start_of c source + load_at c pass q vs k)) (made.acts ++ bodies n finishes)
+        emits-followed p q (loads_body (frame_of c pass.work) pass open_loops n source) (followed_by (straight_body made.code) (in_a_row n outputs)) vs (loads n (λ k. start_of c source + load_at c pass q vs k)) (acts ++ bodies n finishes)
         (emits-loads n inputs)
-        (emits-followed p q (straight_body made.acts) (in_a_row n outputs) vs made.acts (bodies n finishes) (emits-straight made.acts vs constants)
+        (emits-followed p q (straight_body made.code) (in_a_row n outputs) vs acts (bodies n finishes) (emits-straight made.code vs)
         (emits-in_a_row p q n outputs vs finishes (λ k below. emits-stored 0 open_loops table k (slice_index made.outs k) (made.next + k) vs vs k (stores k below) there)))
 
     -- a tile of v registers

@@ -1,17 +1,13 @@
 -- The statements of a nest stand within the limits of programs.
-use Rattle.std.proofs.Common.{◌≡◌, ℕ, ◌+◌, ◌^◌, ◌<◌, ◌≤◌, refl, arith, subst, List, [], ◌∷◌, length, All}
+use Rattle.std.proofs.Common.{◌≡◌, ℕ, ◌+◌, ◌^◌, ◌<◌, ◌≤◌, refl, arith, subst, List, length}
 use Rattle.std.specs.Prelude.{slice_index, Option, Some, None, true}
-use Rattle.std.proofs.lemmas.List.Elements.{All-nil, All-cons}
-use Rattle.icode.specs.declared.action.Action.{Action}
-use Rattle.icode.specs.declared.action.Action.TheVariants.{Load, Store, Zero, Add, Sub, Neg, Mul, Tile}
 use Rattle.icode.specs.declared.program.Array.{Array}
-use Rattle.icode.specs.Actions.{FactorsFit}
 use Rattle.icode.specs.Limits.{is_body_within}
 use Rattle.icode.specs.Plain.{PlainBody, AndStmts, NoStmts, Do, Loop}
 use Rattle.icode.specs.Plain as statements
 use Rattle.kernel_gen.specs.Kernel.{trees_kernel}
 use Rattle.kernel_gen.proofs.Below.{at-AllBelow}
-use Rattle.operators.specs.Sum.{list_below}
+use Rattle.kernel_gen.proofs.Products.{trees-does}
 use Rattle.perm_algebra.specs.Affine.{Sum, constant}
 use Rattle.pass_actions.specs.Acts.{nest_registers}
 use Rattle.pass_programs.specs.Conditions.{AreWithin, CanWriteNest}
@@ -20,8 +16,6 @@ use Rattle.pass_actions.specs.Machine.{PlainMachine, PlainFrame, frame_of, loop_
 use Rattle.pass_programs.specs.Statements.{diagonal_of, diagonal_number, one_factor, powers_of, finish_body, followed_by, horner_body, in_a_row, product_place, loads_body, multiplier_number, nest_body, place_at, powers_number, rows_body, straight_body, tables_of_multiplier, tables_of_nest, tables_of_work, term_body, with_diagonal, work_body}
 use Rattle.pass_programs.proofs.BodyLimits.{ArePlaces, both, finish-within, horner-within, loads-within, product-within, small-is, straight-within, term-within, within-do, within-followed, within-in_a_row, within-loop, within-nested}
 use Rattle.pass_actions.proofs.Fillings.{working}
-use Rattle.pass_actions.proofs.KernelActions.{AreOperations, trees-operates}
-use Rattle.pass_actions.proofs.Kernels.{kernel-runs}
 use Rattle.pass_programs.proofs.OneFactor.{OneIsBelow, one-below}
 use Rattle.pass_programs.proofs.SharedTables.{number-small, with_table-longer}
 use Rattle.pass_actions.proofs.StraightCopies.{finish-few}
@@ -70,18 +64,7 @@ nest-longer m z ts = let first = work-longer m z.work ts in let second = multipl
 
 -- ---- work
 
-operations-fit : (m : ℕ) (actions : List Action) → AreOperations m actions → All (FactorsFit m) actions
-operations-fit m [] h = All-nil (FactorsFit m)
-operations-fit m (Load r address ∷ actions) h = absurd h.0
-operations-fit m (Store address r ∷ actions) h = absurd h.0
-operations-fit m (Zero r ∷ actions) h = absurd h.0
-operations-fit m (Tile r x ∷ actions) h = absurd h.0
-operations-fit m (Add r x y ∷ actions) h = All-cons (FactorsFit m) (Add r x y) actions tt (operations-fit m actions h.1)
-operations-fit m (Sub r x y ∷ actions) h = All-cons (FactorsFit m) (Sub r x y) actions tt (operations-fit m actions h.1)
-operations-fit m (Neg r x ∷ actions) h = All-cons (FactorsFit m) (Neg r x) actions tt (operations-fit m actions h.1)
-operations-fit m (Mul r x factors ∷ actions) h = All-cons (FactorsFit m) (Mul r x factors) actions h.0 (operations-fit m actions h.1)
-
-module _ (c : PlainMachine) (lanes : 0 < c.lanes) (modulus : 2 ≤ c.modulus) (source target : Array) (powers table : ℕ) (first : powers < 2 ^ 32) (second : table < 2 ^ 32) where
+module _ (c : PlainMachine) (modulus : 2 ≤ c.modulus) (source target : Array) (powers table : ℕ) (first : powers < 2 ^ 32) (second : table < 2 ^ 32) where
   abbrev m : ℕ
   m = c.modulus
 
@@ -105,7 +88,7 @@ module _ (c : PlainMachine) (lanes : 0 < c.lanes) (modulus : 2 ≤ c.modulus) (s
       (finish-within m f 0 z.multiplier 1 (deep + 1) table 0 0 3 z.scatters target one (omega arith) (omega arith) places multiplied second (omega arith) (omega arith))))
       refl
 
-  work-within : (p : PlainNest) (w : PlainWork) → CanRunNest c (working p w) → CanWriteNest c (working p w) → nest_registers c (working p w) w < 2 ^ 20 →
+  work-within : (p : PlainNest) (w : PlainWork) → CanRunNest c (working p w) → CanWriteNest c (working p w) → nest_registers c.modulus (working p w) w < 2 ^ 20 →
       is_body_within m (work_body c (working p w) w (length (loop_counts c (working p w))) powers table source target) (length (loop_counts c (working p w))) ≡ true
   work-within p (kernel trees) can writes few =
       let z : PlainNest = working p (kernel trees) in
@@ -113,15 +96,15 @@ module _ (c : PlainMachine) (lanes : 0 < c.lanes) (modulus : 2 ≤ c.modulus) (s
       let f = frame_of c z.work in
       let deep = length (loop_counts c z) in
       let all : deep + 0 ≡ deep = omega arith in
-      let made = trees_kernel c.modulus c.lanes trees in
-      let done = kernel-runs c 1 trees modulus can.work 0 lanes in
-      let grows = done.grows in
-      let used : made.next < 2 ^ 20 = let least = finish-few p.multiplier made.next n (nest_registers c z z.work) (omega arith) in omega arith in
+      let made = trees_kernel c.modulus trees in
+      let done = trees-does c.modulus 1 trees modulus can.work in
+      let next = done.next_is in
+      let used : made.next < 2 ^ 20 = let least = finish-few p.multiplier made.next n (nest_registers c.modulus z z.work) (omega arith) in omega arith in
       let outputs : ℕ → PlainBody = λ k. finish_body f 0 z.multiplier z.scatters deep table target k (slice_index made.outs k) (made.next + k) in
-      within-followed m (loads_body f z deep n source) (followed_by (straight_body made.acts) (in_a_row n outputs)) deep
+      within-followed m (loads_body f z deep n source) (followed_by (straight_body made.code) (in_a_row n outputs)) deep
       (loads-within m f z n deep source (omega arith) (alone-within z n z.gathers writes.gathers.0.enough writes.gathers.1))
-      (within-followed m (straight_body made.acts) (in_a_row n outputs) deep
-      (straight-within m c.lanes made.next deep made.acts lanes (omega arith) done.arithmetic (operations-fit m made.acts (trees-operates m c.lanes modulus trees (list_below n (λ k. k)) n)))
+      (within-followed m (straight_body made.code) (in_a_row n outputs) deep
+      (straight-within m made.next deep (omega arith) made.code done.within)
       (within-in_a_row m n outputs deep
       (λ k below.
       let out : slice_index made.outs k < made.next = at-AllBelow made.next made.outs k done.below (let sized = done.sized in omega arith) in
@@ -140,7 +123,7 @@ module _ (c : PlainMachine) (lanes : 0 < c.lanes) (modulus : 2 ≤ c.modulus) (s
       let z : PlainNest = working p (tile v) in
       let f = frame_of c z.work in
       let deep = length (loop_counts c z) in
-      let used : v + v < 2 ^ 20 = let least = finish-few p.multiplier (v + v) v (nest_registers c z z.work) (omega arith) in omega arith in
+      let used : v + v < 2 ^ 20 = let least = finish-few p.multiplier (v + v) v (nest_registers c.modulus z z.work) (omega arith) in omega arith in
       let outputs : ℕ → PlainBody = λ k. finish_body f 1 z.multiplier z.scatters deep table target k (v + k) (v + v + k) in
       within-followed m (loads_body f z deep v source) (AndStmts (Do (statements.Tile v 0)) (in_a_row v outputs)) deep
       (loads-within m f z v deep source (omega arith) (alone-within z v z.gathers writes.gathers.0.enough writes.gathers.1))
@@ -168,9 +151,9 @@ module _ (c : PlainMachine) (lanes : 0 < c.lanes) (modulus : 2 ≤ c.modulus) (s
 
 -- ---- a nest
 
-pub nest-within : (c : PlainMachine) (z : PlainNest) (tables : List (List ℕ)) (source target : Array) → 0 < c.lanes → 2 ≤ c.modulus → CanRunNest c z → CanWriteNest c z → nest_registers c z z.work < 2 ^ 20 → length (tables_of_nest c.modulus z tables) < 2 ^ 32 →
+pub nest-within : (c : PlainMachine) (z : PlainNest) (tables : List (List ℕ)) (source target : Array) → 2 ≤ c.modulus → CanRunNest c z → CanWriteNest c z → nest_registers c.modulus z z.work < 2 ^ 20 → length (tables_of_nest c.modulus z tables) < 2 ^ 32 →
     is_body_within c.modulus (nest_body c z tables source target) 0 ≡ true
-nest-within c z tables source target lanes modulus can writes few some =
+nest-within c z tables source target modulus can writes few some =
     let powers = powers_number c.modulus z.work tables in
     let so_far = tables_of_work c.modulus z.work tables in
     let table = multiplier_number c.modulus z.multiplier so_far in
@@ -181,4 +164,4 @@ nest-within c z tables source target lanes modulus can writes few some =
     let deep = length (loop_counts c z) in
     let shallow = writes.shallow in
     within-nested c.modulus (loop_counts c z) (work_body c z z.work deep powers table source target) 0 deep writes.counts (omega arith) (omega arith)
-    (work-within c lanes modulus source target powers table (omega arith) (omega arith) z z.work can writes few)
+    (work-within c modulus source target powers table (omega arith) (omega arith) z z.work can writes few)

@@ -18,7 +18,6 @@ use Rattle.pass_programs.proofs.Emits.{Emits, emits-nested}
 use Rattle.pass_programs.proofs.Emitted.{IsLoadedAt, IsStoredAt, emits-made, emits-tile, emits-rows, emits-items, emits-term, emits-horner}
 use Rattle.pass_actions.proofs.Fillings.{working}
 use Rattle.pass_actions.proofs.Framed.{copy-framed, in_counts, item-below, loops-are, of_code}
-use Rattle.pass_actions.proofs.Kernels.{kernel-runs}
 use Rattle.pass_programs.proofs.Places.{IsFor, start_of}
 use Rattle.pass_programs.proofs.SharedTables.{Extends, number-stays, number-there, with_table-extends}
 use Rattle.pass_programs.proofs.Variables.{below-limits, length-range, values-append}
@@ -161,7 +160,7 @@ module _ (c : PlainMachine) (lanes : 0 < c.lanes) (z : PlainNest) (can : CanRunN
 
 -- ---- copies
 
-module _ (c : PlainMachine) (lanes : 0 < c.lanes) (modulus : 2 ≤ c.modulus) (program : PlainProgram) (here : IsFor c program) (q : ℕ) (part : q < c.procs) (source target : Array) (powers table : ℕ) where
+module _ (c : PlainMachine) (lanes : 0 < c.lanes) (program : PlainProgram) (here : IsFor c program) (q : ℕ) (part : q < c.procs) (source target : Array) (powers table : ℕ) where
   -- the tables of a nest
   pub record HasNestTables (z : PlainNest) : Type 0 where
     pub diagonal : (d : PlainMultiplier) → z.multiplier ≡ Some d → one_factor d.factors ≡ None → slice_index_or program.tables table [] ≡ diagonal_of c.modulus d.factors
@@ -173,7 +172,7 @@ module _ (c : PlainMachine) (lanes : 0 < c.lanes) (modulus : 2 ≤ c.modulus) (p
   emits-copy p (kernel trees) can writes has vs range =
       let z : PlainNest = working p (kernel trees) in
       let deep = length (loop_counts c z) in
-      emits-made c z program here lanes q source target table vs has.diagonal (trees_size trees) (trees_kernel c.modulus c.lanes trees) (kernel-runs c 1 trees modulus can.work 0 lanes).constant
+      emits-made c z program here lanes q source target table vs has.diagonal (trees_size trees) (trees_kernel c.modulus trees)
       (λ k below. is-loaded c lanes z can writes q part vs range k below deep k vs (alone-coded c lanes z can writes q part vs range z.gathers k writes.gathers.1 writes.gathers.0.sound))
       (λ k below.
       is-stored c lanes z can writes q part vs range k below 0 deep k vs refl (alone-coded c lanes z can writes q part vs range z.scatters k writes.scatters.1 writes.scatters.0.sound)
@@ -249,7 +248,7 @@ nest-extends m z ts = extends-more (tables_of_nest m z ts) (tables_of_work m z.w
 powers-there : (m : ℕ) (o : Option PlainMultiplier) (entries : List ℕ) (ts more : List (List ℕ)) → slice_index_or (tables_of_multiplier m o (with_table ts entries) ++ more) (table_number ts entries) [] ≡ entries
 powers-there m o entries ts more = number-stays ts entries (tables_of_multiplier m o (with_table ts entries)) more (multiplier-extends m o (with_table ts entries))
 
-module _ (c : PlainMachine) (lanes : 0 < c.lanes) (modulus : 2 ≤ c.modulus) (program : PlainProgram) (here : IsFor c program) (q : ℕ) (part : q < c.procs) (source target : Array) (tables more : List (List ℕ)) where
+module _ (c : PlainMachine) (lanes : 0 < c.lanes) (program : PlainProgram) (here : IsFor c program) (q : ℕ) (part : q < c.procs) (source target : Array) (tables more : List (List ℕ)) where
   rows-table : (w : PlainWork) (o : Option PlainMultiplier) (root n : ℕ) → w ≡ rows root n → slice_index_or (tables_of_multiplier c.modulus o (tables_of_work c.modulus w tables) ++ more) (powers_number c.modulus w tables) [] ≡ powers_of c.modulus root n
   rows-table w o root n is =
       subst (λ (u : PlainWork). slice_index_or (tables_of_multiplier c.modulus o (tables_of_work c.modulus u tables) ++ more) (powers_number c.modulus u tables) [] ≡ powers_of c.modulus root n) (sym is)
@@ -265,7 +264,7 @@ module _ (c : PlainMachine) (lanes : 0 < c.lanes) (modulus : 2 ≤ c.modulus) (p
   emits-nest z can writes has =
       let powers = powers_number c.modulus z.work tables in
       let table = multiplier_number c.modulus z.multiplier (tables_of_work c.modulus z.work tables) in
-      emits-loops c lanes modulus program here q part source target powers table z can writes
+      emits-loops c lanes program here q part source target powers table z can writes
       (record {
         diagonal = λ d is none. ap (λ (ts : List (List ℕ)). slice_index_or ts table []) has ∙ multiplier-there c.modulus z.multiplier d (tables_of_work c.modulus z.work tables) more is none;
         rows_there = λ root n is. ap (λ (ts : List (List ℕ)). slice_index_or ts powers []) has ∙ rows-table z.work z.multiplier root n is;

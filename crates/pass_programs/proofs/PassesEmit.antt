@@ -31,7 +31,7 @@ pass-longer m (z ∷ zs) ts = let first = nest-longer m z ts in let rest = pass-
 
 -- nests that can be run and written
 abbrev CanDo : PlainMachine → List PlainNest → Type 0
-CanDo c zs = (z : PlainNest) → Contains zs z → CanRunNest c z × CanWriteNest c z × (nest_registers c z z.work < 2 ^ 20)
+CanDo c zs = (z : PlainNest) → Contains zs z → CanRunNest c z × CanWriteNest c z × (nest_registers c.modulus z z.work < 2 ^ 20)
 
 module _ (c : PlainMachine) (lanes : 0 < c.lanes) (modulus : 2 ≤ c.modulus) (source target : Array) where
   module _ (program : PlainProgram) (here : IsFor c program) (q : ℕ) (part : q < c.procs) where
@@ -43,7 +43,7 @@ module _ (c : PlainMachine) (lanes : 0 < c.lanes) (modulus : 2 ≤ c.modulus) (s
         let so_far = tables_of_nest c.modulus z tables in
         let later = pass-extends c.modulus zs so_far in
         emits-followed program q (nest_body c z tables source target) (pass_body c zs so_far source target) [] (nest_acts c z (start_of c source) (start_of c target) q) (pass_acts c zs (start_of c source) (start_of c target) q)
-        (emits-nest c lanes modulus program here q part source target tables (later.last ++ more) z first.0 first.1 (has ∙ ap (λ (ts : List (List ℕ)). ts ++ more) later.is ∙ append_assoc so_far later.last more))
+        (emits-nest c lanes program here q part source target tables (later.last ++ more) z first.0 first.1 (has ∙ ap (λ (ts : List (List ℕ)). ts ++ more) later.is ∙ append_assoc so_far later.last more))
         (emits-nests zs (λ p one. can p (Contains-tail z zs p one)) so_far more has)
 
   nests-within : (zs : List PlainNest) → CanDo c zs → (tables : List (List ℕ)) → length (tables_after c.modulus zs tables) < 2 ^ 32 → is_body_within c.modulus (pass_body c zs tables source target) 0 ≡ true
@@ -53,7 +53,7 @@ module _ (c : PlainMachine) (lanes : 0 < c.lanes) (modulus : 2 ≤ c.modulus) (s
       let so_far = tables_of_nest c.modulus z tables in
       let longer = pass-longer c.modulus zs so_far in
       within-followed c.modulus (nest_body c z tables source target) (pass_body c zs so_far source target) 0
-      (nest-within c z tables source target lanes modulus first.0 first.1 first.2 (omega arith))
+      (nest-within c z tables source target modulus first.0 first.1 first.2 (omega arith))
       (nests-within zs (λ p one. can p (Contains-tail z zs p one)) so_far some)
 
 pub passes_are_emitted : PassesAreEmitted

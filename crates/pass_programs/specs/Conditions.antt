@@ -81,7 +81,7 @@ pub record CanWritePass (h : PlainMachine) (zs : List PlainNest) : Type 0 where
   pub line : 0 < h.line
   pub runs : CanRun h zs
   pub nests : All (CanWriteNest h) zs
-  pub few : pass_registers h zs < 2 ^ 20
+  pub few : pass_registers h.modulus zs < 2 ^ 20
 
 -- ---- the law of statements
 

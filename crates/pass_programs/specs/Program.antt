@@ -43,7 +43,7 @@ tables_of_phases m (ps ∷ more) tables = tables_of_phases m more (tables_throug
 
 abbrev pub most_of : PlainMachine → List (List PlainNest) → ℕ
 most_of h [] = 0
-most_of h (zs ∷ ps) = max (pass_registers h zs) (most_of h ps)
+most_of h (zs ∷ ps) = max (pass_registers h.modulus zs) (most_of h ps)
 
 abbrev pub most_of_phases : PlainMachine → List (List (List PlainNest)) → ℕ
 most_of_phases h [] = 0

@@ -1,11 +1,11 @@
 -- Passes as statements: loops round bodies that load, compute and store.
 use Rattle.std.specs.Prelude.{ℕ, zero, suc, ◌+◌, ◌==◌, Bool, true, false, if◌then◌else◌, List, [], ◌∷◌, length, slice_index, slice_index_or, Option, Some, None}
-use Rattle.icode.specs.Plain.{PlainExpr, PlainOp, PlainBody, NoStmts, AndStmts, Loop, Do, Load, Store, Zero, Add, Sub, Neg, MulConst, MulTable, Tile, Sum, NoParts, AndParts, Var, Product, Rem}
-use Rattle.icode.specs.declared.action.Action.{Action}
-use Rattle.icode.specs.declared.action.Action.TheVariants as actions
+use Rattle.icode.specs.Plain.{PlainExpr, PlainOp, PlainBody, NoStmts, AndStmts, Loop, Do, Load, Store, Zero, Add, MulConst, MulTable, Tile, Sum, NoParts, AndParts, Var, Product, Rem}
 use Rattle.icode.specs.declared.program.Array.{Array}
+use Rattle.kernel_gen.specs.Instructions.{op_of}
 use Rattle.kernel_gen.specs.Kernel.{trees_kernel}
 use Rattle.kernel_gen.specs.Making.{Made}
+use Rattle.kernel_gen.specs.declared.straight.Instruction.{Instruction}
 use Rattle.operators.specs.Sum.{list_below}
 use Rattle.pass_programs.specs.Expressions.{expr_of}
 use Rattle.pass_actions.specs.Machine.{PlainMachine, PlainFrame, frame_of, loop_counts}
@@ -110,19 +110,9 @@ finish_body f step None scatters open_loops table target i from free = do_only (
 finish_body f step (Some d) scatters open_loops table target i from free =
     AndStmts (Do (product_op (one_factor d.factors) free from table (place_at f open_loops d.places i) step)) (do_only (Store target (place_at f open_loops scatters i) free))
 
-abbrev pub op_of : Action → PlainOp
-op_of (actions.Load r address) = Zero r
-op_of (actions.Store address r) = Zero r
-op_of (actions.Zero r) = Zero r
-op_of (actions.Add r x y) = Add r x y
-op_of (actions.Sub r x y) = Sub r x y
-op_of (actions.Neg r x) = Neg r x
-op_of (actions.Mul r x factors) = MulConst r x (slice_index factors 0)
-op_of (actions.Tile r x) = Tile r x
-
-abbrev pub straight_body : List Action → PlainBody
+abbrev pub straight_body : List Instruction → PlainBody
 straight_body [] = NoStmts
-straight_body (action ∷ rest) = AndStmts (Do (op_of action)) (straight_body rest)
+straight_body (i ∷ code) = AndStmts (Do (op_of i)) (straight_body code)
 
 abbrev pub loads_body : PlainFrame → PlainNest → ℕ → ℕ → Array → PlainBody
 loads_body f z open_loops n source = in_a_row n (λ k. do_only (Load k source (place_at f open_loops z.gathers k)))
@@ -130,7 +120,7 @@ loads_body f z open_loops n source = in_a_row n (λ k. do_only (Load k source (p
 abbrev pub made_body : PlainFrame → PlainNest → ℕ → ℕ → Made → ℕ → Array → Array → PlainBody
 made_body f z open_loops n made table source target =
     followed_by (loads_body f z open_loops n source)
-    (followed_by (straight_body made.acts) (in_a_row n (λ k. finish_body f 0 z.multiplier z.scatters open_loops table target k (slice_index made.outs k) (made.next + k))))
+    (followed_by (straight_body made.code) (in_a_row n (λ k. finish_body f 0 z.multiplier z.scatters open_loops table target k (slice_index made.outs k) (made.next + k))))
 
 abbrev pub tile_body : PlainFrame → PlainNest → ℕ → ℕ → ℕ → Array → Array → PlainBody
 tile_body f z open_loops v table source target =
@@ -166,7 +156,7 @@ items_body f z open_loops size table source target =
 
 abbrev pub work_body : PlainMachine → PlainNest → PlainWork → ℕ → ℕ → ℕ → Array → Array → PlainBody
 work_body h z (kernel trees) open_loops powers table source target =
-    made_body (frame_of h z.work) z open_loops (work_size (kernel trees)) (trees_kernel h.modulus h.lanes trees) table source target
+    made_body (frame_of h z.work) z open_loops (work_size (kernel trees)) (trees_kernel h.modulus trees) table source target
 work_body h z (rows root size) open_loops powers table source target =
     let f = frame_of h z.work in rows_body f z open_loops size (term_body (place_at f (open_loops + 2) z.gathers 0) open_loops source powers size) table target
 work_body h z (horner root size) open_loops powers table source target =

@@ -37,7 +37,7 @@ body-more h (y ∷ zs) z tables source target =
     ap (followed_by (nest_body h y tables source target)) (body-more h zs z (tables_of_nest h.modulus y tables) source target)
     ∙ sym (followed-assoc (nest_body h y tables source target) _ _)
 
-registers-more : (h : PlainMachine) (zs : List PlainNest) (z : PlainNest) → pass_registers h (zs ++ z ∷ []) ≡ max (pass_registers h zs) (nest_registers h z z.work)
+registers-more : (h : PlainMachine) (zs : List PlainNest) (z : PlainNest) → pass_registers h.modulus (zs ++ z ∷ []) ≡ max (pass_registers h.modulus zs) (nest_registers h.modulus z z.work)
 registers-more h [] z = omega arith
 registers-more h (y ∷ zs) z = let rest = registers-more h zs z in omega arith
 
@@ -63,11 +63,11 @@ module _ (h : PlainMachine) (nests : List Nest) (i : ℕ) (z : Nest) (tables : L
       ∙ sym (tables-more h.modulus (map plain_nest (take i nests)) (plain_nest z) tables)
       ∙ sym (ap (λ (zs : List PlainNest). tables_after h.modulus zs tables) (taken-more nests i z below is))
 
-  pub next-registers : (before one now : ℕ) → before ≡ pass_registers h (map plain_nest (take i nests)) → one ≡ nest_registers h (plain_nest z) (plain_nest z).work → now ≡ max before one → now ≡ pass_registers h (map plain_nest (take (i + 1) nests))
+  pub next-registers : (before one now : ℕ) → before ≡ pass_registers h.modulus (map plain_nest (take i nests)) → one ≡ nest_registers h.modulus (plain_nest z) (plain_nest z).work → now ≡ max before one → now ≡ pass_registers h.modulus (map plain_nest (take (i + 1) nests))
   next-registers before one now so_far used more =
       more ∙ ap₂ max so_far used
       ∙ sym (registers-more h (map plain_nest (take i nests)) (plain_nest z))
-      ∙ sym (ap (pass_registers h) (taken-more nests i z below is))
+      ∙ sym (ap (pass_registers h.modulus) (taken-more nests i z below is))
 
 -- ---- passes in a row
 

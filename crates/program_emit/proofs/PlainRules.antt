@@ -4,10 +4,11 @@ use Rattle.std.proofs.lemmas.List.{take_more}
 use Rattle.icode.specs.declared.program.Op.{Op}
 use Rattle.icode.specs.declared.program.Stmt.{Stmt}
 use Rattle.icode.specs.declared.program.Stmt.TheVariants as stmts
-use Rattle.icode.specs.declared.action.Action.{Action}
 use Rattle.icode.specs.Plain.{PlainBody, PlainStmt, NoStmts, AndStmts, Do, plain_stmt, plain_op, plain_body}
 use Rattle.icode.proofs.Views.{plain_stmt-Do}
-use Rattle.pass_programs.specs.Statements.{followed_by, op_of, straight_body}
+use Rattle.kernel_gen.specs.Instructions.{op_of}
+use Rattle.kernel_gen.specs.declared.straight.Instruction.{Instruction}
+use Rattle.pass_programs.specs.Statements.{followed_by, straight_body}
 
 pub plain-append : (xs ys : List Stmt) → plain_body (xs ++ ys) ≡ followed_by (plain_body xs) (plain_body ys)
 plain-append [] ys = refl
@@ -23,11 +24,11 @@ pub followed-one : (xs ys : PlainBody) (s : PlainStmt) → followed_by (followed
 followed-one NoStmts ys s = refl
 followed-one (AndStmts x xs) ys s = ap (AndStmts x) (followed-one xs ys s)
 
--- the statements of actions, and one more
-pub straight-more : (before : List Action) (a : Action) → straight_body (before ++ a ∷ []) ≡ followed_by (straight_body before) (AndStmts (Do (op_of a)) NoStmts)
+-- the statements of code, and one more
+pub straight-more : (before : List Instruction) (a : Instruction) → straight_body (before ++ a ∷ []) ≡ followed_by (straight_body before) (AndStmts (Do (op_of a)) NoStmts)
 straight-more [] a = refl
 straight-more (b ∷ before) a = ap (AndStmts (Do (op_of b))) (straight-more before a)
 
--- the statements of one more action of a list
-pub straight-take : (xs : List Action) (i : ℕ) (d : Action) → i < length xs → straight_body (take (i + 1) xs) ≡ followed_by (straight_body (take i xs)) (AndStmts (Do (op_of (get_or xs i d))) NoStmts)
+-- the statements of one more instruction
+pub straight-take : (xs : List Instruction) (i : ℕ) (d : Instruction) → i < length xs → straight_body (take (i + 1) xs) ≡ followed_by (straight_body (take i xs)) (AndStmts (Do (op_of (get_or xs i d))) NoStmts)
 straight-take xs i d below = ap straight_body (take_more xs i d below) ∙ straight-more (take i xs) (get_or xs i d)

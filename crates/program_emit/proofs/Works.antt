@@ -3,11 +3,10 @@ use Rattle.std.proofs.Common.{◌≡◌, ℕ, zero, suc, ◌+◌, ◌^◌, ◌<�
 use Rattle.std.specs.Prelude.{Option, Some, None}
 use Rattle.std.proofs.lemmas.List.{get_or-map, length-map}
 use Rattle.kernel_gen.specs.Kernel.{trees_kernel}
-use Rattle.kernel_gen.proofs.Products.{trees-words}
+use Rattle.kernel_gen.proofs.Products.{trees-does, trees-words}
 use Rattle.pass_actions.specs.Acts.{nest_registers, pass_registers}
 use Rattle.pass_actions.specs.Laws.{CanWork}
 use Rattle.pass_actions.specs.Machine.{PlainMachine}
-use Rattle.pass_actions.proofs.Kernels.{kernel-runs}
 use Rattle.pass_programs.specs.Conditions.{CanWritePass}
 use Rattle.pass_programs.specs.Contract.{CanProgram, IsHost, all_passes, most_actions}
 use Rattle.pass_programs.specs.Program.{count_in}
@@ -32,10 +31,10 @@ pub kernel-small : (h : PlainMachine) (z : PlainNest) (trees : PlainTrees) → z
 kernel-small h z trees is can = (work-of h z (kernel trees) is can).1
 
 -- the code of a kernel has an output for each item
-pub kernel-sized : (h : PlainMachine) (z : PlainNest) (trees : PlainTrees) → z.work ≡ kernel trees → CanEmit h z → length (trees_kernel h.modulus h.lanes trees).outs ≡ trees_size trees
+pub kernel-sized : (h : PlainMachine) (z : PlainNest) (trees : PlainTrees) → z.work ≡ kernel trees → CanEmit h z → length (trees_kernel h.modulus trees).outs ≡ trees_size trees
 kernel-sized h z trees is can =
     let work = work-of h z (kernel trees) is can in
-    (kernel-runs h 1 trees can.modulus work.0 0 can.lanes.0).sized
+    (trees-does h.modulus 1 trees can.modulus work.0).sized
 
 can-list : (factors : PlainFactors) → 0 < factor_count factors → factor_count factors < 2 ^ 32 → CanList factors
 can-list (values entries) some small = tt
@@ -51,7 +50,7 @@ has-factors (Some d) h = let known = h d refl in can-list d.factors known.0 know
 
 -- ---- passes
 
-registers-le : (h : PlainMachine) (zs : List PlainNest) (k : ℕ) (d : PlainNest) → k < length zs → nest_registers h (get_or zs k d) (get_or zs k d).work ≤ pass_registers h zs
+registers-le : (h : PlainMachine) (zs : List PlainNest) (k : ℕ) (d : PlainNest) → k < length zs → nest_registers h.modulus (get_or zs k d) (get_or zs k d).work ≤ pass_registers h.modulus zs
 registers-le h [] k d below = absurd (omega arith)
 registers-le h (z ∷ zs) zero d below = omega arith
 registers-le h (z ∷ zs) (suc k) d below = let rest = registers-le h zs k d (omega arith) in omega arith

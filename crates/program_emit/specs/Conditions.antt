@@ -36,7 +36,7 @@ pub record CanEmit (h : PlainMachine) (z : PlainNest) : Type 0 where
   pub lanes : (1 ≤ h.lanes) × (h.lanes ≤ 16)
   pub runs : CanRunNest h z
   pub writes : CanWriteNest h z
-  pub few : nest_registers h z z.work < 2 ^ 20
+  pub few : nest_registers h.modulus z z.work < 2 ^ 20
 
 abbrev pub CanEmitAll : PlainMachine → List (List PlainNest) → Type 0
 CanEmitAll h [] = Unit {0}

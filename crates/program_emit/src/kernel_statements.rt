@@ -1,8 +1,8 @@
 // The statements of a kernel.
 ghost use Rattle.std.specs.Prelude.{◌≡◌, ◌+◌, ◌<◌, ◌^◌, IfOk, length, slice_index};
-ghost use Rattle.icode.specs.Plain.{plain_body, plain_op};
+ghost use Rattle.icode.specs.Plain.{plain_body};
 ghost use Rattle.kernel_gen.specs.Kernels.{made_of};
-ghost use Rattle.pass_programs.specs.Statements.{finish_body, in_a_row, made_body, op_of, straight_body};
+ghost use Rattle.pass_programs.specs.Statements.{finish_body, in_a_row, made_body, straight_body};
 ghost use Rattle.passes.specs.Views.{plain_nest};
 ghost use Rattle.program_emit.specs.Conditions.{CanStore, HasPlaces};
 ghost use Rattle.program_emit.specs.Views.{plain_frame};
@@ -11,58 +11,18 @@ use crate::inputs::loads;
 use crate::outputs::put_output;
 use crate::site::{Item, Site};
 use crate::statements::put_op;
-use icode::action::Action;
-use icode::program::{Op, Stmt};
-use kernel_gen::Kernel;
+use icode::program::Stmt;
+use kernel_gen::{Instruction, Kernel};
 use memory::NoMemory;
 use passes::Nest;
 use std::alloc::Global;
 
-// The operation of an action. Straight-line code has no loads and stores, and one factor for all lanes.
-fn operation(action: &Action) -> Op
-    ensures { plain_op result ≡ op_of action.now }
-{
-    match *action {
-        Action::Load { register, .. } | Action::Store { register, .. } => Op::Zero { register },
-        Action::Zero { register } => Op::Zero { register },
-        Action::Add {
-            register,
-            left,
-            right,
-        } => Op::Add {
-            register,
-            left,
-            right,
-        },
-        Action::Sub {
-            register,
-            left,
-            right,
-        } => Op::Sub {
-            register,
-            left,
-            right,
-        },
-        Action::Neg { register, source } => Op::Neg { register, source },
-        Action::Mul {
-            register,
-            source,
-            factors,
-        } => Op::MulConst {
-            register,
-            source,
-            factor: factors[0],
-        },
-        Action::Tile { register, source } => Op::Tile { register, source },
-    }
-}
-
-fn straight(alloc: Global, actions: &[Action]) -> Result<Vec<Stmt>, NoMemory>
-    ensures { IfOk result (λ y. plain_body y.items ≡ straight_body actions.now) }
+fn straight(alloc: Global, code: &[Instruction]) -> Result<Vec<Stmt>, NoMemory>
+    ensures { IfOk result (λ y. plain_body y.items ≡ straight_body code.now) }
 {
     let mut body = Vec::new(alloc);
-    for action in actions {
-        put_op(&mut body, operation(action))?;
+    for instruction in code {
+        put_op(&mut body, instruction.op())?;
     }
     Ok(body)
 }
@@ -87,8 +47,7 @@ fn outputs(alloc: Global, nest: &Nest, made: &Kernel, site: Site) -> Result<Vec<
     Ok(body)
 }
 
-/// The statements of a kernel: its inputs are loaded, its code is run, and its outputs are stored. Each lane multiplies by
-/// the same factor.
+/// The statements of a kernel: its inputs are loaded, its code is run, and its outputs are stored.
 pub(crate) fn statements_of_kernel(
     alloc: Global,
     nest: &Nest,
@@ -102,7 +61,7 @@ pub(crate) fn statements_of_kernel(
     ensures { IfOk result (λ y. plain_body y.items ≡ made_body (plain_frame site.frame) (plain_nest nest.now) site.open_loops made.now.inputs (made_of made.now) site.table site.source site.target) }
 {
     let mut stores = outputs(alloc, nest, made, site)?;
-    let mut code = straight(alloc, &made.actions)?;
+    let mut code = straight(alloc, &made.code)?;
     code.append(&mut stores)?;
     let mut statements = loads(alloc, nest, made.inputs, site)?;
     statements.append(&mut code)?;

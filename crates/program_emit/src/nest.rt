@@ -29,7 +29,7 @@ fn emit_nest(
     requires { CanEmit (plain_host host.now) (plain_nest nest.now) }
     ensures body { IfOk result (λ e. plain_body e.statements.items ≡ nest_body (plain_host host.now) (plain_nest nest.now) (plain_tables tables.old.items) source target) }
     ensures tables { OnOk result (plain_tables tables.new.items ≡ tables_of_nest host.now.modulus (plain_nest nest.now) (plain_tables tables.old.items)) }
-    ensures registers { IfOk result (λ e. let z = plain_nest nest.now in e.registers ≡ nest_registers (plain_host host.now) z z.work) }
+    ensures registers { IfOk result (λ e. let z = plain_nest nest.now in e.registers ≡ nest_registers host.now.modulus z z.work) }
 {
     let frame = frame_of(host, &nest.work);
     let loops = &nest.counts[frame.first_loop as usize..];
@@ -63,7 +63,7 @@ pub(crate) fn emit_pass(
     requires { All (CanEmit (plain_host host.now)) (map plain_nest nests.now) }
     ensures body { IfOk result (λ e. plain_body e.statements.items ≡ pass_body (plain_host host.now) (map plain_nest nests.now) (plain_tables tables.old.items) source target) }
     ensures tables { OnOk result (plain_tables tables.new.items ≡ tables_after host.now.modulus (map plain_nest nests.now) (plain_tables tables.old.items)) }
-    ensures registers { IfOk result (λ e. e.registers ≡ pass_registers (plain_host host.now) (map plain_nest nests.now)) }
+    ensures registers { IfOk result (λ e. e.registers ≡ pass_registers host.now.modulus (map plain_nest nests.now)) }
 {
     let mut statements = Vec::new(alloc);
     let mut registers: u64 = 0;

@@ -39,11 +39,11 @@ pub(crate) fn emit_work(
     requires frame { plain_frame site.frame ≡ machine.frame_of (plain_host host.now) (plain_nest nest.now).work }
     requires shallow { site.open_loops + 2 < 64 }
     ensures body { IfOk result (λ e. let z = plain_nest nest.now in plain_body e.statements.items ≡ work_body (plain_host host.now) z z.work site.open_loops site.powers site.table site.source site.target) }
-    ensures registers { IfOk result (λ e. let z = plain_nest nest.now in e.registers ≡ nest_registers (plain_host host.now) z z.work) }
+    ensures registers { IfOk result (λ e. let z = plain_nest nest.now in e.registers ≡ nest_registers host.now.modulus z z.work) }
 {
     match &nest.work {
         Work::Kernel(trees) => {
-            let made = trees_kernel(alloc, &host.modulus, host.lanes, trees)?;
+            let made = trees_kernel(alloc, &host.modulus, trees)?;
             let statements = statements_of_kernel(alloc, nest, &made, site)?;
             let registers = registers_with(&nest.multiplier, made.regs, made.inputs);
             Ok(Emitted {

@@ -113,7 +113,7 @@ module _ (c : PlainMachine) (words : ℕ) (enough : c.size ≤ words) (owner : �
 
     pub pass-keeps : All (Keeps q) (pass_acts c p (array_start words source) (array_start words target) q)
     pass-keeps =
-        every (Keeps q) (keeps-free q) c known.runs.modulus (array_start words source) (array_start words target) q p
+        every (Keeps q) (keeps-free q) c (array_start words source) (array_start words target) q p
         (λ z one vs k r range below lane on. loads-keep z one vs k lane (of_code c z (nest-can c p known.runs z one).framed vs range) below on)
         (λ z one vs k r range below lane on. stores-keep z one vs k lane (of_code c z (nest-can c p known.runs z one).framed vs range) below on)
 

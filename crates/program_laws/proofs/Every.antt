@@ -1,5 +1,5 @@
 -- What holds of all actions of a pass on a processor.
-use Rattle.std.proofs.Common.{ℕ, zero, suc, ◌+◌, ◌-◌, ◌*◌, ◌<◌, ◌≤◌, arith, List, [], ◌∷◌, ◌++◌, sym, subst, append-nil, append_assoc, Contains}
+use Rattle.std.proofs.Common.{ℕ, zero, suc, ◌+◌, ◌-◌, ◌*◌, ◌<◌, arith, List, [], ◌∷◌, ◌++◌, sym, subst, append-nil, append_assoc, Contains}
 use Rattle.std.specs.Prelude.{slice_index, Option, Some, None, All}
 use Rattle.std.proofs.lemmas.List.Elements.{All-nil, All-cons, All-append}
 use Rattle.icode.proofs.Lines.{Contains-head, Contains-tail}
@@ -7,14 +7,15 @@ use Rattle.icode.specs.Actions.{lane_factors}
 use Rattle.icode.specs.declared.action.Action.{Action}
 use Rattle.icode.specs.declared.action.Action.TheVariants.{Load, Store, Zero, Add, Sub, Neg, Mul, Tile}
 use Rattle.code_laws.specs.Nests.{bodies, nest, loads, AreInRange}
+use Rattle.kernel_gen.specs.Instructions.{action_by, actions_by}
 use Rattle.kernel_gen.specs.Kernel.{trees_kernel}
 use Rattle.kernel_gen.specs.Making.{Made}
-use Rattle.operators.specs.Sum.{list_below}
+use Rattle.kernel_gen.specs.declared.straight.Instruction.{Instruction}
+use Rattle.kernel_gen.specs.declared.straight.Instruction.TheVariants as instructions
 use Rattle.ring_mod.specs.Residue.{power_mod}
 use Rattle.pass_actions.specs.Acts.{load_at, store_at, factors_at, finish_acts, made_acts, tile_acts, rows_acts, items_acts, term_acts, horner_acts, copy_acts, nest_acts, pass_acts}
 use Rattle.pass_actions.specs.Machine.{PlainMachine, loop_counts}
 use Rattle.pass_actions.proofs.Fillings.{working}
-use Rattle.pass_actions.proofs.KernelActions.{AreOperations, trees-operates}
 use Rattle.pass_actions.proofs.Rows.{row_acts}
 use Rattle.passes.specs.Nest.{PlainMultiplier, PlainNest}
 use Rattle.passes.specs.Work.{PlainWork, kernel, rows, horner, tile, copy, vectors_of}
@@ -46,16 +47,15 @@ module _ (P : Action → Type 0) (free : IsFree P) where
       in-bodies count (λ v. nest counts body (outer ++ v ∷ [])) (λ v below.
       in-nest counts body (outer ++ v ∷ []) (λ vs range. subst (λ us. All P (body us)) (sym (append_assoc outer (v ∷ []) vs)) (each (v ∷ vs) (below, range))))
 
-  in-operations : (m : ℕ) (actions : List Action) → AreOperations m actions → All P actions
-  in-operations m [] h = All-nil P
-  in-operations m (Load r address ∷ actions) h = absurd h.0
-  in-operations m (Store address r ∷ actions) h = absurd h.0
-  in-operations m (Zero r ∷ actions) h = absurd h.0
-  in-operations m (Tile r x ∷ actions) h = absurd h.0
-  in-operations m (Add r x y ∷ actions) h = cons (Add r x y) actions (free.add_has r x y) (in-operations m actions h.1)
-  in-operations m (Sub r x y ∷ actions) h = cons (Sub r x y) actions (free.sub_has r x y) (in-operations m actions h.1)
-  in-operations m (Neg r x ∷ actions) h = cons (Neg r x) actions (free.neg_has r x) (in-operations m actions h.1)
-  in-operations m (Mul r x factors ∷ actions) h = cons (Mul r x factors) actions (free.mul_has r x factors) (in-operations m actions h.1)
+  action-has : (lanes : ℕ) (i : Instruction) → P (action_by lanes i)
+  action-has lanes (instructions.Add r x y) = free.add_has r x y
+  action-has lanes (instructions.Sub r x y) = free.sub_has r x y
+  action-has lanes (instructions.Neg r x) = free.neg_has r x
+  action-has lanes (instructions.Mul r x factor) = free.mul_has r x (lane_factors lanes (λ _. factor))
+
+  in-code : (lanes : ℕ) (code : List Instruction) → All P (actions_by lanes code)
+  in-code lanes [] = All-nil P
+  in-code lanes (i ∷ code) = cons (action_by lanes i) (actions_by lanes code) (action-has lanes i) (in-code lanes code)
 
   module _ (c : PlainMachine) (p : PlainNest) (source target q : ℕ) where
     in-finish : (o : Option PlainMultiplier) (vs : List ℕ) (k from other : ℕ) → ((r : ℕ) → P (Store (target + store_at c p q vs k) r)) → All P (finish_acts c p o target q vs k from other)
@@ -68,11 +68,12 @@ module _ (P : Action → Type 0) (free : IsFree P) where
       in-loads : All P (loads n (λ k. source + load_at c p q vs k))
       in-loads = in-bodies n (λ k. Load k (source + load_at c p q vs k) ∷ []) (λ k below. cons (Load k (source + load_at c p q vs k)) [] (load k k below) (All-nil P))
 
-      in-made : (made : Made) (m : ℕ) → AreOperations m made.acts → All P (made_acts c p n made source target q vs)
-      in-made made m operates =
+      in-made : (made : Made) → All P (made_acts c p n made source target q vs)
+      in-made made =
+          let acts : List Action = actions_by c.lanes made.code in
           let ends : ℕ → List Action = λ k. finish_acts c p p.multiplier target q vs k (slice_index made.outs k) (made.next + k) in
-          joins (loads n (λ k. source + load_at c p q vs k)) (made.acts ++ bodies n ends) in-loads
-          (joins made.acts (bodies n ends) (in-operations m made.acts operates)
+          joins (loads n (λ k. source + load_at c p q vs k)) (acts ++ bodies n ends) in-loads
+          (joins acts (bodies n ends) (in-code c.lanes made.code)
           (in-bodies n ends (λ k below. in-finish p.multiplier vs k (slice_index made.outs k) (made.next + k) (λ r. store k r below))))
 
       in-tile : All P (tile_acts c p n source target q vs)
@@ -105,7 +106,7 @@ module _ (P : Action → Type 0) (free : IsFree P) where
           in-bodies n (λ k. Load 0 (source + load_at c p q vs k) ∷ finish_acts c p p.multiplier target q vs k 0 1) (λ k below.
           cons (Load 0 (source + load_at c p q vs k)) (finish_acts c p p.multiplier target q vs k 0 1) (load k 0 below) (in-finish p.multiplier vs k 0 1 (λ r. store k r below)))
 
-  module _ (c : PlainMachine) (large : 2 ≤ c.modulus) (source target q : ℕ) where
+  module _ (c : PlainMachine) (source target q : ℕ) where
     -- what is loaded and stored at the values of the loops
     abbrev pub LoadsHave : PlainNest → Type 0
     LoadsHave p = (vs : List ℕ) (k r : ℕ) → AreInRange (loop_counts c p) vs → k < vectors_of p.work → P (Load r (source + load_at c p q vs k))
@@ -115,8 +116,7 @@ module _ (P : Action → Type 0) (free : IsFree P) where
 
     in-copy : (p : PlainNest) (w : PlainWork) → LoadsHave (working p w) → StoresHave (working p w) → (vs : List ℕ) → AreInRange (loop_counts c (working p w)) vs → All P (copy_acts c (working p w) w source target q vs)
     in-copy p (kernel trees) load store vs range =
-        in-made c (working p (kernel trees)) source target q vs (trees_size trees) (λ k r below. load vs k r range below) (λ k r below. store vs k r range below) (trees_kernel c.modulus c.lanes trees) c.modulus
-        (trees-operates c.modulus c.lanes large trees (list_below (trees_size trees) (λ k. k)) (trees_size trees))
+        in-made c (working p (kernel trees)) source target q vs (trees_size trees) (λ k r below. load vs k r range below) (λ k r below. store vs k r range below) (trees_kernel c.modulus trees)
     in-copy p (rows root n) load store vs range =
         let z : PlainNest = working p (rows root n) in
         in-rows c z source target q vs n (λ k r below. load vs k r range below) (λ k r below. store vs k r range below) (term_acts c z root source q vs)

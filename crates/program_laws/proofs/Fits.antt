@@ -85,7 +85,7 @@ module _ (c : PlainMachine) (words : ℕ) where
       let from = array_start words source in
       let target = target_of t (after + length ps) in
       All-append (IsFit regs c.lanes c.modulus) (pass_acts c p from (array_start words target) q) (passes_acts c words after ps (suc t) target q)
-      (all-wider (pass_registers c p) regs c.lanes c.modulus (pass_acts c p from (array_start words target) q) (omega (arith, le)) ((runs-of c p known.0).fit from (array_start words target) q low))
+      (all-wider (pass_registers c.modulus p) regs c.lanes c.modulus (pass_acts c p from (array_start words target) q) (omega (arith, le)) ((runs-of c p known.0).fit from (array_start words target) q low))
       (parts-fit regs after ps (suc t) target q low known.1 (omega (arith, le)))
 
   -- the actions of all processors together are not too many

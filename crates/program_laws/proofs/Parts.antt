@@ -60,7 +60,7 @@ module _ (c : PlainMachine) (p : Pass) (known : CanWritePass c p) (q : ℕ) (low
 
   pass-stays : (source target : ℕ) → All (Stays c.size c.lanes source target) (pass_acts c p source target q)
   pass-stays source target =
-      every (Stays c.size c.lanes source target) (stays-free c.size c.lanes source target) c known.runs.modulus source target q p
+      every (Stays c.size c.lanes source target) (stays-free c.size c.lanes source target) c source target q p
       (λ z one vs k r range below. let inside = loads-inside z one vs k (of_code c z (nest-can c p known.runs z one).framed vs range) below in (omega arith, omega (arith, inside)))
       (λ z one vs k r range below. let inside = stores-inside z one vs k (of_code c z (nest-can c p known.runs z one).framed vs range) below in (omega arith, omega (arith, inside)))
 

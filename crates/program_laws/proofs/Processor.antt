@@ -90,7 +90,7 @@ module _ (c : PlainMachine) (words : ℕ) (enough : c.size ≤ words) (owner : �
         record {
           registers =
               let most = h.registers in
-              let first : pass_registers c p * c.lanes ≤ max (pass_registers c p) (most_of c ps) * c.lanes = mul-le-mul_right c.lanes (le-max_left (pass_registers c p) (most_of c ps)) in
+              let first : pass_registers c.modulus p * c.lanes ≤ max (pass_registers c.modulus p) (most_of c ps) * c.lanes = mul-le-mul_right c.lanes (le-max_left (pass_registers c.modulus p) (most_of c ps)) in
               omega arith;
           sources = let all = h.memory in let room = inside-memory words source in omega arith;
           targets = let all = h.memory in let room = inside-memory words target in omega arith;
@@ -173,7 +173,7 @@ module _ (c : PlainMachine) (words : ℕ) (enough : c.size ≤ words) (owner : �
           registers =
               let same = length-registers c.modulus c.lanes (pass_acts c p from to q) s in
               let most = h.registers in
-              let rest : most_of c ps * c.lanes ≤ max (pass_registers c p) (most_of c ps) * c.lanes = mul-le-mul_right c.lanes (le-max_right (pass_registers c p) (most_of c ps)) in
+              let rest : most_of c ps * c.lanes ≤ max (pass_registers c.modulus p) (most_of c ps) * c.lanes = mul-le-mul_right c.lanes (le-max_right (pass_registers c.modulus p) (most_of c ps)) in
               omega arith;
           held = λ i below may. own-stored i below (written-read i may);
           residues = made-residues c p known.runs x;

@@ -14,7 +14,7 @@ use Rattle.pass_actions.specs.Machine.{PlainMachine}
 use Rattle.pass_programs.specs.Program.{tables_through, tables_of_phases}
 use Rattle.pass_programs.specs.Statements.{with_diagonal, with_table, is_table, one_factor, tables_after, tables_of_nest, tables_of_work, tables_of_multiplier, powers_of, diagonal_of}
 use Rattle.pass_actions.proofs.Copies.{nest-can}
-use Rattle.pass_actions.proofs.KernelActions.{power_below}
+use Rattle.kernel_gen.proofs.Residues.{power_below}
 use Rattle.passes.specs.Nest.{PlainMultiplier, PlainNest, factor_at, factor_count}
 use Rattle.passes.specs.Work.{PlainWork, kernel, rows, horner, tile, copy}
 use Rattle.program_laws.proofs.Known.{Pass, AllKnown, PhasesKnown}

@@ -30,7 +30,7 @@ pub record IsPlainNest (n m : ℕ) (z : PlainNest) : Type 0 where
 pub record IsPlainPass (n m : ℕ) (zs : List PlainNest) : Type 0 where
   pub nests : All (IsPlainNest n m) zs
   pub once : StoreOnce n (map (copies_of m) zs)
-  pub few : pass_registers (plain_machine n m) zs < 2 ^ 20
+  pub few : pass_registers m zs < 2 ^ 20
 
 -- some passes of which a program can be made
 pub record ArePlainPasses (n m : ℕ) (ps : List (List PlainNest)) : Type 0 where

@@ -74,7 +74,7 @@ KeepsWork f = (z : PlainNest) → (f z).work ≡ z.work
 -- passes of which the last can take a diagonal: they are few, and each of them is one nest
 pub record AreSmall (c : Request) (ps : List (List PlainNest)) : Type 0 where
   pub free : LastHas IsFree ps
-  pub registers : (f : PlainNest → PlainNest) → KeepsWork f → LastHas (λ zs. pass_registers (machine_of c) (map f zs) < 2 ^ 20) ps
+  pub registers : (f : PlainNest → PlainNest) → KeepsWork f → LastHas (λ zs. pass_registers c.modulus (map f zs) < 2 ^ 20) ps
   pub nests : sum_by length ps ≤ 22
   pub actions : most_actions (machine_of c) ps ≤ 2 ^ 44 * 22
 
@@ -99,12 +99,12 @@ module _ (c : Request) where
 
   module _ (valid : IsValid c) where
     registers-last : (f : PlainNest → PlainNest) → KeepsWork f → (ps : List PlainPass) → AllKnown c ps → 0 < length ps →
-        LastHas (λ zs. pass_registers (machine_of c) (map f zs) < 2 ^ 20) (nests_in c ps)
+        LastHas (λ zs. pass_registers c.modulus (map f zs) < 2 ^ 20) (nests_in c ps)
     registers-last f keeps [] known some = absurd (omega arith)
     registers-last f keeps (p ∷ []) known some =
         let z = nest_of (loop_of c p) in
-        let few : nest_registers (machine_of c) (f z) (f z).work < 2 ^ 20 =
-        subst (λ w. nest_registers (machine_of c) (f z) w < 2 ^ 20) (sym (keeps z)) (few-registers c p valid known.0 (f z)) in
+        let few : nest_registers c.modulus (f z) (f z).work < 2 ^ 20 =
+        subst (λ w. nest_registers c.modulus (f z) w < 2 ^ 20) (sym (keeps z)) (few-registers c p valid known.0 (f z)) in
         omega (arith, few)
     registers-last f keeps (p ∷ q ∷ ps) known some = registers-last f keeps (q ∷ ps) known.1 (omega arith)
 

@@ -1,5 +1,4 @@
 pub mod Within
-pub mod Registers
 pub mod Tiles
 pub mod Shallow
 pub mod Actions

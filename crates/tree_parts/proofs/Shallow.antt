@@ -19,8 +19,8 @@ use Rattle.perm_algebra.specs.Room.{HasCounts}
 use Rattle.perm_algebra.proofs.Counted.{counts-simplified}
 use Rattle.shared_tensors.specs.Laws.{AreCounted, HavePlacesCounts, IsShallow}
 use Rattle.tensor_paths.specs.Path.{count_of, size_under}
-use Rattle.term_merge.specs.Known.{AreReady}
-use Rattle.term_merge.proofs.Readies.{ready-in, ready-out, ready-places}
+use Rattle.loop_nests.specs.Ready.{AreReady}
+use Rattle.loop_nests.proofs.Readies.{ready-in, ready-out, ready-places}
 use Rattle.tree_passes.proofs.Known.{AllKnown}
 use Rattle.tree_passes.proofs.Loops.{path-weight, weight-small}
 use Rattle.tree_passes.proofs.Owned.{nests_in}

@@ -1,5 +1,5 @@
 -- The merged passes of every tree are a part.
-use Rattle.std.proofs.Common.{◌≡◌, ℕ, ◌+◌, ◌*◌, ◌^◌, ◌<◌, ◌≤◌, arith, sym, ap, ◌∙◌, subst, List, All, length}
+use Rattle.std.proofs.Common.{◌≡◌, ℕ, ◌+◌, ◌*◌, ◌≤◌, arith, sym, ap, ◌∙◌, subst, List, All, length}
 use Rattle.std.specs.Prelude.{sum_by}
 use Rattle.formula_lower.specs.Merged.{tree_merged}
 use Rattle.loop_merge.specs.Merge.{merged_of, merged_phases}
@@ -11,8 +11,7 @@ use Rattle.pass_actions.specs.Machine.{PlainMachine, plain_machine}
 use Rattle.pass_programs.specs.Contract.{CanProgram, most_actions}
 use Rattle.passes.specs.Limits.{AreWithin}
 use Rattle.passes.specs.Nest.{PlainNest}
-use Rattle.pass_actions.specs.Acts.{pass_registers}
-use Rattle.shared_tensors.specs.Laws.{HasNoTile, IsPart, IsShallow, plain_lanes}
+use Rattle.shared_tensors.specs.Laws.{HasNoTile, IsPart, IsShallow}
 use Rattle.tree_model.specs.Admissible.{IsAdmissible}
 use Rattle.tree_model.specs.Breakdown.{Breakdown}
 use Rattle.tree_passes.specs.Laws.{machine_of}
@@ -20,7 +19,6 @@ use Rattle.tree_passes.proofs.Known.{AllKnown, tree-known}
 use Rattle.tree_passes.proofs.TreesCanProgram.{passes-are, trees_can_program}
 use Rattle.tree_parts.specs.Parts.{IsForPart, TreesAreParts}
 use Rattle.tree_parts.proofs.Actions.{actions-few, nests-few, passes-below}
-use Rattle.tree_parts.proofs.Registers.{few-in-passes}
 use Rattle.tree_parts.proofs.Shallow.{passes-shallow}
 use Rattle.tree_parts.proofs.Tiles.{no-tiles}
 use Rattle.tree_parts.proofs.Within.{passes-within}
@@ -44,7 +42,6 @@ nests-are-part c t room h admissible enough high =
       within = subst (AreWithin room c.size) passes (passes-within room c (merged_of c t) (tree_loops room c t (omega (arith, enough)) h.valid admissible));
       shallow = subst (All (All (IsShallow room))) passes (passes-shallow room c (merged_of c t) enough h.valid known);
       no_tiles = subst (All (All HasNoTile)) passes (no-tiles c t h.valid admissible h.lanes);
-      registers = λ v few. subst (All (λ zs. pass_registers (plain_lanes c.size c.modulus v) zs < 2 ^ 20)) passes (few-in-passes c v (merged_of c t) h.valid known);
       actions = subst (λ (ps : List (List PlainNest)). most_actions machine ps + 4000 * c.size ≤ 4000 * (c.size * c.size)) passes (actions-few c t h.valid admissible h.two known);
       nests = subst (λ (ps : List (List PlainNest)). sum_by length ps + 2 ≤ 2 * c.size) passes (nests-few c (merged_of c t) (passes-below c t h.valid admissible h.lanes h.two));
     }

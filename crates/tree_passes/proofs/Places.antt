@@ -1,7 +1,8 @@
 -- The places of a pass's nest are the pass's, and the lanes of its registers stand side by side.
-use Rattle.std.proofs.Common.{◌≡◌, ℕ, ◌+◌, ◌*◌, ◌<◌, List, [], ◌∷◌, ◌++◌, length, map, refl, sym, ap, ap₂, ◌∙◌, arith, subst, Option, Some, None, mod-lt}
+use Rattle.std.proofs.Common.{◌≡◌, ℕ, ◌+◌, ◌*◌, ◌<◌, List, [], ◌∷◌, ◌++◌, length, map, refl, sym, ap, ap₂, ◌∙◌, arith, subst, Option, Some, None}
 use Rattle.std.specs.Option.{option_map}
 use Rattle.index_fn.specs.Mapping.{Mapping, at}
+use Rattle.kernel_gen.proofs.Residues.{power_below}
 use Rattle.loop_merge.specs.Items as shared
 use Rattle.loop_merge.specs.Merge.{diagonal_place}
 use Rattle.loop_merge.specs.Merge.{PlainDiagonal, PlainPass, through, gather_place, scatter_place}
@@ -22,8 +23,6 @@ use Rattle.passes.specs.Work as works
 use Rattle.passes.specs.Work.{vectors_of}
 use Rattle.passes.proofs.Natural.{looped, ranged}
 use Rattle.passes.proofs.Listed.{loops_have_places}
-use Rattle.ring_mod.specs.Residue.{power_mod}
-use Rattle.ring_mod.proofs.Powers.{power_mod-mod}
 use Rattle.shared_passes.specs.Shared.{IsFramed}
 use Rattle.sigma_lower.specs.Work.{work_size}
 use Rattle.tensor_paths.specs.Path.{count_of, place, AreInRange}
@@ -148,9 +147,6 @@ module _ (c : Request) (p : PlainPass) (good : IsGoodLoop c.lanes (loop_of c p))
       let value : store_place w m.places vs k ≡ diagonal_place p d vs k = ap (λ (n : PlainMultiplier). store_place w n.places vs k) t.same ∙ factor-is vs k inner item d t.is in
       let count : factor_count m.factors ≡ d.rows * d.cols = ap (λ (n : PlainMultiplier). factor_count n.factors) t.same in
       omega (arith, inside, value, count)
-
-power_below : (m w e : ℕ) → 0 < m → power_mod m w e < m
-power_below m w e some = subst (λ z. z < m) (power_mod-mod m w e) (mod-lt (power_mod m w e) some)
 
 pub residues-of : (c : Request) (p : PlainPass) → 0 < c.modulus → HasResidues (machine_of c) (nest_of (loop_of c p))
 residues-of c p some m is i =

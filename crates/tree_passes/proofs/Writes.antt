@@ -6,13 +6,9 @@ use Rattle.std.proofs.lemmas.List.Elements.{All-nil, All-cons, All-weaker}
 use Rattle.std.specs.List.{list_all}
 use Rattle.std.specs.Option.{option_map}
 use Rattle.index_fn.specs.Mapping.{Mapping}
-use Rattle.code_laws.specs.Lanes.{operations}
-use Rattle.code_laws.proofs.ByLane.{weight_of_one}
 use Rattle.kernel_gen.proofs.KernelSizes.{cost-le}
 use Rattle.kernel_gen.specs.Kernel.{kernel_cost, kernel_of}
-use Rattle.kernel_gen.proofs.Kernels.{firsts, kernel-does}
 use Rattle.kernel_gen.proofs.NodeCosts.{kernel-short}
-use Rattle.kernel_gen.proofs.Pieces.{DoesAt}
 use Rattle.kernel_gen.proofs.RequestNodes.{any-root}
 use Rattle.loop_merge.specs.Merge.{PlainDiagonal, PlainPass, through}
 use Rattle.loop_merge.specs.Nests.{loop_work, loop_of, taken_of}
@@ -22,8 +18,8 @@ use Rattle.loop_merge.proofs.PlaceValues.{IsFormedPass, value-at_place}
 use Rattle.loop_merge.proofs.Shaped.{IsShaped}
 use Rattle.matrix_meaning.specs.declared.Kind.TheVariants.{Dft}
 use Rattle.matrix_meaning.specs.declared.Request.{Request}
-use Rattle.matrix_meaning.specs.Kind.{transform}
 use Rattle.matrix_meaning.specs.Valid.{IsValid}
+use Rattle.pass_actions.proofs.KernelActions.{trees-registers}
 use Rattle.pass_actions.specs.Acts.{nest_registers, with_multiplier}
 use Rattle.pass_actions.specs.Laws.{CanRun, CanRunNest}
 use Rattle.pass_actions.specs.Machine.{PlainMachine, frame_of, first_loop, loop_counts}
@@ -246,28 +242,25 @@ module _ (c : Request) (p : PlainPass) (valid : IsValid c) (known : IsKnown c p)
   -- ---- registers
 
   -- whatever multiplies its items
-  pub few-registers : (y : PlainNest) → nest_registers h y w < 2 ^ 20
-  few-registers y = by-work c p valid known.shaped known.framed (λ v. nest_registers h y v < 2 ^ 20) kernels long tiles
+  pub few-registers : (y : PlainNest) → nest_registers h.modulus y w < 2 ^ 20
+  few-registers y = by-work c p valid known.shaped known.framed (λ v. nest_registers h.modulus y v < 2 ^ 20) kernels long tiles
     where
-      kernels : (t : Breakdown) → p.work ≡ transforming t → is_kernel c (size_of t) ≡ true → nest_registers h y (kernel (single c.kind (node_root c (size_of t)) t)) < 2 ^ 20
+      kernels : (t : Breakdown) → p.work ≡ transforming t → is_kernel c (size_of t) ≡ true → nest_registers h.modulus y (kernel (single c.kind (node_root c (size_of t)) t)) < 2 ^ 20
       kernels t is e =
           let n = size_of t in
           let root = node_root c n in
           let node = node-of c p valid known.shaped known.framed t is in
-          let made = kernel_of c.modulus c.lanes c.kind t root in
+          let made = kernel_of c.modulus c.kind t root in
           let small : n ≤ 64 = short-size n c.unroll (kernel-short c n e) valid.in_range.unroll.1 in
           let price : kernel_cost 1 c.modulus c.kind t root + n ≤ 8192 = small_kernel n (kernel_cost 1 c.modulus c.kind t root) small (cost-le c.modulus c.kind t root node.formed) in
-          let does : DoesAt c.modulus c.lanes 0 1 n (kernel_cost 1 c.modulus c.kind t root) (firsts n) n made (transform c.kind c.modulus n root) =
-          kernel-does c.modulus c.lanes 0 1 c.kind t root valid.in_range.modulus.0 some-lanes node.formed (any-root c t valid node.divides) in
-          let next : made.next ≡ n + operations made.acts = does.next_is in
-          let counted : operations made.acts ≡ kernel_cost 1 c.modulus c.kind t root = sym (weight_of_one made.acts) ∙ does.costs in
+          let next = trees-registers c.modulus (single c.kind root t) valid.in_range.modulus.0 (node.formed, any-root c t valid node.divides) in
           let used = with-le y.multiplier made.next n in
-          omega (arith, used, next, counted, price, small)
+          omega (arith, used, next, price, small)
 
-      long : (t : Breakdown) → p.work ≡ transforming t → is_kernel c (size_of t) ≡ false → c.kind ≡ Dft → nest_registers h y (rows (node_root c (size_of t)) (size_of t)) < 2 ^ 20
+      long : (t : Breakdown) → p.work ≡ transforming t → is_kernel c (size_of t) ≡ false → c.kind ≡ Dft → nest_registers h.modulus y (rows (node_root c (size_of t)) (size_of t)) < 2 ^ 20
       long t is e kind = let used = with-le y.multiplier 3 1 in omega (arith, used)
 
-      tiles : (v : ℕ) → p.work ≡ tiling v → nest_registers h y (tile v) < 2 ^ 20
+      tiles : (v : ℕ) → p.work ≡ tiling v → nest_registers h.modulus y (tile v) < 2 ^ 20
       tiles v is =
           let used = with-le y.multiplier (v + v) v in
           let lanes : v ≡ c.lanes = subst (HasLanes c) is known.framed.lanes in
@@ -280,5 +273,5 @@ module _ (c : Request) (p : PlainPass) (valid : IsValid c) (known : IsKnown c p)
         line = let line = valid.in_range.line.0 in omega (arith, line);
         runs = runs;
         nests = All-cons (CanWriteNest h) z [] writes-nest (All-nil (CanWriteNest h));
-        few = max-less (nest_registers h z w) (2 ^ 20) (few-registers z);
+        few = max-less (nest_registers h.modulus z w) (2 ^ 20) (few-registers z);
       }

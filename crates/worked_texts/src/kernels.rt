@@ -1,8 +1,7 @@
-// Kernels: their actions, the registers of their outputs, and how many registers they use.
+// Kernels: their code, the registers of their outputs, and how many registers they use.
 
 use crate::contexts::{context, tree_of};
-use icode::action::Action;
-use kernel_gen::{Kernel, kernel};
+use kernel_gen::{Instruction, Kernel, kernel};
 use std::alloc::{AllocError, Global};
 use std::fmt::Write;
 use std::test::Fail;
@@ -15,32 +14,31 @@ dft 2 mod 15 root 4; leaf 2|add 2 0 1, mul 3 1 4, add 4 0 3, outputs 2 4, regist
 dft 4 mod 17 root 4; ct 2 2|add 4 0 2, sub 5 0 2, add 6 1 3, sub 7 1 3, mul 8 7 4, add 9 4 6, sub 10 4 6, add 11 5 8, sub 12 5 8, outputs 9 11 10 12, registers 13
 ";
 
-// The action by its word and numbers, on one lane.
-fn write_action(text: &mut String, action: &Action) -> Result<(), AllocError> {
-    match *action {
-        Action::Add {
+// The instruction by its word and numbers.
+fn write_instruction(text: &mut String, instruction: &Instruction) -> Result<(), AllocError> {
+    match *instruction {
+        Instruction::Add {
             register,
             left,
             right,
         } => write!(text, "add {register} {left} {right}, "),
-        Action::Sub {
+        Instruction::Sub {
             register,
             left,
             right,
         } => write!(text, "sub {register} {left} {right}, "),
-        Action::Neg { register, source } => write!(text, "neg {register} {source}, "),
-        Action::Mul {
+        Instruction::Neg { register, source } => write!(text, "neg {register} {source}, "),
+        Instruction::Mul {
             register,
             source,
-            factors,
-        } => write!(text, "mul {register} {source} {}, ", factors[0]),
-        _ => write!(text, "another, "),
+            factor,
+        } => write!(text, "mul {register} {source} {factor}, "),
     }
 }
 
 fn write_kernel(text: &mut String, made: &Kernel) -> Result<(), AllocError> {
-    for action in &made.actions {
-        write_action(text, action)?;
+    for instruction in &made.code {
+        write_instruction(text, instruction)?;
     }
     write!(text, "outputs")?;
     for output in &made.outputs {

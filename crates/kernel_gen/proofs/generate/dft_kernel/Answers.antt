@@ -11,18 +11,18 @@ returns-clause-transforms c =
     let m = c.args.m.now in
     let d = c.args.d in
     subst (λ (made : Made). TransformsBy m 1 Dft d c.args.w made) (sym c.in_ok-made.ensures.code)
-    (λ regs s room wide. kernels_transform m 1 regs Dft (leaf d) c.args.w s c.get-modulus.ensures.at_least_two (omega arith) c.requires.0 tt room wide)
+    (kernels_transform m 1 Dft (leaf d) c.args.w c.get-modulus.ensures.at_least_two c.requires.0 tt)
 
 pub returns-clause-cost : goal.returns-clause-cost
 returns-clause-cost c =
     let m = c.args.m.now in
     let d = c.args.d in
     subst (λ (made : Made). CostsDefinition m d c.args.w made) (sym c.in_ok-made.ensures.code)
-    (λ weight counted. kernels_cost weight m 1 Dft (leaf d) c.args.w counted c.get-modulus.ensures.at_least_two (omega arith) c.requires.0 tt ∙ omega arith)
+    (λ weight counted. kernels_cost weight m 1 Dft (leaf d) c.args.w counted c.get-modulus.ensures.at_least_two c.requires.0 tt ∙ omega arith)
 
 pub returns-clause-straight : goal.returns-clause-straight
 returns-clause-straight c =
     let m = c.args.m.now in
     let d = c.args.d in
-    subst (λ (made : Made). IsStraight 1 d made) (sym c.in_ok-made.ensures.code)
-    (kernels_straight m 1 Dft (leaf d) c.args.w c.get-modulus.ensures.at_least_two (omega arith) c.requires.0 tt)
+    subst (λ (made : Made). IsStraight m d made) (sym c.in_ok-made.ensures.code)
+    (kernels_straight m Dft (leaf d) c.args.w c.get-modulus.ensures.at_least_two c.requires.0 tt)

@@ -34,5 +34,5 @@ returns-clause-cost c =
 pub returns-clause-straight : goal.returns-clause-straight
 returns-clause-straight c =
     let t = breakdown_of c.args.t.now in
-    subst (λ (made : Made). IsStraight c.args.c.now.lanes c.in_ok-made.made.inputs made) (sym (returns-clause-code c))
-    (subst (λ inputs. IsStraight c.args.c.now.lanes inputs (node_kernel c.args.c.now t)) (sym c.in_ok-made.ensures.inputs) (nodes_straight c.args.c.now t c.request-request.ensures.valid c.requires.tree c.requires.divides))
+    subst (λ (made : Made). IsStraight c.args.c.now.modulus c.in_ok-made.made.inputs made) (sym (returns-clause-code c))
+    (subst (λ inputs. IsStraight c.args.c.now.modulus inputs (node_kernel c.args.c.now t)) (sym c.in_ok-made.ensures.inputs) (nodes_straight c.args.c.now t c.request-request.ensures.valid c.requires.tree c.requires.divides))

@@ -4,8 +4,8 @@ use Rattle.pass_programs.specs.Statements.{followed_by}
 use Rattle.program_emit.proofs.PlainRules.{straight-take}
 use Rattle.program_emit.proofs.kernel_statements.straight.Goals as goal
 
-pub loop-action-preserved : goal.loop-action-preserved
-loop-action-preserved c =
+pub loop-instruction-preserved : goal.loop-instruction-preserved
+loop-instruction-preserved c =
     c.in_ok-put_op.ensures
-    ∙ ap₂ (λ (b : PlainBody) (o : PlainOp). followed_by b (AndStmts (Do o) NoStmts)) c.loop-action.invariant c.operation.ensures
-    ∙ sym (straight-take c.args.actions.now c.loop-action.action-index _ (omega arith))
+    ∙ ap₂ (λ (b : PlainBody) (o : PlainOp). followed_by b (AndStmts (Do o) NoStmts)) c.loop-instruction.invariant c.op.ensures
+    ∙ sym (straight-take c.args.code.now c.loop-instruction.instruction-index _ (omega arith))

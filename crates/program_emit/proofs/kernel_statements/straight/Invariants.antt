@@ -3,6 +3,6 @@ use Rattle.icode.specs.Plain.{plain_body}
 use Rattle.pass_programs.specs.Statements.{straight_body}
 use Rattle.program_emit.proofs.kernel_statements.straight.Given as goal
 
--- the statements of the actions so far
-abbrev pub invariant-loop-action : goal.invariant-loop-action
-invariant-loop-action l = plain_body l.body.items ≡ straight_body (take l.action-index l.actions)
+-- the statements of the code so far
+abbrev pub invariant-loop-instruction : goal.invariant-loop-instruction
+invariant-loop-instruction l = plain_body l.body.items ≡ straight_body (take l.instruction-index l.code)

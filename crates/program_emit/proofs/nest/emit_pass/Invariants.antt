@@ -14,4 +14,4 @@ invariant-loop-nest l =
     let tables = plain_tables l.fn.tables.items in
     (plain_body l.statements.items ≡ pass_body h zs tables l.source l.target)
     × (plain_tables l.tables.items ≡ tables_after h.modulus zs tables)
-    × (l.registers ≡ pass_registers h zs)
+    × (l.registers ≡ pass_registers h.modulus zs)

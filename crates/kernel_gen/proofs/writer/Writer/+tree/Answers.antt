@@ -6,34 +6,32 @@ use Rattle.tree_model.specs.Breakdown.{breakdown_of, node, size_of}
 use Rattle.tree_model.specs.declared.tree.Rule.TheVariants.{Gt, Ct, Split}
 use Rattle.kernel_gen.specs.Making.{diagonal_make}
 use Rattle.kernel_gen.specs.Kernel.{twiddled_make, tree_make}
-use Rattle.kernel_gen.proofs.Writes.{wrote-row, wrote-then, wrote-lanes, wrote-diagonal}
+use Rattle.kernel_gen.proofs.Writes.{wrote-row, wrote-then, wrote-diagonal}
 use Rattle.kernel_gen.proofs.Parts.{wrote_ct, wrote_split, wrote_gt}
 use Rattle.kernel_gen.proofs.writer.Writer.+tree.Goals as goal
 
 pub put_rows-loop-i-preserved : goal.put_rows-loop-i-preserved
 put_rows-loop-i-preserved t c = (
-  wrote-row c.args.self.now c.loop-i.self c.put_tree.new.self (λ _. tree_make c.args.m.now c.args.self.now.lanes c.args.kind (breakdown_of c.args.t.now) c.args.root)
+  wrote-row c.args.self.now c.loop-i.self c.put_tree.new.self (λ _. tree_make c.args.m.now c.args.kind (breakdown_of c.args.t.now) c.args.root)
       c.loop-i.i c.args.s c.args.ins.now c.loop-i.outs.items _ c.in_ok-row.row.items _
       c.loop-i.invariant.0
       (between-block c.args.s c.loop-i.i c.args.ins.now _ _ refl refl (omega (arith, row_fits c.loop-i.i c.args.s c.args.r c.args.s (omega arith) (omega arith))))
-      (wrote-lanes c.loop-i.self c.put_tree.new.self c.args.self.now.lanes c.loop-i.self.lanes (λ n. tree_make c.args.m.now n c.args.kind (breakdown_of c.args.t.now) c.args.root) _ c.in_ok-row.row.items c.loop-i.invariant.0.code.lanes c.in_ok-row.ensures.code)
+      c.in_ok-row.ensures.code
       (c.in_ok-extend_from_slice.ensures.items ∙ ap (λ l. c.loop-i.outs.items ++ l) c.deref.ensures.value),
   omega (arith, c.loop-i.invariant.1, c.in_ok-extend_from_slice.ensures.len, c.in_ok-row.ensures.size, c.deref.ensures.len),
 )
 
 pub put_twiddled_rows-loop-i-preserved : goal.put_twiddled_rows-loop-i-preserved
 put_twiddled_rows-loop-i-preserved t c =
-    let tree = λ (lanes : ℕ). tree_make c.args.m.now lanes c.args.kind (breakdown_of c.args.t.now) c.args.root in
+    let tree = tree_make c.args.m.now c.args.kind (breakdown_of c.args.t.now) c.args.root in
     let factor = λ (k : ℕ). power_mod c.args.m.now c.args.twiddle (c.loop-i.i * k) in (
-      wrote-row c.args.self.now c.loop-i.self c.put_twiddles.new.self (twiddled_make c.args.m.now c.args.self.now.lanes c.args.s c.args.twiddle (tree c.args.self.now.lanes))
+      wrote-row c.args.self.now c.loop-i.self c.put_twiddles.new.self (twiddled_make c.args.m.now c.args.s c.args.twiddle tree)
           c.loop-i.i c.args.s c.args.ins.now c.loop-i.outs.items _ c.in_ok-row-2.row.items _
           c.loop-i.invariant.0
           (between-block c.args.s c.loop-i.i c.args.ins.now _ _ refl refl (omega (arith, row_fits c.loop-i.i c.args.s c.args.r c.args.s (omega arith) (omega arith))))
-          (wrote-then c.loop-i.self c.put_tree.new.self c.put_twiddles.new.self (tree c.args.self.now.lanes) (diagonal_make c.args.m.now c.args.self.now.lanes c.args.s factor) _ c.deref.result.now c.in_ok-row-2.row.items
-          (rw c.deref.ensures.value
-          (wrote-lanes c.loop-i.self c.put_tree.new.self c.args.self.now.lanes c.loop-i.self.lanes tree _ c.in_ok-row.row.items c.loop-i.invariant.0.code.lanes c.in_ok-row.ensures.code))
-          (wrote-diagonal c.put_tree.new.self c.put_twiddles.new.self c.args.m.now c.args.self.now.lanes c.args.s factor c.deref.result.now c.in_ok-row-2.row.items
-          (c.in_ok-row.ensures.code.code.lanes ∙ c.loop-i.invariant.0.code.lanes)
+          (wrote-then c.loop-i.self c.put_tree.new.self c.put_twiddles.new.self tree (diagonal_make c.args.m.now c.args.s factor) _ c.deref.result.now c.in_ok-row-2.row.items
+          (rw c.deref.ensures.value c.in_ok-row.ensures.code)
+          (wrote-diagonal c.put_tree.new.self c.put_twiddles.new.self c.args.m.now c.args.s factor c.deref.result.now c.in_ok-row-2.row.items
           (omega (arith, c.deref.ensures.len, c.in_ok-row.ensures.size))
           c.in_ok-row-2.ensures.code c.in_ok-row-2.ensures.outs))
           (c.in_ok-extend_from_slice.ensures.items ∙ ap (λ l. c.loop-i.outs.items ++ l) c.deref-in-loop-i.ensures.value),

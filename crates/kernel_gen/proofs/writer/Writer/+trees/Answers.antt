@@ -1,29 +1,28 @@
-use Rattle.std.proofs.Common.{ℕ, ◌++◌, arith, refl, sym, ap, ◌∙◌}
+use Rattle.std.proofs.Common.{◌++◌, arith, refl, sym, ap, ◌∙◌}
 use Rattle.std.proofs.lemmas.Nat.{row_fits}
 use Rattle.operators.proofs.Places.{between-block}
 use Rattle.kernel_gen.specs.Kernel.{trees_make}
 use Rattle.kernel_gen.proofs.Parts.{wrote_single, wrote_tensor}
-use Rattle.kernel_gen.proofs.Writes.{wrote-row, wrote-lanes}
+use Rattle.kernel_gen.proofs.Writes.{wrote-row}
 use Rattle.kernel_gen.proofs.writer.Writer.+trees.Goals as goal
 use Rattle.rooted_trees.specs.Trees.{plain_trees, tensor, trees_size}
 use Rattle.tree_model.specs.Breakdown.{breakdown_of}
 
 pub put_trees_in_rows-loop-i-preserved : goal.put_trees_in_rows-loop-i-preserved
-put_trees_in_rows-loop-i-preserved t c =
-    let make = λ (lanes : ℕ). trees_make c.args.m.now lanes (plain_trees c.args.trees.now) in (
-      wrote-row c.args.self.now c.loop-i.self c.put_trees.new.self (λ _. make c.args.self.now.lanes)
-          c.loop-i.i c.args.s c.args.ins.now c.loop-i.outs.items _ c.in_ok-row.row.items _
-          c.loop-i.invariant.0
-          (between-block c.args.s c.loop-i.i c.args.ins.now _ _ refl refl (omega (arith, row_fits c.loop-i.i c.args.s c.args.r c.args.s (omega arith) (omega arith))))
-          (wrote-lanes c.loop-i.self c.put_trees.new.self c.args.self.now.lanes c.loop-i.self.lanes make _ c.in_ok-row.row.items c.loop-i.invariant.0.code.lanes c.in_ok-row.ensures.code)
-          (c.in_ok-extend_from_slice.ensures.items ∙ ap (λ l. c.loop-i.outs.items ++ l) c.deref.ensures.value),
-      omega (arith, c.loop-i.invariant.1, c.in_ok-extend_from_slice.ensures.len, c.in_ok-row.ensures.size, c.deref.ensures.len),
-    )
+put_trees_in_rows-loop-i-preserved t c = (
+  wrote-row c.args.self.now c.loop-i.self c.put_trees.new.self (λ _. trees_make c.args.m.now (plain_trees c.args.trees.now))
+      c.loop-i.i c.args.s c.args.ins.now c.loop-i.outs.items _ c.in_ok-row.row.items _
+      c.loop-i.invariant.0
+      (between-block c.args.s c.loop-i.i c.args.ins.now _ _ refl refl (omega (arith, row_fits c.loop-i.i c.args.s c.args.r c.args.s (omega arith) (omega arith))))
+      c.in_ok-row.ensures.code
+      (c.in_ok-extend_from_slice.ensures.items ∙ ap (λ l. c.loop-i.outs.items ++ l) c.deref.ensures.value),
+  omega (arith, c.loop-i.invariant.1, c.in_ok-extend_from_slice.ensures.len, c.in_ok-row.ensures.size, c.deref.ensures.len),
+)
 
 pub put_trees-returns-in_ok-outs-in-Single-clause-code : goal.put_trees-returns-in_ok-outs-in-Single-clause-code
 put_trees-returns-in_ok-outs-in-Single-clause-code t c =
     let only = c.in-Single.only in
-    wrote_single c.args.m.now c.args.self.now.lanes (plain_trees c.args.trees.now) only.kind only.root c.reduce-root.result (breakdown_of only.tree)
+    wrote_single c.args.m.now (plain_trees c.args.trees.now) only.kind only.root c.reduce-root.result (breakdown_of only.tree)
     c.args.self.now c.put_tree.new.self c.args.ins.now c.in_ok-outs-in-Single.outs.items
     (ap plain_trees c.in-Single.is) c.reduce-root.ensures.value c.in_ok-outs-in-Single.ensures.code
 
