@@ -18,7 +18,7 @@ use index_fn::Index;
 use memory::NoMemory;
 pub use parts::{Parts, divide, greatest, others, reduce, residues};
 use std::alloc::Global;
-pub use sums::{both, copy, join, multiple, scale_sum};
+pub use sums::{both, copy, multiple};
 
 /// A sum of a constant and of multiples of variables, remainders and quotients. Each part has its factor, and then the
 /// rest of the sum; the constant ends it. A variable is a number: what it runs below is the count at that number.

@@ -34,17 +34,6 @@ pub fn copy(alloc: Global, sum: &Affine) -> Result<Affine, NoMemory>
 
 /// `k` times the sum, where each variable runs below its count. A part whose factor would not fit is always 0, whatever
 /// its factor is then.
-pub fn scale_sum(_alloc: Global, counts: &[u64], k: u64, sum: Affine) -> Result<Affine, NoMemory>
-    requires affine { IsAffine (length counts.now) (slice_index counts.now) (plain_sum sum) }
-    requires fits { Stays (slice_index counts.now) (λ vs. k * value (plain_sum sum) vs) }
-    ensures value { IfOk result (λ a. Agree (slice_index counts.now) (value (plain_sum a)) (λ vs. k * value (plain_sum sum) vs)) }
-    ensures affine { IfOk result (λ a. IsAffine (length counts.now) (slice_index counts.now) (plain_sum a)) }
-    ensures form { CanScale k (plain_sum sum) → IfOk result (λ a. plain_sum a ≡ scaled k (plain_sum sum)) }
-{
-    Ok(multiple(counts, k, sum))
-}
-
-/// The same, which needs no memory.
 #[tactic(auto, using(crate::proofs::WrappedLaws::multiple_value, crate::proofs::WrappedLaws::affine_multiple, crate::proofs::WrappedLaws::multiple_form))]
 pub fn multiple(counts: &[u64], k: u64, sum: Affine) -> Affine
     requires affine { IsAffine (length counts.now) (slice_index counts.now) (plain_sum sum) }
@@ -80,18 +69,6 @@ fn multiply(k: u64, sum: &mut Affine)
 }
 
 /// The sum of two sums.
-pub fn join(_alloc: Global, counts: &[u64], a: Affine, b: Affine) -> Result<Affine, NoMemory>
-    requires affine { IsAffine (length counts.now) (slice_index counts.now) (plain_sum a) }
-    requires affine_too { IsAffine (length counts.now) (slice_index counts.now) (plain_sum b) }
-    requires fits { Stays (slice_index counts.now) (λ vs. value (plain_sum a) vs + value (plain_sum b) vs) }
-    ensures value { IfOk result (λ c. Agree (slice_index counts.now) (value (plain_sum c)) (λ vs. value (plain_sum a) vs + value (plain_sum b) vs)) }
-    ensures affine { IfOk result (λ c. IsAffine (length counts.now) (slice_index counts.now) (plain_sum c)) }
-    ensures form { CanJoin (plain_sum a) (plain_sum b) → IfOk result (λ c. plain_sum c ≡ joined (plain_sum a) (plain_sum b)) }
-{
-    Ok(both(counts, a, b))
-}
-
-/// The same, which needs no memory.
 #[tactic(auto, using(crate::proofs::WrappedLaws::sum_value, crate::proofs::WrappedLaws::affine_sum, crate::proofs::WrappedLaws::sum_form))]
 pub fn both(counts: &[u64], a: Affine, b: Affine) -> Affine
     requires affine { IsAffine (length counts.now) (slice_index counts.now) (plain_sum a) }

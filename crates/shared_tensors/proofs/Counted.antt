@@ -16,7 +16,7 @@ use Rattle.smp_rewrite.specs.Smp.{within}
 use Rattle.tensor_paths.specs.declared.Tensor.{Tensor}
 use Rattle.tensor_paths.specs.declared.Tensor.TheVariants.{Blocks, Columns}
 use Rattle.tensor_paths.specs.Path.{Path, count_of}
-use Rattle.term_merge.proofs.Readies.{counts-joined, counts-place, counts-scaled}
+use Rattle.loop_nests.proofs.Readies.{counts-joined, counts-place, counts-scaled}
 
 -- ---- sums
 

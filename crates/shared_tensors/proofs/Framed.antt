@@ -13,7 +13,6 @@ use Rattle.passes.specs.Work.{PlainWork, kernel, rows, horner, tile, copy, vecto
 use Rattle.passes.proofs.Nests.{at-map, length-map}
 use Rattle.passes.proofs.Sides.{rest_of, rest-range, sound-renumbered}
 use Rattle.perm_algebra.specs.Affine.{Sum, constant, value, IsSound}
-use Rattle.shared_tensors.specs.Laws.{plain_lanes}
 use Rattle.shared_tensors.proofs.GoodColumns.{at-renumbered, factor-behind, value-renumbered}
 use Rattle.shared_tensors.proofs.Limits.{wrapped}
 use Rattle.shared_tensors.proofs.Wraps.{Wraps, framed}
@@ -170,13 +169,13 @@ with-places : (k : ℕ) (o : Option PlainMultiplier) (used more : ℕ) → with_
 with-places k None used more = refl
 with-places k (Some d) used more = refl
 
-nest-registers : (h : PlainMachine) (n : ℕ) (path : Path) (up : Sum → Sum) (z : PlainNest) (w : PlainWork) → nest_registers h (wrapped path up z) w ≡ nest_registers (plain_lanes n h.modulus h.lanes) z w
-nest-registers h n path up z (kernel trees) = with-places (length path) z.multiplier _ _
-nest-registers h n path up z (rows root d) = with-places (length path) z.multiplier _ _
-nest-registers h n path up z (horner root d) = with-places (length path) z.multiplier _ _
-nest-registers h n path up z (tile v) = with-places (length path) z.multiplier _ _
-nest-registers h n path up z (copy d) = with-places (length path) z.multiplier _ _
+nest-registers : (m : ℕ) (path : Path) (up : Sum → Sum) (z : PlainNest) (w : PlainWork) → nest_registers m (wrapped path up z) w ≡ nest_registers m z w
+nest-registers m path up z (kernel trees) = with-places (length path) z.multiplier _ _
+nest-registers m path up z (rows root d) = with-places (length path) z.multiplier _ _
+nest-registers m path up z (horner root d) = with-places (length path) z.multiplier _ _
+nest-registers m path up z (tile v) = with-places (length path) z.multiplier _ _
+nest-registers m path up z (copy d) = with-places (length path) z.multiplier _ _
 
-pub registers-wrapped : (h : PlainMachine) (n : ℕ) (path : Path) (up : Sum → Sum) (zs : List PlainNest) → pass_registers h (map (wrapped path up) zs) ≡ pass_registers (plain_lanes n h.modulus h.lanes) zs
-registers-wrapped h n path up [] = refl
-registers-wrapped h n path up (z ∷ zs) = ap₂ (λ a b. max a b) (nest-registers h n path up z z.work) (registers-wrapped h n path up zs)
+pub registers-wrapped : (m : ℕ) (path : Path) (up : Sum → Sum) (zs : List PlainNest) → pass_registers m (map (wrapped path up) zs) ≡ pass_registers m zs
+registers-wrapped m path up [] = refl
+registers-wrapped m path up (z ∷ zs) = ap₂ (λ a b. max a b) (nest-registers m path up z z.work) (registers-wrapped m path up zs)

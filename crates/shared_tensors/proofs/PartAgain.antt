@@ -1,21 +1,20 @@
 -- For one processor and one lane the passes of a tensor product are a part again.
-use Rattle.std.proofs.Common.{ℕ, ◌+◌, ◌*◌, ◌/◌, ◌^◌, ◌<◌, ◌≤◌, Bool, true, false, arith, sym, List, [], ◌∷◌, ◌++◌, length, map, subst, All}
+use Rattle.std.proofs.Common.{ℕ, ◌+◌, ◌*◌, ◌/◌, ◌≤◌, Bool, true, false, arith, sym, List, [], ◌∷◌, ◌++◌, length, map, subst, All}
 use Rattle.std.specs.Prelude.{◌==◌, if◌then◌else◌, sum_by}
 use Rattle.std.proofs.lemmas.List.Elements.{All-append, All-nil}
-use Rattle.pass_actions.specs.Acts.{pass_registers}
 use Rattle.pass_actions.specs.Machine.{PlainMachine, plain_machine}
 use Rattle.pass_programs.specs.Contract.{all_passes, most_actions}
 use Rattle.passes.specs.Limits.{AreWithin}
 use Rattle.passes.specs.Merged.{PlainMerged}
 use Rattle.passes.specs.Nest.{PlainNest}
 use Rattle.passes.proofs.Within.{within-append}
-use Rattle.shared_tensors.specs.Laws.{AreParts, HasNoTile, IsPart, IsShallow, TensoredCanProgram, TensoredIsPart, plain_lanes}
+use Rattle.shared_tensors.specs.Laws.{AreParts, HasNoTile, IsPart, IsShallow, TensoredCanProgram, TensoredIsPart}
 use Rattle.shared_tensors.specs.Tensored.{shared_path, tensored}
 use Rattle.passes.proofs.Sides.{up as row_up}
 use Rattle.shared_tensors.proofs.Counted.{columns-counted, rows-counted}
 use Rattle.shared_tensors.proofs.GoodColumns.{column_sum}
 use Rattle.shared_tensors.proofs.Limits.{wrapped}
-use Rattle.shared_tensors.proofs.PartPasses.{passes-plain, passes-registers, passes-shallow}
+use Rattle.shared_tensors.proofs.PartPasses.{passes-plain, passes-shallow}
 use Rattle.shared_tensors.proofs.Programs.{columns-within, product-actions, product-nests, product-program, product-whole, rows-within}
 use Rattle.tensor_paths.specs.declared.Tensor.TheVariants.{Blocks}
 use Rattle.tensor_paths.specs.Path.{Path, count_of}
@@ -80,11 +79,6 @@ module _ (n m room : ℕ) (left right : PlainMerged) (few : room ≤ 56) (parts 
         no_tiles =
             subst (All (All HasNoTile)) (sym (product-whole h room left right few parts))
             (for-all (All HasNoTile) (passes-plain row_path (row_up row_path s 0) rights parts.right_part.no_tiles) (passes-plain column_path (column_sum column_path s) lefts parts.left_part.no_tiles));
-        registers = λ v low.
-            subst (All (λ zs. pass_registers (plain_lanes n m v) zs < 2 ^ 20)) (sym (product-whole h room left right few parts))
-            (for-all (λ zs. pass_registers (plain_lanes n m v) zs < 2 ^ 20)
-            (passes-registers (plain_lanes n m v) s row_path (row_up row_path s 0) rights (parts.right_part.registers v low))
-            (passes-registers (plain_lanes n m v) r column_path (column_sum column_path s) lefts (parts.left_part.registers v low)));
         actions = subst (λ ps. most_actions h ps + 4000 * n ≤ 4000 * (n * n)) (sym (product-whole h room left right few parts)) (product-actions h room left right few parts);
         nests = subst (λ ps. sum_by length ps + 2 ≤ 2 * n) (sym (product-whole h room left right few parts)) (product-nests h room left right few parts);
       }

@@ -3,7 +3,6 @@ use Rattle.std.proofs.Common.{ℕ, ◌+◌, ◌^◌, ◌<◌, ◌≤◌, arith, 
 use Rattle.std.proofs.lemmas.List.{length-append}
 use Rattle.std.proofs.lemmas.List.Elements.{All-nil, All-cons, All-head, All-tail, All-map, All-weaker}
 use Rattle.operators.specs.Sizes.{max_size}
-use Rattle.pass_actions.specs.Acts.{pass_registers}
 use Rattle.pass_actions.specs.Machine.{PlainMachine, plain_machine}
 use Rattle.pass_programs.specs.Conditions.{CanWritePass}
 use Rattle.passes.specs.Good.{IsGoodPass}
@@ -11,7 +10,7 @@ use Rattle.passes.specs.Limits.{AreWithin}
 use Rattle.passes.specs.Nest.{PlainNest, factor_count}
 use Rattle.passes.proofs.Nests.{all-inside}
 use Rattle.perm_algebra.specs.Affine.{Sum}
-use Rattle.shared_tensors.specs.Laws.{HasNoTile, IsShallow, plain_lanes}
+use Rattle.shared_tensors.specs.Laws.{HasNoTile, IsShallow}
 use Rattle.shared_tensors.proofs.Counted.{KeepsCounts, counted-wrapped}
 use Rattle.shared_tensors.proofs.Framed.{of-places, registers-wrapped}
 use Rattle.shared_tensors.proofs.Limits.{wrapped}
@@ -24,9 +23,6 @@ pub record ArePartPasses (n m room : ℕ) (ps : List (List PlainNest)) : Type 0 
   pub can : All (CanWritePass (plain_machine n m)) ps
   pub shallow : All (All (IsShallow room)) ps
   pub plain : All (All HasNoTile) ps
-
-abbrev pub HasRegisters : PlainMachine → ℕ → List PlainNest → Type 0
-HasRegisters h n zs = pass_registers (plain_lanes n h.modulus h.lanes) zs < 2 ^ 20
 
 first-pass : (n m room : ℕ) (zs : List PlainNest) (ps : List (List PlainNest)) → ArePartPasses n m room (zs ∷ ps) → All (IsKnown n m room) zs
 first-pass n m room zs ps part =
@@ -46,14 +42,15 @@ abbrev pub KeepsGood : PlainMachine → ℕ → Path → (Sum → Sum) → Type 
 KeepsGood h n path up = (zs : List PlainNest) → CanWritePass (plain_machine n h.modulus) zs → All HasNoTile zs → IsGoodPass h.lanes h.modulus h.size (map (wrapped path up) zs)
 
 module _ (h : PlainMachine) (path : Path) (up : Sum → Sum) (wraps : Wraps h path up) (n room : ℕ) (few : room ≤ 56) (high : h.size ≤ 2 ^ 20) (line : 0 < h.line) (lanes : 0 < h.lanes) (modulus : 2 ≤ h.modulus) (good : KeepsGood h n path up) where
-  pub passes-can : (ps : List (List PlainNest)) → ArePartPasses n h.modulus room ps → AreWithin 64 h.size (map (map (wrapped path up)) ps) → All (HasRegisters h n) ps → All (CanWritePass h) (map (map (wrapped path up)) ps)
-  passes-can [] part within registers = All-nil (CanWritePass h)
-  passes-can (zs ∷ ps) part within registers =
-      let whole = good zs (All-head (CanWritePass (plain_machine n h.modulus)) zs ps part.can) (All-head (All HasNoTile) zs ps part.plain) in
+  pub passes-can : (ps : List (List PlainNest)) → ArePartPasses n h.modulus room ps → AreWithin 64 h.size (map (map (wrapped path up)) ps) → All (CanWritePass h) (map (map (wrapped path up)) ps)
+  passes-can [] part within = All-nil (CanWritePass h)
+  passes-can (zs ∷ ps) part within =
+      let can = All-head (CanWritePass (plain_machine n h.modulus)) zs ps part.can in
+      let whole = good zs can (All-head (All HasNoTile) zs ps part.plain) in
       All-cons (CanWritePass h) (map (wrapped path up) zs) (map (map (wrapped path up)) ps)
       (pass-can h path up wraps n room few high zs line lanes modulus (first-pass n h.modulus room zs ps part) within.0 (all-inside h.lanes h.modulus h.size (map (wrapped path up) zs) whole.nests) whole.once
-      (subst (λ k. k < 2 ^ 20) (sym (registers-wrapped h n path up zs)) (All-head (HasRegisters h n) zs ps registers)))
-      (passes-can ps (other-passes n h.modulus room zs ps part) within.1 (All-tail (HasRegisters h n) zs ps registers))
+      (subst (λ k. k < 2 ^ 20) (sym (registers-wrapped h.modulus path up zs)) can.few))
+      (passes-can ps (other-passes n h.modulus room zs ps part) within.1)
 
 -- ---- parts again
 
@@ -76,8 +73,3 @@ pub passes-plain : (path : Path) (up : Sum → Sum) (ps : List (List PlainNest))
 passes-plain path up ps plain =
     All-map (All HasNoTile) (map (wrapped path up)) ps
     (All-weaker (All HasNoTile) (λ zs. All HasNoTile (map (wrapped path up) zs)) (λ zs all. All-map HasNoTile (wrapped path up) zs all) ps plain)
-
-pub passes-registers : (h : PlainMachine) (n : ℕ) (path : Path) (up : Sum → Sum) (ps : List (List PlainNest)) → All (HasRegisters h n) ps → All (λ zs. pass_registers h zs < 2 ^ 20) (map (map (wrapped path up)) ps)
-passes-registers h n path up ps few =
-    All-map (λ zs. pass_registers h zs < 2 ^ 20) (map (wrapped path up)) ps
-    (All-weaker (HasRegisters h n) (λ zs. pass_registers h (map (wrapped path up) zs) < 2 ^ 20) (λ zs one. subst (λ k. k < 2 ^ 20) (sym (registers-wrapped h n path up zs)) one) ps few)

@@ -164,13 +164,11 @@ module _ (h : PlainMachine) (room : ℕ) (left right : PlainMerged) (few : room 
   rows-can =
       passes-can h row_path (row_up row_path s 0) row-wraps s room few high can.host.line.0 can.host.lanes.0 can.host.modulus.0 goods.rows rights (part-passes s h.modulus room right parts.right_part)
       (rows-within 64 (let short = short-path (p == 1) (v == 1) (r / p / v == 1) p v (r / p / v) in omega (arith, few, short)))
-      (parts.right_part.registers v can.host.lanes.1)
 
   columns-can : All (CanWritePass h) columns_in
   columns-can =
       passes-can h column_path (column_sum column_path s) column-wraps r room few high can.host.line.0 can.host.lanes.0 can.host.modulus.0 goods.columns lefts (part-passes r h.modulus room left parts.left_part)
       (columns-within 64 (let short = short-path (p == 1) (v == 1) (s / p / v == 1) p v (s / p / v) in omega (arith, few, short)))
-      (parts.left_part.registers v can.host.lanes.1)
 
   -- several lanes divide the words of a row
   several-lanes : v ≢ 1 → 2 ≤ v

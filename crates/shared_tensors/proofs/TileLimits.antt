@@ -16,6 +16,7 @@ use Rattle.passes.specs.Limits.{AreSeveral}
 use Rattle.passes.specs.Merge.{is_limited, place_sum}
 use Rattle.passes.specs.Nest.{PlainNest, copies_of, load_place, sum_value}
 use Rattle.passes.specs.Work.{tile}
+use Rattle.passes.proofs.Several.{several-append}
 use Rattle.passes.proofs.Small.{HasCounts, max-lt, place-small}
 use Rattle.passes.proofs.Within.{IsSmall, both-true, constant-small, limited, small-true}
 use Rattle.perm_algebra.specs.Affine.{Sum, constant, IsSound}
@@ -38,10 +39,6 @@ all-tested room n cs f (suc k) a h = both-true _ _ (h a (omega arith) (omega ari
 all-sound : (f : ℕ → Sum) (k a : ℕ) → ((i : ℕ) → IsSound (f i)) → AreSound (map f (range_with_len a k))
 all-sound f zero a h = tt
 all-sound f (suc k) a h = (h a, all-sound f k (a + 1) h)
-
-several-append : (path more : Path) → AreSeveral path → AreSeveral more → AreSeveral (path ++ more)
-several-append [] more h g = g
-several-append (t ∷ path) more h g = (h.0, several-append path more h.1 g)
 
 counts-left : (path more : Path) (d : ℕ) (cs : ℕ → ℕ) → HasCounts (path ++ more) d cs → HasCounts path d cs
 counts-left [] more d cs h = tt

@@ -144,6 +144,6 @@ module _ (h : PlainMachine) (path : Path) (up : Sum → Sum) (wraps : Wraps h pa
       (nests-run zs (All-tail (IsKnown n h.modulus room) z zs known) inside.1)
 
   pub pass-can : (zs : List PlainNest) → 0 < h.line → 0 < h.lanes → 2 ≤ h.modulus → All (IsKnown n h.modulus room) zs → is_within 64 h.size (map round zs) ≡ true → AreInside h.size (map (copies_of h.modulus) (map round zs)) →
-      StoreOnce h.size (map (copies_of h.modulus) (map round zs)) → pass_registers h (map round zs) < 2 ^ 20 → CanWritePass h (map round zs)
+      StoreOnce h.size (map (copies_of h.modulus) (map round zs)) → pass_registers h.modulus (map round zs) < 2 ^ 20 → CanWritePass h (map round zs)
   pass-can zs line lanes modulus known within inside once registers =
       record { line = line; runs = record { lanes = lanes; modulus = modulus; nests = nests-run zs known inside; once = once }; nests = nests-write zs known within; few = registers }

@@ -1,8 +1,7 @@
 -- What the passes of a tensor product do and count, and that a program can be made of them.
-use Rattle.std.specs.Prelude.{◌≡◌, ℕ, ◌+◌, ◌*◌, ◌%◌, ◌^◌, ◌<◌, ◌≤◌, ◌==◌, if◌then◌else◌, List, [], ◌∷◌, ◌++◌, length, map, sum_by, All, Option, Some, None}
+use Rattle.std.specs.Prelude.{◌≡◌, ℕ, ◌+◌, ◌*◌, ◌%◌, ◌<◌, ◌≤◌, ◌==◌, if◌then◌else◌, List, [], ◌∷◌, ◌++◌, length, map, sum_by, All, Option, Some, None}
 use Rattle.operators.specs.Operator as operator
 use Rattle.operators.specs.Sizes.{max_size}
-use Rattle.pass_actions.specs.Acts.{pass_registers}
 use Rattle.pass_actions.specs.Costs.{pass_cost, pass_loads}
 use Rattle.pass_actions.specs.Machine.{PlainMachine, plain_machine}
 use Rattle.pass_programs.specs.Contract.{CanProgram, IsHost, all_passes, most_actions}
@@ -48,10 +47,6 @@ pub record IsShallow (room : ℕ) (z : PlainNest) : Type 0 where
   pub counted : AreCounted (length z.counts + 2) z
   pub factors : (d : PlainMultiplier) → z.multiplier ≡ Some d → factor_count d.factors ≤ max_size
 
--- the same machine with so many lanes
-abbrev pub plain_lanes : ℕ → ℕ → ℕ → PlainMachine
-plain_lanes n m v = record { size = n; modulus = m; procs = 1; line = 1; lanes = v }
-
 -- Passes on n words modulo m, for one processor and one lane, of which a program can be made. No place
 -- has more parts than so many, and no nest more loops, and there are few passes of few actions, so that
 -- they have room in larger ones
@@ -60,8 +55,6 @@ pub record IsPart (n m room : ℕ) (g : PlainMerged) : Type 0 where
   pub within : AreWithin room n (all_passes g.phases)
   pub shallow : All (All (IsShallow room)) (all_passes g.phases)
   pub no_tiles : All (All HasNoTile) (all_passes g.phases)
-  pub registers : (v : ℕ) → v ≤ 16 →
-      All (λ zs. pass_registers (plain_lanes n m v) zs < 2 ^ 20) (all_passes g.phases)
   pub actions :
       most_actions (plain_machine n m) (all_passes g.phases) + 4000 * n ≤ 4000 * (n * n)
   pub nests : sum_by length (all_passes g.phases) + 2 ≤ 2 * n

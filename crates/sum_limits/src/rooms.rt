@@ -1,4 +1,4 @@
-ghost use Rattle.std.specs.Prelude.{◌≡◌, ℕ, ◌+◌, ◌*◌, ◌/◌, ◌%◌, ◌^◌, ◌<◌, ◌≤◌, ◌&&◌, IfOk, Some, None, true, false, length, slice_index};
+ghost use Rattle.std.specs.Prelude.{◌≡◌, ℕ, ◌+◌, ◌*◌, ◌/◌, ◌%◌, ◌^◌, ◌<◌, ◌&&◌, IfOk, Some, None, true, false, length, slice_index};
 ghost use Rattle.index_fn.specs.Index.{mapping_of};
 ghost use Rattle.index_fn.specs.Mapping.{IsDefinedAt, IsWellFormed, Line, Strided, ThomasOut, at};
 ghost use Rattle.perm_algebra.specs.Affine.{HasNoList, constant, divided, joined, mods, reduced, scaled, simplified, value};
@@ -9,7 +9,7 @@ ghost use Rattle.perm_algebra.specs.Views.{plain_sum};
 use crate::{greatest_factor, top_of};
 use index_fn::Index;
 use memory::NoMemory;
-use perm_algebra::{Affine, Parts, copy, divide, join, others, reduce, residues, scale_sum};
+use perm_algebra::{Affine, Parts, both, copy, divide, multiple, others, reduce, residues};
 use std::alloc::Global;
 
 /// The function `f` at the place `arg`, where the variable d runs below `counts[d]`, if every number on the way fits 64
@@ -60,7 +60,7 @@ pub fn simplify_in_room(
             let Some(right) = simplify_in_room(alloc, g, &rem, counts)? else {
                 return Ok(None);
             };
-            Ok(scale_and_join(alloc, counts, *c, left, right)?)
+            Ok(scale_and_join(counts, *c, left, right))
         }
         Index::Composed(f, g) => {
             let Some(inner) = simplify_in_room(alloc, g, arg, counts)? else {
@@ -102,11 +102,10 @@ fn line(
     ensures value { IfOk result (λ r. (sum : Affine) → r ≡ Some sum → Agree (slice_index counts.now) (value (plain_sum sum)) (λ vs. base + step * value (plain_sum arg.now) vs)) }
     ensures affine { IfOk result (λ r. (sum : Affine) → r ≡ Some sum → IsAffine (length counts.now) (slice_index counts.now) (plain_sum sum)) }
 {
-    let Some(multiple) = scale_in_room(alloc, counts, step, copy(alloc, arg)?)? else {
+    let Some(multiple) = scale_in_room(counts, step, copy(alloc, arg)?) else {
         return Ok(None);
     };
-    let sum = join_in_room(alloc, counts, Affine::Constant(base), multiple)?;
-    Ok(sum)
+    Ok(join_in_room(counts, Affine::Constant(base), multiple))
 }
 
 // `r` times the remainder by `s`, and the quotient.
@@ -132,8 +131,7 @@ fn turn(
     let Some(Parts { quot, rem }) = divide_in_room(alloc, counts, arg, s)? else {
         return Ok(None);
     };
-    let sum = scale_and_join(alloc, counts, r, rem, quot)?;
-    Ok(sum)
+    Ok(scale_and_join(counts, r, rem, quot))
 }
 
 // The remainder by `r`, times `s`, and the remainder by `s`.
@@ -161,8 +159,7 @@ fn remainders(
     let Some(Parts { quot: _, rem: last }) = divide_in_room(alloc, counts, arg, s)? else {
         return Ok(None);
     };
-    let sum = scale_and_join(alloc, counts, s, rem, last)?;
-    Ok(sum)
+    Ok(scale_and_join(counts, s, rem, last))
 }
 
 // What the quotient and the remainder are multiplied by.
@@ -219,13 +216,13 @@ fn mix(
     ensures affine { IfOk result (λ r. (sum : Affine) → r ≡ Some sum → IsAffine (length counts.now) (slice_index counts.now) (plain_sum sum)) }
 {
     let Parts { quot, rem } = parts;
-    let Some(quot) = scale_in_room(alloc, counts, by.quot, quot)? else {
+    let Some(quot) = scale_in_room(counts, by.quot, quot) else {
         return Ok(None);
     };
-    let Some(rem) = scale_in_room(alloc, counts, by.rem, rem)? else {
+    let Some(rem) = scale_in_room(counts, by.rem, rem) else {
         return Ok(None);
     };
-    let Some(both) = join_in_room(alloc, counts, quot, rem)? else {
+    let Some(both) = join_in_room(counts, quot, rem) else {
         return Ok(None);
     };
     let sum = reduce_in_room(alloc, counts, n, &both)?;
@@ -288,72 +285,51 @@ fn reduce_in_room(
 }
 
 // `k` times the sum, if each factor fits.
-fn scale_in_room(
-    alloc: Global,
-    counts: &[u64],
-    k: u64,
-    sum: Affine,
-) -> Result<Option<Affine>, NoMemory>
+fn scale_in_room(counts: &[u64], k: u64, sum: Affine) -> Option<Affine>
     requires affine { IsAffine (length counts.now) (slice_index counts.now) (plain_sum sum) }
     requires fits { Stays (slice_index counts.now) (λ vs. k * value (plain_sum sum) vs) }
-    ensures some { IfOk result (λ r. (a : Affine) → r ≡ Some a → plain_sum a ≡ scaled k (plain_sum sum)) }
-    ensures room { IfOk result (λ r. (a : Affine) → r ≡ Some a → can_scale k (plain_sum sum) ≡ true) }
-    ensures none { IfOk result (λ r. r ≡ None → can_scale k (plain_sum sum) ≡ false) }
-    ensures value { IfOk result (λ r. (a : Affine) → r ≡ Some a → Agree (slice_index counts.now) (value (plain_sum a)) (λ vs. k * value (plain_sum sum) vs)) }
-    ensures affine { IfOk result (λ r. (a : Affine) → r ≡ Some a → IsAffine (length counts.now) (slice_index counts.now) (plain_sum a)) }
+    ensures some { (a : Affine) → result ≡ Some a → plain_sum a ≡ scaled k (plain_sum sum) }
+    ensures room { (a : Affine) → result ≡ Some a → can_scale k (plain_sum sum) ≡ true }
+    ensures none { result ≡ None → can_scale k (plain_sum sum) ≡ false }
+    ensures value { (a : Affine) → result ≡ Some a → Agree (slice_index counts.now) (value (plain_sum a)) (λ vs. k * value (plain_sum sum) vs) }
+    ensures affine { (a : Affine) → result ≡ Some a → IsAffine (length counts.now) (slice_index counts.now) (plain_sum a) }
 {
     if k.checked_mul(greatest_factor(&sum)).is_none() {
-        return Ok(None);
+        return None;
     }
-    let multiple = scale_sum(alloc, counts, k, sum)?;
-    Ok(Some(multiple))
+    Some(multiple(counts, k, sum))
 }
 
 // `k` times a sum, and another, if each factor and the constant fit.
-fn scale_and_join(
-    alloc: Global,
-    counts: &[u64],
-    k: u64,
-    a: Affine,
-    b: Affine,
-) -> Result<Option<Affine>, NoMemory>
+fn scale_and_join(counts: &[u64], k: u64, a: Affine, b: Affine) -> Option<Affine>
     requires affine { IsAffine (length counts.now) (slice_index counts.now) (plain_sum a) }
     requires affine_too { IsAffine (length counts.now) (slice_index counts.now) (plain_sum b) }
     requires fits { Stays (slice_index counts.now) (λ vs. k * value (plain_sum a) vs + value (plain_sum b) vs) }
-    ensures some { IfOk result (λ r. (c : Affine) → r ≡ Some c → plain_sum c ≡ joined (scaled k (plain_sum a)) (plain_sum b)) }
-    ensures room { IfOk result (λ r. (c : Affine) → r ≡ Some c → (can_scale k (plain_sum a) && can_join (scaled k (plain_sum a)) (plain_sum b)) ≡ true) }
-    ensures none { IfOk result (λ r. r ≡ None → (can_scale k (plain_sum a) && can_join (scaled k (plain_sum a)) (plain_sum b)) ≡ false) }
-    ensures value { IfOk result (λ r. (c : Affine) → r ≡ Some c → Agree (slice_index counts.now) (value (plain_sum c)) (λ vs. k * value (plain_sum a) vs + value (plain_sum b) vs)) }
-    ensures affine { IfOk result (λ r. (c : Affine) → r ≡ Some c → IsAffine (length counts.now) (slice_index counts.now) (plain_sum c)) }
+    ensures some { (c : Affine) → result ≡ Some c → plain_sum c ≡ joined (scaled k (plain_sum a)) (plain_sum b) }
+    ensures room { (c : Affine) → result ≡ Some c → (can_scale k (plain_sum a) && can_join (scaled k (plain_sum a)) (plain_sum b)) ≡ true }
+    ensures none { result ≡ None → (can_scale k (plain_sum a) && can_join (scaled k (plain_sum a)) (plain_sum b)) ≡ false }
+    ensures value { (c : Affine) → result ≡ Some c → Agree (slice_index counts.now) (value (plain_sum c)) (λ vs. k * value (plain_sum a) vs + value (plain_sum b) vs) }
+    ensures affine { (c : Affine) → result ≡ Some c → IsAffine (length counts.now) (slice_index counts.now) (plain_sum c) }
 {
-    let Some(multiple) = scale_in_room(alloc, counts, k, a)? else {
-        return Ok(None);
-    };
-    let sum = join_in_room(alloc, counts, multiple, b)?;
-    Ok(sum)
+    let multiple = scale_in_room(counts, k, a)?;
+    join_in_room(counts, multiple, b)
 }
 
 // The sum of two sums, if its constant fits.
-fn join_in_room(
-    alloc: Global,
-    counts: &[u64],
-    a: Affine,
-    b: Affine,
-) -> Result<Option<Affine>, NoMemory>
+fn join_in_room(counts: &[u64], a: Affine, b: Affine) -> Option<Affine>
     requires affine { IsAffine (length counts.now) (slice_index counts.now) (plain_sum a) }
     requires affine_too { IsAffine (length counts.now) (slice_index counts.now) (plain_sum b) }
     requires fits { Stays (slice_index counts.now) (λ vs. value (plain_sum a) vs + value (plain_sum b) vs) }
-    ensures some { IfOk result (λ r. (c : Affine) → r ≡ Some c → plain_sum c ≡ joined (plain_sum a) (plain_sum b)) }
-    ensures room { IfOk result (λ r. (c : Affine) → r ≡ Some c → can_join (plain_sum a) (plain_sum b) ≡ true) }
-    ensures none { IfOk result (λ r. r ≡ None → can_join (plain_sum a) (plain_sum b) ≡ false) }
-    ensures value { IfOk result (λ r. (c : Affine) → r ≡ Some c → Agree (slice_index counts.now) (value (plain_sum c)) (λ vs. value (plain_sum a) vs + value (plain_sum b) vs)) }
-    ensures affine { IfOk result (λ r. (c : Affine) → r ≡ Some c → IsAffine (length counts.now) (slice_index counts.now) (plain_sum c)) }
+    ensures some { (c : Affine) → result ≡ Some c → plain_sum c ≡ joined (plain_sum a) (plain_sum b) }
+    ensures room { (c : Affine) → result ≡ Some c → can_join (plain_sum a) (plain_sum b) ≡ true }
+    ensures none { result ≡ None → can_join (plain_sum a) (plain_sum b) ≡ false }
+    ensures value { (c : Affine) → result ≡ Some c → Agree (slice_index counts.now) (value (plain_sum c)) (λ vs. value (plain_sum a) vs + value (plain_sum b) vs) }
+    ensures affine { (c : Affine) → result ≡ Some c → IsAffine (length counts.now) (slice_index counts.now) (plain_sum c) }
 {
     if constant_of(&a).checked_add(constant_of(&b)).is_none() {
-        return Ok(None);
+        return None;
     }
-    let sum = join(alloc, counts, a, b)?;
-    Ok(Some(sum))
+    Some(both(counts, a, b))
 }
 
 fn constant_of(sum: &Affine) -> u64

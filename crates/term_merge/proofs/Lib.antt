@@ -1,15 +1,5 @@
-pub mod Naming
-pub mod Items
-pub mod Fitting
-pub mod Lifting
-pub mod Standing
-pub mod Sums
-pub mod Passes
 pub mod Readies
-pub mod Carries
-pub mod Sided
 pub mod States
 pub mod Merged
 pub mod Depths
-pub mod Changes
 pub mod Whole

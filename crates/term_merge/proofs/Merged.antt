@@ -10,10 +10,13 @@ use Rattle.passes.specs.Term.{PlainTerm, same, gath, scat, diag, nest, move, pro
 use Rattle.passes.proofs.Limited.{IsRound, few-round, round-inner, sides-within}
 use Rattle.passes.proofs.Walk.{chosen}
 use Rattle.tensor_paths.specs.Path.{Path, size_under}
-use Rattle.term_merge.specs.Known.{IsGood, AreReadyPasses, AreKnownPasses, IsKnownPass, HasRoom, IsKnown, AreSteps, AreWords}
-use Rattle.term_merge.proofs.Passes.{known-scattered}
+use Rattle.term_merge.specs.Known.{IsGood, AreKnownPasses, HasRoom, IsKnown}
+use Rattle.loop_nests.specs.Ready.{AreReadyPasses}
+use Rattle.pass_places.specs.Known.{IsKnownPass, AreSteps}
+use Rattle.passes.specs.Words.{AreWords}
+use Rattle.pass_places.proofs.Passes.{known-scattered}
 use Rattle.term_merge.proofs.Readies.{low, steps-end}
-use Rattle.term_merge.proofs.Sided.{ready-sides}
+use Rattle.loop_nests.proofs.Sided.{ready-sides}
 use Rattle.term_merge.proofs.States.{known-nest, known-move, known-append, known-settled, known-pass, known-scatter, steps-scatter, known-diagonal, steps-diagonal}
 
 pub nothing-known : (room n : ℕ) → IsKnown room n nothing

@@ -17,10 +17,13 @@ use Rattle.passes.proofs.Walk.{chosen, and-right}
 use Rattle.passes.proofs.Within.{within-multiplied}
 use Rattle.sum_limits.specs.Leading.{CanCarry}
 use Rattle.tensor_paths.specs.Path.{Path, size_under}
-use Rattle.term_merge.specs.Known.{IsGood, AreReady, IsReadyPass, IsKnownPass, AreKnownPasses, HasRoom, IsStep, AreSteps}
-use Rattle.term_merge.proofs.Carries.{carry-places}
-use Rattle.term_merge.proofs.Passes.{known-gathered, known-scattered}
-use Rattle.term_merge.proofs.Readies.{ready-new, ready-in, ready-constants, low, known-copying, known-by}
+use Rattle.term_merge.specs.Known.{IsGood, AreKnownPasses, HasRoom}
+use Rattle.loop_nests.specs.Ready.{AreReady, IsReadyPass}
+use Rattle.pass_places.specs.Known.{IsKnownPass, IsStep, AreSteps}
+use Rattle.pass_places.proofs.Carries.{carry-places}
+use Rattle.pass_places.proofs.Passes.{known-gathered, known-scattered}
+use Rattle.loop_nests.proofs.Readies.{ready-new, ready-in, ready-constants}
+use Rattle.term_merge.proofs.Readies.{low, known-copying, known-by}
 
 -- ---- new nests
 

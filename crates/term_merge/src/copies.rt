@@ -1,16 +1,16 @@
 // Gathers that wait: a pass takes them, and copy passes take what it does not.
-ghost use Rattle.std.specs.Prelude.{◌≡◌, ◌∷◌, ◌++◌, [], IfOk, map};
+ghost use Rattle.std.specs.Prelude.{◌≡◌, ◌∷◌, ◌++◌, IfOk, map};
 ghost use Rattle.index_fn.specs.Index.{mapping_of};
 ghost use Rattle.passes.specs.Merge.{copies_before, copy_by, most, settled, take_gathers};
 ghost use Rattle.passes.specs.Views.{plain_nest};
-ghost use Rattle.term_merge.specs.Known.{AreSteps, HasRoom, IsKnownPass, IsStep};
-ghost use Rattle.term_merge.specs.Views.{plain_pass, plain_passes};
+ghost use Rattle.pass_places.specs.Known.{AreSteps, IsKnownPass, IsStep};
+ghost use Rattle.term_merge.specs.Known.{HasRoom};
+ghost use Rattle.loop_nests.specs.Views.{plain_passes};
 
-use crate::nests::{copying, copying_words};
-use crate::places::gathered;
-use crate::state::Change;
 use index_fn::Index;
+use loop_nests::{copying, copying_words};
 use memory::NoMemory;
+use pass_places::{Change, gathered};
 use passes::Nest;
 use std::alloc::Global;
 use sum_limits::Limits;

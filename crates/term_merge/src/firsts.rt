@@ -3,7 +3,7 @@ ghost use Rattle.std.specs.Prelude.{◌≡◌, ◌+◌, ◌∷◌, [], IfOk, Non
 ghost use Rattle.index_fn.specs.Index.{mapping_of};
 ghost use Rattle.passes.specs.Merge.{from_end};
 ghost use Rattle.passes.specs.Views.{plain_nest};
-ghost use Rattle.term_merge.specs.Views.{plain_passes};
+ghost use Rattle.loop_nests.specs.Views.{plain_passes};
 
 use index_fn::Index;
 use memory::NoMemory;

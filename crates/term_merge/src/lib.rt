@@ -2,18 +2,11 @@
 //! takes what no pass can take within the limits.
 #![tactic(auto)]
 
-mod backs;
 mod copies;
-mod diagonals;
 mod firsts;
-mod lifted;
 mod merging;
 mod multiplying;
-mod nests;
 mod phases;
-mod placed;
-mod places;
-mod sides;
 mod state;
 mod steps;
 
@@ -22,13 +15,14 @@ ghost use Rattle.passes.specs.Limits.{HasSeveral};
 ghost use Rattle.passes.specs.Merge.{if_any};
 ghost use Rattle.passes.specs.Sigma.{passes_in_order};
 ghost use Rattle.passes.specs.Views.{plain_nest, plain_term};
-ghost use Rattle.term_merge.specs.Known.{AreWords, IsGood};
-ghost use Rattle.term_merge.specs.Views.{plain_passes};
+ghost use Rattle.passes.specs.Words.{AreWords};
+ghost use Rattle.term_merge.specs.Known.{IsGood};
+ghost use Rattle.loop_nests.specs.Views.{plain_passes};
 
 use crate::copies::with_first;
 use crate::firsts::{FirstPass, parted};
 use crate::merging::{finished, merged, nothing};
-use crate::nests::copying;
+use loop_nests::copying;
 use memory::NoMemory;
 use passes::{Nest, Term};
 pub use phases::merge;

@@ -1,21 +1,23 @@
 // A term, part by part.
-ghost use Rattle.std.specs.Prelude.{◌≡◌, ◌∷◌, [], IfOk, map};
+ghost use Rattle.std.specs.Prelude.{◌≡◌, IfOk, map};
 ghost use Rattle.index_fn.specs.Index.{mapping_of};
 ghost use Rattle.passes.specs.Limits.{HasSeveral};
 ghost use Rattle.passes.specs.Merge.{ended, from_end, merged, most, nothing, with_passes};
 ghost use Rattle.passes.specs.Term.{move, nest};
-ghost use Rattle.passes.specs.Views.{plain_nest, plain_term, plain_work};
+ghost use Rattle.passes.specs.Views.{plain_term, plain_work};
 ghost use Rattle.passes.specs.Work.{HasWords};
-ghost use Rattle.term_merge.specs.Known.{AreKnownPasses, AreSteps, AreWords, HasRoom, IsGood, IsKnown};
-ghost use Rattle.term_merge.specs.Views.{plain_merging, plain_passes};
+ghost use Rattle.term_merge.specs.Known.{AreKnownPasses, HasRoom, IsGood, IsKnown};
+ghost use Rattle.pass_places.specs.Known.{AreSteps};
+ghost use Rattle.passes.specs.Words.{AreWords};
+ghost use Rattle.term_merge.specs.Views.{plain_merging};
+ghost use Rattle.loop_nests.specs.Views.{plain_passes};
 
 use crate::copies::with_before;
 use crate::firsts::from_end;
 use crate::multiplying::with_diagonal;
-use crate::nests::{moved_nest, natural_nest};
-use crate::sides::sides;
 use crate::state::Merging;
 use crate::steps::{ended, with_gather, with_pass, with_scatter};
+use loop_nests::{alone, moved_nest, natural_nest, sides};
 use memory::NoMemory;
 use passes::{Nest, Term, Work};
 use std::alloc::Global;
@@ -127,14 +129,6 @@ fn with_moved(
     let pass = alone(alloc, nest)?;
     let next = with_pass(alloc, state, pass, limits)?;
     Ok(next)
-}
-
-fn alone(alloc: Global, nest: Nest) -> Result<Vec<Nest>, NoMemory>
-    ensures { IfOk result (λ zs. map plain_nest zs.items ≡ plain_nest nest ∷ []) }
-{
-    let mut nests = Vec::new(alloc);
-    nests.push(nest)?;
-    Ok(nests)
 }
 
 /// No gathers wait, and there are no passes.

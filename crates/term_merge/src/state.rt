@@ -8,10 +8,3 @@ pub struct Merging {
     pub waiting: Vec<Index>,
     pub passes: Vec<Vec<Nest>>,
 }
-
-/// A pass with a function in its places, or as it was.
-#[derive(Drop)]
-pub enum Change {
-    Made(Vec<Nest>),
-    Refused(Vec<Nest>),
-}

@@ -3,7 +3,7 @@ use Rattle.passes.specs.Merge.{Merging, ended, from_end, if_any, merged, most}
 use Rattle.passes.specs.Views.{plain_term}
 use Rattle.term_merge.specs.Views.{plain_merging}
 use Rattle.term_merge.proofs.Merged.{part-known, whole-room}
-use Rattle.term_merge.proofs.Standing.{turned-passes}
+use Rattle.loop_nests.proofs.Standing.{turned-passes}
 use Rattle.term_merge.proofs.merge_term.Goals as goal
 
 pub finished-requires-clause-known : goal.finished-requires-clause-known

@@ -1,7 +1,7 @@
 use Rattle.std.proofs.Common.{sym, subst, arith, map}
 use Rattle.index_fn.specs.Index.{mapping_of}
 use Rattle.passes.specs.Views.{plain_nest}
-use Rattle.term_merge.specs.Known.{AreSteps, IsKnownPass}
+use Rattle.pass_places.specs.Known.{AreSteps, IsKnownPass}
 use Rattle.term_merge.proofs.Readies.{known-by, known-more}
 use Rattle.term_merge.proofs.copies.+copies_before.Goals as goal
 

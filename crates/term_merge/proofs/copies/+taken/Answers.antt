@@ -1,7 +1,7 @@
 use Rattle.std.proofs.Common.{subst, arith, map}
 use Rattle.index_fn.specs.Index.{mapping_of}
 use Rattle.passes.specs.Views.{plain_nest}
-use Rattle.term_merge.specs.Known.{AreSteps}
+use Rattle.pass_places.specs.Known.{AreSteps}
 use Rattle.term_merge.proofs.Readies.{known-more}
 use Rattle.term_merge.proofs.copies.+taken.Goals as goal
 

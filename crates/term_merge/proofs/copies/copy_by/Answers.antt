@@ -1,7 +1,7 @@
 use Rattle.std.proofs.Common.{sym, ap, ◌∙◌}
 use Rattle.index_fn.specs.Index.{mapping_of}
 use Rattle.passes.specs.Merge.{can_gather, most}
-use Rattle.term_merge.proofs.Changes.{copy-words}
+use Rattle.term_merge.proofs.Readies.{copy-words}
 use Rattle.term_merge.proofs.copies.copy_by.Goals as goal
 
 pub returns : goal.returns

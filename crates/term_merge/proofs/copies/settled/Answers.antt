@@ -1,6 +1,6 @@
 use Rattle.std.proofs.Common.{sym, subst, map}
 use Rattle.index_fn.specs.Index.{mapping_of}
-use Rattle.term_merge.specs.Known.{AreSteps, IsKnownPass}
+use Rattle.pass_places.specs.Known.{AreSteps, IsKnownPass}
 use Rattle.term_merge.proofs.Readies.{known-by}
 use Rattle.term_merge.proofs.copies.settled.Goals as goal
 

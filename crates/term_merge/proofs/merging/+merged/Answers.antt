@@ -2,8 +2,10 @@ use Rattle.std.proofs.Common.{rules, ◌≡◌, sym, ap, ◌∙◌, subst, arith
 use Rattle.passes.specs.Limits.{HasSeveral}
 use Rattle.passes.specs.Merge.{sides}
 use Rattle.passes.specs.Views.{plain_term}
-use Rattle.term_merge.specs.Known.{AreWords, IsGood, IsKnown}
-use Rattle.term_merge.specs.Views.{plain_merging, plain_passes}
+use Rattle.passes.specs.Words.{AreWords}
+use Rattle.term_merge.specs.Known.{IsGood, IsKnown}
+use Rattle.term_merge.specs.Views.{plain_merging}
+use Rattle.loop_nests.specs.Views.{plain_passes}
 use Rattle.term_merge.proofs.Depths.{term_depth}
 use Rattle.term_merge.proofs.Merged.{merged-known, nothing-known, rooms, few-tensors, part-known, part-ended, known-both, within-of, ready-of}
 use Rattle.term_merge.proofs.merging.+merged.Goals as goal

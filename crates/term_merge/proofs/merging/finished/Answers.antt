@@ -1,7 +1,7 @@
 use Rattle.std.proofs.Common.{sym, ap, ◌∙◌, subst, map}
 use Rattle.index_fn.specs.Index.{mapping_of}
 use Rattle.passes.specs.Merge.{from_end}
-use Rattle.term_merge.specs.Known.{AreSteps}
+use Rattle.pass_places.specs.Known.{AreSteps}
 use Rattle.term_merge.proofs.Readies.{steps-end}
 use Rattle.term_merge.proofs.merging.finished.Goals as goal
 

@@ -2,7 +2,7 @@ use Rattle.std.proofs.Common.{sym, ap, ◌∙◌, subst, ◌<◌, ◌∷◌, []}
 use Rattle.passes.specs.Views.{plain_work}
 use Rattle.passes.specs.Work.{work_size}
 use Rattle.passes.proofs.Keeps.{inner_positive}
-use Rattle.term_merge.specs.Known.{IsKnownPass}
+use Rattle.pass_places.specs.Known.{IsKnownPass}
 use Rattle.term_merge.proofs.States.{known-nest}
 use Rattle.term_merge.proofs.merging.with_copies.Goals as goal
 

@@ -1,6 +1,6 @@
 use Rattle.std.proofs.Common.{sym, ap, ◌∙◌, subst, ◌<◌, ◌∷◌, [], length}
 use Rattle.passes.proofs.Keeps.{inner_positive}
-use Rattle.term_merge.specs.Known.{IsKnownPass}
+use Rattle.pass_places.specs.Known.{IsKnownPass}
 use Rattle.term_merge.proofs.States.{known-move}
 use Rattle.term_merge.proofs.merging.with_moved.Goals as goal
 

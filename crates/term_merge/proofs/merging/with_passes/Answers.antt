@@ -3,7 +3,8 @@ use Rattle.index_fn.specs.Index.{mapping_of}
 use Rattle.passes.specs.Merge.{Merging, most, with_pass, with_passes}
 use Rattle.passes.specs.Views.{plain_nest}
 use Rattle.term_merge.specs.Known.{AreKnownPasses}
-use Rattle.term_merge.specs.Views.{plain_merging, plain_pass, plain_passes}
+use Rattle.term_merge.specs.Views.{plain_merging}
+use Rattle.loop_nests.specs.Views.{plain_pass, plain_passes}
 use Rattle.term_merge.proofs.Merged.{known-last, passes-last, state_of}
 use Rattle.term_merge.proofs.merging.with_passes.Goals as goal
 

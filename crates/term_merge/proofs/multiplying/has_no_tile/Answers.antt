@@ -3,7 +3,7 @@ use Rattle.std.specs.Prelude.{not}
 use Rattle.passes.specs.Merge.{is_tile}
 use Rattle.passes.specs.Nest.{PlainNest}
 use Rattle.passes.specs.Views.{plain_nest}
-use Rattle.term_merge.proofs.Sums.{fails-at}
+use Rattle.pass_places.proofs.Sums.{fails-at}
 use Rattle.term_merge.proofs.multiplying.has_no_tile.Goals as goal
 
 pub returns-then-is_tile : goal.returns-then-is_tile

@@ -3,7 +3,7 @@ use Rattle.index_fn.specs.Index.{mapping_of}
 use Rattle.passes.specs.Merge.{factor_places}
 use Rattle.passes.specs.Views.{plain_factors}
 use Rattle.sum_limits.specs.Leading.{CanCarry}
-use Rattle.term_merge.proofs.Carries.{carry-places}
+use Rattle.pass_places.proofs.Carries.{carry-places}
 use Rattle.term_merge.proofs.Readies.{low}
 use Rattle.term_merge.proofs.multiplying.with_diagonal.Goals as goal
 

@@ -2,7 +2,8 @@ use Rattle.std.proofs.Common.{refl, sym, ap, ◌∙◌, subst, arith, map}
 use Rattle.index_fn.specs.Index.{mapping_of}
 use Rattle.passes.specs.Good.{IsFormed}
 use Rattle.passes.specs.Views.{plain_nest}
-use Rattle.term_merge.specs.Known.{AreKnownPasses, AreSteps}
+use Rattle.term_merge.specs.Known.{AreKnownPasses}
+use Rattle.pass_places.specs.Known.{AreSteps}
 use Rattle.term_merge.proofs.Readies.{known-stores, steps-end}
 use Rattle.term_merge.proofs.steps.+ended.Goals as goal
 

@@ -1,0 +1,6 @@
+pub mod Naming
+pub mod Items
+pub mod Lifting
+pub mod Standing
+pub mod Readies
+pub mod Sided

@@ -1,0 +1,176 @@
+-- Passes of two parts can stand side by side.
+use Rattle.std.proofs.Common.{◌≡◌, ℕ, ◌+◌, ◌^◌, ◌<◌, ◌≤◌, Bool, true, arith, refl, sym, ap, ap₂, ◌∙◌, List, [], ◌∷◌, ◌++◌, length, inl, inr, subst, length-append, append-nil, Option, Some, None}
+use Rattle.std.specs.Prelude.{map, reverse, Vec, ◌&&◌}
+use Rattle.std.specs.List.{list_all}
+use Rattle.std.proofs.lemmas.Bool.{cases_eq}
+use Rattle.std.proofs.lemmas.Bool.Decides.{nat_tests}
+use Rattle.std.proofs.lemmas.List.{map-append, reverse-append, reverse-reverse}
+use Rattle.perm_algebra.specs.Affine.{Sum, constant, variable, remainder, quotient, joined}
+use Rattle.perm_algebra.specs.Room.{constant_of}
+use Rattle.passes.specs.Limits.{AreSeveral, AreWithin}
+use Rattle.passes.specs.Merge.{is_limited, is_multiplier_within, is_within, items_in, lifted, limits_of, new_nest, one_loop, renumbered, renumbered_places}
+use Rattle.passes.specs.Nest.{PlainMultiplier, PlainNest}
+use Rattle.passes.specs.Views.{plain_nest}
+use Rattle.passes.specs.declared.nest.Nest.{Nest}
+use Rattle.passes.specs.Work.{copy}
+use Rattle.passes.proofs.Walk.{and-left, and-right}
+use Rattle.passes.proofs.Within.{both-true, constant-small, limited}
+use Rattle.tensor_paths.specs.declared.Tensor.TheVariants.{Blocks}
+use Rattle.tensor_paths.specs.Path.{Path, size_under}
+use Rattle.loop_nests.specs.Ready.{AreReadyPasses, IsReadyNest, IsReadyPass}
+use Rattle.loop_nests.specs.Lifted.{AllFit, AllLift, AreLifted, AreRaised, CanLift, CanStand, SumsFit, behind, counts_under}
+use Rattle.loop_nests.specs.Views.{from_last, plain_pass, plain_passes}
+use Rattle.std.proofs.Common.{Global}
+use Rattle.loop_nests.proofs.Items.{low-of, variable-item}
+use Rattle.loop_nests.proofs.Lifting.{can-lift}
+
+-- ---- copies
+
+abbrev copies : Path → PlainNest
+copies path = new_nest path (copy 1) (items_in (copy 1) (length path))
+
+record IsPlain (k : ℕ) (z : PlainNest) : Type 0 where
+  within : is_within 64 k (z ∷ []) ≡ true
+  ready : IsReadyNest z
+
+both-within : (a b : Bool) → a ≡ true → b ≡ true → (((a && b) && true) && true) ≡ true
+both-within a b h g = both-true _ _ (both-true _ _ (both-true _ _ h g) refl) refl
+
+copies-plain : (k : ℕ) → 0 < k → k ≤ 2 ^ 20 → IsPlain k (copies (one_loop k))
+copies-plain k some high =
+    elim (cases_eq k 1) [
+      | inl one ↦
+          let is : one_loop k ≡ [] = grind (arith, nat_tests) in
+          let item = both-true _ _ (limited 64 k (limits_of (copies [])) (constant 0) (constant-small 64 k (limits_of (copies [])) 0 some high)) refl in
+          subst (λ p. IsPlain k (copies p)) (sym is)
+          (record { within = both-within _ _ item item; ready = record { words = tt; gathers = (record { counts = tt; sound = tt }, tt); scatters = (record { counts = tt; sound = tt }, tt); multiplier = tt } })
+      | inr several ↦
+          let is : one_loop k ≡ Blocks k ∷ [] = grind (arith, nat_tests) in
+          let cs : ℕ → ℕ = limits_of (copies (Blocks k ∷ [])) in
+          let item = both-true _ _ (limited 64 k cs (variable 1 0 (constant 0)) (variable-item 3 k cs 0 (omega (arith, some, several)) refl (omega arith)).small) refl in
+          subst (λ p. IsPlain k (copies p)) (sym is)
+          (record {
+            within = both-within _ _ item item;
+            ready = record { words = tt; gathers = (record { counts = (omega arith, tt); sound = tt }, tt); scatters = (record { counts = (omega arith, tt); sound = tt }, tt); multiplier = tt };
+          })
+    ]
+
+-- ---- passes of a part
+
+module _ (room part n before : ℕ) (path : Path) (several : AreSeveral path) (some : 0 < n) (high : size_under path n ≤ 2 ^ 20) (fits : before + part ≤ n) where
+  lift-all : (zs : List PlainNest) → is_within room part zs ≡ true → IsReadyPass zs → AllLift path n before zs
+  lift-all [] h ready = tt
+  lift-all (z ∷ zs) h ready =
+      let here = (list_all (is_limited room part (limits_of z)) z.gathers && list_all (is_limited room part (limits_of z)) z.scatters) && is_multiplier_within room (limits_of z) z.multiplier in (
+        can-lift room part n before path z several some high fits (both-true here true (and-left here _ h) refl) ready.0,
+        lift-all zs (and-right here _ h) ready.1,
+      )
+
+  lift-passes : (ps : List (List PlainNest)) → AreWithin room part ps → AreReadyPasses ps → AreLifted path n before ps
+  lift-passes [] h ready = tt
+  lift-passes (zs ∷ ps) h ready = (lift-all zs h.0 ready.0, lift-passes ps h.1 ready.1)
+
+pub first_lifted : (room n k : ℕ) (path : Path) (ps : List (List PlainNest)) → AreSeveral path → 0 < n → size_under path (n + k) ≤ 2 ^ 20 → AreWithin room n ps × AreReadyPasses ps → AreLifted path (n + k) 0 ps
+first_lifted room n k path ps several some high h = lift-passes room n (n + k) 0 path several (omega (arith, some)) high (omega arith) ps h.0 h.1
+
+pub second_lifted : (room n k : ℕ) (path : Path) (ps : List (List PlainNest)) → AreSeveral path → 0 < n → size_under path (n + k) ≤ 2 ^ 20 → AreWithin room k ps × AreReadyPasses ps → AreLifted path (n + k) n ps
+second_lifted room n k path ps several some high h = lift-passes room k (n + k) n path several (omega (arith, some)) high (omega arith) ps h.0 h.1
+
+pub can_stand : (n k : ℕ) (path : Path) → AreSeveral path → (0 < n) × (0 < k) → size_under path (n + k) ≤ 2 ^ 20 → CanStand path n k
+can_stand n k path several some high =
+    let low = low-of path (n + k) several high in
+    let left = copies-plain n some.0 (omega (arith, low)) in
+    let right = copies-plain k some.1 (omega (arith, low)) in
+    record {
+      left = (some.0, omega (arith, low));
+      right = (some.1, omega (arith, low));
+      first = (can-lift 64 n (n + k) 0 path (copies (one_loop n)) several (let a = some.0 in omega (arith, a)) high (omega arith) left.within left.ready, tt);
+      second = (can-lift 64 k (n + k) n path (copies (one_loop k)) several (let a = some.0 in omega (arith, a)) high (omega arith) right.within right.ready, tt);
+    }
+
+-- ---- from the end
+
+-- the last of a list is the first of the other way round
+pub last-first : (xs ys : List (Vec Nest Global)) (x : Vec Nest Global) → xs ≡ ys ++ x ∷ [] → from_last xs ≡ plain_pass x ∷ from_last ys
+last-first xs ys x is = ap from_last is ∙ ap plain_passes (reverse-append ys (x ∷ []))
+
+-- nothing came from the end
+pub same-first : (xs ys : List (Vec Nest Global)) → xs ≡ ys ++ [] → from_last xs ≡ from_last ys
+same-first xs ys is = ap from_last (is ∙ append-nil ys)
+
+pub turned-passes : (xs ys : List (Vec Nest Global)) (ps : List (List PlainNest)) → ys ≡ reverse xs → plain_passes xs ≡ ps → plain_passes ys ≡ reverse ps
+turned-passes xs ys ps turned is = ap plain_passes turned ∙ each xs ∙ ap reverse is
+  where
+    each : (qs : List (Vec Nest Global)) → plain_passes (reverse qs) ≡ reverse (plain_passes qs)
+    each [] = refl
+    each (q ∷ qs) =
+        ap plain_passes (reverse-append (q ∷ []) qs)
+        ∙ map-append plain_pass (reverse qs) (q ∷ [])
+        ∙ ap (λ rs. rs ++ plain_pass q ∷ []) (each qs)
+        ∙ sym (reverse-append (plain_pass q ∷ []) (plain_passes qs))
+
+pub twice-turned : (xs ys : List (Vec Nest Global)) → ys ≡ reverse xs → from_last ys ≡ plain_passes xs
+twice-turned xs ys is = ap from_last is ∙ ap plain_passes (reverse-reverse xs)
+
+pub shorter : (A : Type 0) (xs ys : List A) (x : A) → xs ≡ ys ++ x ∷ [] → length ys + 1 ≡ length xs
+shorter A xs ys x is = sym (ap length is ∙ length-append ys (x ∷ []))
+
+pub as-long : (A : Type 0) (xs ys : List A) → xs ≡ ys ++ [] → length ys ≡ length xs
+as-long A xs ys is = sym (ap length (is ∙ append-nil ys))
+
+lift-front : (path : Path) (n before : ℕ) (zs : List PlainNest) (z : PlainNest) → AllLift path n before (zs ++ z ∷ []) → AllLift path n before zs
+lift-front path n before [] z h = tt
+lift-front path n before (y ∷ ys) z h = (h.0, lift-front path n before ys z h.1)
+
+lift-last : (path : Path) (n before : ℕ) (zs : List PlainNest) (z : PlainNest) → AllLift path n before (zs ++ z ∷ []) → CanLift path n before z
+lift-last path n before [] z h = h.0
+lift-last path n before (y ∷ ys) z h = lift-last path n before ys z h.1
+
+pub front-lifts : (path : Path) (n before : ℕ) (xs ys : List Nest) (x : Nest) → xs ≡ ys ++ x ∷ [] → AllLift path n before (map plain_nest xs) → AllLift path n before (map plain_nest ys)
+front-lifts path n before xs ys x is h = lift-front path n before (map plain_nest ys) (plain_nest x) (subst (AllLift path n before) (ap (map plain_nest) is ∙ map-append plain_nest ys (x ∷ [])) h)
+
+pub last-lifts : (path : Path) (n before : ℕ) (xs ys : List Nest) (x : Nest) → xs ≡ ys ++ x ∷ [] → AllLift path n before (map plain_nest xs) → CanLift path n before (plain_nest x)
+last-lifts path n before xs ys x is h = lift-last path n before (map plain_nest ys) (plain_nest x) (subst (AllLift path n before) (ap (map plain_nest) is ∙ map-append plain_nest ys (x ∷ [])) h)
+
+-- ---- under no tensors
+
+as-it-is : (e : Sum) → renumbered 0 e ≡ e
+as-it-is (constant c) = refl
+as-it-is (variable f d rest) = ap₂ (λ a b. variable f a b) (let is : d + 0 ≡ d = omega arith in is) (as-it-is rest)
+as-it-is (remainder f of m rest) = ap₂ (λ a b. remainder f a m b) (as-it-is of) (as-it-is rest)
+as-it-is (quotient f of m rest) = ap₂ (λ a b. quotient f a m b) (as-it-is of) (as-it-is rest)
+
+same-sums : (before : ℕ) (es : List Sum) → map (joined (constant before)) es ≡ map (λ e. joined (constant before) (renumbered 0 e)) es
+same-sums before [] = refl
+same-sums before (e ∷ es) = ap₂ (λ (x : Sum) xs. x ∷ xs) (ap (joined (constant before)) (sym (as-it-is e))) (same-sums before es)
+
+same-numbers : (es : List Sum) → es ≡ map (renumbered 0) es
+same-numbers [] = refl
+same-numbers (e ∷ es) = ap₂ (λ (x : Sum) xs. x ∷ xs) (sym (as-it-is e)) (same-numbers es)
+
+same-factors : (o : Option PlainMultiplier) → o ≡ renumbered_places 0 o
+same-factors None = refl
+same-factors (Some d) = ap (λ es. Some (record { factors = d.factors; places = es })) (same-numbers d.places)
+
+pub behind-lifted : (path : Path) (n before : ℕ) (zs : List PlainNest) → length path ≡ 0 → map (behind before) zs ≡ map (lifted path n before) zs
+behind-lifted (t ∷ path) n before zs none = absurd (omega (arith, none))
+behind-lifted [] n before zs none = each zs
+  where
+    each : (xs : List PlainNest) → map (behind before) xs ≡ map (lifted [] n before) xs
+    each [] = refl
+    each (z ∷ xs) =
+        ap₂ (λ (y : PlainNest) ys. y ∷ ys)
+        (ap (λ es. record { counts = z.counts; work = z.work; gathers = es; multiplier = z.multiplier; scatters = map (joined (constant before)) z.scatters }) (same-sums before z.gathers)
+        ∙ ap (λ o. record { counts = z.counts; work = z.work; gathers = map (λ e. joined (constant before) (renumbered 0 e)) z.gathers; multiplier = o; scatters = map (joined (constant before)) z.scatters }) (same-factors z.multiplier)
+        ∙ ap (λ es. record { counts = z.counts; work = z.work; gathers = map (λ e. joined (constant before) (renumbered 0 e)) z.gathers; multiplier = renumbered_places 0 z.multiplier; scatters = es }) (same-sums before z.scatters))
+        (each xs)
+
+sums-fit : (counts : List ℕ) (n before : ℕ) (es : List Sum) → AreRaised counts [] n before es → SumsFit before es
+sums-fit counts n before [] h = tt
+sums-fit counts n before (e ∷ es) h = (subst (λ x. before + constant_of x < 2 ^ 64) (as-it-is e) h.0.joins, sums-fit counts n before es h.1)
+
+pub all-fit : (path : Path) (n before : ℕ) (zs : List PlainNest) → length path ≡ 0 → AllLift path n before zs → AllFit before zs
+all-fit (t ∷ path) n before zs none h = absurd (omega (arith, none))
+all-fit [] n before [] none h = tt
+all-fit [] n before (z ∷ zs) none h =
+    (sums-fit (counts_under [] z) n before z.gathers h.0.gathers, sums-fit (counts_under [] z) n before z.scatters h.0.scatters, all-fit [] n before zs none h.1)

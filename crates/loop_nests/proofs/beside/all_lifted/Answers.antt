@@ -1,0 +1,18 @@
+use Rattle.std.proofs.Common.{sym, ap, ◌∙◌, subst, map}
+use Rattle.std.proofs.lemmas.List.{with_items_is}
+use Rattle.passes.specs.Views.{plain_nest}
+use Rattle.loop_nests.specs.Lifted.{AllFit, behind}
+use Rattle.loop_nests.proofs.Standing.{all-fit, behind-lifted}
+use Rattle.loop_nests.proofs.beside.all_lifted.Goals as goal
+
+pub raise_nests-requires : goal.raise_nests-requires
+raise_nests-requires c =
+    subst (λ zs. AllFit c.args.before (map plain_nest zs)) (sym c.deref_mut.ensures.value)
+    (all-fit c.args.path.now c.args.size c.args.before (map plain_nest c.args.nests.items) c.in-None.ensures.cases c.requires)
+
+pub returns-in-None : goal.returns-in-None
+returns-in-None c =
+    ap (map plain_nest) (with_items_is c.args.nests c.raise_nests.new.nests (c.raise_nests.auto.nests ∙ c.deref_mut.ensures.len))
+    ∙ c.raise_nests.ensures
+    ∙ ap (λ zs. map (behind c.args.before) (map plain_nest zs)) c.deref_mut.ensures.value
+    ∙ behind-lifted c.args.path.now c.args.size c.args.before (map plain_nest c.args.nests.items) c.in-None.ensures.cases

@@ -1,0 +1,4 @@
+pub mod Views
+pub mod Ready
+pub mod Placed
+pub mod Lifted

@@ -1,0 +1,68 @@
+-- Nests of a part, which can be made part of a larger array with words of 64 bits.
+use Rattle.std.specs.Prelude.{ℕ, ◌+◌, ◌-◌, ◌^◌, ◌<◌, ◌≤◌, List, [], ◌∷◌, ◌++◌, map, length, slice_index, Option, Some, None}
+use Rattle.passes.specs.Merge.{copying, renumbered}
+use Rattle.passes.specs.Nest.{PlainMultiplier, PlainNest}
+use Rattle.passes.specs.Work.{HasWords, work_size}
+use Rattle.perm_algebra.specs.Affine.{Sum, constant, joined, value}
+use Rattle.perm_algebra.specs.Fits.{IsAffine, Stays}
+use Rattle.perm_algebra.specs.Room.{CanJoin, HasCounts, constant_of}
+use Rattle.tensor_paths.specs.Path.{Path, count_of}
+use Rattle.loop_nests.specs.Placed.{CanName}
+
+-- a place of the part: m variables have counts, with those of the path
+pub record CanRaise (m : ℕ) (cs : ℕ → ℕ) (path : Path) (n before : ℕ) (e : Sum) : Type 0 where
+  pub counts : HasCounts (m - length path) e
+  pub affine : IsAffine m cs (renumbered (length path) e)
+  pub fits : Stays cs (λ vs. before + value (renumbered (length path) e) vs)
+  pub joins : CanJoin (constant before) (renumbered (length path) e)
+  pub named : CanName m cs path n 0 (joined (constant before) (renumbered (length path) e))
+
+abbrev pub AreRaised : List ℕ → Path → ℕ → ℕ → List Sum → Type 0
+AreRaised counts path n before [] = Unit {0}
+AreRaised counts path n before (e ∷ es) = CanRaise (length counts) (slice_index counts) path n before e × AreRaised counts path n before es
+
+abbrev pub AreCounted : ℕ → List Sum → Type 0
+AreCounted m [] = Unit {0}
+AreCounted m (e ∷ es) = HasCounts m e × AreCounted m es
+
+abbrev pub IsCounted : ℕ → Option PlainMultiplier → Type 0
+IsCounted m None = Unit {0}
+IsCounted m (Some d) = AreCounted m d.places
+
+-- what all variables of a lifted nest run below
+abbrev pub counts_under : Path → PlainNest → List ℕ
+counts_under path z = (map count_of path ++ z.counts) ++ work_size z.work ∷ work_size z.work ∷ []
+
+pub record CanLift (path : Path) (n before : ℕ) (z : PlainNest) : Type 0 where
+  pub words : HasWords z.work
+  pub gathers : AreRaised (counts_under path z) path n before z.gathers
+  pub scatters : AreRaised (counts_under path z) path n before z.scatters
+  pub multiplier : IsCounted (length (counts_under path z) - length path) z.multiplier
+
+abbrev pub AllLift : Path → ℕ → ℕ → List PlainNest → Type 0
+AllLift path n before [] = Unit {0}
+AllLift path n before (z ∷ zs) = CanLift path n before z × AllLift path n before zs
+
+abbrev pub AreLifted : Path → ℕ → ℕ → List (List PlainNest) → Type 0
+AreLifted path n before [] = Unit {0}
+AreLifted path n before (zs ∷ ps) = AllLift path n before zs × AreLifted path n before ps
+
+-- the same nest behind so many words
+abbrev pub behind : ℕ → PlainNest → PlainNest
+behind before z = record { counts = z.counts; work = z.work; gathers = map (joined (constant before)) z.gathers; multiplier = z.multiplier; scatters = map (joined (constant before)) z.scatters }
+
+-- each place is a word there
+abbrev pub SumsFit : ℕ → List Sum → Type 0
+SumsFit before [] = Unit {0}
+SumsFit before (e ∷ es) = (before + constant_of e < 2 ^ 64) × SumsFit before es
+
+abbrev pub AllFit : ℕ → List PlainNest → Type 0
+AllFit before [] = Unit {0}
+AllFit before (z ∷ zs) = SumsFit before z.gathers × SumsFit before z.scatters × AllFit before zs
+
+-- two parts, of n and of k words, and copies of either
+pub record CanStand (path : Path) (n k : ℕ) : Type 0 where
+  pub left : (0 < n) × (n ≤ 2 ^ 20)
+  pub right : (0 < k) × (k ≤ 2 ^ 20)
+  pub first : AllLift path (n + k) 0 (copying n)
+  pub second : AllLift path (n + k) n (copying k)

@@ -1,0 +1,149 @@
+// Passes side by side.
+ghost use Rattle.std.specs.Prelude.{◌≡◌, ◌+◌, ◌^◌, ◌<◌, ◌≤◌, ◌++◌, IfOk, OnOk, map};
+ghost use Rattle.passes.specs.Limits.{AreSeveral, AreWithin};
+ghost use Rattle.passes.specs.Merge.{lifted, side, sides};
+ghost use Rattle.passes.specs.Views.{plain_nest};
+ghost use Rattle.tensor_paths.specs.Path.{size_under};
+ghost use Rattle.loop_nests.specs.Ready.{AreReadyPasses};
+ghost use Rattle.loop_nests.specs.Lifted.{AllLift, AreLifted, CanStand};
+ghost use Rattle.loop_nests.specs.Views.{from_last, plain_passes};
+
+use crate::lifted::{lifted, raise_nests};
+use crate::nests::copying;
+use memory::NoMemory;
+use passes::Nest;
+use std::alloc::Global;
+use tensor_paths::Tensor;
+
+/// The passes of two parts, on lists of so many words, under the tensors of a path: the latest first.
+pub fn sides(
+    alloc: Global,
+    path: &[Tensor],
+    sizes: (u64, u64),
+    _room: u64,
+    first: Vec<Vec<Nest>>,
+    second: Vec<Vec<Nest>>,
+) -> Result<Vec<Vec<Nest>>, NoMemory>
+    requires several { AreSeveral path.now }
+    requires some { (0 < sizes.0) × (0 < sizes.1) }
+    requires high { size_under path.now (sizes.0 + sizes.1) ≤ 2 ^ 20 }
+    requires first { AreWithin _room sizes.0 (plain_passes first.items) × AreReadyPasses (plain_passes first.items) }
+    requires second { AreWithin _room sizes.1 (plain_passes second.items) × AreReadyPasses (plain_passes second.items) }
+    ensures { IfOk result (λ ps. plain_passes ps.items ≡ sides path.now sizes.0 sizes.1 (plain_passes first.items) (plain_passes second.items)) }
+{
+    let mut first = first;
+    let mut second = second;
+    first.reverse();
+    second.reverse();
+    let mut both = Vec::new(alloc);
+    put_sides(alloc, path, sizes, &mut first, &mut second, &mut both)?;
+    Ok(both)
+}
+
+// Appends the passes of two parts, which it takes from the end: the shorter begins with copies.
+fn put_sides(
+    alloc: Global,
+    path: &[Tensor],
+    sizes: (u64, u64),
+    first: &mut Vec<Vec<Nest>>,
+    second: &mut Vec<Vec<Nest>>,
+    both: &mut Vec<Vec<Nest>>,
+) -> Result<(), NoMemory>
+    requires stand { CanStand path.now sizes.0 sizes.1 }
+    requires first { AreLifted path.now (sizes.0 + sizes.1) 0 (from_last first.old.items) }
+    requires second { AreLifted path.now (sizes.0 + sizes.1) sizes.0 (from_last second.old.items) }
+    ensures { OnOk result (plain_passes both.new.items ≡ plain_passes both.old.items ++ sides path.now sizes.0 sizes.1 (from_last first.old.items) (from_last second.old.items)) }
+{
+    let (n, k) = sizes;
+    match first.pop() {
+        None => match second.pop() {
+            None => Ok(()),
+            Some(other) => {
+                let copies = copying(alloc, n)?;
+                both.push(side(alloc, path, sizes, copies, other)?)?;
+                put_sides(alloc, path, sizes, first, second, both)?;
+                Ok(())
+            }
+        },
+        Some(pass) => match second.pop() {
+            None => {
+                let copies = copying(alloc, k)?;
+                both.push(side(alloc, path, sizes, pass, copies)?)?;
+                put_sides(alloc, path, sizes, first, second, both)?;
+                Ok(())
+            }
+            Some(other) => {
+                both.push(side(alloc, path, sizes, pass, other)?)?;
+                put_sides(alloc, path, sizes, first, second, both)?;
+                Ok(())
+            }
+        },
+    }
+}
+
+// A pass of each part, as one.
+fn side(
+    alloc: Global,
+    path: &[Tensor],
+    sizes: (u64, u64),
+    first: Vec<Nest>,
+    second: Vec<Nest>,
+) -> Result<Vec<Nest>, NoMemory>
+    requires first { AllLift path.now (sizes.0 + sizes.1) 0 (map plain_nest first.items) }
+    requires second { AllLift path.now (sizes.0 + sizes.1) sizes.0 (map plain_nest second.items) }
+    requires fits { sizes.0 + sizes.1 < 2 ^ 64 }
+    ensures { IfOk result (λ zs. map plain_nest zs.items ≡ side path.now sizes.0 sizes.1 (map plain_nest first.items) (map plain_nest second.items)) }
+{
+    let (n, k) = sizes;
+    let mut both = all_lifted(alloc, path, n + k, 0, first)?;
+    let mut more = all_lifted(alloc, path, n + k, n, second)?;
+    both.append(&mut more)?;
+    Ok(both)
+}
+
+// The nests of a part. Under no tensors they stand where they are.
+fn all_lifted(
+    alloc: Global,
+    path: &[Tensor],
+    size: u64,
+    before: u64,
+    nests: Vec<Nest>,
+) -> Result<Vec<Nest>, NoMemory>
+    requires { AllLift path.now size before (map plain_nest nests.items) }
+    ensures { IfOk result (λ zs. map plain_nest zs.items ≡ map (lifted path.now size before) (map plain_nest nests.items)) }
+{
+    let mut nests = nests;
+    match path.split_first() {
+        None => {
+            raise_nests(before, &mut nests);
+            Ok(nests)
+        }
+        Some(_) => {
+            let mut all = Vec::new(alloc);
+            put_lifted(alloc, path, size, before, &mut nests, &mut all)?;
+            Ok(all)
+        }
+    }
+}
+
+// Appends the nests of a part.
+fn put_lifted(
+    alloc: Global,
+    path: &[Tensor],
+    size: u64,
+    before: u64,
+    nests: &mut Vec<Nest>,
+    all: &mut Vec<Nest>,
+) -> Result<(), NoMemory>
+    requires { AllLift path.now size before (map plain_nest nests.old.items) }
+    ensures { OnOk result (map plain_nest all.new.items ≡ map plain_nest all.old.items ++ map (lifted path.now size before) (map plain_nest nests.old.items)) }
+{
+    match nests.pop() {
+        None => Ok(()),
+        Some(nest) => {
+            put_lifted(alloc, path, size, before, nests, all)?;
+            all.push(lifted(alloc, path, size, before, nest)?)?;
+            Ok(())
+        }
+    }
+}

@@ -1,0 +1,184 @@
+// Nests of a part, under tensors behind the words before it.
+ghost use Rattle.std.specs.Prelude.{◌≡◌, ◌+◌, ◌-◌, ◌^◌, ◌<◌, ◌++◌, IfOk, All, length, map, slice_index};
+ghost use Rattle.std.specs.Option.{option_map};
+ghost use Rattle.passes.specs.Merge.{lifted, place_sum, renumbered, renumbered_places};
+ghost use Rattle.passes.specs.Views.{plain_multiplier, plain_nest};
+ghost use Rattle.passes.specs.Work.{HasWords};
+ghost use Rattle.perm_algebra.specs.Affine.{constant, joined};
+ghost use Rattle.perm_algebra.specs.Room.{HasCounts, constant_of};
+ghost use Rattle.perm_algebra.specs.Views.{plain_sum};
+ghost use Rattle.tensor_paths.specs.Path.{count_of};
+ghost use Rattle.loop_nests.specs.Lifted.{AllFit, CanLift, CanRaise, IsCounted, SumsFit, behind, counts_under};
+
+use crate::placed::{placed, renumbered};
+use memory::NoMemory;
+use passes::{Multiplier, Nest, counts, limits};
+use perm_algebra::{Affine, both};
+use smallvec::SmallVec;
+use std::alloc::Global;
+use tensor_paths::Tensor;
+
+/// A nest of a part that begins behind so many words, under the tensors of a path round `size` words.
+pub(crate) fn lifted(
+    alloc: Global,
+    path: &[Tensor],
+    size: u64,
+    before: u64,
+    nest: Nest,
+) -> Result<Nest, NoMemory>
+    requires { CanLift path.now size before (plain_nest nest) }
+    ensures { IfOk result (λ z. plain_nest z ≡ lifted path.now size before (plain_nest nest)) }
+{
+    let counts = counts_round(alloc, path, &nest.counts)?;
+    let limits = limits_under(alloc, path, &nest)?;
+    let Nest {
+        work,
+        gathers,
+        multiplier,
+        scatters,
+        ..
+    } = nest;
+    let gathers = all_raised(alloc, &limits, path, size, before, &gathers)?;
+    let multiplier = counted_on(alloc, &limits, path.len() as u64, multiplier)?;
+    let scatters = all_raised(alloc, &limits, path, size, before, &scatters)?;
+    Ok(Nest {
+        counts,
+        work,
+        gathers,
+        multiplier,
+        scatters,
+    })
+}
+
+// The counts of the path's loops, and these.
+fn counts_round(alloc: Global, path: &[Tensor], inner: &[u64]) -> Result<SmallVec<u64, 8>, NoMemory>
+    ensures { IfOk result (λ all. all.items ≡ map count_of path.now ++ inner.now) }
+{
+    let mut all = counts(alloc, path)?;
+    all.extend_from_slice(inner)?;
+    Ok(all)
+}
+
+// What all variables of the lifted nest run below.
+fn limits_under(alloc: Global, path: &[Tensor], nest: &Nest) -> Result<SmallVec<u64, 10>, NoMemory>
+    requires { HasWords (plain_nest nest.now).work }
+    ensures { IfOk result (λ limits. limits.items ≡ counts_under path.now (plain_nest nest.now)) }
+{
+    let counts = counts_round(alloc, path, &nest.counts)?;
+    let limits = limits(alloc, &counts, nest.work.size())?;
+    Ok(limits)
+}
+
+fn all_raised(
+    alloc: Global,
+    limits: &[u64],
+    path: &[Tensor],
+    size: u64,
+    before: u64,
+    sums: &[Affine],
+) -> Result<Vec<Affine>, NoMemory>
+    requires { All (λ e. CanRaise (length limits.now) (slice_index limits.now) path.now size before (plain_sum e)) sums.now }
+    ensures { IfOk result (λ es. map plain_sum es.items ≡ map (λ e. place_sum path.now size 0 (joined (constant before) (renumbered (length path.now) e))) (map plain_sum sums.now)) }
+{
+    let mut places = Vec::with_capacity(alloc, sums.len())?;
+    for sum in sums {
+        let place = raised(alloc, limits, path, size, before, sum)?;
+        places.push(place)?;
+    }
+    Ok(places)
+}
+
+// A place of the part, in the whole.
+fn raised(
+    alloc: Global,
+    limits: &[u64],
+    path: &[Tensor],
+    size: u64,
+    before: u64,
+    sum: &Affine,
+) -> Result<Affine, NoMemory>
+    requires { CanRaise (length limits.now) (slice_index limits.now) path.now size before (plain_sum sum.now) }
+    ensures { IfOk result (λ e. plain_sum e ≡ place_sum path.now size 0 (joined (constant before) (renumbered (length path.now) (plain_sum sum.now)))) }
+{
+    let higher = renumbered(alloc, limits, path.len() as u64, sum)?;
+    let behind = both(limits, Affine::Constant(before), higher);
+    let place = placed(alloc, limits, path, size, 0, behind)?;
+    Ok(place)
+}
+
+// The places of a diagonal's factors, whose variables have higher numbers.
+#[tactic(auto, using(crate::proofs::Lifting::all_counted))]
+fn counted_on(
+    alloc: Global,
+    limits: &[u64],
+    by: u64,
+    multiplier: Option<Multiplier>,
+) -> Result<Option<Multiplier>, NoMemory>
+    requires { IsCounted (length limits.now - by) (option_map plain_multiplier multiplier) }
+    ensures { IfOk result (λ d. option_map plain_multiplier d ≡ renumbered_places by (option_map plain_multiplier multiplier)) }
+{
+    match multiplier {
+        None => Ok(None),
+        Some(multiplier) => {
+            let places = all_renumbered(alloc, limits, by, &multiplier.places)?;
+            let factors = multiplier.factors;
+            Ok(Some(Multiplier { factors, places }))
+        }
+    }
+}
+
+fn all_renumbered(
+    alloc: Global,
+    limits: &[u64],
+    by: u64,
+    sums: &[Affine],
+) -> Result<Vec<Affine>, NoMemory>
+    requires { All (λ e. HasCounts (length limits.now - by) (plain_sum e)) sums.now }
+    ensures { IfOk result (λ es. map plain_sum es.items ≡ map (renumbered by) (map plain_sum sums.now)) }
+{
+    let mut higher = Vec::new(alloc);
+    for sum in sums {
+        higher.push(renumbered(alloc, limits, by, sum)?)?;
+    }
+    Ok(higher)
+}
+
+/// Nests of a part that begins behind so many words.
+pub(crate) fn raise_nests(before: u64, nests: &mut [Nest])
+    requires { AllFit before (map plain_nest nests.old) }
+    ensures { map plain_nest nests.new ≡ map (behind before) (map plain_nest nests.old) }
+{
+    match nests.split_first_mut() {
+        None => (),
+        Some((nest, rest)) => {
+            raise_sums(before, &mut nest.gathers);
+            raise_sums(before, &mut nest.scatters);
+            raise_nests(before, rest);
+        }
+    }
+}
+
+fn raise_sums(before: u64, sums: &mut [Affine])
+    requires { SumsFit before (map plain_sum sums.old) }
+    ensures { map plain_sum sums.new ≡ map (joined (constant before)) (map plain_sum sums.old) }
+{
+    match sums.split_first_mut() {
+        None => (),
+        Some((sum, rest)) => {
+            raise(before, sum);
+            raise_sums(before, rest);
+        }
+    }
+}
+
+fn raise(before: u64, sum: &mut Affine)
+    requires { before + constant_of (plain_sum sum.old) < 2 ^ 64 }
+    ensures { plain_sum sum.new ≡ joined (constant before) (plain_sum sum.old) }
+{
+    match sum {
+        Affine::Constant(c) => *c += before,
+        Affine::Variable(_, _, rest) => raise(before, rest),
+        Affine::Remainder(_, _, _, rest) => raise(before, rest),
+        Affine::Quotient(_, _, _, rest) => raise(before, rest),
+    }
+}

@@ -1,0 +1,268 @@
+// New nests, and copies of nests.
+ghost use Rattle.std.specs.Prelude.{◌≡◌, ◌^◌, ◌<◌, ◌≤◌, ◌++◌, ◌∷◌, [], IfOk, length, map};
+ghost use Rattle.std.specs.Option.{option_map};
+ghost use Rattle.index_fn.specs.Index.{mapping_of};
+ghost use Rattle.index_fn.specs.Mapping.{IsWellFormed, at};
+ghost use Rattle.operators.specs.Sum.{list_below};
+ghost use Rattle.passes.specs.Good.{AreBelow};
+ghost use Rattle.passes.specs.Limits.{AreSeveral, HasRows};
+ghost use Rattle.passes.specs.Merge.{copying, items_in, items_out, new_nest, one_loop, place_sum};
+ghost use Rattle.passes.specs.Views.{plain_factors, plain_multiplier, plain_nest, plain_work};
+ghost use Rattle.passes.specs.Work.{HasWords, copy, work_size};
+ghost use Rattle.perm_algebra.specs.Affine.{constant};
+ghost use Rattle.perm_algebra.specs.Views.{plain_sum};
+ghost use Rattle.tensor_paths.specs.Path.{count_of, size_under};
+ghost use Rattle.passes.specs.Words.{IsDefinedBelow};
+ghost use Rattle.loop_nests.specs.Placed.{AllNamed};
+
+use crate::placed::all_placed;
+use index_fn::Index;
+use memory::NoMemory;
+use passes::{Factors, Multiplier, Nest, Work, counts, items_in, items_out, limits};
+use perm_algebra::{Affine, copy};
+use smallvec::SmallVec;
+use std::alloc::Global;
+use tensor_paths::Tensor;
+
+/// Copies of some work, which load and store where their tensors put them.
+pub fn natural_nest(alloc: Global, path: &[Tensor], work: Work) -> Result<Nest, NoMemory>
+    requires words { HasWords (plain_work work) }
+    requires rows { HasRows (plain_work work) }
+    requires several { AreSeveral path.now }
+    requires some { 0 < work_size (plain_work work) }
+    requires high { size_under path.now (work_size (plain_work work)) ≤ 2 ^ 20 }
+    ensures { IfOk result (λ z. plain_nest z ≡ new_nest path.now (plain_work work) (items_in (plain_work work) (length path.now))) }
+{
+    let counts = counts(alloc, path)?;
+    let limits = limits(alloc, &counts, work.size())?;
+    let gathers = loads(alloc, &limits, path, &work)?;
+    let scatters = stores(alloc, &limits, path, &work)?;
+    Ok(Nest {
+        counts,
+        work,
+        gathers,
+        multiplier: None,
+        scatters,
+    })
+}
+
+// Where the work's items are loaded from.
+#[tactic(auto, using(crate::proofs::Items::all_named, crate::proofs::Items::loads_named))]
+fn loads(
+    alloc: Global,
+    limits: &[u64],
+    path: &[Tensor],
+    work: &Work,
+) -> Result<Vec<Affine>, NoMemory>
+    requires limits { limits.now ≡ map count_of path.now ++ work_size (plain_work work.now) ∷ work_size (plain_work work.now) ∷ [] }
+    requires words { HasWords (plain_work work.now) }
+    requires rows { HasRows (plain_work work.now) }
+    requires several { AreSeveral path.now }
+    requires some { 0 < work_size (plain_work work.now) }
+    requires high { size_under path.now (work_size (plain_work work.now)) ≤ 2 ^ 20 }
+    ensures { IfOk result (λ es. map plain_sum es.items ≡ map (place_sum path.now (work_size (plain_work work.now)) 0) (items_in (plain_work work.now) (length path.now))) }
+{
+    let items = items_in(alloc, work, path.len() as u64)?;
+    let places = all_placed(alloc, limits, path, work.size(), &items)?;
+    Ok(places)
+}
+
+// Where they are stored.
+#[tactic(auto, using(crate::proofs::Items::all_named, crate::proofs::Items::stores_named))]
+fn stores(
+    alloc: Global,
+    limits: &[u64],
+    path: &[Tensor],
+    work: &Work,
+) -> Result<Vec<Affine>, NoMemory>
+    requires limits { limits.now ≡ map count_of path.now ++ work_size (plain_work work.now) ∷ work_size (plain_work work.now) ∷ [] }
+    requires words { HasWords (plain_work work.now) }
+    requires rows { HasRows (plain_work work.now) }
+    requires several { AreSeveral path.now }
+    requires some { 0 < work_size (plain_work work.now) }
+    requires high { size_under path.now (work_size (plain_work work.now)) ≤ 2 ^ 20 }
+    ensures { IfOk result (λ es. map plain_sum es.items ≡ map (place_sum path.now (work_size (plain_work work.now)) 0) (items_out (plain_work work.now) (length path.now))) }
+{
+    let items = items_out(alloc, work, path.len() as u64)?;
+    let places = all_placed(alloc, limits, path, work.size(), &items)?;
+    Ok(places)
+}
+
+/// Copies that take their items from these places of the copy.
+#[tactic(auto, using(crate::proofs::Items::places_named))]
+pub fn moved_nest(alloc: Global, path: &[Tensor], places: &[u64]) -> Result<Nest, NoMemory>
+    requires below { AreBelow (length places.now) places.now }
+    requires several { AreSeveral path.now }
+    requires some { 0 < length places.now }
+    requires high { size_under path.now (length places.now) ≤ 2 ^ 20 }
+    ensures { IfOk result (λ z. plain_nest z ≡ new_nest path.now (copy (length places.now)) (map constant places.now)) }
+{
+    let nest = listed_nest(alloc, path, places)?;
+    Ok(nest)
+}
+
+#[tactic(auto, using(crate::proofs::Items::all_named))]
+fn listed_nest(alloc: Global, path: &[Tensor], places: &[u64]) -> Result<Nest, NoMemory>
+    requires named { AllNamed (map count_of path.now ++ length places.now ∷ length places.now ∷ []) path.now (length places.now) (map constant places.now) }
+    requires several { AreSeveral path.now }
+    requires some { 0 < length places.now }
+    requires high { size_under path.now (length places.now) ≤ 2 ^ 20 }
+    ensures { IfOk result (λ z. plain_nest z ≡ new_nest path.now (copy (length places.now)) (map constant places.now)) }
+{
+    let size = places.len() as u64;
+    let work = Work::Copy { size };
+    let counts = counts(alloc, path)?;
+    let limits = limits(alloc, &counts, size)?;
+    let items = numbers(alloc, places)?;
+    let gathers = all_placed(alloc, &limits, path, size, &items)?;
+    let scatters = stores(alloc, &limits, path, &work)?;
+    Ok(Nest {
+        counts,
+        work,
+        gathers,
+        multiplier: None,
+        scatters,
+    })
+}
+
+fn numbers(alloc: Global, places: &[u64]) -> Result<Vec<Affine>, NoMemory>
+    ensures { IfOk result (λ es. map plain_sum es.items ≡ map constant places.now) }
+{
+    let mut numbers = Vec::new(alloc);
+    for place in places {
+        numbers.push(Affine::Constant(*place))?;
+    }
+    Ok(numbers)
+}
+
+/// A pass that changes nothing, on so many words.
+#[tactic(auto, using(crate::proofs::Items::loop_several, crate::proofs::Items::loop_size))]
+pub fn copying(alloc: Global, size: u64) -> Result<Vec<Nest>, NoMemory>
+    requires some { 0 < size }
+    requires high { size ≤ 2 ^ 20 }
+    ensures { IfOk result (λ zs. map plain_nest zs.items ≡ copying size) }
+{
+    let path = one_loop(alloc, size)?;
+    let nest = natural_nest(alloc, &path, Work::Copy { size: 1 })?;
+    let nests = alone(alloc, nest)?;
+    Ok(nests)
+}
+
+// A loop over so many words, which is none for one word.
+fn one_loop(alloc: Global, size: u64) -> Result<Vec<Tensor>, NoMemory>
+    ensures { IfOk result (λ path. path.items ≡ one_loop size) }
+{
+    let mut path = Vec::new(alloc);
+    if size != 1 {
+        path.push(Tensor::Blocks(size))?;
+    }
+    Ok(path)
+}
+
+/// A pass of one nest.
+pub fn alone(alloc: Global, nest: Nest) -> Result<Vec<Nest>, NoMemory>
+    ensures { IfOk result (λ zs. map plain_nest zs.items ≡ plain_nest nest ∷ []) }
+{
+    let mut nests = Vec::new(alloc);
+    nests.push(nest)?;
+    Ok(nests)
+}
+
+/// A gather as a copy pass, word by word.
+#[tactic(auto, using(crate::proofs::Items::alone_named))]
+pub fn copying_words(alloc: Global, size: u64, f: &Index) -> Result<Vec<Nest>, NoMemory>
+    requires some { 0 < size }
+    requires high { size ≤ 2 ^ 20 }
+    requires formed { IsWellFormed (mapping_of f.now) }
+    requires defined { IsDefinedBelow size (mapping_of f.now) }
+    ensures { IfOk result (λ zs. map plain_nest zs.items ≡ new_nest [] (copy (length (list_below size (at (mapping_of f.now))))) (map constant (list_below size (at (mapping_of f.now)))) ∷ []) }
+{
+    let places = values(alloc, size, f)?;
+    let nest = listed_nest(alloc, &[], &places)?;
+    let nests = alone(alloc, nest)?;
+    Ok(nests)
+}
+
+// The function's values below a size.
+#[tactic(auto, using(crate::proofs::Items::values_count, crate::proofs::Items::values_more))]
+fn values(alloc: Global, size: u64, f: &Index) -> Result<Vec<u64>, NoMemory>
+    requires formed { IsWellFormed (mapping_of f.now) }
+    requires defined { IsDefinedBelow size (mapping_of f.now) }
+    ensures value { IfOk result (λ ks. ks.items ≡ list_below size (at (mapping_of f.now))) }
+    ensures count { IfOk result (λ ks. length ks.items ≡ size) }
+{
+    let mut values = Vec::new(alloc);
+    for i in 0..size {
+        values.push(f.at(i))?;
+    }
+    Ok(values)
+}
+
+/// The same nest, in other memory.
+pub fn copied_nest(alloc: Global, nest: &Nest) -> Result<Nest, NoMemory>
+    ensures { IfOk result (λ z. plain_nest z ≡ plain_nest nest.now) }
+{
+    let counts = SmallVec::from_slice(alloc, &nest.counts)?;
+    let work = nest.work.copied(alloc)?;
+    let gathers = copied_sums(alloc, &nest.gathers)?;
+    let multiplier = copied_multiplier(alloc, &nest.multiplier)?;
+    let scatters = copied_sums(alloc, &nest.scatters)?;
+    Ok(Nest {
+        counts,
+        work,
+        gathers,
+        multiplier,
+        scatters,
+    })
+}
+
+fn copied_multiplier(
+    alloc: Global,
+    multiplier: &Option<Multiplier>,
+) -> Result<Option<Multiplier>, NoMemory>
+    ensures { IfOk result (λ d. option_map plain_multiplier d ≡ option_map plain_multiplier multiplier.now) }
+{
+    match multiplier {
+        None => Ok(None),
+        Some(multiplier) => {
+            let factors = copied_factors(alloc, &multiplier.factors)?;
+            let places = copied_sums(alloc, &multiplier.places)?;
+            Ok(Some(Multiplier { factors, places }))
+        }
+    }
+}
+
+/// The same sums, in other memory.
+pub fn copied_sums(alloc: Global, sums: &[Affine]) -> Result<Vec<Affine>, NoMemory>
+    ensures { IfOk result (λ es. map plain_sum es.items ≡ map plain_sum sums.now) }
+{
+    let mut others = Vec::with_capacity(alloc, sums.len())?;
+    for sum in sums {
+        let other = copy(alloc, sum)?;
+        others.push(other)?;
+    }
+    Ok(others)
+}
+
+/// The same factors, in other memory.
+pub fn copied_factors(alloc: Global, factors: &Factors) -> Result<Factors, NoMemory>
+    ensures { IfOk result (λ fs. plain_factors fs ≡ plain_factors factors.now) }
+{
+    match factors {
+        Factors::Values(entries) => Ok(Factors::Values(entries.as_slice().to_vec(alloc)?)),
+        Factors::Twiddles { rows, cols, root } => Ok(Factors::Twiddles {
+            rows: *rows,
+            cols: *cols,
+            root: *root,
+        }),
+        Factors::Repeated { value, count } => Ok(Factors::Repeated {
+            value: *value,
+            count: *count,
+        }),
+        Factors::Spread { path, factors } => {
+            let path = path.as_slice().to_vec(alloc)?;
+            let factors = Box::new(alloc, copied_factors(alloc, factors)?)?;
+            Ok(Factors::Spread { path, factors })
+        }
+    }
+}

@@ -1,0 +1,94 @@
+// Places of items under tensors, as sums of the loops' variables.
+ghost use Rattle.std.specs.Prelude.{◌≡◌, ◌-◌, IfOk, All, length, map, slice_index};
+ghost use Rattle.passes.specs.Merge.{place_sum, renumbered};
+ghost use Rattle.perm_algebra.specs.Room.{HasCounts};
+ghost use Rattle.perm_algebra.specs.Views.{plain_sum};
+ghost use Rattle.loop_nests.specs.Placed.{CanName};
+
+use memory::NoMemory;
+use passes::size_of_whole;
+use perm_algebra::{Affine, both, copy, multiple};
+use std::alloc::Global;
+use tensor_paths::Tensor;
+
+/// The place of each item in the copy that the variables of the path name.
+pub(crate) fn all_placed(
+    alloc: Global,
+    counts: &[u64],
+    path: &[Tensor],
+    size: u64,
+    items: &[Affine],
+) -> Result<Vec<Affine>, NoMemory>
+    requires { All (λ e. CanName (length counts.now) (slice_index counts.now) path.now size 0 (plain_sum e)) items.now }
+    ensures { IfOk result (λ places. map plain_sum places.items ≡ map (place_sum path.now size 0) (map plain_sum items.now)) }
+{
+    let mut places = Vec::with_capacity(alloc, items.len())?;
+    for item in items {
+        let one = placed(alloc, counts, path, size, 0, copy(alloc, item)?)?;
+        places.push(one)?;
+    }
+    Ok(places)
+}
+
+/// The place of an item in the copy that the variables from this one on name.
+pub(crate) fn placed(
+    alloc: Global,
+    counts: &[u64],
+    path: &[Tensor],
+    size: u64,
+    variable: u64,
+    item: Affine,
+) -> Result<Affine, NoMemory>
+    requires { CanName (length counts.now) (slice_index counts.now) path.now size variable (plain_sum item) }
+    ensures { IfOk result (λ place. plain_sum place ≡ place_sum path.now size variable (plain_sum item)) }
+{
+    match path.split_first() {
+        None => Ok(item),
+        Some((tensor, rest)) => {
+            let inner = placed(alloc, counts, rest, size, variable + 1, item)?;
+            let end = Box::new(alloc, Affine::Constant(0))?;
+            let copies = Affine::Variable(1, variable, end);
+            match tensor {
+                Tensor::Blocks(_) => {
+                    let whole = size_of_whole(rest, size);
+                    let begin = multiple(counts, whole, copies);
+                    Ok(both(counts, begin, inner))
+                }
+                Tensor::Columns(count) => {
+                    let begin = multiple(counts, *count, inner);
+                    Ok(both(counts, begin, copies))
+                }
+            }
+        }
+    }
+}
+
+/// The sum with higher numbers for its variables, which have counts then.
+pub(crate) fn renumbered(
+    alloc: Global,
+    counts: &[u64],
+    by: u64,
+    sum: &Affine,
+) -> Result<Affine, NoMemory>
+    requires { HasCounts (length counts.now - by) (plain_sum sum.now) }
+    ensures { IfOk result (λ e. plain_sum e ≡ renumbered by (plain_sum sum.now)) }
+{
+    let _count = counts.len();
+    match sum {
+        Affine::Constant(c) => Ok(Affine::Constant(*c)),
+        Affine::Variable(factor, variable, rest) => {
+            let rest = Box::new(alloc, renumbered(alloc, counts, by, rest)?)?;
+            Ok(Affine::Variable(*factor, *variable + by, rest))
+        }
+        Affine::Remainder(factor, of, divisor, rest) => {
+            let of = Box::new(alloc, renumbered(alloc, counts, by, of)?)?;
+            let rest = Box::new(alloc, renumbered(alloc, counts, by, rest)?)?;
+            Ok(Affine::Remainder(*factor, of, *divisor, rest))
+        }
+        Affine::Quotient(factor, of, divisor, rest) => {
+            let of = Box::new(alloc, renumbered(alloc, counts, by, of)?)?;
+            let rest = Box::new(alloc, renumbered(alloc, counts, by, rest)?)?;
+            Ok(Affine::Quotient(*factor, of, *divisor, rest))
+        }
+    }
+}

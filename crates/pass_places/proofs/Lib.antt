@@ -1,0 +1,5 @@
+pub mod Fitting
+pub mod Sums
+pub mod Passes
+pub mod Changes
+pub mod Carries

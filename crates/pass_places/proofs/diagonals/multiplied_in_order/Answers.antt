@@ -1,0 +1,8 @@
+use Rattle.passes.specs.Views.{plain_nest}
+use Rattle.pass_places.proofs.Sums.{mapped-more, alone}
+use Rattle.pass_places.proofs.diagonals.multiplied_in_order.Goals as goal
+
+pub loop-nest-preserved : goal.loop-nest-preserved
+loop-nest-preserved c =
+    mapped-more _ _ _ _ plain_nest _ plain_nest c.loop-nest.changed.items c.push.new.self.items c.in_ok-multiplied_by_place.field-0 c.args.nests.now c.loop-nest.nest-index c.nest-item.result
+    c.loop-nest-test.true c.nest-item.is c.in_ok-push.ensures.items c.loop-nest.invariant (alone _ _ _ c.in_ok-multiplied_by_place.ensures)

@@ -1,0 +1,23 @@
+-- What is known of a permutation and of a pass that takes it: each number on the way is a word.
+use Rattle.std.specs.Prelude.{◌≡◌, ℕ, true, List, [], ◌∷◌}
+use Rattle.index_fn.specs.Mapping.{Mapping}
+use Rattle.passes.specs.Good.{IsMove}
+use Rattle.passes.specs.Merge.{is_within}
+use Rattle.passes.specs.Nest.{PlainNest}
+use Rattle.passes.specs.Words.{HasNumbers}
+use Rattle.loop_nests.specs.Ready.{IsReadyPass}
+
+-- a permutation that waits
+pub record IsStep (n : ℕ) (f : Mapping) : Type 0 where
+  pub lanes : ℕ
+  pub moves : IsMove lanes n f
+  pub numbers : HasNumbers n f
+
+abbrev pub AreSteps : ℕ → List Mapping → Type 0
+AreSteps n [] = Unit {0}
+AreSteps n (f ∷ fs) = IsStep n f × AreSteps n fs
+
+-- the places of a pass are within the limits, and of words
+pub record IsKnownPass (room n : ℕ) (zs : List PlainNest) : Type 0 where
+  pub within : is_within room n zs ≡ true
+  pub ready : IsReadyPass zs

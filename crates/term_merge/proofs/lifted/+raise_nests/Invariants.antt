@@ -1,5 +1,0 @@
-use Rattle.std.specs.Prelude.{length}
-use Rattle.term_merge.proofs.lifted.+raise_nests.Given as goal
-
-abbrev pub decreases-raise_nests : goal.decreases-raise_nests
-decreases-raise_nests l = length l.nests.now

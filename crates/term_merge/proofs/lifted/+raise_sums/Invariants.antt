@@ -1,5 +1,0 @@
-use Rattle.std.specs.Prelude.{length}
-use Rattle.term_merge.proofs.lifted.+raise_sums.Given as goal
-
-abbrev pub decreases-raise_sums : goal.decreases-raise_sums
-decreases-raise_sums l = length l.sums.now
