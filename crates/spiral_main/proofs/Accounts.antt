@@ -1,10 +1,8 @@
 -- From what a command does to the account of the whole call.
-use Rattle.std.proofs.Common.{◌≡◌, ◌≢◌, ◌+◌, ◌-◌, ◌||◌, ℕ, List, [], ◌∷◌, ◌++◌, None, Some, Ok, Err, length, refl, sym, ap, subst, ◌∙◌, arith, append_assoc, length-append, inl, inr}
+use Rattle.std.proofs.Common.{◌≡◌, ◌≢◌, ◌+◌, ◌-◌, ℕ, List, [], ◌++◌, None, Some, Ok, Err, length, refl, sym, ap, subst, ◌∙◌, arith, append_assoc, length-append, inl, inr, true, false}
 use Rattle.std.proofs.KnownBytes.{Appends-nil, Consumes-trans}
-use Rattle.std.proofs.lemmas.List.Folds.{list_any-append}
-use Rattle.std.specs.List.{list_any}
 use Rattle.std.specs.declared.option.Option.{Option}
-use Rattle.std.specs.Io.KnownBytes.{Consumes, IsAtEnd, prepend_known}
+use Rattle.std.specs.Io.KnownBytes.{Consumes, IsAtEnd}
 use Rattle.transform_requests.specs.declared.TransformRequest.{TransformRequest}
 use Rattle.transform_requests.specs.Fields.{procs_of}
 use Rattle.request_text.specs.Schedule.{Plan}
@@ -14,42 +12,29 @@ use Rattle.spiral_words.specs.declared.Command.{Command}
 use Rattle.spiral_words.specs.declared.Command.TheVariants as command
 use Rattle.spiral_status.specs.declared.status.Status.{Status}
 use Rattle.spiral_status.specs.declared.status.Status.TheVariants.{ReadFault, WriteFault}
-use Rattle.spiral_main.specs.Commands.{commanded, AskForFormula, AskForConvolution}
-use Rattle.spiral_main.specs.Convolved.{Convolves, ToldConvolves}
-use Rattle.spiral_main.specs.Line.{data_of, is_line_end, HasEnded}
+use Rattle.spiral_input.specs.Commands.{commanded, AskForFormula, AskForConvolution, takes_convolution, takes_formula, takes_listing, takes_request}
+use Rattle.convolution_commands.specs.Convolved.{Convolves, ToldConvolves}
+use Rattle.spiral_input.specs.Line.{data_of, HasEnded, room_behind}
 use Rattle.spiral_status.specs.Status.{IsDefined}
-use Rattle.spiral_main.specs.Outcome.{IsAccepted, requested, spelt, Job, IsOrder, Settles, BreaksOff, ComesTo, room_behind, Accounts}
-use Rattle.spiral_main.specs.Asking.{AsksBy, Asks}
-use Rattle.spiral_main.specs.Steps.{IsEarly, Performs, ToldPerforms, Executes, ToldExecutes, Computes, ToldComputes, ToldAccounts}
-use Rattle.spiral_main.proofs.LineLemmas.{line_there}
-
-nothing_before : (xs ys : List ℕ) → xs ++ ys ≡ [] → xs ≡ []
-nothing_before [] ys e = refl
-nothing_before (x ∷ xs) ys e = absurd (cc)
-
-nothing_behind : (xs ys : List ℕ) → xs ++ ys ≡ [] → ys ≡ []
-nothing_behind [] ys e = e
-nothing_behind (x ∷ xs) ys e = absurd (cc)
-
--- of a source that has nothing left no bytes are read, and nothing is left then
-pub none_read : (rest read : List ℕ) (left : Option (List ℕ)) → Consumes (Some rest) left read → rest ≡ [] → read ≡ []
-none_read rest read None r e = absurd r
-none_read rest read (Some more) r e = nothing_before read more (sym r ∙ e)
-
-pub none_left : (rest read : List ℕ) (left : Option (List ℕ)) → Consumes (Some rest) left read → rest ≡ [] → IsAtEnd left
-none_left rest read None r e = absurd r
-none_left rest read (Some more) r e = nothing_behind read more (sym r ∙ e)
-
--- the same of bytes that are cut in two
-pub none_cut : (rest read left : List ℕ) → rest ≡ read ++ left → rest ≡ [] → (read ≡ []) × (left ≡ [])
-none_cut rest read left whole end = (nothing_before read left (sym whole ∙ end), nothing_behind read left (sym whole ∙ end))
-
--- a line that has ended has ended behind further bytes too
-pub still_ended : (read more : List ℕ) (now later : Type 0) → HasEnded read now → (now → later) → HasEnded (read ++ more) later
-still_ended read more now later (inl there) goes = inl (list_any-append is_line_end read more ∙ ap (λ b. b || list_any is_line_end more) there)
-still_ended read more now later (inr e) goes = inr (goes e)
+use Rattle.request_commands.specs.Settled.{IsAccepted, Settles, BreaksOff, ComesTo}
+use Rattle.spiral_input.specs.Asking.{requested, spelt, AsksBy, Asks}
+use Rattle.spiral_main.specs.Outcome.{Job, IsOrder, Accounts, ToldAccounts}
+use Rattle.spiral_input.specs.Refusals.{IsEarly}
+use Rattle.request_commands.specs.Performed.{Performs, ToldPerforms}
+use Rattle.listing_commands.specs.Listed.{Executes, ToldExecutes}
+use Rattle.formula_commands.specs.Compiled.{Computes, ToldComputes}
+use Rattle.spiral_input.proofs.InputLemmas.{none_read, none_left, none_cut, still_ended, nothing_held}
+use Rattle.spiral_input.proofs.LineLemmas.{line_there}
 
 -- By a request
+
+-- a command that goes neither by a listing nor by a formula, and does not convolve, goes by a request
+pub goes_by_request : (wanted : Command) → takes_listing wanted ≡ false → takes_formula wanted ≡ false → takes_convolution wanted ≡ false → takes_request wanted ≡ true
+goes_by_request (command.Compile modulus) listing formula convolution = absurd (cc)
+goes_by_request (command.Apply modulus schedule) listing formula convolution = absurd (cc)
+goes_by_request (command.Exec schedule) listing formula convolution = absurd (cc)
+goes_by_request (command.Convolve schedule as_code) listing formula convolution = absurd (cc)
+goes_by_request _ listing formula convolution = refl
 
 -- what a command does after the first line accounts for the whole call
 accounts_after : (words : List (List ℕ)) (bytes read rest : List ℕ) (taken : ℕ) (wanted : Command) (request : TransformRequest) (left out out' : Option (List ℕ)) (status : Status)
@@ -178,14 +163,6 @@ convolved_accounts words wanted (Some bytes) left out out' status asked p = reco
 }
 
 -- What the feed holds
-
-pub prepend_nothing : (left : Option (List ℕ)) → prepend_known [] left ≡ left
-prepend_nothing None = refl
-prepend_nothing (Some bytes) = refl
-
--- what is left for a feed that holds nothing is left in the source
-pub nothing_held : (feed : Fed) (left : Option (List ℕ)) → feed.held ≡ [] → to_come feed left ≡ left
-nothing_held feed left e = ap (λ h. prepend_known h left) e ∙ prepend_nothing left
 
 -- where a read failed, the feed holds nothing
 pub performs_by_source : (wanted : Command) (request : TransformRequest) (room : ℕ) (before : Option (List ℕ)) (feed : Fed) (left out out' : Option (List ℕ)) (status : Status)

@@ -11,21 +11,22 @@ use Rattle.spiral_words.proofs.Usage.{usage_nothing}
 use Rattle.transform_certs.proofs.OneVerdict.{one_verdict}
 use Rattle.transform_lines.proofs.Once.{one_answer}
 use Rattle.spiral_status.specs.declared.status.Status.{Status}
-use Rattle.spiral_main.specs.Checked.{IsChecked, status_of_verdict}
-use Rattle.spiral_main.specs.Commands.{reads_certificate, takes_formula, takes_request, takes_convolution, commanded, scheduled, AskForFormula, AskForConvolution}
-use Rattle.spiral_main.specs.Convolved.{IsConvAnswer}
-use Rattle.spiral_main.specs.Compiled.{IsFormulaAnswer}
+use Rattle.request_commands.specs.Checked.{IsChecked, status_of_verdict}
+use Rattle.spiral_input.specs.Commands.{reads_certificate, takes_formula, takes_request, takes_convolution, commanded, scheduled, AskForFormula, AskForConvolution}
+use Rattle.convolution_commands.specs.Convolved.{IsConvAnswer}
+use Rattle.formula_commands.specs.Compiled.{IsFormulaAnswer}
 use Rattle.spiral_status.specs.Fault.{status_of_request, status_of_generate}
-use Rattle.spiral_main.specs.Line.{line_of}
-use Rattle.spiral_main.specs.Outcome.{spelt, IsRefused, IsShutOut, IsAccepted, IsDeclined, requested, Job, accepted, ordered, IsTextOf, IsTextOfData, Settles, IsAnswerToRequest, IsOutcome, room_behind}
-use Rattle.spiral_main.specs.Line.{data_of}
-use Rattle.spiral_main.specs.Listed.{IsExecution}
-use Rattle.spiral_main.specs.Stage.{given}
-use Rattle.spiral_main.proofs.OneConvolution.{conv_status_once}
-use Rattle.spiral_main.proofs.OneExecution.{execution_status_once}
-use Rattle.spiral_main.proofs.OneFormula.{formula_status_once}
+use Rattle.spiral_input.specs.Line.{line_of, room_behind, data_of}
+use Rattle.spiral_input.specs.Asking.{spelt, requested}
+use Rattle.request_commands.specs.Settled.{IsRefused, IsShutOut, IsAccepted, IsDeclined, IsTextOf, IsTextOfData, Settles}
+use Rattle.spiral_main.specs.Outcome.{Job, accepted, ordered, IsAnswerToRequest, IsOutcome}
+use Rattle.listing_commands.specs.Listed.{IsExecution}
+use Rattle.spiral_input.specs.Stage.{given}
+use Rattle.convolution_commands.proofs.OneConvolution.{conv_status_once}
+use Rattle.listing_commands.proofs.OneExecution.{execution_status_once}
+use Rattle.formula_commands.proofs.OneFormula.{formula_status_once}
 use Rattle.spiral_main.proofs.OnePlan.{bar_clash, bar_once, plan_clash, refusal_once}
-use Rattle.spiral_main.proofs.Stages.{IsDecided, done, ended, done_same, ended_same, done_ended, given_decided, bind_decided}
+use Rattle.spiral_input.proofs.Stages.{IsDecided, done, ended, done_same, ended_same, done_ended, given_decided, bind_decided}
 use Rattle.spiral_words.proofs.OneCommand.{asked_once}
 
 -- The words and the line

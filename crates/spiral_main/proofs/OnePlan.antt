@@ -17,8 +17,8 @@ use Rattle.tree_model.specs.Breakdown.{Breakdown}
 use Rattle.tree_model.specs.Cost.{cost_of}
 use Rattle.plan_cert.proofs.OneTree.{chosen_once}
 use Rattle.transform_certs.proofs.OneText.{trees_once}
-use Rattle.spiral_main.proofs.OneConvolution.{least_once}
-use Rattle.spiral_main.proofs.PlanLemmas.{candidate_divides}
+use Rattle.convolution_commands.proofs.OneConvolution.{least_once}
+use Rattle.request_commands.proofs.PlanLemmas.{candidate_divides}
 
 two_values : (b : Bool) → b ≡ true → b ≡ false → ⊥
 two_values b p q = absurd (cc)

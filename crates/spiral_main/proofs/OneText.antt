@@ -15,21 +15,22 @@ use Rattle.spl_text.specs.Spelling.{spelling}
 use Rattle.transform_certs.proofs.OneText.{one_certificate}
 use Rattle.transform_certs.proofs.OneVerdict.{one_verdict}
 use Rattle.spiral_status.specs.declared.status.Status.{Status}
-use Rattle.spiral_main.specs.Checked.{IsChecked, verdict_text}
-use Rattle.spiral_main.specs.Commands.{prints_one_text}
-use Rattle.spiral_main.specs.Compiled.{IsFormulaAnswer}
-use Rattle.spiral_main.specs.Convolved.{IsConvAnswer}
-use Rattle.spiral_main.specs.Line.{data_of}
-use Rattle.spiral_main.specs.Listed.{IsExecution}
-use Rattle.spiral_main.specs.Outcome.{Job, ordered, product, IsTextOf, IsTextOfData, Settles, IsAnswerToRequest, IsOutcome, room_behind}
-use Rattle.spiral_main.specs.Sample.{sample_vector, weighted_sum, sample_text}
+use Rattle.request_commands.specs.Checked.{IsChecked, verdict_text}
+use Rattle.spiral_input.specs.Commands.{prints_one_text}
+use Rattle.formula_commands.specs.Compiled.{IsFormulaAnswer}
+use Rattle.convolution_commands.specs.Convolved.{IsConvAnswer}
+use Rattle.spiral_input.specs.Line.{data_of, room_behind}
+use Rattle.listing_commands.specs.Listed.{IsExecution}
+use Rattle.spiral_main.specs.Outcome.{Job, ordered, IsAnswerToRequest, IsOutcome}
+use Rattle.request_commands.specs.Settled.{product, IsTextOf, IsTextOfData, Settles}
+use Rattle.request_commands.specs.Sample.{sample_vector, weighted_sum, sample_text}
 use Rattle.spiral_words.proofs.OneCommand.{asked_once}
 use Rattle.spiral_main.proofs.OnePlan.{planned_once}
-use Rattle.spiral_main.proofs.OneConvolution.{conv_text_once}
-use Rattle.spiral_main.proofs.OneExecution.{execution_text_once}
-use Rattle.spiral_main.proofs.OneFormula.{formula_text_once}
+use Rattle.convolution_commands.proofs.OneConvolution.{conv_text_once}
+use Rattle.listing_commands.proofs.OneExecution.{execution_text_once}
+use Rattle.formula_commands.proofs.OneFormula.{formula_text_once}
 use Rattle.spiral_main.proofs.OneOutcome.{ordered_decided, data_or_text, data_or_check, text_or_check, no_both, listing_alone, request_alone, schedule_asked_once}
-use Rattle.spiral_main.proofs.Stages.{done_same, done_ended}
+use Rattle.spiral_input.proofs.Stages.{done_same, done_ended}
 
 text_once : (wanted : Command) (r : TransformRequest) (s t : List ℕ) → prints_one_text wanted ≡ true → IsTextOf wanted r s → IsTextOf wanted r t → s ≡ t
 text_once command.Plan r s t h p q = p.2 ∙ ap (plan_text r) (planned_once r p.0 q.0 p.1 q.1) ∙ sym q.2

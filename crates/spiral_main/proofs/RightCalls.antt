@@ -14,23 +14,24 @@ use Rattle.spiral_words.specs.declared.Command.TheVariants as command
 use Rattle.spiral_status.specs.declared.status.Status.{Status}
 use Rattle.spiral_status.specs.declared.status.Status.TheVariants.{Success, Usage, Syntax, Range, Shape, LanesLine, NotUnit, Turn, NotPrincipal, NoDivide, OverBudget, BadNumber, Truncated, ReadFault, WriteFault, NoMemory, TooLong, Unread, Wrong, FormulaShape, FormulaTooDeep, ListingSyntax, Address, Register, LineShared, OverSteps}
 use Rattle.spiral_status.specs.declared.status.Status.TheVariants as status
-use Rattle.spiral_main.specs.Checked.{IsChecked, status_of_verdict}
-use Rattle.spiral_main.specs.Commands.{reads_certificate, takes_convolution}
-use Rattle.spiral_main.specs.Convolved.{conv_in, list_status, conv_status, SettlesConv, IsConvAnswer}
+use Rattle.request_commands.specs.Checked.{IsChecked, status_of_verdict}
+use Rattle.spiral_input.specs.Commands.{reads_certificate, takes_convolution}
+use Rattle.convolution_commands.specs.Convolved.{conv_in, list_status, conv_status, SettlesConv, IsConvAnswer}
 use Rattle.spl_ast.specs.Formula.{Formula, size_of}
-use Rattle.spiral_main.specs.Compiled.{formula_in, SettlesFormula, IsFormulaAnswer}
+use Rattle.formula_commands.specs.Compiled.{formula_in, SettlesFormula, IsFormulaAnswer}
 use Rattle.spiral_status.specs.Fault.{status_of_stream}
-use Rattle.spiral_main.specs.Line.{data_of}
-use Rattle.spiral_main.specs.Listed.{runnable, room_behind_listing, IsAnswerOfProgram, IsExecution}
-use Rattle.spiral_main.specs.Outcome.{Job, IsTextOfData, Settles, IsAnswerToRequest, IsOutcome, room_behind, Accounts}
+use Rattle.spiral_input.specs.Line.{data_of, room_behind}
+use Rattle.listing_commands.specs.Listed.{runnable, room_behind_listing, IsAnswerOfProgram, IsExecution}
+use Rattle.spiral_main.specs.Outcome.{Job, IsAnswerToRequest, IsOutcome, Accounts}
+use Rattle.request_commands.specs.Settled.{IsTextOfData, Settles}
 use Rattle.spiral_main.specs.Right.{AreRightData, AreRightVectors, BeginWithList, AreWholeVectors, IsRightRest, IsRightRequest, IsRightCall, Succeeds}
 use Rattle.stream_run.specs.Stream.{data_answer}
 use Rattle.spiral_words.proofs.OneCommand.{asked_once}
-use Rattle.spiral_main.proofs.OneConvolution.{conv_decided}
-use Rattle.spiral_main.proofs.OneExecution.{runnable_decided}
-use Rattle.spiral_main.proofs.OneFormula.{formula_decided}
+use Rattle.convolution_commands.proofs.OneConvolution.{conv_decided}
+use Rattle.listing_commands.proofs.OneExecution.{runnable_decided}
+use Rattle.formula_commands.proofs.OneFormula.{formula_decided}
 use Rattle.spiral_main.proofs.OneOutcome.{ordered_decided, no_order, no_answer, no_formula, no_request, no_plain_request, no_convolution, no_both, listing_alone, schedule_asked_once}
-use Rattle.spiral_main.proofs.Stages.{done_same, done_ended}
+use Rattle.spiral_input.proofs.Stages.{done_same, done_ended}
 use Rattle.stream_run.proofs.StreamLemmas.{right_answer}
 
 data_right : (wanted : Command) (r : TransformRequest) (room : ℕ) (bytes : List ℕ) (vectors : List (List ℕ)) (text : List ℕ) → IsRightRest wanted r room bytes → IsTextOfData wanted r vectors text

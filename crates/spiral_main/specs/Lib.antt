@@ -1,13 +1,2 @@
-pub mod Asking
-pub mod Checked
-pub mod Commands
-pub mod Compiled
-pub mod Convolved
-pub mod Line
-pub mod Listed
 pub mod Outcome
 pub mod Right
-pub mod Sample
-pub mod Stage
-pub mod Steps
-pub mod Orders

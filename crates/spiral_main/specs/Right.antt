@@ -18,14 +18,14 @@ use Rattle.spiral_words.specs.declared.Command.{Command}
 use Rattle.spiral_words.specs.declared.Command.TheVariants as command
 use Rattle.spiral_status.specs.declared.status.Status.{Status}
 use Rattle.spiral_status.specs.declared.status.Status.TheVariants.{Success}
-use Rattle.spiral_main.specs.Checked.{certificate_limit}
-use Rattle.spiral_main.specs.Commands.{AskForFormula, AskForConvolution}
-use Rattle.spiral_main.specs.Compiled.{formula_in}
-use Rattle.spiral_main.specs.Convolved.{conv_in}
-use Rattle.spiral_main.specs.Line.{data_of}
+use Rattle.request_commands.specs.Checked.{certificate_limit}
+use Rattle.spiral_input.specs.Commands.{AskForFormula, AskForConvolution}
+use Rattle.formula_commands.specs.Compiled.{formula_in}
+use Rattle.convolution_commands.specs.Convolved.{conv_in}
+use Rattle.spiral_input.specs.Line.{data_of, room_behind}
 use Rattle.stream_run.specs.Stream.{data_vectors}
-use Rattle.spiral_main.specs.Listed.{runnable, room_behind_listing}
-use Rattle.spiral_main.specs.Outcome.{Job, ordered, room_behind, IsOutcome}
+use Rattle.listing_commands.specs.Listed.{runnable, room_behind_listing}
+use Rattle.spiral_main.specs.Outcome.{Job, ordered, IsOutcome}
 
 -- good tokens in whole vectors, and no more bytes than may come
 pub record AreWholeVectors (size room : ℕ) (bytes : List ℕ) : Type 0 where

@@ -7,24 +7,11 @@ ghost use Rattle.spiral_words.specs.Asked.{IsAsked};
 ghost use Rattle.spiral_words.specs.declared.Command.{Command as SpecCommand};
 ghost use Rattle.spiral_status.specs.declared.status.Status.{Status as SpecStatus};
 ghost use Rattle.spiral_status.specs.declared.status.Status.TheVariants.{ReadFault, WriteFault, NoMemory};
-ghost use Rattle.spiral_main.specs.Commands.{prints_one_text};
+ghost use Rattle.spiral_input.specs.Commands.{prints_one_text};
 ghost use Rattle.spiral_main.specs.Outcome.{Accounts, IsOutcome};
 ghost use Rattle.spiral_main.specs.Right.{IsRightCall, Succeeds};
 
-mod apply;
-mod ask;
-mod check;
-mod compile;
-mod convolve;
-mod data;
-mod events;
-mod exec;
-mod formula_line;
-mod line;
-mod plans;
 mod run;
-mod sample;
-mod texts;
 
 pub use run::spiral_run;
 pub use spiral_status::Status;

@@ -1,83 +1,24 @@
 // The top call.
-ghost use Rattle.std.specs.Prelude.{◌≡◌, ◌≢◌, ◌-◌, ◌≤◌, ℕ, List, [], IfSome, IfNone, MatchOption, Ok, map, string_bytes, true, false};
+ghost use Rattle.std.specs.Prelude.{◌≡◌, [], IfSome, MatchOption, Ok, map, string_bytes, false};
 ghost use Rattle.std.specs.declared.option.Option.{Option};
 ghost use Rattle.std.specs.Io.KnownBytes.{Appends, IsAtEnd};
-ghost use Rattle.transform_requests.specs.Fields.{procs_of};
-ghost use Rattle.transform_requests.specs.Range.{IsRequestInRange};
 ghost use Rattle.io_edge.specs.Faults.{Reports};
-ghost use Rattle.io_edge.specs.Feed.{to_come, limit};
-ghost use Rattle.spiral_main.specs.Commands.{reads_rest, takes_convolution, takes_formula, takes_listing, takes_request, has_text, AskForRest, AskForCommand, AreJudged, NamesNoStranger};
-ghost use Rattle.spiral_main.specs.Outcome.{Accounts, Notes};
-ghost use Rattle.spiral_main.specs.Stage.{status_of};
+ghost use Rattle.spiral_input.specs.Commands.{takes_convolution, takes_formula, takes_listing, AskForRest, AskForCommand, AreJudged};
+ghost use Rattle.spiral_main.specs.Outcome.{Accounts, Notes, ToldAccounts};
+ghost use Rattle.spiral_input.specs.Stage.{status_of};
 ghost use Rattle.spiral_status.specs.Status.{note_line};
-ghost use Rattle.spiral_main.specs.Steps.{Performs, ToldPerforms, ToldAccounts};
 
 use crate::Status;
-use crate::apply::by_formula;
-use crate::ask::{ask, asked};
-use crate::check::check;
-use crate::convolve::convolve;
-use crate::data::{run, trace};
-use crate::exec::exec;
-use crate::texts::text_of;
-use io_edge::{Feed, Sink, Source, write_all};
+use convolution_commands::convolve;
+use formula_commands::by_formula;
+use io_edge::{Feed, Sink, Source};
+use listing_commands::exec;
+use request_commands::perform;
 use request_text::Schedule;
+use spiral_input::{ask, asked};
 use spiral_status::write_note;
 use spiral_words::Command;
 use std::alloc::Global;
-use transform_requests::TransformRequest;
-
-// Writes the text of a command that needs no data.
-fn write_text<O: Sink>(
-    alloc: Global,
-    command: &Command,
-    request: &TransformRequest,
-    output: &mut O,
-) -> Result<(), Status>
-    requires in_range { IsRequestInRange request.now }
-    requires turns { NamesNoStranger command.now (procs_of request.now) }
-    requires textual { has_text command.now ≡ true }
-    ensures told { (room : ℕ) (bytes : List ℕ) (left : Option (List ℕ)) → Performs command.now request.now room bytes left
-        (O.taken output.old) (O.taken output.new) (status_of result) }
-    ensures read { status_of result ≢ Status.ReadFault }
-    ensures usage { status_of result ≢ Status.Usage }
-    ensures write { Reports (O.faults output.old) (O.faults output.new) (status_of result ≡ Status.WriteFault) }
-    ensures memory { status_of result ≡ Status.NoMemory → Appends (O.taken output.old) (O.taken output.new) [] }
-{
-    let text = text_of(alloc, command, request)?;
-    write_all(output, &text)?;
-    Ok(())
-}
-
-// Does a command for a request.
-fn perform<I: Source, O: Sink>(
-    alloc: Global,
-    command: &Command,
-    request: &TransformRequest,
-    feed: &mut Feed,
-    input: &mut I,
-    output: &mut O,
-) -> Result<(), Status>
-    requires in_range { IsRequestInRange request.now }
-    requires turns { NamesNoStranger command.now (procs_of request.now) }
-    requires line { feed.old.taken ≤ 257 }
-    requires request { takes_request command.now ≡ true }
-    ensures told { ToldPerforms command.now request.now (limit - feed.old.taken) (to_come feed.old (I.left input.old))
-        (to_come feed.new (I.left input.new)) (O.taken output.old) (O.taken output.new) (status_of result) }
-    ensures end { status_of result ≡ Status.Success → reads_rest command.now ≡ true → IsAtEnd (to_come feed.new (I.left input.new)) }
-    ensures empty { status_of result ≡ Status.ReadFault → feed.new.held ≡ [] }
-    ensures usage { status_of result ≢ Status.Usage }
-    ensures read { Reports (I.faults input.old) (I.faults input.new) (status_of result ≡ Status.ReadFault) }
-    ensures write { Reports (O.faults output.old) (O.faults output.new) (status_of result ≡ Status.WriteFault) }
-    ensures memory { status_of result ≡ Status.NoMemory → Appends (O.taken output.old) (O.taken output.new) [] }
-{
-    match command {
-        Command::Run { order } => run(alloc, request, order, feed, input, output),
-        Command::Trace { order } => trace(alloc, request, order, feed, input, output),
-        Command::Check => check(alloc, request, feed, input, output),
-        _ => write_text(alloc, command, request, output),
-    }
-}
 
 // The schedule of `exec`, if that is the command.
 fn schedule_of_exec(command: &Command) -> Option<&Schedule>

@@ -3,17 +3,17 @@ use Rattle.std.proofs.lemmas.Result.{err_from_is_err_and}
 use Rattle.io_edge.specs.Feed.{to_come, limit}
 use Rattle.spiral_words.specs.Asked.{IsAsked}
 use Rattle.spiral_words.specs.declared.Command.{Command}
-use Rattle.spiral_main.specs.Stage.{status_of}
-use Rattle.spiral_main.specs.Asking.{Asks}
-use Rattle.spiral_main.specs.Convolved.{ToldConvolves}
+use Rattle.spiral_input.specs.Stage.{status_of}
+use Rattle.spiral_input.specs.Asking.{Asks, spelt}
+use Rattle.convolution_commands.specs.Convolved.{ToldConvolves}
 use Rattle.transform_requests.specs.Fields.{procs_of}
-use Rattle.spiral_main.specs.Outcome.{spelt}
-use Rattle.spiral_main.specs.Steps.{ToldComputes, ToldExecutes}
-use Rattle.spiral_main.proofs.AskLemmas.{reads_same}
-use Rattle.spiral_main.proofs.Accounts.{accounted, accounted_words, accounted_line, executed_accounts, computed_accounts, convolved_accounts, nothing_held, prepend_nothing, performs_by_source, executes_by_source, computes_by_source, convolves_by_source}
+use Rattle.formula_commands.specs.Compiled.{ToldComputes}
+use Rattle.listing_commands.specs.Listed.{ToldExecutes}
+use Rattle.spiral_input.proofs.AskLemmas.{reads_same}
+use Rattle.spiral_main.proofs.Accounts.{accounted, accounted_words, accounted_line, executed_accounts, computed_accounts, convolved_accounts, performs_by_source, executes_by_source, computes_by_source, convolves_by_source, goes_by_request}
+use Rattle.spiral_input.proofs.InputLemmas.{nothing_held, prepend_nothing, left_ended}
 use Rattle.data_stream.proofs.TokensLemmas.{reports_none}
-use Rattle.spiral_main.proofs.OutcomeLemmas.{reports_after}
-use Rattle.spiral_main.proofs.RunLemmas.{goes_by_request, left_ended}
+use Rattle.spiral_input.proofs.StatusLemmas.{reports_after}
 use Rattle.spiral_main.proofs.run.work.Goals as goal
 
 pub returns-in_err-command-clause-told : goal.returns-in_err-command-clause-told

@@ -1,0 +1,3 @@
+pub mod ConvolvedLemmas
+pub mod OneConvolution
+pub mod OneRequest

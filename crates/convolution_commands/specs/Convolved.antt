@@ -1,0 +1,175 @@
+-- What `convolve` answers: it goes by a request for convolutions, which the first line spells, and by a list, which is the first vector of the data.
+use Rattle.std.specs.Prelude.{◌≡◌, ◌⊎◌, ℕ, true, false, List, [], ◌∷◌, ◌++◌, Some, None, Ok, Err, Result}
+use Rattle.std.specs.List.{list_all}
+use Rattle.std.specs.declared.option.Option.{Option}
+use Rattle.std.specs.Io.KnownBytes.{Appends, Consumes, IsAtEnd}
+use Rattle.convolution.specs.Convolution.{convolution}
+use Rattle.convolver.specs.Convolver.{IsConvolver}
+use Rattle.convolver.specs.Planned.{IsConvPlanned}
+use Rattle.plan_faults.specs.declared.convolving.ConvFault.{ConvFault}
+use Rattle.data_stream.specs.Data.{tokens, closed_part, is_good}
+use Rattle.icode.specs.declared.program.Program.{Program}
+use Rattle.icode.specs.Program.{plain_program}
+use Rattle.io_edge.specs.Taken.{AppendsPrefix}
+use Rattle.listing_text.specs.Listing.{listing_of}
+use Rattle.matrix_meaning.specs.declared.Request.{Request}
+use Rattle.request_text.specs.ConvAnswer.{ConvAnswers}
+use Rattle.request_text.specs.declared.RequestFault.{RequestFault}
+use Rattle.spiral_words.specs.declared.Command.{Command}
+use Rattle.spiral_words.specs.declared.Command.TheVariants as command
+use Rattle.spiral_status.specs.declared.status.Status.{Status}
+use Rattle.spiral_status.specs.declared.status.Status.TheVariants.{Success, ReadFault, WriteFault}
+use Rattle.spiral_status.specs.Fault.{status_of_conv, status_of_fault, status_of_request, status_of_stream}
+use Rattle.spiral_status.specs.Status.{IsDefined}
+use Rattle.spiral_input.specs.Asking.{asked_by}
+use Rattle.spiral_input.specs.Line.{data_of, room_behind, HasEnded, IsPartOfLine}
+use Rattle.spiral_input.specs.Stage.{Stage, ◌>>=◌}
+use Rattle.stream_run.specs.Progress.{lacking}
+use Rattle.stream_run.specs.Stream.{lines, vectors_of, data_answer, data_vectors}
+use Rattle.stream_run.specs.declared.stream.StreamFault.{StreamFault}
+use Rattle.tree_model.specs.Breakdown.{Breakdown}
+
+-- The request
+
+-- the request that the line spells, if it is in range and its size has an inverse
+abbrev pub conv_spelt : List ℕ → Stage Request
+conv_spelt line (Ok request) = ConvAnswers line (Ok request)
+conv_spelt line (Err status) = (fault : RequestFault) × ConvAnswers line (Err fault) × (status ≡ status_of_request fault)
+
+-- how many processors it has
+abbrev pub conv_procs : Request → ℕ
+conv_procs request = request.procs
+
+-- the root is one of the size, its power sums are 0, and the least cost is within the budget
+abbrev pub IsConvolvable : Request → Type 0
+IsConvolvable request = (tree : Breakdown) × IsConvPlanned request (Ok tree)
+
+-- the first cause to refuse the request
+abbrev pub IsConvRefused : Request → Status → Type 0
+IsConvRefused request status = (fault : ConvFault) × IsConvPlanned request (Err fault) × (status ≡ status_of_conv fault)
+
+abbrev pub convolvable : Request → Stage Request
+convolvable request (Ok same) = IsConvolvable request × (same ≡ request)
+convolvable request (Err status) = IsConvRefused request status
+
+-- the request of the first line, for the command
+abbrev pub conv_in : Command → List ℕ → Stage Request
+conv_in wanted bytes = do
+  request ← asked_by conv_procs conv_spelt wanted bytes
+  convolvable request
+
+-- What is written
+
+-- the text is the listing of a program for convolutions with h, by the chosen tree
+abbrev pub IsConvListing : Request → List ℕ → List ℕ → Type 0
+IsConvListing request h text =
+    (tree : Breakdown) × (program : Program) × IsConvPlanned request (Ok tree) × IsConvolver request tree h program × (text ≡ listing_of (plain_program program))
+
+-- a line for each vector, of its convolution with h
+abbrev pub conv_lines : Request → List ℕ → List (List ℕ) → List ℕ
+conv_lines request h vectors = lines (convolution request.modulus request.size h) vectors
+
+-- the text behind the list h: the listing, or the lines of the later vectors
+abbrev pub IsListText : Command → Request → List ℕ → List (List ℕ) → List ℕ → Type 0
+IsListText (command.Convolve schedule true) request h later text = IsConvListing request h text
+IsListText (command.Convolve schedule false) request h later text = text ≡ conv_lines request h later
+IsListText _ request h later text = ⊥
+
+-- the text for these vectors of the data, the list first. Before it is there, nothing is written
+abbrev pub IsConvText : Command → Request → List (List ℕ) → List ℕ → Type 0
+IsConvText wanted request [] text = text ≡ []
+IsConvText wanted request (h ∷ later) text = IsListText wanted request h later text
+
+-- the listing wants nothing of what stands behind the list, and the lines want all of it
+abbrev pub list_status : Command → Result (Unit {0}) StreamFault → Status
+list_status (command.Convolve schedule true) answer = Success
+list_status _ answer = status_of_stream answer
+
+-- the status for data with this answer and these vectors
+abbrev pub conv_status : Command → ℕ → Result (Unit {0}) StreamFault → List (List ℕ) → Status
+conv_status wanted size answer [] = status_of_fault (lacking size answer)
+conv_status wanted size answer (h ∷ later) = list_status wanted answer
+
+-- the status and the text for a request, by the bytes behind the line, of which so many may come
+abbrev pub SettlesConv : Command → Request → ℕ → List ℕ → Status → List ℕ → Type 0
+SettlesConv wanted request room bytes status text =
+    (status ≡ conv_status wanted request.size (data_answer request.size room bytes) (data_vectors request.size request.modulus room bytes))
+    × IsConvText wanted request (data_vectors request.size request.modulus room bytes) text
+
+-- The status and the text of `convolve`: there is no request for it, and nothing is written, or they are those for the request
+abbrev pub IsConvAnswer : Command → List ℕ → Status → List ℕ → Type 0
+IsConvAnswer wanted bytes status text =
+    (conv_in wanted bytes (Err status) × (text ≡ []))
+    ⊎ ((request : Request) × conv_in wanted bytes (Ok request) × SettlesConv wanted request (room_behind bytes) (data_of bytes) status text)
+
+-- What a fault of the outside leaves
+
+-- the bytes are a line that has ended, which spells the request for the command, and what stands behind it
+pub record IsConvOver (wanted : Command) (read : List ℕ) (ended : Type 0) (request : Request) : Type 0 where
+  pub line : HasEnded read ended
+  pub asks : conv_in wanted read (Ok request)
+
+-- the listing is written once the list is there, and nothing more is read
+abbrev pub GoesOnBehind : Command → List (List ℕ) → Type 0
+GoesOnBehind (command.Convolve schedule true) vectors = vectors ≡ []
+GoesOnBehind _ vectors = Unit {0}
+
+-- The bytes behind the line show no fault so far, and the text is that of the vectors that are whole in them, though more may follow
+abbrev pub BreaksOffConv : Command → Request → List ℕ → List ℕ → Type 0
+BreaksOffConv wanted request bytes text =
+    (list_all is_good (tokens bytes) ≡ true) × GoesOnBehind wanted (vectors_of request.size request.modulus (tokens (closed_part bytes)))
+    × IsConvText wanted request (vectors_of request.size request.modulus (tokens (closed_part bytes))) text
+
+-- The bytes that were read show no fault: they are a part of the line, and nothing is written, or a request and a part of its data
+abbrev pub IsBrokenConv : Command → List ℕ → Type 0 → List ℕ → Type 0
+IsBrokenConv wanted read ended text =
+    (IsPartOfLine read × (text ≡ []))
+    ⊎ ((request : Request) × IsConvOver wanted read ended request × BreaksOffConv wanted request (data_of read) text)
+
+-- The text to which the command has come by the bytes that it read behind the line, where this is left
+abbrev pub ComesToConv : Command → Request → List ℕ → List ℕ → List ℕ → Type 0
+ComesToConv wanted request bytes left text =
+    (list_all is_good (tokens bytes) ≡ true) × ((closed_part bytes ≡ bytes) ⊎ (left ≡ []))
+    × IsConvText wanted request (vectors_of request.size request.modulus (tokens bytes)) text
+
+-- The text to which a call has come by the bytes that were read, where this is left
+abbrev pub IsCutConv : Command → List ℕ → List ℕ → List ℕ → Type 0
+IsCutConv wanted read left text =
+    (request : Request) × IsConvOver wanted read (left ≡ []) request × ComesToConv wanted request (data_of read) left text
+
+-- What the parts of the call answer
+
+-- status and text for a request, by what its input has left
+abbrev pub EndsConv : Command → Request → ℕ → List ℕ → Status → List ℕ → Type 0
+EndsConv wanted request room bytes status text =
+    (IsConvRefused request status × (text ≡ []))
+    ⊎ (IsConvolvable request × SettlesConv wanted request room bytes status text)
+
+-- status and output for a request, by what its input had left before and has left then
+pub record ConvolvesData (wanted : Command) (request : Request) (room : ℕ) (bytes : List ℕ) (left before after : Option (List ℕ)) (status : Status) : Type 0 where
+  pub answer : IsDefined status → (text : List ℕ) × EndsConv wanted request room bytes status text × Appends before after text
+  pub read_fault : status ≡ ReadFault → (read : List ℕ) × (text : List ℕ) × Consumes (Some bytes) left read × IsConvolvable request
+      × BreaksOffConv wanted request read text × Appends before after text
+  pub write_fault : status ≡ WriteFault → (read : List ℕ) × (rest : List ℕ) × (text : List ℕ) × (bytes ≡ read ++ rest) × IsConvolvable request
+      × ComesToConv wanted request read rest text × AppendsPrefix before after text
+
+-- the same over a source that tells its bytes
+abbrev pub ToldConvolvesData : Command → Request → ℕ → Option (List ℕ) → Option (List ℕ) → Option (List ℕ) → Option (List ℕ) → Status → Type 0
+ToldConvolvesData wanted request room None left before after status = Unit {0}
+ToldConvolvesData wanted request room (Some bytes) left before after status = ConvolvesData wanted request room bytes left before after status
+
+-- status and output by all the bytes of the input and by what is left of them
+pub record Convolves (wanted : Command) (bytes : List ℕ) (left before after : Option (List ℕ)) (status : Status) : Type 0 where
+  pub answer : IsDefined status → (text : List ℕ) × IsConvAnswer wanted bytes status text × Appends before after text
+  pub read_fault : status ≡ ReadFault → (read : List ℕ) × (text : List ℕ) × Consumes (Some bytes) left read
+      × IsBrokenConv wanted read (IsAtEnd left) text × Appends before after text
+  pub write_fault : status ≡ WriteFault → (read : List ℕ) × (rest : List ℕ) × (text : List ℕ) × (bytes ≡ read ++ rest)
+      × IsCutConv wanted read rest text × AppendsPrefix before after text
+
+abbrev pub ToldConvolves : Command → Option (List ℕ) → Option (List ℕ) → Option (List ℕ) → Option (List ℕ) → Status → Type 0
+ToldConvolves wanted None left before after status = Unit {0}
+ToldConvolves wanted (Some bytes) left before after status = Convolves wanted bytes left before after status
+
+-- the program convolves with the list, by the chosen tree
+abbrev pub IsListProgram : Request → List ℕ → Program → Type 0
+IsListProgram request h program = (tree : Breakdown) × IsConvPlanned request (Ok tree) × IsConvolver request tree h program

@@ -1,0 +1,71 @@
+use Rattle.std.proofs.Common.{Ok, Err, subst}
+use Rattle.std.proofs.lemmas.Result.{err_from_is_err_and}
+use Rattle.io_edge.specs.Feed.{to_come}
+use Rattle.data_stream.proofs.TokensLemmas.{reports_none}
+use Rattle.spiral_words.specs.declared.Command.TheVariants as command
+use Rattle.formula_commands.specs.Compiled.{formed}
+use Rattle.spiral_status.specs.Status.{IsDefined}
+use Rattle.formula_commands.proofs.CompiledLemmas.{computes_unread, computes_refused, computes_run}
+use Rattle.spiral_input.proofs.StatusLemmas.{reports_after, reports_read, reports_write}
+use Rattle.formula_commands.proofs.apply.apply.Goals as goal
+
+pub returns-in_err-text-clause-told : goal.returns-in_err-text-clause-told
+returns-in_err-text-clause-told g c =
+    let start = to_come c.args.feed.now (g.I.Source.left c.args.input.now) in
+    let reached = to_come c.formula_line.new.feed (g.I.Source.left c.formula_line.new.input) in
+    let told = c.in_err-text.ensures.told in
+    let wanted = command.Apply c.args.modulus.now c.args.schedule.now in
+    let p = err_from_is_err_and c.from_residual.result c.from_residual.ensures.1 in
+    rw (p.1, p.2, told.2.1) (computes_unread wanted start reached (g.O.Sink.taken c.args.output.now) c.formula_line.new.feed.taken told.0 told.2.0 told.1 told.2.2)
+
+pub returns-in_err-machine-clause-told : goal.returns-in_err-machine-clause-told
+returns-in_err-machine-clause-told g c =
+    let start = to_come c.args.feed.now (g.I.Source.left c.args.input.now) in
+    let reached = to_come c.formula_line.new.feed (g.I.Source.left c.formula_line.new.input) in
+    let told = c.in_ok-text.ensures.told in
+    let wanted = command.Apply c.args.modulus.now c.args.schedule.now in
+    let refused = subst (λ t. IsDefined c.in_err-machine.field-0.0 → formed wanted t (Err c.in_err-machine.field-0.0)) c.deref.ensures.value c.in_err-machine.ensures.refused in
+    let p = err_from_is_err_and c.from_residual-in_err-machine.result c.from_residual-in_err-machine.ensures.1 in
+    rw (p.1, p.2) (computes_refused wanted start reached (g.O.Sink.taken c.args.output.now) told.0 c.in_ok-text.text.items c.in_err-machine.field-0.0
+    told.1 told.2.3 told.2.1 refused c.in_err-machine.ensures.refusal)
+
+pub returns-in_err-run_stream-clause-told : goal.returns-in_err-run_stream-clause-told
+returns-in_err-run_stream-clause-told g c =
+    let start = to_come c.args.feed.now (g.I.Source.left c.args.input.now) in
+    let reached = to_come c.formula_line.new.feed (g.I.Source.left c.formula_line.new.input) in
+    let told = c.in_ok-text.ensures.told in
+    let made = rw c.deref.ensures.value at c.in_ok-machine.ensures.code in
+    let code = c.in_ok-machine.machine.code in
+    let taken = g.O.Sink.taken in
+    let p = err_from_is_err_and c.from_residual-in_err-run_stream.result c.from_residual-in_err-run_stream.ensures.1 in
+    rw (p.1, p.2) (computes_run c.args.modulus.now c.args.schedule.now code c.formula_line.new.feed c.run_stream.new.feed
+    start reached (to_come c.run_stream.new.feed (g.I.Source.left c.run_stream.new.input)) (taken c.args.output.now) (taken c.run_stream.new.output) told.0 c.in_ok-text.text.items
+    c.in_ok-machine.machine.state c.run_stream.new.machine.state (Err c.in_err-run_stream.field-0.0)
+    told.1 told.2.0 told.2.3 told.2.1 told.2.2 made c.in_ok-machine.ensures.turns c.in_err-run_stream.ensures.streams)
+
+pub returns-in_err-run_stream-clause-read : goal.returns-in_err-run_stream-clause-read
+returns-in_err-run_stream-clause-read g c =
+    let faults = g.I.Source.faults in
+    let same = reports_none (faults c.args.input.now) (faults c.formula_line.new.input) _ c.in_ok-text.ensures.read (λ e. cc) in
+    let p = err_from_is_err_and c.from_residual-in_err-run_stream.result c.from_residual-in_err-run_stream.ensures.1 in
+    rw (p.1, p.2) (reports_after (faults c.args.input.now) (faults c.formula_line.new.input) (faults c.run_stream.new.input) same
+    (reports_read (faults c.formula_line.new.input) (faults c.run_stream.new.input) c.in_err-run_stream.field-0.0 c.in_err-run_stream.ensures.read))
+
+pub returns-in_err-run_stream-clause-write : goal.returns-in_err-run_stream-clause-write
+returns-in_err-run_stream-clause-write g c =
+    let faults = g.O.Sink.faults in
+    let p = err_from_is_err_and c.from_residual-in_err-run_stream.result c.from_residual-in_err-run_stream.ensures.1 in
+    rw (p.1, p.2) (reports_write (faults c.args.output.now) (faults c.run_stream.new.output) c.in_err-run_stream.field-0.0 c.in_err-run_stream.ensures.write)
+
+pub returns-clause-told : goal.returns-clause-told
+returns-clause-told g c =
+    let start = to_come c.args.feed.now (g.I.Source.left c.args.input.now) in
+    let reached = to_come c.formula_line.new.feed (g.I.Source.left c.formula_line.new.input) in
+    let told = c.in_ok-text.ensures.told in
+    let made = rw c.deref.ensures.value at c.in_ok-machine.ensures.code in
+    let code = c.in_ok-machine.machine.code in
+    let taken = g.O.Sink.taken in
+    computes_run c.args.modulus.now c.args.schedule.now code c.formula_line.new.feed c.run_stream.new.feed
+    start reached (to_come c.run_stream.new.feed (g.I.Source.left c.run_stream.new.input)) (taken c.args.output.now) (taken c.run_stream.new.output) told.0 c.in_ok-text.text.items
+    c.in_ok-machine.machine.state c.run_stream.new.machine.state (Ok tt)
+    told.1 told.2.0 told.2.3 told.2.1 told.2.2 made c.in_ok-machine.ensures.turns c.in_ok-run_stream.ensures.streams

@@ -1,0 +1,153 @@
+-- What `compile` and `apply` answer, which go by the formula that the first line spells.
+use Rattle.std.specs.Prelude.{◌≡◌, ◌≢◌, ◌⊎◌, ℕ, ◌+◌, ◌<◌, ◌≤◌, nat_le, true, false, List, [], ◌++◌, length, Vec, Ok, Err, Result, if◌then◌else◌, None, Some}
+use Rattle.std.proofs.Common.{Global}
+use Rattle.std.specs.List.{list_all, list_any}
+use Rattle.std.specs.declared.option.Option.{Option}
+use Rattle.std.specs.Io.KnownBytes.{Appends, Consumes, IsAtEnd}
+use Rattle.icode.specs.Machine.{Code}
+use Rattle.icode.specs.Program.{plain_program, code_of}
+use Rattle.icode.specs.declared.program.Program.{Program}
+use Rattle.formula_code.specs.Code.{IsCodeOf}
+use Rattle.spl_ast.specs.Formula.{Formula, size_of}
+use Rattle.spl_ast.specs.Meaning as formulas
+use Rattle.spl_text.specs.Answer.{IsFirst, Shows}
+use Rattle.spl_text.specs.declared.reading.SplFault.{SplFault}
+use Rattle.spl_text.specs.declared.reading.SplFault.TheVariants as spl
+use Rattle.listing_text.specs.Listing.{listing_of}
+use Rattle.input_rest.specs.declared.RestFault.{RestFault}
+use Rattle.input_rest.specs.declared.RestFault.TheVariants as rest
+use Rattle.data_stream.specs.Data.{tokens, closed_part, is_good}
+use Rattle.spiral_words.specs.declared.Command.{Command}
+use Rattle.spiral_words.specs.declared.Command.TheVariants as command
+use Rattle.spiral_status.specs.declared.status.Status.{Status}
+use Rattle.spiral_status.specs.declared.status.Status.TheVariants.{Success, TooLong, ReadFault, WriteFault}
+use Rattle.spiral_status.specs.Fault.{status_of_spl, status_of_stream, status_of_text}
+use Rattle.spiral_status.specs.Status.{IsDefined}
+use Rattle.spiral_input.specs.Commands.{admitted, first_stranger, procs_named}
+use Rattle.spiral_input.specs.Line.{is_line_end, first_line, data_of, room_behind, HasEnded, IsWholeLine}
+use Rattle.spiral_input.specs.Stage.{Stage, given, ◌>>=◌}
+use Rattle.stream_run.specs.Stream.{lines, vectors_of, data_answer, data_vectors}
+use Rattle.io_edge.specs.Taken.{AppendsPrefix}
+
+-- how many bytes the line of a formula has at most
+abbrev pub formula_limit : ℕ
+formula_limit = 65536
+
+-- the first line, if it has few enough bytes
+abbrev pub formula_line : List ℕ → Result (List ℕ) Status
+formula_line bytes = if nat_le (length (first_line bytes)) formula_limit then Ok (first_line bytes) else Err (TooLong formula_limit)
+
+-- the formula that the text spells, or the first fault from left to right
+abbrev pub written : List ℕ → Stage Formula
+written text (Ok formula) = IsFirst text (Ok formula) × Shows text (Ok formula)
+written text (Err status) =
+    (fault : SplFault) × (fault ≢ spl.NoMemory) × IsFirst text (Err fault) × Shows text (Err fault) × (status ≡ status_of_spl fault)
+
+-- the formula for the command. Its program has one processor, and the schedule names no other
+abbrev pub formed : Command → List ℕ → Stage Formula
+formed wanted text = do
+  formula ← written text
+  given (admitted (first_stranger (procs_named wanted) 1) 1 formula)
+
+-- the same, by the bytes of the input
+abbrev pub formula_in : Command → List ℕ → Stage Formula
+formula_in wanted bytes = do
+  text ← given (formula_line bytes)
+  formed wanted text
+
+-- What is written
+
+-- the text is the listing of a program for the formula
+abbrev pub IsFormulaListing : ℕ → Formula → List ℕ → Type 0
+IsFormulaListing m formula text = (program : Program) × IsCodeOf m formula program × (text ≡ listing_of (plain_program program))
+
+-- the text has a line for each vector, of the formula's matrix times it
+abbrev pub IsAppliedText : ℕ → Formula → List (List ℕ) → List ℕ → Type 0
+IsAppliedText m formula vectors text = text ≡ lines (formulas.apply m formula) vectors
+
+-- the status and the text of a command for a formula, by the bytes behind the line, of which so many may come
+abbrev pub SettlesFormula : Command → Formula → ℕ → List ℕ → Status → List ℕ → Type 0
+SettlesFormula (command.Compile m) formula room bytes status text = (status ≡ Success) × IsFormulaListing m formula text
+SettlesFormula (command.Apply m schedule) formula room bytes status text =
+    (status ≡ status_of_stream (data_answer (size_of formula) room bytes))
+    × IsAppliedText m formula (data_vectors (size_of formula) m room bytes) text
+SettlesFormula _ formula room bytes status text = ⊥
+
+-- The status and the text of `compile` and `apply`: there is no formula for the command, and nothing is written, or they are those of the command for the formula
+abbrev pub IsFormulaAnswer : Command → List ℕ → Status → List ℕ → Type 0
+IsFormulaAnswer wanted bytes status text =
+    (formula_in wanted bytes (Err status) × (text ≡ []))
+    ⊎ ((formula : Formula) × formula_in wanted bytes (Ok formula) × SettlesFormula wanted formula (room_behind bytes) (data_of bytes) status text)
+
+-- What a fault of the outside leaves
+
+-- the bytes are a part of the line of a formula, and not too many
+pub record IsPartOfFormula (bytes : List ℕ) : Type 0 where
+  pub unended : list_any is_line_end bytes ≡ false
+  pub short : length bytes ≤ formula_limit
+
+-- the bytes are a line that has ended, which spells the formula for the command, and what stands behind it
+pub record IsFormulaOver (wanted : Command) (read : List ℕ) (ended : Type 0) (formula : Formula) : Type 0 where
+  pub line : HasEnded read ended
+  pub orders : formula_in wanted read (Ok formula)
+
+-- The bytes behind the line show no fault so far, and the text is that of the vectors that are whole in them, though more may follow. `compile` reads no such bytes
+abbrev pub BreaksOffFormula : Command → Formula → List ℕ → List ℕ → Type 0
+BreaksOffFormula (command.Apply m schedule) formula bytes text =
+    (list_all is_good (tokens bytes) ≡ true) × IsAppliedText m formula (vectors_of (size_of formula) m (tokens (closed_part bytes))) text
+BreaksOffFormula _ formula bytes text = ⊥
+
+-- The bytes that were read show no fault: they are a part of the line, and nothing is written, or a formula and a part of its data
+abbrev pub IsBrokenFormula : Command → List ℕ → Type 0 → List ℕ → Type 0
+IsBrokenFormula wanted read ended text =
+    (IsPartOfFormula read × (text ≡ []))
+    ⊎ ((formula : Formula) × IsFormulaOver wanted read ended formula × BreaksOffFormula wanted formula (data_of read) text)
+
+-- The text to which the command has come by the bytes that it read behind the line, where this is left
+abbrev pub ComesToFormula : Command → Formula → List ℕ → List ℕ → List ℕ → Type 0
+ComesToFormula (command.Compile m) formula bytes left text = (bytes ≡ []) × IsFormulaListing m formula text
+ComesToFormula (command.Apply m schedule) formula bytes left text =
+    (list_all is_good (tokens bytes) ≡ true) × ((closed_part bytes ≡ bytes) ⊎ (left ≡ []))
+    × IsAppliedText m formula (vectors_of (size_of formula) m (tokens bytes)) text
+ComesToFormula _ formula bytes left text = ⊥
+
+-- The text to which a call has come by the bytes that were read, where this is left
+abbrev pub IsCutFormula : Command → List ℕ → List ℕ → List ℕ → Type 0
+IsCutFormula wanted read left text =
+    (formula : Formula) × IsFormulaOver wanted read (left ≡ []) formula × ComesToFormula wanted formula (data_of read) left text
+
+-- What the parts of the call answer
+
+-- the answer to a request for the line, by the bytes that were read, and how many were taken
+abbrev pub GivesText : List ℕ → Type 0 → ℕ → Result (Vec ℕ Global) RestFault → Type 0
+GivesText read ended taken (Ok text) =
+    (taken ≡ length read) × (length text.items ≤ formula_limit) × (length read ≤ length text.items + 1) × IsWholeLine read ended text.items
+GivesText read ended taken (Err rest.TooLong) = (more : List ℕ) → formula_limit < length (first_line (read ++ more))
+GivesText read ended taken (Err rest.ReadFault) = IsPartOfFormula read
+GivesText read ended taken (Err rest.NoMemory) = Unit {0}
+
+-- the same, for a call that says why there is none
+abbrev pub GivesFormula : List ℕ → Type 0 → ℕ → Result (Vec ℕ Global) Status → Type 0
+GivesFormula read ended taken (Ok text) = GivesText read ended taken (Ok text)
+GivesFormula read ended taken (Err status) = (fault : RestFault) × (status ≡ status_of_text fault) × GivesText read ended taken (Err fault)
+
+-- the listing of the program for the formula that the text spells
+abbrev pub IsCompiledText : ℕ → List ℕ → List ℕ → Type 0
+IsCompiledText m text listing = (formula : Formula) × formed (command.Compile m) text (Ok formula) × IsFormulaListing m formula listing
+
+-- the code of the program for the formula that the text spells
+abbrev pub IsFormulaCode : ℕ → Command → List ℕ → Code → Type 0
+IsFormulaCode m wanted text code =
+    (formula : Formula) × (program : Program) × formed wanted text (Ok formula) × IsCodeOf m formula program × (code ≡ code_of program)
+
+-- status and output of a command that goes by a formula, by all the bytes of its input and by what is left of them
+pub record Computes (wanted : Command) (bytes : List ℕ) (left before after : Option (List ℕ)) (status : Status) : Type 0 where
+  pub answer : IsDefined status → (text : List ℕ) × IsFormulaAnswer wanted bytes status text × Appends before after text
+  pub read_fault : status ≡ ReadFault → (read : List ℕ) × (text : List ℕ) × Consumes (Some bytes) left read
+      × IsBrokenFormula wanted read (IsAtEnd left) text × Appends before after text
+  pub write_fault : status ≡ WriteFault → (read : List ℕ) × (rest : List ℕ) × (text : List ℕ) × (bytes ≡ read ++ rest)
+      × IsCutFormula wanted read rest text × AppendsPrefix before after text
+
+abbrev pub ToldComputes : Command → Option (List ℕ) → Option (List ℕ) → Option (List ℕ) → Option (List ℕ) → Status → Type 0
+ToldComputes wanted None left before after status = Unit {0}
+ToldComputes wanted (Some bytes) left before after status = Computes wanted bytes left before after status

@@ -1,0 +1,87 @@
+// The command that applies a formula to the vectors of the data.
+ghost use Rattle.std.specs.Prelude.{◌≡◌, ◌≢◌, ◌≤◌, ◌<◌, [], Err, IfOk, IfErr, length, vec_len};
+ghost use Rattle.std.specs.Io.KnownBytes.{Appends, IsAtEnd};
+ghost use Rattle.io_edge.specs.Faults.{Reports};
+ghost use Rattle.io_edge.specs.Feed.{to_come};
+ghost use Rattle.formula_commands.specs.Compiled.{IsFormulaCode, formed, ToldComputes};
+ghost use Rattle.spiral_input.specs.Stage.{status_of};
+ghost use Rattle.spiral_status.specs.Status.{IsDefined};
+ghost use Rattle.spiral_input.specs.Refusals.{IsRefusal};
+ghost use Rattle.stream_run.specs.Stream.{HasNoStranger};
+
+use crate::compile::written_formula;
+use crate::formula_line::formula_line;
+use formula_code::formula_program;
+use io_edge::{Feed, Sink, Source};
+use par_machine::Machine;
+use request_text::Schedule;
+use ring_mod::Modulus;
+use spiral_input::check_turns;
+use spiral_status::Status;
+use spiral_words::Command;
+use std::alloc::Global;
+use stream_run::run_stream;
+
+// A machine with a program for the formula that the text spells, if the schedule names its one processor alone, and room
+// for a vector.
+fn formula_engine(
+    alloc: Global,
+    modulus: &Modulus,
+    schedule: &Schedule,
+    text: &[u8],
+) -> Result<(Machine, Vec<u64>), Status>
+    requires short { length text.now ≤ 65536 }
+    ensures code { IfOk result (λ made.
+        IsFormulaCode modulus.now (Command.Apply modulus.now schedule.now) text.now made.0.code) }
+    ensures turns { IfOk result (λ made. HasNoStranger schedule.now made.0.code.procs) }
+    ensures room { IfOk result (λ made. vec_len made.1 ≡ made.0.code.size) }
+    ensures some { IfOk result (λ made. 0 < vec_len made.1) }
+    ensures refused { IfErr result (λ status. IsDefined status
+        → formed (Command.Apply modulus.now schedule.now) text.now (Err status)) }
+    ensures refusal { IfErr result IsRefusal }
+{
+    let formula = written_formula(alloc, text)?;
+    check_turns(schedule.stranger(1), 1)?;
+    let program = formula_program(alloc, modulus, formula)?;
+    let machine = Machine::new(alloc, &program)?;
+    let vector = vec![in alloc; 0; program.size as usize]?;
+    Ok((machine, vector))
+}
+
+/// Writes for each vector of the data behind the first line the line of the matrix times it, whose formula the first line
+/// spells.
+pub(crate) fn apply<I: Source, O: Sink>(
+    alloc: Global,
+    modulus: &Modulus,
+    schedule: &Schedule,
+    feed: &mut Feed,
+    input: &mut I,
+    output: &mut O,
+) -> Result<(), Status>
+    requires fresh { feed.old.taken ≡ 0 }
+    ensures told { ToldComputes (Command.Apply modulus.now schedule.now)
+        (to_come feed.old (I.left input.old)) (to_come feed.new (I.left input.new))
+        (O.taken output.old) (O.taken output.new) (status_of result) }
+    ensures end { status_of result ≡ Status.Success → IsAtEnd (to_come feed.new (I.left input.new)) }
+    ensures empty { status_of result ≡ Status.ReadFault → feed.new.held ≡ [] }
+    ensures usage { status_of result ≢ Status.Usage }
+    ensures read { Reports (I.faults input.old) (I.faults input.new)
+        (status_of result ≡ Status.ReadFault) }
+    ensures write { Reports (O.faults output.old) (O.faults output.new)
+        (status_of result ≡ Status.WriteFault) }
+    ensures memory { status_of result ≡ Status.NoMemory
+        → Appends (O.taken output.old) (O.taken output.new) [] }
+{
+    let text = formula_line(alloc, feed, input)?;
+    let (mut machine, mut vector) = formula_engine(alloc, modulus, schedule, &text)?;
+    run_stream(
+        &mut machine,
+        schedule,
+        false,
+        feed,
+        input,
+        output,
+        &mut vector,
+    )?;
+    Ok(())
+}

@@ -1,0 +1,73 @@
+// The command that prints the code of a formula.
+ghost use Rattle.std.specs.Prelude.{◌≡◌, ◌≢◌, ◌≤◌, [], Ok, Err, IfOk, IfErr, length};
+ghost use Rattle.std.specs.Io.KnownBytes.{Appends};
+ghost use Rattle.io_edge.specs.Faults.{Reports};
+ghost use Rattle.io_edge.specs.Feed.{to_come};
+ghost use Rattle.spl_ast.specs.Formula.{parts_of};
+ghost use Rattle.formula_commands.specs.Compiled.{IsCompiledText, formed, written, ToldComputes};
+ghost use Rattle.spiral_input.specs.Stage.{status_of};
+ghost use Rattle.spiral_status.specs.Status.{IsDefined};
+ghost use Rattle.spiral_input.specs.Refusals.{IsRefusal};
+
+use crate::formula_line::formula_line;
+use formula_code::formula_program;
+use io_edge::{Feed, Sink, Source, write_all};
+use listing_text::print_listing;
+use ring_mod::Modulus;
+use spiral_status::Status;
+use spiral_words::Command;
+use spl_ast::Spl;
+use spl_text::read_spl;
+use std::alloc::Global;
+
+/// The formula that the text spells.
+pub(crate) fn written_formula(alloc: Global, text: &[u8]) -> Result<Spl, Status>
+    ensures formula { IfOk result (λ formula. written text.now (Ok formula)) }
+    ensures parts { IfOk result (λ formula. parts_of formula ≤ length text.now) }
+    ensures refused { IfErr result (λ status. IsDefined status → written text.now (Err status)) }
+    ensures refusal { IfErr result IsRefusal }
+{
+    let formula = read_spl(alloc, text)?;
+    Ok(formula)
+}
+
+// The listing of a program for the formula that the text spells.
+fn formula_listing(alloc: Global, modulus: &Modulus, text: &[u8]) -> Result<Vec<u8>, Status>
+    requires short { length text.now ≤ 65536 }
+    ensures text { IfOk result (λ listing. IsCompiledText modulus.now text.now listing.items) }
+    ensures refused { IfErr result
+        (λ status. IsDefined status → formed (Command.Compile modulus.now) text.now (Err status)) }
+    ensures refusal { IfErr result IsRefusal }
+{
+    let formula = written_formula(alloc, text)?;
+    let program = formula_program(alloc, modulus, formula)?;
+    let listing = print_listing(alloc, &program)?;
+    Ok(listing)
+}
+
+/// Writes the listing of a program for the formula that the first line spells, and reads nothing behind that line.
+pub(crate) fn compile<I: Source, O: Sink>(
+    alloc: Global,
+    modulus: &Modulus,
+    feed: &mut Feed,
+    input: &mut I,
+    output: &mut O,
+) -> Result<(), Status>
+    requires fresh { feed.old.taken ≡ 0 }
+    ensures told { ToldComputes (Command.Compile modulus.now)
+        (to_come feed.old (I.left input.old)) (to_come feed.new (I.left input.new))
+        (O.taken output.old) (O.taken output.new) (status_of result) }
+    ensures empty { status_of result ≡ Status.ReadFault → feed.new.held ≡ [] }
+    ensures usage { status_of result ≢ Status.Usage }
+    ensures read { Reports (I.faults input.old) (I.faults input.new)
+        (status_of result ≡ Status.ReadFault) }
+    ensures write { Reports (O.faults output.old) (O.faults output.new)
+        (status_of result ≡ Status.WriteFault) }
+    ensures memory { status_of result ≡ Status.NoMemory
+        → Appends (O.taken output.old) (O.taken output.new) [] }
+{
+    let text = formula_line(alloc, feed, input)?;
+    let listing = formula_listing(alloc, modulus, &text)?;
+    write_all(output, &listing)?;
+    Ok(())
+}

@@ -1,0 +1,67 @@
+use Rattle.std.proofs.Common.{Ok, Err, zero-add, ◌∙◌, length}
+use Rattle.std.proofs.lemmas.Result.{err_from_is_err_and}
+use Rattle.request_text.specs.Turns.{turns_of}
+use Rattle.io_edge.specs.Feed.{to_come}
+use Rattle.data_stream.proofs.TokensLemmas.{reports_none}
+use Rattle.spiral_input.proofs.StatusLemmas.{reports_after, reports_read, reports_write}
+use Rattle.listing_commands.proofs.ListedLemmas.{executes_unread, executes_refused, executes_run}
+use Rattle.listing_commands.proofs.exec.Goals as goal
+
+pub returns-in_err-text-clause-told : goal.returns-in_err-text-clause-told
+returns-in_err-text-clause-told g c =
+    let start = to_come c.args.feed.now (g.I.Source.left c.args.input.now) in
+    let reached = to_come c.listing_text.new.feed (g.I.Source.left c.listing_text.new.input) in
+    let told = c.in_err-text.ensures.told in
+    let p = err_from_is_err_and c.from_residual.result c.from_residual.ensures.1 in
+    rw (p.1, p.2, told.2.1) (executes_unread c.args.schedule.now start reached (g.O.Sink.taken c.args.output.now) 0 c.listing_text.new.feed.taken told.0 told.2.0 told.1 told.2.2)
+
+pub returns-in_err-machine-clause-told : goal.returns-in_err-machine-clause-told
+returns-in_err-machine-clause-told g c =
+    let start = to_come c.args.feed.now (g.I.Source.left c.args.input.now) in
+    let reached = to_come c.listing_text.new.feed (g.I.Source.left c.listing_text.new.input) in
+    let told = c.in_ok-text.ensures.told in
+    let refused = rw c.deref.ensures.value at c.in_err-machine.ensures.refused in
+    let p = err_from_is_err_and c.from_residual-in_err-machine.result c.from_residual-in_err-machine.ensures.1 in
+    rw (p.1, p.2) (executes_refused c.args.schedule.now start reached (g.O.Sink.taken c.args.output.now) told.0 c.in_ok-text.text.items c.in_err-machine.field-0.0
+    told.1 told.2.3 told.2.1 refused c.in_err-machine.ensures.refusal)
+
+pub returns-in_err-run_stream-clause-told : goal.returns-in_err-run_stream-clause-told
+returns-in_err-run_stream-clause-told g c =
+    let start = to_come c.args.feed.now (g.I.Source.left c.args.input.now) in
+    let reached = to_come c.listing_text.new.feed (g.I.Source.left c.listing_text.new.input) in
+    let told = c.in_ok-text.ensures.told in
+    let made = rw c.deref.ensures.value at c.in_ok-machine.ensures.code in
+    let code = c.in_ok-machine.machine.code in
+    let taken = g.O.Sink.taken in
+    let p = err_from_is_err_and c.from_residual-in_err-run_stream.result c.from_residual-in_err-run_stream.ensures.1 in
+    rw (p.1, p.2) (executes_run c.args.schedule.now (turns_of c.args.schedule.now code.procs) made.0 code c.listing_text.new.feed c.run_stream.new.feed
+    start reached (to_come c.run_stream.new.feed (g.I.Source.left c.run_stream.new.input)) (taken c.args.output.now) (taken c.run_stream.new.output) told.0 c.in_ok-text.text.items
+    c.in_ok-machine.machine.state c.run_stream.new.machine.state (Err c.in_err-run_stream.field-0.0)
+    told.1 (told.2.0 ∙ zero-add (length told.0)) told.2.3 told.2.1 told.2.2 made.1 made.2 c.in_err-run_stream.ensures.streams)
+
+pub returns-in_err-run_stream-clause-read : goal.returns-in_err-run_stream-clause-read
+returns-in_err-run_stream-clause-read g c =
+    let faults = g.I.Source.faults in
+    let same = reports_none (faults c.args.input.now) (faults c.listing_text.new.input) _ c.in_ok-text.ensures.read (λ e. cc) in
+    let p = err_from_is_err_and c.from_residual-in_err-run_stream.result c.from_residual-in_err-run_stream.ensures.1 in
+    rw (p.1, p.2) (reports_after (faults c.args.input.now) (faults c.listing_text.new.input) (faults c.run_stream.new.input) same
+    (reports_read (faults c.listing_text.new.input) (faults c.run_stream.new.input) c.in_err-run_stream.field-0.0 c.in_err-run_stream.ensures.read))
+
+pub returns-in_err-run_stream-clause-write : goal.returns-in_err-run_stream-clause-write
+returns-in_err-run_stream-clause-write g c =
+    let faults = g.O.Sink.faults in
+    let p = err_from_is_err_and c.from_residual-in_err-run_stream.result c.from_residual-in_err-run_stream.ensures.1 in
+    rw (p.1, p.2) (reports_write (faults c.args.output.now) (faults c.run_stream.new.output) c.in_err-run_stream.field-0.0 c.in_err-run_stream.ensures.write)
+
+pub returns-clause-told : goal.returns-clause-told
+returns-clause-told g c =
+    let start = to_come c.args.feed.now (g.I.Source.left c.args.input.now) in
+    let reached = to_come c.listing_text.new.feed (g.I.Source.left c.listing_text.new.input) in
+    let told = c.in_ok-text.ensures.told in
+    let made = rw c.deref.ensures.value at c.in_ok-machine.ensures.code in
+    let code = c.in_ok-machine.machine.code in
+    let taken = g.O.Sink.taken in
+    executes_run c.args.schedule.now (turns_of c.args.schedule.now code.procs) made.0 code c.listing_text.new.feed c.run_stream.new.feed
+    start reached (to_come c.run_stream.new.feed (g.I.Source.left c.run_stream.new.input)) (taken c.args.output.now) (taken c.run_stream.new.output) told.0 c.in_ok-text.text.items
+    c.in_ok-machine.machine.state c.run_stream.new.machine.state (Ok tt)
+    told.1 (told.2.0 ∙ zero-add (length told.0)) told.2.3 told.2.1 told.2.2 made.1 made.2 c.in_ok-run_stream.ensures.streams

@@ -1,0 +1,127 @@
+-- What `exec` answers, which runs a listing only where its program passes the check.
+use Rattle.std.specs.Prelude.{◌≡◌, ◌≢◌, ◌⊎◌, ℕ, ◌-◌, List, [], length, nat_le, true, Ok, Err, Result, if◌then◌else◌, ◌++◌, None, Some, Vec}
+use Rattle.std.specs.List.{list_all}
+use Rattle.std.proofs.Common.{Global}
+use Rattle.std.specs.declared.option.Option.{Option}
+use Rattle.std.specs.Io.KnownBytes.{Appends, Consumes, IsAtEnd}
+use Rattle.icode.specs.Actions.{plain_code}
+use Rattle.icode.specs.Machine.{results, Code}
+use Rattle.icode.specs.Plain.{PlainProgram}
+use Rattle.grammar.specs.Grammar.{IsLost}
+use Rattle.listing_text.specs.Texts.{is_listing}
+use Rattle.code_check.specs.declared.fault.CheckFault.{CheckFault}
+use Rattle.code_check.specs.declared.fault.CheckFault.TheVariants as check
+use Rattle.code_check.specs.Refusals.{PassesCheck, IsCause}
+use Rattle.io_edge.specs.Feed.{limit}
+use Rattle.io_edge.specs.Taken.{AppendsPrefix}
+use Rattle.input_rest.specs.Part.{first_part, second_part, HasPartEnded, IsInPart, GivesPart}
+use Rattle.input_rest.specs.declared.RestFault.{RestFault}
+use Rattle.data_stream.specs.Data.{tokens, closed_part, is_good}
+use Rattle.request_text.specs.Schedule.{Plan as Turns}
+use Rattle.spiral_status.specs.declared.status.Status.{Status}
+use Rattle.spiral_status.specs.declared.status.Status.TheVariants.{TooLong, ListingSyntax, ReadFault, WriteFault}
+use Rattle.spiral_status.specs.Fault.{status_of_check, status_of_stream, status_of_part}
+use Rattle.spiral_status.specs.Status.{IsDefined}
+use Rattle.spiral_input.specs.Commands.{stranger, admitted}
+use Rattle.spiral_input.specs.Stage.{Stage, given, ◌>>=◌}
+use Rattle.stream_run.specs.Stream.{lines, vectors_of, data_answer, data_vectors}
+
+-- how many bytes a listing has at most, and how many actions its program
+abbrev pub listing_limit : ℕ
+listing_limit = 1048576
+
+abbrev pub action_limit : ℕ
+action_limit = 100000000
+
+-- the lines before the first empty line, if they have few enough bytes
+abbrev pub listing_in : List ℕ → Result (List ℕ) Status
+listing_in bytes = if nat_le (length (first_part bytes)) listing_limit then Ok (first_part bytes) else Err (TooLong listing_limit)
+
+-- the program whose listing the text is
+abbrev pub listed : List ℕ → Stage PlainProgram
+listed text (Ok program) = is_listing text program
+listed text (Err status) = (line : ℕ) × IsLost is_listing text line × (status ≡ ListingSyntax line)
+
+-- the program, if it is short enough, fits and shares no line
+abbrev pub verified : PlainProgram → Stage PlainProgram
+verified program (Ok passed) = PassesCheck action_limit program × (passed ≡ program)
+verified program (Err status) = (fault : CheckFault) × (fault ≢ check.NoMemory) × IsCause action_limit program fault × (status ≡ status_of_check fault)
+
+-- the program that a listing orders to run, whose processors are all that the schedule names
+abbrev pub loaded : Turns → List ℕ → Stage PlainProgram
+loaded schedule text = do
+  program ← listed text
+  passed ← verified program
+  given (admitted (stranger schedule passed.procs) passed.procs passed)
+
+-- the same, by the bytes of the input
+abbrev pub runnable : Turns → List ℕ → Stage PlainProgram
+runnable schedule bytes = do
+  text ← given (listing_in bytes)
+  loaded schedule text
+
+-- what the program leaves in Y for the vector, which no schedule changes
+abbrev pub result_of : PlainProgram → List ℕ → List ℕ
+result_of program x = results (plain_code program) x []
+
+-- the text is a line of the program's results for each vector
+abbrev pub IsResultText : PlainProgram → List (List ℕ) → List ℕ → Type 0
+IsResultText program vectors text = text ≡ lines (result_of program) vectors
+
+-- as many bytes as the limit leaves behind the listing
+abbrev pub room_behind_listing : List ℕ → ℕ
+room_behind_listing bytes = limit - (length bytes - length (second_part bytes))
+
+-- the status and the text of a program over the data, of which so many bytes may come
+abbrev pub IsAnswerOfProgram : PlainProgram → ℕ → List ℕ → Status → List ℕ → Type 0
+IsAnswerOfProgram program room bytes status text =
+    (status ≡ status_of_stream (data_answer program.size room bytes)) × IsResultText program (data_vectors program.size program.modulus room bytes) text
+
+-- The status and the text of `exec`: there is no program to run, and nothing is written, or they are those of the program over what stands behind the listing
+abbrev pub IsExecution : Turns → List ℕ → Status → List ℕ → Type 0
+IsExecution schedule bytes status text =
+    (runnable schedule bytes (Err status) × (text ≡ []))
+    ⊎ ((program : PlainProgram) × runnable schedule bytes (Ok program) × IsAnswerOfProgram program (room_behind_listing bytes) (second_part bytes) status text)
+
+-- What a fault of the outside leaves
+
+-- the bytes are a listing that has ended, whose program is to run, and what stands behind it, where all tokens are good
+pub record IsProgramOver (schedule : Turns) (read : List ℕ) (ended : Type 0) (program : PlainProgram) : Type 0 where
+  pub listing : HasPartEnded read ended
+  pub runs : runnable schedule read (Ok program)
+  pub good : list_all is_good (tokens (second_part read)) ≡ true
+
+-- The bytes that were read show no fault: they are a part of the listing, and nothing is written, or a program and a part of its data, of which no token counts that may go on
+abbrev pub IsBrokenExecution : Turns → List ℕ → Type 0 → List ℕ → Type 0
+IsBrokenExecution schedule read ended text =
+    (IsInPart listing_limit read × (text ≡ []))
+    ⊎ ((program : PlainProgram) × IsProgramOver schedule read ended program × IsResultText program (vectors_of program.size program.modulus (tokens (closed_part (second_part read)))) text)
+
+-- The text to which a program has come by the bytes that were read, where this is left
+abbrev pub IsCutExecution : Turns → List ℕ → List ℕ → List ℕ → Type 0
+IsCutExecution schedule read left text =
+    (program : PlainProgram) × IsProgramOver schedule read (left ≡ []) program × ((closed_part (second_part read) ≡ second_part read) ⊎ (left ≡ []))
+    × IsResultText program (vectors_of program.size program.modulus (tokens (second_part read))) text
+
+-- What the parts of the call answer
+
+-- the listing's text, by the bytes that were read; or why it is not read
+abbrev pub GivesListing : List ℕ → Type 0 → ℕ → Result (Vec ℕ Global) Status → Type 0
+GivesListing read ended taken (Ok text) = GivesPart listing_limit read ended 0 taken (Ok text)
+GivesListing read ended taken (Err status) = (fault : RestFault) × (status ≡ status_of_part fault) × GivesPart listing_limit read ended 0 taken (Err fault)
+
+-- the code of the program that a listing orders to run
+abbrev pub IsLoadedCode : Turns → List ℕ → Code → Type 0
+IsLoadedCode schedule text code = (program : PlainProgram) × loaded schedule text (Ok program) × (code ≡ plain_code program)
+
+-- status and output of `exec`, by all the bytes of its input and by what is left of them
+pub record Executes (schedule : Turns) (bytes : List ℕ) (left before after : Option (List ℕ)) (status : Status) : Type 0 where
+  pub answer : IsDefined status → (text : List ℕ) × IsExecution schedule bytes status text × Appends before after text
+  pub read_fault : status ≡ ReadFault → (read : List ℕ) × (text : List ℕ) × Consumes (Some bytes) left read
+      × IsBrokenExecution schedule read (IsAtEnd left) text × Appends before after text
+  pub write_fault : status ≡ WriteFault → (read : List ℕ) × (rest : List ℕ) × (text : List ℕ) × (bytes ≡ read ++ rest)
+      × IsCutExecution schedule read rest text × AppendsPrefix before after text
+
+abbrev pub ToldExecutes : Turns → Option (List ℕ) → Option (List ℕ) → Option (List ℕ) → Option (List ℕ) → Status → Type 0
+ToldExecutes schedule None left before after status = Unit {0}
+ToldExecutes schedule (Some bytes) left before after status = Executes schedule bytes left before after status

@@ -1,0 +1,79 @@
+-- What the commands with store buffers perform.
+use Rattle.std.proofs.Common.{◌≡◌, ◌≤◌, ◌-◌, ◌++◌, ℕ, false, true, List, [], ◌∷◌, Result, refl, sym, ap, ap₂, subst, ◌∙◌, arith}
+use Rattle.std.proofs.KnownBytes.{Appends-nil}
+use Rattle.std.specs.declared.option.Option.{Option}
+use Rattle.std.specs.Io.KnownBytes.{Appends}
+use Rattle.transform_requests.specs.declared.TransformRequest.{TransformRequest}
+use Rattle.transform_requests.specs.Range.{IsRequestInRange}
+use Rattle.transform_requests.specs.Fields.{modulus_of, procs_of, size_of}
+use Rattle.icode.specs.declared.event.Event.{Event}
+use Rattle.icode.specs.Buffers.{Buffered, buffered_results, buffered_runs}
+use Rattle.icode.specs.Machine.{Code, IsCode, padded, results, words_at}
+use Rattle.icode.specs.Program.{plain_program, code_of}
+use Rattle.icode.proofs.BufferedRuns.{memory_of_buffered}
+use Rattle.icode.proofs.Lists.{code_is}
+use Rattle.icode.proofs.Runs.{memory_of_runs}
+use Rattle.io_edge.specs.Feed.{Fed, limit}
+use Rattle.data_stream.specs.Line.{line_of}
+use Rattle.buffer_machine.specs.declared.Events.{Events}
+use Rattle.buffer_machine.specs.declared.Events.TheVariants as events
+use Rattle.buffer_machine.specs.Listed.{HasNoStranger, events_of, procs_named}
+use Rattle.spiral_words.specs.declared.Command.TheVariants as command
+use Rattle.spiral_words.specs.declared.Order.{Order}
+use Rattle.stream_run.specs.declared.stream.StreamFault.{StreamFault}
+use Rattle.stream_run.specs.BufferedText.{buffered_text}
+use Rattle.spiral_status.specs.Fault.{status_of_stream}
+use Rattle.request_commands.specs.Traced.{order_of, traced_text}
+use Rattle.request_commands.specs.Performed.{IsGoodCode, ToldPerforms}
+use Rattle.stream_run.specs.Stream.{Streams, texts, vectors_of}
+use Rattle.request_commands.proofs.PerformedLemmas.{IsTextFor, IsTraced, good_lines, performs_stream, performs_trace, stream_of_request, traced_stranger}
+use Rattle.request_commands.proofs.Requests.{limits}
+use Rattle.request_commands.proofs.RunLemmas.{good_procs}
+
+-- texts that are the same, one by one
+texts_same : (f g : List ℕ → List ℕ) → ((x : List ℕ) → f x ≡ g x) → (vectors : List (List ℕ)) → texts f vectors ≡ texts g vectors
+texts_same f g same [] = refl
+texts_same f g same (x ∷ xs) = ap₂ (λ (l m : List ℕ). l ++ m) (same x) (texts_same f g same xs)
+
+-- with store buffers a good program leaves what it leaves without
+pub good_memory : (request : TransformRequest) (code : Code) → IsGoodCode request code → (x : List ℕ) (events : List Event) → buffered_results code x events ≡ results code x []
+good_memory request code good x events =
+    let own : Code = code_of good.1 in
+    let is : IsCode own = code_is (plain_program good.1) in
+    let same : buffered_results own x events ≡ results own x [] = ap (λ (m : List ℕ). words_at own.size m (padded own)) (memory_of_buffered own is good.3.apart x events ∙ sym (memory_of_runs own is good.3.apart x [])) in
+    subst (λ (k : Code). buffered_results k x events ≡ results k x []) (sym good.4) same
+
+pub performs_buffered_run : (order : Order) (request : TransformRequest) (code : Code) (events : List Event) (old new : Fed) (before after out out' : Option (List ℕ)) (first last : Buffered) (result : Result (Unit {0}) StreamFault)
+    → IsGoodCode request code → IsRequestInRange request → old.taken ≤ limit
+    → Streams (buffered_text false code events) (λ x. buffered_runs code x events) code.size code.modulus old new before after out out' first last result
+    → ToldPerforms (command.Run order) request (limit - old.taken) before after out out' (status_of_stream result)
+performs_buffered_run order request code events old new before after out out' first last result good in_range within s =
+    let size : code.size ≡ size_of request = ap (λ (k : Code). k.size) good.4 ∙ good.3.header.size in
+    let modulus : code.modulus ≡ modulus_of request = ap (λ (k : Code). k.modulus) good.4 ∙ good.3.header.modulus in
+    let leaves : List ℕ → Buffered = λ x. buffered_runs code x events in
+    let sized = stream_of_request request code (buffered_text false code events) leaves old new before after out out' first last result size modulus s in
+    let writes : IsTextFor (command.Run order) request [] (buffered_text false code events) =
+    λ ts. texts_same (buffered_text false code events) (λ x. line_of (results code x [])) (λ x. ap line_of (good_memory request code good x events)) (vectors_of (size_of request) (modulus_of request) ts)
+    ∙ good_lines request code [] (vectors_of (size_of request) (modulus_of request) ts) good (limits request in_range).modulus (λ i d lt. absurd (omega arith)) (ts, refl) in
+    performs_stream (command.Run order) request [] (buffered_text false code events) leaves old new before after out out out' first last result (good.0, good.2) writes (Appends-nil out) within sized
+
+-- the text of a traced run
+traced_events : (events : Events) (procs : ℕ) (code : Code) → traced_text (order_of events) procs code ≡ buffered_text true code (events_of events procs)
+traced_events (events.Turns schedule) procs code = refl
+traced_events (events.Mixed mix) procs code = refl
+
+pub performs_buffered_trace : (word : Events) (request : TransformRequest) (listing : List ℕ) (code : Code) (old new : Fed) (before after start out out' : Option (List ℕ)) (first last : Buffered) (result : Result (Unit {0}) StreamFault)
+    → IsTraced request listing code → Appends start out listing → old.taken ≤ limit
+    → Streams (buffered_text true code (events_of word code.procs)) (λ x. buffered_runs code x (events_of word code.procs)) code.size code.modulus old new before after out out' first last result
+    → ToldPerforms (command.Trace (order_of word)) request (limit - old.taken) before after start out' (status_of_stream result)
+performs_buffered_trace word request listing code old new before after start out out' first last result made begun within s =
+    let leaves : List ℕ → Buffered = λ x. buffered_runs code x (events_of word code.procs) in
+    performs_trace (order_of word) request listing code leaves old new before after start out out' first last result made begun within
+    (subst (λ (text : List ℕ → List ℕ). Streams text leaves code.size code.modulus old new before after out out' first last result) (sym (traced_events word code.procs code)) s)
+
+-- the events of a word are of these processors
+pub good_events : (word : Events) (request : TransformRequest) (code : Code) → IsGoodCode request code → HasNoStranger word (procs_of request) → HasNoStranger word code.procs
+good_events word request code good none = subst (HasNoStranger word) (sym (good_procs request code good)) none
+
+pub traced_events_there : (word : Events) (request : TransformRequest) (listing : List ℕ) (code : Code) → IsTraced request listing code → HasNoStranger word (procs_of request) → HasNoStranger word code.procs
+traced_events_there word request listing code made none = traced_stranger (procs_named word) request listing code made none

@@ -1,0 +1,347 @@
+-- What the commands for a request perform.
+use Rattle.std.proofs.Common.{◌≡◌, ◌≢◌, ◌<◌, ◌≤◌, ◌+◌, ◌-◌, ◌/◌, ℕ, true, false, List, [], ◌++◌, None, Some, Err, Result, length, refl, sym, ap, subst, ◌∙◌, arith, append-nil, length-append, inl, inr}
+use Rattle.std.proofs.Math.Nat.{div-mul-le_self}
+use Rattle.std.proofs.KnownBytes.{Appends-nil}
+use Rattle.std.specs.List.{All}
+use Rattle.std.specs.declared.option.Option.{Option}
+use Rattle.std.specs.Io.KnownBytes.{Appends, Consumes, IsAtEnd}
+use Rattle.transform_requests.specs.declared.TransformRequest.{TransformRequest}
+use Rattle.transform_requests.specs.Range.{IsRequestInRange}
+use Rattle.transform_requests.specs.Fields.{modulus_of, procs_of, size_of}
+use Rattle.icode.specs.Machine.{Code, State, results, runs}
+use Rattle.io_edge.specs.Feed.{Fed, limit}
+use Rattle.io_edge.specs.Taken.{AppendsPrefix}
+use Rattle.data_stream.specs.Reading.{residues}
+use Rattle.plan_faults.specs.declared.generating.GenerateFault.{GenerateFault}
+use Rattle.plan_faults.specs.declared.generating.GenerateFault.TheVariants as generate
+use Rattle.transform_code.specs.Planned.{IsPlanned, IsAdmitted, IsBarred}
+use Rattle.icode.specs.declared.program.Program.{Program}
+use Rattle.icode.specs.Program.{plain_program, code_of}
+use Rattle.listing_text.specs.Listing.{listing_of}
+use Rattle.input_rest.specs.declared.RestFault.{RestFault}
+use Rattle.input_rest.specs.declared.RestFault.TheVariants as rest_fault
+use Rattle.input_rest.specs.Rest.{GivesRest}
+use Rattle.plan_cert.specs.declared.verdict.Verdict.{Verdict}
+use Rattle.plan_cert.specs.declared.verdict.Verdict.TheVariants as verdict
+use Rattle.transform_certs.specs.Judged.{IsVerdict}
+use Rattle.spiral_words.specs.declared.Command.{Command}
+use Rattle.spiral_words.specs.declared.Command.TheVariants as command
+use Rattle.spiral_words.specs.declared.Order.{Order}
+use Rattle.spiral_status.specs.declared.status.Status.{Status}
+use Rattle.spiral_status.specs.declared.status.Status.TheVariants.{Success, WriteFault, NoMemory}
+use Rattle.stream_run.specs.declared.stream.StreamFault.{StreamFault}
+use Rattle.request_commands.specs.Checked.{certificate_limit, status_of_verdict, least_line, verdict_text}
+use Rattle.spiral_input.specs.Commands.{reads_certificate, first_stranger, has_text}
+use Rattle.spiral_status.specs.Fault.{status_of_generate, status_of_rest, status_of_stream}
+use Rattle.request_commands.specs.Traced.{traced_text}
+use Rattle.spiral_status.specs.Status.{IsDefined}
+use Rattle.stream_run.specs.Stream.{vectors_of, texts, lines, run_text, Streams}
+use Rattle.request_commands.specs.Settled.{IsRefused, IsShutOut, IsAffordable, IsAccepted, IsDeclined, product, IsProgramFor, IsTextOf, IsTextOfData}
+use Rattle.spiral_input.proofs.DataLemmas.{RunsOver, runs_over, lines_equal}
+use Rattle.request_commands.proofs.Requests.{limits}
+use Rattle.stream_run.proofs.StreamLemmas.{vectors_few}
+use Rattle.spiral_input.specs.Refusals.{IsRefusal}
+use Rattle.request_commands.specs.Performed.{IsGoodCode, Performs, ToldPerforms}
+
+-- Refusals
+
+-- why there is no program
+pub generate_refused : (request : TransformRequest) (fault : GenerateFault) → (fault ≢ generate.NoMemory → IsPlanned request (Err fault)) → IsDefined (status_of_generate fault) → IsRefused request (status_of_generate fault)
+generate_refused request (generate.Root power) p d = (generate.Root power, p (λ e. cc), refl)
+generate_refused request generate.NoDivide p d = (generate.NoDivide, p (λ e. cc), refl)
+generate_refused request (generate.OverBudget cost budget) p d = (generate.OverBudget cost budget, p (λ e. cc), refl)
+generate_refused request generate.NoMemory p d = absurd (d.memory refl)
+
+pub generate_refusal : (fault : GenerateFault) → IsRefusal (status_of_generate fault)
+generate_refusal (generate.Root power) = record { success = λ e. cc; read = λ e. cc; write = λ e. cc; usage = λ e. cc }
+generate_refusal generate.NoDivide = record { success = λ e. cc; read = λ e. cc; write = λ e. cc; usage = λ e. cc }
+generate_refusal (generate.OverBudget cost budget) = record { success = λ e. cc; read = λ e. cc; write = λ e. cc; usage = λ e. cc }
+generate_refusal generate.NoMemory = record { success = λ e. cc; read = λ e. cc; write = λ e. cc; usage = λ e. cc }
+
+pub generate_barred : (request : TransformRequest) (fault : GenerateFault) → IsBarred request fault → IsShutOut request (status_of_generate fault)
+generate_barred request fault barred = (fault, barred, refl)
+
+-- a command that reads no certificate wants a plan
+pub plan_accepted : (wanted : Command) (request : TransformRequest) → reads_certificate wanted ≡ false → IsAffordable request → IsAccepted wanted request
+plan_accepted command.Plan request other p = p
+plan_accepted command.Formula request other p = p
+plan_accepted command.Code request other p = p
+plan_accepted command.C request other p = p
+plan_accepted (command.Run order) request other p = p
+plan_accepted (command.Trace order) request other p = p
+plan_accepted command.Cert request other p = p
+plan_accepted command.Check request other p = absurd (cc)
+plan_accepted (command.Sample seed schedule) request other p = p
+plan_accepted (command.Compile modulus) request other p = p
+plan_accepted (command.Apply modulus schedule) request other p = p
+plan_accepted (command.Exec schedule) request other p = p
+plan_accepted (command.Convolve schedule as_code) request other p = p
+
+pub plan_declined : (wanted : Command) (request : TransformRequest) (status : Status) → reads_certificate wanted ≡ false → IsRefused request status → IsDeclined wanted request status
+plan_declined command.Plan request status other p = p
+plan_declined command.Formula request status other p = p
+plan_declined command.Code request status other p = p
+plan_declined command.C request status other p = p
+plan_declined (command.Run order) request status other p = p
+plan_declined (command.Trace order) request status other p = p
+plan_declined command.Cert request status other p = p
+plan_declined command.Check request status other p = absurd (cc)
+plan_declined (command.Sample seed schedule) request status other p = p
+plan_declined (command.Compile modulus) request status other p = p
+plan_declined (command.Apply modulus schedule) request status other p = p
+plan_declined (command.Exec schedule) request status other p = p
+plan_declined (command.Convolve schedule as_code) request status other p = p
+
+-- a command has a text of the request alone, or reads its input to its end
+pub text_alone : (wanted : Command) → has_text wanted ≡ true → reads_certificate wanted ≡ false
+text_alone command.Plan h = refl
+text_alone command.Formula h = refl
+text_alone command.Code h = refl
+text_alone command.C h = refl
+text_alone (command.Run order) h = refl
+text_alone (command.Trace order) h = refl
+text_alone command.Cert h = refl
+text_alone command.Check h = absurd (cc)
+text_alone (command.Sample seed schedule) h = refl
+text_alone (command.Compile modulus) h = refl
+text_alone (command.Apply modulus schedule) h = refl
+text_alone (command.Exec schedule) h = refl
+text_alone (command.Convolve schedule as_code) h = refl
+
+-- a command that a refusal ends before its output
+pub performs_refused : (wanted : Command) (request : TransformRequest) (room : ℕ) (bytes : List ℕ) (left out : Option (List ℕ)) (status : Status)
+    → (IsDefined status → IsDeclined wanted request status) → IsRefusal status → Performs wanted request room bytes left out out status
+performs_refused wanted request room bytes left out status p r = record {
+  answer = λ d. ([], inl (p d, refl), Appends-nil out);
+  read_fault = λ e. absurd (r.read e);
+  write_fault = λ e. absurd (r.write e);
+}
+
+pub told_refused : (wanted : Command) (request : TransformRequest) (room : ℕ) (before left out : Option (List ℕ)) (status : Status)
+    → (IsDefined status → IsDeclined wanted request status) → IsRefusal status → ToldPerforms wanted request room before left out out status
+told_refused wanted request room None left out status p r = tt
+told_refused wanted request room (Some bytes) left out status p r = performs_refused wanted request room bytes left out status p r
+
+-- Texts of the request alone
+
+pub performs_text : (wanted : Command) (request : TransformRequest) (room : ℕ) (bytes : List ℕ) (left out out' : Option (List ℕ)) (text : List ℕ)
+    → IsAccepted wanted request → IsTextOf wanted request text → Appends out out' text → Performs wanted request room bytes left out out' Success
+performs_text wanted request room bytes left out out' text p l w = record {
+  answer = λ d. (text, inr (p, inr (inl (refl, l))), w);
+  read_fault = λ e. absurd (cc);
+  write_fault = λ e. absurd (cc);
+}
+
+pub performs_cut : (wanted : Command) (request : TransformRequest) (room : ℕ) (bytes : List ℕ) (left out out' : Option (List ℕ)) (text : List ℕ)
+    → IsAccepted wanted request → IsTextOf wanted request text → AppendsPrefix out out' text → Performs wanted request room bytes left out out' WriteFault
+performs_cut wanted request room bytes left out out' text p l w = record {
+  answer = λ d. absurd (d.write refl);
+  read_fault = λ e. absurd (cc);
+  write_fault = λ _. ([], bytes, text, refl, p, inr (inl l), w);
+}
+
+-- The lines of a run
+
+-- the machine's lines are those of the matrix
+pub good_lines : (request : TransformRequest) (code : Code) (turns : List ℕ) (vectors : List (List ℕ)) → IsGoodCode request code → 0 < modulus_of request → All (λ q. q < procs_of request) turns
+    → (ts : List (List ℕ)) × (vectors_of (size_of request) (modulus_of request) ts ≡ vectors) → lines (λ x. results code x turns) vectors ≡ lines (product request) vectors
+good_lines request code turns vectors good some there made =
+    let apart = good.3.product in
+    let f : List ℕ → List ℕ = λ x. results code x turns in
+    let same : (x : List ℕ) → length x ≡ size_of request → All (λ v. v < modulus_of request) x → f x ≡ product request x =
+    λ x full below. ap (λ k. results k x turns) good.4 ∙ apart x turns (record { size = full; residues = below }) there in
+    subst (λ (v : List (List ℕ)). lines f v ≡ lines (product request) v) made.1
+    (lines_equal (size_of request) (modulus_of request) f (product request) same some (length made.0 / size_of request) made.0 (div-mul-le_self (length made.0) (size_of request)))
+
+-- Runs over the data
+
+-- behind the front, the texts of whole vectors are the text of the command
+abbrev pub IsTextFor : Command → TransformRequest → List ℕ → (List ℕ → List ℕ) → Type 0
+IsTextFor wanted request front text = (ts : List (List ℕ)) → IsTextOfData wanted request (vectors_of (size_of request) (modulus_of request) ts) (front ++ texts text (vectors_of (size_of request) (modulus_of request) ts))
+
+-- a run over the data is what the command for the request performs
+data_performed : (wanted : Command) (request : TransformRequest) (room : ℕ) (bytes : List ℕ) (left out out' : Option (List ℕ)) (status : Status)
+    → IsAccepted wanted request → RunsOver (IsTextOfData wanted request) (size_of request) (modulus_of request) room bytes left out out' status
+    → Performs wanted request room bytes left out out' status
+data_performed wanted request room bytes left out out' status there r = record {
+  answer = λ d. let found = r.answer d in (found.0, inr (there, inl (found.1, found.2)), found.3);
+  read_fault = λ e. let found = r.read_fault e in (found.0, found.1, found.2, there, inl (found.3, found.4), found.5);
+  write_fault = λ e. let found = r.write_fault e in (found.0, found.1, found.2, found.3, there, inl (found.4, found.5, found.6), found.7);
+}
+
+pub performs_stream : {S : Type 0} (wanted : Command) (request : TransformRequest) (front : List ℕ) (text : List ℕ → List ℕ) (leaves : List ℕ → S) (old new : Fed) (before after start out out' : Option (List ℕ)) (first last : S)
+    (result : Result (Unit {0}) StreamFault)
+    → IsAccepted wanted request → IsTextFor wanted request front text → Appends start out front → old.taken ≤ limit
+    → Streams text leaves (size_of request) (modulus_of request) old new before after out out' first last result
+    → ToldPerforms wanted request (limit - old.taken) before after start out' (status_of_stream result)
+performs_stream wanted request front text leaves old new None after start out out' first last result there writes begun within s = tt
+performs_stream wanted request front text leaves old new (Some bytes) None start out out' first last result there writes begun within s = absurd s.consumed
+performs_stream wanted request front text leaves old new (Some bytes) (Some rest) start out out' first last result there writes begun within s =
+    data_performed wanted request (limit - old.taken) bytes (Some rest) start out' (status_of_stream result) there
+    (runs_over (IsTextOfData wanted request) (size_of request) (modulus_of request) front text leaves old new bytes rest start out out' first last result writes begun within s)
+
+-- the stream of a good program is one of the request
+pub stream_of_request : {S : Type 0} (request : TransformRequest) (code : Code) (text : List ℕ → List ℕ) (leaves : List ℕ → S) (old new : Fed) (before after out out' : Option (List ℕ)) (first last : S) (result : Result (Unit {0}) StreamFault)
+    → code.size ≡ size_of request → code.modulus ≡ modulus_of request
+    → Streams text leaves code.size code.modulus old new before after out out' first last result → Streams text leaves (size_of request) (modulus_of request) old new before after out out' first last result
+stream_of_request request code text leaves old new before after out out' first last result size modulus s =
+    subst (λ n. Streams text leaves (size_of request) n old new before after out out' first last result) modulus
+    (subst (λ n. Streams text leaves n code.modulus old new before after out out' first last result) size s)
+
+pub performs_run : (order : Order) (request : TransformRequest) (code : Code) (turns : List ℕ) (old new : Fed) (before after out out' : Option (List ℕ)) (first last : State) (result : Result (Unit {0}) StreamFault)
+    → IsGoodCode request code → IsRequestInRange request → All (λ q. q < procs_of request) turns → old.taken ≤ limit
+    → Streams (run_text false code turns) (λ x. runs code x turns) code.size code.modulus old new before after out out' first last result
+    → ToldPerforms (command.Run order) request (limit - old.taken) before after out out' (status_of_stream result)
+performs_run order request code turns old new before after out out' first last result good in_range there within s =
+    let size : code.size ≡ size_of request = ap (λ (k : Code). k.size) good.4 ∙ good.3.header.size in
+    let modulus : code.modulus ≡ modulus_of request = ap (λ (k : Code). k.modulus) good.4 ∙ good.3.header.modulus in
+    let sized = stream_of_request request code (run_text false code turns) (λ x. runs code x turns) old new before after out out' first last result size modulus s in
+    let writes : IsTextFor (command.Run order) request [] (run_text false code turns) =
+    λ ts. good_lines request code turns (vectors_of (size_of request) (modulus_of request) ts) good (limits request in_range).modulus there (ts, refl) in
+    performs_stream (command.Run order) request [] (run_text false code turns) (λ x. runs code x turns) old new before after out out out' first last result (good.0, good.2) writes (Appends-nil out) within sized
+
+-- what a traced run stands on: the listing of a program for the request, and its code
+abbrev pub IsTraced : TransformRequest → List ℕ → Code → Type 0
+IsTraced request listing code = (program : Program) × IsProgramFor request program × (listing ≡ listing_of (plain_program program)) × (code ≡ code_of program)
+
+traced_affordable : (request : TransformRequest) (listing : List ℕ) (code : Code) → IsTraced request listing code → IsAffordable request
+traced_affordable request listing code made = (made.1.0, made.1.1)
+
+traced_procs : (request : TransformRequest) (listing : List ℕ) (code : Code) → IsTraced request listing code → code.procs ≡ procs_of request
+traced_procs request listing code made = ap (λ (k : Code). k.procs) made.3 ∙ made.1.2.0.header.procs
+
+pub traced_stranger : (names : List ℕ) (request : TransformRequest) (listing : List ℕ) (code : Code) → IsTraced request listing code → first_stranger names (procs_of request) ≡ None → first_stranger names code.procs ≡ None
+traced_stranger names request listing code made none = subst (λ p. first_stranger names p ≡ None) (sym (traced_procs request listing code made)) none
+
+traced_writes : (order : Order) (request : TransformRequest) (listing : List ℕ) (code : Code) → IsTraced request listing code
+    → IsTextFor (command.Trace order) request listing (traced_text order code.procs code)
+traced_writes order request listing code made ts =
+    let vectors = vectors_of (size_of request) (modulus_of request) ts in
+    let same : traced_text order code.procs code ≡ traced_text order (procs_of request) (code_of made.0) =
+    ap (λ n. traced_text order n code) (traced_procs request listing code made) ∙ ap (λ (k : Code). traced_text order (procs_of request) k) made.3 in
+    (made.0, made.1, ap (λ l. l ++ texts (traced_text order code.procs code) vectors) made.2 ∙ ap (λ (f : List ℕ → List ℕ). listing_of (plain_program made.0) ++ texts f vectors) same)
+
+pub performs_trace : {S : Type 0} (order : Order) (request : TransformRequest) (listing : List ℕ) (code : Code) (leaves : List ℕ → S) (old new : Fed) (before after start out out' : Option (List ℕ)) (first last : S) (result : Result (Unit {0}) StreamFault)
+    → IsTraced request listing code → Appends start out listing → old.taken ≤ limit
+    → Streams (traced_text order code.procs code) leaves code.size code.modulus old new before after out out' first last result
+    → ToldPerforms (command.Trace order) request (limit - old.taken) before after start out' (status_of_stream result)
+performs_trace order request listing code leaves old new before after start out out' first last result made begun within s =
+    let size : code.size ≡ size_of request = ap (λ (k : Code). k.size) made.3 ∙ made.1.2.0.header.size in
+    let modulus : code.modulus ≡ modulus_of request = ap (λ (k : Code). k.modulus) made.3 ∙ made.1.2.0.header.modulus in
+    let text = traced_text order code.procs code in
+    let sized = stream_of_request request code text leaves old new before after out out' first last result size modulus s in
+    performs_stream (command.Trace order) request listing text leaves old new before after start out out' first last result (traced_affordable request listing code made) (traced_writes order request listing code made) begun within sized
+
+-- a trace whose listing is not written whole
+pub listing_cut : (order : Order) (request : TransformRequest) (listing : List ℕ) (code : Code) (room : ℕ) (before left out out' : Option (List ℕ))
+    → IsTraced request listing code → IsRequestInRange request → AppendsPrefix out out' listing → ToldPerforms (command.Trace order) request room before left out out' WriteFault
+listing_cut order request listing code room None left out out' made in_range w = tt
+listing_cut order request listing code room (Some bytes) left out out' made in_range w =
+    let text = traced_text order code.procs code in
+    let none : vectors_of (size_of request) (modulus_of request) [] ≡ [] = vectors_few (size_of request) (modulus_of request) [] (limits request in_range).size in
+    let alone : listing ++ texts text (vectors_of (size_of request) (modulus_of request) []) ≡ listing = ap (λ (v : List (List ℕ)). listing ++ texts text v) none ∙ append-nil listing in
+    record {
+      answer = λ d. absurd (d.write refl);
+      read_fault = λ e. absurd (cc);
+      write_fault = λ _. (
+        [],
+        bytes,
+        listing,
+        refl,
+        traced_affordable request listing code made,
+        inl (refl, inl refl, subst (IsTextOfData (command.Trace order) request (vectors_of (size_of request) (modulus_of request) [])) alone (traced_writes order request listing code made [])),
+        w,
+      );
+    }
+
+-- Certificates
+
+-- a command that has no memory
+performs_nothing : (wanted : Command) (request : TransformRequest) (room : ℕ) (bytes : List ℕ) (left out : Option (List ℕ)) → Performs wanted request room bytes left out out NoMemory
+performs_nothing wanted request room bytes left out = record { answer = λ d. absurd (d.memory refl); read_fault = λ e. absurd (cc); write_fault = λ e. absurd (cc) }
+
+pub told_nothing : (wanted : Command) (request : TransformRequest) (room : ℕ) (before left out : Option (List ℕ)) → ToldPerforms wanted request room before left out out NoMemory
+told_nothing wanted request room None left out = tt
+told_nothing wanted request room (Some bytes) left out = performs_nothing wanted request room bytes left out
+
+judged_performs : (request : TransformRequest) (room : ℕ) (bytes : List ℕ) (left out out' : Option (List ℕ)) (found : Verdict)
+    → IsAdmitted request → length bytes ≤ certificate_limit → IsVerdict request bytes found → Appends out out' (verdict_text found)
+    → Performs command.Check request room bytes left out out' (status_of_verdict found)
+judged_performs request room bytes left out out' (verdict.Least cost) there few judged w = record {
+  answer = λ d. (least_line cost, inr (there, inr (inr (refl, inr (few, (verdict.Least cost, judged, refl, refl))))), w);
+  read_fault = λ e. absurd (cc);
+  write_fault = λ e. absurd (cc);
+}
+judged_performs request room bytes left out out' verdict.Unread there few judged w = record {
+  answer = λ d. ([], inr (there, inr (inr (refl, inr (few, (verdict.Unread, judged, refl, refl))))), w);
+  read_fault = λ e. absurd (cc);
+  write_fault = λ e. absurd (cc);
+}
+judged_performs request room bytes left out out' (verdict.Wrong size given found) there few judged w = record {
+  answer = λ d. ([], inr (there, inr (inr (refl, inr (few, (verdict.Wrong size given found, judged, refl, refl))))), w);
+  read_fault = λ e. absurd (cc);
+  write_fault = λ e. absurd (cc);
+}
+
+-- a check whose input has no rest that can be judged
+pub performs_unread : (request : TransformRequest) (room : ℕ) (before after out : Option (List ℕ)) (read : List ℕ) (fault : RestFault)
+    → IsAdmitted request → Consumes before after read → GivesRest certificate_limit read (IsAtEnd after) (Err fault) → ToldPerforms command.Check request room before after out out (status_of_rest fault)
+performs_unread request room None after out read fault there consumed given = tt
+performs_unread request room (Some bytes) None out read fault there consumed given = absurd consumed
+performs_unread request room (Some bytes) (Some rest) out read rest_fault.TooLong there consumed given =
+    let count : length bytes ≡ length read + length rest = ap length consumed ∙ length-append read rest in
+    let long : certificate_limit < length bytes = omega (arith, count, given) in
+    record {
+      answer = λ d. ([], inr (there, inr (inr (refl, inl (long, refl, refl)))), Appends-nil out);
+      read_fault = λ e. absurd (cc);
+      write_fault = λ e. absurd (cc);
+    }
+performs_unread request room (Some bytes) (Some rest) out read rest_fault.ReadFault there consumed given = record {
+  answer = λ d. absurd (d.read refl);
+  read_fault = λ _. (read, [], consumed, there, inr (refl, given, refl), Appends-nil out);
+  write_fault = λ e. absurd (cc);
+}
+performs_unread request room (Some bytes) (Some rest) out read rest_fault.NoMemory there consumed given = performs_nothing command.Check request room bytes (Some rest) out
+
+-- the verdict on the bytes, as it was found
+pub judged_of : (request : TransformRequest) (text seen : List ℕ) (found other : Verdict) → seen ≡ text → other ≡ found → IsVerdict request seen other → IsVerdict request text found
+judged_of request text seen found other q e judged =
+    subst (λ (v : Verdict). IsVerdict request text v) e (subst (λ (l : List ℕ). IsVerdict request l other) q judged)
+
+-- a rest that was judged
+pub performs_judged : (request : TransformRequest) (room : ℕ) (before after out out' : Option (List ℕ)) (read text : List ℕ) (found : Verdict)
+    → IsAdmitted request → Consumes before after read → text ≡ read → IsAtEnd after → length read ≤ certificate_limit → IsVerdict request text found → Appends out out' (verdict_text found)
+    → ToldPerforms command.Check request room before after out out' (status_of_verdict found)
+performs_judged request room None after out out' read text found there consumed same end short judged w = tt
+performs_judged request room (Some bytes) None out out' read text found there consumed same end short judged w = absurd consumed
+performs_judged request room (Some bytes) (Some rest) out out' read text found there consumed same end short judged w =
+    let whole : bytes ≡ read = consumed ∙ ap (λ l. read ++ l) end ∙ append-nil read in
+    let few : length bytes ≤ certificate_limit = subst (λ l. length l ≤ certificate_limit) (sym whole) short in
+    let here : IsVerdict request bytes found = subst (λ l. IsVerdict request l found) (same ∙ sym whole) judged in
+    judged_performs request room bytes (Some rest) out out' found there few here w
+
+-- a rest that was judged right, and the line that says so was not written whole
+pub performs_judged_cut : (request : TransformRequest) (room : ℕ) (before after out out' : Option (List ℕ)) (read text : List ℕ) (cost : ℕ)
+    → IsAdmitted request → Consumes before after read → text ≡ read → IsAtEnd after → length read ≤ certificate_limit → IsVerdict request text (verdict.Least cost) → AppendsPrefix out out' (least_line cost)
+    → ToldPerforms command.Check request room before after out out' WriteFault
+performs_judged_cut request room None after out out' read text cost there consumed same end short judged w = tt
+performs_judged_cut request room (Some bytes) None out out' read text cost there consumed same end short judged w = absurd consumed
+performs_judged_cut request room (Some bytes) (Some rest) out out' read text cost there consumed same end short judged w = record {
+  answer = λ d. absurd (d.write refl);
+  read_fault = λ e. absurd (cc);
+  write_fault = λ _. (
+    read,
+    rest,
+    least_line cost,
+    consumed,
+    there,
+    inr (inr (refl, end, short, (verdict.Least cost, subst (λ l. IsVerdict request l (verdict.Least cost)) same judged, refl, refl))),
+    w,
+  );
+}
+
+-- the performance of a command that needs no data
+pub told_any : (wanted : Command) (request : TransformRequest) (room : ℕ) (before left out out' : Option (List ℕ)) (status : Status)
+    → ((room : ℕ) (bytes : List ℕ) (left : Option (List ℕ)) → Performs wanted request room bytes left out out' status) → ToldPerforms wanted request room before left out out' status
+told_any wanted request room None left out out' status p = tt
+told_any wanted request room (Some bytes) left out out' status p = p room bytes left

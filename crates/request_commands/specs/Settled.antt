@@ -1,0 +1,139 @@
+-- What the commands for a request answer, and what they write.
+use Rattle.std.specs.Prelude.{◌≡◌, ◌⊎◌, ℕ, ◌≤◌, true, List, [], ◌∷◌, ◌++◌, length, Ok, Err}
+use Rattle.std.specs.List.{list_all}
+use Rattle.transform_requests.specs.declared.TransformRequest.{TransformRequest}
+use Rattle.transform_requests.specs.Fields.{asked_of, modulus_of, procs_of, size_of}
+use Rattle.transform_requests.specs.Trees.{cost_of}
+use Rattle.icode.specs.declared.program.Program.{Program}
+use Rattle.plan_faults.specs.declared.generating.GenerateFault.{GenerateFault}
+use Rattle.transform_code.specs.Good.{IsGood}
+use Rattle.transform_code.specs.Lean.{IsLean, loads_of, stores_of}
+use Rattle.transform_code.specs.Planned.{IsPlanned, IsAdmitted, IsBarred}
+use Rattle.icode.specs.Program.{plain_program, code_of}
+use Rattle.tree_model.specs.Breakdown.{Breakdown}
+use Rattle.transform_certs.specs.Certified.{IsCertificateText}
+use Rattle.transform_texts.specs.Formulas.{trees_expansion}
+use Rattle.transform_texts.specs.Texts.{plan_text}
+use Rattle.spl_text.specs.Spelling.{spelling}
+use Rattle.listing_text.specs.Listing.{listing_of}
+use Rattle.c_print.specs.CText.{c_text_of}
+use Rattle.data_stream.specs.Data.{tokens, closed_part, is_good}
+use Rattle.spiral_words.specs.declared.Command.{Command}
+use Rattle.spiral_words.specs.declared.Order.{Order}
+use Rattle.spiral_words.specs.declared.Command.TheVariants as command
+use Rattle.spiral_status.specs.declared.status.Status.{Status}
+use Rattle.spiral_status.specs.declared.status.Status.TheVariants.{Success}
+use Rattle.request_commands.specs.Checked.{certificate_limit, IsJudged, IsChecked}
+use Rattle.spiral_input.specs.Commands.{reads_certificate}
+use Rattle.spiral_status.specs.Fault.{status_of_generate, status_of_stream}
+use Rattle.request_commands.specs.Traced.{traced_text}
+use Rattle.request_commands.specs.Sample.{sample_vector, weighted_sum, sample_text}
+use Rattle.stream_run.specs.Stream.{texts, lines, vectors_of, data_answer, data_vectors}
+
+-- The request
+
+-- the first cause to refuse the request
+abbrev pub IsRefused : TransformRequest → Status → Type 0
+IsRefused request status = (fault : GenerateFault) × IsPlanned request (Err fault) × (status ≡ status_of_generate fault)
+
+-- the first cause to refuse it whatever its budget
+abbrev pub IsShutOut : TransformRequest → Status → Type 0
+IsShutOut request status = (fault : GenerateFault) × IsBarred request fault × (status ≡ status_of_generate fault)
+
+-- the roots are right, some trees fit, and the least cost is within the budget
+abbrev pub IsAffordable : TransformRequest → Type 0
+IsAffordable request = (trees : List Breakdown) × IsPlanned request (Ok trees)
+
+-- the request is one for the command. `check` asks for no budget
+abbrev pub IsAccepted : Command → TransformRequest → Type 0
+IsAccepted command.Check request = IsAdmitted request
+IsAccepted _ request = IsAffordable request
+
+-- the request is none for the command
+abbrev pub IsDeclined : Command → TransformRequest → Status → Type 0
+IsDeclined command.Check request status = IsShutOut request status
+IsDeclined _ request status = IsRefused request status
+
+-- What is written
+
+-- what the request asks for: its matrix times the vector
+abbrev pub product : TransformRequest → List ℕ → List ℕ
+product r x = asked_of r x
+
+-- a good program for the request, which executes, loads and stores exactly what the trees do
+abbrev pub IsProgramOf : TransformRequest → List Breakdown → Program → Type 0
+IsProgramOf request trees program = IsGood request (cost_of request trees) program × IsLean request trees program
+
+-- such a program for the chosen trees
+abbrev pub IsProgramFor : TransformRequest → Program → Type 0
+IsProgramFor request program = (trees : List Breakdown) × IsPlanned request (Ok trees) × IsProgramOf request trees program
+
+-- the text is the listing of such a program
+abbrev pub IsListing : TransformRequest → List ℕ → Type 0
+IsListing request text = (program : Program) × IsProgramFor request program × (text ≡ listing_of (plain_program program))
+
+-- the text is the C text of such a program
+abbrev pub IsCText : TransformRequest → List ℕ → Type 0
+IsCText request text = (program : Program) × IsProgramFor request program × (text ≡ c_text_of (plain_program program))
+
+-- the text has the weighted sum of the matrix times the seed's vector, and what the chosen trees cost, load and store
+abbrev pub IsSampleText : TransformRequest → ℕ → List ℕ → Type 0
+IsSampleText request seed text = (trees : List Breakdown) × IsPlanned request (Ok trees)
+    × (text ≡ sample_text (weighted_sum (modulus_of request) (product request (sample_vector (modulus_of request) (size_of request) seed))) (cost_of request trees) (loads_of request trees) (stores_of request trees))
+
+-- the chosen trees, their cost, the phases and each processor's operations
+abbrev pub IsPlanText : TransformRequest → List ℕ → Type 0
+IsPlanText request text = (trees : List Breakdown) × IsPlanned request (Ok trees) × (text ≡ plan_text request trees)
+
+-- the formula of the chosen trees, and a line end
+abbrev pub IsFormulaText : TransformRequest → List ℕ → Type 0
+IsFormulaText request text = (trees : List Breakdown) × IsPlanned request (Ok trees) × (text ≡ spelling (trees_expansion request trees) ++ 10 ∷ [])
+
+-- the text of a command that reads nothing behind the first line
+abbrev pub IsTextOf : Command → TransformRequest → List ℕ → Type 0
+IsTextOf command.Plan request text = IsPlanText request text
+IsTextOf command.Formula request text = IsFormulaText request text
+IsTextOf command.Cert request text = IsCertificateText request text
+IsTextOf command.Code request text = IsListing request text
+IsTextOf command.C request text = IsCText request text
+IsTextOf (command.Sample seed schedule) request text = IsSampleText request seed text
+IsTextOf _ request text = ⊥
+
+-- the listing of a good program, and for each vector the lines of its run in the order and the line of its results
+abbrev pub IsTrace : Order → TransformRequest → List (List ℕ) → List ℕ → Type 0
+IsTrace order request vectors text = (program : Program) × IsProgramFor request program
+    × (text ≡ listing_of (plain_program program) ++ texts (traced_text order (procs_of request) (code_of program)) vectors)
+
+-- the text of a command that goes over the data, of which these vectors are whole
+abbrev pub IsTextOfData : Command → TransformRequest → List (List ℕ) → List ℕ → Type 0
+IsTextOfData (command.Run order) request vectors text = text ≡ lines (product request) vectors
+IsTextOfData (command.Trace order) request vectors text = IsTrace order request vectors text
+IsTextOfData _ request vectors text = ⊥
+
+-- the status and the text of a command that goes over the data, of which so many bytes may come
+abbrev pub IsAnswerToData : Command → TransformRequest → ℕ → List ℕ → Status → List ℕ → Type 0
+IsAnswerToData wanted request room bytes status text =
+    (status ≡ status_of_stream (data_answer (size_of request) room bytes)) × IsTextOfData wanted request (data_vectors (size_of request) (modulus_of request) room bytes) text
+
+-- the status and the text of a command for a request, by the bytes behind the first line, of which so many may come
+abbrev pub Settles : Command → TransformRequest → ℕ → List ℕ → Status → List ℕ → Type 0
+Settles wanted request room bytes status text =
+    IsAnswerToData wanted request room bytes status text
+    ⊎ (((status ≡ Success) × IsTextOf wanted request text)
+    ⊎ ((reads_certificate wanted ≡ true) × IsChecked request bytes status text))
+
+-- What a fault of the outside leaves
+
+-- The bytes behind the first line show no fault so far. For data the text is that of the vectors that are whole in them, though more may follow; a certificate has none yet
+abbrev pub BreaksOff : Command → TransformRequest → List ℕ → List ℕ → Type 0
+BreaksOff wanted request bytes text =
+    ((list_all is_good (tokens bytes) ≡ true) × IsTextOfData wanted request (vectors_of (size_of request) (modulus_of request) (tokens (closed_part bytes))) text)
+    ⊎ ((reads_certificate wanted ≡ true) × (length bytes ≤ certificate_limit) × (text ≡ []))
+
+-- The text to which a command has come by the bytes that it read behind the first line, where this is left. Of data no token counts that what is left may go on
+abbrev pub ComesTo : Command → TransformRequest → List ℕ → List ℕ → List ℕ → Type 0
+ComesTo wanted request bytes left text =
+    ((list_all is_good (tokens bytes) ≡ true) × ((closed_part bytes ≡ bytes) ⊎ (left ≡ []))
+    × IsTextOfData wanted request (vectors_of (size_of request) (modulus_of request) (tokens bytes)) text)
+    ⊎ (IsTextOf wanted request text
+    ⊎ ((reads_certificate wanted ≡ true) × (left ≡ []) × (length bytes ≤ certificate_limit) × IsJudged request bytes Success text))

@@ -1,0 +1,23 @@
+-- The text of a run in an order of turns and drains.
+use Rattle.std.specs.Prelude.{ℕ, true, List, map}
+use Rattle.icode.specs.declared.event.Event.TheVariants.{Turn}
+use Rattle.icode.specs.Machine.{Code}
+use Rattle.request_text.specs.Turns.{turns_of}
+use Rattle.buffer_machine.specs.declared.Events.{Events}
+use Rattle.buffer_machine.specs.declared.Events.TheVariants as events
+use Rattle.spiral_words.specs.declared.Order.{Order}
+use Rattle.spiral_words.specs.declared.Order.TheVariants as order
+use Rattle.stream_run.specs.BufferedText.{buffered_text}
+use Rattle.stream_run.specs.Stream.{run_text}
+
+-- The text of a vector's run on so many processors: a line for each turn and drain, and the line of its results. Turns
+-- alone are those of the machine without buffers
+abbrev pub traced_text : Order → ℕ → Code → List ℕ → List ℕ
+traced_text (order.Turns schedule) procs code = run_text true code (turns_of schedule procs)
+traced_text (order.Buffered schedule) procs code = buffered_text true code (map Turn (turns_of schedule procs))
+traced_text (order.Mixed mix) procs code = buffered_text true code mix
+
+-- the order whose events these are
+abbrev pub order_of : Events → Order
+order_of (events.Turns schedule) = order.Buffered schedule.now
+order_of (events.Mixed mix) = order.Mixed mix.now

@@ -1,0 +1,60 @@
+// The command that judges a certificate.
+ghost use Rattle.std.specs.Prelude.{◌≡◌, ◌≢◌, ◌-◌, ◌≤◌, []};
+ghost use Rattle.std.specs.Io.KnownBytes.{Appends, IsAtEnd};
+ghost use Rattle.transform_requests.specs.Range.{IsRequestInRange};
+ghost use Rattle.io_edge.specs.Faults.{HasCause, Reports};
+ghost use Rattle.io_edge.specs.Feed.{to_come, limit};
+ghost use Rattle.io_edge.specs.Taken.{WritesAll};
+ghost use Rattle.request_commands.specs.Checked.{least_line};
+ghost use Rattle.spiral_input.specs.Stage.{status_of};
+ghost use Rattle.request_commands.specs.Performed.{ToldPerforms};
+
+use input_rest::read_rest;
+use io_edge::{Feed, Sink, Source, WriteFault, write_parts};
+use itoa::Buffer;
+use spiral_status::{CERTIFICATE_LIMIT, Status};
+use spiral_words::Command;
+use std::alloc::Global;
+use transform_certs::{Verdict, check_certificate};
+use transform_code::admit_request;
+use transform_requests::TransformRequest;
+
+// Writes the line of a right certificate.
+fn write_least<O: Sink>(output: &mut O, cost: u64) -> Result<(), WriteFault>
+    ensures bytes { WritesAll (O.taken output.old) (O.taken output.new) result (least_line cost) }
+    ensures cause { HasCause (O.faults output.old) (O.faults output.new) result }
+{
+    let mut buffer = Buffer::new();
+    write_parts(output, &[b"least ", buffer.format(cost).as_bytes(), b"\n"])
+}
+
+/// Reads the rest of the input, and says of it as a certificate what is to be said.
+pub(crate) fn check<I: Source, O: Sink>(
+    alloc: Global,
+    request: &TransformRequest,
+    feed: &mut Feed,
+    input: &mut I,
+    output: &mut O,
+) -> Result<(), Status>
+    requires in_range { IsRequestInRange request.now }
+    requires line { feed.old.taken ≤ 257 }
+    ensures told { ToldPerforms Command.Check request.now (limit - feed.old.taken) (to_come feed.old (I.left input.old))
+        (to_come feed.new (I.left input.new)) (O.taken output.old) (O.taken output.new) (status_of result) }
+    ensures end { status_of result ≡ Status.Success → IsAtEnd (to_come feed.new (I.left input.new)) }
+    ensures empty { status_of result ≡ Status.ReadFault → feed.new.held ≡ [] }
+    ensures usage { status_of result ≢ Status.Usage }
+    ensures read { Reports (I.faults input.old) (I.faults input.new) (status_of result ≡ Status.ReadFault) }
+    ensures write { Reports (O.faults output.old) (O.faults output.new) (status_of result ≡ Status.WriteFault) }
+    ensures memory { status_of result ≡ Status.NoMemory → Appends (O.taken output.old) (O.taken output.new) [] }
+{
+    admit_request(request)?;
+    let text = read_rest(alloc, feed, input, CERTIFICATE_LIMIT)?;
+    match check_certificate(alloc, request, &text)? {
+        Verdict::Least(cost) => {
+            write_least(output, cost)?;
+            Ok(())
+        }
+        Verdict::Unread => Err(Status::Unread),
+        Verdict::Wrong { size, given, found } => Err(Status::Wrong { size, given, found }),
+    }
+}

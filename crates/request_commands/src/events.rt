@@ -1,0 +1,127 @@
+// The commands that go over the vectors of the data, with store buffers.
+ghost use Rattle.std.specs.Prelude.{◌≡◌, ◌≢◌, ◌-◌, ◌<◌, ◌≤◌, [], IfOk, IfErr, OnOk, vec_len};
+ghost use Rattle.std.specs.Io.KnownBytes.{Appends, IsAtEnd};
+ghost use Rattle.transform_requests.specs.Fields.{procs_of};
+ghost use Rattle.transform_requests.specs.Range.{IsRequestInRange};
+ghost use Rattle.icode.specs.declared.program.Program.{Program as SpecProgram};
+ghost use Rattle.icode.specs.Program.{plain_program, code_of};
+ghost use Rattle.listing_text.specs.Listing.{listing_of};
+ghost use Rattle.io_edge.specs.Faults.{Reports};
+ghost use Rattle.io_edge.specs.Feed.{to_come, limit};
+ghost use Rattle.buffer_machine.specs.Listed.{HasNoStranger};
+ghost use Rattle.request_commands.specs.Traced.{order_of};
+ghost use Rattle.request_commands.specs.Settled.{IsRefused, IsAffordable, IsProgramFor};
+ghost use Rattle.spiral_input.specs.Stage.{status_of};
+ghost use Rattle.spiral_status.specs.Status.{IsDefined};
+ghost use Rattle.spiral_input.specs.Refusals.{IsRefusal};
+ghost use Rattle.request_commands.specs.Performed.{IsGoodCode, ToldPerforms};
+
+use crate::texts::good_product;
+use buffer_machine::{BufMachine, Events};
+use io_edge::{Feed, Sink, Source, write_all};
+use listing_text::print_listing;
+use spiral_status::Status;
+use spiral_words::Command;
+use std::alloc::Global;
+use stream_run::run_buffered;
+use transform_requests::TransformRequest;
+
+// A machine with store buffers and a good program for the request, and room for a vector.
+fn buffered_engine(
+    alloc: Global,
+    request: &TransformRequest,
+) -> Result<(BufMachine, Vec<u64>), Status>
+    requires in_range { IsRequestInRange request.now }
+    ensures affordable { OnOk result (IsAffordable request.now) }
+    ensures machine { IfOk result (λ made. IsGoodCode request.now made.0.code) }
+    ensures room { IfOk result (λ made. vec_len made.1 ≡ made.0.code.size) }
+    ensures some { IfOk result (λ made. 0 < vec_len made.1) }
+    ensures refused { IfErr result (λ status. IsDefined status → IsRefused request.now status) }
+    ensures refusal { IfErr result IsRefusal }
+{
+    let product = good_product(alloc, request)?;
+    let vector = vec![in alloc; 0; request.size() as usize]?;
+    let machine = BufMachine::new(alloc, &product.program)?;
+    Ok((machine, vector))
+}
+
+// The listing of a good program for the request, a machine with store buffers and the program, and room for a vector.
+fn traced_buffered_engine(
+    alloc: Global,
+    request: &TransformRequest,
+) -> Result<(Vec<u8>, BufMachine, Vec<u64>), Status>
+    requires in_range { IsRequestInRange request.now }
+    ensures program { IfOk result (λ made. (program : SpecProgram) × IsProgramFor request.now program
+        × (made.0.items ≡ listing_of (plain_program program)) × (made.1.code ≡ code_of program)) }
+    ensures room { IfOk result (λ made. vec_len made.2 ≡ made.1.code.size) }
+    ensures some { IfOk result (λ made. 0 < vec_len made.2) }
+    ensures refused { IfErr result (λ status. IsDefined status → IsRefused request.now status) }
+    ensures refusal { IfErr result IsRefusal }
+{
+    let product = good_product(alloc, request)?;
+    let text = print_listing(alloc, &product.program)?;
+    let vector = vec![in alloc; 0; request.size() as usize]?;
+    let machine = BufMachine::new(alloc, &product.program)?;
+    Ok((text, machine, vector))
+}
+
+/// Runs the machine with store buffers.
+pub(crate) fn run_events<I: Source, O: Sink>(
+    alloc: Global,
+    request: &TransformRequest,
+    events: Events,
+    feed: &mut Feed,
+    input: &mut I,
+    output: &mut O,
+) -> Result<(), Status>
+    requires in_range { IsRequestInRange request.now }
+    requires turns { HasNoStranger events (procs_of request.now) }
+    requires within { feed.old.taken ≤ limit }
+    ensures told { ToldPerforms (Command.Run (order_of events.entry)) request.now (limit - feed.old.taken) (to_come feed.old (I.left input.old))
+        (to_come feed.new (I.left input.new)) (O.taken output.old) (O.taken output.new) (status_of result) }
+    ensures end { status_of result ≡ Status.Success → IsAtEnd (to_come feed.new (I.left input.new)) }
+    ensures empty { status_of result ≡ Status.ReadFault → feed.new.held ≡ [] }
+    ensures usage { status_of result ≢ Status.Usage }
+    ensures read { Reports (I.faults input.old) (I.faults input.new) (status_of result ≡ Status.ReadFault) }
+    ensures write { Reports (O.faults output.old) (O.faults output.new) (status_of result ≡ Status.WriteFault) }
+    ensures memory { status_of result ≡ Status.NoMemory → Appends (O.taken output.old) (O.taken output.new) [] }
+{
+    let (mut machine, mut vector) = buffered_engine(alloc, request)?;
+    run_buffered(
+        &mut machine,
+        events,
+        false,
+        feed,
+        input,
+        output,
+        &mut vector,
+    )?;
+    Ok(())
+}
+
+/// Traces the machine with store buffers.
+pub(crate) fn trace_events<I: Source, O: Sink>(
+    alloc: Global,
+    request: &TransformRequest,
+    events: Events,
+    feed: &mut Feed,
+    input: &mut I,
+    output: &mut O,
+) -> Result<(), Status>
+    requires in_range { IsRequestInRange request.now }
+    requires turns { HasNoStranger events (procs_of request.now) }
+    requires within { feed.old.taken ≤ limit }
+    ensures told { ToldPerforms (Command.Trace (order_of events.entry)) request.now (limit - feed.old.taken) (to_come feed.old (I.left input.old))
+        (to_come feed.new (I.left input.new)) (O.taken output.old) (O.taken output.new) (status_of result) }
+    ensures end { status_of result ≡ Status.Success → IsAtEnd (to_come feed.new (I.left input.new)) }
+    ensures empty { status_of result ≡ Status.ReadFault → feed.new.held ≡ [] }
+    ensures usage { status_of result ≢ Status.Usage }
+    ensures read { Reports (I.faults input.old) (I.faults input.new) (status_of result ≡ Status.ReadFault) }
+    ensures write { Reports (O.faults output.old) (O.faults output.new) (status_of result ≡ Status.WriteFault) }
+    ensures memory { status_of result ≡ Status.NoMemory → Appends (O.taken output.old) (O.taken output.new) [] }
+{
+    let (listing, mut machine, mut vector) = traced_buffered_engine(alloc, request)?;
+    write_all(output, &listing)?;
+    run_buffered(&mut machine, events, true, feed, input, output, &mut vector)?;
+    Ok(())
+}

@@ -1,0 +1,80 @@
+//! The commands that go by a request: its texts, its runs over the data, and the verdict on a certificate.
+#![tactic(auto)]
+
+ghost use Rattle.std.specs.Prelude.{◌≡◌, ◌≢◌, ◌-◌, ◌≤◌, ℕ, List, [], Ok, true};
+ghost use Rattle.std.specs.declared.option.Option.{Option};
+ghost use Rattle.std.specs.Io.KnownBytes.{Appends, IsAtEnd};
+ghost use Rattle.transform_requests.specs.Fields.{procs_of};
+ghost use Rattle.transform_requests.specs.Range.{IsRequestInRange};
+ghost use Rattle.io_edge.specs.Faults.{Reports};
+ghost use Rattle.io_edge.specs.Feed.{to_come, limit};
+ghost use Rattle.spiral_input.specs.Commands.{reads_rest, takes_request, has_text, NamesNoStranger};
+ghost use Rattle.spiral_input.specs.Stage.{status_of};
+ghost use Rattle.request_commands.specs.Performed.{Performs, ToldPerforms};
+
+mod check;
+mod data;
+mod events;
+mod plans;
+mod sample;
+mod texts;
+
+use data::{run, trace};
+use io_edge::{Feed, Sink, Source, write_all};
+use spiral_status::Status;
+use spiral_words::Command;
+use std::alloc::Global;
+use texts::text_of;
+use transform_requests::TransformRequest;
+
+// Writes the text of a command that needs no data.
+fn write_text<O: Sink>(
+    alloc: Global,
+    command: &Command,
+    request: &TransformRequest,
+    output: &mut O,
+) -> Result<(), Status>
+    requires in_range { IsRequestInRange request.now }
+    requires turns { NamesNoStranger command.now (procs_of request.now) }
+    requires textual { has_text command.now ≡ true }
+    ensures told { (room : ℕ) (bytes : List ℕ) (left : Option (List ℕ)) → Performs command.now request.now room bytes left
+        (O.taken output.old) (O.taken output.new) (status_of result) }
+    ensures read { status_of result ≢ Status.ReadFault }
+    ensures usage { status_of result ≢ Status.Usage }
+    ensures write { Reports (O.faults output.old) (O.faults output.new) (status_of result ≡ Status.WriteFault) }
+    ensures memory { status_of result ≡ Status.NoMemory → Appends (O.taken output.old) (O.taken output.new) [] }
+{
+    let text = text_of(alloc, command, request)?;
+    write_all(output, &text)?;
+    Ok(())
+}
+
+/// Does a command for a request.
+pub fn perform<I: Source, O: Sink>(
+    alloc: Global,
+    command: &Command,
+    request: &TransformRequest,
+    feed: &mut Feed,
+    input: &mut I,
+    output: &mut O,
+) -> Result<(), Status>
+    requires in_range { IsRequestInRange request.now }
+    requires turns { NamesNoStranger command.now (procs_of request.now) }
+    requires line { feed.old.taken ≤ 257 }
+    requires request { takes_request command.now ≡ true }
+    ensures told { ToldPerforms command.now request.now (limit - feed.old.taken) (to_come feed.old (I.left input.old))
+        (to_come feed.new (I.left input.new)) (O.taken output.old) (O.taken output.new) (status_of result) }
+    ensures end { status_of result ≡ Status.Success → reads_rest command.now ≡ true → IsAtEnd (to_come feed.new (I.left input.new)) }
+    ensures empty { status_of result ≡ Status.ReadFault → feed.new.held ≡ [] }
+    ensures usage { status_of result ≢ Status.Usage }
+    ensures read { Reports (I.faults input.old) (I.faults input.new) (status_of result ≡ Status.ReadFault) }
+    ensures write { Reports (O.faults output.old) (O.faults output.new) (status_of result ≡ Status.WriteFault) }
+    ensures memory { status_of result ≡ Status.NoMemory → Appends (O.taken output.old) (O.taken output.new) [] }
+{
+    match command {
+        Command::Run { order } => run(alloc, request, order, feed, input, output),
+        Command::Trace { order } => trace(alloc, request, order, feed, input, output),
+        Command::Check => check::check(alloc, request, feed, input, output),
+        _ => write_text(alloc, command, request, output),
+    }
+}

@@ -1,0 +1,6 @@
+pub mod AskLemmas
+pub mod DataLemmas
+pub mod InputLemmas
+pub mod LineLemmas
+pub mod Stages
+pub mod StatusLemmas

@@ -1,0 +1,6 @@
+pub mod Asking
+pub mod Commands
+pub mod Line
+pub mod Orders
+pub mod Refusals
+pub mod Stage
