@@ -4,8 +4,7 @@ use Rattle.std.specs.Prelude.{slice_index, map, nat_lt, if◌then◌else◌}
 use Rattle.std.proofs.lemmas.List.{length-take-le, get_or-take, get_or-drop}
 use Rattle.std.proofs.lemmas.List.FromFn.{fill_by_all}
 use Rattle.std.proofs.lemmas.Nat.{div_below}
-use Rattle.matrix_meaning.specs.declared.Kind.{Kind}
-use Rattle.matrix_meaning.specs.declared.Kind.TheVariants.{Dft, Wht}
+use Rattle.matrix_meaning.specs.declared.Kind.TheVariants.{Dft}
 use Rattle.matrix_meaning.specs.Kind.{entry_of, transform}
 use Rattle.operators.specs.Identities.{HasSize}
 use Rattle.operators.specs.Operator.{Operator, gather, matrix_times, on_blocks, on_columns, stride}
@@ -25,7 +24,6 @@ use Rattle.plain_terms.specs.Shape.{Fits}
 use Rattle.plain_terms.proofs.Vectors.{Keeps, reduced, under_keeps, trees_keep, term_vector}
 use Rattle.rooted_trees.specs.Trees.{PlainTrees, single, tensor, trees_size, trees_on}
 use Rattle.spl_ast.specs.Meaning.{IsVector}
-use Rattle.spl_ast.proofs.Residues.{transform_of_reduced}
 use Rattle.spl_ast.proofs.Vectors.{residue_at, list_vector, take_vector, drop_vector}
 use Rattle.tensor_paths.specs.Loop.{loop_at}
 use Rattle.tensor_paths.specs.Path.{Path, count_of, size_under, under, place, local, AreInRange, Reads}
@@ -149,12 +147,6 @@ both_joined k l a b x u v long first second u_is v_is =
     joined k l u v first second
     ∙ ap₂ (λ p q. list_below (k + l) (λ w. if nat_lt w k then slice_index p w else slice_index q (w - k))) (u_is ∙ ap a (front_is k l x long)) (v_is ∙ ap b (back_is k l x long))
 
--- ---- roots
-
-pub transform_of_any : (kind : Kind) (m n w : ℕ) (x : List ℕ) → transform kind m n (w % m) x ≡ transform kind m n w x
-transform_of_any Dft m n w x = transform_of_reduced m n w x
-transform_of_any Wht m n w x = refl
-
 -- ---- from equations
 
 pub nest_times : (m n : ℕ) (t : PlainTerm) (path p : Path) (w : PlainWork) (x y : List ℕ) → t ≡ nest path w → p ≡ path → Fits n t → IsVector m n x → y ≡ under p (copy_size t) (copy_on m t) x → y ≡ term_on m n t x
@@ -167,12 +159,13 @@ move_times m n t path p ks x y is taken fits v e =
     let P : PlainTerm → Type 0 = λ s. Fits n s → y ≡ under p (copy_size s) (copy_on m s) x → y ≡ term_on m n s x in
     subst P (sym is) (λ h f. f ∙ ap (λ q. under q (length ks) (gather (length ks) (slice_index ks)) x) taken ∙ move_under m n path ks x h.0 h.1 v) fits e
 
-pub parts_joined : (m k l : ℕ) (a b : PlainTerm) (x front back u v : List ℕ) → IsVector m (k + l) x → Fits k a → Fits l b → front ≡ take k x → back ≡ drop k x → u ≡ term_on m k a front → v ≡ term_on m l b back →
-    u ++ v ≡ both k l (term_on m k a) (term_on m l b) x
-parts_joined m k l a b x front back u v whole fits_a fits_b is_front is_back is_u is_v =
+pub parts_joined : (m k l : ℕ) (a b : PlainTerm) (x front back u v out : List ℕ) → IsVector m (k + l) x → Fits k a → Fits l b → front ≡ take k x → back ≡ drop k x → u ≡ term_on m k a front → v ≡ term_on m l b back →
+    out ≡ u ++ v → out ≡ both k l (term_on m k a) (term_on m l b) x
+parts_joined m k l a b x front back u v out whole fits_a fits_b is_front is_back is_u is_v joined =
     let first = is_u ∙ ap (term_on m k a) is_front in
     let second = is_v ∙ ap (term_on m l b) is_back in
-    both_joined k l (term_on m k a) (term_on m l b) x u v whole.size
+    joined
+    ∙ both_joined k l (term_on m k a) (term_on m l b) x u v whole.size
     (ap length first ∙ (term_vector m k a (take k x) fits_a (take_vector m k l x whole)).size)
     (ap length second ∙ (term_vector m l b (drop k x) fits_b (drop_vector m k l x whole)).size)
     first second

@@ -1,12 +1,9 @@
 -- Sizes under the tensors of a path that are words, and the item of a copy at a place.
-use Rattle.std.proofs.Common.{◌≡◌, ℕ, ◌*◌, ◌/◌, ◌%◌, ◌<◌, arith, sym, ap, ◌∙◌, mod-eq_of_lt, List, ◌∷◌, length}
-use Rattle.std.specs.Prelude.{slice_index}
+use Rattle.std.proofs.Common.{◌≡◌, ℕ, ◌*◌, ◌/◌, ◌%◌, ◌<◌, arith, sym, ap, ◌∙◌, mod-eq_of_lt, ◌∷◌}
 use Rattle.index_fn.specs.Mapping.{at}
-use Rattle.passes.specs.Good.{AreBelow}
 use Rattle.passes.specs.Nest.{PlainFactors, factor_count, inner_of}
 use Rattle.passes.specs.Room.{HasCount, HasRoom}
 use Rattle.passes.proofs.Fitting as fitting
-use Rattle.passes.proofs.Moved.{at-below}
 use Rattle.matrix_meaning.specs.Laws.{twiddle}
 use Rattle.spl_ast.specs.Shape.{IsSize}
 use Rattle.spl_ast.proofs.Residues.{power_of_reduced}
@@ -24,9 +21,6 @@ inner_of_blocks c path n w = omega arith
 
 pub inner_of_columns : (c : ℕ) (path : Path) (n w : ℕ) → at (inner_of path n) (w / c) ≡ at (inner_of (Columns c ∷ path) n) w
 inner_of_columns c path n w = omega arith
-
-pub listed_below : (n : ℕ) (ks : List ℕ) (i : ℕ) → AreBelow n ks → i < length ks → slice_index ks i < n
-listed_below n ks i h within = at-below n ks i h within
 
 -- a root counts modulo m
 pub twiddle_residue : (m cols root w p y : ℕ) → w ≡ root % m → y ≡ twiddle m cols w p → y < m → y ≡ twiddle m cols root p % m

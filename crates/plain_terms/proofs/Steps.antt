@@ -16,11 +16,12 @@ block_part count s x long some = ap (λ n. n / count) long ∙ mul-div_cancel_le
 pub column_part : (s count : ℕ) (x : List ℕ) → length x ≡ s * count → 0 < s * count → length x / count ≡ s
 column_part s count x long some = ap (λ n. n / count) long ∙ mul-div_cancel s (right_positive s count some)
 
-pub one_block : (count d i size from end : ℕ) (a : Operator) (x before part : List ℕ) → HasSize d a → size ≡ d → from ≡ i * size → end ≡ from + size → i < count → length x ≡ count * d →
-    before ≡ on_blocks i size a x → part ≡ a (between from end x) → before ++ part ≡ on_blocks (i + 1) size a x
-one_block count d i size from end a x before part sized is start stop below long old new =
+pub one_block : (count d i size from end : ℕ) (a : Operator) (x before part out : List ℕ) → HasSize d a → size ≡ d → from ≡ i * size → end ≡ from + size → i < count → length x ≡ count * d →
+    before ≡ on_blocks i size a x → part ≡ a (between from end x) → out ≡ before ++ part → out ≡ on_blocks (i + 1) size a x
+one_block count d i size from end a x before part out sized is start stop below long old new joined =
     let inside : i * size + size ≤ length x = block_inside count d size i x below is long in
-    ap₂ (λ u v. u ++ v) old (new ∙ ap a (between-block size i x from end start (stop ∙ ap (λ n. n + size) start) (omega (arith, inside, start, stop))))
+    joined
+    ∙ ap₂ (λ u v. u ++ v) old (new ∙ ap a (between-block size i x from end start (stop ∙ ap (λ n. n + size) start) (omega (arith, inside, start, stop))))
     ∙ sym (on_blocks_more i size a x (λ y e. sized y ∙ sym is))
 
 pub turned_size : (r k : ℕ) → IsSize (r * k) → IsSize (k * r)

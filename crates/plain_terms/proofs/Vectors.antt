@@ -82,6 +82,10 @@ term_vector m n (beside path k a l b) x h v =
     let whole : IsVector m (size_under path (k + l)) x = subst (λ z. IsVector m z x) (sym h.1) v in
     subst (λ z. IsVector m z (under path (k + l) (both k l (term_on m k a) (term_on m l b)) x)) h.1 (under_keeps m path (k + l) _ inner x whole)
 
+-- what a term leaves, as the next one gets it
+pub next_vector : (m n : ℕ) (t : PlainTerm) (x y z : List ℕ) → Fits n t → IsVector m n x → y ≡ term_on m n t x → z ≡ y → IsVector m n z
+next_vector m n t x y z h v made lent = subst (λ (u : List ℕ). IsVector m n u) (sym (lent ∙ made)) (term_vector m n t x h v)
+
 pub terms_vector : (m n : ℕ) (ts : List PlainTerm) (x : List ℕ) → AllFit n ts → IsVector m n x → IsVector m n (terms_on m n ts x)
 terms_vector m n [] x h v = v
 terms_vector m n (t ∷ ts) x h v = terms_vector m n ts (term_on m n t x) h.1 (term_vector m n t x h.0 v)

@@ -1,11 +1,9 @@
 // Permutations and diagonals.
-ghost use Rattle.std.specs.Prelude.{◌≡◌, ℕ, ◌*◌, ◌%◌, ◌<◌, length, slice_index, IfOk};
+ghost use Rattle.std.specs.Prelude.{◌≡◌, ◌%◌, ◌<◌, length, IfOk};
 ghost use Rattle.index_fn.specs.Index.{mapping_of};
 ghost use Rattle.index_fn.specs.Mapping.{at};
-ghost use Rattle.operators.specs.Identities.{turn};
-ghost use Rattle.operators.specs.Operator.{gather, stride};
+ghost use Rattle.operators.specs.Operator.{gather};
 ghost use Rattle.operators.specs.Sum.{list_below};
-ghost use Rattle.passes.specs.Good.{AreBelow};
 ghost use Rattle.passes.specs.Nest.{factor_at, factor_count, inner_of};
 ghost use Rattle.passes.specs.Room.{HasCount, HasRoom};
 ghost use Rattle.passes.specs.Term.{scat, term_on};
@@ -73,52 +71,6 @@ fn zeros(alloc: Global, size: u64) -> Result<Vec<u64>, NoMemory>
     ensures { IfOk result (λ y. y.items ≡ list_below size (λ p. 0)) }
 {
     Ok((0..size).map(|_| 0).collect(alloc)?)
-}
-
-/// The items of `x` at these places.
-pub(crate) fn by_places(alloc: Global, from: &[u64], x: &[u64]) -> Result<Vec<u64>, NoMemory>
-    requires below { AreBelow (length from.now) from.now }
-    requires long { length x.now ≡ length from.now }
-    ensures { IfOk result (λ y. y.items ≡ gather (length from.now) (slice_index from.now) x.now) }
-{
-    Ok(
-        (0..from.len())
-            .map(|p| x[listed(from, p) as usize])
-            .collect(alloc)?,
-    )
-}
-
-#[tactic(auto, using(crate::proofs::Rooms::listed_below))]
-fn listed(places: &[u64], p: usize) -> u64
-    requires below { AreBelow (length places.now) places.now }
-    requires place { p < length places.now }
-    ensures value { result ≡ slice_index places.now p }
-    ensures below { result < length places.now }
-{
-    places[p]
-}
-
-/// The item at `j * r + i` goes to the place `i * s + j`.
-pub(crate) fn turned(alloc: Global, r: u64, s: u64, x: &[u64]) -> Result<Vec<u64>, NoMemory>
-    requires size { IsSize (r * s) }
-    requires long { length x.now ≡ r * s }
-    ensures { IfOk result (λ y. y.items ≡ turn r s x.now) }
-{
-    Ok(
-        (0..r * s)
-            .map(|p| x[stride_place(r, s, p) as usize])
-            .collect(alloc)?,
-    )
-}
-
-#[tactic(auto, using(operators::proofs::Places::stride_below))]
-fn stride_place(r: u64, s: u64, p: u64) -> u64
-    requires size { IsSize (r * s) }
-    requires place { p < r * s }
-    ensures value { result ≡ stride r s p }
-    ensures below { result < r * s }
-{
-    (p % s) * r + p / s
 }
 
 /// The diagonal under the tensors of the path, times `x`.

@@ -8,11 +8,12 @@ ghost use Rattle.plain_terms.specs.Shape.{AllFit, Fits, FitsCopy};
 ghost use Rattle.spl_ast.specs.Meaning.{IsVector};
 ghost use Rattle.spl_ast.specs.Shape.{IsSize};
 
-use crate::parts::{by_places, gathered, multiplied, scattered, turned};
+use crate::parts::{gathered, multiplied, scattered};
 use crate::works::worked;
 use memory::NoMemory;
 use passes::{Sigma, Term};
 use ring_mod::Modulus;
+use spl_ast::{by_places, turned};
 use std::alloc::Global;
 use tensor_paths::Tensor;
 

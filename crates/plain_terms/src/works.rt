@@ -1,7 +1,5 @@
 // What loops do to a copy.
 ghost use Rattle.std.specs.Prelude.{◌≡◌, ◌*◌, IfOk};
-ghost use Rattle.matrix_meaning.specs.declared.Kind.TheVariants.{Dft};
-ghost use Rattle.matrix_meaning.specs.Kind.{transform};
 ghost use Rattle.passes.specs.Views.{plain_work};
 ghost use Rattle.passes.specs.Work.{HasWords, work_on, work_size};
 ghost use Rattle.plain_terms.specs.Copies.{trees_columns, trees_rows};
@@ -9,12 +7,12 @@ ghost use Rattle.rooted_trees.specs.Trees.{alone, plain_trees, trees_on, trees_s
 ghost use Rattle.spl_ast.specs.Meaning.{IsVector};
 ghost use Rattle.spl_ast.specs.Shape.{IsSize};
 
-use crate::parts::turned;
-use matrix_meaning::{Kind, times_plain};
+use matrix_meaning::Kind;
 use memory::NoMemory;
 use passes::Work;
 use ring_mod::Modulus;
 use rooted_trees::{RootedTree, RootedTrees};
+use spl_ast::{transformed, turned};
 use std::alloc::Global;
 
 /// The work on the items of a copy.
@@ -33,28 +31,11 @@ pub(crate) fn worked(
     match work {
         Work::Kernel(trees) => trees_times(alloc, m, trees, x),
         Work::Rows { root, size } | Work::Horner { root, size } => {
-            transformed(alloc, m, Kind::Dft, *root, *size, x)
+            transformed(alloc, m, Kind::Dft, *size, *root, x)
         }
         Work::Tile { lanes } => turned(alloc, *lanes, *lanes, x),
         Work::Copy { .. } => Ok(Vec::from_slice(alloc, x)?),
     }
-}
-
-// The transform by any root.
-#[tactic(auto, using(crate::proofs::Copies::transform_of_any))]
-fn transformed(
-    alloc: Global,
-    m: &Modulus,
-    kind: Kind,
-    root: u64,
-    size: u64,
-    x: &[u64],
-) -> Result<Vec<u64>, NoMemory>
-    requires { IsVector m.now size x.now }
-    ensures { IfOk result (λ y. y.items ≡ transform kind m.now size root x.now) }
-{
-    let y = times_plain(alloc, kind, size, m.reduce(root), m.get(), x)?;
-    Ok(y)
 }
 
 // The tensor product of the trees' transforms.
@@ -90,7 +71,7 @@ fn tree_times(
     requires vector { IsVector m.now (trees_size (alone tree.now)) x.now }
     ensures { IfOk result (λ y. y.items ≡ trees_on m.now (alone tree.now) x.now) }
 {
-    transformed(alloc, m, tree.kind, tree.root, tree.tree.size(), x)
+    transformed(alloc, m, tree.kind, tree.tree.size(), tree.root, x)
 }
 
 // The trees on each of `count` rows.

@@ -4,6 +4,7 @@
 
 mod build;
 mod distribute;
+mod places;
 mod plain;
 mod rewriting;
 
@@ -13,6 +14,8 @@ ghost use Rattle.spl_ast.specs.Shape.{IsShaped, IsSize};
 
 pub use distribute::Distribute;
 pub use memory::NoMemory;
+pub use places::{by_places, turned};
+pub use plain::transformed;
 pub use rewriting::{Rule, rewrite};
 use std::marker::Model;
 

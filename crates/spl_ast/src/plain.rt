@@ -1,16 +1,15 @@
 //! What a formula does to a list, by its definition.
 
 ghost use Rattle.std.specs.Prelude.{◌≡◌, ℕ, ◌+◌, ◌*◌, ◌/◌, ◌%◌, ◌<◌, ◌≤◌, length, slice_index, IfOk};
-ghost use Rattle.matrix_meaning.specs.declared.Kind.TheVariants.{Dft, Wht};
 ghost use Rattle.matrix_meaning.specs.Kind.{transform};
 ghost use Rattle.matrix_meaning.specs.Laws.{twiddle};
-ghost use Rattle.operators.specs.Identities.{turn};
 ghost use Rattle.operators.specs.Operator.{gather, on_blocks, on_columns, scale, stride, good_thomas_in, good_thomas_out};
 ghost use Rattle.ring_mod.specs.Residue.{power_mod};
 ghost use Rattle.spl_ast.specs.Formula.{size_of};
 ghost use Rattle.spl_ast.specs.Meaning.{apply, IsVector};
-ghost use Rattle.spl_ast.specs.Shape.{AreGoodThomasFactors, IsMultiple, IsPermutation, IsShaped, IsSize};
+ghost use Rattle.spl_ast.specs.Shape.{AreGoodThomasFactors, IsMultiple, IsSize};
 
+use crate::places::{by_places, turned};
 use crate::{NoMemory, Node, Spl};
 use matrix_meaning::{Kind, times_plain};
 use ring_mod::Modulus;
@@ -37,8 +36,8 @@ fn times(alloc: Global, m: &Modulus, f: &Spl, x: &[u64]) -> Result<Vec<u64>, NoM
 {
     match &f.node {
         Node::I(_) => Ok(Vec::from_slice(alloc, x)?),
-        Node::Dft(n, w) => fourier_times(alloc, m, *n, *w, x),
-        Node::Wht(n) => hadamard_times(alloc, m, *n, x),
+        Node::Dft(n, w) => transformed(alloc, m, Kind::Dft, *n, *w, x),
+        Node::Wht(n) => transformed(alloc, m, Kind::Wht, *n, 0, x),
         Node::Twiddle(n, s, w) => twiddles_times(alloc, m, *n, *s, *w, x),
         Node::Diag(values) => diagonal_times(alloc, m, values, x),
         Node::L(n, r) => by_stride(alloc, *n, *r, x),
@@ -105,26 +104,20 @@ fn columns_times(
     Ok(y)
 }
 
+/// The transform of a kind and size, by any root.
 #[tactic(auto, using(crate::proofs::Residues::transform_of_reduced))]
-fn fourier_times(
+pub fn transformed(
     alloc: Global,
     m: &Modulus,
-    n: u64,
-    w: u64,
+    kind: Kind,
+    size: u64,
+    root: u64,
     x: &[u64],
 ) -> Result<Vec<u64>, NoMemory>
-    requires vector { IsVector m.now n x.now }
-    ensures { IfOk result (λ y. y.items ≡ transform Dft m.now n w x.now) }
+    requires { IsVector m.now size x.now }
+    ensures { IfOk result (λ y. y.items ≡ transform kind m.now size root x.now) }
 {
-    let y = times_plain(alloc, Kind::Dft, n, m.reduce(w), m.get(), x)?;
-    Ok(y)
-}
-
-fn hadamard_times(alloc: Global, m: &Modulus, n: u64, x: &[u64]) -> Result<Vec<u64>, NoMemory>
-    requires vector { IsVector m.now n x.now }
-    ensures { IfOk result (λ y. y.items ≡ transform Wht m.now n 0 x.now) }
-{
-    let y = times_plain(alloc, Kind::Wht, n, 0, m.get(), x)?;
+    let y = times_plain(alloc, kind, size, m.reduce(root), m.get(), x)?;
     Ok(y)
 }
 
@@ -183,43 +176,6 @@ fn by_stride(alloc: Global, n: u64, r: u64, x: &[u64]) -> Result<Vec<u64>, NoMem
 {
     let y = turned(alloc, r, n / r, x)?;
     Ok(y)
-}
-
-// The item at `j * r + i` goes to the place `i * s + j`.
-fn turned(alloc: Global, r: u64, s: u64, x: &[u64]) -> Result<Vec<u64>, NoMemory>
-    requires size { IsSize (r * s) }
-    requires long { length x.now ≡ r * s }
-    ensures { IfOk result (λ y. y.items ≡ turn r s x.now) }
-{
-    Ok(
-        (0..r * s)
-            .map(|p| x[stride_place(r, s, p) as usize])
-            .collect(alloc)?,
-    )
-}
-
-#[tactic(auto, using(operators::proofs::Places::stride_below))]
-fn stride_place(r: u64, s: u64, p: u64) -> u64
-    requires size { IsSize (r * s) }
-    requires place { p < r * s }
-    ensures value { result ≡ stride r s p }
-    ensures below { result < r * s }
-{
-    (p % s) * r + p / s
-}
-
-// The items of `x` at these places.
-fn by_places(alloc: Global, places: &[u64], x: &[u64]) -> Result<Vec<u64>, NoMemory>
-    requires size { IsSize (length places.now) }
-    requires permutation { IsPermutation places.now }
-    requires long { length x.now ≡ length places.now }
-    ensures { IfOk result (λ y. y.items ≡ gather (length places.now) (slice_index places.now) x.now) }
-{
-    Ok(
-        (0..places.len())
-            .map(|p| x[places[p] as usize])
-            .collect(alloc)?,
-    )
 }
 
 // The items of `x` as a Good-Thomas step takes them.

@@ -54,37 +54,47 @@ fn rewrite_parts<R: Rule>(alloc: Global, rule: &R, f: Spl) -> Result<Spl, NoMemo
     let node = f.node;
     match node {
         Node::Compose(a, b) => {
-            let a = rewrite(alloc, rule, Box::into_inner(a))?;
-            let b = rewrite(alloc, rule, Box::into_inner(b))?;
+            let a = rewrite_boxed(alloc, rule, a)?;
+            let b = rewrite_boxed(alloc, rule, b)?;
             Ok(Spl {
-                node: Node::Compose(Box::new(alloc, a)?, Box::new(alloc, b)?),
+                node: Node::Compose(a, b),
             })
         }
         Node::TensorLeft(a, k) => {
-            let a = rewrite(alloc, rule, Box::into_inner(a))?;
+            let a = rewrite_boxed(alloc, rule, a)?;
             Ok(Spl {
-                node: Node::TensorLeft(Box::new(alloc, a)?, k),
+                node: Node::TensorLeft(a, k),
             })
         }
         Node::TensorRight(k, a) => {
-            let a = rewrite(alloc, rule, Box::into_inner(a))?;
+            let a = rewrite_boxed(alloc, rule, a)?;
             Ok(Spl {
-                node: Node::TensorRight(k, Box::new(alloc, a)?),
+                node: Node::TensorRight(k, a),
             })
         }
         Node::DirectSum(a, b) => {
-            let a = rewrite(alloc, rule, Box::into_inner(a))?;
-            let b = rewrite(alloc, rule, Box::into_inner(b))?;
+            let a = rewrite_boxed(alloc, rule, a)?;
+            let b = rewrite_boxed(alloc, rule, b)?;
             Ok(Spl {
-                node: Node::DirectSum(Box::new(alloc, a)?, Box::new(alloc, b)?),
+                node: Node::DirectSum(a, b),
             })
         }
         Node::Todo(a) => {
-            let a = rewrite(alloc, rule, Box::into_inner(a))?;
+            let a = rewrite_boxed(alloc, rule, a)?;
             Ok(Spl {
-                node: Node::Todo(Box::new(alloc, a)?),
+                node: Node::Todo(a),
             })
         }
         leaf => Ok(Spl { node: leaf }),
     }
+}
+
+// A part, rewritten until the rule matches nothing in it.
+#[cycle(rewrite)]
+fn rewrite_boxed<R: Rule>(alloc: Global, rule: &R, part: Box<Spl>) -> Result<Box<Spl>, NoMemory>
+    ensures keeps { IfOk result (λ g. Rewrites (R.modulus rule.now) (R.measure rule.now) part.value g.value) }
+    ensures no_match { IfOk result (λ g. HasNoMatch (R.is_match rule.now) g.value) }
+{
+    let whole = rewrite(alloc, rule, Box::into_inner(part))?;
+    Ok(Box::new(alloc, whole)?)
 }

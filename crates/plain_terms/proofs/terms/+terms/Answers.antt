@@ -2,6 +2,7 @@ use Rattle.std.proofs.Common.{◌≡◌, ◌*◌, ◌/◌, ◌∙◌, ap, ap₂,
 use Rattle.std.proofs.Math.Nat.{mul_comm}
 use Rattle.operators.specs.Operator.{on_blocks}
 use Rattle.operators.proofs.Lists.{length-list_below}
+use Rattle.passes.proofs.Moved.{at-below}
 use Rattle.passes.specs.Views.{plain_term, plain_work}
 use Rattle.plain_terms.specs.Copies.{copy_on, copy_size, part_on, part_size}
 use Rattle.plain_terms.specs.Shape.{FitsCopy}
@@ -17,10 +18,9 @@ in_blocks-loop-i-preserved t c =
     let m = c.args.m.now in
     let term = plain_term c.args.t.now in
     let d = part_size c.args.path.now term in
-    c.in_ok-extend_from_slice.ensures.items
-    ∙ one_block c.args.count d c.loop-i.i (length c.args.x.now / c.args.count) _ _ (part_on m c.args.path.now term) c.args.x.now _ _
+    one_block c.args.count d c.loop-i.i (length c.args.x.now / c.args.count) _ _ (part_on m c.args.path.now term) c.args.x.now _ _ _
     (under-size c.args.path.now (copy_size term) (copy_on m term) (copy_sized m term)) (block_part c.args.count d c.args.x.now c.requires.vector.size (omega (arith, c.requires.size.0))) refl refl
-    c.loop-i-test.true c.requires.vector.size c.loop-i.invariant (c.deref.ensures.value ∙ c.in_ok-part.ensures)
+    c.loop-i-test.true c.requires.vector.size c.loop-i.invariant (c.deref.ensures.value ∙ c.in_ok-part.ensures) c.in_ok-extend_from_slice.ensures.items
 
 pub in_blocks-returns : goal.in_blocks-returns
 in_blocks-returns t c =
@@ -70,8 +70,14 @@ copy_times-returns-in_ok-extend_from_slice-in-Beside t c =
     let is = ap plain_term c.in-Beside.is in
     let fits = subst FitsCopy is c.requires.fits in
     rw c.in-Beside.is
-    (c.in_ok-extend_from_slice-in-Beside.ensures.items
-    ∙ parts_joined m c.in-Beside.first_size c.in-Beside.second_size a b c.args.x.now c.split_at.result.0.now c.split_at.result.1.now c.in_ok-y-in-Beside.y.items c.deref-in-Beside-3.result.now
+    (parts_joined m c.in-Beside.first_size c.in-Beside.second_size a b c.args.x.now c.split_at.result.0.now c.split_at.result.1.now c.in_ok-y-in-Beside.y.items c.deref-in-Beside-3.result.now _
     (subst (λ s. IsVector m (copy_size s) c.args.x.now) is c.requires.vector) fits.2 fits.3 c.split_at.ensures.front c.split_at.ensures.back
     (rw c.deref-in-Beside.ensures at c.in_ok-y-in-Beside.ensures)
-    (c.deref-in-Beside-3.ensures.value ∙ (rw c.deref-in-Beside-2.ensures at c.in_ok-rest-in-Beside.ensures)))
+    (c.deref-in-Beside-3.ensures.value ∙ (rw c.deref-in-Beside-2.ensures at c.in_ok-rest-in-Beside.ensures))
+    c.in_ok-extend_from_slice-in-Beside.ensures.items)
+
+pub copy_times-by_places-requires-clause-below : goal.copy_times-by_places-requires-clause-below
+copy_times-by_places-requires-clause-below t c =
+    let ks = c.in-Move.places.items in
+    let below = subst FitsCopy (ap plain_term c.in-Move.is) c.requires.fits in
+    rw c.deref.ensures.value (λ i low. at-below (length ks) ks i below low)

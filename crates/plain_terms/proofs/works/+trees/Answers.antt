@@ -8,9 +8,8 @@ use Rattle.plain_terms.proofs.works.+trees.Goals as goal
 pub on_rows-loop-i-preserved : goal.on_rows-loop-i-preserved
 on_rows-loop-i-preserved t c =
     let trees = plain_trees c.args.trees.now in
-    c.in_ok-extend_from_slice.ensures.items
-    ∙ one_block c.args.count (trees_size trees) c.loop-i.i c.size-size.result _ _ (trees_on c.args.m.now trees) c.args.x.now _ _ (trees_sized c.args.m.now trees) c.size-size.ensures refl refl
-    c.loop-i-test.true c.requires.vector.size c.loop-i.invariant (c.deref.ensures.value ∙ c.in_ok-part.ensures)
+    one_block c.args.count (trees_size trees) c.loop-i.i c.size-size.result _ _ (trees_on c.args.m.now trees) c.args.x.now _ _ _ (trees_sized c.args.m.now trees) c.size-size.ensures refl refl
+    c.loop-i-test.true c.requires.vector.size c.loop-i.invariant (c.deref.ensures.value ∙ c.in_ok-part.ensures) c.in_ok-extend_from_slice.ensures.items
 
 pub trees_times-on_each_column-requires-clause-vector : goal.trees_times-on_each_column-requires-clause-vector
 trees_times-on_each_column-requires-clause-vector t c =

@@ -8,9 +8,8 @@ use Rattle.plain_terms.proofs.works.on_each_row.Goals as goal
 pub loop-i-preserved : goal.loop-i-preserved
 loop-i-preserved c =
     let tree = alone c.args.tree.now in
-    c.in_ok-extend_from_slice.ensures.items
-    ∙ one_block c.args.count (trees_size tree) c.loop-i.i c.size-size.result _ _ (trees_on c.args.m.now tree) c.args.x.now _ _ (trees_sized c.args.m.now tree) c.size-size.ensures refl refl
-    c.loop-i-test.true c.requires.vector.size c.loop-i.invariant (c.deref.ensures.value ∙ c.in_ok-part.ensures)
+    one_block c.args.count (trees_size tree) c.loop-i.i c.size-size.result _ _ (trees_on c.args.m.now tree) c.args.x.now _ _ _ (trees_sized c.args.m.now tree) c.size-size.ensures refl refl
+    c.loop-i-test.true c.requires.vector.size c.loop-i.invariant (c.deref.ensures.value ∙ c.in_ok-part.ensures) c.in_ok-extend_from_slice.ensures.items
 
 pub returns : goal.returns
 returns c =
