@@ -13,7 +13,7 @@ use listing_text::{Act, PARENTHESES, read_place};
 use std::alloc::Global;
 
 /// How a line begins.
-#[derive(Clone, Copy, PartialEq, Eq, Debug)]
+#[derive(Clone, Copy)]
 enum Word {
     For,
     Tile,
@@ -22,7 +22,7 @@ enum Word {
 }
 
 /// What a register becomes.
-#[derive(Clone, Copy, PartialEq, Eq, Debug)]
+#[derive(Clone, Copy)]
 enum Value {
     Zero,
     Add,
@@ -36,13 +36,13 @@ fn word_of(cursor: &mut Cursor) -> Result<Word, Stuck>
     ensures { Gives result cursor.new (one_of_at c_words cursor.old) }
 {
     cursor.one_of(&[
-        (b"for (uint64_t v".as_slice(), Word::For),
+        (b"for (uint64_t v", Word::For),
         (
-            b"for (int k = 0; k < V; k++) for (int l = 0; l < V; l++) r[".as_slice(),
+            b"for (int k = 0; k < V; k++) for (int l = 0; l < V; l++) r[",
             Word::Tile,
         ),
-        (b"for (int l = 0; l < V; l++) ".as_slice(), Word::Lanes),
-        (b"}".as_slice(), Word::End),
+        (b"for (int l = 0; l < V; l++) ", Word::Lanes),
+        (b"}", Word::End),
     ])
 }
 
@@ -50,11 +50,11 @@ fn target_of(cursor: &mut Cursor) -> Result<Option<Array>, Stuck>
     ensures { Gives result cursor.new (one_of_at target_words cursor.old) }
 {
     cursor.one_of(&[
-        (b"r[".as_slice(), None),
-        (b"X[".as_slice(), Some(Array::X)),
-        (b"Y[".as_slice(), Some(Array::Y)),
-        (b"A[".as_slice(), Some(Array::A)),
-        (b"B[".as_slice(), Some(Array::B)),
+        (b"r[", None),
+        (b"X[", Some(Array::X)),
+        (b"Y[", Some(Array::Y)),
+        (b"A[", Some(Array::A)),
+        (b"B[", Some(Array::B)),
     ])
 }
 
@@ -62,22 +62,22 @@ fn value_of(cursor: &mut Cursor) -> Result<Value, Stuck>
     ensures { Gives result cursor.new (one_of_at value_words cursor.old) }
 {
     cursor.one_of(&[
-        (b"0;".as_slice(), Value::Zero),
-        (b"add(r[".as_slice(), Value::Add),
-        (b"sub(0, r[".as_slice(), Value::Neg),
-        (b"sub(r[".as_slice(), Value::Sub),
-        (b"mul(r[".as_slice(), Value::Mul),
-        (b"X[".as_slice(), Value::Load(Array::X)),
-        (b"Y[".as_slice(), Value::Load(Array::Y)),
-        (b"A[".as_slice(), Value::Load(Array::A)),
-        (b"B[".as_slice(), Value::Load(Array::B)),
+        (b"0;", Value::Zero),
+        (b"add(r[", Value::Add),
+        (b"sub(0, r[", Value::Neg),
+        (b"sub(r[", Value::Sub),
+        (b"mul(r[", Value::Mul),
+        (b"X[", Value::Load(Array::X)),
+        (b"Y[", Value::Load(Array::Y)),
+        (b"A[", Value::Load(Array::A)),
+        (b"B[", Value::Load(Array::B)),
     ])
 }
 
 fn is_table(cursor: &mut Cursor) -> Result<bool, Stuck>
     ensures { Gives result cursor.new (one_of_at factor_words cursor.old) }
 {
-    cursor.one_of(&[(b"t".as_slice(), true), (b"".as_slice(), false)])
+    cursor.one_of(&[(b"t", true), (b"", false)])
 }
 
 fn loop_of(cursor: &mut Cursor) -> Result<Act, ReadError>

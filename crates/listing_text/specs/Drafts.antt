@@ -125,9 +125,13 @@ abbrev pub is_empty : {A : Type 0} → List A → Bool
 is_empty [] = true
 is_empty (x ∷ xs) = false
 
+-- the table is the next one, stands before all phases, and has residues
+abbrev pub may_hold : PlainDraft → ℕ × List ℕ → Bool
+may_hold d table = table.0 == length d.tables && (is_empty d.phases && list_all (λ c. nat_lt c d.header.modulus) table.1)
+
 abbrev pub table_step : PlainDraft → ℕ × List ℕ → Option PlainDraft
 table_step d table =
-    if table.0 == length d.tables && (is_empty d.phases && list_all (λ c. nat_lt c d.header.modulus) table.1) then Some (record { header = d.header; tables = d.tables ++ table.1 ∷ []; phases = d.phases; is_inside = false; open_loops = []; body = [] }) else None
+    if may_hold d table then Some (record { header = d.header; tables = d.tables ++ table.1 ∷ []; phases = d.phases; is_inside = false; open_loops = []; body = [] }) else None
 
 abbrev pub entered : PlainDraft → PlainDraft
 entered d = record { header = d.header; tables = d.tables; phases = d.phases; is_inside = true; open_loops = []; body = [] }

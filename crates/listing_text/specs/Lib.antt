@@ -6,3 +6,4 @@ pub mod Acts
 pub mod Drafts
 pub mod Texts
 pub mod Reads
+pub mod Numbers

@@ -21,7 +21,7 @@ pub enum Act {
 }
 
 /// The first word of a line.
-#[derive(Clone, Copy, PartialEq, Eq, Debug)]
+#[derive(Clone, Copy)]
 enum Word {
     For,
     End,
@@ -39,16 +39,16 @@ fn word_of(cursor: &mut Cursor) -> Result<Word, Stuck>
     ensures { Gives result cursor.new (one_of_at act_words cursor.old) }
 {
     cursor.one_of(&[
-        (b"for v".as_slice(), Word::For),
-        (b"end".as_slice(), Word::End),
-        (b"ld r".as_slice(), Word::Load),
-        (b"st ".as_slice(), Word::Store),
-        (b"zero r".as_slice(), Word::Zero),
-        (b"add r".as_slice(), Word::Add),
-        (b"sub r".as_slice(), Word::Sub),
-        (b"neg r".as_slice(), Word::Neg),
-        (b"mul r".as_slice(), Word::Mul),
-        (b"tile r".as_slice(), Word::Tile),
+        (b"for v", Word::For),
+        (b"end", Word::End),
+        (b"ld r", Word::Load),
+        (b"st ", Word::Store),
+        (b"zero r", Word::Zero),
+        (b"add r", Word::Add),
+        (b"sub r", Word::Sub),
+        (b"neg r", Word::Neg),
+        (b"mul r", Word::Mul),
+        (b"tile r", Word::Tile),
     ])
 }
 
@@ -56,17 +56,17 @@ fn array_of(cursor: &mut Cursor) -> Result<Array, Stuck>
     ensures { Gives result cursor.new (one_of_at array_words cursor.old) }
 {
     cursor.one_of(&[
-        (b"X[".as_slice(), Array::X),
-        (b"Y[".as_slice(), Array::Y),
-        (b"A[".as_slice(), Array::A),
-        (b"B[".as_slice(), Array::B),
+        (b"X[", Array::X),
+        (b"Y[", Array::Y),
+        (b"A[", Array::A),
+        (b"B[", Array::B),
     ])
 }
 
 fn is_table(cursor: &mut Cursor) -> Result<bool, Stuck>
     ensures { Gives result cursor.new (one_of_at factor_words cursor.old) }
 {
-    cursor.one_of(&[(b" t".as_slice(), true), (b" ".as_slice(), false)])
+    cursor.one_of(&[(b" t", true), (b" ", false)])
 }
 
 /// How many parentheses may be open at once in a place.

@@ -9,7 +9,7 @@ ghost use Rattle.grammar.specs.declared.token.ReadError.TheVariants as read_erro
 ghost use Rattle.icode.specs.Plain.{plain_op, plain_phases};
 ghost use Rattle.listing_text.specs.Acts.{plain_act, ActFits, OpFits};
 ghost use Rattle.listing_text.specs.Acts as plain;
-ghost use Rattle.listing_text.specs.Drafts.{header_at, is_between, is_header_within, outside_words, outside_by, outside_at, plain_draft, act_step, is_empty, table_step, outside_step, draft_step, header_step, read_step, Makes, refusal_of};
+ghost use Rattle.listing_text.specs.Drafts.{header_at, is_between, is_header_within, outside_words, outside_by, outside_at, plain_draft, may_open, act_step, is_empty, may_hold, table_step, outside_step, draft_step, header_step, read_step, Makes, refusal_of};
 ghost use Rattle.listing_text.specs.declared.drafts.Refusal.TheVariants as refusals;
 
 use crate::acts::{Act, read_act};
@@ -21,7 +21,7 @@ use operators::MAX_SIZE;
 use std::alloc::{AllocError, AllocFailed, Global};
 
 /// Why a line is not taken.
-#[derive(Clone, Copy, PartialEq, Eq, Debug)]
+#[derive(Clone, Copy)]
 pub enum Refusal {
     /// It may not stand there.
     Line,
@@ -137,7 +137,7 @@ pub fn begun(alloc: Global, line: &[u8]) -> Result<Draft, Refusal>
 fn is_phase(cursor: &mut Cursor) -> Result<bool, Stuck>
     ensures { Gives result cursor.new (one_of_at outside_words cursor.old) }
 {
-    cursor.one_of(&[(b"phase\n".as_slice(), true), (b"table ".as_slice(), false)])
+    cursor.one_of(&[(b"phase\n", true), (b"table ", false)])
 }
 
 fn table_of(
@@ -178,11 +178,17 @@ fn read_outside(alloc: Global, line: &[u8]) -> Result<Option<(u64, Vec<u64>)>, R
     Ok(outside)
 }
 
+// The same number of loops are open, and one more may be.
+fn may_open(open_loops: u64, depth: u64, count: u64) -> bool
+    ensures { result ≡ may_open open_loops depth count }
+{
+    depth == open_loops && (open_loops < 64 && is_small_positive(count))
+}
+
 fn opened(alloc: Global, draft: Draft, depth: u64, count: u64) -> Result<Draft, Refusal>
     ensures { Makes result (act_step (plain_draft draft) (plain.Open depth count)) }
 {
-    let open = draft.open_loops.len() as u64;
-    if depth != open || open >= 64 || !is_small_positive(count) {
+    if !may_open(draft.open_loops.len() as u64, depth, count) {
         return Err(Refusal::Line);
     }
     let mut open_loops = draft.open_loops;
@@ -281,6 +287,14 @@ fn are_below(entries: &[u64], modulus: u64) -> bool
     entries.iter().all(|c| *c < modulus)
 }
 
+// The table is the next one, stands before all phases, and has residues.
+fn may_hold(draft: &Draft, number: u64, entries: &[u64]) -> bool
+    ensures { result ≡ may_hold (plain_draft draft.now) (number, entries.now) }
+{
+    number == draft.tables.len() as u64
+        && (has_none(&draft.phases) && are_below(entries, draft.header.modulus))
+}
+
 /// What was read, with the table of this number.
 pub fn with_table(
     alloc: Global,
@@ -290,14 +304,7 @@ pub fn with_table(
 ) -> Result<Draft, Refusal>
     ensures { Makes result (table_step (plain_draft draft) (number, entries.items)) }
 {
-    let modulus = draft.header.modulus;
-    if number != draft.tables.len() as u64 {
-        return Err(Refusal::Line);
-    }
-    if !has_none(&draft.phases) {
-        return Err(Refusal::Line);
-    }
-    if !are_below(&entries, modulus) {
+    if !may_hold(&draft, number, &entries) {
         return Err(Refusal::Line);
     }
     let mut tables = draft.tables;

@@ -1,10 +1,11 @@
-ghost use Rattle.std.specs.Prelude.{◌≡◌, ◌++◌, ◌≤◌, ℕ, IsTrue, IfOk, OnOk, codes, decimal, flat_map};
+ghost use Rattle.std.specs.Prelude.{◌≡◌, ◌++◌, ◌≤◌, ℕ, IsTrue, IfOk, OnOk, codes, decimal, flat_map, map};
 ghost use Rattle.std.specs.List.{list_all};
 ghost use Rattle.icode.specs.Plain.{Load, Store, MulConst, MulTable, plain_expr, plain_part, plain_op, plain_stmt, plain_body, plain_tables, plain_phases};
 ghost use Rattle.listing_text.specs.Listing.{sum_text, part_text, array_text, op_text, stmt_text, body_text, values_text, table_text, tables_text, phase_text, header_text, listing_of};
 ghost use Rattle.icode.specs.Program.{plain_program};
 ghost use Rattle.listing_text.specs.Texts.{is_listing};
 ghost use Rattle.listing_text.specs.Nests.{is_nest_within, are_nests_within};
+ghost use Rattle.listing_text.specs.Numbers.{numbers_behind};
 
 use icode::program::{Array, Expr, Op, Part, Program, Stmt};
 use itoa::Buffer;
@@ -18,6 +19,16 @@ pub fn put(out: &mut Vec<u8>, word: &[u8], number: u64) -> Result<(), AllocError
     let mut buffer = Buffer::new();
     out.extend_from_slice(word)?;
     out.extend_from_slice(buffer.format(number).as_bytes())
+}
+
+/// Writes words, each with a number behind it.
+pub fn put_numbers(out: &mut Vec<u8>, numbers: &[(&[u8], u64)]) -> Result<(), AllocError>
+    ensures { OnOk result (out.new.items ≡ numbers_behind out.old.items (map (λ p. (p.0.now, p.1)) numbers.now)) }
+{
+    for (word, number) in numbers {
+        put(out, word, *number)?;
+    }
+    Ok(())
 }
 
 /// Writes a place.
@@ -46,11 +57,7 @@ fn put_part(out: &mut Vec<u8>, part: &Part) -> Result<(), AllocError>
             outer,
             inner,
             factor,
-        } => {
-            put(out, b"+v", *outer)?;
-            put(out, b"*v", *inner)?;
-            put(out, b"*", *factor)
-        }
+        } => put_numbers(out, &[(b"+v", *outer), (b"*v", *inner), (b"*", *factor)]),
         Part::Rem {
             of,
             divisor,
@@ -113,9 +120,7 @@ fn put_binary(
 ) -> Result<(), AllocError>
     ensures { OnOk result (out.new.items ≡ out.old.items ++ (word.now ++ decimal register ++ codes " r" ++ decimal left ++ codes " r" ++ decimal right)) }
 {
-    put(out, word, register)?;
-    put(out, b" r", left)?;
-    put(out, b" r", right)
+    put_numbers(out, &[(word, register), (b" r", left), (b" r", right)])
 }
 
 fn put_load(out: &mut Vec<u8>, register: u64, array: Array, place: &Expr) -> Result<(), AllocError>
@@ -143,9 +148,10 @@ fn put_const_product(
 ) -> Result<(), AllocError>
     ensures { OnOk result (out.new.items ≡ out.old.items ++ op_text (MulConst register source factor)) }
 {
-    put(out, b"mul r", register)?;
-    put(out, b" r", source)?;
-    put(out, b" ", factor)
+    put_numbers(
+        out,
+        &[(b"mul r", register), (b" r", source), (b" ", factor)],
+    )
 }
 
 // A product by entries of a table.
@@ -159,9 +165,10 @@ fn put_table_product(
 ) -> Result<(), AllocError>
     ensures { OnOk result (out.new.items ≡ out.old.items ++ op_text (MulTable register source table (plain_expr place.now) step)) }
 {
-    put(out, b"mul r", register)?;
-    put(out, b" r", source)?;
-    put(out, b" t", table)?;
+    put_numbers(
+        out,
+        &[(b"mul r", register), (b" r", source), (b" t", table)],
+    )?;
     out.extend_from_slice(b"[")?;
     put_expr(out, place)?;
     put(out, b"] step ", step)
@@ -235,12 +242,17 @@ fn put_stmt(out: &mut Vec<u8>, stmt: &Stmt, depth: u64) -> Result<(), AllocError
 pub fn put_header(out: &mut Vec<u8>, program: &Program) -> Result<(), AllocError>
     ensures { OnOk result (out.new.items ≡ out.old.items ++ header_text (plain_program program.now)) }
 {
-    put(out, b"program size ", program.size)?;
-    put(out, b" mod ", program.modulus)?;
-    put(out, b" procs ", program.procs)?;
-    put(out, b" line ", program.line)?;
-    put(out, b" lanes ", program.lanes)?;
-    put(out, b" regs ", program.regs)
+    put_numbers(
+        out,
+        &[
+            (b"program size ", program.size),
+            (b" mod ", program.modulus),
+            (b" procs ", program.procs),
+            (b" line ", program.line),
+            (b" lanes ", program.lanes),
+            (b" regs ", program.regs),
+        ],
+    )
 }
 
 fn put_table(out: &mut Vec<u8>, number: u64, entries: &[u64]) -> Result<(), AllocError>
@@ -286,15 +298,21 @@ fn put_phases(out: &mut Vec<u8>, phases: &[Vec<Stmt>]) -> Result<(), AllocError>
     Ok(())
 }
 
+fn put_listing(out: &mut Vec<u8>, program: &Program) -> Result<(), AllocError>
+    ensures { OnOk result (out.new.items ≡ out.old.items ++ listing_of (plain_program program.now)) }
+{
+    put_header(out, program)?;
+    out.extend_from_slice(b"\n")?;
+    put_tables(out, &program.tables)?;
+    put_phases(out, &program.phases)
+}
+
 /// The listing of a program.
 pub fn print_listing(alloc: Global, program: &Program) -> Result<Vec<u8>, NoMemory>
     ensures text { IfOk result (λ text. text.items ≡ listing_of (plain_program program.now)) }
     ensures listing { IfOk result (λ text. is_listing text.items (plain_program program.now)) }
 {
     let mut out = Vec::new(alloc);
-    put_header(&mut out, program)?;
-    out.extend_from_slice(b"\n")?;
-    put_tables(&mut out, &program.tables)?;
-    put_phases(&mut out, &program.phases)?;
+    put_listing(&mut out, program)?;
     Ok(out)
 }

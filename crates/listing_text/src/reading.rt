@@ -12,7 +12,7 @@ use icode::program::{Expr, Part};
 use std::alloc::Global;
 
 /// How a part of a place begins.
-#[derive(Clone, Copy, PartialEq, Eq, Debug)]
+#[derive(Clone, Copy)]
 enum Head {
     Proc,
     Var,
@@ -24,7 +24,7 @@ enum Head {
 fn is_second(cursor: &mut Cursor) -> Result<bool, Stuck>
     ensures { Gives result cursor.new (one_of_at second_heads cursor.old) }
 {
-    cursor.one_of(&[(b"v".as_slice(), true), (b"".as_slice(), false)])
+    cursor.one_of(&[(b"v", true), (b"", false)])
 }
 
 // What stands behind the first variable of a part.
@@ -48,10 +48,10 @@ fn head_of(cursor: &mut Cursor) -> Result<Head, Stuck>
     ensures { Gives result cursor.new (one_of_at part_heads cursor.old) }
 {
     cursor.one_of(&[
-        (b"+q*".as_slice(), Head::Proc),
-        (b"+v".as_slice(), Head::Var),
-        (b"+(".as_slice(), Head::Inner),
-        (b"".as_slice(), Head::End),
+        (b"+q*", Head::Proc),
+        (b"+v", Head::Var),
+        (b"+(", Head::Inner),
+        (b"", Head::End),
     ])
 }
 
@@ -72,10 +72,7 @@ fn part_of(alloc: Global, cursor: &mut Cursor, depth: u64) -> Result<Option<Part
         }
         Head::Inner => {
             let of = inner_of(alloc, cursor, depth)?;
-            let is_remainder = cursor.one_of(&[
-                (b")%".as_slice(), true),
-                (b")/".as_slice(), false),
-            ])?;
+            let is_remainder = cursor.one_of(&[(b")%", true), (b")/", false)])?;
             let divisor = cursor.number(u64::MAX)?;
             let factor = cursor.named_number(b"*", u64::MAX)?;
             if is_remainder {

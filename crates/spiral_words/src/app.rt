@@ -1,6 +1,6 @@
 // The command line, as `clap` is told of it.
 ghost use Rattle.std.specs.Prelude.{◌≡◌, [], ◌∷◌, IfOk, false};
-ghost use Rattle.clap.specs.Words.{app_of, shape_of, rule_of};
+ghost use Rattle.clap.specs.Words.{app_of, shape_of, rule_of, with_subcommand};
 ghost use Rattle.clap.specs.declared.Command.TheViews.{out-Command as fields_of};
 ghost use Rattle.spiral_words.specs.CommandLine.{option_rule, required_rule, flag_rule, schedule_rule, seed_rule, mod_rule, command, flagged, bare_app, with_bare, plain_app, running_app, formula_app, listing_app, spiral_app};
 
@@ -51,8 +51,9 @@ fn flagged<'a>(alloc: Global, name: &'a str, option: &'a str) -> Result<Command<
     ensures shape { IfOk result (λ r. shape_of r ≡ flagged name.now option.now) }
     ensures local { IfOk result (λ r. (fields_of r).has_globals ≡ false) }
 {
+    let scheduled = scheduled(alloc, name)?;
     let option = flag(alloc, option);
-    scheduled(alloc, name)?.arg(option)
+    scheduled.arg(option)
 }
 
 /// A subcommand that takes a seed and a schedule.
@@ -61,8 +62,8 @@ fn sampled<'a>(alloc: Global, name: &'a str) -> Result<Command<'a>, AllocError>
     ensures local { IfOk result (λ r. (fields_of r).has_globals ≡ false) }
 {
     let seed = option(alloc, "seed", "0");
-    let schedule = option(alloc, "schedule", "seq");
     let seeded = Command::new(alloc, name).arg(seed)?;
+    let schedule = option(alloc, "schedule", "seq");
     seeded.arg(schedule)
 }
 
@@ -80,8 +81,9 @@ fn applied<'a>(alloc: Global, name: &'a str) -> Result<Command<'a>, AllocError>
     ensures shape { IfOk result (λ r. shape_of r ≡ command name.now (mod_rule ∷ schedule_rule ∷ [])) }
     ensures local { IfOk result (λ r. (fields_of r).has_globals ≡ false) }
 {
+    let reduced = reduced(alloc, name)?;
     let schedule = option(alloc, "schedule", "seq");
-    reduced(alloc, name)?.arg(schedule)
+    reduced.arg(schedule)
 }
 
 /// The command with one more subcommand, which has no options.
@@ -93,6 +95,19 @@ fn with_bare<'a>(
     ensures { IfOk result (λ r. app_of r ≡ with_bare name.now (app_of command.entry)) }
 {
     command.subcommand(Command::new(alloc, name))
+}
+
+/// The command with one more subcommand, which takes a schedule and may be given an option without a value.
+fn with_flagged<'a>(
+    alloc: Global,
+    command: Command<'a>,
+    name: &'a str,
+    option: &'a str,
+) -> Result<Command<'a>, AllocError>
+    ensures { IfOk result (λ r. app_of r ≡ with_subcommand (app_of command.entry) (flagged name.now option.now)) }
+{
+    let subcommand = flagged(alloc, name, option)?;
+    command.subcommand(subcommand)
 }
 
 fn bare<'a>(alloc: Global) -> Command<'a>
@@ -120,21 +135,21 @@ fn plain<'a>(alloc: Global) -> Result<Command<'a>, AllocError>
 fn running<'a>(alloc: Global) -> Result<Command<'a>, AllocError>
     ensures { IfOk result (λ r. app_of r ≡ running_app) }
 {
-    let run = flagged(alloc, "run", "buffers")?;
-    let trace = flagged(alloc, "trace", "buffers")?;
+    let plain = plain(alloc)?;
+    let run = with_flagged(alloc, plain, "run", "buffers")?;
+    let trace = with_flagged(alloc, run, "trace", "buffers")?;
     let sample = sampled(alloc, "sample")?;
-    let with_run = plain(alloc)?.subcommand(run)?;
-    let with_trace = with_run.subcommand(trace)?;
-    with_trace.subcommand(sample)
+    trace.subcommand(sample)
 }
 
 /// And those that are given a formula.
 fn formulas<'a>(alloc: Global) -> Result<Command<'a>, AllocError>
     ensures { IfOk result (λ r. app_of r ≡ formula_app) }
 {
+    let running = running(alloc)?;
     let compile = reduced(alloc, "compile")?;
+    let with_compile = running.subcommand(compile)?;
     let apply = applied(alloc, "apply")?;
-    let with_compile = running(alloc)?.subcommand(compile)?;
     with_compile.subcommand(apply)
 }
 
@@ -150,6 +165,6 @@ fn listings<'a>(alloc: Global) -> Result<Command<'a>, AllocError>
 pub(crate) fn spiral_app<'a>(alloc: Global) -> Result<Command<'a>, AllocError>
     ensures { IfOk result (λ r. app_of r ≡ spiral_app) }
 {
-    let convolve = flagged(alloc, "convolve", "code")?;
-    listings(alloc)?.subcommand(convolve)
+    let listings = listings(alloc)?;
+    with_flagged(alloc, listings, "convolve", "code")
 }

@@ -14,7 +14,7 @@ use std::alloc::{AllocError, Global};
 use thiserror::Error;
 
 /// What the words ask for.
-#[derive(Debug, Drop)]
+#[derive(Drop)]
 pub enum Command {
     Plan,
     Formula,
@@ -50,7 +50,7 @@ pub enum Command {
 }
 
 /// The order in which the processors of a request's program go on.
-#[derive(Debug, Drop)]
+#[derive(Drop)]
 pub enum Order {
     /// Turns of the machine.
     Turns(Schedule),

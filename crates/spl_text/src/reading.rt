@@ -41,7 +41,7 @@ pub enum SplFault {
 }
 
 /// The same, each place by how much of the text is left there.
-#[derive(Clone, Copy, Debug, PartialEq, Eq)]
+#[derive(Clone, Copy)]
 pub enum Halt {
     Syntax {
         left: usize,
@@ -57,7 +57,7 @@ pub enum Halt {
     NoMemory,
 }
 
-#[derive(Clone, Copy, Debug, PartialEq, Eq)]
+#[derive(Clone, Copy)]
 enum Head {
     I,
     Dft,
@@ -108,19 +108,19 @@ fn head_of(cursor: &mut Cursor) -> Result<Head, Stuck>
     ensures shorter { IfOk result (λ _. length cursor.new.rest + 1 ≤ length cursor.old.rest) }
 {
     cursor.one_of(&[
-        (b"I(".as_slice(), Head::I),
-        (b"DFT(".as_slice(), Head::Dft),
-        (b"WHT(".as_slice(), Head::Wht),
-        (b"T(".as_slice(), Head::T),
-        (b"DIAG(".as_slice(), Head::Diag),
-        (b"L(".as_slice(), Head::L),
-        (b"PERM(".as_slice(), Head::Perm),
-        (b"GTIN(".as_slice(), Head::GtIn),
-        (b"GTOUT(".as_slice(), Head::GtOut),
-        (b"TIMES(".as_slice(), Head::Times),
-        (b"LEFT(".as_slice(), Head::Left),
-        (b"RIGHT(".as_slice(), Head::Right),
-        (b"SUM(".as_slice(), Head::Sum),
+        (b"I(", Head::I),
+        (b"DFT(", Head::Dft),
+        (b"WHT(", Head::Wht),
+        (b"T(", Head::T),
+        (b"DIAG(", Head::Diag),
+        (b"L(", Head::L),
+        (b"PERM(", Head::Perm),
+        (b"GTIN(", Head::GtIn),
+        (b"GTOUT(", Head::GtOut),
+        (b"TIMES(", Head::Times),
+        (b"LEFT(", Head::Left),
+        (b"RIGHT(", Head::Right),
+        (b"SUM(", Head::Sum),
     ])
 }
 

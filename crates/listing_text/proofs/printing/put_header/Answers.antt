@@ -3,6 +3,4 @@ use Rattle.std.proofs.lemmas.Result.{IfOk-equal}
 use Rattle.listing_text.proofs.printing.put_header.Goals as goal
 
 pub returns : goal.returns
-returns c =
-    IfOk-equal c.put-6.result _ _ _ c.put-6.ensures
-    (rw (c.in_ok-put-5.ensures, c.in_ok-put-4.ensures, c.in_ok-put-3.ensures, c.in_ok-put-2.ensures, c.in_ok-put.ensures) (simp append_assoc))
+returns c = IfOk-equal c.put_numbers.result _ _ _ c.put_numbers.ensures (simp append_assoc)

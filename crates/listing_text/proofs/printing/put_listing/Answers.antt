@@ -1,6 +1,6 @@
 use Rattle.icode.specs.Plain.{plain_phases}
 use Rattle.listing_text.proofs.Depths.{phases_nest}
-use Rattle.listing_text.proofs.printing.print_listing.Goals as goal
+use Rattle.listing_text.proofs.printing.put_listing.Goals as goal
 
 pub put_phases-requires : goal.put_phases-requires
 put_phases-requires c =

@@ -1,0 +1,7 @@
+-- Words and numbers.
+use Rattle.std.specs.Prelude.{ℕ, List, [], ◌∷◌, ◌++◌, decimal}
+
+-- a text, and behind it words, each with a number behind it
+abbrev pub numbers_behind : List ℕ → List (List ℕ × ℕ) → List ℕ
+numbers_behind text [] = text
+numbers_behind text (p ∷ ps) = numbers_behind (text ++ p.0 ++ decimal p.1) ps
