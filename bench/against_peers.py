@@ -13,7 +13,7 @@ import tempfile
 HERE = os.path.dirname(os.path.abspath(__file__))
 SPIRAL, FAST, *SIZES = sys.argv[1:]
 SIZES = [int(size) for size in SIZES] or [64, 1024, 4096, 65536]
-ROUNDS = 5
+ROUNDS = 25
 
 # Each with its primes, or none where it has no peers, and with the lanes and unroll of its fast text.
 MODULI = [

@@ -1,17 +1,17 @@
 -- How lazy the words of a program are: words of 32 bits where the modulus allows them, else of 64. A greater limit of
--- registers than 8 times the modulus, or of A and B than 4 times, is of no use.
+-- registers than 16 times the modulus is of no use, and A and B are kept below what products are below.
 use Rattle.std.specs.Prelude.{ℕ, ◌/◌, min, nat_lt, false, if◌then◌else◌}
 use Rattle.icode.specs.Plain.{PlainProgram}
 use Rattle.word_code.specs.WordProgram.{PlainWordProgram}
-use Rattle.word_code.specs.Words.{Width}
+use Rattle.word_code.specs.Words.{Width, product_bound}
 use Rattle.word_code.specs.Quicken.{Laziness, quickened}
 
 -- where this is the greatest word
 abbrev pub limit_within : ℕ → ℕ → ℕ
-limit_within greatest modulus = min 8 (greatest / modulus)
+limit_within greatest modulus = min 16 (greatest / modulus)
 
 abbrev pub lazy_within : Width → ℕ → Laziness
-lazy_within width limit = record { width = width; keep = min 4 limit; limit = limit }
+lazy_within width limit = record { width = width; keep = product_bound width; limit = limit }
 
 -- in words of 32 bits
 abbrev pub narrow : ℕ → Laziness

@@ -14,10 +14,7 @@ use memory::NoMemory;
 use std::alloc::Global;
 
 /// The greatest bound of registers that is of use.
-const ENOUGH: u64 = 8;
-
-/// The greatest bound of the words of A and B that is of use.
-const KEEP: u64 = 4;
+const ENOUGH: u64 = 16;
 
 fn limit_within(greatest: u64, modulus: u64) -> u64
     requires { 2 ≤ modulus }
@@ -26,17 +23,16 @@ fn limit_within(greatest: u64, modulus: u64) -> u64
     ENOUGH.min(greatest / modulus)
 }
 
-// For words of 32 bits.
+// For words of 32 bits. A and B stay below what products are below.
 fn narrow(modulus: u64) -> Slack
     requires { 2 ≤ modulus }
     ensures { lazy_of result ≡ narrow modulus }
 {
-    let limit = limit_within(0xffff_ffff, modulus);
     Slack {
         half: 0x1_0000,
         rough: false,
-        keep: KEEP.min(limit),
-        limit,
+        keep: 2,
+        limit: limit_within(0xffff_ffff, modulus),
     }
 }
 
@@ -45,12 +41,12 @@ fn wide(modulus: u64, lanes: u64) -> Slack
     requires { 2 ≤ modulus }
     ensures { lazy_of result ≡ wide modulus lanes }
 {
-    let limit = limit_within(u64::MAX, modulus);
+    let rough = lanes > 1;
     Slack {
         half: 0x1_0000_0000,
-        rough: lanes > 1,
-        keep: KEEP.min(limit),
-        limit,
+        rough,
+        keep: if rough { 4 } else { 2 },
+        limit: limit_within(u64::MAX, modulus),
     }
 }
 
