@@ -12,6 +12,8 @@ mod queues;
 #[cfg(test)]
 mod runs;
 #[cfg(test)]
+mod same;
+#[cfg(test)]
 mod ways;
 #[cfg(test)]
 mod weights;

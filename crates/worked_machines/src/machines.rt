@@ -4,14 +4,16 @@ ghost use Rattle.std.specs.Prelude.{◌≡◌, ◌<◌, ◌↔◌, All, IfOk, Is
 ghost use Rattle.icode.specs.Program.{Fits, code_of};
 
 use crate::programs::program;
+use crate::same::{same, same_in};
 use icode::action::Action;
 use icode::program::Program;
 use par_machine::{Machine, Turned};
 use request_text::{Schedule, read_schedule};
 use std::alloc::{AllocError, Global};
 use std::fmt::Write;
+use std::process::Abort;
 use std::test::Fail;
-use worked_rows::{check, field, joined, number, numbers};
+use worked_rows::{check, field, number, numbers, write_number};
 
 /// Whether the words are an input of the program.
 pub(crate) fn is_input(program: &Program, words: &[u64]) -> bool
@@ -65,19 +67,24 @@ fn run(alloc: Global, machine: &mut Machine, word: &str) -> Result<(), Fail> {
 }
 
 // The words of the second array, and then the operations, loads and stores of each processor.
-fn numbers_of(alloc: Global, machine: &Machine) -> Result<Vec<u64>, Fail> {
-    let mut numbers = Vec::new(alloc);
+fn write_numbers(text: &mut String, machine: &Machine) -> Result<(), AllocError> {
     let size = machine.span() / 4;
     for place in size..2 * size {
-        numbers.push(machine.word(place))?;
+        write_number(text, machine.word(place))?;
     }
     for proc in 0..machine.procs() {
         let counts = machine.counts(proc);
-        numbers.push(counts.operations)?;
-        numbers.push(counts.loads)?;
-        numbers.push(counts.stores)?;
+        write_number(text, counts.operations)?;
+        write_number(text, counts.loads)?;
+        write_number(text, counts.stores)?;
     }
-    Ok(numbers)
+    Ok(())
+}
+
+fn numbers_of(alloc: Global, machine: &Machine) -> Result<String, AllocError> {
+    let mut text = String::new(alloc);
+    write_numbers(&mut text, machine)?;
+    Ok(text)
 }
 
 // A program, its input and a schedule; and the words of the second array, and the operations, loads and stores of each
@@ -103,11 +110,16 @@ tiled; 0 1 0 0 0 0 0 0 0 0 0 0 0 0 0 0; rr:5|1 3 9 10 13 5 15 11 16 14 8 7 4 12 
 tiled; 0 1 0 0 0 0 0 0 0 0 0 0 0 0 0 0; seed:9:1000|1 3 9 10 13 5 15 11 16 14 8 7 4 12 2 6 44 24 24 44 24 24
 ";
 
-fn run_named(alloc: Global, name: &str, input: &str, word: &str) -> Result<String, Fail> {
-    let program = program(alloc, name)?;
-    let mut machine = machine_with(alloc, &program, &numbers(alloc, input)?)?;
+fn run_on(alloc: Global, program: &Program, input: &str, word: &str) -> Result<String, Fail>
+    requires { Fits program.now }
+{
+    let mut machine = machine_with(alloc, program, &numbers(alloc, input)?)?;
     run(alloc, &mut machine, word)?;
-    joined(alloc, &numbers_of(alloc, &machine)?)
+    Ok(numbers_of(alloc, &machine)?)
+}
+
+fn run_named(alloc: Global, name: &str, input: &str, word: &str) -> Result<String, Fail> {
+    run_on(alloc, &program(alloc, name)?, input, word)
 }
 
 fn run_answer(alloc: Global, question: &str) -> Result<String, Fail> {
@@ -121,34 +133,49 @@ fn results_of_schedules(rt: HostRuntime) -> Result<(), Fail> {
     check(rt.alloc(), RUNS, run_answer)
 }
 
+fn write_turns(word: &mut String, proc: &str) -> Result<(), AllocError> {
+    write!(word, "turns:{proc}")?;
+    for _ in 1..65_536 {
+        word.push_str(",")?;
+        word.push_str(proc)?;
+    }
+    Ok(())
+}
+
+fn turns_of_one(rt: &impl Abort, alloc: Global, proc: &str) -> Result<(), Fail> {
+    let mut word = String::new(alloc);
+    write_turns(&mut word, proc)?;
+    let answer = run_named(alloc, "quad", "1 2 3 4", &word)?;
+    same(rt, answer.as_str(), "10 7 15 6 6 4 4 6 4 4");
+    Ok(())
+}
+
 // 65,536 turns of one processor, named.
 #[test]
 fn as_many_turns_as_can_be_named(rt: HostRuntime) -> Result<(), Fail> {
-    let alloc = rt.alloc();
     for proc in ["0", "1"] {
-        let mut word = format!(in alloc; "turns:{proc}")?;
-        for _ in 1..65_536 {
-            word.push_str(",")?;
-            word.push_str(proc)?;
-        }
-        let answer = run_named(alloc, "quad", "1 2 3 4", &word)?;
-        assert_eq!(rt; answer.as_str(), "10 7 15 6 6 4 4 6 4 4");
+        turns_of_one(&rt, rt.alloc(), proc)?;
     }
     Ok(())
 }
 
 // What a run leaves of the input behind these turns on another input.
-fn put_after(alloc: Global, turns: &[u64]) -> Result<String, Fail> {
-    let quad = program(alloc, "quad")?;
-    let mut machine = machine_with(alloc, &quad, &[16, 5, 9, 7])?;
+fn put_after_on(alloc: Global, quad: &Program, turns: &[u64]) -> Result<String, Fail>
+    requires { Fits quad.now }
+{
+    let mut machine = machine_with(alloc, quad, &[16, 5, 9, 7])?;
     take_turns(&mut machine, turns);
     let input = [1, 2, 3, 4];
-    if !is_input(&quad, &input) {
+    if !is_input(quad, &input) {
         return Err(Fail::from("an input"));
     }
     machine.put(&input);
     run(alloc, &mut machine, "seq")?;
-    joined(alloc, &numbers_of(alloc, &machine)?)
+    Ok(numbers_of(alloc, &machine)?)
+}
+
+fn put_after(alloc: Global, turns: &[u64]) -> Result<String, Fail> {
+    put_after_on(alloc, &program(alloc, "quad")?, turns)
 }
 
 // Any five turns on another input may come before an input is put.
@@ -163,7 +190,7 @@ fn put_after_turns(rt: HostRuntime) -> Result<(), Fail> {
             turns >> 4,
         ];
         let answer = put_after(rt.alloc(), &procs)?;
-        assert_eq!(rt; answer.as_str(), "10 7 15 6 6 4 4 6 4 4", "after {turns}");
+        same_in(&rt, answer.as_str(), "10 7 15 6 6 4 4 6 4 4", turns);
     }
     Ok(())
 }
@@ -187,22 +214,28 @@ fn turn(machine: &mut Machine, proc: u64) -> &'static str
     }
 }
 
-fn turns_named(alloc: Global, name: &str, input: &str, procs: &str) -> Result<String, Fail> {
-    let program = program(alloc, name)?;
-    let mut machine = machine_with(alloc, &program, &numbers(alloc, input)?)?;
-    let mut text = String::new(alloc);
+// What each turn answers, and then what is left.
+fn write_answers(text: &mut String, machine: &mut Machine, procs: &str) -> Result<(), Fail> {
     for proc in procs.split(' ') {
-        text.push_str(turn(&mut machine, number(proc)?))?;
+        text.push_str(turn(machine, number(proc)?))?;
     }
-    let left = joined(alloc, &numbers_of(alloc, &machine)?)?;
-    write!(text, "{}: {left}", machine.phase())?;
+    write!(text, "{}:", machine.phase())?;
+    Ok(write_numbers(text, machine)?)
+}
+
+fn turns_on(alloc: Global, program: &Program, input: &str, procs: &str) -> Result<String, Fail>
+    requires { Fits program.now }
+{
+    let mut machine = machine_with(alloc, program, &numbers(alloc, input)?)?;
+    let mut text = String::new(alloc);
+    write_answers(&mut text, &mut machine, procs)?;
     Ok(text)
 }
 
 fn turns_answer(alloc: Global, question: &str) -> Result<String, Fail> {
     let (name, rest) = field(question)?;
     let (input, procs) = field(rest)?;
-    turns_named(alloc, name, input, procs)
+    turns_on(alloc, &program(alloc, name)?, input, procs)
 }
 
 #[test]
@@ -210,22 +243,28 @@ fn answers_of_turns(rt: HostRuntime) -> Result<(), Fail> {
     check(rt.alloc(), TURNS, turns_answer)
 }
 
-// The program's words of memory, and its actions by number.
-#[test]
-fn actions_by_number(rt: HostRuntime) -> Result<(), Fail> {
-    let alloc = rt.alloc();
-    let pair = program(alloc, "pair")?;
-    assert_eq!(rt; pair.span(), 8);
-    if pair.phases.len() != 1 || pair.procs != 1 {
+fn actions_of(alloc: Global, program: &Program) -> Result<String, Fail>
+    requires { Fits program.now }
+{
+    if program.phases.len() != 1 || program.procs != 1 {
         return Err(Fail::from("one phase and one processor"));
     }
     let mut text = String::new(alloc);
-    for index in 0..pair.len(0, 0) {
-        let action = pair.action_at(0, 0, index);
+    for index in 0..program.len(0, 0) {
+        let action = program.action_at(0, 0, index);
         write_action(&mut text, &action)?;
     }
+    Ok(text)
+}
+
+// The program's words of memory, and its actions by number.
+#[test]
+fn actions_by_number(rt: HostRuntime) -> Result<(), Fail> {
+    let pair = program(rt.alloc(), "pair")?;
+    same(&rt, pair.span(), 8);
+    let text = actions_of(rt.alloc(), &pair)?;
     let wanted = "ld 0 0, ld 1 1, add 2 0 1, mul 3 1 4, add 4 0 3, st 2 2, st 3 4, ";
-    assert_eq!(rt; text.as_str(), wanted);
+    same(&rt, text.as_str(), wanted);
     Ok(())
 }
 

@@ -5,12 +5,14 @@ ghost use Rattle.icode.specs.Program.{Fits, code_of};
 
 use crate::machines::is_input;
 use crate::programs::{program, sharing_program};
+use crate::same::same_in;
 use buffer_machine::{BufMachine, Drained, Event, Turned};
 use icode::program::Program;
 use request_text::{Mix, read_mix};
-use std::alloc::Global;
+use std::alloc::{AllocError, Global};
+use std::fmt::Write;
 use std::test::Fail;
-use worked_rows::{check, field, joined, numbers};
+use worked_rows::{check, field, numbers, write_number};
 
 fn machine_with(alloc: Global, program: &Program, input: &[u64]) -> Result<BufMachine, Fail>
     requires { Fits program.now }
@@ -25,40 +27,42 @@ fn machine_with(alloc: Global, program: &Program, input: &[u64]) -> Result<BufMa
 }
 
 // What the machine answers to an event.
-fn answer(alloc: Global, machine: &mut BufMachine, event: Event) -> Result<String, Fail> {
+fn write_answer(text: &mut String, machine: &mut BufMachine, event: Event) -> Result<(), Fail> {
     let procs = machine.procs();
     match event {
-        Event::Turn(proc) if proc < procs => Ok(match machine.turn(proc) {
-            Turned::Did(_) => "did ".to_string(alloc)?,
-            Turned::Waits => "waits ".to_string(alloc)?,
-            Turned::Done => "done ".to_string(alloc)?,
-        }),
-        Event::Drain(proc) if proc < procs => Ok(match machine.drain(proc) {
-            Drained::Wrote(address) => format!(in alloc; "wrote {address} ")?,
-            Drained::Empty => "empty ".to_string(alloc)?,
-        }),
-        _ => Err(Fail::from("a stranger")),
+        Event::Turn(proc) if proc < procs => match machine.turn(proc) {
+            Turned::Did(_) => text.push_str("did ")?,
+            Turned::Waits => text.push_str("waits ")?,
+            Turned::Done => text.push_str("done ")?,
+        },
+        Event::Drain(proc) if proc < procs => match machine.drain(proc) {
+            Drained::Wrote(address) => write!(text, "wrote {address} ")?,
+            Drained::Empty => text.push_str("empty ")?,
+        },
+        _ => return Err(Fail::from("a stranger")),
     }
-}
-
-// What the machine answers to the events.
-fn play(alloc: Global, machine: &mut BufMachine, mix: &Mix) -> Result<String, Fail> {
-    let mut text = String::new(alloc);
-    for place in 0..mix.len() {
-        let event = mix.event_at(place);
-        text.push_str(&answer(alloc, machine, event)?)?;
-    }
-    Ok(text)
+    Ok(())
 }
 
 // The words of the second array, where the machine's memory has no gaps between its arrays.
-fn results(alloc: Global, machine: &BufMachine) -> Result<String, Fail> {
-    let mut words = Vec::new(alloc);
+fn write_results(text: &mut String, machine: &BufMachine) -> Result<(), AllocError> {
     let size = machine.span() / 4;
     for place in size..2 * size {
-        words.push(machine.word(place))?;
+        write_number(text, machine.word(place))?;
     }
-    joined(alloc, &words)
+    Ok(())
+}
+
+// What the machine answers to the events, what is left, and what the completion leaves.
+fn write_run(text: &mut String, machine: &mut BufMachine, mix: &Mix) -> Result<(), Fail> {
+    for place in 0..mix.len() {
+        write_answer(text, machine, mix.event_at(place))?;
+    }
+    write!(text, "{} {:?}:", machine.phase(), machine.next_event())?;
+    write_results(text, machine)?;
+    machine.finish();
+    text.push_str(",")?;
+    Ok(write_results(text, machine)?)
 }
 
 // A program, its input, and turns and drains; and what the machine answers, the phases that are over, the event that
@@ -78,12 +82,9 @@ fn mix_on(alloc: Global, program: &Program, input: &str, word: &str) -> Result<S
 {
     let mut machine = machine_with(alloc, program, &numbers(alloc, input)?)?;
     let mix = read_mix(alloc, word.as_bytes()).ok().ok_or("a mix")?;
-    let answers = play(alloc, &mut machine, &mix)?;
-    let (phase, next) = (machine.phase(), machine.next_event());
-    let early = results(alloc, &machine)?;
-    machine.finish();
-    let late = results(alloc, &machine)?;
-    Ok(format!(in alloc; "{answers}{phase} {next:?}: {early}, {late}")?)
+    let mut text = String::new(alloc);
+    write_run(&mut text, &mut machine, &mix)?;
+    Ok(text)
 }
 
 fn mix_answer(alloc: Global, question: &str) -> Result<String, Fail> {
@@ -120,8 +121,8 @@ fn turns_and_drains_of_shared_lines(rt: HostRuntime) -> Result<(), Fail> {
     check(rt.alloc(), SHARED, shared_answer)
 }
 
-fn mix_of(alloc: Global, rounds: u64) -> Result<String, Fail> {
-    let mut word = String::from_str(alloc, "mix:")?;
+fn write_mix(word: &mut String, rounds: u64) -> Result<(), AllocError> {
+    word.push_str("mix:")?;
     for i in 0..rounds {
         word.push_str(if i == 0 { "t1" } else { ",t1" })?;
         if i % 3 == 0 {
@@ -131,6 +132,12 @@ fn mix_of(alloc: Global, rounds: u64) -> Result<String, Fail> {
             word.push_str(",d1")?;
         }
     }
+    Ok(())
+}
+
+fn mix_of(alloc: Global, rounds: u64) -> Result<String, AllocError> {
+    let mut word = String::new(alloc);
+    write_mix(&mut word, rounds)?;
     Ok(word)
 }
 
@@ -144,7 +151,7 @@ fn mixed(alloc: Global, rounds: u64) -> Result<String, Fail> {
 fn results_of_mixes(rt: HostRuntime) -> Result<(), Fail> {
     for rounds in 1..40u64 {
         let answer = mixed(rt.alloc(), rounds)?;
-        assert!(rt; answer.as_str().ends_with(", 10 7 15 6"), "after {rounds}");
+        same_in(&rt, answer.as_str().ends_with(", 10 7 15 6"), true, rounds);
     }
     Ok(())
 }

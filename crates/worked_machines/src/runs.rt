@@ -1,15 +1,18 @@
 // The lines of turns and of results, of programs that are read from their listings.
 
 ghost use Rattle.std.specs.Prelude.{◌<◌};
+ghost use Rattle.icode.specs.Program.{Fits};
 
 use crate::machines::{machine_with, schedule};
 use crate::programs::program;
+use crate::same::same;
+use icode::program::Program;
 use io_edge::{Feed, MemSink, MemSource};
 use std::alloc::Global;
 use std::test::Fail;
 use stream_run::run_stream;
 use trace_text::write_turns;
-use worked_rows::{check, number, numbers};
+use worked_rows::{check, field, number, numbers};
 
 // A program, its input, a schedule and the write that fails, if any (each line is one); and the lines, `/` being a line
 // end, and the answer.
@@ -24,38 +27,59 @@ quad; 1 2 3 4; turns:1,1,1,1,1,1,1,1,1; -|0 1 ld r0 1/1 1 ld r1 3/2 1 add r2 r0 
 actions; 1 2 3 4; seq; -|0 0 zero r0/1 0 neg r2 r1/2 0 mul r4 r2 1,3/3 0 tile r6 r0/; Ok(())
 ";
 
-// What a sink takes of a run, and the answer.
-fn traced(alloc: Global, question: &str, room: u64) -> Result<(MemSink, String), Fail> {
-    let mut parts = question.split("; ");
-    let program = program(alloc, parts.next().ok_or("a program")?)?;
-    let input = numbers(alloc, parts.next().ok_or("an input")?)?;
-    let schedule = schedule(alloc, parts.next().ok_or("a schedule")?)?;
-    let failing = parts.next().ok_or("a write")?;
+// A sink with so much room, and the write that fails, if any.
+fn sink_of(alloc: Global, room: u64, failing: &str) -> Result<MemSink, Fail> {
     let mut fail_at = Vec::new(alloc);
     if failing != "-" {
         fail_at.push(number(failing)?)?;
     }
-    let mut machine = machine_with(alloc, &program, &input)?;
-    let mut output = MemSink::new(alloc, room, fail_at)?;
+    Ok(MemSink::new(alloc, room, fail_at)?)
+}
+
+// What a run answers whose lines go to the output.
+fn traced(
+    alloc: Global,
+    program: &Program,
+    input: &str,
+    word: &str,
+    output: &mut MemSink,
+) -> Result<String, Fail>
+    requires { Fits program.now }
+{
+    let schedule = schedule(alloc, word)?;
+    let mut machine = machine_with(alloc, program, &numbers(alloc, input)?)?;
     match schedule.stranger(machine.procs()) {
         None => {
-            let result = write_turns(&mut machine, &schedule, &mut output);
-            Ok((output, format!(in alloc; "{result:?}")?))
+            let result = write_turns(&mut machine, &schedule, output);
+            Ok(format!(in alloc; "{result:?}")?)
         }
         Some(_) => Err(Fail::from("a stranger")),
     }
 }
 
+// What the sink took, as the rows have it.
+fn text_of(alloc: Global, output: &MemSink) -> Result<String, Fail> {
+    let text = std::str::from_utf8(output.bytes()).ok().ok_or("a text")?;
+    Ok(text.replace(alloc, "\n", "/")?)
+}
+
 // The text and the answer, as the rows have them.
 fn shown(alloc: Global, output: &MemSink, answer: &str) -> Result<String, Fail> {
-    let text = std::str::from_utf8(output.bytes()).ok().ok_or("a text")?;
-    let text = text.replace(alloc, "\n", "/")?;
+    let text = text_of(alloc, output)?;
     Ok(format!(in alloc; "{text}; {answer}")?)
 }
 
-fn traced_answer(alloc: Global, question: &str) -> Result<String, Fail> {
-    let (output, answer) = traced(alloc, question, 1000)?;
+fn traced_in(alloc: Global, question: &str, room: u64) -> Result<String, Fail> {
+    let (name, rest) = field(question)?;
+    let (input, rest) = field(rest)?;
+    let (word, failing) = field(rest)?;
+    let mut output = sink_of(alloc, room, failing)?;
+    let answer = traced(alloc, &program(alloc, name)?, input, word, &mut output)?;
     shown(alloc, &output, &answer)
+}
+
+fn traced_answer(alloc: Global, question: &str) -> Result<String, Fail> {
+    traced_in(alloc, question, 1000)
 }
 
 #[test]
@@ -65,27 +89,33 @@ fn lines_of_turns(rt: HostRuntime) -> Result<(), Fail> {
 
 #[test]
 fn lines_until_a_sink_is_full(rt: HostRuntime) -> Result<(), Fail> {
-    let (output, answer) = traced(rt.alloc(), "pair; 1 1; seq; -", 20)?;
-    let text = shown(rt.alloc(), &output, &answer)?;
-    assert_eq!(rt; text.as_str(), "0 0 ld r0 0/1 0 ld r; Err(WriteFault)");
+    let text = traced_in(rt.alloc(), "pair; 1 1; seq; -", 20)?;
+    same(&rt, text.as_str(), "0 0 ld r0 0/1 0 ld r; Err(WriteFault)");
     Ok(())
 }
 
-// A program and data; and what is written for its vectors, with the lines of turns and without.
+// A program, whether the lines of turns are written, and data; and what is written for its vectors.
 const STREAMS: &str = "\
-exchanged; 1 1|5 2/|0 0 ld r0 0/1 0 ld r1 1/2 0 add r2 r0 r1/3 0 mul r3 r1 4/4 0 add r4 r0 r3/5 0 st 2 r4/6 0 st 3 r2/5 2/
-pair; 1 1|2 5/|0 0 ld r0 0/1 0 ld r1 1/2 0 add r2 r0 r1/3 0 mul r3 r1 4/4 0 add r4 r0 r3/5 0 st 2 r2/6 0 st 3 r4/2 5/
+exchanged; without; 1 1|5 2/
+exchanged; with; 1 1|0 0 ld r0 0/1 0 ld r1 1/2 0 add r2 r0 r1/3 0 mul r3 r1 4/4 0 add r4 r0 r3/5 0 st 2 r4/6 0 st 3 r2/5 2/
+pair; without; 1 1|2 5/
+pair; with; 1 1|0 0 ld r0 0/1 0 ld r1 1/2 0 add r2 r0 r1/3 0 mul r3 r1 4/4 0 add r4 r0 r3/5 0 st 2 r2/6 0 st 3 r4/2 5/
 ";
 
-fn streamed(alloc: Global, name: &str, data: &str, lines: bool) -> Result<MemSink, Fail> {
-    let program = program(alloc, name)?;
+fn streamed(
+    alloc: Global,
+    program: &Program,
+    lines: bool,
+    source: &mut MemSource,
+    output: &mut MemSink,
+) -> Result<(), Fail>
+    requires { Fits program.now }
+{
     let mut vector = Vec::new(alloc);
     vector.resize(program.size as usize, 0)?;
-    let mut machine = machine_with(alloc, &program, &vector)?;
-    let mut source = MemSource::new(data.as_bytes().to_vec(alloc)?, 4096, Vec::new(alloc));
-    let mut output = MemSink::new(alloc, 1000, Vec::new(alloc))?;
-    let mut feed = Feed::new(alloc)?;
     let schedule = schedule(alloc, "seq")?;
+    let mut feed = Feed::new(alloc)?;
+    let mut machine = machine_with(alloc, program, &vector)?;
     match schedule.stranger(machine.procs()) {
         None => {
             let result = run_stream(
@@ -93,12 +123,12 @@ fn streamed(alloc: Global, name: &str, data: &str, lines: bool) -> Result<MemSin
                 &schedule,
                 lines,
                 &mut feed,
-                &mut source,
-                &mut output,
+                source,
+                output,
                 &mut vector,
             );
             match result {
-                Ok(()) => Ok(output),
+                Ok(()) => Ok(()),
                 Err(_) => Err(Fail::from("a fault")),
             }
         }
@@ -106,19 +136,23 @@ fn streamed(alloc: Global, name: &str, data: &str, lines: bool) -> Result<MemSin
     }
 }
 
+fn streamed_text(alloc: Global, program: &Program, lines: bool, data: &str) -> Result<String, Fail>
+    requires { Fits program.now }
+{
+    let mut source = MemSource::new(data.as_bytes().to_vec(alloc)?, 4096, Vec::new(alloc));
+    let mut output = MemSink::new(alloc, 1000, Vec::new(alloc))?;
+    streamed(alloc, program, lines, &mut source, &mut output)?;
+    text_of(alloc, &output)
+}
+
+fn streamed_answer(alloc: Global, question: &str) -> Result<String, Fail> {
+    let (name, rest) = field(question)?;
+    let (lines, data) = field(rest)?;
+    streamed_text(alloc, &program(alloc, name)?, lines == "with", data)
+}
+
 // `run` and `trace` go through this call, on any program.
 #[test]
 fn streams_of_programs(rt: HostRuntime) -> Result<(), Fail> {
-    let alloc = rt.alloc();
-    for row in STREAMS.lines() {
-        let (question, wanted) = row.split_once('|').ok_or("a row")?;
-        let (short, long) = wanted.split_once('|').ok_or("two texts")?;
-        let (name, data) = question.split_once("; ").ok_or("data")?;
-        for (text, lines) in [(short, false), (long, true)] {
-            let text = text.replace(alloc, "/", "\n")?;
-            let output = streamed(alloc, name, data, lines)?;
-            assert_eq!(rt; output.bytes(), text.as_bytes(), "{row}");
-        }
-    }
-    Ok(())
+    check(rt.alloc(), STREAMS, streamed_answer)
 }

@@ -4,6 +4,7 @@ ghost use Rattle.std.specs.Prelude.{◌≡◌, ◌<◌, All, IfOk, length};
 ghost use Rattle.matrix_meaning.specs.Valid.{IsInRange};
 ghost use Rattle.spl_ast.specs.Nesting.{IsPrintable};
 
+use crate::same::{same, same_in};
 use breakdown::expand;
 use generate::{generate, plan};
 use icode::action::Counts;
@@ -76,6 +77,11 @@ fn by_machine(alloc: Global, request: &Request, x: &[u64]) -> Result<Vec<u64>, F
     let mut machine = Machine::new(alloc, &product.program)?;
     machine.put(x);
     machine.finish();
+    results(alloc, &machine)
+}
+
+// The words of the second array.
+fn results(alloc: Global, machine: &Machine) -> Result<Vec<u64>, Fail> {
     let first = machine.span() / 4;
     let mut results = Vec::new(alloc);
     for place in first..2 * first {
@@ -92,9 +98,9 @@ fn agree(rt: &impl Abort, alloc: Global, line: &[u8]) -> Result<(), Fail> {
     if request.size != 4 || request.modulus != 17 {
         Err("the size 4 and the modulus 17")?
     }
-    assert_eq!(rt; by_formula(alloc, &request, &x)?.as_slice(), wanted);
-    assert_eq!(rt; by_text(alloc, &request, &x)?.as_slice(), wanted);
-    assert_eq!(rt; by_machine(alloc, &request, &x)?.as_slice(), wanted);
+    same(rt, by_formula(alloc, &request, &x)?.as_slice(), wanted);
+    same(rt, by_text(alloc, &request, &x)?.as_slice(), wanted);
+    same(rt, by_machine(alloc, &request, &x)?.as_slice(), wanted);
     Ok(())
 }
 
@@ -119,7 +125,7 @@ fn formula_of_a_text(rt: HostRuntime) -> Result<(), Fail> {
     let text = b"TIMES(LEFT(DFT(2,16),2),L(4,2))";
     let formula = read_spl(alloc, text).map_err(|_| "a formula")?;
     let y = applied(alloc, 17, &formula, &[1, 2, 3, 4])?;
-    assert_eq!(rt; y.as_slice(), [3, 7, 16, 16].as_slice());
+    same(&rt, y.as_slice(), [3, 7, 16, 16].as_slice());
     Ok(())
 }
 
@@ -151,11 +157,11 @@ fn turns_of_a_program(rt: HostRuntime) -> Result<(), Fail> {
     }
     machine.put(&[1, 1]);
     for at in 0..7 {
-        assert!(rt; matches!(turn(&mut machine), Turned::Did(_)), "turn {at}");
+        same_in(&rt, matches!(turn(&mut machine), Turned::Did(_)), true, at);
     }
-    assert_eq!(rt; turn(&mut machine), Turned::Done);
-    assert_eq!(rt; word(&machine, 2), Some(2));
-    assert_eq!(rt; word(&machine, 3), Some(5));
+    same(&rt, turn(&mut machine), Turned::Done);
+    same(&rt, word(&machine, 2), Some(2));
+    same(&rt, word(&machine, 3), Some(5));
     let counts = Counts {
         operations: 3,
         muls: 1,
@@ -163,7 +169,7 @@ fn turns_of_a_program(rt: HostRuntime) -> Result<(), Fail> {
         stores: 2,
     };
     let _procs = machine.procs();
-    assert_eq!(rt; machine.counts(0), counts);
+    same(&rt, machine.counts(0), counts);
     Ok(())
 }
 

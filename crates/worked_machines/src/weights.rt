@@ -3,7 +3,7 @@
 use crate::ways::request_of;
 use generate::generate;
 use par_machine::Machine;
-use std::alloc::Global;
+use std::alloc::{AllocError, Global};
 use std::fmt::Write;
 use std::test::Fail;
 use worked_rows::check;
@@ -21,18 +21,24 @@ dft 4 mod 17 root 4 procs 2 line 1 weight 5|28 14 14
 dft 16 mod 17 root 3 procs 2 line 2 lanes 2 unroll 2 weight 5|304 152 152
 ";
 
+// The operations of each processor, where a multiplication counts for so many more.
+fn write_shares(text: &mut String, machine: &Machine, extra: u64) -> Result<(), AllocError> {
+    for proc in 0..machine.procs() {
+        let counts = machine.counts(proc);
+        let more = extra.saturating_mul(counts.muls);
+        let share = counts.operations.saturating_add(more);
+        write!(text, " {share}")?;
+    }
+    Ok(())
+}
+
 fn shares(alloc: Global, line: &str) -> Result<String, Fail> {
     let request = request_of(line.as_bytes())?;
     let product = generate(alloc, &request).map_err(|_| "a program")?;
     let mut machine = Machine::new(alloc, &product.program)?;
     machine.finish();
     let mut text = format!(in alloc; "{}", product.plan.cost)?;
-    for proc in 0..machine.procs() {
-        let counts = machine.counts(proc);
-        let more = (request.weight - 1).saturating_mul(counts.muls);
-        let share = counts.operations.saturating_add(more);
-        write!(text, " {share}")?;
-    }
+    write_shares(&mut text, &machine, request.weight - 1)?;
     Ok(text)
 }
 

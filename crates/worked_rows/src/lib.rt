@@ -1,7 +1,7 @@
 //! Rows of tables for tests: a question and its answer on a line, which hold texts, and numbers with spaces between them.
 #![tactic(auto)]
 
-use std::alloc::Global;
+use std::alloc::{AllocError, Global};
 use std::fmt::Write;
 use std::test::Fail;
 
@@ -46,6 +46,12 @@ pub fn spelled(alloc: Global, text: &str) -> Result<String, Fail> {
     Ok(text.replace(alloc, "~", "\n")?)
 }
 
+/// The text of the bytes with a `~` for each line end.
+pub fn shown(alloc: Global, bytes: &[u8]) -> Result<String, Fail> {
+    let text = std::str::from_utf8(bytes).ok().ok_or("a text")?;
+    Ok(text.replace(alloc, "\n", "~")?)
+}
+
 /// The number that the word spells.
 pub fn number(word: &str) -> Result<u64, Fail> {
     Ok(word.parse::<u64>().ok().ok_or("a number")?)
@@ -60,14 +66,19 @@ pub fn numbers(alloc: Global, text: &str) -> Result<Vec<u64>, Fail> {
     Ok(numbers)
 }
 
+/// Adds the number, behind a space where the text has begun.
+pub fn write_number(text: &mut String, number: u64) -> Result<(), AllocError> {
+    if !text.is_empty() {
+        text.push_str(" ")?;
+    }
+    write!(text, "{number}")
+}
+
 /// The numbers with a space between them.
 pub fn joined(alloc: Global, numbers: &[u64]) -> Result<String, Fail> {
     let mut text = String::new(alloc);
     for number in numbers {
-        if !text.is_empty() {
-            text.push_str(" ")?;
-        }
-        write!(text, "{number}")?;
+        write_number(&mut text, *number)?;
     }
     Ok(text)
 }

@@ -1,10 +1,11 @@
 // C texts: what is printed and read again, the line where a text is none, and single lines.
 
-use crate::listings::{DEPTHS, PAIR, QUAD, depths, place};
+use crate::listings::{DEPTHS, PAIR, QUAD, depths, write_place, write_times};
+use crate::same::same;
 use c_print::{CFault, print_c, read_c, read_c_header, read_c_line, read_c_table};
 use icode::program::Op;
 use listing_text::{Act, print_listing, read_listing};
-use std::alloc::Global;
+use std::alloc::{AllocError, Global};
 use std::fmt::Write;
 use std::process::Abort;
 use std::test::Fail;
@@ -129,22 +130,31 @@ fn listing_of(alloc: Global, c_text: &[u8]) -> Result<Vec<u8>, Fail> {
     Ok(print_listing(alloc, &program)?)
 }
 
+fn is_read_again(rt: &impl Abort, alloc: Global, listing: &str) -> Result<(), Fail> {
+    let printed = c_text_of(alloc, listing)?;
+    is_listing_of(rt, alloc, listing, &printed)
+}
+
+fn is_listing_of(rt: &impl Abort, alloc: Global, listing: &str, c_text: &[u8]) -> Result<(), Fail> {
+    same(
+        rt,
+        listing_of(alloc, c_text)?.as_slice(),
+        listing.as_bytes(),
+    );
+    Ok(())
+}
+
 #[test]
 fn reads_what_is_printed(rt: HostRuntime) -> Result<(), Fail> {
     for listing in [PAIR, FORMS, LIMITS, QUAD] {
-        let printed = c_text_of(rt.alloc(), listing)?;
-        let back = listing_of(rt.alloc(), &printed)?;
-        assert_eq!(rt; back.as_slice(), listing.as_bytes());
+        is_read_again(&rt, rt.alloc(), listing)?;
     }
     Ok(())
 }
 
 fn agree(rt: &impl Abort, alloc: Global, listing: &str, c_text: &str) -> Result<(), Fail> {
-    let printed = c_text_of(alloc, listing)?;
-    assert_eq!(rt; printed.as_slice(), c_text.as_bytes());
-    let back = listing_of(alloc, c_text.as_bytes())?;
-    assert_eq!(rt; back.as_slice(), listing.as_bytes());
-    Ok(())
+    same(rt, c_text_of(alloc, listing)?.as_slice(), c_text.as_bytes());
+    is_listing_of(rt, alloc, listing, c_text.as_bytes())
 }
 
 #[test]
@@ -189,10 +199,15 @@ uint64_t r[5][V];
 
 // The text with a line end for each `~`, and those lines for their names.
 fn whole(alloc: Global, text: &str) -> Result<String, Fail> {
-    let text = spelled(alloc, text)?;
-    let text = text.replace(alloc, "FRONT", FRONT)?;
-    let text = text.replace(alloc, "FUNCTIONS", FUNCTIONS)?;
-    Ok(text.replace(alloc, "PHASE", PHASE)?)
+    let mut text = spelled(alloc, text)?;
+    for (name, lines) in [("FRONT", FRONT), ("FUNCTIONS", FUNCTIONS), ("PHASE", PHASE)] {
+        text = text.replace(alloc, name, lines)?;
+    }
+    Ok(text)
+}
+
+fn lost_text(alloc: Global, text: &str) -> Result<String, Fail> {
+    Ok(format!(in alloc; "{}", lost_line(alloc, text))?)
 }
 
 // A text, and the line where it is lost.
@@ -235,8 +250,7 @@ FRONTFUNCTIONSPHASEfor (int l = 0; l < V; l++) r[9][l] = 0;~}~|0
 ";
 
 fn lost(alloc: Global, text: &str) -> Result<String, Fail> {
-    let text = whole(alloc, text)?;
-    Ok(format!(in alloc; "{}", lost_line(alloc, &text))?)
+    lost_text(alloc, &whole(alloc, text)?)
 }
 
 #[test]
@@ -265,13 +279,11 @@ for (uint64_t v2 = 0; v2 < 4294967296; v2++) {~}|18
 fn inside_loops(alloc: Global, line: &str) -> Result<String, Fail> {
     let outer = "for (uint64_t v0 = 0; v0 < 2; v0++) {";
     let inner = "for (uint64_t v1 = 0; v1 < 3; v1++) {";
-    let text = format!(in alloc; "FRONTFUNCTIONSPHASE{outer}~{inner}~{line}~}}~}}~}}~")?;
-    whole(alloc, &text)
+    Ok(format!(in alloc; "FRONTFUNCTIONSPHASE{outer}~{inner}~{line}~}}~}}~}}~")?)
 }
 
 fn lost_inside_loops(alloc: Global, line: &str) -> Result<String, Fail> {
-    let text = inside_loops(alloc, line)?;
-    Ok(format!(in alloc; "{}", lost_line(alloc, &text))?)
+    lost(alloc, &inside_loops(alloc, line)?)
 }
 
 #[test]
@@ -279,20 +291,16 @@ fn lines_inside_loops(rt: HostRuntime) -> Result<(), Fail> {
     check(rt.alloc(), LINES, lost_inside_loops)
 }
 
-// A text with so many loops, one inside the other, from line 16 on.
-fn nested_loops(alloc: Global, count: u64) -> Result<String, Fail> {
-    let mut text = whole(alloc, "FRONTFUNCTIONSPHASE")?;
+// So many loops, one inside the other, from line 16 on, and the end of the phase.
+fn write_nested_loops(text: &mut String, count: u64) -> Result<(), AllocError> {
     for depth in 0..count {
         write!(
             text,
             "for (uint64_t v{depth} = 0; v{depth} < 2; v{depth}++) {{\n"
         )?;
     }
-    for _ in 0..count {
-        text.push_str("}\n")?;
-    }
-    text.push_str("}\n")?;
-    Ok(text)
+    write_times(text, count, "}\n")?;
+    text.push_str("}\n")
 }
 
 // The number of loops, and the line where the text is lost.
@@ -302,8 +310,9 @@ const LOOPS: &str = "\
 ";
 
 fn lost_loop(alloc: Global, count: &str) -> Result<String, Fail> {
-    let text = nested_loops(alloc, number(count)?)?;
-    Ok(format!(in alloc; "{}", lost_line(alloc, &text))?)
+    let mut text = whole(alloc, "FRONTFUNCTIONSPHASE")?;
+    write_nested_loops(&mut text, number(count)?)?;
+    lost_text(alloc, &text)
 }
 
 #[test]
@@ -311,11 +320,17 @@ fn limits_of_loops(rt: HostRuntime) -> Result<(), Fail> {
     check(rt.alloc(), LOOPS, lost_loop)
 }
 
+fn line_of_place(alloc: Global, parentheses: u64, parts: u64) -> Result<String, AllocError> {
+    let mut line = String::new(alloc);
+    line.push_str("for (int l = 0; l < V; l++) r[0][l] = X[")?;
+    write_place(&mut line, parentheses, parts)?;
+    line.push_str(" + l];")?;
+    Ok(line)
+}
+
 fn lost_place(alloc: Global, counts: &str) -> Result<String, Fail> {
     let (parentheses, parts) = depths(counts)?;
-    let place = place(alloc, parentheses, parts)?;
-    let line = format!(in alloc; "for (int l = 0; l < V; l++) r[0][l] = X[{place} + l];")?;
-    lost_inside_loops(alloc, &line)
+    lost_inside_loops(alloc, &line_of_place(alloc, parentheses, parts)?)
 }
 
 #[test]

@@ -33,18 +33,27 @@ idft 4 mod 17 root 4|{\"rows\":[[2,2,\"leaf\",0,0],[4,13,\"ct\",2,2]],\"size\":4
 idft 1 mod 17 root 1 weight 3|{\"rows\":[[1,3,\"leaf\",0,0]],\"size\":1,\"version\":2,\"weight\":3}~|least 3
 ";
 
+// Whether the text is the certificate of the context.
+fn is_certificate(alloc: Global, c: &Ctx, text: &str) -> Result<bool, Fail> {
+    if !divides(c) {
+        return Err(Fail::from("sizes that divide"));
+    }
+    Ok(certify(alloc, c)?.as_slice() == text.as_bytes())
+}
+
+fn certificate_verdict(alloc: Global, c: &Ctx, text: &str) -> Result<String, Fail> {
+    if is_certificate(alloc, c, text)? {
+        verdict(alloc, c, text)
+    } else {
+        Ok("another certificate".to_string(alloc)?)
+    }
+}
+
 // What is said of a text, where it is the request's certificate.
 fn certificate_answer(alloc: Global, question: &str) -> Result<String, Fail> {
     let (request, text) = halves(question)?;
     let c = context(request)?;
-    if !divides(&c) {
-        return Err(Fail::from("sizes that divide"));
-    }
-    let text = spelled(alloc, text)?;
-    if certify(alloc, &c)?.as_slice() != text.as_bytes() {
-        return Ok("another certificate".to_string(alloc)?);
-    }
-    verdict(alloc, &c, &text)
+    certificate_verdict(alloc, &c, &spelled(alloc, text)?)
 }
 
 #[test]
@@ -125,10 +134,11 @@ idft 4 mod 17 root 4|{\"rows\":[[2,2,\"leaf\",0,0],[4,13,\"leaf\",0,0]],\"size\"
 fn four_answer(alloc: Global, question: &str) -> Result<String, Fail> {
     let (question, version) = halves(question)?;
     let (rows, between) = halves(question)?;
+    let c = context("dft 4 mod 17 root 4")?;
     let text = format!(in alloc;
         "{{\"size\":4,\"rows\":[{rows}]{between},\"version\":{version}}}"
     )?;
-    verdict(alloc, &context("dft 4 mod 17 root 4")?, &text)
+    verdict(alloc, &c, &text)
 }
 
 #[test]
@@ -138,8 +148,8 @@ fn rows_of_four(rt: HostRuntime) -> Result<(), Fail> {
 
 fn text_answer(alloc: Global, question: &str) -> Result<String, Fail> {
     let (request, text) = question.split_once('|').ok_or("a request")?;
-    let text = spelled(alloc, text)?;
-    verdict(alloc, &context(request)?, &text)
+    let c = context(request)?;
+    verdict(alloc, &c, &spelled(alloc, text)?)
 }
 
 #[test]

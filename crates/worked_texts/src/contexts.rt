@@ -85,20 +85,28 @@ pub(crate) fn context(text: &str) -> Result<Ctx, Fail> {
     Ok(Ctx::new(&request))
 }
 
-/// The tree with these leaves, where each left part is a leaf: `ct 2 2 3` is `ct(leaf(2),ct(leaf(2),leaf(3)))`.
-pub(crate) fn tree_of(alloc: Global, text: &str) -> Result<Tree, Fail> {
-    let (rule, sizes) = text.split_once(' ').ok_or("a rule")?;
-    let sizes = numbers(alloc, sizes)?;
+/// The tree of the rule, with a leaf of this size on its left.
+fn grown(alloc: Global, rule: &str, size: u64, tree: Tree) -> Result<Tree, Fail> {
+    let right = Box::new(alloc, tree)?;
+    let left = Box::new(alloc, Tree::Leaf(size))?;
+    Ok(match rule {
+        "gt" => Tree::Gt(left, right),
+        "ct" => Tree::Ct(left, right),
+        _ => Tree::Split(left, right),
+    })
+}
+
+fn tree_on(alloc: Global, rule: &str, sizes: &[u64]) -> Result<Tree, Fail> {
     let (last, front) = sizes.split_last().ok_or("a leaf")?;
     let mut tree = Tree::Leaf(*last);
     for size in front.iter().rev() {
-        let left = Box::new(alloc, Tree::Leaf(*size))?;
-        let right = Box::new(alloc, tree)?;
-        tree = match rule {
-            "gt" => Tree::Gt(left, right),
-            "ct" => Tree::Ct(left, right),
-            _ => Tree::Split(left, right),
-        };
+        tree = grown(alloc, rule, *size, tree)?;
     }
     Ok(tree)
+}
+
+/// The tree with these leaves, where each left part is a leaf: `ct 2 2 3` is `ct(leaf(2),ct(leaf(2),leaf(3)))`.
+pub(crate) fn tree_of(alloc: Global, text: &str) -> Result<Tree, Fail> {
+    let (rule, sizes) = text.split_once(' ').ok_or("a rule")?;
+    tree_on(alloc, rule, &numbers(alloc, sizes)?)
 }

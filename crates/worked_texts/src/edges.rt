@@ -2,6 +2,7 @@
 
 ghost use Rattle.std.specs.Prelude.{◌<◌};
 
+use crate::same::{same, same_in};
 use grammar::{Cursor, Stuck};
 use io_edge::{
     CountSink, Feed, FeedFault, MemSink, MemSource, QuietSource, ReadSource, WriteFault, WriteSink,
@@ -34,10 +35,10 @@ impl Read for Breaking {
 fn a_reader_is_read_to_its_end(rt: HostRuntime) -> Result<(), Fail> {
     let mut feed = Feed::new(rt.alloc())?;
     let mut whole = ReadSource::new(b"ab".as_slice());
-    assert_eq!(rt; feed.byte(&mut whole), Ok(Some(b'a')));
-    assert_eq!(rt; feed.byte(&mut whole), Ok(Some(b'b')));
-    assert_eq!(rt; feed.byte(&mut whole), Ok(None));
-    assert_eq!(rt; whole.faults, 0);
+    same(&rt, feed.byte(&mut whole), Ok(Some(b'a')));
+    same(&rt, feed.byte(&mut whole), Ok(Some(b'b')));
+    same(&rt, feed.byte(&mut whole), Ok(None));
+    same(&rt, whole.faults, 0);
     Ok(())
 }
 
@@ -45,23 +46,21 @@ fn a_reader_is_read_to_its_end(rt: HostRuntime) -> Result<(), Fail> {
 fn a_reader_is_read_to_its_fault(rt: HostRuntime) -> Result<(), Fail> {
     let mut feed = Feed::new(rt.alloc())?;
     let mut broken = ReadSource::new(Breaking { is_broken: false });
-    assert_eq!(rt; feed.byte(&mut broken), Ok(Some(b'a')));
-    assert_eq!(rt; feed.byte(&mut broken), Err(FeedFault::ReadFault));
-    assert_eq!(rt; feed.byte(&mut broken), Err(FeedFault::ReadFault));
-    assert_eq!(rt; broken.faults, 2);
+    same(&rt, feed.byte(&mut broken), Ok(Some(b'a')));
+    same(&rt, feed.byte(&mut broken), Err(FeedFault::ReadFault));
+    same(&rt, feed.byte(&mut broken), Err(FeedFault::ReadFault));
+    same(&rt, broken.faults, 2);
     Ok(())
 }
 
 #[test]
 fn a_writer_takes_all(rt: HostRuntime) -> Result<(), Fail> {
     let mut sink = WriteSink::new(Vec::new(rt.alloc()));
-    assert_eq!(rt; write_parts(&mut sink, &[b"one ", b"two"]), Ok(()));
-    assert_eq!(rt; put_u64(&mut sink, 18446744073709551615), Ok(()));
-    assert_eq!(rt;
-        sink.inner.as_slice(),
-        b"one two18446744073709551615".as_slice()
-    );
-    assert_eq!(rt; sink.faults, 0);
+    same(&rt, write_parts(&mut sink, &[b"one ", b"two"]), Ok(()));
+    same(&rt, put_u64(&mut sink, 18446744073709551615), Ok(()));
+    let written = b"one two18446744073709551615".as_slice();
+    same(&rt, sink.inner.as_slice(), written);
+    same(&rt, sink.faults, 0);
     Ok(())
 }
 
@@ -69,8 +68,8 @@ fn a_writer_takes_all(rt: HostRuntime) -> Result<(), Fail> {
 fn a_writer_that_takes_nothing_is_full(rt: HostRuntime) {
     let mut room = [0; 3];
     let mut full = WriteSink::new(room.as_mut_slice());
-    assert_eq!(rt; write_all(&mut full, b"four"), Err(WriteFault));
-    assert_eq!(rt; full.faults, 1);
+    same(&rt, write_all(&mut full, b"four"), Err(WriteFault));
+    same(&rt, full.faults, 1);
 }
 
 // Over steps, the bytes are the same, and a failed call takes none.
@@ -79,11 +78,10 @@ fn read_in_steps(rt: &impl Abort, alloc: Global, step: u64) -> Result<(), Fail>
 {
     let mut feed = Feed::new(alloc)?;
     let mut source = MemSource::new(b"ab".to_vec(alloc)?, step, vec![in alloc; 0]?);
-    let failed = feed.byte(&mut source);
-    assert_eq!(rt; failed, Err(FeedFault::ReadFault), "step {step}");
-    assert_eq!(rt; feed.byte(&mut source), Ok(Some(b'a')), "step {step}");
-    assert_eq!(rt; feed.byte(&mut source), Ok(Some(b'b')), "step {step}");
-    assert_eq!(rt; feed.byte(&mut source), Ok(None), "step {step}");
+    same_in(rt, feed.byte(&mut source), Err(FeedFault::ReadFault), step);
+    same_in(rt, feed.byte(&mut source), Ok(Some(b'a')), step);
+    same_in(rt, feed.byte(&mut source), Ok(Some(b'b')), step);
+    same_in(rt, feed.byte(&mut source), Ok(None), step);
     Ok(())
 }
 
@@ -100,8 +98,8 @@ fn quiet_sources(rt: HostRuntime) -> Result<(), Fail> {
     let alloc = rt.alloc();
     let mut feed = Feed::new(alloc)?;
     let mut quiet = QuietSource::new(b"a".to_vec(alloc)?);
-    assert_eq!(rt; feed.byte(&mut quiet), Ok(Some(b'a')));
-    assert_eq!(rt; feed.byte(&mut quiet), Ok(None));
+    same(&rt, feed.byte(&mut quiet), Ok(Some(b'a')));
+    same(&rt, feed.byte(&mut quiet), Ok(None));
     Ok(())
 }
 
@@ -109,29 +107,27 @@ fn quiet_sources(rt: HostRuntime) -> Result<(), Fail> {
 fn sinks_in_memory(rt: HostRuntime) -> Result<(), Fail> {
     let alloc = rt.alloc();
     let mut sink = MemSink::new(alloc, 3, vec![in alloc; 1]?)?;
-    assert_eq!(rt; write_all(&mut sink, b"ab"), Ok(()));
-    assert_eq!(rt; write_all(&mut sink, b"cd"), Err(WriteFault));
-    assert_eq!(rt; sink.bytes(), b"ab".as_slice());
-    assert_eq!(rt; write_all(&mut sink, b"cd"), Err(WriteFault));
-    assert_eq!(rt; sink.bytes(), b"abc".as_slice());
+    same(&rt, write_all(&mut sink, b"ab"), Ok(()));
+    same(&rt, write_all(&mut sink, b"cd"), Err(WriteFault));
+    same(&rt, sink.bytes(), b"ab".as_slice());
+    same(&rt, write_all(&mut sink, b"cd"), Err(WriteFault));
+    same(&rt, sink.bytes(), b"abc".as_slice());
     Ok(())
 }
 
 #[test]
 fn sinks_that_count(rt: HostRuntime) {
     let mut count = CountSink::new();
-    assert_eq!(rt; write_all(&mut count, b"abcd"), Ok(()));
-    assert_eq!(rt; count.count, 4);
+    same(&rt, write_all(&mut count, b"abcd"), Ok(()));
+    same(&rt, count.count, 4);
 }
 
 #[test]
 fn a_cursor_reads_a_text(rt: HostRuntime) {
     let mut cursor = Cursor::new(b"rr:120 x");
-    assert_eq!(rt;
-        cursor.one_of(&[(b"seq".as_slice(), 1), (b"rr:".as_slice(), 2)]),
-        Ok(2)
-    );
-    assert_eq!(rt; cursor.number(1000), Ok(120));
-    assert_eq!(rt; cursor.optional_number(b" lanes ", 9, 1), 1);
-    assert_eq!(rt; cursor.end(), Err(Stuck { left: 1 }));
+    let words = [(b"seq".as_slice(), 1), (b"rr:".as_slice(), 2)];
+    same(&rt, cursor.one_of(&words), Ok(2));
+    same(&rt, cursor.number(1000), Ok(120));
+    same(&rt, cursor.optional_number(b" lanes ", 9, 1), 1);
+    same(&rt, cursor.end(), Err(Stuck { left: 1 }));
 }

@@ -1,14 +1,14 @@
 // The factors of a transform of size 16, by hand from the identities: a step by four rows of four words.
 
 use crate::contexts::{context, tree_of};
-use smp_rewrite::{Factor, to_smp};
+use smp_rewrite::{Factor, SmpSpl, to_smp};
 use std::alloc::{AllocError, Global};
 use std::fmt::Write;
 use std::test::Fail;
 use steps::{Core, Step};
 use tensor_paths::Tensor;
 use tree_model::admissible;
-use vec_rewrite::{VecFactor, vec_of_tree};
+use vec_rewrite::{VecFactor, VecSpl, vec_of_tree};
 use worked_rows::check;
 
 // A request, and the factors of both phases of `ct 4 4` for processors.
@@ -93,13 +93,7 @@ fn write_lanes(text: &mut String, factors: &[VecFactor]) -> Result<(), AllocErro
     Ok(())
 }
 
-fn for_processors(alloc: Global, request: &str) -> Result<String, Fail> {
-    let tree = tree_of(alloc, "ct 4 4")?;
-    let c = context(request)?;
-    if !admissible(&c, &tree) {
-        return Ok("not admissible".to_string(alloc)?);
-    }
-    let formula = to_smp(alloc, &c, &tree)?;
+fn blocks_text(alloc: Global, formula: &SmpSpl) -> Result<String, AllocError> {
     let mut text = String::new(alloc);
     write_blocks(&mut text, &formula.first)?;
     write!(text, "/ ")?;
@@ -107,18 +101,32 @@ fn for_processors(alloc: Global, request: &str) -> Result<String, Fail> {
     Ok(text)
 }
 
-fn for_lanes(alloc: Global, request: &str) -> Result<String, Fail> {
-    let tree = tree_of(alloc, "ct 4 4")?;
-    let c = context(request)?;
-    if !admissible(&c, &tree) {
-        return Ok("not admissible".to_string(alloc)?);
-    }
-    let formula = vec_of_tree(alloc, &c, &tree)?;
+fn lanes_text(alloc: Global, formula: &VecSpl) -> Result<String, AllocError> {
     let mut text = String::new(alloc);
     write_lanes(&mut text, &formula.first)?;
     write!(text, "/ ")?;
     write_lanes(&mut text, &formula.second)?;
     Ok(text)
+}
+
+fn for_processors(alloc: Global, request: &str) -> Result<String, Fail> {
+    let c = context(request)?;
+    let tree = tree_of(alloc, "ct 4 4")?;
+    if admissible(&c, &tree) {
+        Ok(blocks_text(alloc, &to_smp(alloc, &c, &tree)?)?)
+    } else {
+        Ok("not admissible".to_string(alloc)?)
+    }
+}
+
+fn for_lanes(alloc: Global, request: &str) -> Result<String, Fail> {
+    let c = context(request)?;
+    let tree = tree_of(alloc, "ct 4 4")?;
+    if admissible(&c, &tree) {
+        Ok(lanes_text(alloc, &vec_of_tree(alloc, &c, &tree)?)?)
+    } else {
+        Ok("not admissible".to_string(alloc)?)
+    }
 }
 
 #[test]

@@ -1,12 +1,12 @@
 // Formulas: what is read, refused, printed, applied and rewritten.
 
+use crate::same::same;
 use ring_mod::Modulus;
 use spl_ast::{Distribute, Node, Spl, rewrite};
 use spl_text::{print_spl, read_spl};
 use std::alloc::Global;
-use std::fmt::Write;
 use std::test::Fail;
-use worked_rows::{check, number, spelled};
+use worked_rows::{check, joined, number, spelled};
 
 // A text, and the fault where it is no formula.
 const FAULTS: &str = "\
@@ -105,31 +105,31 @@ fn printed(alloc: Global, text: &str) -> Result<Vec<u8>, Fail> {
 #[test]
 fn printed_as_read(rt: HostRuntime) -> Result<(), Fail> {
     for text in TEXTS.lines() {
-        assert_eq!(rt; printed(rt.alloc(), text)?.as_slice(), text.as_bytes());
+        same(&rt, printed(rt.alloc(), text)?.as_slice(), text.as_bytes());
     }
     Ok(())
 }
 
-fn product(alloc: Global, formula: &str, modulus: u64, x: &[u64]) -> Result<String, Fail> {
+fn applied(alloc: Global, formula: &Spl, modulus: u64, x: &[u64]) -> Result<Vec<u64>, Fail> {
     let m = Modulus::new(modulus).ok_or("a modulus")?;
-    let formula = read_spl(alloc, formula.as_bytes()).ok().ok_or("a formula")?;
     if formula.cols() != x.len() as u64 || !x.iter().all(|v| *v < m.get()) {
         Err("a vector of the formula")?
     }
-    let y = Spl::apply_plain(alloc, &m, &formula, x)?;
-    let mut text = format!(in alloc; "{} rows:", formula.rows())?;
-    for value in &y {
-        write!(text, " {value}")?;
-    }
-    Ok(text)
+    Ok(Spl::apply_plain(alloc, &m, formula, x)?)
+}
+
+// The number of the product's rows, and the rows.
+fn product(alloc: Global, formula: &str, modulus: u64, x: &[u64]) -> Result<String, Fail> {
+    let formula = read_spl(alloc, formula.as_bytes()).ok().ok_or("a formula")?;
+    let y = joined(alloc, &applied(alloc, &formula, modulus, x)?)?;
+    Ok(format!(in alloc; "{} rows: {y}", formula.rows())?)
 }
 
 #[test]
 fn read_and_applied(rt: HostRuntime) -> Result<(), Fail> {
-    let alloc = rt.alloc();
     let text = "TIMES(LEFT(DFT(2,16),2),L(4,2))";
-    let answer = product(alloc, text, 17, &[1, 2, 3, 4])?;
-    assert_eq!(rt; answer.as_str(), "4 rows: 3 7 16 16");
+    let answer = product(rt.alloc(), text, 17, &[1, 2, 3, 4])?;
+    same(&rt, answer.as_str(), "4 rows: 3 7 16 16");
     Ok(())
 }
 
@@ -141,6 +141,6 @@ fn tensors_distribute(rt: HostRuntime) -> Result<(), Fail> {
     let text = b"RIGHT(3,LEFT(TIMES(DFT(2,11),L(2,1)),2))";
     let formula = read_spl(alloc, text).ok().ok_or("a formula")?;
     let product = rewrite(alloc, &Distribute::new(m), formula)?;
-    assert!(rt; matches!(&product.node, Node::Compose(_, _)));
+    same(&rt, matches!(&product.node, Node::Compose(_, _)), true);
     Ok(())
 }

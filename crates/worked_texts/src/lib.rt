@@ -28,6 +28,8 @@ mod products;
 #[cfg(test)]
 mod requests;
 #[cfg(test)]
+mod same;
+#[cfg(test)]
 mod streams;
 #[cfg(test)]
 mod values;

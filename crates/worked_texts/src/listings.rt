@@ -1,7 +1,8 @@
 // Listings: what is read and printed again, and the line where a text is no listing.
 
+use crate::same::same;
 use listing_text::{ListingFault, print_listing, read_listing};
-use std::alloc::Global;
+use std::alloc::{AllocError, Global};
 use std::fmt::Write;
 use std::test::Fail;
 use worked_rows::{check, number, spelled};
@@ -88,7 +89,7 @@ fn printed(alloc: Global, text: &str) -> Result<Vec<u8>, Fail> {
 #[test]
 fn printed_as_read(rt: HostRuntime) -> Result<(), Fail> {
     for text in [LEAF, PAIR, QUAD, ALL_FORMS] {
-        assert_eq!(rt; printed(rt.alloc(), text)?.as_slice(), text.as_bytes());
+        same(&rt, printed(rt.alloc(), text)?.as_slice(), text.as_bytes());
     }
     Ok(())
 }
@@ -100,6 +101,10 @@ fn lost_line(alloc: Global, text: &str) -> u64 {
         Err(ListingFault::Syntax { line }) => line,
         Err(ListingFault::NoMemory) => u64::MAX,
     }
+}
+
+fn lost_text(alloc: Global, text: &str) -> Result<String, Fail> {
+    Ok(format!(in alloc; "{}", lost_line(alloc, text))?)
 }
 
 // A text, and the line where it is lost.
@@ -129,8 +134,7 @@ program size 2 mod 15 procs 1 line 1 lanes 1 regs 5~phase~ld r0 X[0]~ld r1 X[01]
 ";
 
 fn lost(alloc: Global, text: &str) -> Result<String, Fail> {
-    let text = spelled(alloc, text)?;
-    Ok(format!(in alloc; "{}", lost_line(alloc, &text))?)
+    lost_text(alloc, &spelled(alloc, text)?)
 }
 
 #[test]
@@ -181,8 +185,8 @@ fn inside_loops(alloc: Global, line: &str) -> Result<String, Fail> {
 }
 
 fn lost_inside_loops(alloc: Global, line: &str) -> Result<String, Fail> {
-    let text = inside_loops(alloc, &spelled(alloc, line)?)?;
-    Ok(format!(in alloc; "{}", lost_line(alloc, &text))?)
+    let text = inside_loops(alloc, line)?;
+    lost(alloc, &text)
 }
 
 #[test]
@@ -191,34 +195,33 @@ fn lines_of_a_phase(rt: HostRuntime) -> Result<(), Fail> {
 }
 
 // A program with so many loops, one inside the other.
-fn nested_loops(alloc: Global, count: u64) -> Result<String, Fail> {
-    let header = "program size 2 mod 15 procs 1 line 1 lanes 1 regs 5";
-    let mut text = format!(in alloc; "{header}\nphase\n")?;
+fn write_nested_loops(text: &mut String, count: u64) -> Result<(), AllocError> {
+    text.push_str("program size 2 mod 15 procs 1 line 1 lanes 1 regs 5\nphase\n")?;
     for depth in 0..count {
         write!(text, "for v{depth} 2\n")?;
     }
-    for _ in 0..count {
-        text.push_str("end\n")?;
-    }
-    text.push_str("end\n")?;
-    Ok(text)
+    write_times(text, count, "end\n")?;
+    text.push_str("end\n")
 }
 
 /// So many times this text.
-pub(crate) fn times(alloc: Global, count: u64, piece: &str) -> Result<String, Fail> {
-    let mut text = String::new(alloc);
+pub(crate) fn write_times(text: &mut String, count: u64, piece: &str) -> Result<(), AllocError> {
     for _ in 0..count {
         text.push_str(piece)?;
     }
-    Ok(text)
+    Ok(())
 }
 
 /// A place with so many parts in each of so many parentheses.
-pub(crate) fn place(alloc: Global, parentheses: u64, parts: u64) -> Result<String, Fail> {
-    let open = times(alloc, parentheses, "+(0")?;
-    let inner = times(alloc, parts, "+(0)%2*1")?;
-    let close = times(alloc, parentheses, ")/2*1")?;
-    Ok(format!(in alloc; "0{open}{inner}{close}")?)
+pub(crate) fn write_place(
+    text: &mut String,
+    parentheses: u64,
+    parts: u64,
+) -> Result<(), AllocError> {
+    text.push_str("0")?;
+    write_times(text, parentheses, "+(0")?;
+    write_times(text, parts, "+(0)%2*1")?;
+    write_times(text, parentheses, ")/2*1")
 }
 
 /// The numbers of parentheses and of parts in each.
@@ -237,11 +240,17 @@ pub(crate) const DEPTHS: &str = "\
 32 33|LOST
 ";
 
+fn line_of_place(alloc: Global, parentheses: u64, parts: u64) -> Result<String, AllocError> {
+    let mut line = String::new(alloc);
+    line.push_str("ld r0 X[")?;
+    write_place(&mut line, parentheses, parts)?;
+    line.push_str("]")?;
+    Ok(line)
+}
+
 fn lost_place(alloc: Global, counts: &str) -> Result<String, Fail> {
     let (parentheses, parts) = depths(counts)?;
-    let place = place(alloc, parentheses, parts)?;
-    let text = inside_loops(alloc, &format!(in alloc; "ld r0 X[{place}]")?)?;
-    Ok(format!(in alloc; "{}", lost_line(alloc, &text))?)
+    lost_inside_loops(alloc, &line_of_place(alloc, parentheses, parts)?)
 }
 
 #[test]
@@ -257,8 +266,9 @@ const LOOPS: &str = "\
 ";
 
 fn lost_loop(alloc: Global, count: &str) -> Result<String, Fail> {
-    let text = nested_loops(alloc, number(count)?)?;
-    Ok(format!(in alloc; "{}", lost_line(alloc, &text))?)
+    let mut text = String::new(alloc);
+    write_nested_loops(&mut text, number(count)?)?;
+    lost_text(alloc, &text)
 }
 
 #[test]

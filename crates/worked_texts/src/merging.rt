@@ -52,26 +52,32 @@ fn write_nest(text: &mut String, nest: &Nest) -> Result<(), AllocError> {
     write_sums(text, "st", &nest.scatters)
 }
 
-fn listing(alloc: Global, merged: &Merged) -> Result<String, Fail> {
-    let mut text = format!(in alloc; "{}", merged.phases.len())?;
+fn write_phases(text: &mut String, merged: &Merged) -> Result<(), AllocError> {
+    write!(text, "{}", merged.phases.len())?;
     for phase in &merged.phases {
         for pass in phase {
             for nest in pass {
-                write_nest(&mut text, nest)?;
+                write_nest(text, nest)?;
             }
         }
     }
+    Ok(())
+}
+
+fn listing(alloc: Global, merged: &Merged) -> Result<String, AllocError> {
+    let mut text = String::new(alloc);
+    write_phases(&mut text, merged)?;
     Ok(text)
 }
 
 fn passes_text(alloc: Global, request: &str, tree: &str) -> Result<String, Fail> {
     let c = context(request)?;
     let tree = tree_of(alloc, tree)?;
-    if !admissible(&c, &tree) {
-        return Ok(format!(in alloc; "not admissible")?);
+    if admissible(&c, &tree) {
+        Ok(listing(alloc, &merged_tree(alloc, &c, &tree)?)?)
+    } else {
+        Ok("not admissible".to_string(alloc)?)
     }
-    let merged = merged_tree(alloc, &c, &tree)?;
-    listing(alloc, &merged)
 }
 
 fn answer(alloc: Global, question: &str) -> Result<String, Fail> {

@@ -4,6 +4,7 @@ ghost use Rattle.std.specs.Prelude.{IfOk};
 ghost use Rattle.pass_programs.specs.Conditions.{CanWrite};
 ghost use Rattle.perm_algebra.specs.Views.{plain_sum};
 
+use crate::same::same;
 use icode::program::{Expr, Part};
 use perm_algebra::Affine;
 use program_emit::{Frame, place_expr};
@@ -69,11 +70,17 @@ fn write_part(text: &mut String, part: &Part) -> Result<(), AllocError> {
     }
 }
 
-fn shown(alloc: Global, place: &Expr) -> Result<String, Fail> {
-    let mut text = format!(in alloc; "{}", place.constant)?;
+fn write_place(text: &mut String, place: &Expr) -> Result<(), AllocError> {
+    write!(text, "{}", place.constant)?;
     for part in &place.parts {
-        write_part(&mut text, part)?;
+        write_part(text, part)?;
     }
+    Ok(())
+}
+
+fn shown(alloc: Global, place: &Expr) -> Result<String, Fail> {
+    let mut text = String::new(alloc);
+    write_place(&mut text, place)?;
     Ok(text)
 }
 
@@ -87,7 +94,11 @@ fn places(rt: HostRuntime) -> Result<(), Fail> {
         first_loop: 0,
     };
     let text = shown(alloc, &place_expr(alloc, alone, &sum, 3)?)?;
-    assert_eq!(rt; text.as_str(), "5+v0*2+v2*7+(7+v0*1+v1*1)%6*2+(0+v0*2)/3*1");
+    same(
+        &rt,
+        text.as_str(),
+        "5+v0*2+v2*7+(7+v0*1+v1*1)%6*2+(0+v0*2)/3*1",
+    );
     Ok(())
 }
 
@@ -99,7 +110,7 @@ fn constant_places(rt: HostRuntime) -> Result<(), Fail> {
         first_loop: 0,
     };
     let text = shown(alloc, &place_expr(alloc, alone, &Affine::Constant(9), 2)?)?;
-    assert_eq!(rt; text.as_str(), "9");
+    same(&rt, text.as_str(), "9");
     Ok(())
 }
 
@@ -113,7 +124,7 @@ fn places_of_lanes(rt: HostRuntime) -> Result<(), Fail> {
         first_loop: 2,
     };
     let text = shown(alloc, &place_expr(alloc, lanes, &sum, 1)?)?;
-    assert_eq!(rt; text.as_str(), "5+q*2+v0*7+(7+q*1)%6*2+(0+q*2)/3*1");
+    same(&rt, text.as_str(), "5+q*2+v0*7+(7+q*1)%6*2+(0+q*2)/3*1");
     Ok(())
 }
 
@@ -127,6 +138,10 @@ fn shared_places(rt: HostRuntime) -> Result<(), Fail> {
         first_loop: 1,
     };
     let text = shown(alloc, &place_expr(alloc, shared, &sum, 2)?)?;
-    assert_eq!(rt; text.as_str(), "5+q*2+v1*7+(7+q*1+v0*1)%6*2+(0+q*2)/3*1");
+    same(
+        &rt,
+        text.as_str(),
+        "5+q*2+v1*7+(7+q*1+v0*1)%6*2+(0+q*2)/3*1",
+    );
     Ok(())
 }

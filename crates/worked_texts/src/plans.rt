@@ -4,6 +4,7 @@ ghost use Rattle.tree_model.specs.Admissible.{IsAdmissible};
 ghost use Rattle.tree_model.specs.Breakdown.{breakdown_of};
 
 use crate::contexts::{is_valid, request};
+use crate::same::{same, same_in};
 use matrix_meaning::Request;
 use operators::MAX_SIZE;
 use plan_search::{Plan, PlanError, best, best_by_recursion};
@@ -93,6 +94,18 @@ fn node(alloc: Global, rule: Rule, a: Tree, b: Tree) -> Result<Tree, Fail> {
     })
 }
 
+fn add_node(
+    alloc: Global,
+    trees: &mut Vec<Tree>,
+    rule: Rule,
+    a: &Tree,
+    b: &Tree,
+) -> Result<(), Fail> {
+    let (a, b) = (a.copied(alloc)?, b.copied(alloc)?);
+    trees.push(node(alloc, rule, a, b)?)?;
+    Ok(())
+}
+
 /// Adds each node with these parts, by each rule.
 fn add_nodes(
     alloc: Global,
@@ -103,7 +116,7 @@ fn add_nodes(
     for a in left {
         for b in right {
             for rule in [Rule::Gt, Rule::Ct, Rule::Split] {
-                trees.push(node(alloc, rule, a.copied(alloc)?, b.copied(alloc)?)?)?;
+                add_node(alloc, trees, rule, a, b)?;
             }
         }
     }
@@ -140,39 +153,58 @@ fn with_cost(alloc: Global, tree: &Tree, cost: u64) -> Result<String, Fail> {
     Ok(format!(in alloc; "{tree} {cost}")?)
 }
 
-/// Whether the plan is among these trees, with its cost, and no tree is better.
-fn is_best_of(alloc: Global, c: &Ctx, plan: &Plan, trees: &[Tree]) -> Result<bool, Fail>
-    requires { IsAdmissible c.now (breakdown_of plan.now.tree) }
-{
+/// Whether the tree and its cost are the plan's.
+fn is_plan(alloc: Global, plan: &Plan, tree: &Tree, cost: u64) -> Result<bool, Fail> {
     let chosen = with_cost(alloc, &plan.tree, plan.cost)?;
-    let mut is_there = false;
+    Ok(with_cost(alloc, tree, cost)?.as_str() == chosen.as_str())
+}
+
+/// Whether the plan is among these trees, with its cost.
+fn is_among(alloc: Global, c: &Ctx, plan: &Plan, trees: &[Tree]) -> Result<bool, Fail> {
     for tree in trees {
-        if admissible(c, tree) {
-            if is_better(c, tree, plan) {
-                return Ok(false);
-            }
-            is_there = is_there || with_cost(alloc, tree, cost(c, tree))? == chosen;
+        if admissible(c, tree) && is_plan(alloc, plan, tree, cost(c, tree))? {
+            return Ok(true);
         }
     }
-    Ok(is_there)
+    Ok(false)
+}
+
+/// Whether one of these trees is better than the plan.
+fn is_beaten(c: &Ctx, plan: &Plan, trees: &[Tree]) -> bool
+    requires { IsAdmissible c.now (breakdown_of plan.now.tree) }
+{
+    for tree in trees {
+        if admissible(c, tree) && is_better(c, tree, plan) {
+            return true;
+        }
+    }
+    false
+}
+
+/// Whether the recursion finds the plan.
+fn is_by_recursion(alloc: Global, c: &Ctx, plan: &Plan) -> Result<bool, Fail> {
+    match best_by_recursion(alloc, c)? {
+        Some(other) => is_plan(alloc, plan, &other.tree, other.cost),
+        None => Ok(false),
+    }
+}
+
+/// Whether the request admits none of these trees, and the recursion finds none.
+fn has_none(alloc: Global, c: &Ctx, trees: &[Tree]) -> Result<bool, Fail> {
+    Ok(best_by_recursion(alloc, c)?.is_none() && !trees.iter().any(|tree| admissible(c, tree)))
 }
 
 /// Whether the plan is the first of the cheapest of these trees, and the recursion finds it too.
 fn is_first_and_cheapest(alloc: Global, c: &Ctx, trees: &[Tree]) -> Result<bool, Fail> {
-    let answer = best(alloc, c, u64::MAX);
-    let by_recursion = best_by_recursion(alloc, c)?;
-    if let Err(PlanError::NoDivide) = answer {
-        return Ok(by_recursion.is_none() && !trees.iter().any(|tree| admissible(c, tree)));
+    match best(alloc, c, u64::MAX) {
+        Ok(plan) => Ok(
+            !is_beaten(c, &plan, trees)
+                && is_among(alloc, c, &plan, trees)?
+                && is_by_recursion(alloc, c, &plan)?,
+        ),
+        Err(PlanError::NoDivide) => has_none(alloc, c, trees),
+        Err(_) => Err(Fail::from("a plan")),
     }
-    let plan = answer?;
-    let Some(other) = by_recursion else {
-        return Ok(false)
-    };
-    let chosen = with_cost(alloc, &plan.tree, plan.cost)?;
-    if with_cost(alloc, &other.tree, other.cost)? != chosen {
-        return Ok(false);
-    }
-    is_best_of(alloc, c, &plan, trees)
 }
 
 /// The request on other processors and lanes, with other limits.
@@ -246,12 +278,17 @@ fn small_requests(alloc: Global, size: u64) -> Result<String, Fail> {
 }
 
 // Every tree of these sizes, against the plan.
+fn agrees(alloc: Global, variant: &Request, trees: &[Tree]) -> Result<bool, Fail> {
+    if is_valid(variant) {
+        is_first_and_cheapest(alloc, &Ctx::new(variant), trees)
+    } else {
+        Ok(true)
+    }
+}
+
 fn variants_agree(rt: &impl Abort, alloc: Global, line: &str, trees: &[Tree]) -> Result<(), Fail> {
     for variant in variants(&request(line)?) {
-        if is_valid(&variant) {
-            let c = Ctx::new(&variant);
-            assert!(rt; is_first_and_cheapest(alloc, &c, trees)?, "{line}");
-        }
+        same_in(rt, agrees(alloc, &variant, trees)?, true, line);
     }
     Ok(())
 }
@@ -281,6 +318,6 @@ fn text_of_a_tree(rt: HostRuntime) -> Result<(), Fail> {
     let mut text = Vec::new(alloc);
     write_tree(&mut text, &tree)?;
     let wanted = b"ct(gt(leaf(2),leaf(3)),leaf(10))";
-    assert_eq!(rt; text.as_slice(), wanted.as_slice());
+    same(&rt, text.as_slice(), wanted.as_slice());
     Ok(())
 }

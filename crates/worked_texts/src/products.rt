@@ -122,8 +122,9 @@ fn product(alloc: Global, c: &Ctx, tree: &Tree, x: &[u64]) -> Result<String, Fai
 fn answer(alloc: Global, question: &str) -> Result<String, Fail> {
     let (question, x) = question.rsplit_once("; ").ok_or("a vector")?;
     let (request, leaves) = question.rsplit_once("; ").ok_or("a tree")?;
+    let c = context(request)?;
     let tree = tree_of(alloc, leaves)?;
-    product(alloc, &context(request)?, &tree, &numbers(alloc, x)?)
+    product(alloc, &c, &tree, &numbers(alloc, x)?)
 }
 
 #[test]
@@ -141,16 +142,21 @@ idft 16 mod 17 root 3 procs 2 line 2; ct 4 4; 1 3 9 10 13 5 15 11 16 14 8 7 4 12
 idft 2 mod 15 root 4; leaf 2; 1 1|1 10
 ";
 
-// The product by the formula of the request.
+// The product by the formula of the request, where the tree is admissible.
+fn inverse(alloc: Global, c: &Ctx, tree: &Tree, x: &[u64]) -> Result<String, Fail> {
+    if !admissible(c, tree) {
+        return Err(Fail::from("an admissible tree"));
+    }
+    let formula = expand_request(alloc, c, tree)?;
+    joined(alloc, &applied(alloc, c, &formula, x)?)
+}
+
 fn inverse_answer(alloc: Global, question: &str) -> Result<String, Fail> {
     let (question, x) = question.rsplit_once("; ").ok_or("a vector")?;
     let (request, leaves) = question.rsplit_once("; ").ok_or("a tree")?;
-    let (c, tree) = (context(request)?, tree_of(alloc, leaves)?);
-    if !admissible(&c, &tree) {
-        return Err(Fail::from("an admissible tree"));
-    }
-    let formula = expand_request(alloc, &c, &tree)?;
-    joined(alloc, &applied(alloc, &c, &formula, &numbers(alloc, x)?)?)
+    let c = context(request)?;
+    let tree = tree_of(alloc, leaves)?;
+    inverse(alloc, &c, &tree, &numbers(alloc, x)?)
 }
 
 #[test]

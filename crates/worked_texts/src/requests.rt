@@ -1,5 +1,7 @@
 // Request lines, and the words of schedules and of turns with drains.
 
+ghost use Rattle.std.specs.Prelude.{◌≤◌};
+
 use request_text::{Mix, Schedule, read_conv, read_mix, read_request, read_schedule};
 use std::alloc::{AllocError, Global};
 use std::fmt::Write;
@@ -189,18 +191,30 @@ turns:1,; 1|Syntax { at: 8 }
 turns:4294967296; 1|Syntax { at: 15 }
 ";
 
-fn turns(alloc: Global, schedule: &Schedule, procs: u64, places: &[u64]) -> Result<String, Fail> {
-    if procs < 1 || procs > 16 {
-        Err("a number of processors")?
-    }
-    let mut text = format!(in alloc; "{}:", schedule.len(procs))?;
+fn write_turns(
+    text: &mut String,
+    schedule: &Schedule,
+    procs: u64,
+    places: &[u64],
+) -> Result<(), AllocError>
+    requires { (1 ≤ procs) × (procs ≤ 16) }
+{
+    write!(text, "{}:", schedule.len(procs))?;
     for place in places {
         if *place < schedule.len(procs) {
             let turn = schedule.turn_at(*place, procs);
             write!(text, " {turn}")?;
         }
     }
-    write!(text, " {:?}", schedule.stranger(procs))?;
+    write!(text, " {:?}", schedule.stranger(procs))
+}
+
+fn turns(alloc: Global, schedule: &Schedule, procs: u64, places: &[u64]) -> Result<String, Fail> {
+    if procs < 1 || procs > 16 {
+        return Err(Fail::from("a number of processors"));
+    }
+    let mut text = String::new(alloc);
+    write_turns(&mut text, schedule, procs, places)?;
     Ok(text)
 }
 
@@ -243,17 +257,16 @@ seq; 1|Syntax { at: 0 }
 mix:d0,t1,d; 1|Syntax { at: 11 }
 ";
 
-fn write_events(text: &mut String, mix: &Mix) -> Result<(), AllocError> {
+fn write_events(text: &mut String, mix: &Mix, procs: u64) -> Result<(), AllocError> {
     for place in 0..mix.len() {
         write!(text, "{:?} ", mix.event_at(place))?;
     }
-    Ok(())
+    write!(text, "{:?}", mix.stranger(procs))
 }
 
 fn events(alloc: Global, mix: &Mix, procs: u64) -> Result<String, Fail> {
     let mut text = String::new(alloc);
-    write_events(&mut text, mix)?;
-    write!(text, "{:?}", mix.stranger(procs))?;
+    write_events(&mut text, mix, procs)?;
     Ok(text)
 }
 

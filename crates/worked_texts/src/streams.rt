@@ -2,98 +2,120 @@
 
 ghost use Rattle.std.specs.Prelude.{◌<◌};
 
+use crate::same::same;
 use data_stream::{DataFault, Next, Vectors, write_vector};
-use input_rest::{RestFault, read_rest};
+use input_rest::read_rest;
 use io_edge::{CountSink, Feed, MemSink, MemSource, WriteFault};
 use ring_mod::Modulus;
 use std::alloc::Global;
-use std::process::Abort;
 use std::test::Fail;
-use worked_rows::{halves, spelled};
+use worked_rows::{check, field, number, shown, spelled};
 
-// What is written for the vectors of four numbers, at most two of them, and how the data go on behind them.
-fn lines(
+// How the data go on behind their vectors of four numbers, at most two, which are written.
+fn copied(
     alloc: Global,
-    data: &[u8],
-    step: u64,
-    fail_at: Vec<u64>,
-) -> Result<(MemSink, Result<Next, DataFault>), Fail>
-    requires { 0 < step }
-{
+    source: &mut MemSource,
+    output: &mut MemSink,
+) -> Result<Result<Next, DataFault>, Fail> {
     let modulus = Modulus::new(17).ok_or("a modulus")?;
     let mut feed = Feed::new(alloc)?;
-    let mut source = MemSource::new(data.to_vec(alloc)?, step, fail_at);
-    let mut output = MemSink::new(alloc, 100, Vec::new(alloc))?;
     let mut vectors = Vectors::new(4);
     let mut vector = [0; 4];
-    let mut next = vectors.next(&modulus, &mut feed, &mut source, &mut vector);
+    let mut next = vectors.next(&modulus, &mut feed, source, &mut vector);
     if next == Ok(Next::Vector) {
-        write_vector(&mut output, &vector).ok();
-        next = vectors.next(&modulus, &mut feed, &mut source, &mut vector);
+        write_vector(output, &vector).ok();
+        next = vectors.next(&modulus, &mut feed, source, &mut vector);
     }
     if next == Ok(Next::Vector) {
-        write_vector(&mut output, &vector).ok();
-        next = vectors.next(&modulus, &mut feed, &mut source, &mut vector);
+        write_vector(output, &vector).ok();
+        next = vectors.next(&modulus, &mut feed, source, &mut vector);
     }
-    Ok((output, next))
+    Ok(next)
+}
+
+// What is written for the data in steps of so many bytes, and how they go on, as the rows have it.
+fn told(alloc: Global, data: &str, step: u64, fail_at: Vec<u64>) -> Result<String, Fail>
+    requires { 0 < step }
+{
+    let mut source = MemSource::new(data.as_bytes().to_vec(alloc)?, step, fail_at);
+    let mut output = MemSink::new(alloc, 100, Vec::new(alloc))?;
+    let next = copied(alloc, &mut source, &mut output)?;
+    let text = shown(alloc, output.bytes())?;
+    Ok(format!(in alloc; "{text}; {next:?}")?)
+}
+
+fn told_in_steps(alloc: Global, data: &str, step: u64) -> Result<String, Fail>
+    requires { 0 < step }
+{
+    told(alloc, &spelled(alloc, data)?, step, Vec::new(alloc))
 }
 
 // The data, the lines of their vectors modulo 17, and how they go on.
 const DATA: &str = "\
-||Ok(End)
- \t\r~||Ok(End)
-1 2 3 4~|1 2 3 4~|Ok(End)
-1 2 3 4 5\t6\r~7  8|1 2 3 4~5 6 7 8~|Ok(End)
-0001 2 3 4|1 2 3 4~|Ok(End)
-18446744073709551615 17 18 00000000000000000035|0 0 1 1~|Ok(End)
-1 2 3 4 1 2 3|1 2 3 4~|Err(Truncated { have: 3, need: 4 })
-1 2 x 4||Err(BadNumber { token: 3 })
-18446744073709551616||Err(BadNumber { token: 1 })
-000000000000000000001||Err(BadNumber { token: 1 })
-1,2||Err(BadNumber { token: 1 })
-1\x0b2||Err(BadNumber { token: 1 })
-1 99999999999999999999||Err(BadNumber { token: 2 })
-1 2 3 4 -1|1 2 3 4~|Err(BadNumber { token: 5 })
+|; Ok(End)
+ \t\r~|; Ok(End)
+1 2 3 4~|1 2 3 4~; Ok(End)
+1 2 3 4 5\t6\r~7  8|1 2 3 4~5 6 7 8~; Ok(End)
+0001 2 3 4|1 2 3 4~; Ok(End)
+18446744073709551615 17 18 00000000000000000035|0 0 1 1~; Ok(End)
+1 2 3 4 1 2 3|1 2 3 4~; Err(Truncated { have: 3, need: 4 })
+1 2 x 4|; Err(BadNumber { token: 3 })
+18446744073709551616|; Err(BadNumber { token: 1 })
+000000000000000000001|; Err(BadNumber { token: 1 })
+1,2|; Err(BadNumber { token: 1 })
+1\x0b2|; Err(BadNumber { token: 1 })
+1 99999999999999999999|; Err(BadNumber { token: 2 })
+1 2 3 4 -1|1 2 3 4~; Err(BadNumber { token: 5 })
 ";
 
-fn cut_in_steps(rt: &impl Abort, alloc: Global, row: &str, step: u64) -> Result<(), Fail>
-    requires { 0 < step }
-{
-    let (question, wanted) = halves(row)?;
-    let (data, text) = halves(question)?;
-    let (data, text) = (spelled(alloc, data)?, spelled(alloc, text)?);
-    let (output, next) = lines(alloc, data.as_bytes(), step, Vec::new(alloc))?;
-    assert_eq!(rt; output.bytes(), text.as_bytes(), "{row} in steps of {step}");
-    let answer = format!(in alloc; "{next:?}")?;
-    assert_eq!(rt; answer.as_str(), wanted, "{row} in steps of {step}");
-    Ok(())
+fn byte_by_byte(alloc: Global, data: &str) -> Result<String, Fail> {
+    told_in_steps(alloc, data, 1)
+}
+
+fn three_by_three(alloc: Global, data: &str) -> Result<String, Fail> {
+    told_in_steps(alloc, data, 3)
+}
+
+fn at_once(alloc: Global, data: &str) -> Result<String, Fail> {
+    told_in_steps(alloc, data, 4096)
 }
 
 #[test]
-fn vectors_however_the_source_is_cut(rt: HostRuntime) -> Result<(), Fail> {
-    for row in DATA.lines() {
-        for step in [1, 3, 4096] {
-            cut_in_steps(&rt, rt.alloc(), row, step)?;
-        }
-    }
-    Ok(())
+fn vectors_byte_by_byte(rt: HostRuntime) -> Result<(), Fail> {
+    check(rt.alloc(), DATA, byte_by_byte)
 }
 
-// A fault inside a token gives no number of it, and the end of the data is not asked for twice.
+#[test]
+fn vectors_three_by_three(rt: HostRuntime) -> Result<(), Fail> {
+    check(rt.alloc(), DATA, three_by_three)
+}
+
+#[test]
+fn vectors_at_once(rt: HostRuntime) -> Result<(), Fail> {
+    check(rt.alloc(), DATA, at_once)
+}
+
+// The read of `1 2 3 4` that fails, byte by byte, and what is written. A fault inside a token gives no number of it, and the
+// end of the data is not asked for twice.
+const FAILING: &str = "\
+0|; Err(ReadFault)
+1|; Err(ReadFault)
+2|; Err(ReadFault)
+3|; Err(ReadFault)
+4|; Err(ReadFault)
+5|; Err(ReadFault)
+6|; Err(ReadFault)
+7|; Err(ReadFault)
+8|1 2 3 4~; Ok(End)
+";
+
+fn failing_answer(alloc: Global, read: &str) -> Result<String, Fail> {
+    told(alloc, "1 2 3 4", 1, vec![in alloc; number(read)?]?)
+}
+
 #[test]
 fn failing_reads(rt: HostRuntime) -> Result<(), Fail> {
-    let alloc = rt.alloc();
-    for call in 0..9 {
-        let (output, next) = lines(alloc, b"1 2 3 4", 1, vec![in alloc; call]?)?;
-        let (text, end): (&[u8], _) = if call < 8 {
-            (b"", Err(DataFault::ReadFault))
-        } else {
-            (b"1 2 3 4\n", Ok(Next::End))
-        };
-        assert_eq!(rt; output.bytes(), text, "a fault at call {call}");
-        assert_eq!(rt; next, end, "a fault at call {call}");
-    }
-    Ok(())
+    check(rt.alloc(), FAILING, failing_answer)
 }
 
 // A short line is one write, and one longer than any buffer on the way is whole.
@@ -101,9 +123,9 @@ fn failing_reads(rt: HostRuntime) -> Result<(), Fail> {
 fn short_lines(rt: HostRuntime) -> Result<(), Fail> {
     let alloc = rt.alloc();
     let mut output = MemSink::new(alloc, 100, vec![in alloc; 1]?)?;
-    assert_eq!(rt; write_vector(&mut output, &[1, 22, 333]), Ok(()));
-    assert_eq!(rt; write_vector(&mut output, &[4]), Err(WriteFault));
-    assert_eq!(rt; output.bytes(), b"1 22 333\n".as_slice());
+    same(&rt, write_vector(&mut output, &[1, 22, 333]), Ok(()));
+    same(&rt, write_vector(&mut output, &[4]), Err(WriteFault));
+    same(&rt, output.bytes(), b"1 22 333\n".as_slice());
     Ok(())
 }
 
@@ -111,53 +133,62 @@ fn short_lines(rt: HostRuntime) -> Result<(), Fail> {
 fn long_lines(rt: HostRuntime) {
     let mut output = CountSink::new();
     let long = [18446744073709551615; 1000];
-    assert_eq!(rt; write_vector(&mut output, &long), Ok(()));
-    assert_eq!(rt; output.count, 21000);
-    assert_eq!(rt; write_vector(&mut output, &[]), Ok(()));
-    assert_eq!(rt; output.count, 21001);
+    same(&rt, write_vector(&mut output, &long), Ok(()));
+    same(&rt, output.count, 21000);
+    same(&rt, write_vector(&mut output, &[]), Ok(()));
+    same(&rt, output.count, 21001);
 }
 
-// The rest of this input, behind its first byte, if it has at most four bytes.
-fn rest(
-    alloc: Global,
-    input: &[u8],
-    step: u64,
-    fails: Vec<u64>,
-) -> Result<Result<Vec<u8>, RestFault>, Fail>
-    requires { 0 < step }
-{
-    let mut source = MemSource::new(input.to_vec(alloc)?, step, fails);
+// What is behind the first byte of the source, if it has at most four bytes.
+fn rest_of(alloc: Global, source: &mut MemSource) -> Result<String, Fail> {
     let mut feed = Feed::new(alloc)?;
-    if feed.byte(&mut source).is_err() {
-        return Err("a first byte".into());
+    if feed.byte(source).is_err() {
+        return Err(Fail::from("a first byte"));
     }
-    Ok(read_rest(alloc, &mut feed, &mut source, 4))
+    match read_rest(alloc, &mut feed, source, 4) {
+        Ok(rest) => shown(alloc, &rest),
+        Err(fault) => Ok(format!(in alloc; "{fault:?}")?),
+    }
 }
 
-fn rests_in_steps(rt: &impl Abort, alloc: Global, step: u64) -> Result<(), Fail>
-    requires { 0 < step }
-{
-    let whole = rest(alloc, b"?abc\n", step, Vec::new(alloc))??;
-    assert_eq!(rt; whole.as_slice(), b"abc\n".as_slice());
-    let none = rest(alloc, b"?", step, Vec::new(alloc))??;
-    assert_eq!(rt; none.as_slice(), b"".as_slice());
-    let long = rest(alloc, b"?abc\n ", step, Vec::new(alloc))?;
-    assert!(rt; long.err() == Some(RestFault::TooLong));
-    Ok(())
+// The bytes of a step, the read that fails, and an input; and what is behind its first byte.
+const RESTS: &str = "\
+1; -; ?abc~|abc~
+1; -; ?|
+1; -; ?abc~ |TooLong
+3; -; ?abc~|abc~
+3; -; ?|
+3; -; ?abc~ |TooLong
+100; -; ?abc~|abc~
+100; -; ?|
+100; -; ?abc~ |TooLong
+2; 1; ?abc|ReadFault
+";
+
+fn calls(alloc: Global, word: &str) -> Result<Vec<u64>, Fail> {
+    let mut calls = Vec::new(alloc);
+    if word != "-" {
+        calls.push(number(word)?)?;
+    }
+    Ok(calls)
+}
+
+fn source_of(alloc: Global, input: &str, step: u64, word: &str) -> Result<MemSource, Fail> {
+    if step == 0 {
+        return Err(Fail::from("a step"));
+    }
+    let bytes = spelled(alloc, input)?.as_bytes().to_vec(alloc)?;
+    Ok(MemSource::new(bytes, step, calls(alloc, word)?))
+}
+
+fn rest_answer(alloc: Global, question: &str) -> Result<String, Fail> {
+    let (step, rest) = field(question)?;
+    let (failing, input) = field(rest)?;
+    let mut source = source_of(alloc, input, number(step)?, failing)?;
+    rest_of(alloc, &mut source)
 }
 
 #[test]
 fn rests(rt: HostRuntime) -> Result<(), Fail> {
-    for step in [1, 3, 100] {
-        rests_in_steps(&rt, rt.alloc(), step)?;
-    }
-    Ok(())
-}
-
-#[test]
-fn broken_rests(rt: HostRuntime) -> Result<(), Fail> {
-    let alloc = rt.alloc();
-    let broken = rest(alloc, b"?abc", 2, vec![in alloc; 1]?)?;
-    assert!(rt; broken.err() == Some(RestFault::ReadFault));
-    Ok(())
+    check(rt.alloc(), RESTS, rest_answer)
 }

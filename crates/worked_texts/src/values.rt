@@ -1,5 +1,6 @@
 // Arithmetic modulo a number, index functions, and sums of loop variables.
 
+use crate::same::same;
 use convolution::{conv_plain, first_bad_power};
 use index_fn::{Index, compose};
 use matrix_meaning::twiddle_factor;
@@ -90,8 +91,8 @@ fn places_of_strides(rt: HostRuntime) -> Result<(), Fail> {
     let turn_back = turn.inverse(rt.alloc())?;
     for i in 0..6 {
         let k = i as usize;
-        assert_eq!(rt; turn.at(i), [0, 2, 4, 1, 3, 5][k]);
-        assert_eq!(rt; turn_back.at(i), [0, 3, 1, 4, 2, 5][k]);
+        same(&rt, turn.at(i), [0, 2, 4, 1, 3, 5][k]);
+        same(&rt, turn_back.at(i), [0, 3, 1, 4, 2, 5][k]);
     }
     Ok(())
 }
@@ -103,16 +104,16 @@ fn places_of_coprime_factors(rt: HostRuntime) {
     let out_back = Index::ThomasBack(2, 3, 3, 4);
     for i in 0..6 {
         let k = i as usize;
-        assert_eq!(rt; into.at(i), [0, 2, 4, 3, 5, 1][k]);
-        assert_eq!(rt; out.at(i), [0, 4, 2, 3, 1, 5][k]);
-        assert_eq!(rt; out_back.at(i), [0, 4, 2, 3, 1, 5][k]);
+        same(&rt, into.at(i), [0, 2, 4, 3, 5, 1][k]);
+        same(&rt, out.at(i), [0, 4, 2, 3, 1, 5][k]);
+        same(&rt, out_back.at(i), [0, 4, 2, 3, 1, 5][k]);
     }
 }
 
 #[test]
 fn composed_places(rt: HostRuntime) -> Result<(), Fail> {
     let composed = compose(rt.alloc(), &Index::Stride(1, 2), &Index::Stride(0, 3))?;
-    assert_eq!(rt; composed.at(2), 13);
+    same(&rt, composed.at(2), 13);
     Ok(())
 }
 
@@ -120,40 +121,57 @@ fn composed_places(rt: HostRuntime) -> Result<(), Fail> {
 fn inverse_of_a_list(rt: HostRuntime) -> Result<(), Fail> {
     let list = Index::Explicit(vec![in rt.alloc(); 1, 2, 0]?);
     let back = list.inverse(rt.alloc())?;
-    assert_eq!(rt; back.at(0), 2);
-    assert_eq!(rt; back.at(1), 0);
-    assert_eq!(rt; back.at(2), 1);
+    same(&rt, back.at(0), 2);
+    same(&rt, back.at(1), 0);
+    same(&rt, back.at(2), 1);
     Ok(())
 }
 
-// A variable at a stride permutation, and a row and a column of it.
-#[test]
-fn sums(rt: HostRuntime) -> Result<(), Fail> {
-    let alloc = rt.alloc();
+// A variable at a stride permutation.
+fn variable_at_strides(alloc: Global) -> Result<String, Fail> {
     let turn = Index::StridePermutation(2, 3);
     let end = Box::new(alloc, Affine::Constant(0))?;
     let place = Affine::Variable(1, 0, end);
     let sum = simplify(alloc, &turn, &place, &[6])?;
-    let text = format!(in alloc; "{sum}")?;
-    assert_eq!(rt; text.as_str(), "0+(0+v0*1)%3*2+(0+v0*1)/3*1");
+    Ok(format!(in alloc; "{sum}")?)
+}
+
+// A row and a column at a stride permutation.
+fn column_at_strides(alloc: Global) -> Result<String, Fail> {
+    let turn = Index::StridePermutation(2, 3);
     let end = Box::new(alloc, Affine::Constant(0))?;
     let column = Box::new(alloc, Affine::Variable(1, 1, end))?;
     let place = Affine::Variable(3, 0, column);
     let sum = simplify(alloc, &turn, &place, &[2, 3])?;
-    let text = format!(in alloc; "{sum}")?;
-    assert_eq!(rt; text.as_str(), "0+v1*2+v0*1");
+    Ok(format!(in alloc; "{sum}")?)
+}
+
+#[test]
+fn sums(rt: HostRuntime) -> Result<(), Fail> {
+    let variable = variable_at_strides(rt.alloc())?;
+    same(&rt, variable.as_str(), "0+(0+v0*1)%3*2+(0+v0*1)/3*1");
+    let column = column_at_strides(rt.alloc())?;
+    same(&rt, column.as_str(), "0+v1*2+v0*1");
     Ok(())
 }
 
 // By hand, from the definition: the item l of the first list times the item k - l of the second.
 #[test]
-fn convolutions(rt: HostRuntime) -> Result<(), Fail> {
+fn convolution_of_four(rt: HostRuntime) -> Result<(), Fail> {
     let modulus = Modulus::new(17).ok_or("a modulus")?;
     if modulus.get() == 17 {
         let product = conv_plain(rt.alloc(), &modulus, &[1, 2, 0, 0], &[1, 2, 3, 4])?;
-        assert!(rt; product.as_slice() == [9, 4, 7, 10].as_slice());
+        same(&rt, product.as_slice(), [9, 4, 7, 10].as_slice());
+    }
+    Ok(())
+}
+
+#[test]
+fn convolution_of_one(rt: HostRuntime) -> Result<(), Fail> {
+    let modulus = Modulus::new(17).ok_or("a modulus")?;
+    if modulus.get() == 17 {
         let product = conv_plain(rt.alloc(), &modulus, &[16], &[16])?;
-        assert!(rt; product.as_slice() == [1].as_slice());
+        same(&rt, product.as_slice(), [1].as_slice());
     }
     Ok(())
 }

@@ -116,16 +116,21 @@ fn shown(alloc: Global, name: &str, schedule: &Schedule) -> Result<String, Fail>
     Ok(format!(in alloc; "{name} {len} {last}")?)
 }
 
+// The event by its letter and processor.
+fn event_parts(event: Event) -> (&'static str, u64) {
+    match event {
+        Event::Turn(q) => ("t", q),
+        Event::Drain(q) => ("d", q),
+    }
+}
+
 fn mixed(alloc: Global, name: &str, mix: &Mix) -> Result<String, Fail> {
     let len = mix.len();
     if len == 0 {
-        Err("an event")?
+        return Err(Fail::from("an event"));
     }
-    let last = match mix.event_at(len - 1) {
-        Event::Turn(q) => format!(in alloc; "t{q}")?,
-        Event::Drain(q) => format!(in alloc; "d{q}")?,
-    };
-    Ok(format!(in alloc; "{name} mixed {len} {last}")?)
+    let (letter, proc) = event_parts(mix.event_at(len - 1));
+    Ok(format!(in alloc; "{name} mixed {len} {letter}{proc}")?)
 }
 
 fn ordered(alloc: Global, name: &str, order: &Order) -> Result<String, Fail> {
@@ -174,13 +179,16 @@ fn words_of(alloc: Global, line: &str) -> Result<Vec<String>, Fail> {
     Ok(words)
 }
 
-fn answer(alloc: Global, line: &str) -> Result<String, Fail> {
-    let words = words_of(alloc, line)?;
-    match command_of(alloc, &words) {
+fn told_of(alloc: Global, words: &Vec<String>) -> Result<String, Fail> {
+    match command_of(alloc, words) {
         Ok(command) => told(alloc, &command),
         Err(Refusal::Usage) => Ok("usage".to_string(alloc)?),
         Err(Refusal::NoMemory) => Ok("no memory".to_string(alloc)?),
     }
+}
+
+fn answer(alloc: Global, line: &str) -> Result<String, Fail> {
+    told_of(alloc, &words_of(alloc, line)?)
 }
 
 #[test]
