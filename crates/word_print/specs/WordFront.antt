@@ -47,7 +47,22 @@ vector_text =
     ++ codes "INLINE vec add(vec a, vec b) { return a + b; }\n"
     ++ codes "INLINE vec sub(vec a, vec b, word k) { return a + k - b; }\n"
     ++ codes "INLINE vec neg(vec a, word k) { return k - a; }\n"
-    ++ codes "INLINE vec reduced(vec a, word k) { return a - ((vec)(a >= k) & k); }\n"
+
+-- the least of a and a - k in such registers. No word is twice its k or more, so where k is at most half of all words, the top
+-- bit of a - k says which it is
+unfoldable pub vector_reduced_text : List ℕ
+vector_reduced_text =
+    codes "#if defined __has_builtin\n"
+    ++ codes "#if __has_builtin(__builtin_elementwise_min) && (HALF == 65536 || defined __AVX512F__)\n"
+    ++ codes "#define MINIMUM __builtin_elementwise_min\n"
+    ++ codes "#endif\n"
+    ++ codes "#endif\n"
+    ++ codes "#ifdef MINIMUM\n"
+    ++ codes "INLINE vec reduced(vec a, word k) { return MINIMUM(a, a - k); }\n"
+    ++ codes "#else\n"
+    ++ codes "#define TOP_BIT ((word)1 << (8 * sizeof(word) - 1))\n"
+    ++ codes "INLINE vec reduced(vec a, word k) { vec d = a - k; return k > TOP_BIT ? a - ((vec)(a >= k) & k) : d + ((vec)((__typeof__(a < d))d < 0) & k); }\n"
+    ++ codes "#endif\n"
 
 -- the products of such registers
 unfoldable pub vector_product_text : List ℕ
@@ -124,7 +139,7 @@ lanes_text =
 
 -- what operations do, whatever the program
 unfoldable pub functions_text : List ℕ
-functions_text = word_text ++ one_lane_text ++ vector_text ++ vector_product_text ++ exchange_text ++ vector_tile_text ++ lanes_text
+functions_text = word_text ++ one_lane_text ++ vector_text ++ vector_reduced_text ++ vector_product_text ++ exchange_text ++ vector_tile_text ++ lanes_text
 
 abbrev pub rough_text : Bool → List ℕ
 rough_text true = codes "#define ROUGH 1\n"

@@ -2,7 +2,7 @@
 
 ghost use Rattle.std.specs.Prelude.{◌≡◌, ◌++◌, OnOk};
 ghost use Rattle.word_code.specs.Words.{Width};
-ghost use Rattle.word_print.specs.WordFront.{word_text, one_lane_text, vector_text, vector_product_text, exchange_text, vector_tile_text, lanes_text, functions_text, rough_text, numbered_text, sizes_text, arrays_text};
+ghost use Rattle.word_print.specs.WordFront.{word_text, one_lane_text, vector_text, vector_reduced_text, vector_product_text, exchange_text, vector_tile_text, lanes_text, functions_text, rough_text, numbered_text, sizes_text, arrays_text};
 
 use listing_text::put;
 use std::alloc::AllocError;
@@ -85,7 +85,28 @@ INLINE void store(word *p, vec a) { *(unaligned *)p = a; }
 INLINE vec add(vec a, vec b) { return a + b; }
 INLINE vec sub(vec a, vec b, word k) { return a + k - b; }
 INLINE vec neg(vec a, word k) { return k - a; }
-INLINE vec reduced(vec a, word k) { return a - ((vec)(a >= k) & k); }
+",
+    )
+}
+
+// The least of a and a - k in such registers. No word is twice its k or more, so where k is at most half of all words, the top
+// bit of a - k says which it is.
+#[tactic(auto, unfolding(crate::specs::WordFront::vector_reduced_text))]
+fn put_vector_reduced(out: &mut Vec<u8>) -> Result<(), AllocError>
+    ensures { OnOk result (out.new.items ≡ out.old.items ++ vector_reduced_text) }
+{
+    out.extend_from_slice(
+        b"#if defined __has_builtin
+#if __has_builtin(__builtin_elementwise_min) && (HALF == 65536 || defined __AVX512F__)
+#define MINIMUM __builtin_elementwise_min
+#endif
+#endif
+#ifdef MINIMUM
+INLINE vec reduced(vec a, word k) { return MINIMUM(a, a - k); }
+#else
+#define TOP_BIT ((word)1 << (8 * sizeof(word) - 1))
+INLINE vec reduced(vec a, word k) { vec d = a - k; return k > TOP_BIT ? a - ((vec)(a >= k) & k) : d + ((vec)((__typeof__(a < d))d < 0) & k); }
+#endif
 ",
     )
 }
@@ -195,6 +216,7 @@ pub(crate) fn put_functions(out: &mut Vec<u8>) -> Result<(), AllocError>
     put_word_type(out)?;
     put_one_lane(out)?;
     put_vector(out)?;
+    put_vector_reduced(out)?;
     put_vector_product(out)?;
     put_exchange(out)?;
     put_vector_tile(out)?;
