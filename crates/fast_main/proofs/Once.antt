@@ -10,7 +10,8 @@ use Rattle.listing_text.specs.Texts.{is_listing}
 use Rattle.listing_text.proofs.DraftReads.{listing_judges}
 use Rattle.fast_main.specs.declared.status.Status.{Status}
 use Rattle.fast_main.specs.declared.status.Status.TheVariants.{ListingSyntax}
-use Rattle.fast_main.specs.Outcome.{action_limit, status_of_check, IsTranslated, IsRefused, IsAnswer, IsOutcomeOfInput, IsOutcome}
+use Rattle.fast_main.specs.Outcome.{action_limit, IsTranslated, IsRefused, IsAnswer, IsOutcomeOfInput, IsOutcome}
+use Rattle.fast_main.specs.Status.{status_of_check}
 use Rattle.fast_main.specs.Translation.{fast_text}
 
 -- The first lines are a front of the first lines and one more

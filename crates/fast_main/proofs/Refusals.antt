@@ -6,8 +6,8 @@ use Rattle.code_check.specs.Refusals.{IsCause}
 use Rattle.listing_text.specs.declared.listing.ListingFault.{ListingFault}
 use Rattle.listing_text.specs.declared.listing.ListingFault.TheVariants as listings
 use Rattle.listing_text.specs.Texts.{is_listing, TextAnswers}
-use Rattle.fast_main.specs.Outcome.{action_limit, status_of_check, IsRefused, IsDefined}
-use Rattle.fast_main.specs.Status.{status_of_listing}
+use Rattle.fast_main.specs.Outcome.{action_limit, IsRefused, IsDefined}
+use Rattle.fast_main.specs.Status.{status_of_check, status_of_listing}
 
 pub listing_refused : (bytes : List ℕ) (fault : ListingFault) → TextAnswers bytes (Err fault) → IsDefined (status_of_listing fault) → IsRefused bytes (status_of_listing fault)
 listing_refused bytes (listings.Syntax line) lost d = inl record { line = line; lost = lost; says = refl }

@@ -1,6 +1,5 @@
 -- What the bytes of the input account for.
 use Rattle.std.proofs.Common.{◌≡◌, ◌≢◌, ℕ, ◌≤◌, List, [], ◌∷◌, ◌++◌, length, None, Some, Err, inl, inr, refl, sym, ap, subst, ◌∙◌, append-nil, length-append, arith}
-use Rattle.std.specs.Prelude.{IfSome}
 use Rattle.std.specs.declared.option.Option.{Option}
 use Rattle.std.specs.Io.KnownBytes.{Appends, Consumes, IsAtEnd, prepend_known}
 use Rattle.std.proofs.KnownBytes.{Appends-nil}
@@ -15,13 +14,9 @@ use Rattle.listing_text.specs.Texts.{is_listing}
 use Rattle.code_check.specs.Refusals.{PassesCheck}
 use Rattle.fast_main.specs.declared.status.Status.{Status}
 use Rattle.fast_main.specs.declared.status.Status.TheVariants.{Success, WriteFault}
-use Rattle.fast_main.specs.Outcome.{action_limit, listing_limit, IsRefused, IsTranslated, IsDefined, IsInside, IsOutcome, Accounts}
-use Rattle.fast_main.specs.Status.{status_of_rest}
+use Rattle.fast_main.specs.Outcome.{action_limit, IsRefused, IsTranslated, IsDefined, IsInside, IsOutcome, ToldAccounts}
+use Rattle.fast_main.specs.Status.{listing_limit, status_of_rest}
 use Rattle.fast_main.specs.Translation.{fast_text, IsFaithful}
-
--- by what the input tells
-abbrev pub ToldAccounts : List (List ℕ) → Option (List ℕ) → Option (List ℕ) → Option (List ℕ) → Option (List ℕ) → Status → Type 0
-ToldAccounts words told left before after status = IfSome told (λ bytes. Accounts words bytes left before after status)
 
 pub prepend_nothing : (left : Option (List ℕ)) → prepend_known [] left ≡ left
 prepend_nothing None = refl

@@ -1,5 +1,5 @@
 -- What a call answers for its words and the bytes of its input, and what it writes.
-use Rattle.std.specs.Prelude.{◌≡◌, ◌≢◌, ◌⊎◌, ℕ, ◌^◌, ◌<◌, ◌≤◌, List, [], length, Some}
+use Rattle.std.specs.Prelude.{◌≡◌, ◌≢◌, ◌⊎◌, ℕ, ◌<◌, ◌≤◌, List, [], length, Some, IfSome}
 use Rattle.std.specs.declared.option.Option.{Option}
 use Rattle.std.specs.Io.KnownBytes.{Appends, Consumes}
 use Rattle.icode.specs.Plain.{PlainProgram}
@@ -11,23 +11,13 @@ use Rattle.code_check.specs.Refusals.{PassesCheck, IsCause}
 use Rattle.io_edge.specs.Faults.{Rose}
 use Rattle.io_edge.specs.Taken.{AppendsPrefix}
 use Rattle.fast_main.specs.declared.status.Status.{Status}
-use Rattle.fast_main.specs.declared.status.Status.TheVariants.{Success, Usage, ListingSyntax, OverSteps, Address, Register, LineShared, ReadFault, WriteFault, NoMemory, TooLong}
+use Rattle.fast_main.specs.declared.status.Status.TheVariants.{Success, Usage, ListingSyntax, ReadFault, WriteFault, NoMemory, TooLong}
+use Rattle.fast_main.specs.Status.{listing_limit, status_of_check}
 use Rattle.fast_main.specs.Translation.{fast_text, IsFaithful}
-
--- how many bytes a listing has at most
-abbrev pub listing_limit : ℕ
-listing_limit = 2 ^ 26
 
 -- how many actions a program has at most
 abbrev pub action_limit : ℕ
 action_limit = 100000000
-
-abbrev pub status_of_check : CheckFault → Status
-status_of_check (faults.OverSteps limit) = OverSteps limit
-status_of_check (faults.Address phase q i) = Address phase q i
-status_of_check (faults.Register phase q i) = Register phase q i
-status_of_check (faults.LineShared phase line a b) = LineShared phase line a b
-status_of_check faults.NoMemory = NoMemory
 
 -- the bytes are the listing of no program, and lost in a line
 pub record IsUnread (bytes : List ℕ) (status : Status) : Type 0 where
@@ -91,6 +81,10 @@ pub record Accounts (words : List (List ℕ)) (bytes : List ℕ) (left before af
   pub read_fault : status ≡ ReadFault → (length words ≡ 1) × ((read : List ℕ) × Consumes (Some bytes) left read × (length read ≤ listing_limit)) × Appends before after []
   -- a write failed at the text that the bytes call for, of which the output took a front
   pub write_fault : status ≡ WriteFault → (text : List ℕ) × IsOutcome words bytes Success text × AppendsPrefix before after text
+
+-- the same, where the input tells its bytes
+abbrev pub ToldAccounts : List (List ℕ) → Option (List ℕ) → Option (List ℕ) → Option (List ℕ) → Option (List ℕ) → Status → Type 0
+ToldAccounts words told left before after status = IfSome told (λ bytes. Accounts words bytes left before after status)
 
 -- the line went to the note whole, or a prefix of it where the note failed
 abbrev pub Notes : Option (List ℕ) → Option (List ℕ) → ℕ → ℕ → List ℕ → Type 0

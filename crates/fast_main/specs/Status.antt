@@ -1,6 +1,8 @@
 -- What a call answers with: its exit code and its line on the note.
-use Rattle.std.specs.Prelude.{ℕ, List, [], ◌∷◌, codes, decimal, Ok, Err, Result}
+use Rattle.std.specs.Prelude.{ℕ, ◌^◌, List, [], ◌∷◌, codes, decimal, Ok, Err, Result}
 use Rattle.std.specs.List.{concat}
+use Rattle.code_check.specs.declared.CheckFault.{CheckFault}
+use Rattle.code_check.specs.declared.CheckFault.TheVariants as check
 use Rattle.input_rest.specs.declared.RestFault.{RestFault}
 use Rattle.input_rest.specs.declared.RestFault.TheVariants as rest
 use Rattle.listing_text.specs.declared.listing.ListingFault.{ListingFault}
@@ -23,11 +25,9 @@ code_of (OverSteps limit) = 22
 
 -- a text, and which action of which processor in which phase
 abbrev pub action_line : List ℕ → ℕ → ℕ → ℕ → List ℕ
-action_line front phase q i = concat (front ∷ codes " in phase " ∷ decimal phase ∷ codes ", processor " ∷ decimal q ∷ codes ", action " ∷ decimal i ∷ codes "\n" ∷ [])
-
-abbrev pub shared_line : ℕ → ℕ → ℕ → ℕ → List ℕ
-shared_line phase line a b =
-    concat (codes "spiral_fast: phase " ∷ decimal phase ∷ codes " line " ∷ decimal line ∷ codes " is shared by " ∷ decimal a ∷ codes " and " ∷ decimal b ∷ codes "\n" ∷ [])
+action_line front phase q i =
+    concat (front ∷ codes " in phase " ∷ decimal phase ∷ codes ", processor " ∷ decimal q ∷ codes ", action " ∷ decimal i
+    ∷ codes "\n" ∷ [])
 
 abbrev pub note_line : Status → List ℕ
 note_line Success = []
@@ -39,18 +39,30 @@ note_line (TooLong limit) = concat (codes "spiral_fast: more than " ∷ decimal 
 note_line (ListingSyntax line) = concat (codes "spiral_fast: listing syntax at line " ∷ decimal line ∷ codes "\n" ∷ [])
 note_line (Address phase q i) = action_line (codes "spiral_fast: bad place") phase q i
 note_line (Register phase q i) = action_line (codes "spiral_fast: bad register") phase q i
-note_line (LineShared phase line a b) = shared_line phase line a b
+note_line (LineShared phase line a b) =
+    concat (codes "spiral_fast: phase " ∷ decimal phase ∷ codes " line " ∷ decimal line ∷ codes " is shared by " ∷ decimal a ∷ codes " and " ∷ decimal b ∷ codes "\n" ∷ [])
 note_line (OverSteps limit) = concat (codes "spiral_fast: more than " ∷ decimal limit ∷ codes " actions\n" ∷ [])
+
+-- how many bytes a listing has at most
+abbrev pub listing_limit : ℕ
+listing_limit = 2 ^ 26
 
 -- of the bytes of the input
 abbrev pub status_of_rest : RestFault → Status
 status_of_rest rest.ReadFault = ReadFault
-status_of_rest rest.TooLong = TooLong 67108864
+status_of_rest rest.TooLong = TooLong listing_limit
 status_of_rest rest.NoMemory = NoMemory
 
 abbrev pub status_of_listing : ListingFault → Status
 status_of_listing (listing.Syntax line) = ListingSyntax line
 status_of_listing listing.NoMemory = NoMemory
+
+abbrev pub status_of_check : CheckFault → Status
+status_of_check (check.OverSteps limit) = OverSteps limit
+status_of_check (check.Address phase q i) = Address phase q i
+status_of_check (check.Register phase q i) = Register phase q i
+status_of_check (check.LineShared phase line a b) = LineShared phase line a b
+status_of_check check.NoMemory = NoMemory
 
 -- the status that a call ends with
 abbrev pub status_of : Result (Unit {0}) Status → Status

@@ -13,6 +13,8 @@ pub use status::Status;
 
 /// The words and the bytes of a call determine its status and its text.
 pub fn calls_have_one_outcome()
-    ensures status { (words : List (List ℕ)) (bytes : List ℕ) (a b : SpecStatus) (s t : List ℕ) → IsOutcome words bytes a s → IsOutcome words bytes b t → a ≡ b }
-    ensures text { (words : List (List ℕ)) (bytes : List ℕ) (a b : SpecStatus) (s t : List ℕ) → IsOutcome words bytes a s → IsOutcome words bytes b t → s ≡ t }
+    ensures status { (words : List (List ℕ)) (bytes : List ℕ) (a b : SpecStatus) (s t : List ℕ)
+        → IsOutcome words bytes a s → IsOutcome words bytes b t → a ≡ b }
+    ensures text { (words : List (List ℕ)) (bytes : List ℕ) (a b : SpecStatus) (s t : List ℕ)
+        → IsOutcome words bytes a s → IsOutcome words bytes b t → s ≡ t }
 {}

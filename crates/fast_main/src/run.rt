@@ -1,5 +1,5 @@
 // The top call.
-ghost use Rattle.std.specs.Prelude.{◌≡◌, ◌≢◌, ◌↔◌, ℕ, List, [], length, map, string_bytes, vec_len, IsTrue, IfOk, IfErr, IfSome};
+ghost use Rattle.std.specs.Prelude.{◌≡◌, ◌≢◌, ◌↔◌, ℕ, List, [], length, map, string_bytes, vec_len, IsTrue, IfOk, IfErr};
 ghost use Rattle.std.specs.declared.option.Option.{Option};
 ghost use Rattle.std.specs.Io.KnownBytes.{Appends, IsAtEnd};
 ghost use Rattle.icode.specs.Machine.{IsApart};
@@ -7,7 +7,7 @@ ghost use Rattle.icode.specs.Program.{plain_program, code_of, Fits};
 ghost use Rattle.io_edge.specs.Faults.{Reports};
 ghost use Rattle.word_code.specs.Choice.{fast_words};
 ghost use Rattle.word_code.specs.View.{plain_word_program};
-ghost use Rattle.fast_main.specs.Outcome.{IsRefused, IsTranslated, IsInside, IsDefined, Accounts, Notes};
+ghost use Rattle.fast_main.specs.Outcome.{IsRefused, IsTranslated, IsInside, IsDefined, ToldAccounts, Notes};
 ghost use Rattle.fast_main.specs.Status.{note_line, status_of};
 ghost use Rattle.fast_main.specs.Translation.{fast_text, IsFaithful};
 
@@ -28,7 +28,9 @@ pub const LISTING_LIMIT: u64 = 1 << 26;
 // The C text of a program.
 fn fast_text_of(alloc: Global, program: &Program) -> Result<Vec<u8>, NoMemory>
     ensures text { IfOk result (λ text. text.items ≡ fast_text (plain_program program.now)) }
-    ensures faithful { IfOk result (λ text. Fits program.now → ((phase : ℕ) → IsApart (code_of program.now) phase) → IsFaithful (plain_program program.now)) }
+    ensures faithful { IfOk result (λ text. Fits program.now
+        → ((phase : ℕ) → IsApart (code_of program.now) phase)
+        → IsFaithful (plain_program program.now)) }
 {
     let words = make_fast(alloc, program)?;
     let text = print_words(alloc, &words)?;
@@ -61,11 +63,15 @@ fn work<I: Source, O: Sink>(
     input: &mut I,
     output: &mut O,
 ) -> Result<(), Status>
-    ensures told { IfSome (I.left input.old) (λ bytes. Accounts (map string_bytes words.now.items) bytes (I.left input.new) (O.taken output.old) (O.taken output.new) (status_of result)) }
+    ensures told { ToldAccounts (map string_bytes words.now.items) (I.left input.old)
+        (I.left input.new) (O.taken output.old) (O.taken output.new) (status_of result) }
     ensures end { status_of result ≡ Status.Success → IsAtEnd (I.left input.new) }
-    ensures read { Reports (I.faults input.old) (I.faults input.new) (status_of result ≡ Status.ReadFault) }
-    ensures write { Reports (O.faults output.old) (O.faults output.new) (status_of result ≡ Status.WriteFault) }
-    ensures nothing { status_of result ≢ Status.Success → status_of result ≢ Status.WriteFault → Appends (O.taken output.old) (O.taken output.new) [] }
+    ensures read { Reports (I.faults input.old) (I.faults input.new)
+        (status_of result ≡ Status.ReadFault) }
+    ensures write { Reports (O.faults output.old) (O.faults output.new)
+        (status_of result ≡ Status.WriteFault) }
+    ensures nothing { status_of result ≢ Status.Success → status_of result ≢ Status.WriteFault
+        → Appends (O.taken output.old) (O.taken output.new) [] }
 {
     if !are_alone(words) {
         return Err(Status::Usage);
@@ -98,18 +104,23 @@ pub fn fast_run<I: Source, O: Sink, E: Sink>(
     output: &mut O,
     note: &mut E,
 ) -> Status
-    // Where the input tells its bytes, they and the words account for the status and for what the output took.
-    ensures told { IfSome (I.left input.old) (λ bytes. Accounts (map string_bytes words.now.items) bytes (I.left input.new) (O.taken output.old) (O.taken output.new) result) }
+    // Where the input tells its bytes, they and the words account for the status and for what the
+    // output took.
+    ensures told { ToldAccounts (map string_bytes words.now.items) (I.left input.old)
+        (I.left input.new) (O.taken output.old) (O.taken output.new) result }
     // A call that succeeds has read its input to its end.
     ensures end { result ≡ Status.Success → IsAtEnd (I.left input.new) }
 
     // A fault has its cause and is not swallowed, also where nothing is told.
     ensures read { Reports (I.faults input.old) (I.faults input.new) (result ≡ Status.ReadFault) }
-    ensures write { Reports (O.faults output.old) (O.faults output.new) (result ≡ Status.WriteFault) }
+    ensures write { Reports (O.faults output.old) (O.faults output.new)
+        (result ≡ Status.WriteFault) }
 
     // Nothing is written on a refusal.
-    ensures nothing { result ≢ Status.Success → result ≢ Status.WriteFault → Appends (O.taken output.old) (O.taken output.new) [] }
-    ensures note { Notes (E.taken note.old) (E.taken note.new) (E.faults note.old) (E.faults note.new) (note_line result) }
+    ensures nothing { result ≢ Status.Success → result ≢ Status.WriteFault
+        → Appends (O.taken output.old) (O.taken output.new) [] }
+    ensures note { Notes (E.taken note.old) (E.taken note.new) (E.faults note.old)
+        (E.faults note.new) (note_line result) }
 {
     let status = ending(work(alloc, words, input, output));
     let _ = write_note(note, status);

@@ -3,7 +3,7 @@ ghost use Rattle.std.specs.Prelude.{◌≡◌, ◌∷◌, [], decimal};
 ghost use Rattle.std.specs.List.{concat};
 ghost use Rattle.io_edge.specs.Faults.{HasCause};
 ghost use Rattle.io_edge.specs.Taken.{WritesAll};
-ghost use Rattle.fast_main.specs.Status.{code_of, action_line, shared_line, note_line};
+ghost use Rattle.fast_main.specs.Status.{code_of, action_line, note_line};
 
 use crate::run::LISTING_LIMIT;
 use code_check::CheckFault;
@@ -111,7 +111,7 @@ impl From<ListingFault> for Status {
 
 impl From<CheckFault> for Status {
     ghost use Rattle.std.specs.Prelude.{◌≡◌};
-    ghost use Rattle.fast_main.specs.Outcome.{status_of_check};
+    ghost use Rattle.fast_main.specs.Status.{status_of_check};
 
     ghost from_gives = { λ fault status. status ≡ status_of_check fault };
 
@@ -169,12 +169,6 @@ impl From<NoMemory> for Status {
     }
 }
 
-fn digits(buffer: &mut Buffer, number: u64) -> &[u8]
-    ensures { result.now ≡ decimal number }
-{
-    buffer.format(number).as_bytes()
-}
-
 // Writes a number between two texts.
 fn note_number<E: Sink>(
     note: &mut E,
@@ -182,11 +176,12 @@ fn note_number<E: Sink>(
     number: u64,
     end: &[u8],
 ) -> Result<(), WriteFault>
-    ensures bytes { WritesAll (E.taken note.old) (E.taken note.new) result (concat (front.now ∷ decimal number ∷ end.now ∷ [])) }
+    ensures bytes { WritesAll (E.taken note.old) (E.taken note.new) result
+        (concat (front.now ∷ decimal number ∷ end.now ∷ [])) }
     ensures cause { HasCause (E.faults note.old) (E.faults note.new) result }
 {
-    let mut numbers = Buffer::new();
-    write_parts(note, &[front, digits(&mut numbers, number), end])
+    let mut buffer = Buffer::new();
+    write_parts(note, &[front, buffer.format(number).as_bytes(), end])
 }
 
 // Writes which action of a processor is bad.
@@ -197,25 +192,23 @@ fn note_action<E: Sink>(
     proc: u64,
     action: u64,
 ) -> Result<(), WriteFault>
-    ensures bytes { WritesAll (E.taken note.old) (E.taken note.new) result (action_line front.now phase proc action) }
+    ensures bytes { WritesAll (E.taken note.old) (E.taken note.new) result
+        (action_line front.now phase proc action) }
     ensures cause { HasCause (E.faults note.old) (E.faults note.new) result }
 {
     let mut phases = Buffer::new();
     let mut procs = Buffer::new();
     let mut actions = Buffer::new();
-    let phase = digits(&mut phases, phase);
-    let proc = digits(&mut procs, proc);
-    let action = digits(&mut actions, action);
     write_parts(
         note,
         &[
             front,
             b" in phase ",
-            phase,
+            phases.format(phase).as_bytes(),
             b", processor ",
-            proc,
+            procs.format(proc).as_bytes(),
             b", action ",
-            action,
+            actions.format(action).as_bytes(),
             b"\n",
         ],
     )
@@ -229,28 +222,25 @@ fn note_shared<E: Sink>(
     a: u64,
     b: u64,
 ) -> Result<(), WriteFault>
-    ensures bytes { WritesAll (E.taken note.old) (E.taken note.new) result (shared_line phase line a b) }
+    ensures bytes { WritesAll (E.taken note.old) (E.taken note.new) result
+        (note_line (Status.LineShared phase line a b)) }
     ensures cause { HasCause (E.faults note.old) (E.faults note.new) result }
 {
     let mut phases = Buffer::new();
     let mut lines = Buffer::new();
-    let mut writers = Buffer::new();
-    let mut others = Buffer::new();
-    let phase = digits(&mut phases, phase);
-    let line = digits(&mut lines, line);
-    let writer = digits(&mut writers, a);
-    let other = digits(&mut others, b);
+    let mut first = Buffer::new();
+    let mut second = Buffer::new();
     write_parts(
         note,
         &[
             b"spiral_fast: phase ",
-            phase,
+            phases.format(phase).as_bytes(),
             b" line ",
-            line,
+            lines.format(line).as_bytes(),
             b" is shared by ",
-            writer,
+            first.format(a).as_bytes(),
             b" and ",
-            other,
+            second.format(b).as_bytes(),
             b"\n",
         ],
     )

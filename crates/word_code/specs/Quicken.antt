@@ -3,6 +3,7 @@
 use Rattle.std.specs.Prelude.{ℕ, zero, suc, ◌+◌, ◌-◌, ◌*◌, ◌/◌, List, [], ◌∷◌, map, max, replicate, min, nat_le, if◌then◌else◌, slice_index_or, slice_set}
 use Rattle.icode.specs.declared.program.Array.{Array}
 use Rattle.icode.specs.declared.program.Array.TheVariants.{X, Y, A, B}
+use Rattle.icode.specs.Headers.{without_statements}
 use Rattle.icode.specs.Machine.{with_words}
 use Rattle.icode.specs.Plain.{PlainOp, PlainStmt, PlainBody, PlainProgram, Load, Store, Zero, Add, Sub, Neg, MulConst, MulTable, Tile}
 use Rattle.icode.specs.Plain as plain
@@ -132,6 +133,10 @@ abbrev mutual
   quick_body z h (plain.AndStmts stmt rest) bounds =
       let one = quick_stmt z h stmt bounds in quick_and one.stmt (quick_body z h rest one.bounds)
 
+-- the statements of a phase on words
+abbrev pub quick_phase : Laziness → Header → PlainBody → WordBody
+quick_phase z h body = (quick_body z h body (loosest z h)).body
+
 abbrev pub quotients_of : Laziness → ℕ → List (List ℕ) → List (List ℕ)
 quotients_of z m tables = map (λ entries. map (quotient_of (base_of z.width) m) entries) tables
 
@@ -143,16 +148,7 @@ abbrev pub quickened : Laziness → PlainProgram → PlainWordProgram
 quickened z p =
     record {
       width = z.width;
-      frame = record {
-        size = p.size;
-        modulus = p.modulus;
-        procs = p.procs;
-        line = p.line;
-        lanes = p.lanes;
-        regs = p.regs;
-        tables = p.tables;
-        phases = [];
-      };
+      frame = without_statements p;
       quotients = quotients_of z p.modulus p.tables;
-      phases = map (λ body. (quick_body z (header_of p) body (loosest z (header_of p))).body) p.phases;
+      phases = map (quick_phase z (header_of p)) p.phases;
     }

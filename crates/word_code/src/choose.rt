@@ -69,7 +69,8 @@ pub fn slack_for(modulus: u64, lanes: u64) -> Slack
 /// program leaves, for every vector of residues and every order of turns; where no processor touches a line that
 /// another writes, that order is free.
 pub fn make_fast(alloc: Global, program: &Program) -> Result<WordProgram, NoMemory>
-    ensures made { IfOk result (λ words. plain_word_program words ≡ fast_words (plain_program program.now)) }
+    ensures made { IfOk result
+        (λ words. plain_word_program words ≡ fast_words (plain_program program.now)) }
     ensures same { IfOk result (λ words. LeavesTheSame words program.now) }
     ensures order { IfOk result (λ words. OrderIsFreeOf words program.now) }
 {

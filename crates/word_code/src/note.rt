@@ -74,8 +74,10 @@ fn reductions(
     requires room { limit * modulus < 2 ^ 64 }
     requires small { limit < 2 ^ 32 }
     requires sane { (r : ℕ) → bound_at limit bounds.old r ≤ limit }
-    ensures reductions { IfOk result (λ rs. rs.items ≡ (settled modulus limit (2 * limit) left right target bounds.old).reductions) }
-    ensures after { OnOk result (bounds.new ≡ (settled modulus limit (2 * limit) left right target bounds.old).bounds) }
+    ensures reductions { IfOk result (λ rs. rs.items
+        ≡ (settled modulus limit (2 * limit) left right target bounds.old).reductions) }
+    ensures after { OnOk result (bounds.new
+        ≡ (settled modulus limit (2 * limit) left right target bounds.old).bounds) }
     ensures sane { OnOk result ((r : ℕ) → bound_at limit bounds.new r ≤ limit) }
 {
     let mut before = Vec::new(alloc);
@@ -106,7 +108,8 @@ fn no_note(alloc: Global) -> Note
 fn sum_of(limit: u64, bounds: &[u64], left: u64, right: u64) -> u64
     requires small { limit < 2 ^ 32 }
     requires sane { (r : ℕ) → bound_at limit bounds.now r ≤ limit }
-    ensures { result ≡ min limit (bound_at limit bounds.now left + bound_at limit bounds.now right) }
+    ensures { result
+        ≡ min limit (bound_at limit bounds.now left + bound_at limit bounds.now right) }
 {
     limit.min(bound_of(limit, bounds, left) + bound_of(limit, bounds, right))
 }
@@ -129,8 +132,10 @@ pub(crate) fn note_of(
     requires keep { slack.keep ≤ slack.limit }
     requires lanes { lanes ≤ 16 }
     requires sane { (r : ℕ) → bound_at slack.limit bounds.old r ≤ slack.limit }
-    ensures note { IfOk result (λ n. plain_note n ≡ (noted (lazy_of slack) modulus lanes (plain_op op.now) bounds.old).note) }
-    ensures after { OnOk result (bounds.new ≡ (noted (lazy_of slack) modulus lanes (plain_op op.now) bounds.old).bounds) }
+    ensures note { IfOk result (λ n. plain_note n
+        ≡ (noted (lazy_of slack) modulus lanes (plain_op op.now) bounds.old).note) }
+    ensures after { OnOk result (bounds.new
+        ≡ (noted (lazy_of slack) modulus lanes (plain_op op.now) bounds.old).bounds) }
 {
     let limit = slack.limit;
     match op {

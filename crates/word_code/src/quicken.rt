@@ -1,18 +1,15 @@
 // From programs on residues to programs on words.
 
-ghost use Rattle.std.specs.Prelude.{◌≡◌, ℕ, ◌+◌, ◌*◌, ◌^◌, ◌<◌, ◌≤◌, List, length, map, replicate, All, IfOk, OnOk, IsTrue};
+ghost use Rattle.std.specs.Prelude.{◌≡◌, ℕ, ◌+◌, ◌*◌, ◌^◌, ◌<◌, ◌≤◌, length, map, replicate, All, IfOk, OnOk, IsTrue};
 ghost use Rattle.icode.specs.Limits.{is_stmt_within, is_body_within, are_tables_within, are_phases_within};
-ghost use Rattle.icode.specs.Machine.{results};
 ghost use Rattle.icode.specs.Plain.{plain_stmt, plain_body, plain_tables, plain_phases};
-ghost use Rattle.icode.specs.Program.{plain_program, code_of, Fits};
+ghost use Rattle.icode.specs.Program.{plain_program};
 ghost use Rattle.word_code.specs.Words.{quotient_of, product_bound};
 ghost use Rattle.word_code.specs.Laws.{IsLazyWithin};
 ghost use Rattle.word_code.specs.Same.{LeavesTheSame, OrderIsFreeOf};
-ghost use Rattle.word_code.specs.Quicken.{Header, bound_at, loosest, quick_stmt, quick_body, quotients_of, quickened};
-ghost use Rattle.word_code.specs.Setting.{header_in};
+ghost use Rattle.word_code.specs.Quicken.{bound_at, quotients_of, quickened};
+ghost use Rattle.word_code.specs.Setting.{quick_stmt_in, quick_phase_in};
 ghost use Rattle.word_code.specs.View.{lazy_of, plain_word_stmt, plain_word_body, plain_word_phases, plain_word_program};
-ghost use Rattle.word_code.specs.WordMachine.{word_results};
-ghost use Rattle.word_code.specs.WordProgram.{word_code};
 
 use crate::copies::{copy_op, copy_tables};
 use crate::note::{note_of, quotient};
@@ -56,8 +53,10 @@ fn quicken_stmt(
     requires regs { length bounds.old ≡ setting.regs }
     requires depth { depth ≤ 64 }
     requires sane { (r : ℕ) → bound_at setting.slack.limit bounds.old r ≤ setting.slack.limit }
-    ensures stmt { IfOk result (λ s. plain_word_stmt s ≡ (quick_stmt (lazy_of setting.slack) (header_in setting) (plain_stmt stmt.now) bounds.old).stmt) }
-    ensures after { OnOk result (bounds.new ≡ (quick_stmt (lazy_of setting.slack) (header_in setting) (plain_stmt stmt.now) bounds.old).bounds) }
+    ensures stmt { IfOk result
+        (λ s. plain_word_stmt s ≡ (quick_stmt_in setting stmt.now bounds.old).stmt) }
+    ensures after { OnOk result
+        (bounds.new ≡ (quick_stmt_in setting stmt.now bounds.old).bounds) }
 {
     match stmt {
         Stmt::Loop { count, body } => {
@@ -99,7 +98,8 @@ fn quicken_phase(alloc: Global, setting: Setting, body: &[Stmt]) -> Result<Vec<W
     requires keep { setting.slack.keep ≤ setting.slack.limit }
     requires product { product_bound (lazy_of setting.slack).width ≤ setting.slack.limit }
     requires lanes { setting.lanes ≤ 16 }
-    ensures { IfOk result (λ made. plain_word_body made.items ≡ (quick_body (lazy_of setting.slack) (header_in setting) (plain_body body.now) (loosest (lazy_of setting.slack) (header_in setting))).body) }
+    ensures { IfOk result
+        (λ made. plain_word_body made.items ≡ quick_phase_in setting (plain_body body.now)) }
 {
     let mut bounds = vec![in alloc; setting.slack.limit; setting.regs as usize]?;
     let bounds = bounds.as_mut_slice();
@@ -114,7 +114,8 @@ fn quicken_phase(alloc: Global, setting: Setting, body: &[Stmt]) -> Result<Vec<W
 fn quotients(alloc: Global, half: u64, modulus: u64, entries: &[u64]) -> Result<Vec<u64>, NoMemory>
     requires half { half ≤ 2 ^ 32 }
     requires below { All (λ c. c < modulus) entries.now }
-    ensures { IfOk result (λ made. made.items ≡ map (quotient_of (half * half) modulus) entries.now) }
+    ensures { IfOk result
+        (λ made. made.items ≡ map (quotient_of (half * half) modulus) entries.now) }
 {
     let mut made = Vec::new(alloc);
     for entry in entries {
@@ -131,7 +132,8 @@ fn quotient_tables(
 ) -> Result<Vec<Vec<u64>>, NoMemory>
     requires half { slack.half ≤ 2 ^ 32 }
     requires below { IsTrue (are_tables_within modulus (plain_tables tables.now)) }
-    ensures { IfOk result (λ made. plain_tables made.items ≡ quotients_of (lazy_of slack) modulus (plain_tables tables.now)) }
+    ensures { IfOk result (λ made. plain_tables made.items
+        ≡ quotients_of (lazy_of slack) modulus (plain_tables tables.now)) }
 {
     let mut made = Vec::new(alloc);
     for entries in tables {
@@ -154,7 +156,8 @@ fn quicken_phases(
     requires keep { setting.slack.keep ≤ setting.slack.limit }
     requires product { product_bound (lazy_of setting.slack).width ≤ setting.slack.limit }
     requires lanes { setting.lanes ≤ 16 }
-    ensures { IfOk result (λ made. plain_word_phases made.items ≡ map (λ body. (quick_body (lazy_of setting.slack) (header_in setting) body (loosest (lazy_of setting.slack) (header_in setting))).body) (plain_phases phases.now)) }
+    ensures { IfOk result (λ made. plain_word_phases made.items
+        ≡ map (quick_phase_in setting) (plain_phases phases.now)) }
 {
     let mut made = Vec::new(alloc);
     for body in phases {
@@ -168,7 +171,8 @@ fn words_of(alloc: Global, slack: Slack, program: &Program) -> Result<WordProgra
     requires lazy { IsLazyWithin (lazy_of slack) program.now.modulus }
     requires small { slack.limit < 2 ^ 32 }
     requires half { slack.half ≤ 2 ^ 32 }
-    ensures { IfOk result (λ words. plain_word_program words ≡ quickened (lazy_of slack) (plain_program program.now)) }
+    ensures { IfOk result (λ words. plain_word_program words
+        ≡ quickened (lazy_of slack) (plain_program program.now)) }
 {
     let setting = Setting {
         slack,
@@ -201,7 +205,8 @@ pub fn quicken(alloc: Global, slack: Slack, program: &Program) -> Result<WordPro
     requires lazy { IsLazyWithin (lazy_of slack) program.now.modulus }
     requires small { slack.limit < 2 ^ 32 }
     requires half { slack.half ≤ 2 ^ 32 }
-    ensures made { IfOk result (λ words. plain_word_program words ≡ quickened (lazy_of slack) (plain_program program.now)) }
+    ensures made { IfOk result (λ words. plain_word_program words
+        ≡ quickened (lazy_of slack) (plain_program program.now)) }
     ensures same { IfOk result (λ words. LeavesTheSame words program.now) }
     ensures order { IfOk result (λ words. OrderIsFreeOf words program.now) }
 {

@@ -49,8 +49,10 @@ pub(crate) fn settle(
     requires room { limit * modulus < 2 ^ 64 }
     requires small { limit < 2 ^ 32 }
     requires sane { (r : ℕ) → bound_at limit bounds.old r ≤ limit }
-    ensures reductions { OnOk result (before.new.items ≡ before.old.items ++ (settled modulus limit times left right target bounds.old).reductions) }
-    ensures after { OnOk result (bounds.new ≡ (settled modulus limit times left right target bounds.old).bounds) }
+    ensures reductions { OnOk result (before.new.items ≡ before.old.items
+        ++ (settled modulus limit times left right target bounds.old).reductions) }
+    ensures after { OnOk result (bounds.new
+        ≡ (settled modulus limit times left right target bounds.old).bounds) }
 {
     if times == 0 {
         return Ok(());

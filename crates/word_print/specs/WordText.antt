@@ -1,6 +1,7 @@
 -- The C text of a program on words. Its functions and vectors are those of the first lines, its registers variables, which
 -- are 0 where a phase begins. It is meant for words of 32 bits, and for those of 64 bits.
 use Rattle.std.specs.Prelude.{ℕ, zero, suc, ◌+◌, ◌==◌, List, [], ◌∷◌, ◌++◌, codes, decimal, flat_map, if◌then◌else◌}
+use Rattle.icode.specs.declared.program.Array.{Array}
 use Rattle.icode.specs.Machine.{whole_lines}
 use Rattle.icode.specs.Plain.{PlainExpr, PlainOp, Load, Store, Zero, Add, Sub, Neg, MulConst, MulTable, Tile}
 use Rattle.listing_text.specs.Listing.{sum_text, array_text, header_text}
@@ -18,11 +19,58 @@ becomes_text register = register_text register ++ codes " = "
 unfoldable pub reduction_text : Reduction → List ℕ
 reduction_text r = becomes_text r.register ++ codes "reduced(" ++ register_text r.register ++ numbered_text (codes ", ") r.amount (codes "ULL);\n")
 
--- the entries of a table, or of its quotients: one for all lanes, or those from the place on
+-- it becomes what a function makes of another one, and of what stands behind that
+abbrev pub call_text : ℕ → List ℕ → ℕ → List ℕ
+call_text register function source = becomes_text register ++ function ++ register_text source
+
+abbrev pub load_text : ℕ → Array → PlainExpr → List ℕ
+load_text register array place =
+    becomes_text register ++ codes "load(" ++ array_text array ++ codes " + " ++ sum_text place
+    ++ codes ");\n"
+
+abbrev pub store_text : Array → PlainExpr → ℕ → List ℕ
+store_text array place register =
+    codes "store(" ++ array_text array ++ codes " + " ++ sum_text place ++ codes ", "
+    ++ register_text register ++ codes ");\n"
+
+abbrev pub addition_text : ℕ → ℕ → ℕ → List ℕ
+addition_text register left right =
+    call_text register (codes "add(") left ++ codes ", " ++ register_text right ++ codes ");\n"
+
+abbrev pub subtraction_text : ℕ → ℕ → ℕ → ℕ → List ℕ
+subtraction_text register left right bias =
+    call_text register (codes "sub(") left ++ codes ", " ++ register_text right
+    ++ numbered_text (codes ", ") bias (codes "ULL);\n")
+
+abbrev pub negation_text : ℕ → ℕ → ℕ → List ℕ
+negation_text register source bias =
+    call_text register (codes "neg(") source ++ numbered_text (codes ", ") bias (codes "ULL);\n")
+
+-- a product by the same factor on all lanes
+abbrev pub const_product_text : ℕ → ℕ → ℕ → ℕ → List ℕ
+const_product_text register source factor quotient =
+    call_text register (codes "mul(") source ++ numbered_text (codes ", splat(") factor (codes "ULL)")
+    ++ numbered_text (codes ", splat(") quotient (codes "ULL));\n")
+
+-- one entry of a table, or of its quotients, for all lanes
+abbrev pub entry_text : List ℕ → ℕ → PlainExpr → List ℕ
+entry_text name table place =
+    codes "splat(" ++ name ++ decimal table ++ codes "[" ++ sum_text place ++ codes "])"
+
+-- one for each lane, from the place on
+abbrev pub row_text : List ℕ → ℕ → PlainExpr → List ℕ
+row_text name table place =
+    codes "load(" ++ name ++ decimal table ++ codes " + " ++ sum_text place ++ codes ")"
+
 abbrev pub entries_text : List ℕ → ℕ → PlainExpr → ℕ → List ℕ
 entries_text name table place step =
-    if step == 0 then codes "splat(" ++ name ++ decimal table ++ codes "[" ++ sum_text place ++ codes "])"
-    else codes "load(" ++ name ++ decimal table ++ codes " + " ++ sum_text place ++ codes ")"
+    if step == 0 then entry_text name table place else row_text name table place
+
+-- a product by the entries of a table
+abbrev pub table_product_text : ℕ → ℕ → ℕ → PlainExpr → ℕ → List ℕ
+table_product_text register source table place step =
+    call_text register (codes "mul(") source ++ codes ", " ++ entries_text (codes "t") table place step
+    ++ codes ", " ++ entries_text (codes "u") table place step ++ codes ");\n"
 
 -- so many registers from this one on
 abbrev pub sources_text : ℕ → ℕ → List ℕ
@@ -40,20 +88,16 @@ tile_text lanes register source =
 
 -- an operation, for so many lanes
 unfoldable pub word_op_text : ℕ → Note → PlainOp → List ℕ
-word_op_text lanes note (Load register array place) = becomes_text register ++ codes "load(" ++ array_text array ++ codes " + " ++ sum_text place ++ codes ");\n"
-word_op_text lanes note (Store array place register) =
-    codes "store(" ++ array_text array ++ codes " + " ++ sum_text place ++ codes ", " ++ register_text register ++ codes ");\n"
+word_op_text lanes note (Load register array place) = load_text register array place
+word_op_text lanes note (Store array place register) = store_text array place register
 word_op_text lanes note (Zero register) = becomes_text register ++ codes "splat(0);\n"
-word_op_text lanes note (Add register left right) = becomes_text register ++ codes "add(" ++ register_text left ++ codes ", " ++ register_text right ++ codes ");\n"
-word_op_text lanes note (Sub register left right) =
-    becomes_text register ++ codes "sub(" ++ register_text left ++ codes ", " ++ register_text right ++ numbered_text (codes ", ") note.bias (codes "ULL);\n")
-word_op_text lanes note (Neg register source) = becomes_text register ++ codes "neg(" ++ register_text source ++ numbered_text (codes ", ") note.bias (codes "ULL);\n")
+word_op_text lanes note (Add register left right) = addition_text register left right
+word_op_text lanes note (Sub register left right) = subtraction_text register left right note.bias
+word_op_text lanes note (Neg register source) = negation_text register source note.bias
 word_op_text lanes note (MulConst register source factor) =
-    becomes_text register ++ codes "mul(" ++ register_text source ++ numbered_text (codes ", splat(") factor (codes "ULL)")
-    ++ numbered_text (codes ", splat(") note.quotient (codes "ULL));\n")
+    const_product_text register source factor note.quotient
 word_op_text lanes note (MulTable register source table place step) =
-    becomes_text register ++ codes "mul(" ++ register_text source ++ codes ", " ++ entries_text (codes "t") table place step ++ codes ", "
-    ++ entries_text (codes "u") table place step ++ codes ");\n"
+    table_product_text register source table place step
 word_op_text lanes note (Tile register source) = tile_text lanes register source
 
 -- the loop inside so many others begins

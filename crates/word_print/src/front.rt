@@ -19,7 +19,8 @@ pub(crate) fn put_numbered(
     number: u64,
     after: &[u8],
 ) -> Result<(), AllocError>
-    ensures { OnOk result (out.new.items ≡ out.old.items ++ numbered_text before.now number after.now) }
+    ensures { OnOk result (out.new.items ≡ out.old.items
+        ++ numbered_text before.now number after.now) }
 {
     put(out, before, number)?;
     out.extend_from_slice(after)
@@ -241,7 +242,8 @@ pub(crate) fn put_sizes(
     modulus: u64,
     lanes: u64,
 ) -> Result<(), AllocError>
-    ensures { OnOk result (out.new.items ≡ out.old.items ++ sizes_text (record { half = half; rough = rough }) modulus lanes) }
+    ensures { OnOk result (out.new.items ≡ out.old.items
+        ++ sizes_text (record { half = half; rough = rough }) modulus lanes) }
 {
     put_word(out, b"#include <stdint.h>\n")?;
     put_numbered(out, b"#define M ", modulus, b"ULL\n")?;

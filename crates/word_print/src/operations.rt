@@ -1,11 +1,9 @@
 // Operations of a C text on words.
 
-ghost use Rattle.std.specs.Prelude.{◌≡◌, ◌++◌, ◌+◌, ◌^◌, ◌<◌, ◌≤◌, IsTrue, OnOk, codes, decimal, flat_map};
-ghost use Rattle.icode.specs.Plain.{Load, Store, Sub, Neg, Add, Zero, MulConst, MulTable, Tile, plain_expr, plain_op};
-ghost use Rattle.listing_text.specs.Listing.{array_text, sum_text};
+ghost use Rattle.std.specs.Prelude.{◌≡◌, ◌++◌, ◌+◌, ◌^◌, ◌<◌, ◌≤◌, IsTrue, OnOk, codes, flat_map};
+ghost use Rattle.icode.specs.Plain.{plain_expr, plain_op};
 ghost use Rattle.word_code.specs.View.{plain_note};
-ghost use Rattle.word_print.specs.WordFront.{numbered_text};
-ghost use Rattle.word_print.specs.WordText.{register_text, becomes_text, reduction_text, entries_text, sources_text, targets_text, tile_text, word_op_text};
+ghost use Rattle.word_print.specs.WordText.{becomes_text, reduction_text, call_text, load_text, store_text, addition_text, subtraction_text, negation_text, const_product_text, entry_text, row_text, entries_text, table_product_text, sources_text, targets_text, tile_text, word_op_text};
 ghost use Rattle.word_print.specs.WordNests.{is_tile_small};
 
 use crate::front::{put_numbered, put_word};
@@ -47,7 +45,8 @@ fn put_call(
     function: &[u8],
     source: u64,
 ) -> Result<(), AllocError>
-    ensures { OnOk result (out.new.items ≡ out.old.items ++ (becomes_text register ++ function.now ++ register_text source)) }
+    ensures { OnOk result (out.new.items ≡ out.old.items
+        ++ call_text register function.now source) }
 {
     put_becomes(out, register)?;
     put_word(out, function)?;
@@ -55,7 +54,8 @@ fn put_call(
 }
 
 fn put_load(out: &mut Vec<u8>, register: u64, array: Array, place: &Expr) -> Result<(), AllocError>
-    ensures { OnOk result (out.new.items ≡ out.old.items ++ (becomes_text register ++ codes "load(" ++ array_text array ++ codes " + " ++ sum_text (plain_expr place.now) ++ codes ");\n")) }
+    ensures { OnOk result (out.new.items ≡ out.old.items
+        ++ load_text register array (plain_expr place.now)) }
 {
     put_becomes(out, register)?;
     put_word(out, b"load(")?;
@@ -66,7 +66,8 @@ fn put_load(out: &mut Vec<u8>, register: u64, array: Array, place: &Expr) -> Res
 }
 
 fn put_store(out: &mut Vec<u8>, array: Array, place: &Expr, register: u64) -> Result<(), AllocError>
-    ensures { OnOk result (out.new.items ≡ out.old.items ++ (codes "store(" ++ array_text array ++ codes " + " ++ sum_text (plain_expr place.now) ++ codes ", " ++ register_text register ++ codes ");\n")) }
+    ensures { OnOk result (out.new.items ≡ out.old.items
+        ++ store_text array (plain_expr place.now) register) }
 {
     put_word(out, b"store(")?;
     put_array(out, array)?;
@@ -78,14 +79,15 @@ fn put_store(out: &mut Vec<u8>, array: Array, place: &Expr, register: u64) -> Re
 }
 
 fn put_zero(out: &mut Vec<u8>, register: u64) -> Result<(), AllocError>
-    ensures { OnOk result (out.new.items ≡ out.old.items ++ (becomes_text register ++ codes "splat(0);\n")) }
+    ensures { OnOk result (out.new.items ≡ out.old.items
+        ++ (becomes_text register ++ codes "splat(0);\n")) }
 {
     put_becomes(out, register)?;
     put_word(out, b"splat(0);\n")
 }
 
 fn put_add(out: &mut Vec<u8>, register: u64, left: u64, right: u64) -> Result<(), AllocError>
-    ensures { OnOk result (out.new.items ≡ out.old.items ++ (becomes_text register ++ codes "add(" ++ register_text left ++ codes ", " ++ register_text right ++ codes ");\n")) }
+    ensures { OnOk result (out.new.items ≡ out.old.items ++ addition_text register left right) }
 {
     put_call(out, register, b"add(", left)?;
     put_word(out, b", ")?;
@@ -100,7 +102,8 @@ fn put_sub(
     right: u64,
     bias: u64,
 ) -> Result<(), AllocError>
-    ensures { OnOk result (out.new.items ≡ out.old.items ++ (becomes_text register ++ codes "sub(" ++ register_text left ++ codes ", " ++ register_text right ++ numbered_text (codes ", ") bias (codes "ULL);\n"))) }
+    ensures { OnOk result (out.new.items ≡ out.old.items
+        ++ subtraction_text register left right bias) }
 {
     put_call(out, register, b"sub(", left)?;
     put_word(out, b", ")?;
@@ -109,7 +112,7 @@ fn put_sub(
 }
 
 fn put_negative(out: &mut Vec<u8>, register: u64, source: u64, bias: u64) -> Result<(), AllocError>
-    ensures { OnOk result (out.new.items ≡ out.old.items ++ (becomes_text register ++ codes "neg(" ++ register_text source ++ numbered_text (codes ", ") bias (codes "ULL);\n"))) }
+    ensures { OnOk result (out.new.items ≡ out.old.items ++ negation_text register source bias) }
 {
     put_call(out, register, b"neg(", source)?;
     put_numbered(out, b", ", bias, b"ULL);\n")
@@ -123,7 +126,8 @@ fn put_const_product(
     factor: u64,
     quotient: u64,
 ) -> Result<(), AllocError>
-    ensures { OnOk result (out.new.items ≡ out.old.items ++ (becomes_text register ++ codes "mul(" ++ register_text source ++ numbered_text (codes ", splat(") factor (codes "ULL)") ++ numbered_text (codes ", splat(") quotient (codes "ULL));\n"))) }
+    ensures { OnOk result (out.new.items ≡ out.old.items
+        ++ const_product_text register source factor quotient) }
 {
     put_call(out, register, b"mul(", source)?;
     put_numbered(out, b", splat(", factor, b"ULL)")?;
@@ -132,7 +136,8 @@ fn put_const_product(
 
 // One entry for all lanes.
 fn put_entry(out: &mut Vec<u8>, name: &[u8], table: u64, place: &Expr) -> Result<(), AllocError>
-    ensures { OnOk result (out.new.items ≡ out.old.items ++ (codes "splat(" ++ name.now ++ decimal table ++ codes "[" ++ sum_text (plain_expr place.now) ++ codes "])")) }
+    ensures { OnOk result (out.new.items ≡ out.old.items
+        ++ entry_text name.now table (plain_expr place.now)) }
 {
     put_word(out, b"splat(")?;
     put(out, name, table)?;
@@ -143,7 +148,8 @@ fn put_entry(out: &mut Vec<u8>, name: &[u8], table: u64, place: &Expr) -> Result
 
 // An entry for each lane.
 fn put_row(out: &mut Vec<u8>, name: &[u8], table: u64, place: &Expr) -> Result<(), AllocError>
-    ensures { OnOk result (out.new.items ≡ out.old.items ++ (codes "load(" ++ name.now ++ decimal table ++ codes " + " ++ sum_text (plain_expr place.now) ++ codes ")")) }
+    ensures { OnOk result (out.new.items ≡ out.old.items
+        ++ row_text name.now table (plain_expr place.now)) }
 {
     put_word(out, b"load(")?;
     put(out, name, table)?;
@@ -159,7 +165,8 @@ fn put_entries(
     place: &Expr,
     step: u64,
 ) -> Result<(), AllocError>
-    ensures { OnOk result (out.new.items ≡ out.old.items ++ entries_text name.now table (plain_expr place.now) step) }
+    ensures { OnOk result (out.new.items ≡ out.old.items
+        ++ entries_text name.now table (plain_expr place.now) step) }
 {
     if step == 0 {
         put_entry(out, name, table, place)
@@ -176,7 +183,8 @@ fn put_table_product(
     place: &Expr,
     step: u64,
 ) -> Result<(), AllocError>
-    ensures { OnOk result (out.new.items ≡ out.old.items ++ (becomes_text register ++ codes "mul(" ++ register_text source ++ codes ", " ++ entries_text (codes "t") table (plain_expr place.now) step ++ codes ", " ++ entries_text (codes "u") table (plain_expr place.now) step ++ codes ");\n")) }
+    ensures { OnOk result (out.new.items ≡ out.old.items
+        ++ table_product_text register source table (plain_expr place.now) step) }
 {
     put_call(out, register, b"mul(", source)?;
     put_word(out, b", ")?;
@@ -231,7 +239,8 @@ fn put_tile(out: &mut Vec<u8>, lanes: u64, register: u64, source: u64) -> Result
 pub(crate) fn put_op(out: &mut Vec<u8>, lanes: u64, note: &Note, op: &Op) -> Result<(), AllocError>
     requires lanes { lanes ≤ 16 }
     requires tile { IsTrue (is_tile_small (plain_op op.now)) }
-    ensures { OnOk result (out.new.items ≡ out.old.items ++ word_op_text lanes (plain_note note.now) (plain_op op.now)) }
+    ensures { OnOk result (out.new.items ≡ out.old.items
+        ++ word_op_text lanes (plain_note note.now) (plain_op op.now)) }
 {
     match op {
         Op::Load {

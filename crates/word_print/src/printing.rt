@@ -30,7 +30,8 @@ fn put_loop(out: &mut Vec<u8>, depth: u64, count: u64) -> Result<(), AllocError>
 fn put_stmt(out: &mut Vec<u8>, lanes: u64, stmt: &WordStmt, depth: u64) -> Result<(), AllocError>
     requires lanes { lanes ≤ 16 }
     requires nests { IsTrue (is_word_nest_within (plain_word_stmt stmt.now) depth) }
-    ensures { OnOk result (out.new.items ≡ out.old.items ++ word_stmt_text lanes depth (plain_word_stmt stmt.now)) }
+    ensures { OnOk result (out.new.items ≡ out.old.items
+        ++ word_stmt_text lanes depth (plain_word_stmt stmt.now)) }
 {
     match stmt {
         WordStmt::Loop { count, body } => {
@@ -50,7 +51,8 @@ fn put_stmt(out: &mut Vec<u8>, lanes: u64, stmt: &WordStmt, depth: u64) -> Resul
 fn put_body(out: &mut Vec<u8>, lanes: u64, body: &[WordStmt]) -> Result<(), AllocError>
     requires lanes { lanes ≤ 16 }
     requires nests { IsTrue (are_word_nests_within (plain_word_body body.now) 0) }
-    ensures { OnOk result (out.new.items ≡ out.old.items ++ word_body_text lanes 0 (plain_word_body body.now)) }
+    ensures { OnOk result (out.new.items ≡ out.old.items
+        ++ word_body_text lanes 0 (plain_word_body body.now)) }
 {
     for stmt in body {
         put_stmt(out, lanes, stmt, 0)?;
@@ -60,7 +62,8 @@ fn put_body(out: &mut Vec<u8>, lanes: u64, body: &[WordStmt]) -> Result<(), Allo
 
 // Writes the header of the listing.
 fn put_numbers(out: &mut Vec<u8>, program: &WordProgram) -> Result<(), AllocError>
-    ensures { OnOk result (out.new.items ≡ out.old.items ++ header_text (plain_word_program program.now).frame) }
+    ensures { OnOk result (out.new.items ≡ out.old.items
+        ++ header_text (plain_word_program program.now).frame) }
 {
     put(out, b"program size ", program.size)?;
     put(out, b" mod ", program.modulus)?;
@@ -71,7 +74,8 @@ fn put_numbers(out: &mut Vec<u8>, program: &WordProgram) -> Result<(), AllocErro
 }
 
 fn put_header(out: &mut Vec<u8>, program: &WordProgram) -> Result<(), AllocError>
-    ensures { OnOk result (out.new.items ≡ out.old.items ++ word_header_text (plain_word_program program.now)) }
+    ensures { OnOk result (out.new.items ≡ out.old.items
+        ++ word_header_text (plain_word_program program.now)) }
 {
     put_word(out, b"/* ")?;
     put_numbers(out, program)?;
@@ -80,7 +84,8 @@ fn put_header(out: &mut Vec<u8>, program: &WordProgram) -> Result<(), AllocError
 
 #[tactic(auto, unfolding(crate::specs::WordText::word_table_text))]
 fn put_table(out: &mut Vec<u8>, name: &[u8], number: u64, entries: &[u64]) -> Result<(), AllocError>
-    ensures { OnOk result (out.new.items ≡ out.old.items ++ word_table_text name.now number entries.now) }
+    ensures { OnOk result (out.new.items ≡ out.old.items
+        ++ word_table_text name.now number entries.now) }
 {
     put_word(out, b"static const word ")?;
     put_numbered(out, name, number, b"[] = {")?;
@@ -91,7 +96,8 @@ fn put_table(out: &mut Vec<u8>, name: &[u8], number: u64, entries: &[u64]) -> Re
 }
 
 fn put_tables(out: &mut Vec<u8>, name: &[u8], tables: &[Vec<u64>]) -> Result<(), AllocError>
-    ensures { OnOk result (out.new.items ≡ out.old.items ++ word_tables_text name.now 0 (plain_tables tables.now)) }
+    ensures { OnOk result (out.new.items ≡ out.old.items
+        ++ word_tables_text name.now 0 (plain_tables tables.now)) }
 {
     for (number, entries) in tables.iter().enumerate() {
         put_table(out, name, number as u64, entries)?;
@@ -124,7 +130,8 @@ fn put_phase(
 ) -> Result<(), AllocError>
     requires lanes { lanes ≤ 16 }
     requires nests { IsTrue (are_word_nests_within (plain_word_body body.now) 0) }
-    ensures { OnOk result (out.new.items ≡ out.old.items ++ word_phase_text lanes regs number (plain_word_body body.now)) }
+    ensures { OnOk result (out.new.items ≡ out.old.items
+        ++ word_phase_text lanes regs number (plain_word_body body.now)) }
 {
     put_numbered(out, b"void phase", number, b"(uint64_t q) {\n(void)q;\n")?;
     put_registers(out, regs)?;
@@ -140,7 +147,8 @@ fn put_phases(
 ) -> Result<(), AllocError>
     requires lanes { lanes ≤ 16 }
     requires nests { IsTrue (are_word_phases_within (plain_word_phases phases.now)) }
-    ensures { OnOk result (out.new.items ≡ out.old.items ++ word_phases_text lanes regs 0 (plain_word_phases phases.now)) }
+    ensures { OnOk result (out.new.items ≡ out.old.items
+        ++ word_phases_text lanes regs 0 (plain_word_phases phases.now)) }
 {
     for (number, body) in phases.iter().enumerate() {
         put_phase(out, lanes, regs, number as u64, body)?;
@@ -159,7 +167,8 @@ fn array_words(size: u64, line: u64) -> u64
 
 /// The C text of a program on words, within the limits of programs on residues.
 pub fn print_words(alloc: Global, program: &WordProgram) -> Result<Vec<u8>, NoMemory>
-    requires header { IsHeaderWithin program.now.size program.now.modulus program.now.procs program.now.line program.now.lanes program.now.regs }
+    requires header { IsHeaderWithin program.now.size program.now.modulus program.now.procs
+        program.now.line program.now.lanes program.now.regs }
     requires nests { IsTrue (are_word_phases_within (plain_word_phases program.now.phases.items)) }
     ensures { IfOk result (λ text. text.items ≡ words_text (plain_word_program program.now)) }
 {
