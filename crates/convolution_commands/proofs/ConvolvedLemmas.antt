@@ -30,10 +30,12 @@ use Rattle.spiral_status.specs.declared.status.Status.TheVariants.{Success, Writ
 use Rattle.spiral_status.specs.Fault.{status_of_conv, status_of_fault, status_of_stream}
 use Rattle.spiral_status.specs.Status.{IsDefined}
 use Rattle.spiral_input.specs.Asking.{asked_by, AsksBy, Asks}
-use Rattle.convolution_commands.specs.Convolved.{conv_procs, conv_spelt, IsConvolvable, IsConvRefused, conv_lines, IsConvText, conv_status, SettlesConv, IsConvOver, GoesOnBehind, BreaksOffConv, ComesToConv, ConvolvesData, ToldConvolvesData, Convolves, ToldConvolves, IsListProgram}
+use Rattle.convolution_commands.specs.Convolved.{conv_procs, conv_spelt, IsConvolvable, IsConvRefused, conv_lines, IsConvText, conv_status, SettlesConv, IsConvOver, GoesOnBehind, BreaksOffConv, ComesToConv, conv_outcomes, data_outcomes, IsListProgram}
 use Rattle.spiral_input.specs.Line.{data_of, room_behind, HasEnded}
 use Rattle.spiral_input.specs.Refusals.{IsRefusal}
 use Rattle.spiral_input.proofs.InputLemmas.{none_read, none_left, none_cut, still_ended}
+use Rattle.spiral_input.specs.Outcomes.{Meets, ToldMeets}
+use Rattle.spiral_input.proofs.OutcomeLemmas.{meets_nothing}
 use Rattle.spiral_input.proofs.DataLemmas.{reads_vectors, lines_equal}
 use Rattle.spiral_input.proofs.LineLemmas.{line_there}
 use Rattle.stream_run.specs.Progress.{HasCome, ReadsData, StreamsBehind, StreamsOn, lacking, HasNoVector}
@@ -58,13 +60,10 @@ conv_refusal conv.NoMemory = record { success = λ e. cc; read = λ e. cc; write
 
 -- there is no program
 pub convolves_refused : (wanted : Command) (request : Request) (room : ℕ) (before left out : Option (List ℕ)) (status : Status)
-    → (IsDefined status → IsConvRefused request status) → IsRefusal status → ToldConvolvesData wanted request room before left out out status
+    → (IsDefined status → IsConvRefused request status) → IsRefusal status → ToldMeets (data_outcomes wanted request room) before left out out status
 convolves_refused wanted request room None left out status refused r = tt
-convolves_refused wanted request room (Some bytes) left out status refused r = record {
-  answer = λ d. ([], inl (refused d, refl), Appends-nil out);
-  read_fault = λ e. absurd (r.read e);
-  write_fault = λ e. absurd (r.write e);
-}
+convolves_refused wanted request room (Some bytes) left out status refused r =
+    meets_nothing (data_outcomes wanted request room) bytes left out status (λ d. inl (refused d, refl)) r.read r.write
 
 -- Data without a list
 
@@ -84,7 +83,7 @@ no_list wanted request room bytes answer status same a v = (
 
 lacks : (wanted : Command) (request : Request) (old new : Fed) (bytes rest : List ℕ) (out : Option (List ℕ)) (result : Result (Unit {0}) StreamFault)
     → IsConvolvable request → old.taken ≤ limit → result ≢ Err stream.WriteFault → ReadsData request.size request.modulus old new (Some bytes) (Some rest) [] result
-    → ConvolvesData wanted request (limit - old.taken) bytes (Some rest) out out (status_of_fault (lacking request.size result))
+    → Meets (data_outcomes wanted request (limit - old.taken)) bytes (Some rest) out out (status_of_fault (lacking request.size result))
 lacks wanted request old new bytes rest out (Ok u) able start other r = record {
   answer = λ d. ([], inr (able, no_list wanted request (limit - old.taken) bytes (Ok u) _ refl (r.told start).0 (r.told start).1), Appends-nil out);
   read_fault = λ e. absurd (cc);
@@ -111,11 +110,13 @@ lacks wanted request old new bytes rest out (Err stream.ReadFault) able start ot
     r.read,
     [],
     r.consumed,
-    able,
     (
-      r.answer.1,
-      subst (GoesOnBehind wanted) (sym r.answer.2) (none_behind wanted),
-      subst (λ vectors. IsConvText wanted request vectors []) (sym r.answer.2) refl,
+      able,
+      (
+        r.answer.1,
+        subst (GoesOnBehind wanted) (sym r.answer.2) (none_behind wanted),
+        subst (λ vectors. IsConvText wanted request vectors []) (sym r.answer.2) refl,
+      ),
     ),
     Appends-nil out,
   );
@@ -125,11 +126,11 @@ lacks wanted request old new bytes rest out (Err stream.WriteFault) able start o
 
 pub convolves_lacking : (wanted : Command) (request : Request) (old new : Fed) (before after out : Option (List ℕ)) (fault : StreamFault)
     → IsConvolvable request → old.taken ≤ limit → HasNoVector request.size request.modulus old new before after fault
-    → ToldConvolvesData wanted request (limit - old.taken) before after out out (status_of_fault fault)
+    → ToldMeets (data_outcomes wanted request (limit - old.taken)) before after out out (status_of_fault fault)
 convolves_lacking wanted request old new None after out fault able start none = tt
 convolves_lacking wanted request old new (Some bytes) None out fault able start none = absurd none.2.consumed
 convolves_lacking wanted request old new (Some bytes) (Some rest) out fault able start none =
-    subst (λ f. ConvolvesData wanted request (limit - old.taken) bytes (Some rest) out out (status_of_fault f)) (sym none.3)
+    subst (λ f. Meets (data_outcomes wanted request (limit - old.taken)) bytes (Some rest) out out (status_of_fault f)) (sym none.3)
     (lacks wanted request old new bytes rest out none.0 able start none.1 none.2)
 
 -- The listing
@@ -141,7 +142,7 @@ listing_for schedule = command.Convolve schedule true
 pub convolves_listing : (schedule : Plan) (request : Request) (cut : Cut) (old new : Fed) (before after out out' : Option (List ℕ)) (h listing : List ℕ) (program : Program)
     → cut.size ≡ request.size → HasCome request.modulus cut old new before after (h ∷ []) → old.taken ≤ limit → new.taken ≤ limit → (cut.ended ≡ true → IsAtEnd after)
     → IsListProgram request h program → listing ≡ listing_of (plain_program program) → Appends out out' listing
-    → ToldConvolvesData (listing_for schedule) request (limit - old.taken) before after out out' Success
+    → ToldMeets (data_outcomes (listing_for schedule) request (limit - old.taken)) before after out out' Success
 convolves_listing schedule request cut old new None after out out' h listing program size come start within end made same wrote = tt
 convolves_listing schedule request cut old new (Some bytes) None out out' h listing program size come start within end made same wrote = absurd come.progress.consumed
 convolves_listing schedule request cut old new (Some bytes) (Some rest) out out' h listing program size come start within end made same wrote =
@@ -168,7 +169,7 @@ convolves_listing schedule request cut old new (Some bytes) (Some rest) out out'
 pub convolves_cut : (schedule : Plan) (request : Request) (cut : Cut) (old new : Fed) (before after out out' : Option (List ℕ)) (h listing : List ℕ) (program : Program)
     → cut.size ≡ request.size → 0 < request.size → HasCome request.modulus cut old new before after (h ∷ []) → new.taken ≤ limit → (cut.ended ≡ true → IsAtEnd after)
     → IsListProgram request h program → listing ≡ listing_of (plain_program program) → AppendsPrefix out out' listing
-    → (room : ℕ) → ToldConvolvesData (listing_for schedule) request room before after out out' WriteFault
+    → (room : ℕ) → ToldMeets (data_outcomes (listing_for schedule) request room) before after out out' WriteFault
 convolves_cut schedule request cut old new None after out out' h listing program size some come within end made same wrote room = tt
 convolves_cut schedule request cut old new (Some bytes) None out out' h listing program size some come within end made same wrote room = absurd come.progress.consumed
 convolves_cut schedule request cut old new (Some bytes) (Some rest) out out' h listing program size some come within end made same wrote room =
@@ -182,11 +183,13 @@ convolves_cut schedule request cut old new (Some bytes) (Some rest) out out' h l
         rest,
         listing,
         r.consumed,
-        (made.0, made.1),
         (
-          r.answer.1,
-          r.answer.2,
-          subst (λ vectors. IsConvText (listing_for schedule) request vectors listing) (sym seen) (made.0, program, made.1, made.2, same),
+          (made.0, made.1),
+          (
+            r.answer.1,
+            r.answer.2,
+            subst (λ vectors. IsConvText (listing_for schedule) request vectors listing) (sym seen) (made.0, program, made.1, made.2, same),
+          ),
         ),
         wrote,
       );
@@ -239,7 +242,7 @@ lines_answer schedule request room bytes h later result text out out' able a v s
 -- by each way in which it may end
 lines_ended : (schedule : Plan) (request : Request) (old new : Fed) (bytes rest h : List ℕ) (later : List (List ℕ)) (out out' : Option (List ℕ)) (text : List ℕ) (result : Result (Unit {0}) StreamFault)
     → IsConvolvable request → old.taken ≤ limit → ReadsData request.size request.modulus old new (Some bytes) (Some rest) (h ∷ later) result → text ≡ conv_lines request h later → Writes out out' result text
-    → ConvolvesData (lines_for schedule) request (limit - old.taken) bytes (Some rest) out out' (status_of_stream result)
+    → Meets (data_outcomes (lines_for schedule) request (limit - old.taken)) bytes (Some rest) out out' (status_of_stream result)
 lines_ended schedule request old new bytes rest h later out out' text (Ok u) able start r same wrote = record {
   answer = λ d. lines_answer schedule request (limit - old.taken) bytes h later (Ok u) text out out' able (r.told start).0 (r.told start).1 same wrote;
   read_fault = λ e. absurd (cc);
@@ -266,8 +269,7 @@ lines_ended schedule request old new bytes rest h later out out' text (Err strea
     r.read,
     text,
     r.consumed,
-    able,
-    (r.answer.1, tt, subst (λ vectors. IsConvText (lines_for schedule) request vectors text) (sym r.answer.2) same),
+    (able, (r.answer.1, tt, subst (λ vectors. IsConvText (lines_for schedule) request vectors text) (sym r.answer.2) same)),
     wrote,
   );
   write_fault = λ e. absurd (cc);
@@ -280,8 +282,7 @@ lines_ended schedule request old new bytes rest h later out out' text (Err strea
     rest,
     text,
     r.consumed,
-    able,
-    (r.answer.1, r.answer.2, subst (λ vectors. IsConvText (lines_for schedule) request vectors text) (sym r.answer.3) same),
+    (able, (r.answer.1, r.answer.2, subst (λ vectors. IsConvText (lines_for schedule) request vectors text) (sym r.answer.3) same)),
     wrote,
   );
 }
@@ -296,7 +297,7 @@ run_told : {S : Type 0} (schedule : Plan) (request : Request) (code : Code) (old
     (result : Result (Unit {0}) StreamFault)
     → IsListProgram request h program → code ≡ code_of program → request.procs ≡ 1 → 0 < request.modulus → HasNoStranger schedule 1 → old.taken ≤ limit
     → StreamsBehind (h ∷ []) (run_text false code (turns_of schedule code.procs)) leaves request.size request.modulus old new before after out out' first last result
-    → ToldConvolvesData (lines_for schedule) request (limit - old.taken) before after out out' (status_of_stream result)
+    → ToldMeets (data_outcomes (lines_for schedule) request (limit - old.taken)) before after out out' (status_of_stream result)
 run_told schedule request code old new None after out out' h program leaves first last result made same own some none start s = tt
 run_told schedule request code old new (Some bytes) None out out' h program leaves first last result made same own some none start s = absurd s.reads.consumed
 run_told schedule request code old new (Some bytes) (Some rest) out out' h program leaves first last result made same own some none start s =
@@ -318,7 +319,7 @@ pub convolves_run : {S : Type 0} (schedule : Plan) (request : Request) (code : C
     → IsListProgram request h program → code ≡ code_of program → cut.size ≡ request.size → request.procs ≡ 1 → 0 < request.modulus → HasNoStranger schedule 1 → old.taken ≤ limit
     → HasCome request.modulus cut old now before mid (h ∷ [])
     → StreamsOn (run_text false code (turns_of schedule code.procs)) leaves code.modulus cut now new mid after out out' first last result
-    → ToldConvolvesData (lines_for schedule) request (limit - old.taken) before after out out' (status_of_stream result)
+    → ToldMeets (data_outcomes (lines_for schedule) request (limit - old.taken)) before after out out' (status_of_stream result)
 convolves_run schedule request code cut old now new before mid after out out' h program leaves first last result made same size own some none start come s =
     let text : List ℕ → List ℕ = run_text false code (turns_of schedule code.procs) in
     let modulus : code.modulus ≡ request.modulus = ap (λ (k : Code). k.modulus) same ∙ made.2.header.modulus in
@@ -331,7 +332,7 @@ convolves_run schedule request code cut old now new before mid after out out' h 
 
 -- the call ends with the line
 pub convolves_line : (wanted : Command) (before after out : Option (List ℕ)) (taken : ℕ) (status : Status)
-    → Asks conv_procs conv_spelt wanted before after taken (Err status) → status ≢ WriteFault → ToldConvolves wanted before after out out status
+    → Asks conv_procs conv_spelt wanted before after taken (Err status) → status ≢ WriteFault → ToldMeets (conv_outcomes wanted) before after out out status
 convolves_line wanted None after out taken status a other = tt
 convolves_line wanted (Some bytes) None out taken status a other = absurd a
 convolves_line wanted (Some bytes) (Some rest) out taken status a other = record {
@@ -342,8 +343,8 @@ convolves_line wanted (Some bytes) (Some rest) out taken status a other = record
 
 -- what is done behind the line is what the call does
 convolves_after : (wanted : Command) (bytes read rest : List ℕ) (taken : ℕ) (request : Request) (left out out' : Option (List ℕ)) (status : Status)
-    → bytes ≡ read ++ rest → AsksBy conv_procs conv_spelt wanted read rest taken (Ok request) → ConvolvesData wanted request (limit - taken) rest left out out' status
-    → Convolves wanted bytes left out out' status
+    → bytes ≡ read ++ rest → AsksBy conv_procs conv_spelt wanted read rest taken (Ok request) → Meets (data_outcomes wanted request (limit - taken)) rest left out out' status
+    → Meets (conv_outcomes wanted) bytes left out out' status
 convolves_after wanted bytes read rest taken request left out out' status whole asked p =
     let here = asked.1 rest (λ e. e) in
     let data_here : data_of bytes ≡ rest = ap data_of whole ∙ here.1 in
@@ -380,10 +381,10 @@ convolves_after wanted bytes read rest taken request left out out' status whole 
             Consumes-trans (Some bytes) (Some rest) left read found.0 whole found.2,
             inr (
               request,
-              over found.0 (IsAtEnd left) none (none_left rest found.0 left found.2) found.3,
-              subst (λ b. BreaksOffConv wanted request b found.1) (sym (asked.1 found.0 none).1) found.4,
+              over found.0 (IsAtEnd left) none (none_left rest found.0 left found.2) found.3.0,
+              subst (λ b. BreaksOffConv wanted request b found.1) (sym (asked.1 found.0 none).1) found.3.1,
             ),
-            found.5,
+            found.4,
           );
       write_fault = λ e.
           let found = p.write_fault e in
@@ -394,15 +395,15 @@ convolves_after wanted bytes read rest taken request left out out' status whole 
             whole ∙ ap (λ l. read ++ l) found.3 ∙ sym (append_assoc read found.0 found.1),
             (
               request,
-              over found.0 (found.1 ≡ []) none (λ end. (none_cut rest found.0 found.1 found.3 end).1) found.4,
-              subst (λ b. ComesToConv wanted request b found.1 found.2) (sym (asked.1 found.0 none).1) found.5,
+              over found.0 (found.1 ≡ []) none (λ end. (none_cut rest found.0 found.1 found.3 end).1) found.4.0,
+              subst (λ b. ComesToConv wanted request b found.1 found.2) (sym (asked.1 found.0 none).1) found.4.1,
             ),
-            found.6,
+            found.5,
           );
     }
 
 pub convolves_asked : (wanted : Command) (before mid left : Option (List ℕ)) (taken : ℕ) (request : Request) (out out' : Option (List ℕ)) (status : Status)
-    → Asks conv_procs conv_spelt wanted before mid taken (Ok request) → ToldConvolvesData wanted request (limit - taken) mid left out out' status → ToldConvolves wanted before left out out' status
+    → Asks conv_procs conv_spelt wanted before mid taken (Ok request) → ToldMeets (data_outcomes wanted request (limit - taken)) mid left out out' status → ToldMeets (conv_outcomes wanted) before left out out' status
 convolves_asked wanted None mid left taken request out out' status a p = tt
 convolves_asked wanted (Some bytes) None left taken request out out' status a p = absurd a
 convolves_asked wanted (Some bytes) (Some rest) left taken request out out' status a p = convolves_after wanted bytes a.0 rest taken request left out out' status a.1 a.2 p

@@ -1,8 +1,6 @@
 -- What `convolve` answers: it goes by a request for convolutions, which the first line spells, and by a list, which is the first vector of the data.
-use Rattle.std.specs.Prelude.{◌≡◌, ◌⊎◌, ℕ, true, false, List, [], ◌∷◌, ◌++◌, Some, None, Ok, Err, Result}
+use Rattle.std.specs.Prelude.{◌≡◌, ◌⊎◌, ℕ, true, false, List, [], ◌∷◌, Ok, Err, Result}
 use Rattle.std.specs.List.{list_all}
-use Rattle.std.specs.declared.option.Option.{Option}
-use Rattle.std.specs.Io.KnownBytes.{Appends, Consumes, IsAtEnd}
 use Rattle.convolution.specs.Convolution.{convolution}
 use Rattle.convolver.specs.Convolver.{IsConvolver}
 use Rattle.convolver.specs.Planned.{IsConvPlanned}
@@ -10,7 +8,6 @@ use Rattle.plan_faults.specs.declared.convolving.ConvFault.{ConvFault}
 use Rattle.data_stream.specs.Data.{tokens, closed_part, is_good}
 use Rattle.icode.specs.declared.program.Program.{Program}
 use Rattle.icode.specs.Program.{plain_program}
-use Rattle.io_edge.specs.Taken.{AppendsPrefix}
 use Rattle.listing_text.specs.Listing.{listing_of}
 use Rattle.matrix_meaning.specs.declared.Request.{Request}
 use Rattle.request_text.specs.ConvAnswer.{ConvAnswers}
@@ -18,11 +15,11 @@ use Rattle.request_text.specs.declared.RequestFault.{RequestFault}
 use Rattle.spiral_words.specs.declared.Command.{Command}
 use Rattle.spiral_words.specs.declared.Command.TheVariants as command
 use Rattle.spiral_status.specs.declared.status.Status.{Status}
-use Rattle.spiral_status.specs.declared.status.Status.TheVariants.{Success, ReadFault, WriteFault}
+use Rattle.spiral_status.specs.declared.status.Status.TheVariants.{Success}
 use Rattle.spiral_status.specs.Fault.{status_of_conv, status_of_fault, status_of_request, status_of_stream}
-use Rattle.spiral_status.specs.Status.{IsDefined}
 use Rattle.spiral_input.specs.Asking.{asked_by}
 use Rattle.spiral_input.specs.Line.{data_of, room_behind, HasEnded, IsPartOfLine}
+use Rattle.spiral_input.specs.Outcomes.{Outcomes}
 use Rattle.spiral_input.specs.Stage.{Stage, ◌>>=◌}
 use Rattle.stream_run.specs.Progress.{lacking}
 use Rattle.stream_run.specs.Stream.{lines, vectors_of, data_answer, data_vectors}
@@ -137,6 +134,10 @@ abbrev pub IsCutConv : Command → List ℕ → List ℕ → List ℕ → Type 0
 IsCutConv wanted read left text =
     (request : Request) × IsConvOver wanted read (left ≡ []) request × ComesToConv wanted request (data_of read) left text
 
+-- what is right for `convolve`
+abbrev pub conv_outcomes : Command → Outcomes
+conv_outcomes wanted = record { answer = IsConvAnswer wanted; broken = IsBrokenConv wanted; cut = IsCutConv wanted }
+
 -- What the parts of the call answer
 
 -- status and text for a request, by what its input has left
@@ -145,30 +146,13 @@ EndsConv wanted request room bytes status text =
     (IsConvRefused request status × (text ≡ []))
     ⊎ (IsConvolvable request × SettlesConv wanted request room bytes status text)
 
--- status and output for a request, by what its input had left before and has left then
-pub record ConvolvesData (wanted : Command) (request : Request) (room : ℕ) (bytes : List ℕ) (left before after : Option (List ℕ)) (status : Status) : Type 0 where
-  pub answer : IsDefined status → (text : List ℕ) × EndsConv wanted request room bytes status text × Appends before after text
-  pub read_fault : status ≡ ReadFault → (read : List ℕ) × (text : List ℕ) × Consumes (Some bytes) left read × IsConvolvable request
-      × BreaksOffConv wanted request read text × Appends before after text
-  pub write_fault : status ≡ WriteFault → (read : List ℕ) × (rest : List ℕ) × (text : List ℕ) × (bytes ≡ read ++ rest) × IsConvolvable request
-      × ComesToConv wanted request read rest text × AppendsPrefix before after text
-
--- the same over a source that tells its bytes
-abbrev pub ToldConvolvesData : Command → Request → ℕ → Option (List ℕ) → Option (List ℕ) → Option (List ℕ) → Option (List ℕ) → Status → Type 0
-ToldConvolvesData wanted request room None left before after status = Unit {0}
-ToldConvolvesData wanted request room (Some bytes) left before after status = ConvolvesData wanted request room bytes left before after status
-
--- status and output by all the bytes of the input and by what is left of them
-pub record Convolves (wanted : Command) (bytes : List ℕ) (left before after : Option (List ℕ)) (status : Status) : Type 0 where
-  pub answer : IsDefined status → (text : List ℕ) × IsConvAnswer wanted bytes status text × Appends before after text
-  pub read_fault : status ≡ ReadFault → (read : List ℕ) × (text : List ℕ) × Consumes (Some bytes) left read
-      × IsBrokenConv wanted read (IsAtEnd left) text × Appends before after text
-  pub write_fault : status ≡ WriteFault → (read : List ℕ) × (rest : List ℕ) × (text : List ℕ) × (bytes ≡ read ++ rest)
-      × IsCutConv wanted read rest text × AppendsPrefix before after text
-
-abbrev pub ToldConvolves : Command → Option (List ℕ) → Option (List ℕ) → Option (List ℕ) → Option (List ℕ) → Status → Type 0
-ToldConvolves wanted None left before after status = Unit {0}
-ToldConvolves wanted (Some bytes) left before after status = Convolves wanted bytes left before after status
+-- what is right for a request, by what its input has left, of which so many bytes may come
+abbrev pub data_outcomes : Command → Request → ℕ → Outcomes
+data_outcomes wanted request room = record {
+  answer = EndsConv wanted request room;
+  broken = λ read ended text. IsConvolvable request × BreaksOffConv wanted request read text;
+  cut = λ read rest text. IsConvolvable request × ComesToConv wanted request read rest text;
+}
 
 -- the program convolves with the list, by the chosen tree
 abbrev pub IsListProgram : Request → List ℕ → Program → Type 0

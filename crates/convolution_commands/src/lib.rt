@@ -1,17 +1,18 @@
 //! The command that convolves the vectors of the data with the first of them.
 #![tactic(auto)]
 
-ghost use Rattle.std.specs.Prelude.{◌≡◌, ◌≢◌, ◌-◌, ◌≤◌, ◌∷◌, List, ℕ, [], false, true, vec_len, IfOk, IfErr, IsErrOf, OnOk};
+ghost use Rattle.std.specs.Prelude.{◌≡◌, ◌-◌, ◌≤◌, ◌∷◌, List, ℕ, [], false, true, vec_len, IfOk, IfErr, OnOk};
 ghost use Rattle.std.specs.declared.option.Option.{Option};
-ghost use Rattle.std.specs.Io.KnownBytes.{Appends, IsAtEnd};
+ghost use Rattle.std.specs.Io.KnownBytes.{IsAtEnd};
 ghost use Rattle.convolution.specs.Request.{IsConvRequest};
 ghost use Rattle.data_stream.specs.Vectors.{IsReady};
-ghost use Rattle.io_edge.specs.Faults.{Reports};
 ghost use Rattle.io_edge.specs.Feed.{to_come, limit};
 ghost use Rattle.spiral_words.specs.declared.Command.{Command as SpecCommand};
 ghost use Rattle.spiral_input.specs.Commands.{reads_rest, takes_convolution, NamesNoStranger};
 ghost use Rattle.spiral_input.specs.Asking.{Asks};
-ghost use Rattle.convolution_commands.specs.Convolved.{conv_procs, conv_spelt, IsListProgram, ToldConvolves, ToldConvolvesData};
+ghost use Rattle.convolution_commands.specs.Convolved.{conv_outcomes, conv_procs, conv_spelt, data_outcomes, IsListProgram};
+ghost use Rattle.spiral_input.specs.Ends.{EndsCleanly, ReadsCleanly};
+ghost use Rattle.spiral_input.specs.Outcomes.{ToldMeets};
 ghost use Rattle.spiral_input.specs.Stage.{status_of};
 ghost use Rattle.stream_run.specs.Progress.{HasCome};
 ghost use Rattle.stream_run.specs.Stream.{HasNoStranger};
@@ -39,11 +40,7 @@ fn ask_conv<I: Source>(command: &Command, feed: &mut Feed, input: &mut I) -> Res
     ensures within { OnOk result (feed.new.taken ≤ 257) }
     ensures request { IfOk result IsConvRequest }
     ensures turns { IfOk result (λ request. NamesNoStranger command.now request.procs) }
-    ensures empty { IsErrOf result Status.ReadFault → feed.new.held ≡ [] }
-    ensures read { Reports (I.faults input.old) (I.faults input.new)
-        (IsErrOf result Status.ReadFault) }
-    ensures others { IfErr result (λ status.
-        (status ≢ Status.Success) × (status ≢ Status.Usage) × (status ≢ Status.WriteFault)) }
+    ensures ends { ReadsCleanly result feed.new.held (I.faults input.old) (I.faults input.new) }
 {
     let mut line = [0; LINE_LIMIT];
     let count = read_line(feed, input, &mut line)?;
@@ -71,14 +68,10 @@ fn listed_program<I: Source>(
     ensures room { IfOk result (λ made. vec_len made.2 ≡ request.now.size) }
     ensures within { OnOk result (feed.new.taken ≤ limit) }
     ensures told { IfErr result (λ status. (wanted : SpecCommand) (out : Option (List ℕ)) →
-        ToldConvolvesData wanted request.now (limit - feed.old.taken)
+        ToldMeets (data_outcomes wanted request.now (limit - feed.old.taken))
         (to_come feed.old (I.left input.old))
         (to_come feed.new (I.left input.new)) out out status) }
-    ensures empty { IsErrOf result Status.ReadFault → feed.new.held ≡ [] }
-    ensures read { Reports (I.faults input.old) (I.faults input.new)
-        (IsErrOf result Status.ReadFault) }
-    ensures others { IfErr result (λ status.
-        (status ≢ Status.Success) × (status ≢ Status.Usage) × (status ≢ Status.WriteFault)) }
+    ensures ends { ReadsCleanly result feed.new.held (I.faults input.old) (I.faults input.new) }
 {
     let plan = plan_conv(alloc, request)?;
     let modulus = Modulus::new(request.modulus).unwrap();
@@ -100,18 +93,13 @@ fn print_convolver<I: Source, O: Sink>(
 ) -> Result<(), Status>
     requires request { IsConvRequest request.now }
     requires within { feed.old.taken ≤ limit }
-    ensures told { ToldConvolvesData (Command.Convolve schedule.now true) request.now
-        (limit - feed.old.taken) (to_come feed.old (I.left input.old))
-        (to_come feed.new (I.left input.new))
+    ensures told { ToldMeets
+        (data_outcomes (Command.Convolve schedule.now true) request.now (limit - feed.old.taken))
+        (to_come feed.old (I.left input.old)) (to_come feed.new (I.left input.new))
         (O.taken output.old) (O.taken output.new) (status_of result) }
-    ensures empty { status_of result ≡ Status.ReadFault → feed.new.held ≡ [] }
-    ensures usage { status_of result ≢ Status.Usage }
-    ensures read { Reports (I.faults input.old) (I.faults input.new)
-        (status_of result ≡ Status.ReadFault) }
-    ensures write { Reports (O.faults output.old) (O.faults output.new)
-        (status_of result ≡ Status.WriteFault) }
-    ensures memory { status_of result ≡ Status.NoMemory
-        → Appends (O.taken output.old) (O.taken output.new) [] }
+    ensures ends { EndsCleanly (status_of result) feed.new.held
+        (I.faults input.old) (I.faults input.new) (O.faults output.old) (O.faults output.new)
+        (O.taken output.old) (O.taken output.new) }
 {
     let (program, _, _) = listed_program(alloc, request, feed, input)?;
     let listing = print_listing(alloc, &program)?;
@@ -131,20 +119,15 @@ fn run_convolver<I: Source, O: Sink>(
     requires request { IsConvRequest request.now }
     requires turns { HasNoStranger schedule.now 1 }
     requires within { feed.old.taken ≤ limit }
-    ensures told { ToldConvolvesData (Command.Convolve schedule.now false) request.now
-        (limit - feed.old.taken) (to_come feed.old (I.left input.old))
-        (to_come feed.new (I.left input.new))
+    ensures told { ToldMeets
+        (data_outcomes (Command.Convolve schedule.now false) request.now (limit - feed.old.taken))
+        (to_come feed.old (I.left input.old)) (to_come feed.new (I.left input.new))
         (O.taken output.old) (O.taken output.new) (status_of result) }
     ensures end { status_of result ≡ Status.Success
         → IsAtEnd (to_come feed.new (I.left input.new)) }
-    ensures empty { status_of result ≡ Status.ReadFault → feed.new.held ≡ [] }
-    ensures usage { status_of result ≢ Status.Usage }
-    ensures read { Reports (I.faults input.old) (I.faults input.new)
-        (status_of result ≡ Status.ReadFault) }
-    ensures write { Reports (O.faults output.old) (O.faults output.new)
-        (status_of result ≡ Status.WriteFault) }
-    ensures memory { status_of result ≡ Status.NoMemory
-        → Appends (O.taken output.old) (O.taken output.new) [] }
+    ensures ends { EndsCleanly (status_of result) feed.new.held
+        (I.faults input.old) (I.faults input.new) (O.faults output.old) (O.faults output.new)
+        (O.taken output.old) (O.taken output.new) }
 {
     let (program, mut vectors, mut list) = listed_program(alloc, request, feed, input)?;
     let mut machine = Machine::new(alloc, &program)?;
@@ -174,19 +157,14 @@ fn convolve_for<I: Source, O: Sink>(
     requires turns { NamesNoStranger command.now request.now.procs }
     requires within { feed.old.taken ≤ limit }
     requires convolution { takes_convolution command.now ≡ true }
-    ensures told { ToldConvolvesData command.now request.now (limit - feed.old.taken)
+    ensures told { ToldMeets (data_outcomes command.now request.now (limit - feed.old.taken))
         (to_come feed.old (I.left input.old)) (to_come feed.new (I.left input.new))
         (O.taken output.old) (O.taken output.new) (status_of result) }
     ensures end { status_of result ≡ Status.Success → reads_rest command.now ≡ true
         → IsAtEnd (to_come feed.new (I.left input.new)) }
-    ensures empty { status_of result ≡ Status.ReadFault → feed.new.held ≡ [] }
-    ensures usage { status_of result ≢ Status.Usage }
-    ensures read { Reports (I.faults input.old) (I.faults input.new)
-        (status_of result ≡ Status.ReadFault) }
-    ensures write { Reports (O.faults output.old) (O.faults output.new)
-        (status_of result ≡ Status.WriteFault) }
-    ensures memory { status_of result ≡ Status.NoMemory
-        → Appends (O.taken output.old) (O.taken output.new) [] }
+    ensures ends { EndsCleanly (status_of result) feed.new.held
+        (I.faults input.old) (I.faults input.new) (O.faults output.old) (O.faults output.new)
+        (O.taken output.old) (O.taken output.new) }
 {
     match command {
         Command::Convolve {
@@ -211,19 +189,14 @@ pub fn convolve<I: Source, O: Sink>(
 ) -> Result<(), Status>
     requires fresh { feed.old.taken ≡ 0 }
     requires convolution { takes_convolution command.now ≡ true }
-    ensures told { ToldConvolves command.now
+    ensures told { ToldMeets (conv_outcomes command.now)
         (to_come feed.old (I.left input.old)) (to_come feed.new (I.left input.new))
         (O.taken output.old) (O.taken output.new) (status_of result) }
     ensures end { status_of result ≡ Status.Success → reads_rest command.now ≡ true
         → IsAtEnd (to_come feed.new (I.left input.new)) }
-    ensures empty { status_of result ≡ Status.ReadFault → feed.new.held ≡ [] }
-    ensures usage { status_of result ≢ Status.Usage }
-    ensures read { Reports (I.faults input.old) (I.faults input.new)
-        (status_of result ≡ Status.ReadFault) }
-    ensures write { Reports (O.faults output.old) (O.faults output.new)
-        (status_of result ≡ Status.WriteFault) }
-    ensures memory { status_of result ≡ Status.NoMemory
-        → Appends (O.taken output.old) (O.taken output.new) [] }
+    ensures ends { EndsCleanly (status_of result) feed.new.held
+        (I.faults input.old) (I.faults input.new) (O.faults output.old) (O.faults output.new)
+        (O.taken output.old) (O.taken output.new) }
 {
     let request = ask_conv(command, feed, input)?;
     convolve_for(alloc, command, &request, feed, input, output)

@@ -34,13 +34,15 @@ use Rattle.spiral_status.specs.declared.status.Status.{Status}
 use Rattle.spiral_status.specs.declared.status.Status.TheVariants.{Success, Turn, ReadFault, WriteFault, NoMemory, TooLong}
 use Rattle.stream_run.specs.declared.stream.StreamFault.{StreamFault}
 use Rattle.spiral_input.specs.Commands.{admitted, first_stranger, procs_named}
-use Rattle.formula_commands.specs.Compiled.{formula_limit, formula_line, written, formed, formula_in, IsAppliedText, IsCompiledText, IsFormulaCode, GivesText, Computes, ToldComputes}
+use Rattle.formula_commands.specs.Compiled.{formula_limit, formula_line, written, formed, formula_in, IsAppliedText, IsCompiledText, IsFormulaCode, GivesText, formula_outcomes}
 use Rattle.spiral_status.specs.Fault.{status_of_spl, status_of_stream, status_of_text}
 use Rattle.spiral_input.specs.Line.{is_line_end, first_line, data_of, room_behind, HasEnded, IsWholeLine}
 use Rattle.spiral_status.specs.Status.{IsDefined}
 use Rattle.spiral_input.specs.Refusals.{IsRefusal}
 use Rattle.stream_run.specs.Stream.{run_text, lines, vectors_of, data_answer, data_vectors, HasNoStranger, Streams}
 use Rattle.spiral_input.proofs.InputLemmas.{none_read, none_left, none_cut, still_ended}
+use Rattle.spiral_input.specs.Outcomes.{Meets, ToldMeets}
+use Rattle.spiral_input.proofs.OutcomeLemmas.{meets_nothing}
 use Rattle.spiral_input.proofs.DataLemmas.{RunsOver, runs_over, lines_equal}
 use Rattle.spiral_input.proofs.LineLemmas.{line_there}
 
@@ -96,16 +98,12 @@ forms wanted text formula spelt none = record { value = formula; before = spelt;
 -- Without a formula
 
 computes_nothing : (wanted : Command) (bytes : List ℕ) (left out : Option (List ℕ)) (status : Status) → (IsDefined status → formula_in wanted bytes (Err status))
-    → status ≢ ReadFault → status ≢ WriteFault → Computes wanted bytes left out out status
-computes_nothing wanted bytes left out status refused read write = record {
-  answer = λ d. ([], inl (refused d, refl), Appends-nil out);
-  read_fault = λ e. absurd (read e);
-  write_fault = λ e. absurd (write e);
-}
+    → status ≢ ReadFault → status ≢ WriteFault → Meets (formula_outcomes wanted) bytes left out out status
+computes_nothing wanted bytes left out status refused read write = meets_nothing (formula_outcomes wanted) bytes left out status (λ d. inl (refused d, refl)) read write
 
 -- the line is not read
 pub computes_unread : (wanted : Command) (before after out : Option (List ℕ)) (taken : ℕ) (read : List ℕ) (fault : RestFault)
-    → Consumes before after read → GivesText read (IsAtEnd after) taken (Err fault) → ToldComputes wanted before after out out (status_of_text fault)
+    → Consumes before after read → GivesText read (IsAtEnd after) taken (Err fault) → ToldMeets (formula_outcomes wanted) before after out out (status_of_text fault)
 computes_unread wanted None after out taken read fault consumed given = tt
 computes_unread wanted (Some bytes) None out taken read fault consumed given = absurd consumed
 computes_unread wanted (Some bytes) (Some rest) out taken read rest_fault.TooLong consumed given =
@@ -122,7 +120,7 @@ computes_unread wanted (Some bytes) (Some rest) out taken read rest_fault.NoMemo
 -- the line spells no formula for the command
 pub computes_refused : (wanted : Command) (before after out : Option (List ℕ)) (read text : List ℕ) (status : Status)
     → Consumes before after read → IsWholeLine read (IsAtEnd after) text → length text ≤ formula_limit → (IsDefined status → formed wanted text (Err status)) → IsRefusal status
-    → ToldComputes wanted before after out out status
+    → ToldMeets (formula_outcomes wanted) before after out out status
 computes_refused wanted None after out read text status consumed whole short refused refusal = tt
 computes_refused wanted (Some bytes) None out read text status consumed whole short refused refusal = absurd consumed
 computes_refused wanted (Some bytes) (Some rest) out read text status consumed whole short refused refusal =
@@ -142,7 +140,7 @@ ordered_by wanted read rest text formula whole short orders more none =
 -- all of it is written
 pub computes_listing : (m : ℕ) (before after out out' : Option (List ℕ)) (read text listing : List ℕ)
     → Consumes before after read → IsWholeLine read (IsAtEnd after) text → length text ≤ formula_limit → IsCompiledText m text listing → Appends out out' listing
-    → ToldComputes (command.Compile m) before after out out' Success
+    → ToldMeets (formula_outcomes (command.Compile m)) before after out out' Success
 computes_listing m None after out out' read text listing consumed whole short made wrote = tt
 computes_listing m (Some bytes) None out out' read text listing consumed whole short made wrote = absurd consumed
 computes_listing m (Some bytes) (Some rest) out out' read text listing consumed whole short made wrote = record {
@@ -162,7 +160,7 @@ computes_listing m (Some bytes) (Some rest) out out' read text listing consumed 
 -- a front of it is written
 pub computes_cut : (m : ℕ) (before after out out' : Option (List ℕ)) (read text listing : List ℕ)
     → Consumes before after read → IsWholeLine read (IsAtEnd after) text → length text ≤ formula_limit → IsCompiledText m text listing → AppendsPrefix out out' listing
-    → ToldComputes (command.Compile m) before after out out' WriteFault
+    → ToldMeets (formula_outcomes (command.Compile m)) before after out out' WriteFault
 computes_cut m None after out out' read text listing consumed whole short made wrote = tt
 computes_cut m (Some bytes) None out out' read text listing consumed whole short made wrote = absurd consumed
 computes_cut m (Some bytes) (Some rest) out out' read text listing consumed whole short made wrote =
@@ -202,7 +200,7 @@ IsTextOfAll m formula text bytes = IsAppliedText m formula (vectors_of (size_of 
 -- what a formula's program does behind the line is what the call does
 computes_after : (m : ℕ) (schedule : Plan) (bytes read rest text : List ℕ) (taken : ℕ) (formula : Formula) (left out out' : Option (List ℕ)) (status : Status)
     → bytes ≡ read ++ rest → taken ≡ length read → IsWholeLine read (rest ≡ []) text → length text ≤ formula_limit → formed (command.Apply m schedule) text (Ok formula)
-    → RunsOver (IsAppliedText m formula) (size_of formula) m (limit - taken) rest left out out' status → Computes (command.Apply m schedule) bytes left out out' status
+    → RunsOver (IsAppliedText m formula) (size_of formula) m (limit - taken) rest left out out' status → Meets (formula_outcomes (command.Apply m schedule)) bytes left out out' status
 computes_after m schedule bytes read rest text taken formula left out out' status cut count whole short orders p =
     let wanted : Command = command.Apply m schedule in
     let here = whole rest (λ e. e) in
@@ -286,7 +284,7 @@ pub computes_run : (m : ℕ) (schedule : Plan) (code : Code) (old new : Fed) (be
     → Consumes before mid read → old.taken ≡ length read → IsWholeLine read (IsAtEnd mid) text → length text ≤ formula_limit → length read ≤ length text + 1
     → IsFormulaCode m (command.Apply m schedule) text code → HasNoStranger schedule code.procs
     → Streams (run_text false code (turns_of schedule code.procs)) (λ x. runs code x (turns_of schedule code.procs)) code.size code.modulus old new mid after out out' first last result
-    → ToldComputes (command.Apply m schedule) before after out out' (status_of_stream result)
+    → ToldMeets (formula_outcomes (command.Apply m schedule)) before after out out' (status_of_stream result)
 computes_run m schedule code old new None mid after out out' read text first last result consumed count whole short few made none s = tt
 computes_run m schedule code old new (Some bytes) None after out out' read text first last result consumed count whole short few made none s = absurd consumed
 computes_run m schedule code old new (Some bytes) (Some rest) None out out' read text first last result consumed count whole short few made none s = absurd s.consumed

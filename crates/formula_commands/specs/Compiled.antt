@@ -1,9 +1,7 @@
 -- What `compile` and `apply` answer, which go by the formula that the first line spells.
-use Rattle.std.specs.Prelude.{◌≡◌, ◌≢◌, ◌⊎◌, ℕ, ◌+◌, ◌<◌, ◌≤◌, nat_le, true, false, List, [], ◌++◌, length, Vec, Ok, Err, Result, if◌then◌else◌, None, Some}
+use Rattle.std.specs.Prelude.{◌≡◌, ◌≢◌, ◌⊎◌, ℕ, ◌+◌, ◌<◌, ◌≤◌, nat_le, true, false, List, [], ◌++◌, length, Vec, Ok, Err, Result, if◌then◌else◌}
 use Rattle.std.proofs.Common.{Global}
 use Rattle.std.specs.List.{list_all, list_any}
-use Rattle.std.specs.declared.option.Option.{Option}
-use Rattle.std.specs.Io.KnownBytes.{Appends, Consumes, IsAtEnd}
 use Rattle.icode.specs.Machine.{Code}
 use Rattle.icode.specs.Program.{plain_program, code_of}
 use Rattle.icode.specs.declared.program.Program.{Program}
@@ -20,14 +18,13 @@ use Rattle.data_stream.specs.Data.{tokens, closed_part, is_good}
 use Rattle.spiral_words.specs.declared.Command.{Command}
 use Rattle.spiral_words.specs.declared.Command.TheVariants as command
 use Rattle.spiral_status.specs.declared.status.Status.{Status}
-use Rattle.spiral_status.specs.declared.status.Status.TheVariants.{Success, TooLong, ReadFault, WriteFault}
+use Rattle.spiral_status.specs.declared.status.Status.TheVariants.{Success, TooLong}
 use Rattle.spiral_status.specs.Fault.{status_of_spl, status_of_stream, status_of_text}
-use Rattle.spiral_status.specs.Status.{IsDefined}
 use Rattle.spiral_input.specs.Commands.{admitted, first_stranger, procs_named}
 use Rattle.spiral_input.specs.Line.{is_line_end, first_line, data_of, room_behind, HasEnded, IsWholeLine}
+use Rattle.spiral_input.specs.Outcomes.{Outcomes}
 use Rattle.spiral_input.specs.Stage.{Stage, given, ◌>>=◌}
 use Rattle.stream_run.specs.Stream.{lines, vectors_of, data_answer, data_vectors}
-use Rattle.io_edge.specs.Taken.{AppendsPrefix}
 
 -- how many bytes the line of a formula has at most
 abbrev pub formula_limit : ℕ
@@ -116,6 +113,10 @@ abbrev pub IsCutFormula : Command → List ℕ → List ℕ → List ℕ → Typ
 IsCutFormula wanted read left text =
     (formula : Formula) × IsFormulaOver wanted read (left ≡ []) formula × ComesToFormula wanted formula (data_of read) left text
 
+-- what is right for a command that goes by a formula
+abbrev pub formula_outcomes : Command → Outcomes
+formula_outcomes wanted = record { answer = IsFormulaAnswer wanted; broken = IsBrokenFormula wanted; cut = IsCutFormula wanted }
+
 -- What the parts of the call answer
 
 -- the answer to a request for the line, by the bytes that were read, and how many were taken
@@ -139,15 +140,3 @@ IsCompiledText m text listing = (formula : Formula) × formed (command.Compile m
 abbrev pub IsFormulaCode : ℕ → Command → List ℕ → Code → Type 0
 IsFormulaCode m wanted text code =
     (formula : Formula) × (program : Program) × formed wanted text (Ok formula) × IsCodeOf m formula program × (code ≡ code_of program)
-
--- status and output of a command that goes by a formula, by all the bytes of its input and by what is left of them
-pub record Computes (wanted : Command) (bytes : List ℕ) (left before after : Option (List ℕ)) (status : Status) : Type 0 where
-  pub answer : IsDefined status → (text : List ℕ) × IsFormulaAnswer wanted bytes status text × Appends before after text
-  pub read_fault : status ≡ ReadFault → (read : List ℕ) × (text : List ℕ) × Consumes (Some bytes) left read
-      × IsBrokenFormula wanted read (IsAtEnd left) text × Appends before after text
-  pub write_fault : status ≡ WriteFault → (read : List ℕ) × (rest : List ℕ) × (text : List ℕ) × (bytes ≡ read ++ rest)
-      × IsCutFormula wanted read rest text × AppendsPrefix before after text
-
-abbrev pub ToldComputes : Command → Option (List ℕ) → Option (List ℕ) → Option (List ℕ) → Option (List ℕ) → Status → Type 0
-ToldComputes wanted None left before after status = Unit {0}
-ToldComputes wanted (Some bytes) left before after status = Computes wanted bytes left before after status

@@ -1,9 +1,10 @@
 // The command that applies a formula to the vectors of the data.
-ghost use Rattle.std.specs.Prelude.{◌≡◌, ◌≢◌, ◌≤◌, ◌<◌, [], Err, IfOk, IfErr, length, vec_len};
-ghost use Rattle.std.specs.Io.KnownBytes.{Appends, IsAtEnd};
-ghost use Rattle.io_edge.specs.Faults.{Reports};
+ghost use Rattle.std.specs.Prelude.{◌≡◌, ◌≤◌, ◌<◌, Err, IfOk, IfErr, length, vec_len};
+ghost use Rattle.std.specs.Io.KnownBytes.{IsAtEnd};
 ghost use Rattle.io_edge.specs.Feed.{to_come};
-ghost use Rattle.formula_commands.specs.Compiled.{IsFormulaCode, formed, ToldComputes};
+ghost use Rattle.formula_commands.specs.Compiled.{IsFormulaCode, formed, formula_outcomes};
+ghost use Rattle.spiral_input.specs.Ends.{EndsCleanly};
+ghost use Rattle.spiral_input.specs.Outcomes.{ToldMeets};
 ghost use Rattle.spiral_input.specs.Stage.{status_of};
 ghost use Rattle.spiral_status.specs.Status.{IsDefined};
 ghost use Rattle.spiral_input.specs.Refusals.{IsRefusal};
@@ -59,18 +60,14 @@ pub(crate) fn apply<I: Source, O: Sink>(
     output: &mut O,
 ) -> Result<(), Status>
     requires fresh { feed.old.taken ≡ 0 }
-    ensures told { ToldComputes (Command.Apply modulus.now schedule.now)
+    ensures told { ToldMeets (formula_outcomes (Command.Apply modulus.now schedule.now))
         (to_come feed.old (I.left input.old)) (to_come feed.new (I.left input.new))
         (O.taken output.old) (O.taken output.new) (status_of result) }
-    ensures end { status_of result ≡ Status.Success → IsAtEnd (to_come feed.new (I.left input.new)) }
-    ensures empty { status_of result ≡ Status.ReadFault → feed.new.held ≡ [] }
-    ensures usage { status_of result ≢ Status.Usage }
-    ensures read { Reports (I.faults input.old) (I.faults input.new)
-        (status_of result ≡ Status.ReadFault) }
-    ensures write { Reports (O.faults output.old) (O.faults output.new)
-        (status_of result ≡ Status.WriteFault) }
-    ensures memory { status_of result ≡ Status.NoMemory
-        → Appends (O.taken output.old) (O.taken output.new) [] }
+    ensures end { status_of result ≡ Status.Success
+        → IsAtEnd (to_come feed.new (I.left input.new)) }
+    ensures ends { EndsCleanly (status_of result) feed.new.held
+        (I.faults input.old) (I.faults input.new) (O.faults output.old) (O.faults output.new)
+        (O.taken output.old) (O.taken output.new) }
 {
     let text = formula_line(alloc, feed, input)?;
     let (mut machine, mut vector) = formula_engine(alloc, modulus, schedule, &text)?;

@@ -1,10 +1,10 @@
 // The command that prints the code of a formula.
-ghost use Rattle.std.specs.Prelude.{◌≡◌, ◌≢◌, ◌≤◌, [], Ok, Err, IfOk, IfErr, length};
-ghost use Rattle.std.specs.Io.KnownBytes.{Appends};
-ghost use Rattle.io_edge.specs.Faults.{Reports};
+ghost use Rattle.std.specs.Prelude.{◌≡◌, ◌≤◌, Ok, Err, IfOk, IfErr, length};
 ghost use Rattle.io_edge.specs.Feed.{to_come};
 ghost use Rattle.spl_ast.specs.Formula.{parts_of};
-ghost use Rattle.formula_commands.specs.Compiled.{IsCompiledText, formed, written, ToldComputes};
+ghost use Rattle.formula_commands.specs.Compiled.{IsCompiledText, formed, formula_outcomes, written};
+ghost use Rattle.spiral_input.specs.Ends.{EndsCleanly};
+ghost use Rattle.spiral_input.specs.Outcomes.{ToldMeets};
 ghost use Rattle.spiral_input.specs.Stage.{status_of};
 ghost use Rattle.spiral_status.specs.Status.{IsDefined};
 ghost use Rattle.spiral_input.specs.Refusals.{IsRefusal};
@@ -54,17 +54,12 @@ pub(crate) fn compile<I: Source, O: Sink>(
     output: &mut O,
 ) -> Result<(), Status>
     requires fresh { feed.old.taken ≡ 0 }
-    ensures told { ToldComputes (Command.Compile modulus.now)
+    ensures told { ToldMeets (formula_outcomes (Command.Compile modulus.now))
         (to_come feed.old (I.left input.old)) (to_come feed.new (I.left input.new))
         (O.taken output.old) (O.taken output.new) (status_of result) }
-    ensures empty { status_of result ≡ Status.ReadFault → feed.new.held ≡ [] }
-    ensures usage { status_of result ≢ Status.Usage }
-    ensures read { Reports (I.faults input.old) (I.faults input.new)
-        (status_of result ≡ Status.ReadFault) }
-    ensures write { Reports (O.faults output.old) (O.faults output.new)
-        (status_of result ≡ Status.WriteFault) }
-    ensures memory { status_of result ≡ Status.NoMemory
-        → Appends (O.taken output.old) (O.taken output.new) [] }
+    ensures ends { EndsCleanly (status_of result) feed.new.held
+        (I.faults input.old) (I.faults input.new) (O.faults output.old) (O.faults output.new)
+        (O.taken output.old) (O.taken output.new) }
 {
     let text = formula_line(alloc, feed, input)?;
     let listing = formula_listing(alloc, modulus, &text)?;

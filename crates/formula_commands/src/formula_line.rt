@@ -1,8 +1,9 @@
 // The line of a formula, with which an input begins.
-ghost use Rattle.std.specs.Prelude.{◌≡◌, ◌≢◌, ℕ, ◌++◌, ◌∷◌, List, [], IfErr, IsErrOf, OnOk};
+ghost use Rattle.std.specs.Prelude.{◌≡◌, ℕ, ◌++◌, ◌∷◌, List, [], IsErrOf, OnOk};
 ghost use Rattle.std.specs.Io.KnownBytes.{Consumes, IsAtEnd};
 ghost use Rattle.io_edge.specs.Faults.{Reports};
 ghost use Rattle.io_edge.specs.Feed.{to_come};
+ghost use Rattle.spiral_input.specs.Ends.{ReadsCleanly};
 ghost use Rattle.formula_commands.specs.Compiled.{GivesFormula, GivesText};
 
 use input_rest::RestFault;
@@ -29,10 +30,13 @@ fn read_text<S: Source>(
     source: &mut S,
 ) -> Result<Vec<u8>, RestFault>
     requires fresh { feed.old.taken ≡ 0 }
-    ensures answer { (read : List ℕ) × Consumes (to_come feed.old (S.left source.old)) (to_come feed.new (S.left source.new)) read
+    ensures answer { (read : List ℕ)
+        × Consumes (to_come feed.old (S.left source.old))
+        (to_come feed.new (S.left source.new)) read
         × GivesText read (IsAtEnd (to_come feed.new (S.left source.new))) feed.new.taken result }
     ensures empty { IsErrOf result RestFault.ReadFault → feed.new.held ≡ [] }
-    ensures cause { Reports (S.faults source.old) (S.faults source.new) (IsErrOf result RestFault.ReadFault) }
+    ensures cause { Reports (S.faults source.old) (S.faults source.new)
+        (IsErrOf result RestFault.ReadFault) }
 {
     let mut text = Vec::new(alloc);
     while let Some(byte) = feed.byte(source)? {
@@ -57,10 +61,7 @@ pub(crate) fn formula_line<I: Source>(
     ensures told { (read : List ℕ)
         × Consumes (to_come feed.old (I.left input.old)) (to_come feed.new (I.left input.new)) read
         × GivesFormula read (IsAtEnd (to_come feed.new (I.left input.new))) feed.new.taken result }
-    ensures empty { IsErrOf result Status.ReadFault → feed.new.held ≡ [] }
-    ensures read { Reports (I.faults input.old) (I.faults input.new) (IsErrOf result Status.ReadFault) }
-    ensures others { IfErr result (λ status.
-        (status ≢ Status.Success) × (status ≢ Status.Usage) × (status ≢ Status.WriteFault)) }
+    ensures ends { ReadsCleanly result feed.new.held (I.faults input.old) (I.faults input.new) }
 {
     match read_text(alloc, feed, input) {
         Ok(text) => Ok(text),

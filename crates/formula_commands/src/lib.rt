@@ -1,12 +1,13 @@
 //! The commands that go by a formula: the listing of its program, and its matrix times the vectors of the data.
 #![tactic(auto)]
 
-ghost use Rattle.std.specs.Prelude.{◌≡◌, ◌≢◌, [], true};
-ghost use Rattle.std.specs.Io.KnownBytes.{Appends, IsAtEnd};
-ghost use Rattle.io_edge.specs.Faults.{Reports};
+ghost use Rattle.std.specs.Prelude.{◌≡◌, true};
+ghost use Rattle.std.specs.Io.KnownBytes.{IsAtEnd};
 ghost use Rattle.io_edge.specs.Feed.{to_come};
 ghost use Rattle.spiral_input.specs.Commands.{reads_rest, takes_formula};
-ghost use Rattle.formula_commands.specs.Compiled.{ToldComputes};
+ghost use Rattle.spiral_input.specs.Ends.{EndsCleanly};
+ghost use Rattle.spiral_input.specs.Outcomes.{ToldMeets};
+ghost use Rattle.formula_commands.specs.Compiled.{formula_outcomes};
 ghost use Rattle.spiral_input.specs.Stage.{status_of};
 
 mod apply;
@@ -28,19 +29,14 @@ pub fn by_formula<I: Source, O: Sink>(
 ) -> Result<(), Status>
     requires fresh { feed.old.taken ≡ 0 }
     requires formula { takes_formula command.now ≡ true }
-    ensures told { ToldComputes command.now
+    ensures told { ToldMeets (formula_outcomes command.now)
         (to_come feed.old (I.left input.old)) (to_come feed.new (I.left input.new))
         (O.taken output.old) (O.taken output.new) (status_of result) }
     ensures end { status_of result ≡ Status.Success → reads_rest command.now ≡ true
         → IsAtEnd (to_come feed.new (I.left input.new)) }
-    ensures empty { status_of result ≡ Status.ReadFault → feed.new.held ≡ [] }
-    ensures usage { status_of result ≢ Status.Usage }
-    ensures read { Reports (I.faults input.old) (I.faults input.new)
-        (status_of result ≡ Status.ReadFault) }
-    ensures write { Reports (O.faults output.old) (O.faults output.new)
-        (status_of result ≡ Status.WriteFault) }
-    ensures memory { status_of result ≡ Status.NoMemory
-        → Appends (O.taken output.old) (O.taken output.new) [] }
+    ensures ends { EndsCleanly (status_of result) feed.new.held
+        (I.faults input.old) (I.faults input.new) (O.faults output.old) (O.faults output.new)
+        (O.taken output.old) (O.taken output.new) }
 {
     match command {
         Command::Compile { modulus } => compile::compile(alloc, modulus, feed, input, output),

@@ -29,11 +29,13 @@ use Rattle.spiral_status.specs.declared.status.Status.TheVariants.{Turn, ReadFau
 use Rattle.stream_run.specs.declared.stream.StreamFault.{StreamFault}
 use Rattle.spiral_input.specs.Commands.{stranger, admitted}
 use Rattle.spiral_status.specs.Fault.{status_of_listing, status_of_check, status_of_part, status_of_stream}
-use Rattle.listing_commands.specs.Listed.{listing_limit, action_limit, listing_in, loaded, runnable, result_of, IsResultText, room_behind_listing, IsAnswerOfProgram, Executes, ToldExecutes}
+use Rattle.listing_commands.specs.Listed.{listing_limit, action_limit, listing_in, loaded, runnable, result_of, IsResultText, room_behind_listing, IsAnswerOfProgram, exec_outcomes}
 use Rattle.spiral_status.specs.Status.{IsDefined}
 use Rattle.spiral_input.specs.Refusals.{IsRefusal}
 use Rattle.stream_run.specs.Stream.{run_text, texts, lines, vectors_of, Streams}
 use Rattle.spiral_input.proofs.InputLemmas.{none_read, none_left, none_cut}
+use Rattle.spiral_input.specs.Outcomes.{Meets, ToldMeets}
+use Rattle.spiral_input.proofs.OutcomeLemmas.{meets_nothing}
 use Rattle.spiral_input.proofs.DataLemmas.{RunsOver, runs_over}
 
 -- The listing
@@ -129,16 +131,12 @@ same_lines program turns passes (x ∷ vectors) =
 
 -- Without a program
 
-executes_nothing : (schedule : Plan) (bytes : List ℕ) (left out : Option (List ℕ)) (status : Status) → (IsDefined status → runnable schedule bytes (Err status)) → status ≢ ReadFault → status ≢ WriteFault → Executes schedule bytes left out out status
-executes_nothing schedule bytes left out status refused read write = record {
-  answer = λ d. ([], inl (refused d, refl), Appends-nil out);
-  read_fault = λ e. absurd (read e);
-  write_fault = λ e. absurd (write e);
-}
+executes_nothing : (schedule : Plan) (bytes : List ℕ) (left out : Option (List ℕ)) (status : Status) → (IsDefined status → runnable schedule bytes (Err status)) → status ≢ ReadFault → status ≢ WriteFault → Meets (exec_outcomes schedule) bytes left out out status
+executes_nothing schedule bytes left out status refused read write = meets_nothing (exec_outcomes schedule) bytes left out status (λ d. inl (refused d, refl)) read write
 
 -- the listing is not read
 pub executes_unread : (schedule : Plan) (before after out : Option (List ℕ)) (first taken : ℕ) (read : List ℕ) (fault : RestFault)
-    → Consumes before after read → GivesPart listing_limit read (IsAtEnd after) first taken (Err fault) → ToldExecutes schedule before after out out (status_of_part fault)
+    → Consumes before after read → GivesPart listing_limit read (IsAtEnd after) first taken (Err fault) → ToldMeets (exec_outcomes schedule) before after out out (status_of_part fault)
 executes_unread schedule None after out first taken read fault consumed given = tt
 executes_unread schedule (Some bytes) None out first taken read fault consumed given = absurd consumed
 executes_unread schedule (Some bytes) (Some rest) out first taken read rest_fault.TooLong consumed given =
@@ -155,7 +153,7 @@ executes_unread schedule (Some bytes) (Some rest) out first taken read rest_faul
 -- the listing orders no program to run
 pub executes_refused : (schedule : Plan) (before after out : Option (List ℕ)) (read text : List ℕ) (status : Status)
     → Consumes before after read → IsWholePart read (IsAtEnd after) text → length text ≤ listing_limit → (IsDefined status → loaded schedule text (Err status)) → IsRefusal status
-    → ToldExecutes schedule before after out out status
+    → ToldMeets (exec_outcomes schedule) before after out out status
 executes_refused schedule None after out read text status consumed whole short refused refusal = tt
 executes_refused schedule (Some bytes) None out read text status consumed whole short refused refusal = absurd consumed
 executes_refused schedule (Some bytes) (Some rest) out read text status consumed whole short refused refusal =
@@ -176,7 +174,7 @@ IsTextOfAll program text bytes = IsResultText program (vectors_of program.size p
 -- what a program does behind its listing is what the call does
 executes_after : (schedule : Plan) (bytes read rest text : List ℕ) (taken : ℕ) (program : PlainProgram) (left out out' : Option (List ℕ)) (status : Status)
     → bytes ≡ read ++ rest → taken ≡ length read → IsWholePart read (rest ≡ []) text → length text ≤ listing_limit → loaded schedule text (Ok program)
-    → RunsOver (IsResultText program) program.size program.modulus (limit - taken) rest left out out' status → Executes schedule bytes left out out' status
+    → RunsOver (IsResultText program) program.size program.modulus (limit - taken) rest left out out' status → Meets (exec_outcomes schedule) bytes left out out' status
 executes_after schedule bytes read rest text taken program left out out' status cut count whole short load p =
     let here = whole.parts rest (λ e. e) in
     let behind : second_part bytes ≡ rest = ap second_part cut ∙ here.1 in
@@ -240,7 +238,7 @@ executes_after schedule bytes read rest text taken program left out out' status 
 pub executes_run : (schedule : Plan) (turns : List ℕ) (program : PlainProgram) (code : Code) (old new : Fed) (before mid after out out' : Option (List ℕ)) (read text : List ℕ) (first last : State) (result : Result (Unit {0}) StreamFault)
     → Consumes before mid read → old.taken ≡ length read → IsWholePart read (IsAtEnd mid) text → length text ≤ listing_limit → length read ≤ length text + 1 → loaded schedule text (Ok program) → code ≡ plain_code program
     → Streams (run_text false code turns) (λ x. runs code x turns) code.size code.modulus old new mid after out out' first last result
-    → ToldExecutes schedule before after out out' (status_of_stream result)
+    → ToldMeets (exec_outcomes schedule) before after out out' (status_of_stream result)
 executes_run schedule turns program code old new None mid after out out' read text first last result consumed count whole short few load made s = tt
 executes_run schedule turns program code old new (Some bytes) None after out out' read text first last result consumed count whole short few load made s = absurd consumed
 executes_run schedule turns program code old new (Some bytes) (Some rest) None out out' read text first last result consumed count whole short few load made s = absurd s.consumed

@@ -1,9 +1,7 @@
 -- What `exec` answers, which runs a listing only where its program passes the check.
-use Rattle.std.specs.Prelude.{◌≡◌, ◌≢◌, ◌⊎◌, ℕ, ◌-◌, List, [], length, nat_le, true, Ok, Err, Result, if◌then◌else◌, ◌++◌, None, Some, Vec}
+use Rattle.std.specs.Prelude.{◌≡◌, ◌≢◌, ◌⊎◌, ℕ, ◌-◌, List, [], length, nat_le, true, Ok, Err, Result, if◌then◌else◌, Vec}
 use Rattle.std.specs.List.{list_all}
 use Rattle.std.proofs.Common.{Global}
-use Rattle.std.specs.declared.option.Option.{Option}
-use Rattle.std.specs.Io.KnownBytes.{Appends, Consumes, IsAtEnd}
 use Rattle.icode.specs.Actions.{plain_code}
 use Rattle.icode.specs.Machine.{results, Code}
 use Rattle.icode.specs.Plain.{PlainProgram}
@@ -13,16 +11,15 @@ use Rattle.code_check.specs.declared.fault.CheckFault.{CheckFault}
 use Rattle.code_check.specs.declared.fault.CheckFault.TheVariants as check
 use Rattle.code_check.specs.Refusals.{PassesCheck, IsCause}
 use Rattle.io_edge.specs.Feed.{limit}
-use Rattle.io_edge.specs.Taken.{AppendsPrefix}
 use Rattle.input_rest.specs.Part.{first_part, second_part, HasPartEnded, IsInPart, GivesPart}
 use Rattle.input_rest.specs.declared.RestFault.{RestFault}
 use Rattle.data_stream.specs.Data.{tokens, closed_part, is_good}
 use Rattle.request_text.specs.Schedule.{Plan as Turns}
 use Rattle.spiral_status.specs.declared.status.Status.{Status}
-use Rattle.spiral_status.specs.declared.status.Status.TheVariants.{TooLong, ListingSyntax, ReadFault, WriteFault}
+use Rattle.spiral_status.specs.declared.status.Status.TheVariants.{TooLong, ListingSyntax}
 use Rattle.spiral_status.specs.Fault.{status_of_check, status_of_stream, status_of_part}
-use Rattle.spiral_status.specs.Status.{IsDefined}
 use Rattle.spiral_input.specs.Commands.{stranger, admitted}
+use Rattle.spiral_input.specs.Outcomes.{Outcomes}
 use Rattle.spiral_input.specs.Stage.{Stage, given, ◌>>=◌}
 use Rattle.stream_run.specs.Stream.{lines, vectors_of, data_answer, data_vectors}
 
@@ -103,6 +100,10 @@ IsCutExecution schedule read left text =
     (program : PlainProgram) × IsProgramOver schedule read (left ≡ []) program × ((closed_part (second_part read) ≡ second_part read) ⊎ (left ≡ []))
     × IsResultText program (vectors_of program.size program.modulus (tokens (second_part read))) text
 
+-- what is right for `exec`
+abbrev pub exec_outcomes : Turns → Outcomes
+exec_outcomes schedule = record { answer = IsExecution schedule; broken = IsBrokenExecution schedule; cut = IsCutExecution schedule }
+
 -- What the parts of the call answer
 
 -- the listing's text, by the bytes that were read; or why it is not read
@@ -113,15 +114,3 @@ GivesListing read ended taken (Err status) = (fault : RestFault) × (status ≡ 
 -- the code of the program that a listing orders to run
 abbrev pub IsLoadedCode : Turns → List ℕ → Code → Type 0
 IsLoadedCode schedule text code = (program : PlainProgram) × loaded schedule text (Ok program) × (code ≡ plain_code program)
-
--- status and output of `exec`, by all the bytes of its input and by what is left of them
-pub record Executes (schedule : Turns) (bytes : List ℕ) (left before after : Option (List ℕ)) (status : Status) : Type 0 where
-  pub answer : IsDefined status → (text : List ℕ) × IsExecution schedule bytes status text × Appends before after text
-  pub read_fault : status ≡ ReadFault → (read : List ℕ) × (text : List ℕ) × Consumes (Some bytes) left read
-      × IsBrokenExecution schedule read (IsAtEnd left) text × Appends before after text
-  pub write_fault : status ≡ WriteFault → (read : List ℕ) × (rest : List ℕ) × (text : List ℕ) × (bytes ≡ read ++ rest)
-      × IsCutExecution schedule read rest text × AppendsPrefix before after text
-
-abbrev pub ToldExecutes : Turns → Option (List ℕ) → Option (List ℕ) → Option (List ℕ) → Option (List ℕ) → Status → Type 0
-ToldExecutes schedule None left before after status = Unit {0}
-ToldExecutes schedule (Some bytes) left before after status = Executes schedule bytes left before after status

@@ -1,11 +1,12 @@
 //! The command that runs a listing.
 #![tactic(auto)]
 
-ghost use Rattle.std.specs.Prelude.{◌≡◌, ◌≢◌, ◌<◌, ℕ, List, [], Err, IfOk, IfErr, IsErrOf, vec_len};
-ghost use Rattle.std.specs.Io.KnownBytes.{Appends, Consumes, IsAtEnd};
-ghost use Rattle.io_edge.specs.Faults.{Reports};
+ghost use Rattle.std.specs.Prelude.{◌≡◌, ◌<◌, ℕ, List, Err, IfOk, IfErr, vec_len};
+ghost use Rattle.std.specs.Io.KnownBytes.{Consumes, IsAtEnd};
 ghost use Rattle.io_edge.specs.Feed.{to_come};
-ghost use Rattle.listing_commands.specs.Listed.{loaded, GivesListing, IsLoadedCode, ToldExecutes};
+ghost use Rattle.listing_commands.specs.Listed.{loaded, exec_outcomes, GivesListing, IsLoadedCode};
+ghost use Rattle.spiral_input.specs.Ends.{EndsCleanly, ReadsCleanly};
+ghost use Rattle.spiral_input.specs.Outcomes.{ToldMeets};
 ghost use Rattle.spiral_input.specs.Stage.{status_of};
 ghost use Rattle.spiral_status.specs.Status.{IsDefined};
 ghost use Rattle.spiral_input.specs.Refusals.{IsRefusal};
@@ -31,11 +32,7 @@ fn listing_text<I: Source>(alloc: Global, feed: &mut Feed, input: &mut I) -> Res
     ensures told { (read : List ℕ)
         × Consumes (to_come feed.old (I.left input.old)) (to_come feed.new (I.left input.new)) read
         × GivesListing read (IsAtEnd (to_come feed.new (I.left input.new))) feed.new.taken result }
-    ensures empty { IsErrOf result Status.ReadFault → feed.new.held ≡ [] }
-    ensures read { Reports (I.faults input.old) (I.faults input.new)
-        (IsErrOf result Status.ReadFault) }
-    ensures others { IfErr result (λ status.
-        (status ≢ Status.Success) × (status ≢ Status.Usage) × (status ≢ Status.WriteFault)) }
+    ensures ends { ReadsCleanly result feed.new.held (I.faults input.old) (I.faults input.new) }
 {
     match read_part(alloc, feed, input, LISTING_LIMIT) {
         Ok(text) => Ok(text),
@@ -79,18 +76,14 @@ pub fn exec<I: Source, O: Sink>(
     output: &mut O,
 ) -> Result<(), Status>
     requires fresh { feed.old.taken ≡ 0 }
-    ensures told { ToldExecutes schedule.now
+    ensures told { ToldMeets (exec_outcomes schedule.now)
         (to_come feed.old (I.left input.old)) (to_come feed.new (I.left input.new))
         (O.taken output.old) (O.taken output.new) (status_of result) }
-    ensures end { status_of result ≡ Status.Success → IsAtEnd (to_come feed.new (I.left input.new)) }
-    ensures empty { status_of result ≡ Status.ReadFault → feed.new.held ≡ [] }
-    ensures usage { status_of result ≢ Status.Usage }
-    ensures read { Reports (I.faults input.old) (I.faults input.new)
-        (status_of result ≡ Status.ReadFault) }
-    ensures write { Reports (O.faults output.old) (O.faults output.new)
-        (status_of result ≡ Status.WriteFault) }
-    ensures memory { status_of result ≡ Status.NoMemory
-        → Appends (O.taken output.old) (O.taken output.new) [] }
+    ensures end { status_of result ≡ Status.Success
+        → IsAtEnd (to_come feed.new (I.left input.new)) }
+    ensures ends { EndsCleanly (status_of result) feed.new.held
+        (I.faults input.old) (I.faults input.new) (O.faults output.old) (O.faults output.new)
+        (O.taken output.old) (O.taken output.new) }
 {
     let text = listing_text(alloc, feed, input)?;
     let (mut machine, mut vector) = loaded_engine(alloc, &text, schedule)?;

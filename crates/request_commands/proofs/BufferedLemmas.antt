@@ -24,9 +24,10 @@ use Rattle.stream_run.specs.declared.stream.StreamFault.{StreamFault}
 use Rattle.stream_run.specs.BufferedText.{buffered_text}
 use Rattle.spiral_status.specs.Fault.{status_of_stream}
 use Rattle.request_commands.specs.Traced.{order_of, traced_text}
-use Rattle.request_commands.specs.Performed.{IsGoodCode, ToldPerforms}
+use Rattle.request_commands.specs.Performed.{IsGoodCode, IsTraced, request_outcomes}
+use Rattle.spiral_input.specs.Outcomes.{ToldMeets}
 use Rattle.stream_run.specs.Stream.{Streams, texts, vectors_of}
-use Rattle.request_commands.proofs.PerformedLemmas.{IsTextFor, IsTraced, good_lines, performs_stream, performs_trace, stream_of_request, traced_stranger}
+use Rattle.request_commands.proofs.PerformedLemmas.{IsTextFor, good_lines, performs_stream, performs_trace, stream_of_request, traced_stranger}
 use Rattle.request_commands.proofs.Requests.{limits}
 use Rattle.request_commands.proofs.RunLemmas.{good_procs}
 
@@ -46,7 +47,7 @@ good_memory request code good x events =
 pub performs_buffered_run : (order : Order) (request : TransformRequest) (code : Code) (events : List Event) (old new : Fed) (before after out out' : Option (List ℕ)) (first last : Buffered) (result : Result (Unit {0}) StreamFault)
     → IsGoodCode request code → IsRequestInRange request → old.taken ≤ limit
     → Streams (buffered_text false code events) (λ x. buffered_runs code x events) code.size code.modulus old new before after out out' first last result
-    → ToldPerforms (command.Run order) request (limit - old.taken) before after out out' (status_of_stream result)
+    → ToldMeets (request_outcomes (command.Run order) request (limit - old.taken)) before after out out' (status_of_stream result)
 performs_buffered_run order request code events old new before after out out' first last result good in_range within s =
     let size : code.size ≡ size_of request = ap (λ (k : Code). k.size) good.4 ∙ good.3.header.size in
     let modulus : code.modulus ≡ modulus_of request = ap (λ (k : Code). k.modulus) good.4 ∙ good.3.header.modulus in
@@ -65,7 +66,7 @@ traced_events (events.Mixed mix) procs code = refl
 pub performs_buffered_trace : (word : Events) (request : TransformRequest) (listing : List ℕ) (code : Code) (old new : Fed) (before after start out out' : Option (List ℕ)) (first last : Buffered) (result : Result (Unit {0}) StreamFault)
     → IsTraced request listing code → Appends start out listing → old.taken ≤ limit
     → Streams (buffered_text true code (events_of word code.procs)) (λ x. buffered_runs code x (events_of word code.procs)) code.size code.modulus old new before after out out' first last result
-    → ToldPerforms (command.Trace (order_of word)) request (limit - old.taken) before after start out' (status_of_stream result)
+    → ToldMeets (request_outcomes (command.Trace (order_of word)) request (limit - old.taken)) before after start out' (status_of_stream result)
 performs_buffered_trace word request listing code old new before after start out out' first last result made begun within s =
     let leaves : List ℕ → Buffered = λ x. buffered_runs code x (events_of word code.procs) in
     performs_trace (order_of word) request listing code leaves old new before after start out out' first last result made begun within

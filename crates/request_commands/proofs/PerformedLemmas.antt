@@ -15,7 +15,6 @@ use Rattle.data_stream.specs.Reading.{residues}
 use Rattle.plan_faults.specs.declared.generating.GenerateFault.{GenerateFault}
 use Rattle.plan_faults.specs.declared.generating.GenerateFault.TheVariants as generate
 use Rattle.transform_code.specs.Planned.{IsPlanned, IsAdmitted, IsBarred}
-use Rattle.icode.specs.declared.program.Program.{Program}
 use Rattle.icode.specs.Program.{plain_program, code_of}
 use Rattle.listing_text.specs.Listing.{listing_of}
 use Rattle.input_rest.specs.declared.RestFault.{RestFault}
@@ -36,12 +35,14 @@ use Rattle.spiral_status.specs.Fault.{status_of_generate, status_of_rest, status
 use Rattle.request_commands.specs.Traced.{traced_text}
 use Rattle.spiral_status.specs.Status.{IsDefined}
 use Rattle.stream_run.specs.Stream.{vectors_of, texts, lines, run_text, Streams}
-use Rattle.request_commands.specs.Settled.{IsRefused, IsShutOut, IsAffordable, IsAccepted, IsDeclined, product, IsProgramFor, IsTextOf, IsTextOfData}
+use Rattle.request_commands.specs.Settled.{IsRefused, IsShutOut, IsAffordable, IsAccepted, IsDeclined, product, IsTextOf, IsTextOfData}
 use Rattle.spiral_input.proofs.DataLemmas.{RunsOver, runs_over, lines_equal}
 use Rattle.request_commands.proofs.Requests.{limits}
 use Rattle.stream_run.proofs.StreamLemmas.{vectors_few}
 use Rattle.spiral_input.specs.Refusals.{IsRefusal}
-use Rattle.request_commands.specs.Performed.{IsGoodCode, Performs, ToldPerforms}
+use Rattle.request_commands.specs.Performed.{IsGoodCode, IsTraced, request_outcomes}
+use Rattle.spiral_input.specs.Outcomes.{Meets, ToldMeets}
+use Rattle.spiral_input.proofs.OutcomeLemmas.{meets_nothing}
 
 -- Refusals
 
@@ -110,22 +111,18 @@ text_alone (command.Convolve schedule as_code) h = refl
 
 -- a command that a refusal ends before its output
 pub performs_refused : (wanted : Command) (request : TransformRequest) (room : ℕ) (bytes : List ℕ) (left out : Option (List ℕ)) (status : Status)
-    → (IsDefined status → IsDeclined wanted request status) → IsRefusal status → Performs wanted request room bytes left out out status
-performs_refused wanted request room bytes left out status p r = record {
-  answer = λ d. ([], inl (p d, refl), Appends-nil out);
-  read_fault = λ e. absurd (r.read e);
-  write_fault = λ e. absurd (r.write e);
-}
+    → (IsDefined status → IsDeclined wanted request status) → IsRefusal status → Meets (request_outcomes wanted request room) bytes left out out status
+performs_refused wanted request room bytes left out status p r = meets_nothing (request_outcomes wanted request room) bytes left out status (λ d. inl (p d, refl)) r.read r.write
 
 pub told_refused : (wanted : Command) (request : TransformRequest) (room : ℕ) (before left out : Option (List ℕ)) (status : Status)
-    → (IsDefined status → IsDeclined wanted request status) → IsRefusal status → ToldPerforms wanted request room before left out out status
+    → (IsDefined status → IsDeclined wanted request status) → IsRefusal status → ToldMeets (request_outcomes wanted request room) before left out out status
 told_refused wanted request room None left out status p r = tt
 told_refused wanted request room (Some bytes) left out status p r = performs_refused wanted request room bytes left out status p r
 
 -- Texts of the request alone
 
 pub performs_text : (wanted : Command) (request : TransformRequest) (room : ℕ) (bytes : List ℕ) (left out out' : Option (List ℕ)) (text : List ℕ)
-    → IsAccepted wanted request → IsTextOf wanted request text → Appends out out' text → Performs wanted request room bytes left out out' Success
+    → IsAccepted wanted request → IsTextOf wanted request text → Appends out out' text → Meets (request_outcomes wanted request room) bytes left out out' Success
 performs_text wanted request room bytes left out out' text p l w = record {
   answer = λ d. (text, inr (p, inr (inl (refl, l))), w);
   read_fault = λ e. absurd (cc);
@@ -133,11 +130,11 @@ performs_text wanted request room bytes left out out' text p l w = record {
 }
 
 pub performs_cut : (wanted : Command) (request : TransformRequest) (room : ℕ) (bytes : List ℕ) (left out out' : Option (List ℕ)) (text : List ℕ)
-    → IsAccepted wanted request → IsTextOf wanted request text → AppendsPrefix out out' text → Performs wanted request room bytes left out out' WriteFault
+    → IsAccepted wanted request → IsTextOf wanted request text → AppendsPrefix out out' text → Meets (request_outcomes wanted request room) bytes left out out' WriteFault
 performs_cut wanted request room bytes left out out' text p l w = record {
   answer = λ d. absurd (d.write refl);
   read_fault = λ e. absurd (cc);
-  write_fault = λ _. ([], bytes, text, refl, p, inr (inl l), w);
+  write_fault = λ _. ([], bytes, text, refl, (p, inr (inl l)), w);
 }
 
 -- The lines of a run
@@ -162,18 +159,18 @@ IsTextFor wanted request front text = (ts : List (List ℕ)) → IsTextOfData wa
 -- a run over the data is what the command for the request performs
 data_performed : (wanted : Command) (request : TransformRequest) (room : ℕ) (bytes : List ℕ) (left out out' : Option (List ℕ)) (status : Status)
     → IsAccepted wanted request → RunsOver (IsTextOfData wanted request) (size_of request) (modulus_of request) room bytes left out out' status
-    → Performs wanted request room bytes left out out' status
+    → Meets (request_outcomes wanted request room) bytes left out out' status
 data_performed wanted request room bytes left out out' status there r = record {
   answer = λ d. let found = r.answer d in (found.0, inr (there, inl (found.1, found.2)), found.3);
-  read_fault = λ e. let found = r.read_fault e in (found.0, found.1, found.2, there, inl (found.3, found.4), found.5);
-  write_fault = λ e. let found = r.write_fault e in (found.0, found.1, found.2, found.3, there, inl (found.4, found.5, found.6), found.7);
+  read_fault = λ e. let found = r.read_fault e in (found.0, found.1, found.2, (there, inl (found.3, found.4)), found.5);
+  write_fault = λ e. let found = r.write_fault e in (found.0, found.1, found.2, found.3, (there, inl (found.4, found.5, found.6)), found.7);
 }
 
 pub performs_stream : {S : Type 0} (wanted : Command) (request : TransformRequest) (front : List ℕ) (text : List ℕ → List ℕ) (leaves : List ℕ → S) (old new : Fed) (before after start out out' : Option (List ℕ)) (first last : S)
     (result : Result (Unit {0}) StreamFault)
     → IsAccepted wanted request → IsTextFor wanted request front text → Appends start out front → old.taken ≤ limit
     → Streams text leaves (size_of request) (modulus_of request) old new before after out out' first last result
-    → ToldPerforms wanted request (limit - old.taken) before after start out' (status_of_stream result)
+    → ToldMeets (request_outcomes wanted request (limit - old.taken)) before after start out' (status_of_stream result)
 performs_stream wanted request front text leaves old new None after start out out' first last result there writes begun within s = tt
 performs_stream wanted request front text leaves old new (Some bytes) None start out out' first last result there writes begun within s = absurd s.consumed
 performs_stream wanted request front text leaves old new (Some bytes) (Some rest) start out out' first last result there writes begun within s =
@@ -191,7 +188,7 @@ stream_of_request request code text leaves old new before after out out' first l
 pub performs_run : (order : Order) (request : TransformRequest) (code : Code) (turns : List ℕ) (old new : Fed) (before after out out' : Option (List ℕ)) (first last : State) (result : Result (Unit {0}) StreamFault)
     → IsGoodCode request code → IsRequestInRange request → All (λ q. q < procs_of request) turns → old.taken ≤ limit
     → Streams (run_text false code turns) (λ x. runs code x turns) code.size code.modulus old new before after out out' first last result
-    → ToldPerforms (command.Run order) request (limit - old.taken) before after out out' (status_of_stream result)
+    → ToldMeets (request_outcomes (command.Run order) request (limit - old.taken)) before after out out' (status_of_stream result)
 performs_run order request code turns old new before after out out' first last result good in_range there within s =
     let size : code.size ≡ size_of request = ap (λ (k : Code). k.size) good.4 ∙ good.3.header.size in
     let modulus : code.modulus ≡ modulus_of request = ap (λ (k : Code). k.modulus) good.4 ∙ good.3.header.modulus in
@@ -199,10 +196,6 @@ performs_run order request code turns old new before after out out' first last r
     let writes : IsTextFor (command.Run order) request [] (run_text false code turns) =
     λ ts. good_lines request code turns (vectors_of (size_of request) (modulus_of request) ts) good (limits request in_range).modulus there (ts, refl) in
     performs_stream (command.Run order) request [] (run_text false code turns) (λ x. runs code x turns) old new before after out out out' first last result (good.0, good.2) writes (Appends-nil out) within sized
-
--- what a traced run stands on: the listing of a program for the request, and its code
-abbrev pub IsTraced : TransformRequest → List ℕ → Code → Type 0
-IsTraced request listing code = (program : Program) × IsProgramFor request program × (listing ≡ listing_of (plain_program program)) × (code ≡ code_of program)
 
 traced_affordable : (request : TransformRequest) (listing : List ℕ) (code : Code) → IsTraced request listing code → IsAffordable request
 traced_affordable request listing code made = (made.1.0, made.1.1)
@@ -224,7 +217,7 @@ traced_writes order request listing code made ts =
 pub performs_trace : {S : Type 0} (order : Order) (request : TransformRequest) (listing : List ℕ) (code : Code) (leaves : List ℕ → S) (old new : Fed) (before after start out out' : Option (List ℕ)) (first last : S) (result : Result (Unit {0}) StreamFault)
     → IsTraced request listing code → Appends start out listing → old.taken ≤ limit
     → Streams (traced_text order code.procs code) leaves code.size code.modulus old new before after out out' first last result
-    → ToldPerforms (command.Trace order) request (limit - old.taken) before after start out' (status_of_stream result)
+    → ToldMeets (request_outcomes (command.Trace order) request (limit - old.taken)) before after start out' (status_of_stream result)
 performs_trace order request listing code leaves old new before after start out out' first last result made begun within s =
     let size : code.size ≡ size_of request = ap (λ (k : Code). k.size) made.3 ∙ made.1.2.0.header.size in
     let modulus : code.modulus ≡ modulus_of request = ap (λ (k : Code). k.modulus) made.3 ∙ made.1.2.0.header.modulus in
@@ -234,7 +227,7 @@ performs_trace order request listing code leaves old new before after start out 
 
 -- a trace whose listing is not written whole
 pub listing_cut : (order : Order) (request : TransformRequest) (listing : List ℕ) (code : Code) (room : ℕ) (before left out out' : Option (List ℕ))
-    → IsTraced request listing code → IsRequestInRange request → AppendsPrefix out out' listing → ToldPerforms (command.Trace order) request room before left out out' WriteFault
+    → IsTraced request listing code → IsRequestInRange request → AppendsPrefix out out' listing → ToldMeets (request_outcomes (command.Trace order) request room) before left out out' WriteFault
 listing_cut order request listing code room None left out out' made in_range w = tt
 listing_cut order request listing code room (Some bytes) left out out' made in_range w =
     let text = traced_text order code.procs code in
@@ -248,8 +241,10 @@ listing_cut order request listing code room (Some bytes) left out out' made in_r
         bytes,
         listing,
         refl,
-        traced_affordable request listing code made,
-        inl (refl, inl refl, subst (IsTextOfData (command.Trace order) request (vectors_of (size_of request) (modulus_of request) [])) alone (traced_writes order request listing code made [])),
+        (
+          traced_affordable request listing code made,
+          inl (refl, inl refl, subst (IsTextOfData (command.Trace order) request (vectors_of (size_of request) (modulus_of request) [])) alone (traced_writes order request listing code made [])),
+        ),
         w,
       );
     }
@@ -257,16 +252,16 @@ listing_cut order request listing code room (Some bytes) left out out' made in_r
 -- Certificates
 
 -- a command that has no memory
-performs_nothing : (wanted : Command) (request : TransformRequest) (room : ℕ) (bytes : List ℕ) (left out : Option (List ℕ)) → Performs wanted request room bytes left out out NoMemory
+performs_nothing : (wanted : Command) (request : TransformRequest) (room : ℕ) (bytes : List ℕ) (left out : Option (List ℕ)) → Meets (request_outcomes wanted request room) bytes left out out NoMemory
 performs_nothing wanted request room bytes left out = record { answer = λ d. absurd (d.memory refl); read_fault = λ e. absurd (cc); write_fault = λ e. absurd (cc) }
 
-pub told_nothing : (wanted : Command) (request : TransformRequest) (room : ℕ) (before left out : Option (List ℕ)) → ToldPerforms wanted request room before left out out NoMemory
+pub told_nothing : (wanted : Command) (request : TransformRequest) (room : ℕ) (before left out : Option (List ℕ)) → ToldMeets (request_outcomes wanted request room) before left out out NoMemory
 told_nothing wanted request room None left out = tt
 told_nothing wanted request room (Some bytes) left out = performs_nothing wanted request room bytes left out
 
 judged_performs : (request : TransformRequest) (room : ℕ) (bytes : List ℕ) (left out out' : Option (List ℕ)) (found : Verdict)
     → IsAdmitted request → length bytes ≤ certificate_limit → IsVerdict request bytes found → Appends out out' (verdict_text found)
-    → Performs command.Check request room bytes left out out' (status_of_verdict found)
+    → Meets (request_outcomes command.Check request room) bytes left out out' (status_of_verdict found)
 judged_performs request room bytes left out out' (verdict.Least cost) there few judged w = record {
   answer = λ d. (least_line cost, inr (there, inr (inr (refl, inr (few, (verdict.Least cost, judged, refl, refl))))), w);
   read_fault = λ e. absurd (cc);
@@ -285,7 +280,7 @@ judged_performs request room bytes left out out' (verdict.Wrong size given found
 
 -- a check whose input has no rest that can be judged
 pub performs_unread : (request : TransformRequest) (room : ℕ) (before after out : Option (List ℕ)) (read : List ℕ) (fault : RestFault)
-    → IsAdmitted request → Consumes before after read → GivesRest certificate_limit read (IsAtEnd after) (Err fault) → ToldPerforms command.Check request room before after out out (status_of_rest fault)
+    → IsAdmitted request → Consumes before after read → GivesRest certificate_limit read (IsAtEnd after) (Err fault) → ToldMeets (request_outcomes command.Check request room) before after out out (status_of_rest fault)
 performs_unread request room None after out read fault there consumed given = tt
 performs_unread request room (Some bytes) None out read fault there consumed given = absurd consumed
 performs_unread request room (Some bytes) (Some rest) out read rest_fault.TooLong there consumed given =
@@ -298,7 +293,7 @@ performs_unread request room (Some bytes) (Some rest) out read rest_fault.TooLon
     }
 performs_unread request room (Some bytes) (Some rest) out read rest_fault.ReadFault there consumed given = record {
   answer = λ d. absurd (d.read refl);
-  read_fault = λ _. (read, [], consumed, there, inr (refl, given, refl), Appends-nil out);
+  read_fault = λ _. (read, [], consumed, (there, inr (refl, given, refl)), Appends-nil out);
   write_fault = λ e. absurd (cc);
 }
 performs_unread request room (Some bytes) (Some rest) out read rest_fault.NoMemory there consumed given = performs_nothing command.Check request room bytes (Some rest) out
@@ -311,7 +306,7 @@ judged_of request text seen found other q e judged =
 -- a rest that was judged
 pub performs_judged : (request : TransformRequest) (room : ℕ) (before after out out' : Option (List ℕ)) (read text : List ℕ) (found : Verdict)
     → IsAdmitted request → Consumes before after read → text ≡ read → IsAtEnd after → length read ≤ certificate_limit → IsVerdict request text found → Appends out out' (verdict_text found)
-    → ToldPerforms command.Check request room before after out out' (status_of_verdict found)
+    → ToldMeets (request_outcomes command.Check request room) before after out out' (status_of_verdict found)
 performs_judged request room None after out out' read text found there consumed same end short judged w = tt
 performs_judged request room (Some bytes) None out out' read text found there consumed same end short judged w = absurd consumed
 performs_judged request room (Some bytes) (Some rest) out out' read text found there consumed same end short judged w =
@@ -323,7 +318,7 @@ performs_judged request room (Some bytes) (Some rest) out out' read text found t
 -- a rest that was judged right, and the line that says so was not written whole
 pub performs_judged_cut : (request : TransformRequest) (room : ℕ) (before after out out' : Option (List ℕ)) (read text : List ℕ) (cost : ℕ)
     → IsAdmitted request → Consumes before after read → text ≡ read → IsAtEnd after → length read ≤ certificate_limit → IsVerdict request text (verdict.Least cost) → AppendsPrefix out out' (least_line cost)
-    → ToldPerforms command.Check request room before after out out' WriteFault
+    → ToldMeets (request_outcomes command.Check request room) before after out out' WriteFault
 performs_judged_cut request room None after out out' read text cost there consumed same end short judged w = tt
 performs_judged_cut request room (Some bytes) None out out' read text cost there consumed same end short judged w = absurd consumed
 performs_judged_cut request room (Some bytes) (Some rest) out out' read text cost there consumed same end short judged w = record {
@@ -334,14 +329,13 @@ performs_judged_cut request room (Some bytes) (Some rest) out out' read text cos
     rest,
     least_line cost,
     consumed,
-    there,
-    inr (inr (refl, end, short, (verdict.Least cost, subst (λ l. IsVerdict request l (verdict.Least cost)) same judged, refl, refl))),
+    (there, inr (inr (refl, end, short, (verdict.Least cost, subst (λ l. IsVerdict request l (verdict.Least cost)) same judged, refl, refl)))),
     w,
   );
 }
 
 -- the performance of a command that needs no data
 pub told_any : (wanted : Command) (request : TransformRequest) (room : ℕ) (before left out out' : Option (List ℕ)) (status : Status)
-    → ((room : ℕ) (bytes : List ℕ) (left : Option (List ℕ)) → Performs wanted request room bytes left out out' status) → ToldPerforms wanted request room before left out out' status
+    → ((room : ℕ) (bytes : List ℕ) (left : Option (List ℕ)) → Meets (request_outcomes wanted request room) bytes left out out' status) → ToldMeets (request_outcomes wanted request room) before left out out' status
 told_any wanted request room None left out out' status p = tt
 told_any wanted request room (Some bytes) left out out' status p = p room bytes left

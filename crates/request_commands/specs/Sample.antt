@@ -1,6 +1,7 @@
 -- What `sample` makes and counts.
-use Rattle.std.specs.Prelude.{ℕ, ◌+◌, ◌*◌, ◌%◌, ◌^◌, ◌<◌, List, ◌++◌, length, slice_index, codes, decimal}
+use Rattle.std.specs.Prelude.{◌≡◌, ℕ, ◌+◌, ◌*◌, ◌%◌, ◌^◌, ◌<◌, List, ◌++◌, length, slice_index, codes, decimal}
 use Rattle.operators.specs.Sum.{sum_below, list_below}
+use Rattle.icode.specs.declared.action.Counts.{Counts}
 use Rattle.icode.specs.Machine.{Code, State, counts_so_far}
 use Rattle.request_text.specs.Turns.{state_after}
 
@@ -22,3 +23,10 @@ pub record AreCountable (code : Code) (s : State) : Type 0 where
   pub muls : sum_below code.procs (λ q. (counts_so_far code s q).muls) < 2 ^ 64
   pub loads : sum_below code.procs (λ q. (counts_so_far code s q).loads) < 2 ^ 64
   pub stores : sum_below code.procs (λ q. (counts_so_far code s q).stores) < 2 ^ 64
+
+-- the counts are of what all processors have executed together
+pub record AreTotals (code : Code) (s : State) (totals : Counts) : Type 0 where
+  pub operations : totals.operations ≡ sum_below code.procs (λ q. (counts_so_far code s q).operations)
+  pub muls : totals.muls ≡ sum_below code.procs (λ q. (counts_so_far code s q).muls)
+  pub loads : totals.loads ≡ sum_below code.procs (λ q. (counts_so_far code s q).loads)
+  pub stores : totals.stores ≡ sum_below code.procs (λ q. (counts_so_far code s q).stores)

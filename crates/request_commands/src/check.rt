@@ -1,13 +1,15 @@
 // The command that judges a certificate.
-ghost use Rattle.std.specs.Prelude.{◌≡◌, ◌≢◌, ◌-◌, ◌≤◌, []};
-ghost use Rattle.std.specs.Io.KnownBytes.{Appends, IsAtEnd};
+ghost use Rattle.std.specs.Prelude.{◌≡◌, ◌-◌, ◌≤◌};
+ghost use Rattle.std.specs.Io.KnownBytes.{IsAtEnd};
 ghost use Rattle.transform_requests.specs.Range.{IsRequestInRange};
-ghost use Rattle.io_edge.specs.Faults.{HasCause, Reports};
+ghost use Rattle.io_edge.specs.Faults.{HasCause};
 ghost use Rattle.io_edge.specs.Feed.{to_come, limit};
 ghost use Rattle.io_edge.specs.Taken.{WritesAll};
 ghost use Rattle.request_commands.specs.Checked.{least_line};
 ghost use Rattle.spiral_input.specs.Stage.{status_of};
-ghost use Rattle.request_commands.specs.Performed.{ToldPerforms};
+ghost use Rattle.spiral_input.specs.Ends.{EndsCleanly};
+ghost use Rattle.spiral_input.specs.Outcomes.{ToldMeets};
+ghost use Rattle.request_commands.specs.Performed.{request_outcomes};
 
 use input_rest::read_rest;
 use io_edge::{Feed, Sink, Source, WriteFault, write_parts};
@@ -38,14 +40,14 @@ pub(crate) fn check<I: Source, O: Sink>(
 ) -> Result<(), Status>
     requires in_range { IsRequestInRange request.now }
     requires line { feed.old.taken ≤ 257 }
-    ensures told { ToldPerforms Command.Check request.now (limit - feed.old.taken) (to_come feed.old (I.left input.old))
-        (to_come feed.new (I.left input.new)) (O.taken output.old) (O.taken output.new) (status_of result) }
-    ensures end { status_of result ≡ Status.Success → IsAtEnd (to_come feed.new (I.left input.new)) }
-    ensures empty { status_of result ≡ Status.ReadFault → feed.new.held ≡ [] }
-    ensures usage { status_of result ≢ Status.Usage }
-    ensures read { Reports (I.faults input.old) (I.faults input.new) (status_of result ≡ Status.ReadFault) }
-    ensures write { Reports (O.faults output.old) (O.faults output.new) (status_of result ≡ Status.WriteFault) }
-    ensures memory { status_of result ≡ Status.NoMemory → Appends (O.taken output.old) (O.taken output.new) [] }
+    ensures told { ToldMeets (request_outcomes Command.Check request.now (limit - feed.old.taken))
+        (to_come feed.old (I.left input.old)) (to_come feed.new (I.left input.new))
+        (O.taken output.old) (O.taken output.new) (status_of result) }
+    ensures end { status_of result ≡ Status.Success
+        → IsAtEnd (to_come feed.new (I.left input.new)) }
+    ensures ends { EndsCleanly (status_of result) feed.new.held
+        (I.faults input.old) (I.faults input.new) (O.faults output.old) (O.faults output.new)
+        (O.taken output.old) (O.taken output.new) }
 {
     admit_request(request)?;
     let text = read_rest(alloc, feed, input, CERTIFICATE_LIMIT)?;

@@ -1,13 +1,14 @@
 // The commands that go over the vectors of the data.
-ghost use Rattle.std.specs.Prelude.{◌≡◌, ◌≢◌, ◌-◌, ◌≤◌, []};
-ghost use Rattle.std.specs.Io.KnownBytes.{Appends, IsAtEnd};
+ghost use Rattle.std.specs.Prelude.{◌≡◌, ◌-◌, ◌≤◌};
+ghost use Rattle.std.specs.Io.KnownBytes.{IsAtEnd};
 ghost use Rattle.transform_requests.specs.Fields.{procs_of};
 ghost use Rattle.transform_requests.specs.Range.{IsRequestInRange};
-ghost use Rattle.io_edge.specs.Faults.{Reports};
 ghost use Rattle.io_edge.specs.Feed.{to_come, limit};
 ghost use Rattle.spiral_input.specs.Commands.{NamesNoStranger};
 ghost use Rattle.spiral_input.specs.Stage.{status_of};
-ghost use Rattle.request_commands.specs.Performed.{ToldPerforms};
+ghost use Rattle.spiral_input.specs.Ends.{EndsCleanly};
+ghost use Rattle.spiral_input.specs.Outcomes.{ToldMeets};
+ghost use Rattle.request_commands.specs.Performed.{request_outcomes};
 ghost use Rattle.stream_run.specs.Stream.{HasNoStranger};
 
 use crate::events::{run_events, trace_events};
@@ -33,14 +34,15 @@ pub(crate) fn run<I: Source, O: Sink>(
     requires in_range { IsRequestInRange request.now }
     requires turns { NamesNoStranger (Command.Run order.now) (procs_of request.now) }
     requires within { feed.old.taken ≤ limit }
-    ensures told { ToldPerforms (Command.Run order.now) request.now (limit - feed.old.taken) (to_come feed.old (I.left input.old))
-        (to_come feed.new (I.left input.new)) (O.taken output.old) (O.taken output.new) (status_of result) }
-    ensures end { status_of result ≡ Status.Success → IsAtEnd (to_come feed.new (I.left input.new)) }
-    ensures empty { status_of result ≡ Status.ReadFault → feed.new.held ≡ [] }
-    ensures usage { status_of result ≢ Status.Usage }
-    ensures read { Reports (I.faults input.old) (I.faults input.new) (status_of result ≡ Status.ReadFault) }
-    ensures write { Reports (O.faults output.old) (O.faults output.new) (status_of result ≡ Status.WriteFault) }
-    ensures memory { status_of result ≡ Status.NoMemory → Appends (O.taken output.old) (O.taken output.new) [] }
+    ensures told { ToldMeets
+        (request_outcomes (Command.Run order.now) request.now (limit - feed.old.taken))
+        (to_come feed.old (I.left input.old)) (to_come feed.new (I.left input.new))
+        (O.taken output.old) (O.taken output.new) (status_of result) }
+    ensures end { status_of result ≡ Status.Success
+        → IsAtEnd (to_come feed.new (I.left input.new)) }
+    ensures ends { EndsCleanly (status_of result) feed.new.held
+        (I.faults input.old) (I.faults input.new) (O.faults output.old) (O.faults output.new)
+        (O.taken output.old) (O.taken output.new) }
 {
     match order {
         Order::Turns(schedule) => run_turns(alloc, request, schedule, feed, input, output),
@@ -63,14 +65,16 @@ fn run_turns<I: Source, O: Sink>(
     requires in_range { IsRequestInRange request.now }
     requires turns { HasNoStranger schedule.now (procs_of request.now) }
     requires within { feed.old.taken ≤ limit }
-    ensures told { ToldPerforms (Command.Run (Order.Turns schedule.now)) request.now (limit - feed.old.taken) (to_come feed.old (I.left input.old))
-        (to_come feed.new (I.left input.new)) (O.taken output.old) (O.taken output.new) (status_of result) }
-    ensures end { status_of result ≡ Status.Success → IsAtEnd (to_come feed.new (I.left input.new)) }
-    ensures empty { status_of result ≡ Status.ReadFault → feed.new.held ≡ [] }
-    ensures usage { status_of result ≢ Status.Usage }
-    ensures read { Reports (I.faults input.old) (I.faults input.new) (status_of result ≡ Status.ReadFault) }
-    ensures write { Reports (O.faults output.old) (O.faults output.new) (status_of result ≡ Status.WriteFault) }
-    ensures memory { status_of result ≡ Status.NoMemory → Appends (O.taken output.old) (O.taken output.new) [] }
+    ensures told { ToldMeets
+        (request_outcomes (Command.Run (Order.Turns schedule.now)) request.now
+        (limit - feed.old.taken))
+        (to_come feed.old (I.left input.old)) (to_come feed.new (I.left input.new))
+        (O.taken output.old) (O.taken output.new) (status_of result) }
+    ensures end { status_of result ≡ Status.Success
+        → IsAtEnd (to_come feed.new (I.left input.new)) }
+    ensures ends { EndsCleanly (status_of result) feed.new.held
+        (I.faults input.old) (I.faults input.new) (O.faults output.old) (O.faults output.new)
+        (O.taken output.old) (O.taken output.new) }
 {
     let (mut machine, mut vector) = engine(alloc, request)?;
     run_stream(
@@ -97,14 +101,15 @@ pub(crate) fn trace<I: Source, O: Sink>(
     requires in_range { IsRequestInRange request.now }
     requires turns { NamesNoStranger (Command.Trace order.now) (procs_of request.now) }
     requires within { feed.old.taken ≤ limit }
-    ensures told { ToldPerforms (Command.Trace order.now) request.now (limit - feed.old.taken) (to_come feed.old (I.left input.old))
-        (to_come feed.new (I.left input.new)) (O.taken output.old) (O.taken output.new) (status_of result) }
-    ensures end { status_of result ≡ Status.Success → IsAtEnd (to_come feed.new (I.left input.new)) }
-    ensures empty { status_of result ≡ Status.ReadFault → feed.new.held ≡ [] }
-    ensures usage { status_of result ≢ Status.Usage }
-    ensures read { Reports (I.faults input.old) (I.faults input.new) (status_of result ≡ Status.ReadFault) }
-    ensures write { Reports (O.faults output.old) (O.faults output.new) (status_of result ≡ Status.WriteFault) }
-    ensures memory { status_of result ≡ Status.NoMemory → Appends (O.taken output.old) (O.taken output.new) [] }
+    ensures told { ToldMeets
+        (request_outcomes (Command.Trace order.now) request.now (limit - feed.old.taken))
+        (to_come feed.old (I.left input.old)) (to_come feed.new (I.left input.new))
+        (O.taken output.old) (O.taken output.new) (status_of result) }
+    ensures end { status_of result ≡ Status.Success
+        → IsAtEnd (to_come feed.new (I.left input.new)) }
+    ensures ends { EndsCleanly (status_of result) feed.new.held
+        (I.faults input.old) (I.faults input.new) (O.faults output.old) (O.faults output.new)
+        (O.taken output.old) (O.taken output.new) }
 {
     match order {
         Order::Turns(schedule) => trace_turns(alloc, request, schedule, feed, input, output),
@@ -127,14 +132,16 @@ fn trace_turns<I: Source, O: Sink>(
     requires in_range { IsRequestInRange request.now }
     requires turns { HasNoStranger schedule.now (procs_of request.now) }
     requires within { feed.old.taken ≤ limit }
-    ensures told { ToldPerforms (Command.Trace (Order.Turns schedule.now)) request.now (limit - feed.old.taken) (to_come feed.old (I.left input.old))
-        (to_come feed.new (I.left input.new)) (O.taken output.old) (O.taken output.new) (status_of result) }
-    ensures end { status_of result ≡ Status.Success → IsAtEnd (to_come feed.new (I.left input.new)) }
-    ensures empty { status_of result ≡ Status.ReadFault → feed.new.held ≡ [] }
-    ensures usage { status_of result ≢ Status.Usage }
-    ensures read { Reports (I.faults input.old) (I.faults input.new) (status_of result ≡ Status.ReadFault) }
-    ensures write { Reports (O.faults output.old) (O.faults output.new) (status_of result ≡ Status.WriteFault) }
-    ensures memory { status_of result ≡ Status.NoMemory → Appends (O.taken output.old) (O.taken output.new) [] }
+    ensures told { ToldMeets
+        (request_outcomes (Command.Trace (Order.Turns schedule.now)) request.now
+        (limit - feed.old.taken))
+        (to_come feed.old (I.left input.old)) (to_come feed.new (I.left input.new))
+        (O.taken output.old) (O.taken output.new) (status_of result) }
+    ensures end { status_of result ≡ Status.Success
+        → IsAtEnd (to_come feed.new (I.left input.new)) }
+    ensures ends { EndsCleanly (status_of result) feed.new.held
+        (I.faults input.old) (I.faults input.new) (O.faults output.old) (O.faults output.new)
+        (O.taken output.old) (O.taken output.new) }
 {
     let (listing, mut machine, mut vector) = traced_engine(alloc, request)?;
     write_all(output, &listing)?;

@@ -1,20 +1,18 @@
 // The commands that go over the vectors of the data, with store buffers.
-ghost use Rattle.std.specs.Prelude.{◌≡◌, ◌≢◌, ◌-◌, ◌<◌, ◌≤◌, [], IfOk, IfErr, OnOk, vec_len};
-ghost use Rattle.std.specs.Io.KnownBytes.{Appends, IsAtEnd};
+ghost use Rattle.std.specs.Prelude.{◌≡◌, ◌-◌, ◌<◌, ◌≤◌, IfOk, IfErr, OnOk, vec_len};
+ghost use Rattle.std.specs.Io.KnownBytes.{IsAtEnd};
 ghost use Rattle.transform_requests.specs.Fields.{procs_of};
 ghost use Rattle.transform_requests.specs.Range.{IsRequestInRange};
-ghost use Rattle.icode.specs.declared.program.Program.{Program as SpecProgram};
-ghost use Rattle.icode.specs.Program.{plain_program, code_of};
-ghost use Rattle.listing_text.specs.Listing.{listing_of};
-ghost use Rattle.io_edge.specs.Faults.{Reports};
 ghost use Rattle.io_edge.specs.Feed.{to_come, limit};
 ghost use Rattle.buffer_machine.specs.Listed.{HasNoStranger};
 ghost use Rattle.request_commands.specs.Traced.{order_of};
-ghost use Rattle.request_commands.specs.Settled.{IsRefused, IsAffordable, IsProgramFor};
+ghost use Rattle.request_commands.specs.Settled.{IsRefused, IsAffordable};
 ghost use Rattle.spiral_input.specs.Stage.{status_of};
 ghost use Rattle.spiral_status.specs.Status.{IsDefined};
 ghost use Rattle.spiral_input.specs.Refusals.{IsRefusal};
-ghost use Rattle.request_commands.specs.Performed.{IsGoodCode, ToldPerforms};
+ghost use Rattle.request_commands.specs.Performed.{IsGoodCode, IsTraced, request_outcomes};
+ghost use Rattle.spiral_input.specs.Ends.{EndsCleanly};
+ghost use Rattle.spiral_input.specs.Outcomes.{ToldMeets};
 
 use crate::texts::good_product;
 use buffer_machine::{BufMachine, Events};
@@ -51,8 +49,7 @@ fn traced_buffered_engine(
     request: &TransformRequest,
 ) -> Result<(Vec<u8>, BufMachine, Vec<u64>), Status>
     requires in_range { IsRequestInRange request.now }
-    ensures program { IfOk result (λ made. (program : SpecProgram) × IsProgramFor request.now program
-        × (made.0.items ≡ listing_of (plain_program program)) × (made.1.code ≡ code_of program)) }
+    ensures program { IfOk result (λ made. IsTraced request.now made.0.items made.1.code) }
     ensures room { IfOk result (λ made. vec_len made.2 ≡ made.1.code.size) }
     ensures some { IfOk result (λ made. 0 < vec_len made.2) }
     ensures refused { IfErr result (λ status. IsDefined status → IsRefused request.now status) }
@@ -77,14 +74,16 @@ pub(crate) fn run_events<I: Source, O: Sink>(
     requires in_range { IsRequestInRange request.now }
     requires turns { HasNoStranger events (procs_of request.now) }
     requires within { feed.old.taken ≤ limit }
-    ensures told { ToldPerforms (Command.Run (order_of events.entry)) request.now (limit - feed.old.taken) (to_come feed.old (I.left input.old))
-        (to_come feed.new (I.left input.new)) (O.taken output.old) (O.taken output.new) (status_of result) }
-    ensures end { status_of result ≡ Status.Success → IsAtEnd (to_come feed.new (I.left input.new)) }
-    ensures empty { status_of result ≡ Status.ReadFault → feed.new.held ≡ [] }
-    ensures usage { status_of result ≢ Status.Usage }
-    ensures read { Reports (I.faults input.old) (I.faults input.new) (status_of result ≡ Status.ReadFault) }
-    ensures write { Reports (O.faults output.old) (O.faults output.new) (status_of result ≡ Status.WriteFault) }
-    ensures memory { status_of result ≡ Status.NoMemory → Appends (O.taken output.old) (O.taken output.new) [] }
+    ensures told { ToldMeets
+        (request_outcomes (Command.Run (order_of events.entry)) request.now
+        (limit - feed.old.taken))
+        (to_come feed.old (I.left input.old)) (to_come feed.new (I.left input.new))
+        (O.taken output.old) (O.taken output.new) (status_of result) }
+    ensures end { status_of result ≡ Status.Success
+        → IsAtEnd (to_come feed.new (I.left input.new)) }
+    ensures ends { EndsCleanly (status_of result) feed.new.held
+        (I.faults input.old) (I.faults input.new) (O.faults output.old) (O.faults output.new)
+        (O.taken output.old) (O.taken output.new) }
 {
     let (mut machine, mut vector) = buffered_engine(alloc, request)?;
     run_buffered(
@@ -111,14 +110,16 @@ pub(crate) fn trace_events<I: Source, O: Sink>(
     requires in_range { IsRequestInRange request.now }
     requires turns { HasNoStranger events (procs_of request.now) }
     requires within { feed.old.taken ≤ limit }
-    ensures told { ToldPerforms (Command.Trace (order_of events.entry)) request.now (limit - feed.old.taken) (to_come feed.old (I.left input.old))
-        (to_come feed.new (I.left input.new)) (O.taken output.old) (O.taken output.new) (status_of result) }
-    ensures end { status_of result ≡ Status.Success → IsAtEnd (to_come feed.new (I.left input.new)) }
-    ensures empty { status_of result ≡ Status.ReadFault → feed.new.held ≡ [] }
-    ensures usage { status_of result ≢ Status.Usage }
-    ensures read { Reports (I.faults input.old) (I.faults input.new) (status_of result ≡ Status.ReadFault) }
-    ensures write { Reports (O.faults output.old) (O.faults output.new) (status_of result ≡ Status.WriteFault) }
-    ensures memory { status_of result ≡ Status.NoMemory → Appends (O.taken output.old) (O.taken output.new) [] }
+    ensures told { ToldMeets
+        (request_outcomes (Command.Trace (order_of events.entry)) request.now
+        (limit - feed.old.taken))
+        (to_come feed.old (I.left input.old)) (to_come feed.new (I.left input.new))
+        (O.taken output.old) (O.taken output.new) (status_of result) }
+    ensures end { status_of result ≡ Status.Success
+        → IsAtEnd (to_come feed.new (I.left input.new)) }
+    ensures ends { EndsCleanly (status_of result) feed.new.held
+        (I.faults input.old) (I.faults input.new) (O.faults output.old) (O.faults output.new)
+        (O.taken output.old) (O.taken output.new) }
 {
     let (listing, mut machine, mut vector) = traced_buffered_engine(alloc, request)?;
     write_all(output, &listing)?;

@@ -10,7 +10,9 @@ ghost use Rattle.io_edge.specs.Faults.{Reports};
 ghost use Rattle.io_edge.specs.Feed.{to_come, limit};
 ghost use Rattle.spiral_input.specs.Commands.{reads_rest, takes_request, has_text, NamesNoStranger};
 ghost use Rattle.spiral_input.specs.Stage.{status_of};
-ghost use Rattle.request_commands.specs.Performed.{Performs, ToldPerforms};
+ghost use Rattle.spiral_input.specs.Ends.{EndsCleanly};
+ghost use Rattle.spiral_input.specs.Outcomes.{Meets, ToldMeets};
+ghost use Rattle.request_commands.specs.Performed.{request_outcomes};
 
 mod check;
 mod data;
@@ -37,12 +39,15 @@ fn write_text<O: Sink>(
     requires in_range { IsRequestInRange request.now }
     requires turns { NamesNoStranger command.now (procs_of request.now) }
     requires textual { has_text command.now ≡ true }
-    ensures told { (room : ℕ) (bytes : List ℕ) (left : Option (List ℕ)) → Performs command.now request.now room bytes left
+    ensures told { (room : ℕ) (bytes : List ℕ) (left : Option (List ℕ)) →
+        Meets (request_outcomes command.now request.now room) bytes left
         (O.taken output.old) (O.taken output.new) (status_of result) }
     ensures read { status_of result ≢ Status.ReadFault }
     ensures usage { status_of result ≢ Status.Usage }
-    ensures write { Reports (O.faults output.old) (O.faults output.new) (status_of result ≡ Status.WriteFault) }
-    ensures memory { status_of result ≡ Status.NoMemory → Appends (O.taken output.old) (O.taken output.new) [] }
+    ensures write { Reports (O.faults output.old) (O.faults output.new)
+        (status_of result ≡ Status.WriteFault) }
+    ensures memory { status_of result ≡ Status.NoMemory
+        → Appends (O.taken output.old) (O.taken output.new) [] }
 {
     let text = text_of(alloc, command, request)?;
     write_all(output, &text)?;
@@ -62,14 +67,14 @@ pub fn perform<I: Source, O: Sink>(
     requires turns { NamesNoStranger command.now (procs_of request.now) }
     requires line { feed.old.taken ≤ 257 }
     requires request { takes_request command.now ≡ true }
-    ensures told { ToldPerforms command.now request.now (limit - feed.old.taken) (to_come feed.old (I.left input.old))
-        (to_come feed.new (I.left input.new)) (O.taken output.old) (O.taken output.new) (status_of result) }
-    ensures end { status_of result ≡ Status.Success → reads_rest command.now ≡ true → IsAtEnd (to_come feed.new (I.left input.new)) }
-    ensures empty { status_of result ≡ Status.ReadFault → feed.new.held ≡ [] }
-    ensures usage { status_of result ≢ Status.Usage }
-    ensures read { Reports (I.faults input.old) (I.faults input.new) (status_of result ≡ Status.ReadFault) }
-    ensures write { Reports (O.faults output.old) (O.faults output.new) (status_of result ≡ Status.WriteFault) }
-    ensures memory { status_of result ≡ Status.NoMemory → Appends (O.taken output.old) (O.taken output.new) [] }
+    ensures told { ToldMeets (request_outcomes command.now request.now (limit - feed.old.taken))
+        (to_come feed.old (I.left input.old)) (to_come feed.new (I.left input.new))
+        (O.taken output.old) (O.taken output.new) (status_of result) }
+    ensures end { status_of result ≡ Status.Success → reads_rest command.now ≡ true
+        → IsAtEnd (to_come feed.new (I.left input.new)) }
+    ensures ends { EndsCleanly (status_of result) feed.new.held
+        (I.faults input.old) (I.faults input.new) (O.faults output.old) (O.faults output.new)
+        (O.taken output.old) (O.taken output.new) }
 {
     match command {
         Command::Run { order } => run(alloc, request, order, feed, input, output),

@@ -1,11 +1,11 @@
 // One vector of the generator: the sum of its transform, and what a run on it counts.
 ghost use Rattle.std.specs.Prelude.{◌≡◌, ◌<◌, ◌≤◌, ◌^◌, length, Ok, IfOk, IfErr, OnOk};
-ghost use Rattle.operators.specs.Sum.{sum_below};
 ghost use Rattle.transform_requests.specs.Fields.{procs_of, weight_of};
 ghost use Rattle.transform_requests.specs.Range.{IsRequestInRange};
-ghost use Rattle.icode.specs.Machine.{counts_so_far, weighted};
+ghost use Rattle.icode.specs.Machine.{weighted};
 ghost use Rattle.request_commands.specs.Settled.{IsRefused, IsAffordable, IsSampleText};
-ghost use Rattle.request_commands.specs.Sample.{sample_vector, weighted_sum, sample_text, AreCountable};
+ghost use Rattle.request_commands.specs.Sample.{AreCountable, AreTotals};
+ghost use Rattle.request_commands.specs.Sample.{sample_vector, weighted_sum, sample_text};
 ghost use Rattle.spiral_status.specs.Status.{IsDefined};
 ghost use Rattle.spiral_input.specs.Refusals.{IsRefusal};
 ghost use Rattle.stream_run.specs.Stream.{HasNoStranger};
@@ -49,10 +49,7 @@ fn weighted_sum(modulus: Modulus, vector: &[u64]) -> u64
 // What the processors have executed together.
 fn all_counts(machine: &Machine) -> Counts
     requires { AreCountable machine.now.code machine.now.state }
-    ensures operations { result.operations ≡ sum_below machine.now.code.procs (λ q. (counts_so_far machine.now.code machine.now.state q).operations) }
-    ensures muls { result.muls ≡ sum_below machine.now.code.procs (λ q. (counts_so_far machine.now.code machine.now.state q).muls) }
-    ensures loads { result.loads ≡ sum_below machine.now.code.procs (λ q. (counts_so_far machine.now.code machine.now.state q).loads) }
-    ensures stores { result.stores ≡ sum_below machine.now.code.procs (λ q. (counts_so_far machine.now.code machine.now.state q).stores) }
+    ensures { AreTotals machine.now.code machine.now.state result }
 {
     let mut operations = 0;
     let mut muls = 0;
@@ -98,7 +95,8 @@ fn sample_text(
     operations: u64,
     counts: &Counts,
 ) -> Result<Vec<u8>, NoMemory>
-    ensures { IfOk result (λ text. text.items ≡ sample_text sum operations counts.now.loads counts.now.stores) }
+    ensures { IfOk result (λ text.
+        text.items ≡ sample_text sum operations counts.now.loads counts.now.stores) }
 {
     let mut text = Vec::new(alloc);
     put(&mut text, b"sum ", sum)?;

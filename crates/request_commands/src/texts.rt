@@ -3,9 +3,6 @@ ghost use Rattle.std.specs.Prelude.{◌≡◌, true, vec_len, Ok, IfOk, IfErr, O
 ghost use Rattle.transform_requests.specs.Fields.{procs_of};
 ghost use Rattle.transform_requests.specs.Range.{IsRequestInRange};
 ghost use Rattle.transform_requests.specs.Trees.{cost_of};
-ghost use Rattle.icode.specs.declared.program.Program.{Program as SpecProgram};
-ghost use Rattle.icode.specs.Program.{plain_program, code_of};
-ghost use Rattle.listing_text.specs.Listing.{listing_of};
 ghost use Rattle.transform_code.specs.Good.{IsGood};
 ghost use Rattle.transform_code.specs.Lean.{IsLean};
 ghost use Rattle.transform_code.specs.Planned.{IsPlanned};
@@ -14,7 +11,7 @@ ghost use Rattle.spiral_input.specs.Commands.{has_text, NamesNoStranger};
 ghost use Rattle.request_commands.specs.Settled.{IsRefused, IsAffordable, IsProgramFor, IsListing, IsCText, IsTextOf};
 ghost use Rattle.spiral_status.specs.Status.{IsDefined};
 ghost use Rattle.spiral_input.specs.Refusals.{IsRefusal};
-ghost use Rattle.request_commands.specs.Performed.{IsGoodCode};
+ghost use Rattle.request_commands.specs.Performed.{IsGoodCode, IsTraced};
 
 use crate::plans::{certificate, formula, plan_lines};
 use crate::sample::sample;
@@ -34,8 +31,10 @@ pub(crate) fn good_product(
 ) -> Result<TransformProduct, Status>
     requires in_range { IsRequestInRange request.now }
     ensures planned { IfOk result (λ product. IsPlanned request.now (Ok (trees_of product.plan))) }
-    ensures good { IfOk result (λ product. IsGood request.now (cost_of request.now (trees_of product.plan)) product.program) }
-    ensures lean { IfOk result (λ product. IsLean request.now (trees_of product.plan) product.program) }
+    ensures good { IfOk result (λ product.
+        IsGood request.now (cost_of request.now (trees_of product.plan)) product.program) }
+    ensures lean { IfOk result (λ product.
+        IsLean request.now (trees_of product.plan) product.program) }
     ensures program { IfOk result (λ product. IsProgramFor request.now product.program) }
     ensures affordable { OnOk result (IsAffordable request.now) }
     ensures refused { IfErr result (λ status. IsDefined status → IsRefused request.now status) }
@@ -70,8 +69,7 @@ pub(crate) fn traced_engine(
     request: &TransformRequest,
 ) -> Result<(Vec<u8>, Machine, Vec<u64>), Status>
     requires in_range { IsRequestInRange request.now }
-    ensures program { IfOk result (λ made. (program : SpecProgram) × IsProgramFor request.now program
-        × (made.0.items ≡ listing_of (plain_program program)) × (made.1.code ≡ code_of program)) }
+    ensures program { IfOk result (λ made. IsTraced request.now made.0.items made.1.code) }
     ensures room { IfOk result (λ made. vec_len made.2 ≡ made.1.code.size) }
     ensures some { IfOk result (λ made. 0 < vec_len made.2) }
     ensures refused { IfErr result (λ status. IsDefined status → IsRefused request.now status) }

@@ -2,5 +2,6 @@ pub mod AskLemmas
 pub mod DataLemmas
 pub mod InputLemmas
 pub mod LineLemmas
+pub mod OutcomeLemmas
 pub mod Stages
 pub mod StatusLemmas

@@ -1,5 +1,5 @@
 -- The commands that the words ask for, and what they read.
-use Rattle.std.specs.Prelude.{◌≡◌, ◌≢◌, ◌⊎◌, ℕ, ◌||◌, Bool, true, false, List, [], None, Some, Ok, Err, Result, find, nat_le}
+use Rattle.std.specs.Prelude.{◌≡◌, ◌≢◌, ◌⊎◌, ℕ, ◌||◌, Bool, true, false, not, List, [], None, Some, Ok, Err, Result, find, nat_le}
 use Rattle.std.specs.declared.option.Option.{Option}
 use Rattle.request_text.specs.Schedule.{Plan as Turns}
 use Rattle.request_text.specs.Turns.{named}
@@ -20,14 +20,6 @@ reads_data (Exec schedule) = true
 reads_data (Convolve schedule false) = true
 reads_data _ = false
 
--- the commands that go by a request, which the first line of the input spells
-abbrev pub takes_request : Command → Bool
-takes_request (Compile modulus) = false
-takes_request (Apply modulus schedule) = false
-takes_request (Exec schedule) = false
-takes_request (Convolve schedule as_code) = false
-takes_request _ = true
-
 -- the commands that go by a formula, which the first line of the input spells
 abbrev pub takes_formula : Command → Bool
 takes_formula (Compile modulus) = true
@@ -43,6 +35,10 @@ takes_listing _ = false
 abbrev pub takes_convolution : Command → Bool
 takes_convolution (Convolve schedule as_code) = true
 takes_convolution _ = false
+
+-- the others go by a request, which the first line of the input spells
+abbrev pub takes_request : Command → Bool
+takes_request command = not (takes_formula command || takes_listing command || takes_convolution command)
 
 -- the command that judges a certificate
 abbrev pub reads_certificate : Command → Bool

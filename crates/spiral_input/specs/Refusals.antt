@@ -15,3 +15,9 @@ pub record IsRefusal (status : Status) : Type 0 where
   pub read : status ≢ ReadFault
   pub write : status ≢ WriteFault
   pub usage : status ≢ Usage
+
+-- a status that ends a call before the output: the words were a command line
+pub record IsBeforeOutput (status : Status) : Type 0 where
+  pub success : status ≢ Success
+  pub usage : status ≢ Usage
+  pub write : status ≢ WriteFault

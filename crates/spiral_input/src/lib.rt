@@ -2,12 +2,12 @@
 //! this spells for the command.
 #![tactic(auto)]
 
-ghost use Rattle.std.specs.Prelude.{◌≡◌, ◌≢◌, ◌≤◌, ℕ, [], Some, None, Err, IfOk, IfErr, OnOk, IsErrOf, map, string_bytes};
+ghost use Rattle.std.specs.Prelude.{◌≡◌, ◌≤◌, ℕ, Some, None, Err, IfOk, IfErr, OnOk, map, string_bytes};
 ghost use Rattle.transform_requests.specs.Fields.{procs_of};
 ghost use Rattle.transform_requests.specs.Range.{IsRequestInRange};
-ghost use Rattle.io_edge.specs.Faults.{Reports};
 ghost use Rattle.io_edge.specs.Feed.{to_come};
 ghost use Rattle.spiral_words.specs.Asked.{IsAsked};
+ghost use Rattle.spiral_input.specs.Ends.{ReadsCleanly};
 ghost use Rattle.spiral_input.specs.Commands.{commanded, AreJudged, NamesNoStranger, first_stranger, procs_named};
 ghost use Rattle.spiral_input.specs.Orders.{procs_in};
 ghost use Rattle.spiral_status.specs.Status.{IsDefined};
@@ -31,13 +31,12 @@ pub fn ask<I: Source>(
     input: &mut I,
 ) -> Result<TransformRequest, Status>
     requires fresh { feed.old.taken ≡ 0 }
-    ensures told { Asks procs_of spelt command.now (to_come feed.old (I.left input.old)) (to_come feed.new (I.left input.new)) feed.new.taken result }
+    ensures told { Asks procs_of spelt command.now (to_come feed.old (I.left input.old))
+        (to_come feed.new (I.left input.new)) feed.new.taken result }
     ensures within { OnOk result (feed.new.taken ≤ 257) }
     ensures request { IfOk result IsRequestInRange }
     ensures turns { IfOk result (λ request. NamesNoStranger command.now (procs_of request)) }
-    ensures empty { IsErrOf result Status.ReadFault → feed.new.held ≡ [] }
-    ensures read { Reports (I.faults input.old) (I.faults input.new) (IsErrOf result Status.ReadFault) }
-    ensures others { IfErr result (λ status. (status ≢ Status.Success) × (status ≢ Status.Usage) × (status ≢ Status.WriteFault)) }
+    ensures ends { ReadsCleanly result feed.new.held (I.faults input.old) (I.faults input.new) }
 {
     let mut line = [0; LINE_LIMIT];
     let count = read_line(feed, input, &mut line)?;
@@ -50,7 +49,8 @@ pub fn ask<I: Source>(
 /// The command that the words ask for.
 pub fn asked(alloc: Global, words: &Vec<String>) -> Result<Command, Status>
     ensures command { IfOk result (λ command. IsAsked (map string_bytes words.now.items) command) }
-    ensures refused { IfErr result (λ status. IsDefined status → commanded (map string_bytes words.now.items) (Err status)) }
+    ensures refused { IfErr result (λ status. IsDefined status
+        → commanded (map string_bytes words.now.items) (Err status)) }
     ensures refusal { IfErr result IsEarly }
     ensures words { IfErr result (AreJudged (map string_bytes words.now.items)) }
 {
@@ -64,7 +64,8 @@ pub fn asked(alloc: Global, words: &Vec<String>) -> Result<Command, Status>
 /// No turn is of a stranger to so many processors.
 pub fn check_turns(stranger: Option<u64>, p: u64) -> Result<(), Status>
     ensures none { OnOk result (stranger ≡ None) }
-    ensures first { IfErr result (λ status. (q : ℕ) × (stranger ≡ Some q) × (status ≡ Status.Turn q p)) }
+    ensures first { IfErr result (λ status.
+        (q : ℕ) × (stranger ≡ Some q) × (status ≡ Status.Turn q p)) }
 {
     match stranger {
         Some(q) => Err(Status::Turn { q, p }),

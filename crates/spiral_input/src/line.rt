@@ -17,10 +17,14 @@ pub fn read_line<S: Source>(
 ) -> Result<usize, FeedFault>
     requires fresh { feed.old.taken ≡ 0 }
     requires room { length buffer.old ≡ 256 }
-    ensures answer { (read : List ℕ) × Consumes (to_come feed.old (S.left source.old)) (to_come feed.new (S.left source.new)) read
-        × GivesLine read (IsAtEnd (to_come feed.new (S.left source.new))) feed.new.taken buffer.new result }
+    ensures answer { (read : List ℕ)
+        × Consumes (to_come feed.old (S.left source.old))
+        (to_come feed.new (S.left source.new)) read
+        × GivesLine read (IsAtEnd (to_come feed.new (S.left source.new))) feed.new.taken buffer.new
+        result }
     ensures empty { IsErrOf result FeedFault.ReadFault → feed.new.held ≡ [] }
-    ensures cause { Reports (S.faults source.old) (S.faults source.new) (IsErrOf result FeedFault.ReadFault) }
+    ensures cause { Reports (S.faults source.old) (S.faults source.new)
+        (IsErrOf result FeedFault.ReadFault) }
 {
     let mut count = 0;
     while let Some(byte) = feed.byte(source)? {

@@ -1,7 +1,7 @@
 -- What the program answers for its words and the bytes of its input, and what it writes.
-use Rattle.std.specs.Prelude.{◌≡◌, ◌⊎◌, ℕ, List, [], ◌++◌, None, Some, Ok, Err}
+use Rattle.std.specs.Prelude.{◌≡◌, ◌⊎◌, ℕ, List, [], Ok, Err}
 use Rattle.std.specs.declared.option.Option.{Option}
-use Rattle.std.specs.Io.KnownBytes.{Appends, Consumes, IsAtEnd}
+use Rattle.std.specs.Io.KnownBytes.{Appends}
 use Rattle.transform_requests.specs.declared.TransformRequest.{TransformRequest}
 use Rattle.request_text.specs.Schedule.{Plan as Turns}
 use Rattle.io_edge.specs.Faults.{Rose}
@@ -10,16 +10,15 @@ use Rattle.spiral_words.specs.Asked.{IsAsked}
 use Rattle.spiral_words.specs.declared.Command.{Command}
 use Rattle.spiral_words.specs.declared.Command.TheVariants as command
 use Rattle.spiral_status.specs.declared.status.Status.{Status}
-use Rattle.spiral_status.specs.declared.status.Status.TheVariants.{ReadFault, WriteFault}
 use Rattle.spiral_input.specs.Commands.{commanded, AskForRequest, AskForFormula, AskForConvolution}
 use Rattle.convolution_commands.specs.Convolved.{IsConvAnswer, IsBrokenConv, IsCutConv}
 use Rattle.formula_commands.specs.Compiled.{IsFormulaAnswer, IsBrokenFormula, IsCutFormula}
 use Rattle.spiral_input.specs.Line.{data_of, IsPartOfLine, HasEnded, room_behind}
 use Rattle.listing_commands.specs.Listed.{IsExecution, IsBrokenExecution, IsCutExecution}
+use Rattle.spiral_input.specs.Outcomes.{Outcomes, Meets}
 use Rattle.spiral_input.specs.Stage.{Stage, ◌>>=◌}
 use Rattle.spiral_input.specs.Asking.{requested}
 use Rattle.request_commands.specs.Settled.{IsAccepted, IsDeclined, Settles, BreaksOff, ComesTo}
-use Rattle.spiral_status.specs.Status.{IsDefined}
 
 -- The stages
 
@@ -78,20 +77,13 @@ IsCutOff words read left text =
     ⊎ (((wanted : Command) × AskForFormula words wanted × IsCutFormula wanted read left text)
     ⊎ ((wanted : Command) × AskForConvolution words wanted × IsCutConv wanted read left text)))
 
--- Status and output of a run, by all the bytes of its input and by what the source has left of them
-pub record Accounts (words : List (List ℕ)) (bytes : List ℕ) (left before after : Option (List ℕ)) (status : Status) : Type 0 where
-  -- where nothing failed, they are the outcome
-  pub answer : IsDefined status → (text : List ℕ) × IsOutcome words bytes status text × Appends before after text
-  -- a read failed: the bytes that the source gave show no fault, and the output took the whole text up to there
-  pub read_fault : status ≡ ReadFault → (read : List ℕ) × (text : List ℕ) × Consumes (Some bytes) left read × IsBrokenOff words read (IsAtEnd left) text × Appends before after text
-  -- a write failed at a text, of which the output took a front
-  pub write_fault : status ≡ WriteFault → (read : List ℕ) × (rest : List ℕ) × (text : List ℕ) × (bytes ≡ read ++ rest)
-      × IsCutOff words read rest text × AppendsPrefix before after text
+-- What is right for a call with these words
+abbrev pub call_outcomes : List (List ℕ) → Outcomes
+call_outcomes words = record { answer = IsOutcome words; broken = IsBrokenOff words; cut = IsCutOff words }
 
--- the same over a source that tells its bytes
-abbrev pub ToldAccounts : List (List ℕ) → Option (List ℕ) → Option (List ℕ) → Option (List ℕ) → Option (List ℕ) → Status → Type 0
-ToldAccounts words None left before after status = Unit {0}
-ToldAccounts words (Some bytes) left before after status = Accounts words bytes left before after status
+-- Status and output of a run, by all the bytes of its input and by what the source has left of them
+abbrev pub Accounts : List (List ℕ) → List ℕ → Option (List ℕ) → Option (List ℕ) → Option (List ℕ) → Status → Type 0
+Accounts words = Meets (call_outcomes words)
 
 -- the line went to the note whole, or a prefix of it where the note failed
 abbrev pub Notes : Option (List ℕ) → Option (List ℕ) → ℕ → ℕ → List ℕ → Type 0

@@ -20,19 +20,23 @@ pub use stream_run::{StreamFault, run_stream};
 
 /// The words and the bytes of a call determine its status.
 pub fn calls_have_one_status()
-    ensures { (words : List (List ℕ)) (bytes : List ℕ) (a b : SpecStatus) (s t : List ℕ) → IsOutcome words bytes a s → IsOutcome words bytes b t → a ≡ b }
+    ensures { (words : List (List ℕ)) (bytes : List ℕ) (a b : SpecStatus) (s t : List ℕ) →
+        IsOutcome words bytes a s → IsOutcome words bytes b t → a ≡ b }
 {}
 
 /// The words and the bytes of a call determine its text, but for the commands that print a program.
 pub fn calls_have_one_text()
-    ensures { (words : List (List ℕ)) (bytes : List ℕ) (wanted : SpecCommand) (a b : SpecStatus) (s t : List ℕ) → IsAsked words wanted
-        → prints_one_text wanted ≡ true → IsOutcome words bytes a s → IsOutcome words bytes b t → s ≡ t }
+    ensures { (words : List (List ℕ)) (bytes : List ℕ) (wanted : SpecCommand)
+        (a b : SpecStatus) (s t : List ℕ) → IsAsked words wanted → prints_one_text wanted ≡ true
+        → IsOutcome words bytes a s → IsOutcome words bytes b t → s ≡ t }
 {}
 
 /// A call that is right in all that is asked of it succeeds with the text that its words and bytes call for, unless a read
 /// or a write fails or memory runs out.
 pub fn right_calls_succeed()
-    ensures { (words : List (List ℕ)) (bytes : List ℕ) (left before after : Option (List ℕ)) (status : SpecStatus) → IsRightCall words bytes
-        → Accounts words bytes left before after status → status ≢ ReadFault → status ≢ WriteFault
+    ensures { (words : List (List ℕ)) (bytes : List ℕ) (left before after : Option (List ℕ))
+        (status : SpecStatus) → IsRightCall words bytes
+        → Accounts words bytes left before after status
+        → status ≢ ReadFault → status ≢ WriteFault
         → (status ≡ NoMemory) ⊎ Succeeds words bytes before after status }
 {}

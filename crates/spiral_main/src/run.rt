@@ -4,7 +4,8 @@ ghost use Rattle.std.specs.declared.option.Option.{Option};
 ghost use Rattle.std.specs.Io.KnownBytes.{Appends, IsAtEnd};
 ghost use Rattle.io_edge.specs.Faults.{Reports};
 ghost use Rattle.spiral_input.specs.Commands.{takes_convolution, takes_formula, takes_listing, AskForRest, AskForCommand, AreJudged};
-ghost use Rattle.spiral_main.specs.Outcome.{Accounts, Notes, ToldAccounts};
+ghost use Rattle.spiral_input.specs.Outcomes.{ToldMeets};
+ghost use Rattle.spiral_main.specs.Outcome.{Accounts, Notes, call_outcomes};
 ghost use Rattle.spiral_input.specs.Stage.{status_of};
 ghost use Rattle.spiral_status.specs.Status.{note_line};
 
@@ -22,7 +23,8 @@ use std::alloc::Global;
 
 // The schedule of `exec`, if that is the command.
 fn schedule_of_exec(command: &Command) -> Option<&Schedule>
-    ensures { MatchOption result (takes_listing command.now ≡ false) (λ schedule. command.now ≡ Command.Exec schedule.now) }
+    ensures { MatchOption result (takes_listing command.now ≡ false)
+        (λ schedule. command.now ≡ Command.Exec schedule.now) }
 {
     match command {
         Command::Exec { schedule } => Some(schedule),
@@ -51,13 +53,20 @@ fn work<I: Source, O: Sink>(
     input: &mut I,
     output: &mut O,
 ) -> Result<(), Status>
-    ensures told { ToldAccounts (map string_bytes words.now.items) (I.left input.old) (I.left input.new) (O.taken output.old) (O.taken output.new) (status_of result) }
-    ensures end { status_of result ≡ Status.Success → AskForRest (map string_bytes words.now.items) → IsAtEnd (I.left input.new) }
-    ensures read { Reports (I.faults input.old) (I.faults input.new) (status_of result ≡ Status.ReadFault) }
-    ensures write { Reports (O.faults output.old) (O.faults output.new) (status_of result ≡ Status.WriteFault) }
-    ensures after { status_of result ≡ Status.ReadFault → AskForCommand (map string_bytes words.now.items) }
+    ensures told { ToldMeets (call_outcomes (map string_bytes words.now.items))
+        (I.left input.old) (I.left input.new) (O.taken output.old) (O.taken output.new)
+        (status_of result) }
+    ensures end { status_of result ≡ Status.Success
+        → AskForRest (map string_bytes words.now.items) → IsAtEnd (I.left input.new) }
+    ensures read { Reports (I.faults input.old) (I.faults input.new)
+        (status_of result ≡ Status.ReadFault) }
+    ensures write { Reports (O.faults output.old) (O.faults output.new)
+        (status_of result ≡ Status.WriteFault) }
+    ensures after { status_of result ≡ Status.ReadFault
+        → AskForCommand (map string_bytes words.now.items) }
     ensures words { AreJudged (map string_bytes words.now.items) (status_of result) }
-    ensures memory { status_of result ≡ Status.NoMemory → Appends (O.taken output.old) (O.taken output.new) [] }
+    ensures memory { status_of result ≡ Status.NoMemory
+        → Appends (O.taken output.old) (O.taken output.new) [] }
 {
     let mut feed = Feed::new(alloc)?;
     let command = asked(alloc, words)?;
@@ -102,20 +111,25 @@ pub fn spiral_run<I: Source, O: Sink, E: Sink>(
 ) -> Status
     // Where the input tells its bytes, they and the words account for the status and for what the output took. Where a
     // read failed, that is the whole text of what the input gave.
-    ensures told { IfSome (I.left input.old) (λ bytes. Accounts (map string_bytes words.now.items) bytes (I.left input.new) (O.taken output.old) (O.taken output.new) result) }
+    ensures told { IfSome (I.left input.old) (λ bytes. Accounts (map string_bytes words.now.items)
+        bytes (I.left input.new) (O.taken output.old) (O.taken output.new) result) }
     // `run`, `trace`, `check`, `exec`, `apply` and `convolve` without `--code` have read their input to its end where they succeed.
-    ensures end { result ≡ Status.Success → AskForRest (map string_bytes words.now.items) → IsAtEnd (I.left input.new) }
+    ensures end { result ≡ Status.Success
+        → AskForRest (map string_bytes words.now.items) → IsAtEnd (I.left input.new) }
 
     // A fault has its cause and is not swallowed, also where nothing is told.
     ensures read { Reports (I.faults input.old) (I.faults input.new) (result ≡ Status.ReadFault) }
-    ensures write { Reports (O.faults output.old) (O.faults output.new) (result ≡ Status.WriteFault) }
+    ensures write { Reports (O.faults output.old) (O.faults output.new)
+        (result ≡ Status.WriteFault) }
     // The words are judged before the input is read.
     ensures after { result ≡ Status.ReadFault → AskForCommand (map string_bytes words.now.items) }
     ensures words { AreJudged (map string_bytes words.now.items) result }
 
     // Want of memory comes before the first byte of output.
-    ensures memory { result ≡ Status.NoMemory → Appends (O.taken output.old) (O.taken output.new) [] }
-    ensures note { Notes (E.taken note.old) (E.taken note.new) (E.faults note.old) (E.faults note.new) (note_line result) }
+    ensures memory { result ≡ Status.NoMemory
+        → Appends (O.taken output.old) (O.taken output.new) [] }
+    ensures note { Notes (E.taken note.old) (E.taken note.new)
+        (E.faults note.old) (E.faults note.new) (note_line result) }
 {
     let status = ending(work(alloc, words, input, output));
     let _ = write_note(note, status);

@@ -10,7 +10,7 @@ returns-in_err-request-clause-told g c =
     let reached = to_come c.ask_conv.new.feed (g.I.Source.left c.ask_conv.new.input) in
     let p = err_from_is_err_and c.from_residual.result c.from_residual.ensures.1 in
     rw (p.1, p.2) (convolves_line c.args.command.now start reached (g.O.Sink.taken c.args.output.now) c.ask_conv.new.feed.taken c.in_err-request.field-0.0
-    c.in_err-request.ensures.told c.in_err-request.ensures.others.2)
+    c.in_err-request.ensures.told c.in_err-request.ensures.ends.others.write)
 
 pub returns-clause-told : goal.returns-clause-told
 returns-clause-told g c =

@@ -1,16 +1,13 @@
-use Rattle.std.proofs.Common.{◌<◌, ◌∷◌, [], Ok, Err, arith}
-use Rattle.std.proofs.KnownBytes.{Appends-nil}
+use Rattle.std.proofs.Common.{◌<◌, ◌∷◌, [], Ok, Err, arith, refl}
 use Rattle.std.proofs.lemmas.Result.{err_from_is_err_and}
 use Rattle.data_stream.proofs.TokensLemmas.{reports_none}
 use Rattle.icode.specs.Machine.{runs}
 use Rattle.io_edge.specs.Feed.{to_come}
+use Rattle.spiral_status.specs.declared.status.Status.TheVariants.{NoMemory}
 use Rattle.request_text.specs.Turns.{turns_of}
 use Rattle.convolution_commands.proofs.ConvolvedLemmas.{list_come, convolves_run}
-use Rattle.spiral_input.proofs.StatusLemmas.{reports_after, reports_read, reports_write}
+use Rattle.spiral_input.proofs.StatusLemmas.{quiet_ends, run_ends}
 use Rattle.convolution_commands.proofs.run_convolver.Goals as goal
-
-pub returns-in_err-machine-clause-memory : goal.returns-in_err-machine-clause-memory
-returns-in_err-machine-clause-memory g c = λ _. Appends-nil (g.O.Sink.taken c.args.output.now)
 
 pub returns-in_err-run_vectors-clause-told : goal.returns-in_err-run_vectors-clause-told
 returns-in_err-run_vectors-clause-told g c =
@@ -27,20 +24,6 @@ returns-in_err-run_vectors-clause-told g c =
     (taken c.args.output.now) (taken c.run_vectors.new.output) c.in_ok-program.list.items c.in_ok-program.program (λ x. runs code x (turns_of c.args.schedule.now code.procs))
     c.in_ok-machine.machine.state c.run_vectors.new.machine.state (Err c.in_err-run_vectors.field-0.0)
     made.program c.in_ok-machine.ensures.code made.cut c.requires.request.procs some c.requires.turns c.requires.within made.come c.in_err-run_vectors.ensures.streams)
-
-pub returns-in_err-run_vectors-clause-read : goal.returns-in_err-run_vectors-clause-read
-returns-in_err-run_vectors-clause-read g c =
-    let faults = g.I.Source.faults in
-    let same = reports_none (faults c.args.input.now) (faults c.listed_program.new.input) _ c.in_ok-program.ensures.read (λ e. cc) in
-    let p = err_from_is_err_and c.from_residual-in_err-run_vectors.result c.from_residual-in_err-run_vectors.ensures.1 in
-    rw (p.1, p.2) (reports_after (faults c.args.input.now) (faults c.listed_program.new.input) (faults c.run_vectors.new.input) same
-    (reports_read (faults c.listed_program.new.input) (faults c.run_vectors.new.input) c.in_err-run_vectors.field-0.0 c.in_err-run_vectors.ensures.read))
-
-pub returns-in_err-run_vectors-clause-write : goal.returns-in_err-run_vectors-clause-write
-returns-in_err-run_vectors-clause-write g c =
-    let faults = g.O.Sink.faults in
-    let p = err_from_is_err_and c.from_residual-in_err-run_vectors.result c.from_residual-in_err-run_vectors.ensures.1 in
-    rw (p.1, p.2) (reports_write (faults c.args.output.now) (faults c.run_vectors.new.output) c.in_err-run_vectors.field-0.0 c.in_err-run_vectors.ensures.write)
 
 pub returns-clause-told : goal.returns-clause-told
 returns-clause-told g c =
@@ -66,3 +49,22 @@ returns-clause-end g c =
     let come = list_come c.args.request.now c.in_ok-machine.machine.code c.in_ok-program.vectors c.args.feed.now c.listed_program.new.feed start mid c.in_ok-program.list.items c.in_ok-program.program
     made.program c.in_ok-machine.ensures.code made.come in
     (c.in_ok-run_vectors.ensures.streams c.args.feed.now start (c.in_ok-program.list.items ∷ []) come).reads.answer.1
+
+pub returns-in_err-run_vectors-clause-ends : goal.returns-in_err-run_vectors-clause-ends
+returns-in_err-run_vectors-clause-ends g c =
+    let read = g.I.Source.faults in
+    let write = g.O.Sink.faults in
+    let taken = g.O.Sink.taken in
+    let same = reports_none (read c.args.input.now) (read c.listed_program.new.input) _ c.in_ok-program.ensures.ends.read (λ e. cc) in
+    let run = c.in_err-run_vectors.ensures in
+    let p = err_from_is_err_and c.from_residual-in_err-run_vectors.result c.from_residual-in_err-run_vectors.ensures.1 in
+    rw (p.1, p.2) (run_ends c.in_err-run_vectors.field-0.0 c.run_vectors.new.feed.held (read c.args.input.now) (read c.listed_program.new.input) (read c.run_vectors.new.input)
+    (write c.args.output.now) (write c.args.output.now) (write c.run_vectors.new.output) (taken c.args.output.now) (taken c.run_vectors.new.output) same refl run.empty run.read run.write)
+
+pub returns-in_err-machine-clause-ends : goal.returns-in_err-machine-clause-ends
+returns-in_err-machine-clause-ends g c =
+    let read = g.I.Source.faults in
+    let same = reports_none (read c.args.input.now) (read c.listed_program.new.input) _ c.in_ok-program.ensures.ends.read (λ e. cc) in
+    let p = err_from_is_err_and c.from_residual-in_err-machine.result c.from_residual-in_err-machine.ensures.1 in
+    rw (p.1, p.2) (quiet_ends NoMemory c.listed_program.new.feed.held (read c.args.input.now) (read c.listed_program.new.input) (g.O.Sink.faults c.args.output.now) (g.O.Sink.taken c.args.output.now)
+    same (λ e. cc) (λ e. cc) (λ e. cc))

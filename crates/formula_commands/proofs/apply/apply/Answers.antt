@@ -1,4 +1,4 @@
-use Rattle.std.proofs.Common.{Ok, Err, subst}
+use Rattle.std.proofs.Common.{Ok, Err, subst, refl}
 use Rattle.std.proofs.lemmas.Result.{err_from_is_err_and}
 use Rattle.io_edge.specs.Feed.{to_come}
 use Rattle.data_stream.proofs.TokensLemmas.{reports_none}
@@ -6,7 +6,7 @@ use Rattle.spiral_words.specs.declared.Command.TheVariants as command
 use Rattle.formula_commands.specs.Compiled.{formed}
 use Rattle.spiral_status.specs.Status.{IsDefined}
 use Rattle.formula_commands.proofs.CompiledLemmas.{computes_unread, computes_refused, computes_run}
-use Rattle.spiral_input.proofs.StatusLemmas.{reports_after, reports_read, reports_write}
+use Rattle.spiral_input.proofs.StatusLemmas.{run_ends}
 use Rattle.formula_commands.proofs.apply.apply.Goals as goal
 
 pub returns-in_err-text-clause-told : goal.returns-in_err-text-clause-told
@@ -43,20 +43,6 @@ returns-in_err-run_stream-clause-told g c =
     c.in_ok-machine.machine.state c.run_stream.new.machine.state (Err c.in_err-run_stream.field-0.0)
     told.1 told.2.0 told.2.3 told.2.1 told.2.2 made c.in_ok-machine.ensures.turns c.in_err-run_stream.ensures.streams)
 
-pub returns-in_err-run_stream-clause-read : goal.returns-in_err-run_stream-clause-read
-returns-in_err-run_stream-clause-read g c =
-    let faults = g.I.Source.faults in
-    let same = reports_none (faults c.args.input.now) (faults c.formula_line.new.input) _ c.in_ok-text.ensures.read (λ e. cc) in
-    let p = err_from_is_err_and c.from_residual-in_err-run_stream.result c.from_residual-in_err-run_stream.ensures.1 in
-    rw (p.1, p.2) (reports_after (faults c.args.input.now) (faults c.formula_line.new.input) (faults c.run_stream.new.input) same
-    (reports_read (faults c.formula_line.new.input) (faults c.run_stream.new.input) c.in_err-run_stream.field-0.0 c.in_err-run_stream.ensures.read))
-
-pub returns-in_err-run_stream-clause-write : goal.returns-in_err-run_stream-clause-write
-returns-in_err-run_stream-clause-write g c =
-    let faults = g.O.Sink.faults in
-    let p = err_from_is_err_and c.from_residual-in_err-run_stream.result c.from_residual-in_err-run_stream.ensures.1 in
-    rw (p.1, p.2) (reports_write (faults c.args.output.now) (faults c.run_stream.new.output) c.in_err-run_stream.field-0.0 c.in_err-run_stream.ensures.write)
-
 pub returns-clause-told : goal.returns-clause-told
 returns-clause-told g c =
     let start = to_come c.args.feed.now (g.I.Source.left c.args.input.now) in
@@ -69,3 +55,14 @@ returns-clause-told g c =
     start reached (to_come c.run_stream.new.feed (g.I.Source.left c.run_stream.new.input)) (taken c.args.output.now) (taken c.run_stream.new.output) told.0 c.in_ok-text.text.items
     c.in_ok-machine.machine.state c.run_stream.new.machine.state (Ok tt)
     told.1 told.2.0 told.2.3 told.2.1 told.2.2 made c.in_ok-machine.ensures.turns c.in_ok-run_stream.ensures.streams
+
+pub returns-in_err-run_stream-clause-ends : goal.returns-in_err-run_stream-clause-ends
+returns-in_err-run_stream-clause-ends g c =
+    let read = g.I.Source.faults in
+    let write = g.O.Sink.faults in
+    let taken = g.O.Sink.taken in
+    let same = reports_none (read c.args.input.now) (read c.formula_line.new.input) _ c.in_ok-text.ensures.ends.read (λ e. cc) in
+    let run = c.in_err-run_stream.ensures in
+    let p = err_from_is_err_and c.from_residual-in_err-run_stream.result c.from_residual-in_err-run_stream.ensures.1 in
+    rw (p.1, p.2) (run_ends c.in_err-run_stream.field-0.0 c.run_stream.new.feed.held (read c.args.input.now) (read c.formula_line.new.input) (read c.run_stream.new.input)
+    (write c.args.output.now) (write c.args.output.now) (write c.run_stream.new.output) (taken c.args.output.now) (taken c.run_stream.new.output) same refl run.empty run.read run.write)

@@ -1,11 +1,12 @@
-use Rattle.std.proofs.Common.{◌-◌}
+use Rattle.std.proofs.Common.{◌-◌, refl, rules}
 use Rattle.std.proofs.lemmas.Result.{err_from_is_err_and}
 use Rattle.std.proofs.KnownBytes.{Appends-nil}
 use Rattle.io_edge.specs.Feed.{to_come, limit}
 use Rattle.plan_cert.specs.declared.verdict.Verdict.TheVariants as verdict
+use Rattle.spiral_status.specs.Fault.{status_of_generate}
 use Rattle.spiral_words.specs.declared.Command.TheVariants as command
 use Rattle.request_commands.proofs.PerformedLemmas.{generate_barred, generate_refusal, told_refused, performs_unread, judged_of, performs_judged, performs_judged_cut}
-use Rattle.spiral_input.proofs.StatusLemmas.{rest_usage}
+use Rattle.spiral_input.proofs.StatusLemmas.{rest_usage, refusal_ends}
 use Rattle.request_commands.proofs.check.check.Goals as goal
 
 pub returns-in_err-admit_request-clause-told : goal.returns-in_err-admit_request-clause-told
@@ -71,12 +72,14 @@ returns-clause-told g c =
     performs_judged request (limit - c.args.feed.now.taken) start reached out out answer.0 text (verdict.Wrong c.in-Wrong.size c.in-Wrong.given c.in-Wrong.found)
     c.in_ok-admit_request.ensures.admitted answer.1 answer.2.0 answer.2.1 answer.2.2 judged (Appends-nil out)
 
-pub returns-in_err-admit_request-clause-usage : goal.returns-in_err-admit_request-clause-usage
-returns-in_err-admit_request-clause-usage g c =
+pub returns-in_err-admit_request-clause-ends : goal.returns-in_err-admit_request-clause-ends
+returns-in_err-admit_request-clause-ends g c =
+    let read = g.I.Source.faults c.args.input.now in
+    let fault = c.in_err-admit_request.field-0.0 in
     let p = err_from_is_err_and c.from_residual.result c.from_residual.ensures.1 in
-    rw (p.1, p.2) (generate_refusal c.in_err-admit_request.field-0.0).usage
+    rw (p.1, p.2) (refusal_ends (status_of_generate fault) c.args.feed.now.held read read (g.O.Sink.faults c.args.output.now) (g.O.Sink.taken c.args.output.now) refl (generate_refusal fault))
 
-pub returns-in_err-text-clause-usage : goal.returns-in_err-text-clause-usage
-returns-in_err-text-clause-usage g c =
+pub returns-in_err-text-clause-ends : goal.returns-in_err-text-clause-ends
+returns-in_err-text-clause-ends g c =
     let p = err_from_is_err_and c.from_residual-in_err-text.result c.from_residual-in_err-text.ensures.1 in
-    rw (p.1, p.2) (rest_usage c.in_err-text.field-0.0)
+    rw (p.1, p.2) (record { empty = search rules; usage = rest_usage c.in_err-text.field-0.0; read = search rules; write = search rules; memory = search rules })

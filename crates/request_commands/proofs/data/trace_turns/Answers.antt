@@ -1,4 +1,4 @@
-use Rattle.std.proofs.Common.{◌-◌, Ok, Err}
+use Rattle.std.proofs.Common.{◌-◌, Ok, Err, refl}
 use Rattle.std.proofs.lemmas.Result.{err_from_is_err_and}
 use Rattle.io_edge.specs.Feed.{to_come, limit}
 use Rattle.icode.specs.Machine.{runs}
@@ -6,7 +6,7 @@ use Rattle.request_text.specs.Turns.{named, turns_of}
 use Rattle.spiral_words.specs.declared.Command.TheVariants as command
 use Rattle.spiral_words.specs.declared.Order.TheVariants as order
 use Rattle.request_commands.proofs.PerformedLemmas.{told_refused, performs_trace, listing_cut, traced_stranger}
-use Rattle.spiral_input.proofs.StatusLemmas.{fault_success, fault_usage, fault_has_memory, read_alone, reports_read, reports_write, reports_after, reports_unread, reports_unwritten}
+use Rattle.spiral_input.proofs.StatusLemmas.{fault_success, run_ends, write_ends}
 use Rattle.request_commands.proofs.data.trace_turns.Goals as goal
 
 pub run_stream-requires-clause-no_stranger : goal.run_stream-requires-clause-no_stranger
@@ -36,24 +36,6 @@ returns-in_err-run_stream-clause-end g c =
     let p = err_from_is_err_and c.from_residual-in_err-run_stream.result c.from_residual-in_err-run_stream.ensures.1 in
     rw (p.1, p.2) (λ e. absurd (fault_success c.in_err-run_stream.field-0.0 e))
 
-pub returns-in_err-run_stream-clause-read : goal.returns-in_err-run_stream-clause-read
-returns-in_err-run_stream-clause-read g c =
-    let faults = g.I.Source.faults in
-    let p = err_from_is_err_and c.from_residual-in_err-run_stream.result c.from_residual-in_err-run_stream.ensures.1 in
-    rw (p.1, p.2) (reports_read (faults c.args.input.now) (faults c.run_stream.new.input) c.in_err-run_stream.field-0.0 c.in_err-run_stream.ensures.read)
-
-pub returns-in_err-run_stream-clause-write : goal.returns-in_err-run_stream-clause-write
-returns-in_err-run_stream-clause-write g c =
-    let faults = g.O.Sink.faults in
-    let p = err_from_is_err_and c.from_residual-in_err-run_stream.result c.from_residual-in_err-run_stream.ensures.1 in
-    rw (p.1, p.2) (reports_after (faults c.args.output.now) (faults c.write_all.new.sink) (faults c.run_stream.new.output) c.in_ok-write_all.ensures.cause.ok
-    (reports_write (faults c.write_all.new.sink) (faults c.run_stream.new.output) c.in_err-run_stream.field-0.0 c.in_err-run_stream.ensures.write))
-
-pub returns-in_err-run_stream-clause-memory : goal.returns-in_err-run_stream-clause-memory
-returns-in_err-run_stream-clause-memory g c =
-    let p = err_from_is_err_and c.from_residual-in_err-run_stream.result c.from_residual-in_err-run_stream.ensures.1 in
-    rw (p.1, p.2) (λ e. absurd (fault_has_memory c.in_err-run_stream.field-0.0 e))
-
 pub returns-clause-told : goal.returns-clause-told
 returns-clause-told g c =
     let taken = g.O.Sink.taken in
@@ -72,24 +54,21 @@ returns-in_err-listing-clause-told g c =
     rw (p.1, p.2) (told_refused (command.Trace (order.Turns c.args.schedule.now)) c.args.request.now (limit - c.args.feed.now.taken) (to_come c.args.feed.now (g.I.Source.left c.args.input.now)) (to_come c.args.feed.now (g.I.Source.left c.args.input.now)) (g.O.Sink.taken c.args.output.now)
     c.in_err-listing.field-0.0 c.in_err-listing.ensures.refused c.in_err-listing.ensures.refusal)
 
-pub returns-in_err-write_all-clause-read : goal.returns-in_err-write_all-clause-read
-returns-in_err-write_all-clause-read g c =
-    let p = err_from_is_err_and c.from_residual-in_err-write_all.result c.from_residual-in_err-write_all.ensures.1 in
-    rw (p.1, p.2) (reports_unread (g.I.Source.faults c.args.input.now))
+pub returns-in_err-run_stream-clause-ends : goal.returns-in_err-run_stream-clause-ends
+returns-in_err-run_stream-clause-ends g c =
+    let read = g.I.Source.faults in
+    let write = g.O.Sink.faults in
+    let taken = g.O.Sink.taken in
+    let run = c.in_err-run_stream.ensures in
+    let p = err_from_is_err_and c.from_residual-in_err-run_stream.result c.from_residual-in_err-run_stream.ensures.1 in
+    rw (p.1, p.2) (run_ends c.in_err-run_stream.field-0.0 c.run_stream.new.feed.held (read c.args.input.now) (read c.args.input.now) (read c.run_stream.new.input)
+    (write c.args.output.now) (write c.write_all.new.sink) (write c.run_stream.new.output) (taken c.args.output.now) (taken c.run_stream.new.output) refl c.in_ok-write_all.ensures.cause.ok run.empty run.read run.write)
 
-pub returns-in_err-write_all-clause-write : goal.returns-in_err-write_all-clause-write
-returns-in_err-write_all-clause-write g c =
-    let faults = g.O.Sink.faults in
-    let p = err_from_is_err_and c.from_residual-in_err-write_all.result c.from_residual-in_err-write_all.ensures.1 in
+pub returns-in_err-write_all-clause-ends : goal.returns-in_err-write_all-clause-ends
+returns-in_err-write_all-clause-ends g c =
+    let read = g.I.Source.faults c.args.input.now in
+    let write = g.O.Sink.faults in
+    let taken = g.O.Sink.taken in
     let cause = c.in_err-write_all.ensures.cause in
-    rw (p.1, p.2) (reports_unwritten (faults c.args.output.now) (faults c.write_all.new.sink) cause.later cause.err)
-
-pub returns-in_err-run_stream-clause-empty : goal.returns-in_err-run_stream-clause-empty
-returns-in_err-run_stream-clause-empty g c =
-    let p = err_from_is_err_and c.from_residual-in_err-run_stream.result c.from_residual-in_err-run_stream.ensures.1 in
-    rw (p.1, p.2) (λ e. c.in_err-run_stream.ensures.empty (read_alone c.in_err-run_stream.field-0.0 e))
-
-pub returns-in_err-run_stream-clause-usage : goal.returns-in_err-run_stream-clause-usage
-returns-in_err-run_stream-clause-usage g c =
-    let p = err_from_is_err_and c.from_residual-in_err-run_stream.result c.from_residual-in_err-run_stream.ensures.1 in
-    rw (p.1, p.2) (fault_usage c.in_err-run_stream.field-0.0)
+    let p = err_from_is_err_and c.from_residual-in_err-write_all.result c.from_residual-in_err-write_all.ensures.1 in
+    rw (p.1, p.2) (write_ends c.args.feed.now.held read read (write c.args.output.now) (write c.write_all.new.sink) (taken c.args.output.now) (taken c.write_all.new.sink) refl cause.later cause.err)

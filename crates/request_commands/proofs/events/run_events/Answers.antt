@@ -1,10 +1,10 @@
-use Rattle.std.proofs.Common.{◌-◌, Ok, Err}
+use Rattle.std.proofs.Common.{◌-◌, Ok, Err, refl}
 use Rattle.std.proofs.lemmas.Result.{err_from_is_err_and}
 use Rattle.buffer_machine.specs.Listed.{events_of}
 use Rattle.io_edge.specs.Feed.{to_come, limit}
 use Rattle.spiral_words.specs.declared.Command.TheVariants as command
 use Rattle.request_commands.proofs.PerformedLemmas.{told_refused}
-use Rattle.spiral_input.proofs.StatusLemmas.{fault_success, fault_usage, fault_has_memory, read_alone, reports_read, reports_write}
+use Rattle.spiral_input.proofs.StatusLemmas.{fault_success, run_ends}
 use Rattle.request_commands.specs.Traced.{order_of}
 use Rattle.request_commands.proofs.BufferedLemmas.{good_events, performs_buffered_run}
 use Rattle.request_commands.proofs.events.run_events.Goals as goal
@@ -25,23 +25,6 @@ returns-in_err-run_buffered-clause-end g c =
     let p = err_from_is_err_and c.from_residual-in_err-run_buffered.result c.from_residual-in_err-run_buffered.ensures.1 in
     rw (p.1, p.2) (λ e. absurd (fault_success c.in_err-run_buffered.field-0.0 e))
 
-pub returns-in_err-run_buffered-clause-read : goal.returns-in_err-run_buffered-clause-read
-returns-in_err-run_buffered-clause-read g c =
-    let faults = g.I.Source.faults in
-    let p = err_from_is_err_and c.from_residual-in_err-run_buffered.result c.from_residual-in_err-run_buffered.ensures.1 in
-    rw (p.1, p.2) (reports_read (faults c.args.input.now) (faults c.run_buffered.new.input) c.in_err-run_buffered.field-0.0 c.in_err-run_buffered.ensures.read)
-
-pub returns-in_err-run_buffered-clause-write : goal.returns-in_err-run_buffered-clause-write
-returns-in_err-run_buffered-clause-write g c =
-    let faults = g.O.Sink.faults in
-    let p = err_from_is_err_and c.from_residual-in_err-run_buffered.result c.from_residual-in_err-run_buffered.ensures.1 in
-    rw (p.1, p.2) (reports_write (faults c.args.output.now) (faults c.run_buffered.new.output) c.in_err-run_buffered.field-0.0 c.in_err-run_buffered.ensures.write)
-
-pub returns-in_err-run_buffered-clause-memory : goal.returns-in_err-run_buffered-clause-memory
-returns-in_err-run_buffered-clause-memory g c =
-    let p = err_from_is_err_and c.from_residual-in_err-run_buffered.result c.from_residual-in_err-run_buffered.ensures.1 in
-    rw (p.1, p.2) (λ e. absurd (fault_has_memory c.in_err-run_buffered.field-0.0 e))
-
 pub returns-clause-told : goal.returns-clause-told
 returns-clause-told g c =
     let taken = g.O.Sink.taken in
@@ -61,15 +44,15 @@ returns-in_err-machine-clause-told g c =
     rw (p.1, p.2) (told_refused (command.Run (order_of c.args.events)) c.args.request.now (limit - c.args.feed.now.taken) (to_come c.args.feed.now (g.I.Source.left c.args.input.now)) (to_come c.args.feed.now (g.I.Source.left c.args.input.now)) (g.O.Sink.taken c.args.output.now)
     c.in_err-machine.field-0.0 c.in_err-machine.ensures.refused c.in_err-machine.ensures.refusal)
 
-pub returns-in_err-run_buffered-clause-empty : goal.returns-in_err-run_buffered-clause-empty
-returns-in_err-run_buffered-clause-empty g c =
-    let p = err_from_is_err_and c.from_residual-in_err-run_buffered.result c.from_residual-in_err-run_buffered.ensures.1 in
-    rw (p.1, p.2) (λ e. c.in_err-run_buffered.ensures.empty (read_alone c.in_err-run_buffered.field-0.0 e))
-
-pub returns-in_err-run_buffered-clause-usage : goal.returns-in_err-run_buffered-clause-usage
-returns-in_err-run_buffered-clause-usage g c =
-    let p = err_from_is_err_and c.from_residual-in_err-run_buffered.result c.from_residual-in_err-run_buffered.ensures.1 in
-    rw (p.1, p.2) (fault_usage c.in_err-run_buffered.field-0.0)
-
 pub run_buffered-requires-clause-no_stranger : goal.run_buffered-requires-clause-no_stranger
 run_buffered-requires-clause-no_stranger g c = good_events c.args.events c.args.request.now c.in_ok-machine.machine.code c.in_ok-machine.ensures.machine c.requires.turns
+
+pub returns-in_err-run_buffered-clause-ends : goal.returns-in_err-run_buffered-clause-ends
+returns-in_err-run_buffered-clause-ends g c =
+    let read = g.I.Source.faults in
+    let write = g.O.Sink.faults in
+    let taken = g.O.Sink.taken in
+    let run = c.in_err-run_buffered.ensures in
+    let p = err_from_is_err_and c.from_residual-in_err-run_buffered.result c.from_residual-in_err-run_buffered.ensures.1 in
+    rw (p.1, p.2) (run_ends c.in_err-run_buffered.field-0.0 c.run_buffered.new.feed.held (read c.args.input.now) (read c.args.input.now) (read c.run_buffered.new.input)
+    (write c.args.output.now) (write c.args.output.now) (write c.run_buffered.new.output) (taken c.args.output.now) (taken c.run_buffered.new.output) refl refl run.empty run.read run.write)

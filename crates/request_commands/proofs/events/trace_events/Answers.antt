@@ -1,9 +1,9 @@
-use Rattle.std.proofs.Common.{◌-◌, Ok, Err}
+use Rattle.std.proofs.Common.{◌-◌, Ok, Err, refl}
 use Rattle.std.proofs.lemmas.Result.{err_from_is_err_and}
 use Rattle.io_edge.specs.Feed.{to_come, limit}
 use Rattle.spiral_words.specs.declared.Command.TheVariants as command
 use Rattle.request_commands.proofs.PerformedLemmas.{told_refused, listing_cut}
-use Rattle.spiral_input.proofs.StatusLemmas.{fault_success, fault_usage, fault_has_memory, read_alone, reports_read, reports_write, reports_after, reports_unread, reports_unwritten}
+use Rattle.spiral_input.proofs.StatusLemmas.{fault_success, run_ends, write_ends}
 use Rattle.request_commands.specs.Traced.{order_of}
 use Rattle.request_commands.proofs.BufferedLemmas.{performs_buffered_trace, traced_events_there}
 use Rattle.request_commands.proofs.events.trace_events.Goals as goal
@@ -35,24 +35,6 @@ returns-in_err-run_buffered-clause-end g c =
     let p = err_from_is_err_and c.from_residual-in_err-run_buffered.result c.from_residual-in_err-run_buffered.ensures.1 in
     rw (p.1, p.2) (λ e. absurd (fault_success c.in_err-run_buffered.field-0.0 e))
 
-pub returns-in_err-run_buffered-clause-read : goal.returns-in_err-run_buffered-clause-read
-returns-in_err-run_buffered-clause-read g c =
-    let faults = g.I.Source.faults in
-    let p = err_from_is_err_and c.from_residual-in_err-run_buffered.result c.from_residual-in_err-run_buffered.ensures.1 in
-    rw (p.1, p.2) (reports_read (faults c.args.input.now) (faults c.run_buffered.new.input) c.in_err-run_buffered.field-0.0 c.in_err-run_buffered.ensures.read)
-
-pub returns-in_err-run_buffered-clause-write : goal.returns-in_err-run_buffered-clause-write
-returns-in_err-run_buffered-clause-write g c =
-    let faults = g.O.Sink.faults in
-    let p = err_from_is_err_and c.from_residual-in_err-run_buffered.result c.from_residual-in_err-run_buffered.ensures.1 in
-    rw (p.1, p.2) (reports_after (faults c.args.output.now) (faults c.write_all.new.sink) (faults c.run_buffered.new.output) c.in_ok-write_all.ensures.cause.ok
-    (reports_write (faults c.write_all.new.sink) (faults c.run_buffered.new.output) c.in_err-run_buffered.field-0.0 c.in_err-run_buffered.ensures.write))
-
-pub returns-in_err-run_buffered-clause-memory : goal.returns-in_err-run_buffered-clause-memory
-returns-in_err-run_buffered-clause-memory g c =
-    let p = err_from_is_err_and c.from_residual-in_err-run_buffered.result c.from_residual-in_err-run_buffered.ensures.1 in
-    rw (p.1, p.2) (λ e. absurd (fault_has_memory c.in_err-run_buffered.field-0.0 e))
-
 pub returns-clause-told : goal.returns-clause-told
 returns-clause-told g c =
     let taken = g.O.Sink.taken in
@@ -71,24 +53,21 @@ returns-in_err-listing-clause-told g c =
     rw (p.1, p.2) (told_refused (command.Trace (order_of c.args.events)) c.args.request.now (limit - c.args.feed.now.taken) (to_come c.args.feed.now (g.I.Source.left c.args.input.now)) (to_come c.args.feed.now (g.I.Source.left c.args.input.now)) (g.O.Sink.taken c.args.output.now)
     c.in_err-listing.field-0.0 c.in_err-listing.ensures.refused c.in_err-listing.ensures.refusal)
 
-pub returns-in_err-write_all-clause-read : goal.returns-in_err-write_all-clause-read
-returns-in_err-write_all-clause-read g c =
-    let p = err_from_is_err_and c.from_residual-in_err-write_all.result c.from_residual-in_err-write_all.ensures.1 in
-    rw (p.1, p.2) (reports_unread (g.I.Source.faults c.args.input.now))
+pub returns-in_err-run_buffered-clause-ends : goal.returns-in_err-run_buffered-clause-ends
+returns-in_err-run_buffered-clause-ends g c =
+    let read = g.I.Source.faults in
+    let write = g.O.Sink.faults in
+    let taken = g.O.Sink.taken in
+    let run = c.in_err-run_buffered.ensures in
+    let p = err_from_is_err_and c.from_residual-in_err-run_buffered.result c.from_residual-in_err-run_buffered.ensures.1 in
+    rw (p.1, p.2) (run_ends c.in_err-run_buffered.field-0.0 c.run_buffered.new.feed.held (read c.args.input.now) (read c.args.input.now) (read c.run_buffered.new.input)
+    (write c.args.output.now) (write c.write_all.new.sink) (write c.run_buffered.new.output) (taken c.args.output.now) (taken c.run_buffered.new.output) refl c.in_ok-write_all.ensures.cause.ok run.empty run.read run.write)
 
-pub returns-in_err-write_all-clause-write : goal.returns-in_err-write_all-clause-write
-returns-in_err-write_all-clause-write g c =
-    let faults = g.O.Sink.faults in
-    let p = err_from_is_err_and c.from_residual-in_err-write_all.result c.from_residual-in_err-write_all.ensures.1 in
+pub returns-in_err-write_all-clause-ends : goal.returns-in_err-write_all-clause-ends
+returns-in_err-write_all-clause-ends g c =
+    let read = g.I.Source.faults c.args.input.now in
+    let write = g.O.Sink.faults in
+    let taken = g.O.Sink.taken in
     let cause = c.in_err-write_all.ensures.cause in
-    rw (p.1, p.2) (reports_unwritten (faults c.args.output.now) (faults c.write_all.new.sink) cause.later cause.err)
-
-pub returns-in_err-run_buffered-clause-empty : goal.returns-in_err-run_buffered-clause-empty
-returns-in_err-run_buffered-clause-empty g c =
-    let p = err_from_is_err_and c.from_residual-in_err-run_buffered.result c.from_residual-in_err-run_buffered.ensures.1 in
-    rw (p.1, p.2) (λ e. c.in_err-run_buffered.ensures.empty (read_alone c.in_err-run_buffered.field-0.0 e))
-
-pub returns-in_err-run_buffered-clause-usage : goal.returns-in_err-run_buffered-clause-usage
-returns-in_err-run_buffered-clause-usage g c =
-    let p = err_from_is_err_and c.from_residual-in_err-run_buffered.result c.from_residual-in_err-run_buffered.ensures.1 in
-    rw (p.1, p.2) (fault_usage c.in_err-run_buffered.field-0.0)
+    let p = err_from_is_err_and c.from_residual-in_err-write_all.result c.from_residual-in_err-write_all.ensures.1 in
+    rw (p.1, p.2) (write_ends c.args.feed.now.held read read (write c.args.output.now) (write c.write_all.new.sink) (taken c.args.output.now) (taken c.write_all.new.sink) refl cause.later cause.err)

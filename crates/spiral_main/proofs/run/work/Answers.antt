@@ -5,12 +5,15 @@ use Rattle.spiral_words.specs.Asked.{IsAsked}
 use Rattle.spiral_words.specs.declared.Command.{Command}
 use Rattle.spiral_input.specs.Stage.{status_of}
 use Rattle.spiral_input.specs.Asking.{Asks, spelt}
-use Rattle.convolution_commands.specs.Convolved.{ToldConvolves}
+use Rattle.convolution_commands.specs.Convolved.{conv_outcomes}
 use Rattle.transform_requests.specs.Fields.{procs_of}
-use Rattle.formula_commands.specs.Compiled.{ToldComputes}
-use Rattle.listing_commands.specs.Listed.{ToldExecutes}
+use Rattle.formula_commands.specs.Compiled.{formula_outcomes}
+use Rattle.listing_commands.specs.Listed.{exec_outcomes}
+use Rattle.request_commands.specs.Performed.{request_outcomes}
+use Rattle.spiral_input.specs.Outcomes.{ToldMeets}
+use Rattle.spiral_input.proofs.OutcomeLemmas.{meets_by_source}
 use Rattle.spiral_input.proofs.AskLemmas.{reads_same}
-use Rattle.spiral_main.proofs.Accounts.{accounted, accounted_words, accounted_line, executed_accounts, computed_accounts, convolved_accounts, performs_by_source, executes_by_source, computes_by_source, convolves_by_source, goes_by_request}
+use Rattle.spiral_main.proofs.Accounts.{accounted, accounted_words, accounted_line, executed_accounts, computed_accounts, convolved_accounts, goes_by_request}
 use Rattle.spiral_input.proofs.InputLemmas.{nothing_held, prepend_nothing, left_ended}
 use Rattle.data_stream.proofs.TokensLemmas.{reports_none}
 use Rattle.spiral_input.proofs.StatusLemmas.{reports_after}
@@ -31,10 +34,10 @@ returns-in-Some-clause-told g c =
     let now = g.I.Source.left c.exec.new.input in
     let schedule = c.in-Some.schedule.now in
     let start : to_come c.in_ok-feed.feed left ≡ left = ap (λ f. to_come f left) c.in_ok-feed.ensures ∙ prepend_nothing left in
-    let told = subst (λ b. ToldExecutes schedule b (to_come c.exec.new.feed now) (taken c.args.output.now) (taken c.exec.new.output) (status_of c.exec.result)) start c.exec.ensures.told in
+    let told = subst (λ b. ToldMeets (exec_outcomes schedule) b (to_come c.exec.new.feed now) (taken c.args.output.now) (taken c.exec.new.output) (status_of c.exec.result)) start c.exec.ensures.told in
     executed_accounts words schedule left now (taken c.args.output.now) (taken c.exec.new.output) (status_of c.exec.result)
     (subst (λ (k : Command). IsAsked words k) c.in-Some.ensures c.in_ok-command.ensures.command)
-    (executes_by_source schedule left c.exec.new.feed now (taken c.args.output.now) (taken c.exec.new.output) (status_of c.exec.result) c.exec.ensures.empty told)
+    (meets_by_source (exec_outcomes schedule) left c.exec.new.feed now (taken c.args.output.now) (taken c.exec.new.output) (status_of c.exec.result) c.exec.ensures.ends.empty told)
 
 pub returns-in-Some-clause-end : goal.returns-in-Some-clause-end
 returns-in-Some-clause-end g c = λ success other. left_ended c.exec.new.feed.held (g.I.Source.left c.exec.new.input) (c.exec.ensures.end success)
@@ -43,7 +46,7 @@ pub returns-in-Some-clause-after : goal.returns-in-Some-clause-after
 returns-in-Some-clause-after g c = λ _. (c.in_ok-command.command, c.in_ok-command.ensures.command)
 
 pub returns-in-Some-clause-words : goal.returns-in-Some-clause-words
-returns-in-Some-clause-words g c = inr (inr (c.exec.ensures.usage, (c.in_ok-command.command, c.in_ok-command.ensures.command)))
+returns-in-Some-clause-words g c = inr (inr (c.exec.ensures.ends.usage, (c.in_ok-command.command, c.in_ok-command.ensures.command)))
 
 pub returns-then-takes_formula-clause-told : goal.returns-then-takes_formula-clause-told
 returns-then-takes_formula-clause-told g c =
@@ -53,10 +56,10 @@ returns-then-takes_formula-clause-told g c =
     let now = g.I.Source.left c.by_formula.new.input in
     let command = c.in_ok-command.command in
     let start : to_come c.in_ok-feed.feed left ≡ left = ap (λ f. to_come f left) c.in_ok-feed.ensures ∙ prepend_nothing left in
-    let told = subst (λ b. ToldComputes command b (to_come c.by_formula.new.feed now) (taken c.args.output.now) (taken c.by_formula.new.output) (status_of c.by_formula.result)) start c.by_formula.ensures.told in
+    let told = subst (λ b. ToldMeets (formula_outcomes command) b (to_come c.by_formula.new.feed now) (taken c.args.output.now) (taken c.by_formula.new.output) (status_of c.by_formula.result)) start c.by_formula.ensures.told in
     computed_accounts words command left now (taken c.args.output.now) (taken c.by_formula.new.output) (status_of c.by_formula.result)
     (c.in_ok-command.ensures.command, sym c.takes_formula.ensures ∙ c.if-takes_formula.true)
-    (computes_by_source command left c.by_formula.new.feed now (taken c.args.output.now) (taken c.by_formula.new.output) (status_of c.by_formula.result) c.by_formula.ensures.empty told)
+    (meets_by_source (formula_outcomes command) left c.by_formula.new.feed now (taken c.args.output.now) (taken c.by_formula.new.output) (status_of c.by_formula.result) c.by_formula.ensures.ends.empty told)
 
 pub returns-then-takes_formula-clause-end : goal.returns-then-takes_formula-clause-end
 returns-then-takes_formula-clause-end g c = λ success other.
@@ -68,7 +71,7 @@ pub returns-then-takes_formula-clause-after : goal.returns-then-takes_formula-cl
 returns-then-takes_formula-clause-after g c = λ _. (c.in_ok-command.command, c.in_ok-command.ensures.command)
 
 pub returns-then-takes_formula-clause-words : goal.returns-then-takes_formula-clause-words
-returns-then-takes_formula-clause-words g c = inr (inr (c.by_formula.ensures.usage, (c.in_ok-command.command, c.in_ok-command.ensures.command)))
+returns-then-takes_formula-clause-words g c = inr (inr (c.by_formula.ensures.ends.usage, (c.in_ok-command.command, c.in_ok-command.ensures.command)))
 
 pub returns-then-takes_convolution-clause-told : goal.returns-then-takes_convolution-clause-told
 returns-then-takes_convolution-clause-told g c =
@@ -78,10 +81,10 @@ returns-then-takes_convolution-clause-told g c =
     let now = g.I.Source.left c.convolve.new.input in
     let command = c.in_ok-command.command in
     let start : to_come c.in_ok-feed.feed left ≡ left = ap (λ f. to_come f left) c.in_ok-feed.ensures ∙ prepend_nothing left in
-    let told = subst (λ b. ToldConvolves command b (to_come c.convolve.new.feed now) (taken c.args.output.now) (taken c.convolve.new.output) (status_of c.convolve.result)) start c.convolve.ensures.told in
+    let told = subst (λ b. ToldMeets (conv_outcomes command) b (to_come c.convolve.new.feed now) (taken c.args.output.now) (taken c.convolve.new.output) (status_of c.convolve.result)) start c.convolve.ensures.told in
     convolved_accounts words command left now (taken c.args.output.now) (taken c.convolve.new.output) (status_of c.convolve.result)
     (c.in_ok-command.ensures.command, sym c.takes_convolution.ensures ∙ c.if-takes_convolution.true)
-    (convolves_by_source command left c.convolve.new.feed now (taken c.args.output.now) (taken c.convolve.new.output) (status_of c.convolve.result) c.convolve.ensures.empty told)
+    (meets_by_source (conv_outcomes command) left c.convolve.new.feed now (taken c.args.output.now) (taken c.convolve.new.output) (status_of c.convolve.result) c.convolve.ensures.ends.empty told)
 
 pub returns-then-takes_convolution-clause-end : goal.returns-then-takes_convolution-clause-end
 returns-then-takes_convolution-clause-end g c = λ success other.
@@ -93,7 +96,7 @@ pub returns-then-takes_convolution-clause-after : goal.returns-then-takes_convol
 returns-then-takes_convolution-clause-after g c = λ _. (c.in_ok-command.command, c.in_ok-command.ensures.command)
 
 pub returns-then-takes_convolution-clause-words : goal.returns-then-takes_convolution-clause-words
-returns-then-takes_convolution-clause-words g c = inr (inr (c.convolve.ensures.usage, (c.in_ok-command.command, c.in_ok-command.ensures.command)))
+returns-then-takes_convolution-clause-words g c = inr (inr (c.convolve.ensures.ends.usage, (c.in_ok-command.command, c.in_ok-command.ensures.command)))
 
 pub returns-in_err-request-clause-told : goal.returns-in_err-request-clause-told
 returns-in_err-request-clause-told g c =
@@ -106,8 +109,8 @@ returns-in_err-request-clause-told g c =
     let start : to_come c.in_ok-feed.feed left ≡ left = ap (λ f. to_come f left) c.in_ok-feed.ensures ∙ prepend_nothing left in
     let told = subst (λ b. Asks procs_of spelt command b reached c.ask.new.feed.taken (Err fault)) start c.in_err-request.ensures.told in
     let p = err_from_is_err_and c.from_residual-in_err-request.result c.from_residual-in_err-request.ensures.1 in
-    rw (p.1, p.2) (accounted_line words left reached now c.ask.new.feed.taken command (g.O.Sink.taken c.args.output.now) fault (c.in_ok-command.ensures.command, goes_by_request command c.in_default.ensures (sym c.takes_formula.ensures ∙ c.if-takes_formula.false) (sym c.takes_convolution.ensures ∙ c.if-takes_convolution.false)) told c.in_err-request.ensures.others.2
-    (λ e. nothing_held c.ask.new.feed now (c.in_err-request.ensures.empty (ap (λ s. Err s) e))))
+    rw (p.1, p.2) (accounted_line words left reached now c.ask.new.feed.taken command (g.O.Sink.taken c.args.output.now) fault (c.in_ok-command.ensures.command, goes_by_request command c.in_default.ensures (sym c.takes_formula.ensures ∙ c.if-takes_formula.false) (sym c.takes_convolution.ensures ∙ c.if-takes_convolution.false)) told c.in_err-request.ensures.ends.others.write
+    (λ e. nothing_held c.ask.new.feed now (c.in_err-request.ensures.ends.empty (ap (λ s. Err s) e))))
 
 pub returns-in_err-request-clause-after : goal.returns-in_err-request-clause-after
 returns-in_err-request-clause-after g c = λ _. (c.in_ok-command.command, c.in_ok-command.ensures.command)
@@ -115,7 +118,7 @@ returns-in_err-request-clause-after g c = λ _. (c.in_ok-command.command, c.in_o
 pub returns-in_err-request-clause-words : goal.returns-in_err-request-clause-words
 returns-in_err-request-clause-words g c =
     let p = err_from_is_err_and c.from_residual-in_err-request.result c.from_residual-in_err-request.ensures.1 in
-    rw (p.1, p.2) (inr (inr (c.in_err-request.ensures.others.1, (c.in_ok-command.command, c.in_ok-command.ensures.command))))
+    rw (p.1, p.2) (inr (inr (c.in_err-request.ensures.ends.others.usage, (c.in_ok-command.command, c.in_ok-command.ensures.command))))
 
 pub returns-clause-told : goal.returns-clause-told
 returns-clause-told g c =
@@ -129,7 +132,7 @@ returns-clause-told g c =
     let told = subst (λ b. Asks procs_of spelt command b reached c.ask.new.feed.taken (Ok request)) start c.in_ok-request.ensures.told in
     let now = g.I.Source.left c.perform.new.input in
     let status = status_of c.perform.result in
-    let performed = performs_by_source command request (limit - c.ask.new.feed.taken) reached c.perform.new.feed now (taken c.args.output.now) (taken c.perform.new.output) status c.perform.ensures.empty c.perform.ensures.told in
+    let performed = meets_by_source (request_outcomes command request (limit - c.ask.new.feed.taken)) reached c.perform.new.feed now (taken c.args.output.now) (taken c.perform.new.output) status c.perform.ensures.ends.empty c.perform.ensures.told in
     accounted words left reached now c.ask.new.feed.taken command request (taken c.args.output.now) (taken c.perform.new.output) status (c.in_ok-command.ensures.command, goes_by_request command c.in_default.ensures (sym c.takes_formula.ensures ∙ c.if-takes_formula.false) (sym c.takes_convolution.ensures ∙ c.if-takes_convolution.false)) told performed
 
 pub returns-clause-end : goal.returns-clause-end
@@ -142,10 +145,10 @@ pub returns-clause-after : goal.returns-clause-after
 returns-clause-after g c = λ _. (c.in_ok-command.command, c.in_ok-command.ensures.command)
 
 pub returns-clause-words : goal.returns-clause-words
-returns-clause-words g c = inr (inr (c.perform.ensures.usage, (c.in_ok-command.command, c.in_ok-command.ensures.command)))
+returns-clause-words g c = inr (inr (c.perform.ensures.ends.usage, (c.in_ok-command.command, c.in_ok-command.ensures.command)))
 
 pub returns-clause-read : goal.returns-clause-read
 returns-clause-read g c =
     let faults = g.I.Source.faults in
-    let same = reports_none (faults c.args.input.now) (faults c.ask.new.input) _ c.in_ok-request.ensures.read (λ e. cc) in
-    reports_after (faults c.args.input.now) (faults c.ask.new.input) (faults c.perform.new.input) same c.perform.ensures.read
+    let same = reports_none (faults c.args.input.now) (faults c.ask.new.input) _ c.in_ok-request.ensures.ends.read (λ e. cc) in
+    reports_after (faults c.args.input.now) (faults c.ask.new.input) (faults c.perform.new.input) same c.perform.ensures.ends.read
