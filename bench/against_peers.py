@@ -14,6 +14,9 @@ HERE = os.path.dirname(os.path.abspath(__file__))
 SPIRAL, FAST, *SIZES = sys.argv[1:]
 SIZES = [int(size) for size in SIZES] or [64, 1024, 4096, 65536]
 ROUNDS = 25
+NATIVE = ["-O3", "-march=native"]
+# How Clang orders instructions: first by how many can go side by side.
+SCHEDULED = ["-mllvm", "-pre-RA-sched=list-ilp", "-mllvm", "-misched-topdown"]
 
 # Each with its primes, or none where it has no peers, and with the lanes and unroll of its fast text.
 MODULI = [
@@ -113,14 +116,21 @@ def raced(race, size, title, primes, lanes, unroll):
         race.peer("NTL", "g++", "race_ntl.cpp", ["-O2", "-lntl", "-lgmp", "-pthread"], words)
         race.peer("FLINT fft_small", "gcc", "race_flint.c", ["-O2", "-march=native", "-lflint"], words)
     race.peer("textbook", "gcc", "race_textbook.c", ["-O3", "-march=native"], words)
-    with_lanes, with_half = (fast_text(f"{request} lanes {min(n, int(size ** 0.5))} unroll {unroll}") for n in (lanes, lanes // 2))
-    native = ["-O3", "-march=native"]
-    race.text("fast, lanes, clang", "clang", with_lanes, *native)
-    race.text("fast, lanes, gcc", "gcc", with_lanes, *native)
+    most = min(lanes, int(size**0.5))
+    with_lanes = fast_text(f"{request} lanes {most} unroll {unroll}")
+    race.text("fast, lanes, clang", "clang", with_lanes, *NATIVE)
+    race.text("fast, lanes, clang, scheduled", "clang", with_lanes, *NATIVE, *SCHEDULED)
+    race.text("fast, lanes, gcc", "gcc", with_lanes, *NATIVE)
+    if size >= 4 * most * most:
+        in_turn = fast_text(f"{request} procs 2 line {most} lanes {most} unroll {unroll}")
+        race.text("fast, two processors in turn, clang, scheduled", "clang", in_turn, *NATIVE, *SCHEDULED)
+    with_half = fast_text(f"{request} lanes {min(lanes // 2, most)} unroll {unroll}")
     race.text("fast, half the lanes, clang, AVX2", "clang", with_half, "-O3", "-mavx2")
+    race.text("fast, half the lanes, clang, AVX2, scheduled", "clang", with_half, "-O3", "-mavx2", *SCHEDULED)
     one = fast_text(f"{request} unroll 4")
-    race.text("fast, one lane, clang", "clang", one, *native)
-    race.text("fast, one lane, gcc", "gcc", one, *native)
+    race.text("fast, one lane, clang", "clang", one, *NATIVE)
+    race.text("fast, one lane, clang, scheduled", "clang", one, *NATIVE, *SCHEDULED)
+    race.text("fast, one lane, gcc", "gcc", one, *NATIVE)
     race.text("specified, gcc", "gcc", output([SPIRAL, "c"], request + "\n"), "-O2")
     race.run(f"{size}, {title}")
 
