@@ -1,5 +1,6 @@
 // The top call.
-ghost use Rattle.std.specs.Prelude.{◌≡◌, ◌≢◌, ◌↔◌, ℕ, List, [], length, map, string_bytes, vec_len, IsTrue, IfOk, IfErr};
+ghost use Rattle.std.specs.Prelude.{◌≡◌, ◌≢◌, ◌↔◌, ℕ, List, [], length, map, string_bytes};
+ghost use Rattle.std.specs.Prelude.{vec_len, IsTrue, IfOk, IfErr};
 ghost use Rattle.std.specs.declared.option.Option.{Option};
 ghost use Rattle.std.specs.Io.KnownBytes.{Appends, IsAtEnd};
 ghost use Rattle.icode.specs.Machine.{IsApart};
@@ -7,7 +8,8 @@ ghost use Rattle.icode.specs.Program.{plain_program, code_of, Fits};
 ghost use Rattle.io_edge.specs.Faults.{Reports};
 ghost use Rattle.word_code.specs.Choice.{fast_words};
 ghost use Rattle.word_code.specs.View.{plain_word_program};
-ghost use Rattle.fast_main.specs.Outcome.{IsRefused, IsTranslated, IsInside, IsDefined, ToldAccounts, Notes};
+ghost use Rattle.fast_main.specs.Outcome.{IsRefused, IsTranslated, IsInside, IsDefined};
+ghost use Rattle.fast_main.specs.Outcome.{ToldAccounts, Notes};
 ghost use Rattle.fast_main.specs.Status.{note_line, status_of};
 ghost use Rattle.fast_main.specs.Translation.{fast_text, IsFaithful};
 

@@ -6,4 +6,5 @@ pub mod Laws
 pub mod View
 pub mod Setting
 pub mod Same
+pub mod Kinds
 pub mod Choice

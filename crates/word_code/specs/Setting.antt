@@ -1,14 +1,47 @@
 -- What the statements of a program share, and what they are made with it.
-use Rattle.std.specs.Prelude.{ℕ, List}
+use Rattle.std.specs.Prelude.{ℕ, ◌*◌, ◌^◌, ◌<◌, ◌≤◌, List, []}
 use Rattle.icode.specs.declared.program.Stmt.{Stmt}
-use Rattle.icode.specs.Plain.{PlainBody, plain_stmt}
-use Rattle.word_code.specs.declared.quicken.Setting.{Setting}
-use Rattle.word_code.specs.Quicken.{Header, QuickStmt, quick_stmt, quick_phase}
+use Rattle.icode.specs.Plain.{PlainOp, PlainBody, plain_stmt}
+use Rattle.word_code.specs.declared.program.Setting.{Setting}
+use Rattle.word_code.specs.Words.{base_of, quotient_of, product_bound}
+use Rattle.word_code.specs.Quicken.{Header, Settled, Noted, QuickStmt, bound_at, settled, noted, quick_stmt, quick_phase}
 use Rattle.word_code.specs.View.{lazy_of}
-use Rattle.word_code.specs.WordProgram.{WordBody}
+use Rattle.word_code.specs.WordProgram.{Note, WordBody}
+
+-- multiples of the modulus up to the limit are words of 64 bits, and what arrays and products are below is within the
+-- limit
+pub record IsSettingWithin (s : Setting) : Type 0 where
+  pub room : s.slack.limit * s.modulus < 2 ^ 64
+  pub small : s.slack.limit < 2 ^ 32
+  pub some : 1 ≤ s.slack.limit
+  pub half : s.slack.half ≤ 2 ^ 32
+  pub keep : s.slack.keep ≤ s.slack.limit
+  pub product : product_bound (lazy_of s.slack).width ≤ s.slack.limit
+  pub lanes : s.lanes ≤ 16
+
+-- no register's bound passes the limit
+abbrev pub AreBoundsWithin : Setting → List ℕ → Type 0
+AreBoundsWithin s bounds = (r : ℕ) → bound_at s.slack.limit bounds r ≤ s.slack.limit
 
 abbrev pub header_in : Setting → Header
 header_in s = record { modulus = s.modulus; lanes = s.lanes; regs = s.regs }
+
+-- two registers, settled to the target
+abbrev pub settled_in : Setting → ℕ → ℕ → ℕ → List ℕ → Settled
+settled_in s x y target bounds = settled s.modulus s.slack.limit (2 * s.slack.limit) x y target bounds
+
+-- the note with its reductions alone
+abbrev pub note_after : Settled → Note
+note_after settled = record { before = settled.reductions; bias = 0; quotient = 0 }
+
+-- the note of a product by a constant factor
+abbrev pub note_of_factor : Setting → ℕ → Note
+note_of_factor s factor =
+    record { before = []; bias = 0; quotient = quotient_of (base_of (lazy_of s.slack).width) s.modulus factor }
+
+-- the note of an operation, and the bounds behind it
+abbrev pub noted_in : Setting → PlainOp → List ℕ → Noted
+noted_in s op bounds = noted (lazy_of s.slack) s.modulus s.lanes op bounds
 
 -- the statement on words, with the bounds of the registers behind it
 abbrev pub quick_stmt_in : Setting → Stmt → List ℕ → QuickStmt

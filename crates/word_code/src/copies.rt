@@ -2,6 +2,7 @@
 
 ghost use Rattle.std.specs.Prelude.{◌≡◌, IfOk};
 ghost use Rattle.icode.specs.Plain.{plain_expr, plain_part, plain_op, plain_tables};
+ghost use Rattle.word_code.specs.Kinds.{HasNoPlace};
 
 use icode::program::{Expr, Op, Part};
 use memory::NoMemory;
@@ -45,26 +46,60 @@ fn copy_part(alloc: Global, part: &Part) -> Result<Part, NoMemory>
             of,
             divisor,
             factor,
-        } => {
-            let of = copy_expr(alloc, of)?;
-            Ok(Part::Rem {
-                of,
-                divisor: *divisor,
-                factor: *factor,
-            })
-        }
+        } => Ok(Part::Rem {
+            of: copy_expr(alloc, of)?,
+            divisor: *divisor,
+            factor: *factor,
+        }),
         Part::Quot {
             of,
             divisor,
             factor,
-        } => {
-            let of = copy_expr(alloc, of)?;
-            Ok(Part::Quot {
-                of,
-                divisor: *divisor,
-                factor: *factor,
-            })
-        }
+        } => Ok(Part::Quot {
+            of: copy_expr(alloc, of)?,
+            divisor: *divisor,
+            factor: *factor,
+        }),
+    }
+}
+
+/// An operation that names no place.
+fn copy_placeless(op: &Op) -> Op
+    requires { HasNoPlace (plain_op op.now) }
+    ensures { plain_op result ≡ plain_op op.now }
+{
+    match *op {
+        Op::Zero { register } => Op::Zero { register },
+        Op::Add {
+            register,
+            left,
+            right,
+        } => Op::Add {
+            register,
+            left,
+            right,
+        },
+        Op::Sub {
+            register,
+            left,
+            right,
+        } => Op::Sub {
+            register,
+            left,
+            right,
+        },
+        Op::Neg { register, source } => Op::Neg { register, source },
+        Op::MulConst {
+            register,
+            source,
+            factor,
+        } => Op::MulConst {
+            register,
+            source,
+            factor,
+        },
+        Op::Tile { register, source } => Op::Tile { register, source },
+        Op::Load { .. } | Op::Store { .. } | Op::MulTable { .. } => unreachable!(),
     }
 }
 
@@ -90,40 +125,6 @@ pub(crate) fn copy_op(alloc: Global, op: &Op) -> Result<Op, NoMemory>
             place: copy_expr(alloc, place)?,
             register: *register,
         }),
-        Op::Zero { register } => Ok(Op::Zero {
-            register: *register,
-        }),
-        Op::Add {
-            register,
-            left,
-            right,
-        } => Ok(Op::Add {
-            register: *register,
-            left: *left,
-            right: *right,
-        }),
-        Op::Sub {
-            register,
-            left,
-            right,
-        } => Ok(Op::Sub {
-            register: *register,
-            left: *left,
-            right: *right,
-        }),
-        Op::Neg { register, source } => Ok(Op::Neg {
-            register: *register,
-            source: *source,
-        }),
-        Op::MulConst {
-            register,
-            source,
-            factor,
-        } => Ok(Op::MulConst {
-            register: *register,
-            source: *source,
-            factor: *factor,
-        }),
         Op::MulTable {
             register,
             source,
@@ -137,10 +138,7 @@ pub(crate) fn copy_op(alloc: Global, op: &Op) -> Result<Op, NoMemory>
             place: copy_expr(alloc, place)?,
             step: *step,
         }),
-        Op::Tile { register, source } => Ok(Op::Tile {
-            register: *register,
-            source: *source,
-        }),
+        _ => Ok(copy_placeless(op)),
     }
 }
 

@@ -1,14 +1,18 @@
 // The note of an operation.
 
-ghost use Rattle.std.specs.Prelude.{◌≡◌, ℕ, ◌+◌, ◌*◌, ◌^◌, ◌<◌, ◌≤◌, [], min, replicate, IfOk, OnOk, IsTrue};
+ghost use Rattle.std.specs.Prelude.{◌≡◌, ℕ, ◌+◌, ◌*◌, ◌^◌, ◌<◌, ◌≤◌, min, replicate};
+ghost use Rattle.std.specs.Prelude.{slice_set, IfOk, OnOk, IsTrue};
 ghost use Rattle.icode.specs.Limits.{is_op_within};
 ghost use Rattle.icode.specs.Machine.{with_words};
-ghost use Rattle.icode.specs.Plain.{plain_op};
+ghost use Rattle.icode.specs.Plain.{Add, Sub, Neg, Tile, plain_op};
 ghost use Rattle.word_code.specs.Words.{quotient_of, product_bound};
-ghost use Rattle.word_code.specs.Quicken.{bound_at, settled, array_bound, no_note as no_note_plain, noted};
+ghost use Rattle.word_code.specs.Kinds.{NeedsNoReductions};
+ghost use Rattle.word_code.specs.Quicken.{bound_at, array_bound, no_note as no_note_plain};
+ghost use Rattle.word_code.specs.Setting.{IsSettingWithin, AreBoundsWithin, settled_in};
+ghost use Rattle.word_code.specs.Setting.{note_after, note_of_factor, noted_in};
 ghost use Rattle.word_code.specs.View.{lazy_of, plain_note};
 
-use crate::program::{Note, Reduction, Slack};
+use crate::program::{Note, Setting, Slack};
 use crate::settle::{bound_of, greatest_of, put_bound, settle};
 use icode::program::{Array, Op};
 use memory::NoMemory;
@@ -61,39 +65,6 @@ fn put_bounds(bounds: &mut [u64], register: u64, count: u64, bound: u64)
     put_bounds(bounds, register + 1, count - 1, bound);
 }
 
-/// The reductions after which two registers together are at most the target.
-fn reductions(
-    alloc: Global,
-    modulus: u64,
-    limit: u64,
-    left: u64,
-    right: u64,
-    target: u64,
-    bounds: &mut [u64],
-) -> Result<Vec<Reduction>, NoMemory>
-    requires room { limit * modulus < 2 ^ 64 }
-    requires small { limit < 2 ^ 32 }
-    requires sane { (r : ℕ) → bound_at limit bounds.old r ≤ limit }
-    ensures reductions { IfOk result (λ rs. rs.items
-        ≡ (settled modulus limit (2 * limit) left right target bounds.old).reductions) }
-    ensures after { OnOk result (bounds.new
-        ≡ (settled modulus limit (2 * limit) left right target bounds.old).bounds) }
-    ensures sane { OnOk result ((r : ℕ) → bound_at limit bounds.new r ≤ limit) }
-{
-    let mut before = Vec::new(alloc);
-    settle(
-        modulus,
-        limit,
-        2 * limit,
-        left,
-        right,
-        target,
-        &mut before,
-        bounds,
-    )?;
-    Ok(before)
-}
-
 fn no_note(alloc: Global) -> Note
     ensures { plain_note result ≡ no_note_plain }
 {
@@ -114,123 +85,236 @@ fn sum_of(limit: u64, bounds: &[u64], left: u64, right: u64) -> u64
     limit.min(bound_of(limit, bounds, left) + bound_of(limit, bounds, right))
 }
 
-/// The note of an operation, with the bounds of the registers behind it.
-pub(crate) fn note_of(
+/// The note of an operation that needs nothing beside it: its register gets the bound.
+fn note_of_put(alloc: Global, register: u64, bound: u64, bounds: &mut [u64]) -> Note
+    ensures note { plain_note result ≡ no_note_plain }
+    ensures after { bounds.new ≡ slice_set bounds.old register bound }
+{
+    put_bound(bounds, register, bound);
+    no_note(alloc)
+}
+
+/// The note of a store.
+fn note_of_store(
     alloc: Global,
-    slack: Slack,
-    modulus: u64,
-    lanes: u64,
+    setting: Setting,
+    array: Array,
+    register: u64,
+    bounds: &mut [u64],
+) -> Result<Note, NoMemory>
+    requires setting { IsSettingWithin setting }
+    requires sane { AreBoundsWithin setting bounds.old }
+    ensures note { IfOk result (λ n. let most = 2 * array_bound setting.slack.keep array in
+        plain_note n ≡ note_after (settled_in setting register register most bounds.old)) }
+    ensures after { OnOk result (let most = 2 * array_bound setting.slack.keep array in
+        bounds.new ≡ (settled_in setting register register most bounds.old).bounds) }
+{
+    let most = 2 * bound_of_array(setting.slack.keep, array);
+    let before = settle(alloc, setting, register, register, most, bounds)?;
+    Ok(Note {
+        before,
+        bias: 0,
+        quotient: 0,
+    })
+}
+
+/// The note of a sum.
+fn note_of_sum(
+    alloc: Global,
+    setting: Setting,
+    register: u64,
+    left: u64,
+    right: u64,
+    bounds: &mut [u64],
+) -> Result<Note, NoMemory>
+    requires setting { IsSettingWithin setting }
+    requires sane { AreBoundsWithin setting bounds.old }
+    ensures note { IfOk result
+        (λ n. plain_note n ≡ (noted_in setting (Add register left right) bounds.old).note) }
+    ensures after { OnOk result
+        (bounds.new ≡ (noted_in setting (Add register left right) bounds.old).bounds) }
+{
+    let limit = setting.slack.limit;
+    let before = settle(alloc, setting, left, right, limit, bounds)?;
+    let sum = sum_of(limit, bounds, left, right);
+    put_bound(bounds, register, sum);
+    Ok(Note {
+        before,
+        bias: 0,
+        quotient: 0,
+    })
+}
+
+/// The note of a difference.
+fn note_of_difference(
+    alloc: Global,
+    setting: Setting,
+    register: u64,
+    left: u64,
+    right: u64,
+    bounds: &mut [u64],
+) -> Result<Note, NoMemory>
+    requires setting { IsSettingWithin setting }
+    requires sane { AreBoundsWithin setting bounds.old }
+    ensures note { IfOk result
+        (λ n. plain_note n ≡ (noted_in setting (Sub register left right) bounds.old).note) }
+    ensures after { OnOk result
+        (bounds.new ≡ (noted_in setting (Sub register left right) bounds.old).bounds) }
+{
+    let limit = setting.slack.limit;
+    let before = settle(alloc, setting, left, right, limit, bounds)?;
+    let sum = sum_of(limit, bounds, left, right);
+    let bias = multiple(limit, setting.modulus, bound_of(limit, bounds, right));
+    put_bound(bounds, register, sum);
+    Ok(Note {
+        before,
+        bias,
+        quotient: 0,
+    })
+}
+
+/// The note of a negative.
+fn note_of_negative(
+    alloc: Global,
+    setting: Setting,
+    register: u64,
+    source: u64,
+    bounds: &mut [u64],
+) -> Result<Note, NoMemory>
+    requires setting { IsSettingWithin setting }
+    requires sane { AreBoundsWithin setting bounds.old }
+    ensures note { IfOk result
+        (λ n. plain_note n ≡ (noted_in setting (Neg register source) bounds.old).note) }
+    ensures after { OnOk result
+        (bounds.new ≡ (noted_in setting (Neg register source) bounds.old).bounds) }
+{
+    let limit = setting.slack.limit;
+    let before = settle(alloc, setting, source, source, 2 * (limit - 1), bounds)?;
+    let of_source = bound_of(limit, bounds, source);
+    let bias = multiple(limit, setting.modulus, of_source);
+    put_bound(bounds, register, limit.min(of_source + 1));
+    Ok(Note {
+        before,
+        bias,
+        quotient: 0,
+    })
+}
+
+/// The note of a product by a constant factor.
+fn note_of_product(
+    alloc: Global,
+    setting: Setting,
+    register: u64,
+    factor: u64,
+    bounds: &mut [u64],
+) -> Note
+    requires setting { IsSettingWithin setting }
+    requires factor { factor < setting.modulus }
+    ensures note { plain_note result ≡ note_of_factor setting factor }
+    ensures after { bounds.new
+        ≡ slice_set bounds.old register (product_bound (lazy_of setting.slack).width) }
+{
+    put_bound(bounds, register, bound_of_product(setting.slack));
+    Note {
+        before: Vec::new(alloc),
+        bias: 0,
+        quotient: quotient(setting.slack.half, setting.modulus, factor),
+    }
+}
+
+/// The note of a tile, whose registers all get the greatest bound.
+fn note_of_tile(
+    alloc: Global,
+    setting: Setting,
+    register: u64,
+    source: u64,
+    bounds: &mut [u64],
+) -> Note
+    requires setting { IsSettingWithin setting }
+    requires register { register < 2 ^ 32 }
+    requires source { source < 2 ^ 32 }
+    ensures note { plain_note result ≡ no_note_plain }
+    ensures after { bounds.new ≡ (noted_in setting (Tile register source) bounds.old).bounds }
+{
+    let greatest = greatest_of(setting.slack.limit, bounds, setting.lanes, source);
+    put_bounds(bounds, register, setting.lanes, greatest);
+    no_note(alloc)
+}
+
+/// The note of an operation whatever the bounds of the registers that it reads.
+fn note_without_reductions(
+    alloc: Global,
+    setting: Setting,
     depth: u64,
     op: &Op,
     bounds: &mut [u64],
-) -> Result<Note, NoMemory>
-    requires within { IsTrue (is_op_within modulus (plain_op op.now) depth) }
-    requires room { slack.limit * modulus < 2 ^ 64 }
-    requires small { slack.limit < 2 ^ 32 }
-    requires some { 1 ≤ slack.limit }
-    requires half { slack.half ≤ 2 ^ 32 }
-    requires keep { slack.keep ≤ slack.limit }
-    requires lanes { lanes ≤ 16 }
-    requires sane { (r : ℕ) → bound_at slack.limit bounds.old r ≤ slack.limit }
-    ensures note { IfOk result (λ n. plain_note n
-        ≡ (noted (lazy_of slack) modulus lanes (plain_op op.now) bounds.old).note) }
-    ensures after { OnOk result (bounds.new
-        ≡ (noted (lazy_of slack) modulus lanes (plain_op op.now) bounds.old).bounds) }
+) -> Note
+    requires within { IsTrue (is_op_within setting.modulus (plain_op op.now) depth) }
+    requires setting { IsSettingWithin setting }
+    requires kind { NeedsNoReductions (plain_op op.now) }
+    ensures note { plain_note result ≡ (noted_in setting (plain_op op.now) bounds.old).note }
+    ensures after { bounds.new ≡ (noted_in setting (plain_op op.now) bounds.old).bounds }
 {
-    let limit = slack.limit;
     match op {
         Op::Load {
             register,
             array,
-            place: _,
-        } => {
-            put_bound(bounds, *register, bound_of_array(slack.keep, *array));
-            Ok(no_note(alloc))
+            ..
+        } => note_of_put(
+            alloc,
+            *register,
+            bound_of_array(setting.slack.keep, *array),
+            bounds,
+        ),
+        Op::Zero { register } => note_of_put(alloc, *register, 1, bounds),
+        Op::MulConst {
+            register,
+            factor,
+            ..
+        } => note_of_product(alloc, setting, *register, *factor, bounds),
+        Op::MulTable { register, .. } => {
+            note_of_put(alloc, *register, bound_of_product(setting.slack), bounds)
         }
+        Op::Tile { register, source } => note_of_tile(alloc, setting, *register, *source, bounds),
+        Op::Store { .. } | Op::Add { .. } | Op::Sub { .. } | Op::Neg { .. } => unreachable!(),
+    }
+}
+
+/// The note of an operation, with the bounds of the registers behind it.
+pub(crate) fn note_of(
+    alloc: Global,
+    setting: Setting,
+    depth: u64,
+    op: &Op,
+    bounds: &mut [u64],
+) -> Result<Note, NoMemory>
+    requires within { IsTrue (is_op_within setting.modulus (plain_op op.now) depth) }
+    requires setting { IsSettingWithin setting }
+    requires sane { AreBoundsWithin setting bounds.old }
+    ensures note { IfOk result
+        (λ n. plain_note n ≡ (noted_in setting (plain_op op.now) bounds.old).note) }
+    ensures after { OnOk result
+        (bounds.new ≡ (noted_in setting (plain_op op.now) bounds.old).bounds) }
+{
+    match op {
         Op::Store {
             array,
-            place: _,
             register,
-        } => {
-            let target = 2 * bound_of_array(slack.keep, *array);
-            let before = reductions(alloc, modulus, limit, *register, *register, target, bounds)?;
-            Ok(Note {
-                before,
-                bias: 0,
-                quotient: 0,
-            })
-        }
-        Op::Zero { register } => {
-            put_bound(bounds, *register, 1);
-            Ok(no_note(alloc))
-        }
+            ..
+        } => note_of_store(alloc, setting, *array, *register, bounds),
         Op::Add {
             register,
             left,
             right,
-        } => {
-            let before = reductions(alloc, modulus, limit, *left, *right, limit, bounds)?;
-            let sum = sum_of(limit, bounds, *left, *right);
-            put_bound(bounds, *register, sum);
-            Ok(Note {
-                before,
-                bias: 0,
-                quotient: 0,
-            })
-        }
+        } => note_of_sum(alloc, setting, *register, *left, *right, bounds),
         Op::Sub {
             register,
             left,
             right,
-        } => {
-            let before = reductions(alloc, modulus, limit, *left, *right, limit, bounds)?;
-            let sum = sum_of(limit, bounds, *left, *right);
-            let bias = multiple(limit, modulus, bound_of(limit, bounds, *right));
-            put_bound(bounds, *register, sum);
-            Ok(Note {
-                before,
-                bias,
-                quotient: 0,
-            })
-        }
+        } => note_of_difference(alloc, setting, *register, *left, *right, bounds),
         Op::Neg { register, source } => {
-            let target = 2 * (limit - 1);
-            let before = reductions(alloc, modulus, limit, *source, *source, target, bounds)?;
-            let of_source = bound_of(limit, bounds, *source);
-            let bias = multiple(limit, modulus, of_source);
-            put_bound(bounds, *register, limit.min(of_source + 1));
-            Ok(Note {
-                before,
-                bias,
-                quotient: 0,
-            })
+            note_of_negative(alloc, setting, *register, *source, bounds)
         }
-        Op::MulConst {
-            register,
-            source: _,
-            factor,
-        } => {
-            put_bound(bounds, *register, bound_of_product(slack));
-            Ok(Note {
-                before: Vec::new(alloc),
-                bias: 0,
-                quotient: quotient(slack.half, modulus, *factor),
-            })
-        }
-        Op::MulTable {
-            register,
-            source: _,
-            table: _,
-            place: _,
-            step: _,
-        } => {
-            put_bound(bounds, *register, bound_of_product(slack));
-            Ok(no_note(alloc))
-        }
-        Op::Tile { register, source } => {
-            let greatest = greatest_of(limit, bounds, lanes, *source);
-            put_bounds(bounds, *register, lanes, greatest);
-            Ok(no_note(alloc))
-        }
+        _ => Ok(note_without_reductions(alloc, setting, depth, op, bounds)),
     }
 }

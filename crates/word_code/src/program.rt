@@ -58,3 +58,12 @@ pub struct Slack {
     /// And those of registers below this one.
     pub limit: u64,
 }
+
+/// What the statements of a program share.
+#[derive(Clone, Copy, Drop)]
+pub(crate) struct Setting {
+    pub slack: Slack,
+    pub modulus: u64,
+    pub lanes: u64,
+    pub regs: u64,
+}

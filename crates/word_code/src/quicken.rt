@@ -1,31 +1,26 @@
 // From programs on residues to programs on words.
 
-ghost use Rattle.std.specs.Prelude.{◌≡◌, ℕ, ◌+◌, ◌*◌, ◌^◌, ◌<◌, ◌≤◌, length, map, replicate, All, IfOk, OnOk, IsTrue};
-ghost use Rattle.icode.specs.Limits.{is_stmt_within, is_body_within, are_tables_within, are_phases_within};
+ghost use Rattle.std.specs.Prelude.{◌≡◌, ◌*◌, ◌^◌, ◌<◌, ◌≤◌, length, map, replicate, All};
+ghost use Rattle.std.specs.Prelude.{IfOk, OnOk, IsTrue};
+ghost use Rattle.icode.specs.Limits.{is_stmt_within, is_body_within};
+ghost use Rattle.icode.specs.Limits.{are_tables_within, are_phases_within};
 ghost use Rattle.icode.specs.Plain.{plain_stmt, plain_body, plain_tables, plain_phases};
 ghost use Rattle.icode.specs.Program.{plain_program};
-ghost use Rattle.word_code.specs.Words.{quotient_of, product_bound};
+ghost use Rattle.word_code.specs.Words.{quotient_of};
 ghost use Rattle.word_code.specs.Laws.{IsLazyWithin};
 ghost use Rattle.word_code.specs.Same.{LeavesTheSame, OrderIsFreeOf};
-ghost use Rattle.word_code.specs.Quicken.{bound_at, quotients_of, quickened};
+ghost use Rattle.word_code.specs.Quicken.{quotients_of, quickened};
+ghost use Rattle.word_code.specs.Setting.{IsSettingWithin, AreBoundsWithin};
 ghost use Rattle.word_code.specs.Setting.{quick_stmt_in, quick_phase_in};
-ghost use Rattle.word_code.specs.View.{lazy_of, plain_word_stmt, plain_word_body, plain_word_phases, plain_word_program};
+ghost use Rattle.word_code.specs.View.{lazy_of, plain_word_stmt, plain_word_body};
+ghost use Rattle.word_code.specs.View.{plain_word_phases, plain_word_program};
 
 use crate::copies::{copy_op, copy_tables};
 use crate::note::{note_of, quotient};
-use crate::program::{Slack, WordProgram, WordStmt};
+use crate::program::{Setting, Slack, WordProgram, WordStmt};
 use icode::program::{Program, Stmt};
 use memory::NoMemory;
 use std::alloc::Global;
-
-/// What the statements of a program share.
-#[derive(Clone, Copy, Drop)]
-pub(crate) struct Setting {
-    pub slack: Slack,
-    pub modulus: u64,
-    pub lanes: u64,
-    pub regs: u64,
-}
 
 /// Nothing is known but the limit.
 fn loosen(bounds: &mut [u64], limit: u64)
@@ -43,16 +38,10 @@ fn quicken_stmt(
     bounds: &mut [u64],
 ) -> Result<WordStmt, NoMemory>
     requires within { IsTrue (is_stmt_within setting.modulus (plain_stmt stmt.now) depth) }
-    requires room { setting.slack.limit * setting.modulus < 2 ^ 64 }
-    requires small { setting.slack.limit < 2 ^ 32 }
-    requires some { 1 ≤ setting.slack.limit }
-    requires half { setting.slack.half ≤ 2 ^ 32 }
-    requires keep { setting.slack.keep ≤ setting.slack.limit }
-    requires product { product_bound (lazy_of setting.slack).width ≤ setting.slack.limit }
-    requires lanes { setting.lanes ≤ 16 }
+    requires setting { IsSettingWithin setting }
     requires regs { length bounds.old ≡ setting.regs }
     requires depth { depth ≤ 64 }
-    requires sane { (r : ℕ) → bound_at setting.slack.limit bounds.old r ≤ setting.slack.limit }
+    requires sane { AreBoundsWithin setting bounds.old }
     ensures stmt { IfOk result
         (λ s. plain_word_stmt s ≡ (quick_stmt_in setting stmt.now bounds.old).stmt) }
     ensures after { OnOk result
@@ -73,15 +62,7 @@ fn quicken_stmt(
             })
         }
         Stmt::Do(op) => {
-            let note = note_of(
-                alloc,
-                setting.slack,
-                setting.modulus,
-                setting.lanes,
-                depth,
-                op,
-                bounds,
-            )?;
+            let note = note_of(alloc, setting, depth, op, bounds)?;
             let op = copy_op(alloc, op)?;
             Ok(WordStmt::Do { note, op })
         }
@@ -91,13 +72,7 @@ fn quicken_stmt(
 /// The statements of a phase on words.
 fn quicken_phase(alloc: Global, setting: Setting, body: &[Stmt]) -> Result<Vec<WordStmt>, NoMemory>
     requires within { IsTrue (is_body_within setting.modulus (plain_body body.now) 0) }
-    requires room { setting.slack.limit * setting.modulus < 2 ^ 64 }
-    requires small { setting.slack.limit < 2 ^ 32 }
-    requires some { 1 ≤ setting.slack.limit }
-    requires half { setting.slack.half ≤ 2 ^ 32 }
-    requires keep { setting.slack.keep ≤ setting.slack.limit }
-    requires product { product_bound (lazy_of setting.slack).width ≤ setting.slack.limit }
-    requires lanes { setting.lanes ≤ 16 }
+    requires setting { IsSettingWithin setting }
     ensures { IfOk result
         (λ made. plain_word_body made.items ≡ quick_phase_in setting (plain_body body.now)) }
 {
@@ -149,13 +124,7 @@ fn quicken_phases(
     phases: &[Vec<Stmt>],
 ) -> Result<Vec<Vec<WordStmt>>, NoMemory>
     requires within { IsTrue (are_phases_within setting.modulus (plain_phases phases.now)) }
-    requires room { setting.slack.limit * setting.modulus < 2 ^ 64 }
-    requires small { setting.slack.limit < 2 ^ 32 }
-    requires some { 1 ≤ setting.slack.limit }
-    requires half { setting.slack.half ≤ 2 ^ 32 }
-    requires keep { setting.slack.keep ≤ setting.slack.limit }
-    requires product { product_bound (lazy_of setting.slack).width ≤ setting.slack.limit }
-    requires lanes { setting.lanes ≤ 16 }
+    requires setting { IsSettingWithin setting }
     ensures { IfOk result (λ made. plain_word_phases made.items
         ≡ map (quick_phase_in setting) (plain_phases phases.now)) }
 {

@@ -1,10 +1,12 @@
 // Bounds of registers, and the reductions that keep them.
 
-ghost use Rattle.std.specs.Prelude.{◌≡◌, ℕ, ◌+◌, ◌*◌, ◌^◌, ◌<◌, ◌≤◌, ◌++◌, slice_set, OnOk};
-ghost use Rattle.word_code.specs.Quicken.{bound_at, greater, settled, greatest_bound};
+ghost use Rattle.std.specs.Prelude.{◌≡◌, ◌+◌, ◌^◌, ◌<◌, slice_set, IfOk, OnOk};
+ghost use Rattle.word_code.specs.Quicken.{bound_at, greater, greatest_bound};
+ghost use Rattle.word_code.specs.Setting.{IsSettingWithin, AreBoundsWithin, settled_in};
 
-use crate::program::Reduction;
+use crate::program::{Reduction, Setting};
 use memory::NoMemory;
+use std::alloc::Global;
 
 /// The bound of a register, which is the limit where none is known.
 pub(crate) fn bound_of(limit: u64, bounds: &[u64], register: u64) -> u64
@@ -35,50 +37,39 @@ fn greater_of(limit: u64, bounds: &[u64], left: u64, right: u64) -> u64
     }
 }
 
-/// Halves the greater of two registers until their bounds together are at most the target, at most so often.
+/// The reductions after which the bounds of two registers are together at most the target: the greater
+/// is halved, for as long as that may help.
 pub(crate) fn settle(
-    modulus: u64,
-    limit: u64,
-    times: u64,
+    alloc: Global,
+    setting: Setting,
     left: u64,
     right: u64,
     target: u64,
-    before: &mut Vec<Reduction>,
     bounds: &mut [u64],
-) -> Result<(), NoMemory>
-    requires room { limit * modulus < 2 ^ 64 }
-    requires small { limit < 2 ^ 32 }
-    requires sane { (r : ℕ) → bound_at limit bounds.old r ≤ limit }
-    ensures reductions { OnOk result (before.new.items ≡ before.old.items
-        ++ (settled modulus limit times left right target bounds.old).reductions) }
-    ensures after { OnOk result (bounds.new
-        ≡ (settled modulus limit times left right target bounds.old).bounds) }
+) -> Result<Vec<Reduction>, NoMemory>
+    requires setting { IsSettingWithin setting }
+    requires sane { AreBoundsWithin setting bounds.old }
+    ensures reductions { IfOk result
+        (λ rs. rs.items ≡ (settled_in setting left right target bounds.old).reductions) }
+    ensures after { OnOk result
+        (bounds.new ≡ (settled_in setting left right target bounds.old).bounds) }
+    ensures sane { OnOk result (AreBoundsWithin setting bounds.new) }
 {
-    if times == 0 {
-        return Ok(());
+    let limit = setting.slack.limit;
+    let mut before = Vec::new(alloc);
+    for _ in 0..2 * limit {
+        if bound_of(limit, bounds, left) + bound_of(limit, bounds, right) <= target {
+            return Ok(before);
+        }
+        let register = greater_of(limit, bounds, left, right);
+        let half = (bound_of(limit, bounds, register) + 1) / 2;
+        before.push(Reduction {
+            register,
+            amount: half * setting.modulus,
+        })?;
+        put_bound(bounds, register, half);
     }
-    let of_left = bound_of(limit, bounds, left);
-    let of_right = bound_of(limit, bounds, right);
-    if of_left + of_right <= target {
-        return Ok(());
-    }
-    let register = greater_of(limit, bounds, left, right);
-    let half = (bound_of(limit, bounds, register) + 1) / 2;
-    before.push(Reduction {
-        register,
-        amount: half * modulus,
-    })?;
-    put_bound(bounds, register, half);
-    settle(
-        modulus,
-        limit,
-        times - 1,
-        left,
-        right,
-        target,
-        before,
-        bounds,
-    )
+    Ok(before)
 }
 
 /// The greatest bound of so many registers.

@@ -1,11 +1,11 @@
-use Rattle.std.proofs.Common.{◌≡◌, ◌≤◌, ◌+◌, ℕ, List, ap, sym, ◌∙◌, subst, arith, rules, true}
+use Rattle.std.proofs.Common.{◌≡◌, ◌+◌, List, ap, sym, ◌∙◌, subst, arith, rules, true}
 use Rattle.std.proofs.lemmas.Grind.{common_steps}
 use Rattle.icode.specs.declared.program.Stmt.{Stmt, the_lemmas}
 use Rattle.icode.specs.Plain.{Loop, plain_stmt, plain_body}
 use Rattle.icode.specs.Limits.{is_body_within}
 use Rattle.icode.proofs.Views.{plain_stmt-Loop}
-use Rattle.word_code.specs.Quicken.{bound_at, loosest}
-use Rattle.word_code.specs.Setting.{header_in}
+use Rattle.word_code.specs.Quicken.{loosest}
+use Rattle.word_code.specs.Setting.{AreBoundsWithin, header_in}
 use Rattle.word_code.specs.View.{lazy_of}
 use Rattle.word_code.proofs.Emitting.{IsQuickBody, quick_more, loop_parts, item_within, take_whole, loop_made, stmt_sane}
 use Rattle.word_code.proofs.quicken.+quicken_stmt.Goals as goal
@@ -21,7 +21,7 @@ quicken_stmt-requires t c =
       (
         item_within c.args.setting.modulus (c.args.depth + 1) c.loop-inner.inner-index c.deref-inner-items.result.now c.inner-item.result
             (subst (λ (xs : List Stmt). is_body_within c.args.setting.modulus (plain_body xs) (c.args.depth + 1) ≡ true) (sym items) parts.1) (omega arith) c.inner-item.is,
-        (c.requires.room, (c.requires.small, (c.requires.some, (c.requires.half, (c.requires.keep, (c.requires.product, (c.requires.lanes, (search rules, (omega (arith, parts.0), c.loop-inner.invariant.sane))))))))),
+        (c.requires.setting, (search rules, (omega (arith, parts.0), c.loop-inner.invariant.sane))),
       ),
     )
 
@@ -35,8 +35,8 @@ loop-inner-preserved t c =
           quick_more z h c.loop-inner.inner-index c.deref-inner-items.result.now c.inner-item.result (loosest z h) c.loop-inner.made.items c.push.new.self.items c.in_ok-inner-in-Loop.inner
           c.loop-inner.bounds c.quicken_stmt.new.bounds (omega arith) c.inner-item.is c.loop-inner.invariant.is c.in_ok-inner-in-Loop.ensures.stmt ends c.in_ok-push-in-Loop.ensures.items;
       sane =
-          subst (λ (bs : List ℕ). (r : ℕ) → bound_at c.args.setting.slack.limit bs r ≤ c.args.setting.slack.limit) (sym ends)
-          (stmt_sane z h (plain_stmt c.inner-item.result) c.loop-inner.bounds c.requires.some c.requires.keep c.requires.product c.loop-inner.invariant.sane);
+          subst (AreBoundsWithin c.args.setting) (sym ends)
+          (stmt_sane z h (plain_stmt c.inner-item.result) c.loop-inner.bounds c.requires.setting.some c.requires.setting.keep c.requires.setting.product c.loop-inner.invariant.sane);
     }
 
 pub returns-after-loop-inner-clause-stmt : goal.returns-after-loop-inner-clause-stmt

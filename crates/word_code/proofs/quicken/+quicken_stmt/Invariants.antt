@@ -1,6 +1,6 @@
-use Rattle.std.proofs.Common.{ℕ, ◌≤◌, take}
-use Rattle.word_code.specs.Quicken.{bound_at, loosest}
-use Rattle.word_code.specs.Setting.{header_in}
+use Rattle.std.proofs.Common.{take}
+use Rattle.word_code.specs.Quicken.{loosest}
+use Rattle.word_code.specs.Setting.{AreBoundsWithin, header_in}
 use Rattle.word_code.specs.View.{lazy_of}
 use Rattle.word_code.proofs.Emitting.{IsQuickBody}
 use Rattle.word_code.proofs.quicken.+quicken_stmt.Given as goal
@@ -11,5 +11,5 @@ decreases-quicken_stmt l = goal.size-quicken_stmt l
 abbrev pub invariant-loop-inner : goal.invariant-loop-inner
 invariant-loop-inner l = record {
   is : IsQuickBody (lazy_of l.setting.slack) (header_in l.setting) (take l.inner-index l.inner-items) (loosest (lazy_of l.setting.slack) (header_in l.setting)) l.made.items l.bounds;
-  sane : (r : ℕ) → bound_at l.setting.slack.limit l.bounds r ≤ l.setting.slack.limit;
+  sane : AreBoundsWithin l.setting l.bounds;
 }

@@ -1,7 +1,7 @@
-use Rattle.std.proofs.Common.{◌≤◌, ℕ, List, subst, sym, ◌∙◌, arith}
+use Rattle.std.proofs.Common.{subst, sym, ◌∙◌, arith}
 use Rattle.icode.specs.Plain.{plain_stmt}
-use Rattle.word_code.specs.Quicken.{bound_at, loosest}
-use Rattle.word_code.specs.Setting.{header_in}
+use Rattle.word_code.specs.Quicken.{loosest}
+use Rattle.word_code.specs.Setting.{AreBoundsWithin, header_in}
 use Rattle.word_code.specs.View.{lazy_of}
 use Rattle.word_code.proofs.Emitting.{item_within, quick_more, stmt_sane}
 use Rattle.word_code.proofs.quicken.quicken_phase.Goals as goal
@@ -20,7 +20,7 @@ loop-stmt-preserved c =
           quick_more z h c.loop-stmt.stmt-index c.args.body.now c.stmt-item.result (loosest z h) c.loop-stmt.made.items c.push.new.self.items c.in_ok-stmt.stmt
           c.loop-stmt.bounds c.quicken_stmt.new.bounds (omega arith) c.stmt-item.is c.loop-stmt.invariant.is c.in_ok-stmt.ensures.stmt ends c.in_ok-push.ensures.items;
       sane =
-          subst (λ (bs : List ℕ). (r : ℕ) → bound_at c.args.setting.slack.limit bs r ≤ c.args.setting.slack.limit) (sym ends)
-          (stmt_sane z h (plain_stmt c.stmt-item.result) c.loop-stmt.bounds c.requires.some c.requires.keep c.requires.product c.loop-stmt.invariant.sane);
+          subst (AreBoundsWithin c.args.setting) (sym ends)
+          (stmt_sane z h (plain_stmt c.stmt-item.result) c.loop-stmt.bounds c.requires.setting.some c.requires.setting.keep c.requires.setting.product c.loop-stmt.invariant.sane);
       long = c.quicken_stmt.auto.bounds ∙ c.loop-stmt.invariant.long;
     }

@@ -1,6 +1,6 @@
-use Rattle.std.proofs.Common.{ℕ, ◌≤◌, take, length, ◌≡◌}
-use Rattle.word_code.specs.Quicken.{bound_at, loosest}
-use Rattle.word_code.specs.Setting.{header_in}
+use Rattle.std.proofs.Common.{take, length, ◌≡◌}
+use Rattle.word_code.specs.Quicken.{loosest}
+use Rattle.word_code.specs.Setting.{AreBoundsWithin, header_in}
 use Rattle.word_code.specs.View.{lazy_of}
 use Rattle.word_code.proofs.Emitting.{IsQuickBody}
 use Rattle.word_code.proofs.quicken.quicken_phase.Given as goal
@@ -8,6 +8,6 @@ use Rattle.word_code.proofs.quicken.quicken_phase.Given as goal
 abbrev pub invariant-loop-stmt : goal.invariant-loop-stmt
 invariant-loop-stmt l = record {
   is : IsQuickBody (lazy_of l.setting.slack) (header_in l.setting) (take l.stmt-index l.body) (loosest (lazy_of l.setting.slack) (header_in l.setting)) l.made.items l.bounds;
-  sane : (r : ℕ) → bound_at l.setting.slack.limit l.bounds r ≤ l.setting.slack.limit;
+  sane : AreBoundsWithin l.setting l.bounds;
   long : length l.bounds ≡ l.setting.regs;
 }
