@@ -24,7 +24,10 @@ abbrev pub CanList : PlainFactors → Type 0
 CanList (values entries) = Unit {0}
 CanList (twiddles r s root) = (0 < s) × (r * s < 2 ^ 32)
 CanList (repeated v n) = Unit {0}
-CanList (spread path factors) = CanList factors × (0 < size_under path (factor_count factors)) × (size_under path (factor_count factors) < 2 ^ 32)
+CanList (spread path factors) =
+    CanList factors
+    × (0 < size_under path (factor_count factors))
+    × (size_under path (factor_count factors) < 2 ^ 32)
 
 abbrev pub HasFactors : Option PlainMultiplier → Type 0
 HasFactors None = Unit {0}
@@ -48,4 +51,5 @@ CanEmitPhases h (ps ∷ more) = CanEmitAll h ps × CanEmitPhases h more
 
 -- the machine of merged passes, for residues of a modulus and lines of so many words
 abbrev pub machine_for : ℕ → ℕ → PlainMerged → PlainMachine
-machine_for modulus line g = record { size = g.size; modulus = modulus; procs = g.procs; line = line; lanes = g.lanes }
+machine_for modulus line g =
+    record { size = g.size; modulus = modulus; procs = g.procs; line = line; lanes = g.lanes }

@@ -1,2 +1,5 @@
 pub mod Views
 pub mod Conditions
+pub mod Bodies
+pub mod Additions
+pub mod Sequences

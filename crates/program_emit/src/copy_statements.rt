@@ -1,10 +1,9 @@
 // The statements of copies.
 ghost use Rattle.std.specs.Prelude.{◌≡◌, ◌+◌, IfOk, OnOk};
-ghost use Rattle.icode.specs.Plain.{AndStmts, Do, Load, plain_body};
-ghost use Rattle.pass_programs.specs.Statements.{finish_body, followed_by, items_body, place_at};
 ghost use Rattle.passes.specs.Views.{plain_nest};
+ghost use Rattle.program_emit.specs.Bodies.{Appends, copied_at, copies_at};
 ghost use Rattle.program_emit.specs.Conditions.{CanStore, HasPlaces};
-ghost use Rattle.program_emit.specs.Views.{plain_frame};
+ghost use Rattle.program_emit.specs.Views.{body_in};
 
 use crate::outputs;
 use crate::outputs::put_output;
@@ -25,8 +24,7 @@ fn put_copy(
 ) -> Result<(), NoMemory>
     requires loads { HasPlaces (number + 1) (plain_nest nest.now).gathers }
     requires stores { CanStore (number + 1) (plain_nest nest.now) }
-    ensures { OnOk result (let z = plain_nest nest.now in let f = plain_frame site.frame in plain_body out.new.items ≡ followed_by (plain_body out.old.items)
-        (AndStmts (Do (Load 0 site.source (place_at f site.open_loops z.gathers number))) (finish_body f 0 z.multiplier z.scatters site.open_loops site.table site.target number 0 1))) }
+    ensures { OnOk result (Appends out.old out.new (copied_at site nest.now number)) }
 {
     let place = outputs::place_at(alloc, site.frame, &nest.gathers, number, site.open_loops)?;
     put_op(
@@ -55,7 +53,7 @@ pub(crate) fn statements_of_copies(
 ) -> Result<Vec<Stmt>, NoMemory>
     requires loads { HasPlaces size (plain_nest nest.now).gathers }
     requires stores { CanStore size (plain_nest nest.now) }
-    ensures { IfOk result (λ y. plain_body y.items ≡ items_body (plain_frame site.frame) (plain_nest nest.now) site.open_loops size site.table site.source site.target) }
+    ensures { IfOk result (λ y. body_in y ≡ copies_at site nest.now size) }
 {
     let mut body = Vec::new(alloc);
     for number in 0..size {

@@ -1,14 +1,16 @@
 // The program of merged passes.
 ghost use Rattle.std.specs.Prelude.{◌≡◌, ◌+◌, ◌^◌, ◌<◌, IfOk, OnOk, length};
-ghost use Rattle.icode.specs.Plain.{plain_body, plain_tables};
 ghost use Rattle.icode.specs.Plain as icode_plain;
 ghost use Rattle.icode.specs.Program.{plain_program};
 ghost use Rattle.pass_programs.specs.Contract.{CanProgram, Performs};
 ghost use Rattle.pass_programs.specs.Program as program;
-ghost use Rattle.pass_programs.specs.Statements.{followed_by};
 ghost use Rattle.passes.specs.Views.{plain_merged};
+ghost use Rattle.program_emit.specs.Additions.{AddsTablesOfPasses, AddsTablesOfPhases};
+ghost use Rattle.program_emit.specs.Bodies.{Appends};
 ghost use Rattle.program_emit.specs.Conditions.{CanEmitAll, CanEmitPhases, machine_for};
-ghost use Rattle.program_emit.specs.Views.{plain_host, plain_passes, plain_phases};
+ghost use Rattle.program_emit.specs.Sequences.{array_from, passes_from, phases_from};
+ghost use Rattle.program_emit.specs.Sequences.{registers_of_passes, registers_of_phases};
+ghost use Rattle.program_emit.specs.Views.{body_in, plain_host, plain_passes, plain_phases};
 
 use crate::host::Host;
 use crate::nest::emit_pass;
@@ -50,7 +52,7 @@ fn target_of(number: u64, after: u64) -> Array
 // The array that the last of the passes writes, where there are any.
 fn array_after(passes: &[Vec<Nest>], start: Start) -> Array
     requires few { start.number + (start.after + length passes.now) < 2 ^ 64 }
-    ensures { result ≡ program.array_after start.after (plain_passes passes.now) start.number start.source }
+    ensures { result ≡ array_from start passes.now }
 {
     match passes.split_first() {
         None => start.source,
@@ -88,9 +90,10 @@ fn put_passes(
 ) -> Result<u64, NoMemory>
     requires can { CanEmitAll (plain_host host.now) (plain_passes passes.now) }
     requires few { start.number + (start.after + length passes.now) < 2 ^ 64 }
-    ensures body { OnOk result (plain_body out.new.items ≡ followed_by (plain_body out.old.items) (program.phase_body (plain_host host.now) start.after (plain_passes passes.now) start.number (plain_tables tables.old.items) start.source)) }
-    ensures tables { OnOk result (plain_tables tables.new.items ≡ program.tables_through host.now.modulus (plain_passes passes.now) (plain_tables tables.old.items)) }
-    ensures registers { IfOk result (λ used. used ≡ program.most_of (plain_host host.now) (plain_passes passes.now)) }
+    ensures body { OnOk result (Appends out.old out.new
+        (passes_from start host.now passes.now tables.old)) }
+    ensures tables { OnOk result (AddsTablesOfPasses host.now passes.now tables.old tables.new) }
+    ensures registers { IfOk result (λ used. used ≡ registers_of_passes host.now passes.now) }
 {
     match passes.split_first() {
         None => Ok(0),
@@ -119,9 +122,10 @@ fn emit_passes(
 ) -> Result<Emitted, NoMemory>
     requires can { CanEmitAll (plain_host host.now) (plain_passes passes.now) }
     requires few { start.number + (start.after + length passes.now) < 2 ^ 64 }
-    ensures body { IfOk result (λ e. plain_body e.statements.items ≡ program.phase_body (plain_host host.now) start.after (plain_passes passes.now) start.number (plain_tables tables.old.items) start.source) }
-    ensures tables { OnOk result (plain_tables tables.new.items ≡ program.tables_through host.now.modulus (plain_passes passes.now) (plain_tables tables.old.items)) }
-    ensures registers { IfOk result (λ e. e.registers ≡ program.most_of (plain_host host.now) (plain_passes passes.now)) }
+    ensures body { IfOk result (λ e. body_in e.statements
+        ≡ passes_from start host.now passes.now tables.old) }
+    ensures tables { OnOk result (AddsTablesOfPasses host.now passes.now tables.old tables.new) }
+    ensures registers { IfOk result (λ e. e.registers ≡ registers_of_passes host.now passes.now) }
 {
     let mut statements = Vec::new(alloc);
     let registers = put_passes(alloc, host, passes, start, tables, &mut statements)?;
@@ -142,9 +146,10 @@ fn emit_phases(
 ) -> Result<EmittedPhases, NoMemory>
     requires can { CanEmitPhases (plain_host host.now) (plain_phases phases.now) }
     requires few { number + program.count_in (plain_phases phases.now) < 2 ^ 64 }
-    ensures phases { IfOk result (λ e. icode_plain.plain_phases e.phases.items ≡ program.phases_body (plain_host host.now) (plain_phases phases.now) number (plain_tables tables.old.items) source) }
-    ensures tables { OnOk result (plain_tables tables.new.items ≡ program.tables_of_phases host.now.modulus (plain_phases phases.now) (plain_tables tables.old.items)) }
-    ensures registers { IfOk result (λ e. e.registers ≡ program.most_of_phases (plain_host host.now) (plain_phases phases.now)) }
+    ensures phases { IfOk result (λ e. icode_plain.plain_phases e.phases.items
+        ≡ phases_from number source host.now phases.now tables.old) }
+    ensures tables { OnOk result (AddsTablesOfPhases host.now phases.now tables.old tables.new) }
+    ensures registers { IfOk result (λ e. e.registers ≡ registers_of_phases host.now phases.now) }
 {
     match phases.split_first() {
         None => Ok(EmittedPhases {
@@ -170,18 +175,21 @@ fn emit_phases(
     }
 }
 
-/// The program of merged passes, phase by phase, from X by way of A and B to Y, on residues of this modulus, where a line has
-/// so many words. It stands within the limits of programs, and its processors share no line in a phase; run to its end, it
-/// leaves what the passes make of its input, in equal shares of what they count.
+/// The program of merged passes, phase by phase, from X by way of A and B to Y, on residues of this modulus, where a
+/// line has so many words. It stands within the limits of programs, and its processors share no line in a phase; run to
+/// its end, it leaves what the passes make of its input, in equal shares of what they count.
 pub fn emit_on(
     alloc: Global,
     modulus: &Modulus,
     line: u64,
     merged: &Merged,
 ) -> Result<Program, NoMemory>
-    requires { CanProgram (machine_for modulus.now line (plain_merged merged.now)) (plain_merged merged.now) }
-    ensures code { IfOk result (λ p. let g = plain_merged merged.now in plain_program p ≡ program.program_of (machine_for modulus.now line g) g) }
-    ensures performs { IfOk result (λ p. let g = plain_merged merged.now in Performs (machine_for modulus.now line g) g (plain_program p)) }
+    requires { CanProgram (machine_for modulus.now line (plain_merged merged.now))
+        (plain_merged merged.now) }
+    ensures code { IfOk result (λ p. let g = plain_merged merged.now in
+        plain_program p ≡ program.program_of (machine_for modulus.now line g) g) }
+    ensures performs { IfOk result (λ p. let g = plain_merged merged.now in
+        Performs (machine_for modulus.now line g) g (plain_program p)) }
 {
     let host = Host {
         size: merged.size,

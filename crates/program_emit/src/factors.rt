@@ -1,11 +1,12 @@
 // The entries of diagonals.
-ghost use Rattle.std.specs.Prelude.{◌≡◌, ℕ, ◌^◌, ◌<◌, IfOk, length, slice_index};
+ghost use Rattle.std.specs.Prelude.{◌≡◌, ℕ, ◌^◌, ◌<◌, IfOk, length};
 ghost use Rattle.index_fn.specs.Mapping.{at};
 ghost use Rattle.matrix_meaning.specs.Laws.{twiddle};
 ghost use Rattle.operators.specs.Sum.{list_below};
 ghost use Rattle.pass_programs.specs.Statements.{diagonal_of, one_factor};
 ghost use Rattle.passes.specs.Nest.{inner_of};
 ghost use Rattle.passes.specs.Views.{plain_factors};
+ghost use Rattle.program_emit.specs.Additions.{entries_under};
 ghost use Rattle.program_emit.specs.Conditions.{CanList};
 ghost use Rattle.tensor_paths.specs.Path.{size_under};
 
@@ -65,7 +66,7 @@ fn inner_place(path: &[Tensor], size: u64, place: u64) -> u64
 fn spread(alloc: Global, path: &[Tensor], inner: &[u64]) -> Result<Vec<u64>, NoMemory>
     requires some { 0 < size_under path.now (length inner.now) }
     requires small { size_under path.now (length inner.now) < 2 ^ 32 }
-    ensures { IfOk result (λ y. y.items ≡ list_below (size_under path.now (length inner.now)) (λ i. slice_index inner.now (at (inner_of path.now (length inner.now)) i))) }
+    ensures { IfOk result (λ y. y.items ≡ entries_under path.now inner.now) }
 {
     let size = inner.len() as u64;
     let mut items = Vec::new(alloc);

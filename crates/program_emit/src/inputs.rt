@@ -1,10 +1,9 @@
 // Loads of a nest.
 ghost use Rattle.std.specs.Prelude.{◌≡◌, IfOk};
-ghost use Rattle.icode.specs.Plain.{plain_body};
-ghost use Rattle.pass_programs.specs.Statements.{loads_body};
 ghost use Rattle.passes.specs.Views.{plain_nest};
+ghost use Rattle.program_emit.specs.Bodies.{loads_at};
 ghost use Rattle.program_emit.specs.Conditions.{HasPlaces};
-ghost use Rattle.program_emit.specs.Views.{plain_frame};
+ghost use Rattle.program_emit.specs.Views.{body_in};
 
 use crate::outputs::place_at;
 use crate::site::Site;
@@ -22,7 +21,7 @@ pub(crate) fn loads(
     site: Site,
 ) -> Result<Vec<Stmt>, NoMemory>
     requires { HasPlaces count (plain_nest nest.now).gathers }
-    ensures { IfOk result (λ y. plain_body y.items ≡ loads_body (plain_frame site.frame) (plain_nest nest.now) site.open_loops count site.source) }
+    ensures { IfOk result (λ y. body_in y ≡ loads_at site nest.now count) }
 {
     let mut body = Vec::new(alloc);
     for register in 0..count {

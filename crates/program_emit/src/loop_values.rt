@@ -10,7 +10,8 @@ use std::alloc::Global;
 
 // A place of one part.
 fn place_of(alloc: Global, part: Part) -> Result<Expr, NoMemory>
-    ensures { IfOk result (λ e. plain_expr e ≡ plain.Sum 0 (plain.AndParts (plain.plain_part part) plain.NoParts)) }
+    ensures { IfOk result (λ e. plain_expr e
+        ≡ plain.Sum 0 (plain.AndParts (plain.plain_part part) plain.NoParts)) }
 {
     let mut parts = Vec::new(alloc);
     parts.push(part)?;

@@ -1,7 +1,7 @@
 // Loops.
 ghost use Rattle.std.specs.Prelude.{◌≡◌, IfOk};
-ghost use Rattle.icode.specs.Plain.{plain_body};
 ghost use Rattle.pass_programs.specs.Statements.{nested};
+ghost use Rattle.program_emit.specs.Views.{body_in};
 
 use icode::program::Stmt;
 use memory::NoMemory;
@@ -13,7 +13,7 @@ pub(crate) fn in_loops(
     counts: &[u64],
     body: Vec<Stmt>,
 ) -> Result<Vec<Stmt>, NoMemory>
-    ensures { IfOk result (λ y. plain_body y.items ≡ nested counts.now (plain_body body.items)) }
+    ensures { IfOk result (λ y. body_in y ≡ nested counts.now (body_in body)) }
 {
     let mut inner = body;
     let mut left = counts.len();

@@ -1,11 +1,11 @@
 // The statements of nests and passes.
 ghost use Rattle.std.specs.Prelude.{◌≡◌, IfOk, OnOk, All, map};
-ghost use Rattle.icode.specs.Plain.{plain_body, plain_tables};
-ghost use Rattle.pass_actions.specs.Acts.{nest_registers, pass_registers};
-ghost use Rattle.pass_programs.specs.Statements.{nest_body, pass_body, tables_after, tables_of_nest};
 ghost use Rattle.passes.specs.Views.{plain_nest};
+ghost use Rattle.program_emit.specs.Additions.{AddsTablesOfNest, AddsTablesOfPass};
 ghost use Rattle.program_emit.specs.Conditions.{CanEmit};
-ghost use Rattle.program_emit.specs.Views.{plain_host};
+ghost use Rattle.program_emit.specs.Sequences.{nest_between, pass_between};
+ghost use Rattle.program_emit.specs.Sequences.{registers_of_nest, registers_of_pass};
+ghost use Rattle.program_emit.specs.Views.{body_in, plain_host};
 
 use crate::host::{Host, frame_of};
 use crate::loops::in_loops;
@@ -27,9 +27,10 @@ fn emit_nest(
     tables: &mut Vec<Vec<u64>>,
 ) -> Result<Emitted, NoMemory>
     requires { CanEmit (plain_host host.now) (plain_nest nest.now) }
-    ensures body { IfOk result (λ e. plain_body e.statements.items ≡ nest_body (plain_host host.now) (plain_nest nest.now) (plain_tables tables.old.items) source target) }
-    ensures tables { OnOk result (plain_tables tables.new.items ≡ tables_of_nest host.now.modulus (plain_nest nest.now) (plain_tables tables.old.items)) }
-    ensures registers { IfOk result (λ e. let z = plain_nest nest.now in e.registers ≡ nest_registers host.now.modulus z z.work) }
+    ensures body { IfOk result (λ e. body_in e.statements
+        ≡ nest_between host.now nest.now tables.old source target) }
+    ensures tables { OnOk result (AddsTablesOfNest host.now nest.now tables.old tables.new) }
+    ensures registers { IfOk result (λ e. e.registers ≡ registers_of_nest host.now nest.now) }
 {
     let frame = frame_of(host, &nest.work);
     let loops = &nest.counts[frame.first_loop as usize..];
@@ -61,9 +62,10 @@ pub(crate) fn emit_pass(
     tables: &mut Vec<Vec<u64>>,
 ) -> Result<Emitted, NoMemory>
     requires { All (CanEmit (plain_host host.now)) (map plain_nest nests.now) }
-    ensures body { IfOk result (λ e. plain_body e.statements.items ≡ pass_body (plain_host host.now) (map plain_nest nests.now) (plain_tables tables.old.items) source target) }
-    ensures tables { OnOk result (plain_tables tables.new.items ≡ tables_after host.now.modulus (map plain_nest nests.now) (plain_tables tables.old.items)) }
-    ensures registers { IfOk result (λ e. e.registers ≡ pass_registers host.now.modulus (map plain_nest nests.now)) }
+    ensures body { IfOk result (λ e. body_in e.statements
+        ≡ pass_between host.now nests.now tables.old source target) }
+    ensures tables { OnOk result (AddsTablesOfPass host.now nests.now tables.old tables.new) }
+    ensures registers { IfOk result (λ e. e.registers ≡ registers_of_pass host.now nests.now) }
 {
     let mut statements = Vec::new(alloc);
     let mut registers: u64 = 0;

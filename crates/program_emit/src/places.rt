@@ -1,11 +1,12 @@
 // Places of a nest as expressions of code.
-ghost use Rattle.std.specs.Prelude.{◌≡◌, ◌+◌, ◌==◌, if◌then◌else◌, IfOk, map};
-ghost use Rattle.icode.specs.Plain.{AndParts, NoParts, Rem, Quot, Proc, Var, parts_of, plain_expr, plain_part};
+ghost use Rattle.std.specs.Prelude.{◌≡◌, ◌+◌, ◌==◌, if◌then◌else◌, IfOk};
+ghost use Rattle.icode.specs.Plain.{AndParts, Rem, Quot, Var, plain_expr};
 ghost use Rattle.pass_programs.specs.Conditions.{CanWrite};
-ghost use Rattle.pass_programs.specs.Expressions.{expr_of, factor_at, processor_of, quotients_of, remainders_of, sum_of};
+ghost use Rattle.pass_programs.specs.Expressions.{expr_of, factor_at, processor_of};
+ghost use Rattle.pass_programs.specs.Expressions.{quotients_of, remainders_of, sum_of};
 ghost use Rattle.perm_algebra.specs.Room as room;
 ghost use Rattle.perm_algebra.specs.Views.{plain_sum};
-ghost use Rattle.program_emit.specs.Views.{plain_frame};
+ghost use Rattle.program_emit.specs.Views.{parts_in, plain_frame};
 
 use crate::host::Frame;
 use icode::program::{Expr, Part};
@@ -24,7 +25,8 @@ pub fn place_expr(
     open_loops: u64,
 ) -> Result<Expr, NoMemory>
     requires { CanWrite (plain_sum sum.now) }
-    ensures { IfOk result (λ e. plain_expr e ≡ expr_of (plain_frame frame) open_loops (plain_sum sum.now)) }
+    ensures { IfOk result (λ e. plain_expr e
+        ≡ expr_of (plain_frame frame) open_loops (plain_sum sum.now)) }
 {
     let quotients = quotients(alloc, frame, sum, open_loops)?;
     let divisions = remainders(alloc, frame, sum, open_loops, quotients)?;
@@ -42,7 +44,8 @@ fn remainders(
     others: Vec<Part>,
 ) -> Result<Vec<Part>, NoMemory>
     requires { CanWrite (plain_sum sum.now) }
-    ensures { IfOk result (λ parts. parts_of (map plain_part parts.items) ≡ remainders_of (plain_frame frame) open_loops (plain_sum sum.now) (parts_of (map plain_part others.items))) }
+    ensures { IfOk result (λ parts. parts_in parts
+        ≡ remainders_of (plain_frame frame) open_loops (plain_sum sum.now) (parts_in others)) }
 {
     match sum {
         Affine::Constant(_) => Ok(others),
@@ -68,7 +71,8 @@ fn quotients(
     open_loops: u64,
 ) -> Result<Vec<Part>, NoMemory>
     requires { CanWrite (plain_sum sum.now) }
-    ensures { IfOk result (λ parts. parts_of (map plain_part parts.items) ≡ quotients_of (plain_frame frame) open_loops (plain_sum sum.now)) }
+    ensures { IfOk result (λ parts. parts_in parts
+        ≡ quotients_of (plain_frame frame) open_loops (plain_sum sum.now)) }
 {
     match sum {
         Affine::Constant(_) => Ok(Vec::new(alloc)),
@@ -92,7 +96,8 @@ fn with_remainder(
     factor: u64,
     others: Vec<Part>,
 ) -> Result<Vec<Part>, NoMemory>
-    ensures { IfOk result (λ parts. parts_of (map plain_part parts.items) ≡ AndParts (Rem (plain_expr of) divisor factor) (parts_of (map plain_part others.items))) }
+    ensures { IfOk result (λ parts. parts_in parts
+        ≡ AndParts (Rem (plain_expr of) divisor factor) (parts_in others)) }
 {
     let mut parts = others;
     parts.insert(
@@ -113,7 +118,8 @@ fn with_quotient(
     factor: u64,
     others: Vec<Part>,
 ) -> Result<Vec<Part>, NoMemory>
-    ensures { IfOk result (λ parts. parts_of (map plain_part parts.items) ≡ AndParts (Quot (plain_expr of) divisor factor) (parts_of (map plain_part others.items))) }
+    ensures { IfOk result (λ parts. parts_in parts
+        ≡ AndParts (Quot (plain_expr of) divisor factor) (parts_in others)) }
 {
     let mut parts = others;
     parts.insert(
@@ -135,7 +141,8 @@ fn with_variables(
     others: Vec<Part>,
 ) -> Result<Expr, NoMemory>
     requires { CanWrite (plain_sum sum.now) }
-    ensures { IfOk result (λ e. plain_expr e ≡ sum_of (plain_frame frame) open_loops (plain_sum sum.now) (parts_of (map plain_part others.items))) }
+    ensures { IfOk result (λ e. plain_expr e
+        ≡ sum_of (plain_frame frame) open_loops (plain_sum sum.now) (parts_in others)) }
 {
     let mut parts = others;
     for depth in (0..open_loops).rev() {
@@ -151,7 +158,9 @@ fn with_variables(
 
 // A multiple of a loop's variable before other parts; none where the factor is 0.
 fn with_variable(depth: u64, factor: u64, others: Vec<Part>) -> Result<Vec<Part>, NoMemory>
-    ensures { IfOk result (λ parts. parts_of (map plain_part parts.items) ≡ (if factor == 0 then parts_of (map plain_part others.items) else AndParts (Var depth factor) (parts_of (map plain_part others.items)))) }
+    ensures { IfOk result (λ parts. parts_in parts
+        ≡ (if factor == 0 then parts_in others
+        else AndParts (Var depth factor) (parts_in others))) }
 {
     if factor == 0 {
         return Ok(others);
@@ -164,7 +173,8 @@ fn with_variable(depth: u64, factor: u64, others: Vec<Part>) -> Result<Vec<Part>
 // The multiple of the processor before other parts, where several share the pass; none where the factor is 0.
 fn with_processor(frame: Frame, sum: &Affine, others: Vec<Part>) -> Result<Vec<Part>, NoMemory>
     requires { CanWrite (plain_sum sum.now) }
-    ensures { IfOk result (λ parts. parts_of (map plain_part parts.items) ≡ processor_of (plain_frame frame) (plain_sum sum.now) (parts_of (map plain_part others.items))) }
+    ensures { IfOk result (λ parts. parts_in parts
+        ≡ processor_of (plain_frame frame) (plain_sum sum.now) (parts_in others)) }
 {
     if !frame.shared {
         return Ok(others);

@@ -1,10 +1,10 @@
 // The statements of work by rows: in a loop over its rows register 0 becomes a row's sum, and is stored.
 ghost use Rattle.std.specs.Prelude.{◌≡◌, ◌+◌, ◌<◌, IfOk};
-ghost use Rattle.icode.specs.Plain.{AndStmts, Do, NoStmts, Load, MulTable, Add, plain_body, plain_expr};
-ghost use Rattle.pass_programs.specs.Statements.{horner_body, place_at, rows_body, term_body};
+ghost use Rattle.icode.specs.Plain.{Load, MulTable, Add, plain_expr};
 ghost use Rattle.passes.specs.Views.{plain_nest};
+ghost use Rattle.program_emit.specs.Bodies.{horner_rows_at, product_rows_at, rows_at, three_steps};
 ghost use Rattle.program_emit.specs.Conditions.{CanStore, HasPlaces};
-ghost use Rattle.program_emit.specs.Views.{plain_frame};
+ghost use Rattle.program_emit.specs.Views.{body_in};
 
 use crate::loop_values::{loop_value, product_place};
 use crate::loops::in_loops;
@@ -19,8 +19,9 @@ use std::alloc::Global;
 
 // An item of the source, times the entry of the powers' table at this place, is added to register 0.
 fn term(alloc: Global, site: Site, input: Expr, place: Expr) -> Result<Vec<Stmt>, NoMemory>
-    ensures { IfOk result (λ y. plain_body y.items ≡ AndStmts (Do (Load 1 site.source (plain_expr input)))
-        (AndStmts (Do (MulTable 2 1 site.powers (plain_expr place) 0)) (AndStmts (Do (Add 0 0 2)) NoStmts))) }
+    ensures { IfOk result (λ y. body_in y
+        ≡ three_steps (Load 1 site.source (plain_expr input))
+        (MulTable 2 1 site.powers (plain_expr place) 0) (Add 0 0 2)) }
 {
     let mut body = Vec::new(alloc);
     put_op(
@@ -54,8 +55,9 @@ fn term(alloc: Global, site: Site, input: Expr, place: Expr) -> Result<Vec<Stmt>
 
 // Register 0 becomes its product by the entry of the powers' table at this place, plus an item of the source.
 fn horner_turn(alloc: Global, site: Site, input: Expr, place: Expr) -> Result<Vec<Stmt>, NoMemory>
-    ensures { IfOk result (λ y. plain_body y.items ≡ AndStmts (Do (MulTable 1 0 site.powers (plain_expr place) 0))
-        (AndStmts (Do (Load 2 site.source (plain_expr input))) (AndStmts (Do (Add 0 1 2)) NoStmts))) }
+    ensures { IfOk result (λ y. body_in y
+        ≡ three_steps (MulTable 1 0 site.powers (plain_expr place) 0)
+        (Load 2 site.source (plain_expr input)) (Add 0 1 2)) }
 {
     let mut body = Vec::new(alloc);
     put_op(
@@ -97,7 +99,7 @@ fn in_rows(
 ) -> Result<Vec<Stmt>, NoMemory>
     requires shallow { site.open_loops + 2 < 64 }
     requires stores { CanStore 1 (plain_nest nest.now) }
-    ensures { IfOk result (λ y. plain_body y.items ≡ rows_body (plain_frame site.frame) (plain_nest nest.now) site.open_loops size (plain_body turn.items) site.table site.target) }
+    ensures { IfOk result (λ y. body_in y ≡ rows_at site nest.now size (body_in turn)) }
 {
     let mut sum = in_loops(alloc, &[size], turn)?;
     let mut row = Vec::new(alloc);
@@ -131,8 +133,7 @@ pub(crate) fn statements_of_rows(
     requires shallow { site.open_loops + 2 < 64 }
     requires loads { HasPlaces 1 (plain_nest nest.now).gathers }
     requires stores { CanStore 1 (plain_nest nest.now) }
-    ensures { IfOk result (λ y. let z = plain_nest nest.now in let f = plain_frame site.frame in plain_body y.items
-        ≡ rows_body f z site.open_loops size (term_body (place_at f (site.open_loops + 2) z.gathers 0) site.open_loops site.source site.powers size) site.table site.target) }
+    ensures { IfOk result (λ y. body_in y ≡ product_rows_at site nest.now size) }
 {
     let input = outputs::place_at(alloc, site.frame, &nest.gathers, 0, site.open_loops + 2)?;
     let entry = product_place(alloc, site.open_loops, size)?;
@@ -151,8 +152,7 @@ pub(crate) fn statements_of_horner(
     requires shallow { site.open_loops + 2 < 64 }
     requires loads { HasPlaces 1 (plain_nest nest.now).gathers }
     requires stores { CanStore 1 (plain_nest nest.now) }
-    ensures { IfOk result (λ y. let z = plain_nest nest.now in let f = plain_frame site.frame in plain_body y.items
-        ≡ rows_body f z site.open_loops size (horner_body (place_at f (site.open_loops + 2) z.gathers 0) site.open_loops site.source site.powers) site.table site.target) }
+    ensures { IfOk result (λ y. body_in y ≡ horner_rows_at site nest.now size) }
 {
     let input = outputs::place_at(alloc, site.frame, &nest.gathers, 0, site.open_loops + 2)?;
     let entry = loop_value(alloc, site.open_loops)?;

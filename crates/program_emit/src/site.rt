@@ -3,8 +3,8 @@
 use crate::host::Frame;
 use icode::program::Array;
 
-/// Where a nest stands: what its variables are, how many loops are open, the tables of its powers and of its diagonal, and
-/// the arrays that it reads and writes.
+/// Where a nest stands: what its variables are, how many loops are open, the tables of its powers and of its diagonal,
+/// and the arrays that it reads and writes.
 #[derive(Clone, Copy)]
 pub(crate) struct Site {
     pub frame: Frame,

@@ -2,9 +2,13 @@
 ghost use Rattle.std.specs.Prelude.{◌≡◌, ◌^◌, ◌<◌, IfOk, OnOk};
 ghost use Rattle.std.specs.Option.{option_map};
 ghost use Rattle.icode.specs.Plain.{plain_tables};
-ghost use Rattle.pass_programs.specs.Statements.{diagonal_number, diagonal_of, multiplier_number, one_factor, powers_number, powers_of, table_number, tables_of_multiplier, tables_of_work, with_diagonal, with_table};
+ghost use Rattle.pass_programs.specs.Statements.{diagonal_number, diagonal_of, multiplier_number};
+ghost use Rattle.pass_programs.specs.Statements.{one_factor, powers_number, powers_of};
+ghost use Rattle.pass_programs.specs.Statements.{table_number};
 ghost use Rattle.passes.specs.Views.{plain_factors, plain_multiplier, plain_work};
+ghost use Rattle.program_emit.specs.Additions.{AddsDiagonal, AddsMultiplier, AddsPowers, AddsTable};
 ghost use Rattle.program_emit.specs.Conditions.{CanList, HasFactors};
+ghost use Rattle.program_emit.specs.Views.{tables_in};
 
 use crate::factors::{diagonal, one_factor};
 use memory::NoMemory;
@@ -40,8 +44,8 @@ fn find_table(tables: &[Vec<u64>], entries: &[u64]) -> u64
 
 // The number of a table, which is added where it is new.
 fn share_table(tables: &mut Vec<Vec<u64>>, entries: Vec<u64>) -> Result<u64, NoMemory>
-    ensures number { IfOk result (λ n. n ≡ table_number (plain_tables tables.old.items) entries.items) }
-    ensures tables { OnOk result (plain_tables tables.new.items ≡ with_table (plain_tables tables.old.items) entries.items) }
+    ensures number { IfOk result (λ n. n ≡ table_number (tables_in tables.old) entries.items) }
+    ensures tables { OnOk result (AddsTable entries.items tables.old tables.new) }
 {
     let number = find_table(tables, &entries);
     if number == tables.len() as u64 {
@@ -57,8 +61,9 @@ pub(crate) fn number_powers(
     work: &Work,
     tables: &mut Vec<Vec<u64>>,
 ) -> Result<u64, NoMemory>
-    ensures number { IfOk result (λ n. n ≡ powers_number modulus.now (plain_work work.now) (plain_tables tables.old.items)) }
-    ensures tables { OnOk result (plain_tables tables.new.items ≡ tables_of_work modulus.now (plain_work work.now) (plain_tables tables.old.items)) }
+    ensures number { IfOk result (λ n. let w = plain_work work.now in
+        n ≡ powers_number modulus.now w (tables_in tables.old)) }
+    ensures tables { OnOk result (AddsPowers modulus.now work.now tables.old tables.new) }
 {
     match work {
         Work::Rows { root, size } | Work::Horner { root, size } => {
@@ -79,9 +84,8 @@ fn number_diagonal(
 ) -> Result<u64, NoMemory>
     requires { CanList (plain_factors factors.now) }
     ensures number { IfOk result (λ n. let d = plain_factors factors.now in
-        n ≡ diagonal_number (one_factor d) (plain_tables tables.old.items) (diagonal_of modulus.now d)) }
-    ensures tables { OnOk result (let d = plain_factors factors.now in plain_tables tables.new.items ≡
-        with_diagonal (one_factor d) (plain_tables tables.old.items) (diagonal_of modulus.now d)) }
+        n ≡ diagonal_number (one_factor d) (tables_in tables.old) (diagonal_of modulus.now d)) }
+    ensures tables { OnOk result (AddsDiagonal modulus.now factors.now tables.old tables.new) }
 {
     match one_factor(factors) {
         Some(_) => Ok(0),
@@ -101,8 +105,9 @@ pub(crate) fn number_multiplier(
     tables: &mut Vec<Vec<u64>>,
 ) -> Result<u64, NoMemory>
     requires { HasFactors (option_map plain_multiplier multiplier.now) }
-    ensures number { IfOk result (λ n. n ≡ multiplier_number modulus.now (option_map plain_multiplier multiplier.now) (plain_tables tables.old.items)) }
-    ensures tables { OnOk result (plain_tables tables.new.items ≡ tables_of_multiplier modulus.now (option_map plain_multiplier multiplier.now) (plain_tables tables.old.items)) }
+    ensures number { IfOk result (λ n. let d = option_map plain_multiplier multiplier.now in
+        n ≡ multiplier_number modulus.now d (tables_in tables.old)) }
+    ensures tables { OnOk result (AddsMultiplier modulus.now multiplier.now tables.old tables.new) }
 {
     match multiplier {
         None => Ok(0),

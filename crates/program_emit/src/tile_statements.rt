@@ -1,10 +1,9 @@
 // The statements of a tile.
 ghost use Rattle.std.specs.Prelude.{◌≡◌, ◌+◌, ◌≤◌, IfOk};
-ghost use Rattle.icode.specs.Plain.{plain_body};
-ghost use Rattle.pass_programs.specs.Statements.{finish_body, in_a_row, tile_body};
 ghost use Rattle.passes.specs.Views.{plain_nest};
+ghost use Rattle.program_emit.specs.Bodies.{tile_at, tile_stores_at};
 ghost use Rattle.program_emit.specs.Conditions.{CanStore, HasPlaces};
-ghost use Rattle.program_emit.specs.Views.{plain_frame};
+ghost use Rattle.program_emit.specs.Views.{body_in};
 
 use crate::inputs::loads;
 use crate::outputs::put_output;
@@ -19,8 +18,7 @@ use std::alloc::Global;
 fn outputs(alloc: Global, nest: &Nest, lanes: u64, site: Site) -> Result<Vec<Stmt>, NoMemory>
     requires stores { CanStore lanes (plain_nest nest.now) }
     requires few { lanes ≤ 16 }
-    ensures { IfOk result (λ y. let z = plain_nest nest.now in plain_body y.items ≡ in_a_row lanes
-        (λ k. finish_body (plain_frame site.frame) 1 z.multiplier z.scatters site.open_loops site.table site.target k (lanes + k) (lanes + lanes + k))) }
+    ensures { IfOk result (λ y. body_in y ≡ tile_stores_at site nest.now lanes) }
 {
     let mut body = Vec::new(alloc);
     for number in 0..lanes {
@@ -34,8 +32,8 @@ fn outputs(alloc: Global, nest: &Nest, lanes: u64, site: Site) -> Result<Vec<Stm
     Ok(body)
 }
 
-/// The statements of a tile: its rows are loaded, and its columns are stored. The items on the lanes of a register lie side
-/// by side, and so do their factors.
+/// The statements of a tile: its rows are loaded, and its columns are stored. The items on the lanes of a register lie
+/// side by side, and so do their factors.
 pub(crate) fn statements_of_tile(
     alloc: Global,
     nest: &Nest,
@@ -45,7 +43,7 @@ pub(crate) fn statements_of_tile(
     requires loads { HasPlaces lanes (plain_nest nest.now).gathers }
     requires stores { CanStore lanes (plain_nest nest.now) }
     requires few { lanes ≤ 16 }
-    ensures { IfOk result (λ y. plain_body y.items ≡ tile_body (plain_frame site.frame) (plain_nest nest.now) site.open_loops lanes site.table site.source site.target) }
+    ensures { IfOk result (λ y. body_in y ≡ tile_at site nest.now lanes) }
 {
     let mut stores = outputs(alloc, nest, lanes, site)?;
     let mut statements = loads(alloc, nest, lanes, site)?;

@@ -1,10 +1,10 @@
 use Rattle.std.proofs.Common.{List, map, ap, ◌∙◌}
-use Rattle.icode.specs.Plain.{PlainBody, PlainExpr, AndStmts, Do, Load, plain_body, plain_expr}
-use Rattle.pass_programs.specs.Statements.{finish_body, followed_by, place_at}
-use Rattle.passes.specs.Views.{plain_nest}
+use Rattle.icode.specs.Plain.{PlainBody, PlainExpr, AndStmts, Do, Load, plain_expr}
+use Rattle.pass_programs.specs.Statements.{followed_by, place_at}
 use Rattle.perm_algebra.specs.Views.{plain_sum}
 use Rattle.perm_algebra.specs.declared.Affine.{Affine}
-use Rattle.program_emit.specs.Views.{plain_frame}
+use Rattle.program_emit.specs.Bodies.{stored_at}
+use Rattle.program_emit.specs.Views.{body_in, plain_frame}
 use Rattle.program_emit.proofs.PlainRules.{followed-one}
 use Rattle.program_emit.proofs.copy_statements.put_copy.Goals as goal
 
@@ -12,9 +12,8 @@ pub returns : goal.returns
 returns c =
     let s = c.args.site in
     let f = plain_frame s.frame in
-    let z = plain_nest c.args.nest.now in
-    let old = plain_body c.args.out.now.items in
-    let finish : PlainBody = finish_body f 0 z.multiplier z.scatters s.open_loops s.table s.target c.args.number 0 1 in
+    let old = body_in c.args.out.now in
+    let finish : PlainBody = stored_at s 0 c.args.nest.now c.args.number 0 1 in
     c.in_ok-put_output.ensures
     ∙ ap (λ (b : PlainBody). followed_by b finish) c.in_ok-put_op.ensures
     ∙ followed-one old finish (Do (Load 0 s.source (plain_expr c.in_ok-place.place)))

@@ -2,21 +2,18 @@ use Rattle.std.proofs.Common.{ℕ, ◌+◌, List, ◌++◌, ap, ap₂, ◌∙◌
 use Rattle.std.specs.Prelude.{slice_index}
 use Rattle.icode.specs.declared.program.Stmt.{Stmt}
 use Rattle.icode.specs.Plain.{PlainBody, plain_body}
-use Rattle.pass_programs.specs.Statements.{finish_body, followed_by, in_a_row, straight_body}
-use Rattle.passes.specs.Views.{plain_nest}
-use Rattle.program_emit.specs.Views.{plain_frame}
+use Rattle.pass_programs.specs.Statements.{followed_by, in_a_row, straight_body}
+use Rattle.program_emit.specs.Bodies.{stored_at}
 use Rattle.program_emit.proofs.PlainRules.{plain-append}
 use Rattle.program_emit.proofs.kernel_statements.statements_of_kernel.Goals as goal
 
 pub returns : goal.returns
 returns c =
     let made = c.args.made.now in
-    let s = c.args.site in
-    let z = plain_nest c.args.nest.now in
     let loads : List Stmt = c.in_ok-statements.statements.items in
     let code : List Stmt = c.in_ok-code.code.items in
     let stores : List Stmt = c.in_ok-stores.stores.items in
-    let ends : ℕ → PlainBody = λ k. finish_body (plain_frame s.frame) 0 z.multiplier z.scatters s.open_loops s.table s.target k (slice_index made.outputs.items k) (made.regs + k) in
+    let ends : ℕ → PlainBody = λ k. stored_at c.args.site 0 c.args.nest.now k (slice_index made.outputs.items k) (made.regs + k) in
     ap plain_body (c.in_ok-append-2.ensures.items ∙ ap (λ (xs : List Stmt). loads ++ xs) c.in_ok-append.ensures.items)
     ∙ plain-append loads (code ++ stores)
     ∙ ap (followed_by (plain_body loads)) (plain-append code stores)

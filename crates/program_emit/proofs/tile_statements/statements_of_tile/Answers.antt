@@ -1,19 +1,16 @@
-use Rattle.std.proofs.Common.{◌+◌, List, ap, ap₂, ◌∙◌}
+use Rattle.std.proofs.Common.{List, ap, ap₂, ◌∙◌}
 use Rattle.icode.specs.declared.program.Stmt.{Stmt}
 use Rattle.icode.specs.Plain.{PlainBody, AndStmts, Do, Tile, plain_body}
-use Rattle.pass_programs.specs.Statements.{finish_body, followed_by, in_a_row}
-use Rattle.passes.specs.Views.{plain_nest}
-use Rattle.program_emit.specs.Views.{plain_frame}
+use Rattle.pass_programs.specs.Statements.{followed_by}
+use Rattle.program_emit.specs.Bodies.{tile_stores_at}
 use Rattle.program_emit.proofs.PlainRules.{followed-one, plain-append}
 use Rattle.program_emit.proofs.tile_statements.statements_of_tile.Goals as goal
 
 pub returns : goal.returns
 returns c =
     let v = c.args.lanes in
-    let s = c.args.site in
-    let z = plain_nest c.args.nest.now in
     let stores : List Stmt = c.in_ok-stores.stores.items in
-    let ends : PlainBody = in_a_row v (λ k. finish_body (plain_frame s.frame) 1 z.multiplier z.scatters s.open_loops s.table s.target k (v + k) (v + v + k)) in
+    let ends : PlainBody = tile_stores_at c.args.site c.args.nest.now v in
     ap plain_body c.in_ok-append.ensures.items
     ∙ plain-append c.put_op.new.out.items stores
     ∙ ap₂ followed_by c.in_ok-put_op.ensures c.in_ok-stores.ensures
