@@ -23,7 +23,8 @@ use Rattle.passes.proofs.Small.{HasCounts, max-lt, divided-true}
 use Rattle.passes.proofs.Within.{IsSmall, constant-small, small-true, both-true}
 use Rattle.tensor_paths.specs.declared.Tensor.TheVariants.{Blocks, Columns}
 use Rattle.tensor_paths.specs.Path.{Path, count_of, size_under}
-use Rattle.loop_nests.specs.Placed.{AllNamed, CanName}
+use Rattle.loop_nests.specs.NewNests.{CanMove, new_limits}
+use Rattle.loop_nests.specs.Placed.{AllNamed, CanPlace}
 use Rattle.loop_nests.proofs.Naming.{can-name, le-mul_left}
 
 -- ---- items
@@ -117,21 +118,21 @@ pub counts-from : (path : Path) (d : ℕ) (cs : ℕ → ℕ) (more : List ℕ) �
 counts-from [] d cs more is = tt
 counts-from (t ∷ path) d cs more is = (ap cs (omega arith) ∙ is 0, counts-from path (d + 1) cs more (λ i. ap cs (omega arith) ∙ is (suc i)))
 
-length-counts : (path : Path) (n : ℕ) → length (map count_of path ++ n ∷ n ∷ []) ≡ length path + 2
+length-counts : (path : Path) (n : ℕ) → length (new_limits path n) ≡ length path + 2
 length-counts [] n = omega arith
 length-counts (t ∷ path) n = omega (arith, length-counts path n)
 
-at-row : (path : Path) (n : ℕ) → slice_index (map count_of path ++ n ∷ n ∷ []) (length path) ≡ n
+at-row : (path : Path) (n : ℕ) → slice_index (new_limits path n) (length path) ≡ n
 at-row [] n = refl
 at-row (t ∷ path) n = at-row path n
 
-at-column : (path : Path) (n : ℕ) → slice_index (map count_of path ++ n ∷ n ∷ []) (suc (length path)) ≡ n
+at-column : (path : Path) (n : ℕ) → slice_index (new_limits path n) (suc (length path)) ≡ n
 at-column [] n = refl
 at-column (t ∷ path) n = at-column path n
 
 -- ---- items one by one
 
-named-each : (counts : List ℕ) (path : Path) (n : ℕ) (es : List Sum) → AreSeveral path → 0 < n → size_under path n ≤ 2 ^ 20 → counts ≡ map count_of path ++ n ∷ n ∷ [] → AreItems (length counts) n (slice_index counts) es → AllNamed counts path n es
+named-each : (counts : List ℕ) (path : Path) (n : ℕ) (es : List Sum) → AreSeveral path → 0 < n → size_under path n ≤ 2 ^ 20 → counts ≡ new_limits path n → AreItems (length counts) n (slice_index counts) es → AllNamed counts path n es
 named-each counts path n [] several some high is h = tt
 named-each counts path n (e ∷ es) several some high is h =
     let long : length counts ≡ length path + 2 = ap length is ∙ length-counts path n in
@@ -141,14 +142,14 @@ named-each counts path n (e ∷ es) several some high is h =
       named-each counts path n es several some high is h.1,
     )
 
-pub all_named : (counts : List ℕ) (path : Path) (n : ℕ) (items : List Affine) (es : List Sum) → map plain_sum items ≡ es → AllNamed counts path n es → All (λ e. CanName (length counts) (slice_index counts) path n 0 (plain_sum e)) items
+pub all_named : (counts : List ℕ) (path : Path) (n : ℕ) (items : List Affine) (es : List Sum) → map plain_sum items ≡ es → AllNamed counts path n es → All (λ e. CanPlace counts path n 0 (plain_sum e)) items
 all_named counts path n items es same h = each items (subst (AllNamed counts path n) (sym same) h)
   where
-    each : (xs : List Affine) → AllNamed counts path n (map plain_sum xs) → All (λ e. CanName (length counts) (slice_index counts) path n 0 (plain_sum e)) xs
-    each [] k = All-nil (λ e. CanName (length counts) (slice_index counts) path n 0 (plain_sum e))
-    each (x ∷ xs) k = All-cons (λ e. CanName (length counts) (slice_index counts) path n 0 (plain_sum e)) x xs k.0 (each xs k.1)
+    each : (xs : List Affine) → AllNamed counts path n (map plain_sum xs) → All (λ e. CanPlace counts path n 0 (plain_sum e)) xs
+    each [] k = All-nil (λ e. CanPlace counts path n 0 (plain_sum e))
+    each (x ∷ xs) k = All-cons (λ e. CanPlace counts path n 0 (plain_sum e)) x xs k.0 (each xs k.1)
 
-pub loads_named : (path : Path) (w : PlainWork) (counts : List ℕ) → HasRows w → AreSeveral path → 0 < work_size w → size_under path (work_size w) ≤ 2 ^ 20 → counts ≡ map count_of path ++ work_size w ∷ work_size w ∷ [] →
+pub loads_named : (path : Path) (w : PlainWork) (counts : List ℕ) → HasRows w → AreSeveral path → 0 < work_size w → size_under path (work_size w) ≤ 2 ^ 20 → counts ≡ new_limits path (work_size w) →
     AllNamed counts path (work_size w) (items_in w (length path))
 loads_named path w counts long several some high is =
     let n = work_size w in
@@ -156,7 +157,7 @@ loads_named path w counts long several some high is =
     let column : slice_index counts (length path + 1) ≡ n = ap (slice_index counts) (omega arith) ∙ ap (λ l. slice_index l (suc (length path))) is ∙ at-column path n in
     named-each counts path n _ several some high is (loaded-items (length counts) (length path) (slice_index counts) w long (low-of path n several high) (omega (arith, size)) column)
 
-pub stores_named : (path : Path) (w : PlainWork) (counts : List ℕ) → HasRows w → AreSeveral path → 0 < work_size w → size_under path (work_size w) ≤ 2 ^ 20 → counts ≡ map count_of path ++ work_size w ∷ work_size w ∷ [] →
+pub stores_named : (path : Path) (w : PlainWork) (counts : List ℕ) → HasRows w → AreSeveral path → 0 < work_size w → size_under path (work_size w) ≤ 2 ^ 20 → counts ≡ new_limits path (work_size w) →
     AllNamed counts path (work_size w) (items_out w (length path))
 stores_named path w counts long several some high is =
     let n = work_size w in
@@ -164,10 +165,10 @@ stores_named path w counts long several some high is =
     let row : slice_index counts (length path) ≡ n = ap (λ l. slice_index l (length path)) is ∙ at-row path n in
     named-each counts path n _ several some high is (stored-items (length counts) (length path) (slice_index counts) w long (low-of path n several high) (omega (arith, size)) row)
 
-pub places_named : (path : Path) (ks : List ℕ) → AreBelow (length ks) ks → AreSeveral path → 0 < length ks → size_under path (length ks) ≤ 2 ^ 20 → AllNamed (map count_of path ++ length ks ∷ length ks ∷ []) path (length ks) (map constant ks)
+pub places_named : (path : Path) (ks : List ℕ) → AreBelow (length ks) ks → AreSeveral path → 0 < length ks → size_under path (length ks) ≤ 2 ^ 20 → CanMove path ks
 places_named path ks below several some high =
     let n = length ks in
-    let counts = map count_of path ++ n ∷ n ∷ [] in
+    let counts = new_limits path n in
     named-each counts path n _ several some high refl (constant-items (length counts) n (slice_index counts) ks (low-of path n several high) below)
 
 -- under no tensors there is nothing to name

@@ -98,7 +98,7 @@ module _ (room part n before : ℕ) (path : Path) (z : PlainNest) (several : Are
   abbrev cs : ℕ → ℕ
   cs = slice_index (counts_under path z)
 
-  raise : (e : Sum) → is_limited room part (limits_of z) e ≡ true → IsReady (length z.counts + 2) e → CanRaise (length (counts_under path z)) cs path n before e
+  raise : (e : Sum) → is_limited room part (limits_of z) e ≡ true → IsReady (length z.counts + 2) e → CanRaise (counts_under path z) path n before e
   raise e h ready =
       let k = length path in
       let m = length (counts_under path z) in
@@ -149,12 +149,12 @@ module _ (room part n before : ℕ) (path : Path) (z : PlainNest) (several : Are
 
 -- ---- one by one
 
-pub all_raised : (counts : List ℕ) (path : Path) (n before : ℕ) (limits : List ℕ) (items : List Affine) → limits ≡ counts → AreRaised counts path n before (map plain_sum items) → All (λ e. CanRaise (length limits) (slice_index limits) path n before (plain_sum e)) items
+pub all_raised : (counts : List ℕ) (path : Path) (n before : ℕ) (limits : List ℕ) (items : List Affine) → limits ≡ counts → AreRaised counts path n before (map plain_sum items) → All (λ e. CanRaise limits path n before (plain_sum e)) items
 all_raised counts path n before limits items same h = each items (subst (λ l. AreRaised l path n before (map plain_sum items)) (sym same) h)
   where
-    each : (xs : List Affine) → AreRaised limits path n before (map plain_sum xs) → All (λ e. CanRaise (length limits) (slice_index limits) path n before (plain_sum e)) xs
-    each [] k = All-nil (λ e. CanRaise (length limits) (slice_index limits) path n before (plain_sum e))
-    each (x ∷ xs) k = All-cons (λ e. CanRaise (length limits) (slice_index limits) path n before (plain_sum e)) x xs k.0 (each xs k.1)
+    each : (xs : List Affine) → AreRaised limits path n before (map plain_sum xs) → All (λ e. CanRaise limits path n before (plain_sum e)) xs
+    each [] k = All-nil (λ e. CanRaise limits path n before (plain_sum e))
+    each (x ∷ xs) k = All-cons (λ e. CanRaise limits path n before (plain_sum e)) x xs k.0 (each xs k.1)
 
 pub all_counted : (m : ℕ) (items : List Affine) → AreCounted m (map plain_sum items) → All (λ e. HasCounts m (plain_sum e)) items
 all_counted m [] h = All-nil (λ e. HasCounts m (plain_sum e))

@@ -19,6 +19,7 @@ use Rattle.tensor_paths.specs.declared.Tensor.TheVariants.{Blocks}
 use Rattle.tensor_paths.specs.Path.{Path, size_under}
 use Rattle.loop_nests.specs.Ready.{AreReadyPasses, IsReadyNest, IsReadyPass}
 use Rattle.loop_nests.specs.Lifted.{AllFit, AllLift, AreLifted, AreRaised, CanLift, CanStand, SumsFit, behind, counts_under}
+use Rattle.loop_nests.specs.Parts.{IsPart}
 use Rattle.loop_nests.specs.Views.{from_last, plain_pass, plain_passes}
 use Rattle.std.proofs.Common.{Global}
 use Rattle.loop_nests.proofs.Items.{low-of, variable-item}
@@ -70,11 +71,11 @@ module _ (room part n before : ℕ) (path : Path) (several : AreSeveral path) (s
   lift-passes [] h ready = tt
   lift-passes (zs ∷ ps) h ready = (lift-all zs h.0 ready.0, lift-passes ps h.1 ready.1)
 
-pub first_lifted : (room n k : ℕ) (path : Path) (ps : List (List PlainNest)) → AreSeveral path → 0 < n → size_under path (n + k) ≤ 2 ^ 20 → AreWithin room n ps × AreReadyPasses ps → AreLifted path (n + k) 0 ps
-first_lifted room n k path ps several some high h = lift-passes room n (n + k) 0 path several (omega (arith, some)) high (omega arith) ps h.0 h.1
+pub first_lifted : (n k : ℕ) (path : Path) (ps : List (List PlainNest)) → AreSeveral path → 0 < n → size_under path (n + k) ≤ 2 ^ 20 → IsPart n ps → AreLifted path (n + k) 0 ps
+first_lifted n k path ps several some high h = lift-passes h.room n (n + k) 0 path several (omega (arith, some)) high (omega arith) ps h.within h.ready
 
-pub second_lifted : (room n k : ℕ) (path : Path) (ps : List (List PlainNest)) → AreSeveral path → 0 < n → size_under path (n + k) ≤ 2 ^ 20 → AreWithin room k ps × AreReadyPasses ps → AreLifted path (n + k) n ps
-second_lifted room n k path ps several some high h = lift-passes room k (n + k) n path several (omega (arith, some)) high (omega arith) ps h.0 h.1
+pub second_lifted : (n k : ℕ) (path : Path) (ps : List (List PlainNest)) → AreSeveral path → 0 < n → size_under path (n + k) ≤ 2 ^ 20 → IsPart k ps → AreLifted path (n + k) n ps
+second_lifted n k path ps several some high h = lift-passes h.room k (n + k) n path several (omega (arith, some)) high (omega arith) ps h.within h.ready
 
 pub can_stand : (n k : ℕ) (path : Path) → AreSeveral path → (0 < n) × (0 < k) → size_under path (n + k) ≤ 2 ^ 20 → CanStand path n k
 can_stand n k path several some high =

@@ -1,4 +1,6 @@
 pub mod Views
 pub mod Ready
 pub mod Placed
+pub mod NewNests
 pub mod Lifted
+pub mod Parts

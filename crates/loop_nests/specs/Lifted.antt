@@ -1,25 +1,30 @@
 -- Nests of a part, which can be made part of a larger array with words of 64 bits.
 use Rattle.std.specs.Prelude.{ℕ, ◌+◌, ◌-◌, ◌^◌, ◌<◌, ◌≤◌, List, [], ◌∷◌, ◌++◌, map, length, slice_index, Option, Some, None}
-use Rattle.passes.specs.Merge.{copying, renumbered}
+use Rattle.passes.specs.Merge.{copying, place_sum, renumbered}
 use Rattle.passes.specs.Nest.{PlainMultiplier, PlainNest}
 use Rattle.passes.specs.Work.{HasWords, work_size}
 use Rattle.perm_algebra.specs.Affine.{Sum, constant, joined, value}
 use Rattle.perm_algebra.specs.Fits.{IsAffine, Stays}
 use Rattle.perm_algebra.specs.Room.{CanJoin, HasCounts, constant_of}
 use Rattle.tensor_paths.specs.Path.{Path, count_of}
-use Rattle.loop_nests.specs.Placed.{CanName}
+use Rattle.loop_nests.specs.Placed.{CanPlace}
 
--- a place of the part: m variables have counts, with those of the path
-pub record CanRaise (m : ℕ) (cs : ℕ → ℕ) (path : Path) (n before : ℕ) (e : Sum) : Type 0 where
-  pub counts : HasCounts (m - length path) e
-  pub affine : IsAffine m cs (renumbered (length path) e)
-  pub fits : Stays cs (λ vs. before + value (renumbered (length path) e) vs)
+-- a place of a part that begins behind so many words, in the whole
+abbrev pub raised : Path → ℕ → ℕ → Sum → Sum
+raised path n before e = place_sum path n 0 (joined (constant before) (renumbered (length path) e))
+
+-- it can be made, where these are the limits of all variables, with those of the path
+pub record CanRaise (limits : List ℕ) (path : Path) (n before : ℕ) (e : Sum) : Type 0 where
+  pub counts : HasCounts (length limits - length path) e
+  pub affine : IsAffine (length limits) (slice_index limits) (renumbered (length path) e)
+  pub fits : Stays (slice_index limits) (λ vs. before + value (renumbered (length path) e) vs)
   pub joins : CanJoin (constant before) (renumbered (length path) e)
-  pub named : CanName m cs path n 0 (joined (constant before) (renumbered (length path) e))
+  pub named : CanPlace limits path n 0 (joined (constant before) (renumbered (length path) e))
 
 abbrev pub AreRaised : List ℕ → Path → ℕ → ℕ → List Sum → Type 0
 AreRaised counts path n before [] = Unit {0}
-AreRaised counts path n before (e ∷ es) = CanRaise (length counts) (slice_index counts) path n before e × AreRaised counts path n before es
+AreRaised counts path n before (e ∷ es) =
+    CanRaise counts path n before e × AreRaised counts path n before es
 
 abbrev pub AreCounted : ℕ → List Sum → Type 0
 AreCounted m [] = Unit {0}
@@ -49,7 +54,14 @@ AreLifted path n before (zs ∷ ps) = AllLift path n before zs × AreLifted path
 
 -- the same nest behind so many words
 abbrev pub behind : ℕ → PlainNest → PlainNest
-behind before z = record { counts = z.counts; work = z.work; gathers = map (joined (constant before)) z.gathers; multiplier = z.multiplier; scatters = map (joined (constant before)) z.scatters }
+behind before z =
+    record {
+      counts = z.counts;
+      work = z.work;
+      gathers = map (joined (constant before)) z.gathers;
+      multiplier = z.multiplier;
+      scatters = map (joined (constant before)) z.scatters;
+    }
 
 -- each place is a word there
 abbrev pub SumsFit : ℕ → List Sum → Type 0

@@ -13,14 +13,22 @@ abbrev pub CanName : ℕ → (ℕ → ℕ) → Path → ℕ → ℕ → Sum → 
 CanName m cs [] n d e = Unit {0}
 CanName m cs (Blocks c ∷ path) n d e =
     (d + 1 < 2 ^ 64) × (d < m) × HasRoom path n × CanName m cs path n (d + 1) e
-    × IsAffine m cs (place_sum path n (d + 1) e) × Stays cs (value (place_sum (Blocks c ∷ path) n d e))
-    × CanScale (size_under path n) (variable 1 d (constant 0)) × CanJoin (scaled (size_under path n) (variable 1 d (constant 0))) (place_sum path n (d + 1) e)
+    × IsAffine m cs (place_sum path n (d + 1) e)
+    × Stays cs (value (place_sum (Blocks c ∷ path) n d e))
+    × CanScale (size_under path n) (variable 1 d (constant 0))
+    × CanJoin (scaled (size_under path n) (variable 1 d (constant 0))) (place_sum path n (d + 1) e)
 CanName m cs (Columns c ∷ path) n d e =
     (d + 1 < 2 ^ 64) × (d < m) × HasRoom path n × CanName m cs path n (d + 1) e
-    × IsAffine m cs (place_sum path n (d + 1) e) × Stays cs (value (place_sum (Columns c ∷ path) n d e))
-    × CanScale c (place_sum path n (d + 1) e) × CanJoin (scaled c (place_sum path n (d + 1) e)) (variable 1 d (constant 0))
+    × IsAffine m cs (place_sum path n (d + 1) e)
+    × Stays cs (value (place_sum (Columns c ∷ path) n d e))
+    × CanScale c (place_sum path n (d + 1) e)
+    × CanJoin (scaled c (place_sum path n (d + 1) e)) (variable 1 d (constant 0))
 
--- the same of each item, by all variables
+-- the same where these are all counts
+abbrev pub CanPlace : List ℕ → Path → ℕ → ℕ → Sum → Type 0
+CanPlace counts path n d e = CanName (length counts) (slice_index counts) path n d e
+
+-- and of each item
 abbrev pub AllNamed : List ℕ → Path → ℕ → List Sum → Type 0
 AllNamed counts path n [] = Unit {0}
-AllNamed counts path n (e ∷ es) = CanName (length counts) (slice_index counts) path n 0 e × AllNamed counts path n es
+AllNamed counts path n (e ∷ es) = CanPlace counts path n 0 e × AllNamed counts path n es

@@ -1,12 +1,11 @@
 // Passes side by side.
 ghost use Rattle.std.specs.Prelude.{◌≡◌, ◌+◌, ◌^◌, ◌<◌, ◌≤◌, ◌++◌, IfOk, OnOk, map};
-ghost use Rattle.passes.specs.Limits.{AreSeveral, AreWithin};
+ghost use Rattle.passes.specs.Limits.{AreSeveral};
 ghost use Rattle.passes.specs.Merge.{lifted, side, sides};
-ghost use Rattle.passes.specs.Views.{plain_nest};
 ghost use Rattle.tensor_paths.specs.Path.{size_under};
-ghost use Rattle.loop_nests.specs.Ready.{AreReadyPasses};
 ghost use Rattle.loop_nests.specs.Lifted.{AllLift, AreLifted, CanStand};
-ghost use Rattle.loop_nests.specs.Views.{from_last, plain_passes};
+ghost use Rattle.loop_nests.specs.Parts.{IsPart};
+ghost use Rattle.loop_nests.specs.Views.{from_last, plain_pass, plain_passes};
 
 use crate::lifted::{lifted, raise_nests};
 use crate::nests::copying;
@@ -20,16 +19,16 @@ pub fn sides(
     alloc: Global,
     path: &[Tensor],
     sizes: (u64, u64),
-    _room: u64,
     first: Vec<Vec<Nest>>,
     second: Vec<Vec<Nest>>,
 ) -> Result<Vec<Vec<Nest>>, NoMemory>
     requires several { AreSeveral path.now }
     requires some { (0 < sizes.0) × (0 < sizes.1) }
     requires high { size_under path.now (sizes.0 + sizes.1) ≤ 2 ^ 20 }
-    requires first { AreWithin _room sizes.0 (plain_passes first.items) × AreReadyPasses (plain_passes first.items) }
-    requires second { AreWithin _room sizes.1 (plain_passes second.items) × AreReadyPasses (plain_passes second.items) }
-    ensures { IfOk result (λ ps. plain_passes ps.items ≡ sides path.now sizes.0 sizes.1 (plain_passes first.items) (plain_passes second.items)) }
+    requires first { IsPart sizes.0 (plain_passes first.items) }
+    requires second { IsPart sizes.1 (plain_passes second.items) }
+    ensures { IfOk result (λ ps. plain_passes ps.items ≡ sides path.now sizes.0 sizes.1
+        (plain_passes first.items) (plain_passes second.items)) }
 {
     let mut first = first;
     let mut second = second;
@@ -52,7 +51,9 @@ fn put_sides(
     requires stand { CanStand path.now sizes.0 sizes.1 }
     requires first { AreLifted path.now (sizes.0 + sizes.1) 0 (from_last first.old.items) }
     requires second { AreLifted path.now (sizes.0 + sizes.1) sizes.0 (from_last second.old.items) }
-    ensures { OnOk result (plain_passes both.new.items ≡ plain_passes both.old.items ++ sides path.now sizes.0 sizes.1 (from_last first.old.items) (from_last second.old.items)) }
+    ensures { OnOk result (plain_passes both.new.items ≡ plain_passes both.old.items
+        ++ sides path.now sizes.0 sizes.1
+        (from_last first.old.items) (from_last second.old.items)) }
 {
     let (n, k) = sizes;
     match first.pop() {
@@ -89,10 +90,11 @@ fn side(
     first: Vec<Nest>,
     second: Vec<Nest>,
 ) -> Result<Vec<Nest>, NoMemory>
-    requires first { AllLift path.now (sizes.0 + sizes.1) 0 (map plain_nest first.items) }
-    requires second { AllLift path.now (sizes.0 + sizes.1) sizes.0 (map plain_nest second.items) }
+    requires first { AllLift path.now (sizes.0 + sizes.1) 0 (plain_pass first) }
+    requires second { AllLift path.now (sizes.0 + sizes.1) sizes.0 (plain_pass second) }
     requires fits { sizes.0 + sizes.1 < 2 ^ 64 }
-    ensures { IfOk result (λ zs. map plain_nest zs.items ≡ side path.now sizes.0 sizes.1 (map plain_nest first.items) (map plain_nest second.items)) }
+    ensures { IfOk result (λ zs.
+        plain_pass zs ≡ side path.now sizes.0 sizes.1 (plain_pass first) (plain_pass second)) }
 {
     let (n, k) = sizes;
     let mut both = all_lifted(alloc, path, n + k, 0, first)?;
@@ -109,8 +111,9 @@ fn all_lifted(
     before: u64,
     nests: Vec<Nest>,
 ) -> Result<Vec<Nest>, NoMemory>
-    requires { AllLift path.now size before (map plain_nest nests.items) }
-    ensures { IfOk result (λ zs. map plain_nest zs.items ≡ map (lifted path.now size before) (map plain_nest nests.items)) }
+    requires { AllLift path.now size before (plain_pass nests) }
+    ensures { IfOk result (λ zs.
+        plain_pass zs ≡ map (lifted path.now size before) (plain_pass nests)) }
 {
     let mut nests = nests;
     match path.split_first() {
@@ -135,8 +138,9 @@ fn put_lifted(
     nests: &mut Vec<Nest>,
     all: &mut Vec<Nest>,
 ) -> Result<(), NoMemory>
-    requires { AllLift path.now size before (map plain_nest nests.old.items) }
-    ensures { OnOk result (map plain_nest all.new.items ≡ map plain_nest all.old.items ++ map (lifted path.now size before) (map plain_nest nests.old.items)) }
+    requires { AllLift path.now size before (plain_pass nests.old) }
+    ensures { OnOk result (plain_pass all.new
+        ≡ plain_pass all.old ++ map (lifted path.now size before) (plain_pass nests.old)) }
 {
     match nests.pop() {
         None => Ok(()),

@@ -1,14 +1,14 @@
 // Nests of a part, under tensors behind the words before it.
-ghost use Rattle.std.specs.Prelude.{◌≡◌, ◌+◌, ◌-◌, ◌^◌, ◌<◌, ◌++◌, IfOk, All, length, map, slice_index};
+ghost use Rattle.std.specs.Prelude.{◌≡◌, ◌+◌, ◌-◌, ◌^◌, ◌<◌, ◌++◌, IfOk, All, length, map};
 ghost use Rattle.std.specs.Option.{option_map};
-ghost use Rattle.passes.specs.Merge.{lifted, place_sum, renumbered, renumbered_places};
+ghost use Rattle.passes.specs.Merge.{lifted, renumbered, renumbered_places};
 ghost use Rattle.passes.specs.Views.{plain_multiplier, plain_nest};
 ghost use Rattle.passes.specs.Work.{HasWords};
 ghost use Rattle.perm_algebra.specs.Affine.{constant, joined};
 ghost use Rattle.perm_algebra.specs.Room.{HasCounts, constant_of};
 ghost use Rattle.perm_algebra.specs.Views.{plain_sum};
 ghost use Rattle.tensor_paths.specs.Path.{count_of};
-ghost use Rattle.loop_nests.specs.Lifted.{AllFit, CanLift, CanRaise, IsCounted, SumsFit, behind, counts_under};
+ghost use Rattle.loop_nests.specs.Lifted.{AllFit, CanLift, CanRaise, IsCounted, SumsFit, behind, counts_under, raised};
 
 use crate::placed::{placed, renumbered};
 use memory::NoMemory;
@@ -77,8 +77,9 @@ fn all_raised(
     before: u64,
     sums: &[Affine],
 ) -> Result<Vec<Affine>, NoMemory>
-    requires { All (λ e. CanRaise (length limits.now) (slice_index limits.now) path.now size before (plain_sum e)) sums.now }
-    ensures { IfOk result (λ es. map plain_sum es.items ≡ map (λ e. place_sum path.now size 0 (joined (constant before) (renumbered (length path.now) e))) (map plain_sum sums.now)) }
+    requires { All (λ e. CanRaise limits.now path.now size before (plain_sum e)) sums.now }
+    ensures { IfOk result (λ es.
+        map plain_sum es.items ≡ map (raised path.now size before) (map plain_sum sums.now)) }
 {
     let mut places = Vec::with_capacity(alloc, sums.len())?;
     for sum in sums {
@@ -97,8 +98,8 @@ fn raised(
     before: u64,
     sum: &Affine,
 ) -> Result<Affine, NoMemory>
-    requires { CanRaise (length limits.now) (slice_index limits.now) path.now size before (plain_sum sum.now) }
-    ensures { IfOk result (λ e. plain_sum e ≡ place_sum path.now size 0 (joined (constant before) (renumbered (length path.now) (plain_sum sum.now)))) }
+    requires { CanRaise limits.now path.now size before (plain_sum sum.now) }
+    ensures { IfOk result (λ e. plain_sum e ≡ raised path.now size before (plain_sum sum.now)) }
 {
     let higher = renumbered(alloc, limits, path.len() as u64, sum)?;
     let behind = both(limits, Affine::Constant(before), higher);
@@ -115,7 +116,8 @@ fn counted_on(
     multiplier: Option<Multiplier>,
 ) -> Result<Option<Multiplier>, NoMemory>
     requires { IsCounted (length limits.now - by) (option_map plain_multiplier multiplier) }
-    ensures { IfOk result (λ d. option_map plain_multiplier d ≡ renumbered_places by (option_map plain_multiplier multiplier)) }
+    ensures { IfOk result (λ d. option_map plain_multiplier d
+        ≡ renumbered_places by (option_map plain_multiplier multiplier)) }
 {
     match multiplier {
         None => Ok(None),
@@ -134,7 +136,8 @@ fn all_renumbered(
     sums: &[Affine],
 ) -> Result<Vec<Affine>, NoMemory>
     requires { All (λ e. HasCounts (length limits.now - by) (plain_sum e)) sums.now }
-    ensures { IfOk result (λ es. map plain_sum es.items ≡ map (renumbered by) (map plain_sum sums.now)) }
+    ensures { IfOk result (λ es.
+        map plain_sum es.items ≡ map (renumbered by) (map plain_sum sums.now)) }
 {
     let mut higher = Vec::new(alloc);
     for sum in sums {

@@ -1,19 +1,19 @@
 // New nests, and copies of nests.
-ghost use Rattle.std.specs.Prelude.{◌≡◌, ◌^◌, ◌<◌, ◌≤◌, ◌++◌, ◌∷◌, [], IfOk, length, map};
+ghost use Rattle.std.specs.Prelude.{◌≡◌, ◌^◌, ◌<◌, ◌≤◌, ◌∷◌, [], IfOk, length, map};
 ghost use Rattle.std.specs.Option.{option_map};
 ghost use Rattle.index_fn.specs.Index.{mapping_of};
 ghost use Rattle.index_fn.specs.Mapping.{IsWellFormed, at};
 ghost use Rattle.operators.specs.Sum.{list_below};
 ghost use Rattle.passes.specs.Good.{AreBelow};
 ghost use Rattle.passes.specs.Limits.{AreSeveral, HasRows};
-ghost use Rattle.passes.specs.Merge.{copying, items_in, items_out, new_nest, one_loop, place_sum};
+ghost use Rattle.passes.specs.Merge.{copying, one_loop};
 ghost use Rattle.passes.specs.Views.{plain_factors, plain_multiplier, plain_nest, plain_work};
-ghost use Rattle.passes.specs.Work.{HasWords, copy, work_size};
+ghost use Rattle.passes.specs.Work.{HasWords, work_size};
 ghost use Rattle.perm_algebra.specs.Affine.{constant};
 ghost use Rattle.perm_algebra.specs.Views.{plain_sum};
-ghost use Rattle.tensor_paths.specs.Path.{count_of, size_under};
+ghost use Rattle.tensor_paths.specs.Path.{size_under};
 ghost use Rattle.passes.specs.Words.{IsDefinedBelow};
-ghost use Rattle.loop_nests.specs.Placed.{AllNamed};
+ghost use Rattle.loop_nests.specs.NewNests.{CanMove, copied_by_word, loads_under, moved_nest, natural_nest, new_limits, stores_under};
 
 use crate::placed::all_placed;
 use index_fn::Index;
@@ -31,7 +31,7 @@ pub fn natural_nest(alloc: Global, path: &[Tensor], work: Work) -> Result<Nest, 
     requires several { AreSeveral path.now }
     requires some { 0 < work_size (plain_work work) }
     requires high { size_under path.now (work_size (plain_work work)) ≤ 2 ^ 20 }
-    ensures { IfOk result (λ z. plain_nest z ≡ new_nest path.now (plain_work work) (items_in (plain_work work) (length path.now))) }
+    ensures { IfOk result (λ z. plain_nest z ≡ natural_nest path.now (plain_work work)) }
 {
     let counts = counts(alloc, path)?;
     let limits = limits(alloc, &counts, work.size())?;
@@ -54,13 +54,14 @@ fn loads(
     path: &[Tensor],
     work: &Work,
 ) -> Result<Vec<Affine>, NoMemory>
-    requires limits { limits.now ≡ map count_of path.now ++ work_size (plain_work work.now) ∷ work_size (plain_work work.now) ∷ [] }
+    requires limits { limits.now ≡ new_limits path.now (work_size (plain_work work.now)) }
     requires words { HasWords (plain_work work.now) }
     requires rows { HasRows (plain_work work.now) }
     requires several { AreSeveral path.now }
     requires some { 0 < work_size (plain_work work.now) }
     requires high { size_under path.now (work_size (plain_work work.now)) ≤ 2 ^ 20 }
-    ensures { IfOk result (λ es. map plain_sum es.items ≡ map (place_sum path.now (work_size (plain_work work.now)) 0) (items_in (plain_work work.now) (length path.now))) }
+    ensures { IfOk result (λ es.
+        map plain_sum es.items ≡ loads_under path.now (plain_work work.now)) }
 {
     let items = items_in(alloc, work, path.len() as u64)?;
     let places = all_placed(alloc, limits, path, work.size(), &items)?;
@@ -75,13 +76,14 @@ fn stores(
     path: &[Tensor],
     work: &Work,
 ) -> Result<Vec<Affine>, NoMemory>
-    requires limits { limits.now ≡ map count_of path.now ++ work_size (plain_work work.now) ∷ work_size (plain_work work.now) ∷ [] }
+    requires limits { limits.now ≡ new_limits path.now (work_size (plain_work work.now)) }
     requires words { HasWords (plain_work work.now) }
     requires rows { HasRows (plain_work work.now) }
     requires several { AreSeveral path.now }
     requires some { 0 < work_size (plain_work work.now) }
     requires high { size_under path.now (work_size (plain_work work.now)) ≤ 2 ^ 20 }
-    ensures { IfOk result (λ es. map plain_sum es.items ≡ map (place_sum path.now (work_size (plain_work work.now)) 0) (items_out (plain_work work.now) (length path.now))) }
+    ensures { IfOk result (λ es.
+        map plain_sum es.items ≡ stores_under path.now (plain_work work.now)) }
 {
     let items = items_out(alloc, work, path.len() as u64)?;
     let places = all_placed(alloc, limits, path, work.size(), &items)?;
@@ -95,7 +97,7 @@ pub fn moved_nest(alloc: Global, path: &[Tensor], places: &[u64]) -> Result<Nest
     requires several { AreSeveral path.now }
     requires some { 0 < length places.now }
     requires high { size_under path.now (length places.now) ≤ 2 ^ 20 }
-    ensures { IfOk result (λ z. plain_nest z ≡ new_nest path.now (copy (length places.now)) (map constant places.now)) }
+    ensures { IfOk result (λ z. plain_nest z ≡ moved_nest path.now places.now) }
 {
     let nest = listed_nest(alloc, path, places)?;
     Ok(nest)
@@ -103,11 +105,11 @@ pub fn moved_nest(alloc: Global, path: &[Tensor], places: &[u64]) -> Result<Nest
 
 #[tactic(auto, using(crate::proofs::Items::all_named))]
 fn listed_nest(alloc: Global, path: &[Tensor], places: &[u64]) -> Result<Nest, NoMemory>
-    requires named { AllNamed (map count_of path.now ++ length places.now ∷ length places.now ∷ []) path.now (length places.now) (map constant places.now) }
+    requires named { CanMove path.now places.now }
     requires several { AreSeveral path.now }
     requires some { 0 < length places.now }
     requires high { size_under path.now (length places.now) ≤ 2 ^ 20 }
-    ensures { IfOk result (λ z. plain_nest z ≡ new_nest path.now (copy (length places.now)) (map constant places.now)) }
+    ensures { IfOk result (λ z. plain_nest z ≡ moved_nest path.now places.now) }
 {
     let size = places.len() as u64;
     let work = Work::Copy { size };
@@ -175,7 +177,8 @@ pub fn copying_words(alloc: Global, size: u64, f: &Index) -> Result<Vec<Nest>, N
     requires high { size ≤ 2 ^ 20 }
     requires formed { IsWellFormed (mapping_of f.now) }
     requires defined { IsDefinedBelow size (mapping_of f.now) }
-    ensures { IfOk result (λ zs. map plain_nest zs.items ≡ new_nest [] (copy (length (list_below size (at (mapping_of f.now))))) (map constant (list_below size (at (mapping_of f.now)))) ∷ []) }
+    ensures { IfOk result (λ zs.
+        map plain_nest zs.items ≡ copied_by_word size (mapping_of f.now)) }
 {
     let places = values(alloc, size, f)?;
     let nest = listed_nest(alloc, &[], &places)?;
@@ -220,7 +223,8 @@ fn copied_multiplier(
     alloc: Global,
     multiplier: &Option<Multiplier>,
 ) -> Result<Option<Multiplier>, NoMemory>
-    ensures { IfOk result (λ d. option_map plain_multiplier d ≡ option_map plain_multiplier multiplier.now) }
+    ensures { IfOk result (λ d.
+        option_map plain_multiplier d ≡ option_map plain_multiplier multiplier.now) }
 {
     match multiplier {
         None => Ok(None),

@@ -1,9 +1,9 @@
 // Places of items under tensors, as sums of the loops' variables.
-ghost use Rattle.std.specs.Prelude.{◌≡◌, ◌-◌, IfOk, All, length, map, slice_index};
+ghost use Rattle.std.specs.Prelude.{◌≡◌, ◌-◌, IfOk, All, length, map};
 ghost use Rattle.passes.specs.Merge.{place_sum, renumbered};
 ghost use Rattle.perm_algebra.specs.Room.{HasCounts};
 ghost use Rattle.perm_algebra.specs.Views.{plain_sum};
-ghost use Rattle.loop_nests.specs.Placed.{CanName};
+ghost use Rattle.loop_nests.specs.Placed.{CanPlace};
 
 use memory::NoMemory;
 use passes::size_of_whole;
@@ -19,8 +19,9 @@ pub(crate) fn all_placed(
     size: u64,
     items: &[Affine],
 ) -> Result<Vec<Affine>, NoMemory>
-    requires { All (λ e. CanName (length counts.now) (slice_index counts.now) path.now size 0 (plain_sum e)) items.now }
-    ensures { IfOk result (λ places. map plain_sum places.items ≡ map (place_sum path.now size 0) (map plain_sum items.now)) }
+    requires { All (λ e. CanPlace counts.now path.now size 0 (plain_sum e)) items.now }
+    ensures { IfOk result (λ places.
+        map plain_sum places.items ≡ map (place_sum path.now size 0) (map plain_sum items.now)) }
 {
     let mut places = Vec::with_capacity(alloc, items.len())?;
     for item in items {
@@ -39,8 +40,9 @@ pub(crate) fn placed(
     variable: u64,
     item: Affine,
 ) -> Result<Affine, NoMemory>
-    requires { CanName (length counts.now) (slice_index counts.now) path.now size variable (plain_sum item) }
-    ensures { IfOk result (λ place. plain_sum place ≡ place_sum path.now size variable (plain_sum item)) }
+    requires { CanPlace counts.now path.now size variable (plain_sum item) }
+    ensures { IfOk result (λ place.
+        plain_sum place ≡ place_sum path.now size variable (plain_sum item)) }
 {
     match path.split_first() {
         None => Ok(item),

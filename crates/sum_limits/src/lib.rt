@@ -3,15 +3,18 @@
 
 mod rooms;
 
-ghost use Rattle.std.specs.Prelude.{◌≡◌, ℕ, ◌+◌, ◌*◌, ◌-◌, ◌^◌, ◌<◌, ◌≤◌, ◌↔◌, IfOk, IsTrue, Some, None, nat_lt, true, false, length, map, slice_index};
+ghost use Rattle.std.specs.Prelude.{◌≡◌, ℕ, ◌+◌, ◌*◌, ◌-◌, ◌^◌, ◌<◌, ◌≤◌, ◌↔◌, IsTrue, nat_lt, true, false, map, slice_index};
+ghost use Rattle.std.specs.Option.{ForNone, ForSome};
 ghost use Rattle.index_fn.specs.Index.{mapping_of};
 ghost use Rattle.index_fn.specs.Mapping.{IsDefinedAt, IsWellFormed, at};
 ghost use Rattle.passes.specs.Merge.{all_simplified, are_small, carries_sum, is_divided, is_limited, total};
 ghost use Rattle.perm_algebra.specs.Affine.{HasNoList, levels, parts, peak, simplified, top, value};
-ghost use Rattle.perm_algebra.specs.Fits.{Agree, InRange, IsAffine, Stays};
+ghost use Rattle.perm_algebra.specs.Fits.{Agree, InRange, Stays};
 ghost use Rattle.perm_algebra.specs.Room.{has_room, has_top};
 ghost use Rattle.perm_algebra.specs.Views.{plain_sum};
 ghost use Rattle.sum_limits.specs.Leading.{CanCarry, can_lead};
+ghost use Rattle.sum_limits.specs.Mixes.{IsAffineBelow};
+ghost use Rattle.sum_limits.specs.Outcomes.{IfMade, IfRefused};
 
 use index_fn::Index;
 use memory::NoMemory;
@@ -39,16 +42,22 @@ pub fn simplify_within(
 ) -> Result<Option<Affine>, NoMemory>
     requires formed { IsWellFormed (mapping_of f.now) }
     requires no_list { HasNoList (mapping_of f.now) }
-    requires affine { IsAffine (length counts.now) (slice_index counts.now) (plain_sum arg.now) }
+    requires affine { IsAffineBelow counts.now (plain_sum arg.now) }
     requires fits { Stays (slice_index counts.now) (value (plain_sum arg.now)) }
-    requires defined { (vs : ℕ → ℕ) → InRange (slice_index counts.now) vs → IsDefinedAt (mapping_of f.now) (value (plain_sum arg.now) vs) }
-    ensures some { IfOk result (λ r. (sum : Affine) → r ≡ Some sum → plain_sum sum ≡ simplified (slice_index counts.now) (mapping_of f.now) (plain_sum arg.now)) }
-    ensures room { IfOk result (λ r. (sum : Affine) → r ≡ Some sum → has_room (slice_index counts.now) (mapping_of f.now) (plain_sum arg.now) ≡ true) }
-    ensures limited { IfOk result (λ r. (sum : Affine) → r ≡ Some sum → is_limited limits.room limits.size (slice_index counts.now) (plain_sum sum) ≡ true) }
-    ensures none { IfOk result (λ r. r ≡ None → can_lead limits.room limits.size (slice_index counts.now) (mapping_of f.now) (plain_sum arg.now) ≡ false) }
-    ensures value { IfOk result (λ r. (sum : Affine) → r ≡ Some sum → Agree (slice_index counts.now) (value (plain_sum sum)) (λ vs. at (mapping_of f.now) (value (plain_sum arg.now) vs))) }
-    ensures affine { IfOk result (λ r. (sum : Affine) → r ≡ Some sum → IsAffine (length counts.now) (slice_index counts.now) (plain_sum sum)) }
-    ensures fits { IfOk result (λ r. (sum : Affine) → r ≡ Some sum → Stays (slice_index counts.now) (value (plain_sum sum))) }
+    requires defined { (vs : ℕ → ℕ) → InRange (slice_index counts.now) vs
+        → IsDefinedAt (mapping_of f.now) (value (plain_sum arg.now) vs) }
+    ensures some { IfMade result (λ sum. plain_sum sum
+        ≡ simplified (slice_index counts.now) (mapping_of f.now) (plain_sum arg.now)) }
+    ensures room { IfMade result (λ sum.
+        has_room (slice_index counts.now) (mapping_of f.now) (plain_sum arg.now) ≡ true) }
+    ensures limited { IfMade result (λ sum.
+        is_limited limits.room limits.size (slice_index counts.now) (plain_sum sum) ≡ true) }
+    ensures none { IfRefused result (can_lead limits.room limits.size (slice_index counts.now)
+        (mapping_of f.now) (plain_sum arg.now) ≡ false) }
+    ensures value { IfMade result (λ sum. Agree (slice_index counts.now) (value (plain_sum sum))
+        (λ vs. at (mapping_of f.now) (value (plain_sum arg.now) vs))) }
+    ensures affine { IfMade result (λ sum. IsAffineBelow counts.now (plain_sum sum)) }
+    ensures fits { IfMade result (λ sum. Stays (slice_index counts.now) (value (plain_sum sum))) }
 {
     match simplify_in_room(alloc, f, arg, counts)? {
         None => Ok(None),
@@ -73,11 +82,14 @@ pub fn carry_within(
     count: u64,
 ) -> Result<Option<Affine>, NoMemory>
     requires can { CanCarry limits.size (map mapping_of functions.now) }
-    requires affine { IsAffine (length counts.now) (slice_index counts.now) (plain_sum arg.now) }
-    ensures some { IfOk result (λ r. (sum : Affine) → r ≡ Some sum → plain_sum sum ≡ all_simplified (slice_index counts.now) (map mapping_of functions.now) (plain_sum arg.now)) }
-    ensures carries { IfOk result (λ r. (sum : Affine) → r ≡ Some sum → carries_sum limits.room limits.size count (slice_index counts.now) (map mapping_of functions.now) (plain_sum arg.now) ≡ true) }
-    ensures none { IfOk result (λ r. r ≡ None → carries_sum limits.room limits.size count (slice_index counts.now) (map mapping_of functions.now) (plain_sum arg.now) ≡ false) }
-    ensures affine { IfOk result (λ r. (sum : Affine) → r ≡ Some sum → IsAffine (length counts.now) (slice_index counts.now) (plain_sum sum)) }
+    requires affine { IsAffineBelow counts.now (plain_sum arg.now) }
+    ensures some { IfMade result (λ sum. plain_sum sum ≡ all_simplified (slice_index counts.now)
+        (map mapping_of functions.now) (plain_sum arg.now)) }
+    ensures carries { IfMade result (λ sum. carries_sum limits.room limits.size count
+        (slice_index counts.now) (map mapping_of functions.now) (plain_sum arg.now) ≡ true) }
+    ensures none { IfRefused result (carries_sum limits.room limits.size count
+        (slice_index counts.now) (map mapping_of functions.now) (plain_sum arg.now) ≡ false) }
+    ensures affine { IfMade result (λ sum. IsAffineBelow counts.now (plain_sum sum)) }
 {
     match functions.split_first() {
         None => {
@@ -109,8 +121,9 @@ pub fn carry_within(
 
 /// Whether a place is within the limits: the test of merging.
 pub fn is_within(counts: &[u64], sum: &Affine, limits: Limits) -> bool
-    requires { IsAffine (length counts.now) (slice_index counts.now) (plain_sum sum.now) }
-    ensures { IsTrue result ↔ (is_limited limits.room limits.size (slice_index counts.now) (plain_sum sum.now) ≡ true) }
+    requires { IsAffineBelow counts.now (plain_sum sum.now) }
+    ensures { IsTrue result
+        ↔ (is_limited limits.room limits.size (slice_index counts.now) (plain_sum sum.now) ≡ true) }
 {
     if let Affine::Constant(number) = sum {
         return *number < limits.size && is_small(*number);
@@ -136,8 +149,8 @@ fn is_short(sum: &Affine, room: u64) -> bool
 
 // How much room the parts of a sum leave.
 fn room_after(sum: &Affine, room: u64) -> Option<u64>
-    ensures some { (left : ℕ) → result ≡ Some left → parts (plain_sum sum.now) + left ≡ room }
-    ensures none { result ≡ None → room < parts (plain_sum sum.now) }
+    ensures some { ForSome result (λ left. parts (plain_sum sum.now) + left ≡ room) }
+    ensures none { ForNone result (room < parts (plain_sum sum.now)) }
 {
     match sum {
         Affine::Constant(_) => Some(room),
@@ -186,8 +199,8 @@ fn greatest_factor(sum: &Affine) -> u64
 
 // The constant and the factors, all together, if they fit a word.
 fn total(sum: &Affine) -> Option<u64>
-    ensures some { (t : ℕ) → result ≡ Some t → t ≡ total (plain_sum sum.now) }
-    ensures none { result ≡ None → 2 ^ 64 ≤ total (plain_sum sum.now) }
+    ensures some { ForSome result (λ t. t ≡ total (plain_sum sum.now)) }
+    ensures none { ForNone result (2 ^ 64 ≤ total (plain_sum sum.now)) }
 {
     match sum {
         Affine::Constant(c) => Some(*c),
@@ -202,11 +215,14 @@ fn total(sum: &Affine) -> Option<u64>
 
 // A bound on the values of a sum, if it fits a word.
 fn top_of(counts: &[u64], sum: &Affine) -> Option<u64>
-    requires { IsAffine (length counts.now) (slice_index counts.now) (plain_sum sum.now) }
-    ensures some { (t : ℕ) → result ≡ Some t → t ≡ top (plain_sum sum.now) (slice_index counts.now) }
-    ensures none { result ≡ None → are_small (slice_index counts.now) (plain_sum sum.now) ≡ true → 2 ^ 64 ≤ top (plain_sum sum.now) (slice_index counts.now) }
-    ensures room { (t : ℕ) → result ≡ Some t → has_top (slice_index counts.now) (plain_sum sum.now) ≡ true }
-    ensures no_room { result ≡ None → has_top (slice_index counts.now) (plain_sum sum.now) ≡ false }
+    requires { IsAffineBelow counts.now (plain_sum sum.now) }
+    ensures some { ForSome result (λ t. t ≡ top (plain_sum sum.now) (slice_index counts.now)) }
+    ensures none { ForNone result (are_small (slice_index counts.now) (plain_sum sum.now) ≡ true
+        → 2 ^ 64 ≤ top (plain_sum sum.now) (slice_index counts.now)) }
+    ensures room { ForSome result (λ t.
+        has_top (slice_index counts.now) (plain_sum sum.now) ≡ true) }
+    ensures no_room { ForNone result
+        (has_top (slice_index counts.now) (plain_sum sum.now) ≡ false) }
 {
     match sum {
         Affine::Constant(c) => Some(*c),
@@ -232,8 +248,8 @@ fn top_of(counts: &[u64], sum: &Affine) -> Option<u64>
 
 // A number times another, and one more, if that fits a word.
 fn times_and(factor: u64, most: u64, rest: u64) -> Option<u64>
-    ensures some { (t : ℕ) → result ≡ Some t → t ≡ factor * most + rest }
-    ensures none { result ≡ None → 2 ^ 64 ≤ factor * most + rest }
+    ensures some { ForSome result (λ t. t ≡ factor * most + rest) }
+    ensures none { ForNone result (2 ^ 64 ≤ factor * most + rest) }
 {
     match factor.checked_mul(most) {
         None => None,
@@ -243,7 +259,7 @@ fn times_and(factor: u64, most: u64, rest: u64) -> Option<u64>
 
 // Whether the numbers at all levels are small.
 fn are_small(counts: &[u64], sum: &Affine) -> bool
-    requires { IsAffine (length counts.now) (slice_index counts.now) (plain_sum sum.now) }
+    requires { IsAffineBelow counts.now (plain_sum sum.now) }
     ensures { IsTrue result ↔ (are_small (slice_index counts.now) (plain_sum sum.now) ≡ true) }
 {
     match sum {
@@ -260,9 +276,10 @@ fn are_small(counts: &[u64], sum: &Affine) -> bool
 
 // Whether a part may divide this sum.
 fn is_divided(counts: &[u64], factor: u64, of: &Affine, divisor: u64) -> bool
-    requires affine { IsAffine (length counts.now) (slice_index counts.now) (plain_sum of.now) }
+    requires affine { IsAffineBelow counts.now (plain_sum of.now) }
     requires small { are_small (slice_index counts.now) (plain_sum of.now) ≡ true }
-    ensures { IsTrue result ↔ (is_divided (slice_index counts.now) factor (plain_sum of.now) divisor ≡ true) }
+    ensures { IsTrue result
+        ↔ (is_divided (slice_index counts.now) factor (plain_sum of.now) divisor ≡ true) }
 {
     if factor == 0 || !is_small(factor) || divisor == 0 || !is_small(divisor) {
         return false;

@@ -1,10 +1,13 @@
-ghost use Rattle.std.specs.Prelude.{◌≡◌, ℕ, ◌+◌, ◌*◌, ◌/◌, ◌%◌, ◌^◌, ◌<◌, ◌&&◌, IfOk, Some, None, true, false, length, slice_index};
+ghost use Rattle.std.specs.Prelude.{◌≡◌, ℕ, ◌+◌, ◌*◌, ◌/◌, ◌%◌, ◌^◌, ◌<◌, true, false, slice_index};
+ghost use Rattle.std.specs.Option.{ForNone, ForSome};
 ghost use Rattle.index_fn.specs.Index.{mapping_of};
 ghost use Rattle.index_fn.specs.Mapping.{IsDefinedAt, IsWellFormed, Line, Strided, ThomasOut, at};
 ghost use Rattle.perm_algebra.specs.Affine.{HasNoList, constant, divided, joined, mods, reduced, scaled, simplified, value};
-ghost use Rattle.perm_algebra.specs.Fits.{Agree, InRange, IsAffine, Stays};
+ghost use Rattle.perm_algebra.specs.Fits.{Agree, InRange, Stays};
 ghost use Rattle.perm_algebra.specs.Room.{can_divide, can_join, can_mix, can_scale, constant_of, has_room, has_top};
 ghost use Rattle.perm_algebra.specs.Views.{plain_sum};
+ghost use Rattle.sum_limits.specs.Mixes.{IsAffineBelow, can_mix_parts, can_scale_and_join, mixed, mixed_parts};
+ghost use Rattle.sum_limits.specs.Outcomes.{IfMade, IfRefused};
 
 use crate::{greatest_factor, top_of};
 use index_fn::Index;
@@ -22,15 +25,20 @@ pub fn simplify_in_room(
 ) -> Result<Option<Affine>, NoMemory>
     requires formed { IsWellFormed (mapping_of f.now) }
     requires no_list { HasNoList (mapping_of f.now) }
-    requires affine { IsAffine (length counts.now) (slice_index counts.now) (plain_sum arg.now) }
+    requires affine { IsAffineBelow counts.now (plain_sum arg.now) }
     requires fits { Stays (slice_index counts.now) (value (plain_sum arg.now)) }
-    requires defined { (vs : ℕ → ℕ) → InRange (slice_index counts.now) vs → IsDefinedAt (mapping_of f.now) (value (plain_sum arg.now) vs) }
-    ensures some { IfOk result (λ r. (sum : Affine) → r ≡ Some sum → plain_sum sum ≡ simplified (slice_index counts.now) (mapping_of f.now) (plain_sum arg.now)) }
-    ensures room { IfOk result (λ r. (sum : Affine) → r ≡ Some sum → has_room (slice_index counts.now) (mapping_of f.now) (plain_sum arg.now) ≡ true) }
-    ensures none { IfOk result (λ r. r ≡ None → has_room (slice_index counts.now) (mapping_of f.now) (plain_sum arg.now) ≡ false) }
-    ensures value { IfOk result (λ r. (sum : Affine) → r ≡ Some sum → Agree (slice_index counts.now) (value (plain_sum sum)) (λ vs. at (mapping_of f.now) (value (plain_sum arg.now) vs))) }
-    ensures affine { IfOk result (λ r. (sum : Affine) → r ≡ Some sum → IsAffine (length counts.now) (slice_index counts.now) (plain_sum sum)) }
-    ensures fits { IfOk result (λ r. (sum : Affine) → r ≡ Some sum → Stays (slice_index counts.now) (value (plain_sum sum))) }
+    requires defined { (vs : ℕ → ℕ) → InRange (slice_index counts.now) vs
+        → IsDefinedAt (mapping_of f.now) (value (plain_sum arg.now) vs) }
+    ensures some { IfMade result (λ sum. plain_sum sum
+        ≡ simplified (slice_index counts.now) (mapping_of f.now) (plain_sum arg.now)) }
+    ensures room { IfMade result (λ sum.
+        has_room (slice_index counts.now) (mapping_of f.now) (plain_sum arg.now) ≡ true) }
+    ensures none { IfRefused result
+        (has_room (slice_index counts.now) (mapping_of f.now) (plain_sum arg.now) ≡ false) }
+    ensures value { IfMade result (λ sum. Agree (slice_index counts.now) (value (plain_sum sum))
+        (λ vs. at (mapping_of f.now) (value (plain_sum arg.now) vs))) }
+    ensures affine { IfMade result (λ sum. IsAffineBelow counts.now (plain_sum sum)) }
+    ensures fits { IfMade result (λ sum. Stays (slice_index counts.now) (value (plain_sum sum))) }
 {
     if let Affine::Constant(number) = arg {
         return Ok(Some(at_number(f, *number, counts)));
@@ -75,11 +83,14 @@ pub fn simplify_in_room(
 fn at_number(f: &Index, number: u64, counts: &[u64]) -> Affine
     requires formed { IsWellFormed (mapping_of f.now) }
     requires no_list { HasNoList (mapping_of f.now) }
-    requires defined { (vs : ℕ → ℕ) → InRange (slice_index counts.now) vs → IsDefinedAt (mapping_of f.now) number }
-    ensures some { plain_sum result ≡ simplified (slice_index counts.now) (mapping_of f.now) (constant number) }
+    requires defined { (vs : ℕ → ℕ) → InRange (slice_index counts.now) vs
+        → IsDefinedAt (mapping_of f.now) number }
+    ensures some { plain_sum result
+        ≡ simplified (slice_index counts.now) (mapping_of f.now) (constant number) }
     ensures room { has_room (slice_index counts.now) (mapping_of f.now) (constant number) ≡ true }
-    ensures value { Agree (slice_index counts.now) (value (plain_sum result)) (λ vs. at (mapping_of f.now) number) }
-    ensures affine { IsAffine (length counts.now) (slice_index counts.now) (plain_sum result) }
+    ensures value { Agree (slice_index counts.now) (value (plain_sum result))
+        (λ vs. at (mapping_of f.now) number) }
+    ensures affine { IsAffineBelow counts.now (plain_sum result) }
     ensures fits { Stays (slice_index counts.now) (value (plain_sum result)) }
 {
     let _count = counts.len();
@@ -94,13 +105,18 @@ fn line(
     step: u64,
     arg: &Affine,
 ) -> Result<Option<Affine>, NoMemory>
-    requires affine { IsAffine (length counts.now) (slice_index counts.now) (plain_sum arg.now) }
-    requires fits { Stays (slice_index counts.now) (λ vs. base + step * value (plain_sum arg.now) vs) }
-    ensures some { IfOk result (λ r. (sum : Affine) → r ≡ Some sum → plain_sum sum ≡ simplified (slice_index counts.now) (Line base step) (plain_sum arg.now)) }
-    ensures room { IfOk result (λ r. (sum : Affine) → r ≡ Some sum → has_room (slice_index counts.now) (Line base step) (plain_sum arg.now) ≡ true) }
-    ensures none { IfOk result (λ r. r ≡ None → has_room (slice_index counts.now) (Line base step) (plain_sum arg.now) ≡ false) }
-    ensures value { IfOk result (λ r. (sum : Affine) → r ≡ Some sum → Agree (slice_index counts.now) (value (plain_sum sum)) (λ vs. base + step * value (plain_sum arg.now) vs)) }
-    ensures affine { IfOk result (λ r. (sum : Affine) → r ≡ Some sum → IsAffine (length counts.now) (slice_index counts.now) (plain_sum sum)) }
+    requires affine { IsAffineBelow counts.now (plain_sum arg.now) }
+    requires fits { Stays (slice_index counts.now)
+        (λ vs. base + step * value (plain_sum arg.now) vs) }
+    ensures some { IfMade result (λ sum.
+        plain_sum sum ≡ simplified (slice_index counts.now) (Line base step) (plain_sum arg.now)) }
+    ensures room { IfMade result (λ sum.
+        has_room (slice_index counts.now) (Line base step) (plain_sum arg.now) ≡ true) }
+    ensures none { IfRefused result
+        (has_room (slice_index counts.now) (Line base step) (plain_sum arg.now) ≡ false) }
+    ensures value { IfMade result (λ sum. Agree (slice_index counts.now) (value (plain_sum sum))
+        (λ vs. base + step * value (plain_sum arg.now) vs)) }
+    ensures affine { IfMade result (λ sum. IsAffineBelow counts.now (plain_sum sum)) }
 {
     let Some(multiple) = scale_in_room(counts, step, copy(alloc, arg)?) else {
         return Ok(None);
@@ -118,15 +134,20 @@ fn turn(
     arg: &Affine,
 ) -> Result<Option<Affine>, NoMemory>
     requires formed { IsWellFormed (Strided r s) }
-    requires affine { IsAffine (length counts.now) (slice_index counts.now) (plain_sum arg.now) }
+    requires affine { IsAffineBelow counts.now (plain_sum arg.now) }
     requires fits { Stays (slice_index counts.now) (value (plain_sum arg.now)) }
-    requires defined { (vs : ℕ → ℕ) → InRange (slice_index counts.now) vs → value (plain_sum arg.now) vs < r * s }
-    ensures some { IfOk result (λ made. (sum : Affine) → made ≡ Some sum → plain_sum sum ≡ simplified (slice_index counts.now) (Strided r s) (plain_sum arg.now)) }
-    ensures room { IfOk result (λ made. (sum : Affine) → made ≡ Some sum → has_room (slice_index counts.now) (Strided r s) (plain_sum arg.now) ≡ true) }
-    ensures none { IfOk result (λ made. made ≡ None → has_room (slice_index counts.now) (Strided r s) (plain_sum arg.now) ≡ false) }
-    ensures value { IfOk result (λ made. (sum : Affine) → made ≡ Some sum → Agree (slice_index counts.now) (value (plain_sum sum)) (λ vs. at (Strided r s) (value (plain_sum arg.now) vs))) }
-    ensures affine { IfOk result (λ made. (sum : Affine) → made ≡ Some sum → IsAffine (length counts.now) (slice_index counts.now) (plain_sum sum)) }
-    ensures fits { IfOk result (λ made. (sum : Affine) → made ≡ Some sum → Stays (slice_index counts.now) (value (plain_sum sum))) }
+    requires defined { (vs : ℕ → ℕ) → InRange (slice_index counts.now) vs
+        → value (plain_sum arg.now) vs < r * s }
+    ensures some { IfMade result (λ sum.
+        plain_sum sum ≡ simplified (slice_index counts.now) (Strided r s) (plain_sum arg.now)) }
+    ensures room { IfMade result (λ sum.
+        has_room (slice_index counts.now) (Strided r s) (plain_sum arg.now) ≡ true) }
+    ensures none { IfRefused result
+        (has_room (slice_index counts.now) (Strided r s) (plain_sum arg.now) ≡ false) }
+    ensures value { IfMade result (λ sum. Agree (slice_index counts.now) (value (plain_sum sum))
+        (λ vs. at (Strided r s) (value (plain_sum arg.now) vs))) }
+    ensures affine { IfMade result (λ sum. IsAffineBelow counts.now (plain_sum sum)) }
+    ensures fits { IfMade result (λ sum. Stays (slice_index counts.now) (value (plain_sum sum))) }
 {
     let Some(Parts { quot, rem }) = divide_in_room(alloc, counts, arg, s)? else {
         return Ok(None);
@@ -143,15 +164,20 @@ fn remainders(
     arg: &Affine,
 ) -> Result<Option<Affine>, NoMemory>
     requires formed { IsWellFormed (ThomasOut r s) }
-    requires affine { IsAffine (length counts.now) (slice_index counts.now) (plain_sum arg.now) }
+    requires affine { IsAffineBelow counts.now (plain_sum arg.now) }
     requires fits { Stays (slice_index counts.now) (value (plain_sum arg.now)) }
-    requires defined { (vs : ℕ → ℕ) → InRange (slice_index counts.now) vs → value (plain_sum arg.now) vs < r * s }
-    ensures some { IfOk result (λ made. (sum : Affine) → made ≡ Some sum → plain_sum sum ≡ simplified (slice_index counts.now) (ThomasOut r s) (plain_sum arg.now)) }
-    ensures room { IfOk result (λ made. (sum : Affine) → made ≡ Some sum → has_room (slice_index counts.now) (ThomasOut r s) (plain_sum arg.now) ≡ true) }
-    ensures none { IfOk result (λ made. made ≡ None → has_room (slice_index counts.now) (ThomasOut r s) (plain_sum arg.now) ≡ false) }
-    ensures value { IfOk result (λ made. (sum : Affine) → made ≡ Some sum → Agree (slice_index counts.now) (value (plain_sum sum)) (λ vs. at (ThomasOut r s) (value (plain_sum arg.now) vs))) }
-    ensures affine { IfOk result (λ made. (sum : Affine) → made ≡ Some sum → IsAffine (length counts.now) (slice_index counts.now) (plain_sum sum)) }
-    ensures fits { IfOk result (λ made. (sum : Affine) → made ≡ Some sum → Stays (slice_index counts.now) (value (plain_sum sum))) }
+    requires defined { (vs : ℕ → ℕ) → InRange (slice_index counts.now) vs
+        → value (plain_sum arg.now) vs < r * s }
+    ensures some { IfMade result (λ sum.
+        plain_sum sum ≡ simplified (slice_index counts.now) (ThomasOut r s) (plain_sum arg.now)) }
+    ensures room { IfMade result (λ sum.
+        has_room (slice_index counts.now) (ThomasOut r s) (plain_sum arg.now) ≡ true) }
+    ensures none { IfRefused result
+        (has_room (slice_index counts.now) (ThomasOut r s) (plain_sum arg.now) ≡ false) }
+    ensures value { IfMade result (λ sum. Agree (slice_index counts.now) (value (plain_sum sum))
+        (λ vs. at (ThomasOut r s) (value (plain_sum arg.now) vs))) }
+    ensures affine { IfMade result (λ sum. IsAffineBelow counts.now (plain_sum sum)) }
+    ensures fits { IfMade result (λ sum. Stays (slice_index counts.now) (value (plain_sum sum))) }
 {
     let Some(Parts { quot: _, rem }) = divide_in_room(alloc, counts, arg, r)? else {
         return Ok(None);
@@ -181,14 +207,20 @@ fn mixed(
     requires divisor { 0 < s }
     requires modulus { 0 < r * s }
     requires size { r * s < 2 ^ 64 }
-    requires affine { IsAffine (length counts.now) (slice_index counts.now) (plain_sum arg.now) }
+    requires affine { IsAffineBelow counts.now (plain_sum arg.now) }
     requires fits { Stays (slice_index counts.now) (value (plain_sum arg.now)) }
-    requires mixed { Stays (slice_index counts.now) (λ vs. by.quot * (value (plain_sum arg.now) vs / s) + by.rem * (value (plain_sum arg.now) vs % s)) }
-    ensures some { IfOk result (λ made. (sum : Affine) → made ≡ Some sum → plain_sum sum ≡ reduced (slice_index counts.now) (r * s) (joined (scaled by.quot (divided (slice_index counts.now) s (plain_sum arg.now)).quot) (scaled by.rem (divided (slice_index counts.now) s (plain_sum arg.now)).rem))) }
-    ensures room { IfOk result (λ made. (sum : Affine) → made ≡ Some sum → (can_divide (slice_index counts.now) s (plain_sum arg.now) && can_mix (slice_index counts.now) (r * s) by.quot by.rem (divided (slice_index counts.now) s (plain_sum arg.now)).quot (divided (slice_index counts.now) s (plain_sum arg.now)).rem) ≡ true) }
-    ensures none { IfOk result (λ made. made ≡ None → (can_divide (slice_index counts.now) s (plain_sum arg.now) && can_mix (slice_index counts.now) (r * s) by.quot by.rem (divided (slice_index counts.now) s (plain_sum arg.now)).quot (divided (slice_index counts.now) s (plain_sum arg.now)).rem) ≡ false) }
-    ensures value { IfOk result (λ made. (sum : Affine) → made ≡ Some sum → Agree (slice_index counts.now) (value (plain_sum sum)) (λ vs. (by.quot * (value (plain_sum arg.now) vs / s) + by.rem * (value (plain_sum arg.now) vs % s)) % (r * s))) }
-    ensures affine { IfOk result (λ made. (sum : Affine) → made ≡ Some sum → IsAffine (length counts.now) (slice_index counts.now) (plain_sum sum)) }
+    requires mixed { Stays (slice_index counts.now) (λ vs.
+        by.quot * (value (plain_sum arg.now) vs / s) + by.rem * (value (plain_sum arg.now) vs % s)) }
+    ensures some { IfMade result (λ sum. plain_sum sum
+        ≡ mixed_parts (slice_index counts.now) s (r * s) by.quot by.rem (plain_sum arg.now)) }
+    ensures room { IfMade result (λ sum. can_mix_parts (slice_index counts.now) s (r * s)
+        by.quot by.rem (plain_sum arg.now) ≡ true) }
+    ensures none { IfRefused result (can_mix_parts (slice_index counts.now) s (r * s)
+        by.quot by.rem (plain_sum arg.now) ≡ false) }
+    ensures value { IfMade result (λ sum. Agree (slice_index counts.now) (value (plain_sum sum))
+        (λ vs. (by.quot * (value (plain_sum arg.now) vs / s)
+        + by.rem * (value (plain_sum arg.now) vs % s)) % (r * s))) }
+    ensures affine { IfMade result (λ sum. IsAffineBelow counts.now (plain_sum sum)) }
 {
     let Some(parts) = divide_in_room(alloc, counts, arg, s)? else {
         return Ok(None);
@@ -206,14 +238,20 @@ fn mix(
     n: u64,
 ) -> Result<Option<Affine>, NoMemory>
     requires divisor { 0 < n }
-    requires quot { IsAffine (length counts.now) (slice_index counts.now) (plain_sum parts.quot) }
-    requires rem { IsAffine (length counts.now) (slice_index counts.now) (plain_sum parts.rem) }
-    requires fits { Stays (slice_index counts.now) (λ vs. by.quot * value (plain_sum parts.quot) vs + by.rem * value (plain_sum parts.rem) vs) }
-    ensures some { IfOk result (λ r. (sum : Affine) → r ≡ Some sum → plain_sum sum ≡ reduced (slice_index counts.now) n (joined (scaled by.quot (plain_sum parts.quot)) (scaled by.rem (plain_sum parts.rem)))) }
-    ensures room { IfOk result (λ r. (sum : Affine) → r ≡ Some sum → can_mix (slice_index counts.now) n by.quot by.rem (plain_sum parts.quot) (plain_sum parts.rem) ≡ true) }
-    ensures none { IfOk result (λ r. r ≡ None → can_mix (slice_index counts.now) n by.quot by.rem (plain_sum parts.quot) (plain_sum parts.rem) ≡ false) }
-    ensures value { IfOk result (λ r. (sum : Affine) → r ≡ Some sum → Agree (slice_index counts.now) (value (plain_sum sum)) (λ vs. (by.quot * value (plain_sum parts.quot) vs + by.rem * value (plain_sum parts.rem) vs) % n)) }
-    ensures affine { IfOk result (λ r. (sum : Affine) → r ≡ Some sum → IsAffine (length counts.now) (slice_index counts.now) (plain_sum sum)) }
+    requires quot { IsAffineBelow counts.now (plain_sum parts.quot) }
+    requires rem { IsAffineBelow counts.now (plain_sum parts.rem) }
+    requires fits { Stays (slice_index counts.now) (λ vs.
+        by.quot * value (plain_sum parts.quot) vs + by.rem * value (plain_sum parts.rem) vs) }
+    ensures some { IfMade result (λ sum. plain_sum sum ≡ mixed (slice_index counts.now) n
+        by.quot by.rem (plain_sum parts.quot) (plain_sum parts.rem)) }
+    ensures room { IfMade result (λ sum. can_mix (slice_index counts.now) n
+        by.quot by.rem (plain_sum parts.quot) (plain_sum parts.rem) ≡ true) }
+    ensures none { IfRefused result (can_mix (slice_index counts.now) n
+        by.quot by.rem (plain_sum parts.quot) (plain_sum parts.rem) ≡ false) }
+    ensures value { IfMade result (λ sum. Agree (slice_index counts.now) (value (plain_sum sum))
+        (λ vs. (by.quot * value (plain_sum parts.quot) vs
+        + by.rem * value (plain_sum parts.rem) vs) % n)) }
+    ensures affine { IfMade result (λ sum. IsAffineBelow counts.now (plain_sum sum)) }
 {
     let Parts { quot, rem } = parts;
     let Some(quot) = scale_in_room(counts, by.quot, quot) else {
@@ -237,16 +275,22 @@ fn divide_in_room(
     s: u64,
 ) -> Result<Option<Parts>, NoMemory>
     requires divisor { 0 < s }
-    requires affine { IsAffine (length counts.now) (slice_index counts.now) (plain_sum sum.now) }
+    requires affine { IsAffineBelow counts.now (plain_sum sum.now) }
     requires fits { Stays (slice_index counts.now) (value (plain_sum sum.now)) }
-    ensures quot { IfOk result (λ r. (p : Parts) → r ≡ Some p → Agree (slice_index counts.now) (value (plain_sum p.quot)) (λ vs. value (plain_sum sum.now) vs / s)) }
-    ensures rem { IfOk result (λ r. (p : Parts) → r ≡ Some p → Agree (slice_index counts.now) (value (plain_sum p.rem)) (λ vs. value (plain_sum sum.now) vs % s)) }
-    ensures quot_affine { IfOk result (λ r. (p : Parts) → r ≡ Some p → IsAffine (length counts.now) (slice_index counts.now) (plain_sum p.quot)) }
-    ensures rem_affine { IfOk result (λ r. (p : Parts) → r ≡ Some p → IsAffine (length counts.now) (slice_index counts.now) (plain_sum p.rem)) }
-    ensures quot_form { IfOk result (λ r. (p : Parts) → r ≡ Some p → plain_sum p.quot ≡ (divided (slice_index counts.now) s (plain_sum sum.now)).quot) }
-    ensures rem_form { IfOk result (λ r. (p : Parts) → r ≡ Some p → plain_sum p.rem ≡ (divided (slice_index counts.now) s (plain_sum sum.now)).rem) }
-    ensures room { IfOk result (λ r. (p : Parts) → r ≡ Some p → can_divide (slice_index counts.now) s (plain_sum sum.now) ≡ true) }
-    ensures none { IfOk result (λ r. r ≡ None → can_divide (slice_index counts.now) s (plain_sum sum.now) ≡ false) }
+    ensures quot { IfMade result (λ p. Agree (slice_index counts.now) (value (plain_sum p.quot))
+        (λ vs. value (plain_sum sum.now) vs / s)) }
+    ensures rem { IfMade result (λ p. Agree (slice_index counts.now) (value (plain_sum p.rem))
+        (λ vs. value (plain_sum sum.now) vs % s)) }
+    ensures quot_affine { IfMade result (λ p. IsAffineBelow counts.now (plain_sum p.quot)) }
+    ensures rem_affine { IfMade result (λ p. IsAffineBelow counts.now (plain_sum p.rem)) }
+    ensures quot_form { IfMade result (λ p.
+        plain_sum p.quot ≡ (divided (slice_index counts.now) s (plain_sum sum.now)).quot) }
+    ensures rem_form { IfMade result (λ p.
+        plain_sum p.rem ≡ (divided (slice_index counts.now) s (plain_sum sum.now)).rem) }
+    ensures room { IfMade result (λ p.
+        can_divide (slice_index counts.now) s (plain_sum sum.now) ≡ true) }
+    ensures none { IfRefused result
+        (can_divide (slice_index counts.now) s (plain_sum sum.now) ≡ false) }
 {
     let rest = others(alloc, s, sum)?;
     match top_of(counts, &rest) {
@@ -266,13 +310,17 @@ fn reduce_in_room(
     sum: &Affine,
 ) -> Result<Option<Affine>, NoMemory>
     requires divisor { 0 < n }
-    requires affine { IsAffine (length counts.now) (slice_index counts.now) (plain_sum sum.now) }
+    requires affine { IsAffineBelow counts.now (plain_sum sum.now) }
     requires fits { Stays (slice_index counts.now) (value (plain_sum sum.now)) }
-    ensures some { IfOk result (λ r. (a : Affine) → r ≡ Some a → plain_sum a ≡ reduced (slice_index counts.now) n (plain_sum sum.now)) }
-    ensures room { IfOk result (λ r. (a : Affine) → r ≡ Some a → has_top (slice_index counts.now) (mods n (plain_sum sum.now)) ≡ true) }
-    ensures none { IfOk result (λ r. r ≡ None → has_top (slice_index counts.now) (mods n (plain_sum sum.now)) ≡ false) }
-    ensures value { IfOk result (λ r. (a : Affine) → r ≡ Some a → Agree (slice_index counts.now) (value (plain_sum a)) (λ vs. value (plain_sum sum.now) vs % n)) }
-    ensures affine { IfOk result (λ r. (a : Affine) → r ≡ Some a → IsAffine (length counts.now) (slice_index counts.now) (plain_sum a)) }
+    ensures some { IfMade result (λ a.
+        plain_sum a ≡ reduced (slice_index counts.now) n (plain_sum sum.now)) }
+    ensures room { IfMade result (λ a.
+        has_top (slice_index counts.now) (mods n (plain_sum sum.now)) ≡ true) }
+    ensures none { IfRefused result
+        (has_top (slice_index counts.now) (mods n (plain_sum sum.now)) ≡ false) }
+    ensures value { IfMade result (λ a. Agree (slice_index counts.now) (value (plain_sum a))
+        (λ vs. value (plain_sum sum.now) vs % n)) }
+    ensures affine { IfMade result (λ a. IsAffineBelow counts.now (plain_sum a)) }
 {
     let small = residues(alloc, n, sum)?;
     match top_of(counts, &small) {
@@ -286,13 +334,14 @@ fn reduce_in_room(
 
 // `k` times the sum, if each factor fits.
 fn scale_in_room(counts: &[u64], k: u64, sum: Affine) -> Option<Affine>
-    requires affine { IsAffine (length counts.now) (slice_index counts.now) (plain_sum sum) }
+    requires affine { IsAffineBelow counts.now (plain_sum sum) }
     requires fits { Stays (slice_index counts.now) (λ vs. k * value (plain_sum sum) vs) }
-    ensures some { (a : Affine) → result ≡ Some a → plain_sum a ≡ scaled k (plain_sum sum) }
-    ensures room { (a : Affine) → result ≡ Some a → can_scale k (plain_sum sum) ≡ true }
-    ensures none { result ≡ None → can_scale k (plain_sum sum) ≡ false }
-    ensures value { (a : Affine) → result ≡ Some a → Agree (slice_index counts.now) (value (plain_sum a)) (λ vs. k * value (plain_sum sum) vs) }
-    ensures affine { (a : Affine) → result ≡ Some a → IsAffine (length counts.now) (slice_index counts.now) (plain_sum a) }
+    ensures some { ForSome result (λ a. plain_sum a ≡ scaled k (plain_sum sum)) }
+    ensures room { ForSome result (λ a. can_scale k (plain_sum sum) ≡ true) }
+    ensures none { ForNone result (can_scale k (plain_sum sum) ≡ false) }
+    ensures value { ForSome result (λ a. Agree (slice_index counts.now) (value (plain_sum a))
+        (λ vs. k * value (plain_sum sum) vs)) }
+    ensures affine { ForSome result (λ a. IsAffineBelow counts.now (plain_sum a)) }
 {
     if k.checked_mul(greatest_factor(&sum)).is_none() {
         return None;
@@ -302,14 +351,17 @@ fn scale_in_room(counts: &[u64], k: u64, sum: Affine) -> Option<Affine>
 
 // `k` times a sum, and another, if each factor and the constant fit.
 fn scale_and_join(counts: &[u64], k: u64, a: Affine, b: Affine) -> Option<Affine>
-    requires affine { IsAffine (length counts.now) (slice_index counts.now) (plain_sum a) }
-    requires affine_too { IsAffine (length counts.now) (slice_index counts.now) (plain_sum b) }
-    requires fits { Stays (slice_index counts.now) (λ vs. k * value (plain_sum a) vs + value (plain_sum b) vs) }
-    ensures some { (c : Affine) → result ≡ Some c → plain_sum c ≡ joined (scaled k (plain_sum a)) (plain_sum b) }
-    ensures room { (c : Affine) → result ≡ Some c → (can_scale k (plain_sum a) && can_join (scaled k (plain_sum a)) (plain_sum b)) ≡ true }
-    ensures none { result ≡ None → (can_scale k (plain_sum a) && can_join (scaled k (plain_sum a)) (plain_sum b)) ≡ false }
-    ensures value { (c : Affine) → result ≡ Some c → Agree (slice_index counts.now) (value (plain_sum c)) (λ vs. k * value (plain_sum a) vs + value (plain_sum b) vs) }
-    ensures affine { (c : Affine) → result ≡ Some c → IsAffine (length counts.now) (slice_index counts.now) (plain_sum c) }
+    requires affine { IsAffineBelow counts.now (plain_sum a) }
+    requires affine_too { IsAffineBelow counts.now (plain_sum b) }
+    requires fits { Stays (slice_index counts.now)
+        (λ vs. k * value (plain_sum a) vs + value (plain_sum b) vs) }
+    ensures some { ForSome result (λ c.
+        plain_sum c ≡ joined (scaled k (plain_sum a)) (plain_sum b)) }
+    ensures room { ForSome result (λ c. can_scale_and_join k (plain_sum a) (plain_sum b) ≡ true) }
+    ensures none { ForNone result (can_scale_and_join k (plain_sum a) (plain_sum b) ≡ false) }
+    ensures value { ForSome result (λ c. Agree (slice_index counts.now) (value (plain_sum c))
+        (λ vs. k * value (plain_sum a) vs + value (plain_sum b) vs)) }
+    ensures affine { ForSome result (λ c. IsAffineBelow counts.now (plain_sum c)) }
 {
     let multiple = scale_in_room(counts, k, a)?;
     join_in_room(counts, multiple, b)
@@ -317,14 +369,16 @@ fn scale_and_join(counts: &[u64], k: u64, a: Affine, b: Affine) -> Option<Affine
 
 // The sum of two sums, if its constant fits.
 fn join_in_room(counts: &[u64], a: Affine, b: Affine) -> Option<Affine>
-    requires affine { IsAffine (length counts.now) (slice_index counts.now) (plain_sum a) }
-    requires affine_too { IsAffine (length counts.now) (slice_index counts.now) (plain_sum b) }
-    requires fits { Stays (slice_index counts.now) (λ vs. value (plain_sum a) vs + value (plain_sum b) vs) }
-    ensures some { (c : Affine) → result ≡ Some c → plain_sum c ≡ joined (plain_sum a) (plain_sum b) }
-    ensures room { (c : Affine) → result ≡ Some c → can_join (plain_sum a) (plain_sum b) ≡ true }
-    ensures none { result ≡ None → can_join (plain_sum a) (plain_sum b) ≡ false }
-    ensures value { (c : Affine) → result ≡ Some c → Agree (slice_index counts.now) (value (plain_sum c)) (λ vs. value (plain_sum a) vs + value (plain_sum b) vs) }
-    ensures affine { (c : Affine) → result ≡ Some c → IsAffine (length counts.now) (slice_index counts.now) (plain_sum c) }
+    requires affine { IsAffineBelow counts.now (plain_sum a) }
+    requires affine_too { IsAffineBelow counts.now (plain_sum b) }
+    requires fits { Stays (slice_index counts.now)
+        (λ vs. value (plain_sum a) vs + value (plain_sum b) vs) }
+    ensures some { ForSome result (λ c. plain_sum c ≡ joined (plain_sum a) (plain_sum b)) }
+    ensures room { ForSome result (λ c. can_join (plain_sum a) (plain_sum b) ≡ true) }
+    ensures none { ForNone result (can_join (plain_sum a) (plain_sum b) ≡ false) }
+    ensures value { ForSome result (λ c. Agree (slice_index counts.now) (value (plain_sum c))
+        (λ vs. value (plain_sum a) vs + value (plain_sum b) vs)) }
+    ensures affine { ForSome result (λ c. IsAffineBelow counts.now (plain_sum c)) }
 {
     if constant_of(&a).checked_add(constant_of(&b)).is_none() {
         return None;

@@ -10,9 +10,9 @@ put_sides-requires-clause-stand c = can_stand c.args.sizes.0 c.args.sizes.1 c.ar
 pub put_sides-requires-clause-first : goal.put_sides-requires-clause-first
 put_sides-requires-clause-first c =
     subst (AreLifted c.args.path.now (c.args.sizes.0 + c.args.sizes.1) 0) (sym (twice-turned c.args.first.items c.reverse.new.self.items c.reverse.ensures.items))
-    (first_lifted c.args._room c.args.sizes.0 c.args.sizes.1 c.args.path.now (plain_passes c.args.first.items) c.requires.several c.requires.some.0 c.requires.high c.requires.first)
+    (first_lifted c.args.sizes.0 c.args.sizes.1 c.args.path.now (plain_passes c.args.first.items) c.requires.several c.requires.some.0 c.requires.high c.requires.first)
 
 pub put_sides-requires-clause-second : goal.put_sides-requires-clause-second
 put_sides-requires-clause-second c =
     subst (AreLifted c.args.path.now (c.args.sizes.0 + c.args.sizes.1) c.args.sizes.0) (sym (twice-turned c.args.second.items c.reverse-2.new.self.items c.reverse-2.ensures.items))
-    (second_lifted c.args._room c.args.sizes.0 c.args.sizes.1 c.args.path.now (plain_passes c.args.second.items) c.requires.several c.requires.some.0 c.requires.high c.requires.second)
+    (second_lifted c.args.sizes.0 c.args.sizes.1 c.args.path.now (plain_passes c.args.second.items) c.requires.several c.requires.some.0 c.requires.high c.requires.second)

@@ -1,8 +1,7 @@
-use Rattle.std.specs.Prelude.{◌≡◌, length, map, take}
-use Rattle.passes.specs.Merge.{place_sum, renumbered}
-use Rattle.perm_algebra.specs.Affine.{constant, joined}
+use Rattle.std.specs.Prelude.{◌≡◌, map, take}
 use Rattle.perm_algebra.specs.Views.{plain_sum}
+use Rattle.loop_nests.specs.Lifted.{raised}
 use Rattle.loop_nests.proofs.lifted.all_raised.Given as goal
 
 abbrev pub invariant-loop-sum : goal.invariant-loop-sum
-invariant-loop-sum l = map plain_sum l.places.items ≡ map (λ e. place_sum l.path l.size 0 (joined (constant l.before) (renumbered (length l.path) e))) (map plain_sum (take l.sum-index l.sums))
+invariant-loop-sum l = map plain_sum l.places.items ≡ map (raised l.path l.size l.before) (map plain_sum (take l.sum-index l.sums))

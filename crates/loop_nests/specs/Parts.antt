@@ -1,0 +1,11 @@
+-- The passes of a part, as they are put beside those of another.
+use Rattle.std.specs.Prelude.{ℕ, List}
+use Rattle.passes.specs.Limits.{AreWithin}
+use Rattle.passes.specs.Nest.{PlainNest}
+use Rattle.loop_nests.specs.Ready.{AreReadyPasses}
+
+-- passes on n words, whose places are of so many parts at most and within the limits, and of words
+pub record IsPart (n : ℕ) (ps : List (List PlainNest)) : Type 0 where
+  pub room : ℕ
+  pub within : AreWithin room n ps
+  pub ready : AreReadyPasses ps
