@@ -60,7 +60,7 @@ ready-at k A view [] i x h below is = absurd (omega (arith, below))
 ready-at k A view (y ∷ ys) zero x h below is = subst (λ z. IsReady k (view z)) (sym is) h.0
 ready-at k A view (y ∷ ys) (suc i) x h below is = ready-at k A view ys i x h.1 (omega (arith, below)) is
 
-all-at : (A B : Type 0) (g : B → Bool) (view : A → B) (xs : List A) (i : ℕ) (x : A) → list_all g (map view xs) ≡ true → i < length xs → x ≡ get_or xs i x → g (view x) ≡ true
+pub all-at : (A B : Type 0) (g : B → Bool) (view : A → B) (xs : List A) (i : ℕ) (x : A) → list_all g (map view xs) ≡ true → i < length xs → x ≡ get_or xs i x → g (view x) ≡ true
 all-at A B g view [] i x h below is = absurd (omega (arith, below))
 all-at A B g view (y ∷ ys) zero x h below is = ap (λ z. g (view z)) is ∙ and-left (g (view y)) _ h
 all-at A B g view (y ∷ ys) (suc i) x h below is = all-at A B g view ys i x (and-right (g (view y)) _ h) (omega (arith, below)) is
@@ -116,6 +116,3 @@ grown A C X Y test f g h before after a bs i b below item is begun holds same =
 -- the place that a function makes of one, within the limits
 pub leads : (room n : ℕ) (cs : ℕ → ℕ) (f : Mapping) (e s : Sum) → has_room cs f e ≡ true → is_limited room n cs s ≡ true → s ≡ simplified cs f e → can_lead room n cs f e ≡ true
 leads room n cs f e s roomy within is = ap (λ b. b && is_limited room n cs (simplified cs f e)) roomy ∙ ap (is_limited room n cs) (sym is) ∙ within
-
-pub alone : (A : Type 0) (x y : A) → x ∷ [] ≡ y ∷ [] → x ≡ y
-alone A x y h = ap (λ xs. get_or xs 0 x) h

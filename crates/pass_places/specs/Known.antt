@@ -1,11 +1,15 @@
 -- What is known of a permutation and of a pass that takes it: each number on the way is a word.
-use Rattle.std.specs.Prelude.{◌≡◌, ℕ, true, List, [], ◌∷◌}
+use Rattle.std.specs.Prelude.{◌≡◌, ℕ, ◌^◌, ◌≤◌, true, List, [], ◌∷◌}
 use Rattle.index_fn.specs.Mapping.{Mapping}
-use Rattle.passes.specs.Good.{IsMove}
+use Rattle.passes.specs.Good.{IsFormed, IsMove}
 use Rattle.passes.specs.Merge.{is_within}
 use Rattle.passes.specs.Nest.{PlainNest}
-use Rattle.passes.specs.Words.{HasNumbers}
+use Rattle.passes.specs.Words.{HasNumbers, IsDefinedBelow}
 use Rattle.loop_nests.specs.Ready.{IsReadyPass}
+
+-- a function of the places of n words, which leads from each of them
+abbrev pub IsPlaceFunction : ℕ → Mapping → Type 0
+IsPlaceFunction n f = (n ≤ 2 ^ 20) × IsFormed f × IsDefinedBelow n f
 
 -- a permutation that waits
 pub record IsStep (n : ℕ) (f : Mapping) : Type 0 where

@@ -1,3 +1,6 @@
 pub mod Views
 pub mod Known
-pub mod Tests
+pub mod Sums
+pub mod Sides
+pub mod Changes
+pub mod Multiplied

@@ -1,10 +1,16 @@
 -- What the code's places stand for.
 use Rattle.std.specs.Prelude.{List, map, Some, Vec}
 use Rattle.std.proofs.Common.{Global}
+use Rattle.index_fn.specs.Index.{mapping_of}
+use Rattle.index_fn.specs.Mapping.{Mapping}
+use Rattle.index_fn.specs.declared.Index.{Index}
 use Rattle.passes.specs.Nest.{PlainFactors, PlainNest}
 use Rattle.perm_algebra.specs.Affine.{Sum}
 use Rattle.perm_algebra.specs.Views.{plain_sum}
 use Rattle.perm_algebra.specs.declared.Affine.{Affine}
+
+abbrev pub mappings_of : List Index → List Mapping
+mappings_of fs = map mapping_of fs
 
 -- the same nest, with a diagonal after it: its factors, and their places
 abbrev pub multiplied_by : PlainNest → PlainFactors → List Sum → PlainNest

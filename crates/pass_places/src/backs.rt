@@ -1,5 +1,5 @@
 // Back past permutations.
-ghost use Rattle.std.specs.Prelude.{◌≡◌, ◌*◌, ◌%◌, ◌^◌, ◌<◌, ◌≤◌, ◌==◌, ◌&&◌, IfOk, map};
+ghost use Rattle.std.specs.Prelude.{◌≡◌, ◌*◌, ◌%◌, ◌^◌, ◌<◌, ◌≤◌, ◌==◌, ◌&&◌, IfOk};
 ghost use Rattle.index_fn.specs.Index.{mapping_of};
 ghost use Rattle.index_fn.specs.Mapping.{IsWellFormed, ThomasIn};
 ghost use Rattle.passes.specs.Merge.{back_of, backs_of, factor_places, inverse_below, unit_below};
@@ -8,6 +8,7 @@ ghost use Rattle.passes.specs.Views.{plain_factors};
 ghost use Rattle.passes.specs.Room.{HasCount, HasRoom};
 ghost use Rattle.tensor_paths.specs.Path.{size_under};
 ghost use Rattle.pass_places.specs.Known.{AreSteps};
+ghost use Rattle.pass_places.specs.Views.{mappings_of};
 ghost use Rattle.passes.specs.Words.{HasSmallFactors};
 
 use index_fn::Index;
@@ -126,7 +127,7 @@ fn count_in(factors: &Factors) -> u64
     }
 }
 
-/// The functions that lead from a place of the last pass, past the gathers that wait, to its factor.
+/// The functions that lead from a place of the last pass to its factor, past the gathers that wait.
 #[tactic(auto, using(passes::proofs::Fitting::part_room))]
 pub fn factor_places(
     alloc: Global,
@@ -135,10 +136,11 @@ pub fn factor_places(
     path: &[Tensor],
     factors: &Factors,
 ) -> Result<Vec<Index>, NoMemory>
-    requires waiting { AreSteps size (map mapping_of waiting.now) }
+    requires waiting { AreSteps size (mappings_of waiting.now) }
     requires some { 0 < size_under path.now (factor_count (plain_factors factors.now)) }
     requires high { size_under path.now (factor_count (plain_factors factors.now)) ≤ 2 ^ 20 }
-    ensures { IfOk result (λ fs. map mapping_of fs.items ≡ factor_places (map mapping_of waiting.now) path.now (plain_factors factors.now)) }
+    ensures { IfOk result (λ fs. mappings_of fs.items
+        ≡ factor_places (mappings_of waiting.now) path.now (plain_factors factors.now)) }
 {
     let mut places = backs_of(alloc, size, waiting)?;
     let count = factor_count(path, factors);
@@ -149,8 +151,8 @@ pub fn factor_places(
 
 // Back past the gathers that wait, the earliest first.
 fn backs_of(alloc: Global, size: u64, waiting: &[Index]) -> Result<Vec<Index>, NoMemory>
-    requires { AreSteps size (map mapping_of waiting.now) }
-    ensures { IfOk result (λ fs. map mapping_of fs.items ≡ backs_of (map mapping_of waiting.now)) }
+    requires { AreSteps size (mappings_of waiting.now) }
+    ensures { IfOk result (λ fs. mappings_of fs.items ≡ backs_of (mappings_of waiting.now)) }
 {
     match waiting.split_first() {
         None => Ok(Vec::new(alloc)),

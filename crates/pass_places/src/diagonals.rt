@@ -1,15 +1,19 @@
 // A diagonal in a pass, where each place on the way to its factors is within the limits.
-ghost use Rattle.std.specs.Prelude.{◌≡◌, ◌^◌, ◌≤◌, ◌∷◌, ◌&&◌, [], IfOk, None, Some, Vec, false, length, map, slice_index, true};
-ghost use Rattle.std.specs.List.{list_all};
-ghost use Rattle.index_fn.specs.Index.{mapping_of};
-ghost use Rattle.passes.specs.Merge.{all_simplified, can_multiply, carries_sum, is_free, is_limited, limits_of, multiplied};
+ghost use Rattle.std.specs.Prelude.{◌≡◌, ◌^◌, ◌≤◌, [], IfOk, false, length, map, true};
+ghost use Rattle.passes.specs.Merge.{can_multiply, multiplied};
 ghost use Rattle.passes.specs.Nest.{factor_count};
 ghost use Rattle.passes.specs.Views.{plain_factors, plain_nest};
 ghost use Rattle.perm_algebra.specs.Views.{plain_sum};
 ghost use Rattle.sum_limits.specs.Leading.{CanCarry};
+ghost use Rattle.sum_limits.specs.Outcomes.{IfMade, IfRefused};
 ghost use Rattle.loop_nests.specs.Ready.{AreReady, IsReadyNest};
+ghost use Rattle.loop_nests.specs.Views.{plain_pass};
 ghost use Rattle.pass_places.specs.Known.{IsKnownPass};
-ghost use Rattle.pass_places.specs.Views.{multiplied_by};
+ghost use Rattle.pass_places.specs.Multiplied.{functions_of, nest_can_multiply, nest_multiplied, stores_can_carry};
+ghost use Rattle.pass_places.specs.Sides.{IsSideWithin};
+ghost use Rattle.pass_places.specs.Sums.{are_limited, can_carry_all, carried_by};
+ghost use Rattle.pass_places.specs.Views.{mappings_of, multiplied_by, plain_sums};
+ghost use Rattle.pass_places.specs.declared.access.Access.TheVariants.{Stores};
 
 use crate::places::limits_of;
 use index_fn::Index;
@@ -38,12 +42,18 @@ fn carried_sums(
     counts: &[u64],
     limits: Limits,
 ) -> Result<Option<Vec<Affine>>, NoMemory>
-    requires can { CanCarry limits.size (map mapping_of functions.now) }
+    requires can { CanCarry limits.size (mappings_of functions.now) }
     requires size { limits.size ≤ 2 ^ 20 }
     requires ready { AreReady (length counts.now) (map plain_sum sums.now) }
-    requires within { list_all (is_limited limits.room limits.size (slice_index counts.now)) (map plain_sum sums.now) ≡ true }
-    ensures some { IfOk result (λ r. (es : Vec Affine Global) → r ≡ Some es → (list_all (carries_sum limits.room limits.size count (slice_index counts.now) (map mapping_of functions.now)) (map plain_sum sums.now) ≡ true) × (map plain_sum es.items ≡ map (all_simplified (slice_index counts.now) (map mapping_of functions.now)) (map plain_sum sums.now))) }
-    ensures none { IfOk result (λ r. r ≡ None → list_all (carries_sum limits.room limits.size count (slice_index counts.now) (map mapping_of functions.now)) (map plain_sum sums.now) ≡ false) }
+    requires within { are_limited limits.room limits.size counts.now (map plain_sum sums.now)
+        ≡ true }
+    ensures some { IfMade result (λ places.
+        (can_carry_all limits.room limits.size count counts.now (mappings_of functions.now)
+        (map plain_sum sums.now) ≡ true)
+        × (plain_sums places
+        ≡ carried_by counts.now (mappings_of functions.now) (map plain_sum sums.now))) }
+    ensures none { IfRefused result (can_carry_all limits.room limits.size count counts.now
+        (mappings_of functions.now) (map plain_sum sums.now) ≡ false) }
 {
     let mut places = Vec::with_capacity(alloc, sums.len())?;
     for sum in sums {
@@ -62,7 +72,8 @@ fn multiplied_by(
     places: Vec<Affine>,
     nest: &Nest,
 ) -> Result<Nest, NoMemory>
-    ensures { IfOk result (λ z. plain_nest z ≡ multiplied_by (plain_nest nest.now) (plain_factors factors.now) (map plain_sum places.items)) }
+    ensures { IfOk result (λ z. plain_nest z
+        ≡ multiplied_by (plain_nest nest.now) (plain_factors factors.now) (plain_sums places)) }
 {
     let factors = copied_factors(alloc, factors)?;
     let mut other = copied_nest(alloc, nest)?;
@@ -77,12 +88,17 @@ fn multiplied_anew(
     nest: &Nest,
     limits: Limits,
 ) -> Result<Option<Nest>, NoMemory>
-    requires can { CanCarry limits.size (map mapping_of diagonal.now.places.items) }
+    requires can { CanCarry limits.size (functions_of diagonal.now) }
     requires size { limits.size ≤ 2 ^ 20 }
     requires ready { IsReadyNest (plain_nest nest.now) }
-    requires within { list_all (is_limited limits.room limits.size (limits_of (plain_nest nest.now))) (plain_nest nest.now).scatters ≡ true }
-    ensures some { IfOk result (λ r. (z : Nest) → r ≡ Some z → ((list_all (carries_sum limits.room limits.size diagonal.now.count (limits_of (plain_nest nest.now)) (map mapping_of diagonal.now.places.items)) (plain_nest nest.now).scatters) ≡ true) × (plain_nest z ∷ [] ≡ multiplied (plain_factors diagonal.now.factors) (map mapping_of diagonal.now.places.items) (plain_nest nest.now ∷ []))) }
-    ensures none { IfOk result (λ r. r ≡ None → (list_all (carries_sum limits.room limits.size diagonal.now.count (limits_of (plain_nest nest.now)) (map mapping_of diagonal.now.places.items)) (plain_nest nest.now).scatters) ≡ false) }
+    requires within { IsSideWithin Stores limits.room limits.size (plain_nest nest.now) }
+    ensures some { IfMade result (λ z.
+        (stores_can_carry limits.room limits.size diagonal.now.count
+        (functions_of diagonal.now) (plain_nest nest.now) ≡ true)
+        × (plain_nest z ≡ nest_multiplied (plain_factors diagonal.now.factors)
+        (functions_of diagonal.now) (plain_nest nest.now))) }
+    ensures none { IfRefused result (stores_can_carry limits.room limits.size
+        diagonal.now.count (functions_of diagonal.now) (plain_nest nest.now) ≡ false) }
 {
     let counts = limits_of(alloc, nest)?;
     let functions = diagonal.places.as_slice();
@@ -103,12 +119,17 @@ fn multiplied_nest(
     nest: &Nest,
     limits: Limits,
 ) -> Result<Option<Nest>, NoMemory>
-    requires can { CanCarry limits.size (map mapping_of diagonal.now.places.items) }
+    requires can { CanCarry limits.size (functions_of diagonal.now) }
     requires size { limits.size ≤ 2 ^ 20 }
     requires ready { IsReadyNest (plain_nest nest.now) }
-    requires within { list_all (is_limited limits.room limits.size (limits_of (plain_nest nest.now))) (plain_nest nest.now).scatters ≡ true }
-    ensures some { IfOk result (λ r. (z : Nest) → r ≡ Some z → ((is_free (plain_nest nest.now).multiplier && list_all (carries_sum limits.room limits.size diagonal.now.count (limits_of (plain_nest nest.now)) (map mapping_of diagonal.now.places.items)) (plain_nest nest.now).scatters) ≡ true) × (plain_nest z ∷ [] ≡ multiplied (plain_factors diagonal.now.factors) (map mapping_of diagonal.now.places.items) (plain_nest nest.now ∷ []))) }
-    ensures none { IfOk result (λ r. r ≡ None → (is_free (plain_nest nest.now).multiplier && list_all (carries_sum limits.room limits.size diagonal.now.count (limits_of (plain_nest nest.now)) (map mapping_of diagonal.now.places.items)) (plain_nest nest.now).scatters) ≡ false) }
+    requires within { IsSideWithin Stores limits.room limits.size (plain_nest nest.now) }
+    ensures some { IfMade result (λ z.
+        (nest_can_multiply limits.room limits.size diagonal.now.count
+        (functions_of diagonal.now) (plain_nest nest.now) ≡ true)
+        × (plain_nest z ≡ nest_multiplied (plain_factors diagonal.now.factors)
+        (functions_of diagonal.now) (plain_nest nest.now))) }
+    ensures none { IfRefused result (nest_can_multiply limits.room limits.size
+        diagonal.now.count (functions_of diagonal.now) (plain_nest nest.now) ≡ false) }
 {
     match &nest.multiplier {
         Some(_) => Ok(None),
@@ -126,12 +147,18 @@ pub fn multiplied(
     nests: &[Nest],
     limits: Limits,
 ) -> Result<Option<Vec<Nest>>, NoMemory>
-    requires can { CanCarry limits.size (map mapping_of diagonal.now.places.items) }
+    requires can { CanCarry limits.size (functions_of diagonal.now) }
     requires count { diagonal.now.count ≡ factor_count (plain_factors diagonal.now.factors) }
     requires size { limits.size ≤ 2 ^ 20 }
     requires known { IsKnownPass limits.room limits.size (map plain_nest nests.now) }
-    ensures some { IfOk result (λ r. (zs : Vec Nest Global) → r ≡ Some zs → (can_multiply limits.room limits.size (plain_factors diagonal.now.factors) (map mapping_of diagonal.now.places.items) (map plain_nest nests.now) ≡ true) × (map plain_nest zs.items ≡ multiplied (plain_factors diagonal.now.factors) (map mapping_of diagonal.now.places.items) (map plain_nest nests.now))) }
-    ensures none { IfOk result (λ r. r ≡ None → can_multiply limits.room limits.size (plain_factors diagonal.now.factors) (map mapping_of diagonal.now.places.items) (map plain_nest nests.now) ≡ false) }
+    ensures some { IfMade result (λ zs.
+        (can_multiply limits.room limits.size (plain_factors diagonal.now.factors)
+        (functions_of diagonal.now) (map plain_nest nests.now) ≡ true)
+        × (plain_pass zs ≡ multiplied (plain_factors diagonal.now.factors)
+        (functions_of diagonal.now) (map plain_nest nests.now))) }
+    ensures none { IfRefused result
+        (can_multiply limits.room limits.size (plain_factors diagonal.now.factors)
+        (functions_of diagonal.now) (map plain_nest nests.now) ≡ false) }
 {
     let mut changed = Vec::new(alloc);
     for nest in nests {
@@ -149,7 +176,8 @@ pub fn multiplied_in_order(
     factors: &Factors,
     nests: &[Nest],
 ) -> Result<Vec<Nest>, NoMemory>
-    ensures { IfOk result (λ zs. map plain_nest zs.items ≡ multiplied (plain_factors factors.now) [] (map plain_nest nests.now)) }
+    ensures { IfOk result (λ zs.
+        plain_pass zs ≡ multiplied (plain_factors factors.now) [] (map plain_nest nests.now)) }
 {
     let mut changed = Vec::new(alloc);
     for nest in nests {
@@ -159,7 +187,8 @@ pub fn multiplied_in_order(
 }
 
 fn multiplied_by_place(alloc: Global, factors: &Factors, nest: &Nest) -> Result<Nest, NoMemory>
-    ensures { IfOk result (λ z. plain_nest z ∷ [] ≡ multiplied (plain_factors factors.now) [] (plain_nest nest.now ∷ [])) }
+    ensures { IfOk result (λ z.
+        plain_nest z ≡ nest_multiplied (plain_factors factors.now) [] (plain_nest nest.now)) }
 {
     let places = copied_sums(alloc, &nest.scatters)?;
     let other = multiplied_by(alloc, factors, places, nest)?;

@@ -1,6 +1,7 @@
 //! Permutations and diagonals in the places of a pass, where these stay within the limits of programs.
 #![tactic(auto)]
 
+mod access;
 mod backs;
 mod diagonals;
 mod places;

@@ -1,5 +1,6 @@
 pub mod Readies
 pub mod States
 pub mod Merged
+pub mod Parts
 pub mod Depths
 pub mod Whole

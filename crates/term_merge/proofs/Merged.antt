@@ -1,5 +1,5 @@
 -- A term leaves a state of merging whose numbers are words.
-use Rattle.std.proofs.Common.{◌≡◌, ℕ, ◌+◌, ◌-◌, ◌^◌, ◌<◌, ◌≤◌, arith, refl, sym, ap, ◌∙◌, subst, List, [], ◌∷◌, ◌++◌, length}
+use Rattle.std.proofs.Common.{◌≡◌, ℕ, ◌+◌, ◌-◌, ◌^◌, ◌<◌, ◌≤◌, arith, refl, sym, ap, subst, List, [], ◌∷◌, ◌++◌, length}
 use Rattle.std.specs.Prelude.{map}
 use Rattle.std.proofs.Math.Nat.{mul-le-mul_right}
 use Rattle.index_fn.specs.Mapping.{Mapping}
@@ -128,24 +128,3 @@ pub passes-last : (room n : ℕ) (st : Merging) (A : Type 0) (view : A → List 
 passes-last room n st A view [] q = refl
 passes-last room n st A view (p ∷ []) q = refl
 passes-last room n st A view (p ∷ r ∷ qs) q = ap (λ (b : Merging). state_of [] (view p ∷ b.passes)) (passes-last room n st A view (r ∷ qs) q)
-
--- ---- the parts of a direct sum
-
-pub rooms : (room n r : ℕ) (path : Path) (k l : ℕ) → HasRoom room n → AreSeveral path → 0 < k → 0 < l → size_under path (k + l) ≡ n → r ≡ room - length path → HasRoom r k × HasRoom r l
-rooms room n r path k l h several left right size is =
-    let inner = inner-room room n path k l h several left right size in (subst (λ s. HasRoom s k) (sym is) inner.left, subst (λ s. HasRoom s l) (sym is) inner.right)
-
-pub few-tensors : (room n : ℕ) (path : Path) (k l : ℕ) → HasRoom room n → AreSeveral path → 0 < k → 0 < l → size_under path (k + l) ≡ n → length path ≤ room
-few-tensors room n path k l h several left right size = let inner = inner-room room n path k l h several left right size in omega (arith, inner.short)
-
-pub part-known : (r k : ℕ) (start st : Merging) (a : PlainTerm) → HasRoom r k → IsGood k a → HasSeveral a → AreWords k a → start ≡ nothing → st ≡ merged (most r) k start a → IsKnown r k st
-part-known r k start st a h good several words s e = subst (IsKnown r k) (sym (e ∙ ap (λ b. merged (most r) k b a) s)) (merged-known r k nothing a h good several words (nothing-known r k))
-
-pub part-ended : (r k : ℕ) (st : Merging) (ps : List (List PlainNest)) → HasRoom r k → IsKnown r k st → ps ≡ ended (most r) k (from_end st.waiting) st.passes → AreKnownPasses r k ps
-part-ended r k st ps h known is = subst (AreKnownPasses r k) (sym is) (known-ended r k h (from_end st.waiting) st.passes (steps-end k st.waiting known.waiting) known.passes)
-
-pub known-both : (room n r : ℕ) (path : Path) (k l : ℕ) (ps qs both : List (List PlainNest)) → HasRoom room n → AreSeveral path → 0 < k → 0 < l → size_under path (k + l) ≡ n → r ≡ room - length path →
-    AreKnownPasses r k ps → AreKnownPasses r l qs → both ≡ sides path k l ps qs → AreKnownPasses room n both
-known-both room n r path k l ps qs both h several left right size is p q e =
-    subst (AreKnownPasses room n) (sym e)
-    (known-sides room n path k l ps qs h several (inner-room room n path k l h several left right size) size (subst (λ s. AreKnownPasses s k ps) is p) (subst (λ s. AreKnownPasses s l qs) is q))

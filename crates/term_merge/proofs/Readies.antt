@@ -1,15 +1,13 @@
 -- Copy passes, and passes that take a function, are of words.
-use Rattle.std.proofs.Common.{◌≡◌, ℕ, ◌-◌, ◌^◌, ◌<◌, ◌≤◌, true, false, arith, sym, ap, List, [], ◌∷◌, ◌++◌, length, subst}
-use Rattle.std.specs.Prelude.{map, if◌then◌else◌}
+use Rattle.std.proofs.Common.{◌≡◌, ℕ, ◌-◌, ◌^◌, ◌<◌, ◌≤◌, true, false, arith, sym, ap, List, [], ◌∷◌, ◌++◌, subst}
+use Rattle.std.specs.Prelude.{if◌then◌else◌}
 use Rattle.index_fn.specs.Mapping.{Mapping, at}
-use Rattle.operators.specs.Sum.{list_below}
-use Rattle.perm_algebra.specs.Affine.{constant}
 use Rattle.passes.specs.Good.{IsFormed}
-use Rattle.passes.specs.Merge.{Room, most, can_gather, can_scatter, gathered, scattered, new_nest, copying, copy_by, from_end}
+use Rattle.passes.specs.Merge.{Room, most, can_gather, can_scatter, gathered, scattered, copying, copy_by, from_end}
 use Rattle.passes.specs.Nest.{PlainNest}
-use Rattle.passes.specs.Work.{copy}
 use Rattle.passes.proofs.Limited.{few-round, round-word, table-within, copying-within}
 use Rattle.passes.proofs.Walk.{chosen}
+use Rattle.loop_nests.specs.NewNests.{copied_by_word}
 use Rattle.loop_nests.proofs.Readies.{ready-copying, ready-words}
 use Rattle.pass_places.specs.Known.{IsKnownPass, IsStep, AreSteps}
 use Rattle.pass_places.proofs.Passes.{known-gathered, known-scattered}
@@ -25,14 +23,14 @@ low room n h = round-word (64 - room) n h.round
 
 -- ---- copies
 
-pub copy-words : (room : Room) (n : ℕ) (f : Mapping) → can_gather room n f (copying n) ≡ false → new_nest [] (copy (length (list_below n (at f)))) (map constant (list_below n (at f))) ∷ [] ≡ copy_by room n f
-copy-words room n f can = sym (ap (λ b. if b then gathered f (copying n) else new_nest [] (copy (length (list_below n (at f)))) (map constant (list_below n (at f))) ∷ []) can)
+pub copy-words : (room : Room) (n : ℕ) (f : Mapping) → can_gather room n f (copying n) ≡ false → copied_by_word n f ≡ copy_by room n f
+copy-words room n f can = sym (ap (λ b. if b then gathered f (copying n) else copied_by_word n f) can)
 
 module _ (room n : ℕ) (h : HasRoom room n) where
   pub known-copying : IsKnownPass room n (copying n)
   known-copying = record { within = copying-within room n h.some (low room n h) (omega (arith, deep room n h)); ready = ready-copying n }
 
-  known-words : (f : Mapping) → ((i : ℕ) → i < n → at f i < n) → IsKnownPass room n (new_nest [] (copy (length (list_below n (at f)))) (map constant (list_below n (at f))) ∷ [])
+  known-words : (f : Mapping) → ((i : ℕ) → i < n → at f i < n) → IsKnownPass room n (copied_by_word n f)
   known-words f stay = record { within = table-within room n h.some (low room n h) (omega (arith, deep room n h)) f stay; ready = ready-words n f }
 
   pub known-by : (f : Mapping) → IsStep n f → IsKnownPass room n (copy_by (most room) n f)

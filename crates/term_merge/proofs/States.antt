@@ -7,7 +7,7 @@ use Rattle.perm_algebra.specs.Room.{IsReady}
 use Rattle.perm_algebra.proofs.Counted.{ready-simplified}
 use Rattle.passes.specs.Good.{IsFormed}
 use Rattle.passes.specs.Limits.{HasSeveral}
-use Rattle.passes.specs.Merge.{most, Merging, Taking, limits_of, all_simplified, can_gather, can_scatter, can_multiply, gathered, multiplied, suits, copying, new_nest, items_in, back_of, take_gathers, copy_by, copies_before, settled, with_pass, factor_places, with_copy, with_diagonal, with_scatter, is_within}
+use Rattle.passes.specs.Merge.{most, Merging, Taking, limits_of, all_simplified, can_gather, can_scatter, can_multiply, gathered, multiplied, suits, copying, items_in, back_of, take_gathers, copy_by, copies_before, settled, with_pass, factor_places, with_copy, with_diagonal, with_scatter, is_within}
 use Rattle.passes.specs.Nest.{PlainFactors, spread, factor_count, PlainNest}
 use Rattle.passes.specs.Term.{nest, move}
 use Rattle.passes.specs.Work.{PlainWork, copy, work_size, HasWords}
@@ -18,6 +18,7 @@ use Rattle.passes.proofs.Within.{within-multiplied}
 use Rattle.sum_limits.specs.Leading.{CanCarry}
 use Rattle.tensor_paths.specs.Path.{Path, size_under}
 use Rattle.term_merge.specs.Known.{IsGood, AreKnownPasses, HasRoom}
+use Rattle.loop_nests.specs.NewNests.{moved_nest, natural_nest}
 use Rattle.loop_nests.specs.Ready.{AreReady, IsReadyPass}
 use Rattle.pass_places.specs.Known.{IsKnownPass, IsStep, AreSteps}
 use Rattle.pass_places.proofs.Carries.{carry-places}
@@ -32,21 +33,21 @@ module _ (room n : ℕ) (h : HasRoom room n) where
   short path d several item size =
       let inner = few-round (64 - room + length path) d item (round-inner path (64 - room) d several.0 (subst (IsRound (64 - room)) (sym size) h.round)) in omega (arith, inner, h.most)
 
-  pub known-nest : (path : Path) (w : PlainWork) → IsGood n (nest path w) → HasSeveral (nest path w) → HasWords w → IsKnownPass room n (new_nest path w (items_in w (length path)) ∷ [])
+  pub known-nest : (path : Path) (w : PlainWork) → IsGood n (nest path w) → HasSeveral (nest path w) → HasWords w → IsKnownPass room n (natural_nest path w ∷ [])
   known-nest path w good several words =
       let item = inner_positive path (work_size w) (subst (λ z. 0 < z) (sym good.term.1) h.some) in
       let high : size_under path (work_size w) ≤ 2 ^ 20 = omega (arith, good.term.1, low room n h) in
       record {
-        within = subst (λ z. is_within room z (new_nest path w (items_in w (length path)) ∷ []) ≡ true) good.term.1 (new-within room good.lanes path w good.term.0 several.1 several.0 item high (short path (work_size w) (several.0, tt) item good.term.1));
+        within = subst (λ z. is_within room z (natural_nest path w ∷ []) ≡ true) good.term.1 (new-within room good.lanes path w good.term.0 several.1 several.0 item high (short path (work_size w) (several.0, tt) item good.term.1));
         ready = ready-new path w (items_in w (length path)) words (ready-in (length path) w item);
       }
 
-  pub known-move : (path : Path) (ks : List ℕ) → IsGood n (move path ks) → HasSeveral (move path ks) → IsKnownPass room n (new_nest path (copy (length ks)) (map constant ks) ∷ [])
+  pub known-move : (path : Path) (ks : List ℕ) → IsGood n (move path ks) → HasSeveral (move path ks) → IsKnownPass room n (moved_nest path ks ∷ [])
   known-move path ks good several =
       let item = inner_positive path (length ks) (subst (λ z. 0 < z) (sym good.term.1) h.some) in
       let high : size_under path (length ks) ≤ 2 ^ 20 = omega (arith, good.term.1, low room n h) in
       record {
-        within = subst (λ z. is_within room z (new_nest path (copy (length ks)) (map constant ks) ∷ []) ≡ true) good.term.1 (moved-within room path ks several item high (short path (length ks) (several, tt) item good.term.1) good.term.0);
+        within = subst (λ z. is_within room z (moved_nest path ks ∷ []) ≡ true) good.term.1 (moved-within room path ks several item high (short path (length ks) (several, tt) item good.term.1) good.term.0);
         ready = ready-new path (copy (length ks)) (map constant ks) tt (ready-constants (length path + 2) ks);
       }
 

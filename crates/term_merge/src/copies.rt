@@ -1,11 +1,12 @@
 // Gathers that wait: a pass takes them, and copy passes take what it does not.
-ghost use Rattle.std.specs.Prelude.{◌≡◌, ◌∷◌, ◌++◌, IfOk, map};
+ghost use Rattle.std.specs.Prelude.{◌≡◌, ◌∷◌, ◌++◌, IfOk};
 ghost use Rattle.index_fn.specs.Index.{mapping_of};
-ghost use Rattle.passes.specs.Merge.{copies_before, copy_by, most, settled, take_gathers};
-ghost use Rattle.passes.specs.Views.{plain_nest};
+ghost use Rattle.passes.specs.Merge.{copies_before, copy_by, most, settled};
 ghost use Rattle.pass_places.specs.Known.{AreSteps, IsKnownPass, IsStep};
+ghost use Rattle.pass_places.specs.Views.{mappings_of};
 ghost use Rattle.term_merge.specs.Known.{HasRoom};
-ghost use Rattle.loop_nests.specs.Views.{plain_passes};
+ghost use Rattle.term_merge.specs.Taken.{taken};
+ghost use Rattle.loop_nests.specs.Views.{plain_pass, plain_passes};
 
 use index_fn::Index;
 use loop_nests::{copying, copying_words};
@@ -20,7 +21,8 @@ pub(crate) fn with_first(
     pass: Vec<Nest>,
     passes: Vec<Vec<Nest>>,
 ) -> Result<Vec<Vec<Nest>>, NoMemory>
-    ensures { IfOk result (λ ps. plain_passes ps.items ≡ map plain_nest pass.items ∷ plain_passes passes.items) }
+    ensures { IfOk result (λ ps.
+        plain_passes ps.items ≡ plain_pass pass ∷ plain_passes passes.items) }
 {
     let mut passes = passes;
     passes.insert(0, pass)?;
@@ -32,7 +34,8 @@ pub(crate) fn with_before(
     passes: Vec<Vec<Nest>>,
     before: Vec<Vec<Nest>>,
 ) -> Result<Vec<Vec<Nest>>, NoMemory>
-    ensures { IfOk result (λ ps. plain_passes ps.items ≡ plain_passes passes.items ++ plain_passes before.items) }
+    ensures { IfOk result (λ ps.
+        plain_passes ps.items ≡ plain_passes passes.items ++ plain_passes before.items) }
 {
     let mut passes = passes;
     let mut before = before;
@@ -44,7 +47,8 @@ pub(crate) fn with_before(
 fn copy_by(alloc: Global, f: &Index, limits: Limits) -> Result<Vec<Nest>, NoMemory>
     requires room { HasRoom limits.room limits.size }
     requires step { IsStep limits.size (mapping_of f.now) }
-    ensures { IfOk result (λ zs. map plain_nest zs.items ≡ copy_by (most limits.room) limits.size (mapping_of f.now)) }
+    ensures { IfOk result (λ zs.
+        plain_pass zs ≡ copy_by (most limits.room) limits.size (mapping_of f.now)) }
 {
     let natural = copying(alloc, limits.size)?;
     match gathered(alloc, f, natural, limits)? {
@@ -64,9 +68,10 @@ fn copies_before(
     limits: Limits,
 ) -> Result<Vec<Vec<Nest>>, NoMemory>
     requires room { HasRoom limits.room limits.size }
-    requires known { IsKnownPass limits.room limits.size (map plain_nest pass.items) }
-    requires steps { AreSteps limits.size (map mapping_of waiting.now) }
-    ensures { IfOk result (λ ps. plain_passes ps.items ≡ copies_before (most limits.room) limits.size (map plain_nest pass.items) (map mapping_of waiting.now)) }
+    requires known { IsKnownPass limits.room limits.size (plain_pass pass) }
+    requires steps { AreSteps limits.size (mappings_of waiting.now) }
+    ensures { IfOk result (λ ps. plain_passes ps.items
+        ≡ copies_before (most limits.room) limits.size (plain_pass pass) (mappings_of waiting.now)) }
 {
     match waiting.split_first() {
         None => {
@@ -95,8 +100,9 @@ pub(crate) fn settled(
     limits: Limits,
 ) -> Result<Vec<Vec<Nest>>, NoMemory>
     requires room { HasRoom limits.room limits.size }
-    requires steps { AreSteps limits.size (map mapping_of waiting.now) }
-    ensures { IfOk result (λ ps. plain_passes ps.items ≡ settled (most limits.room) limits.size (map mapping_of waiting.now)) }
+    requires steps { AreSteps limits.size (mappings_of waiting.now) }
+    ensures { IfOk result (λ ps. plain_passes ps.items
+        ≡ settled (most limits.room) limits.size (mappings_of waiting.now)) }
 {
     match waiting.split_first() {
         None => Ok(Vec::new(alloc)),
@@ -116,9 +122,10 @@ pub(crate) fn taken(
     limits: Limits,
 ) -> Result<Vec<Vec<Nest>>, NoMemory>
     requires room { HasRoom limits.room limits.size }
-    requires known { IsKnownPass limits.room limits.size (map plain_nest pass.items) }
-    requires steps { AreSteps limits.size (map mapping_of waiting.now) }
-    ensures { IfOk result (λ ps. plain_passes ps.items ≡ (take_gathers (most limits.room) limits.size (map plain_nest pass.items) (map mapping_of waiting.now)).pass ∷ settled (most limits.room) limits.size (take_gathers (most limits.room) limits.size (map plain_nest pass.items) (map mapping_of waiting.now)).left) }
+    requires known { IsKnownPass limits.room limits.size (plain_pass pass) }
+    requires steps { AreSteps limits.size (mappings_of waiting.now) }
+    ensures { IfOk result (λ ps. plain_passes ps.items
+        ≡ taken (most limits.room) limits.size (plain_pass pass) (mappings_of waiting.now)) }
 {
     match waiting.split_first() {
         None => {

@@ -1,9 +1,9 @@
 // The latest pass of several, and gathers from their end.
-ghost use Rattle.std.specs.Prelude.{◌≡◌, ◌+◌, ◌∷◌, [], IfOk, None, Some, map, vec_len};
-ghost use Rattle.index_fn.specs.Index.{mapping_of};
+ghost use Rattle.std.specs.Prelude.{◌≡◌, ◌+◌, ◌∷◌, [], IfOk, vec_len};
+ghost use Rattle.std.specs.Option.{ForNone, ForSome};
 ghost use Rattle.passes.specs.Merge.{from_end};
-ghost use Rattle.passes.specs.Views.{plain_nest};
-ghost use Rattle.loop_nests.specs.Views.{plain_passes};
+ghost use Rattle.loop_nests.specs.Views.{plain_pass, plain_passes};
+ghost use Rattle.pass_places.specs.Views.{mappings_of};
 
 use index_fn::Index;
 use memory::NoMemory;
@@ -19,9 +19,10 @@ pub(crate) struct FirstPass {
 
 /// The first of the passes and the others, if there are any.
 pub(crate) fn parted(passes: Vec<Vec<Nest>>) -> Option<FirstPass>
-    ensures some { (p : FirstPass) → result ≡ Some p → plain_passes passes.items ≡ map plain_nest p.first.items ∷ plain_passes p.others.items }
-    ensures len { (p : FirstPass) → result ≡ Some p → vec_len p.others + 1 ≡ vec_len passes }
-    ensures none { result ≡ None → plain_passes passes.items ≡ [] }
+    ensures some { ForSome result (λ p.
+        plain_passes passes.items ≡ plain_pass p.first ∷ plain_passes p.others.items) }
+    ensures len { ForSome result (λ p. vec_len p.others + 1 ≡ vec_len passes) }
+    ensures none { ForNone result (plain_passes passes.items ≡ []) }
 {
     let mut others = passes;
     if others.is_empty() {
@@ -33,7 +34,7 @@ pub(crate) fn parted(passes: Vec<Vec<Nest>>) -> Option<FirstPass>
 
 /// The functions from their end.
 pub(crate) fn from_end(alloc: Global, functions: &[Index]) -> Result<Vec<Index>, NoMemory>
-    ensures { IfOk result (λ fs. map mapping_of fs.items ≡ from_end (map mapping_of functions.now)) }
+    ensures { IfOk result (λ fs. mappings_of fs.items ≡ from_end (mappings_of functions.now)) }
 {
     match functions.split_first() {
         None => Ok(Vec::new(alloc)),

@@ -35,7 +35,8 @@ pub fn merge_term(alloc: Global, size: u64, term: Term) -> Result<Vec<Vec<Nest>>
     requires good { IsGood size (plain_term term) }
     requires several { HasSeveral (plain_term term) }
     requires words { AreWords size (plain_term term) }
-    ensures { IfOk result (λ ps. map (λ zs. map plain_nest zs.items) ps.items ≡ passes_in_order size (plain_term term)) }
+    ensures { IfOk result (λ ps. map (λ zs. map plain_nest zs.items) ps.items
+        ≡ passes_in_order size (plain_term term)) }
 {
     let limits = Limits { size, room: 64 };
     let state = merged(alloc, term, nothing(alloc), limits)?;

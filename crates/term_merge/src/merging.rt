@@ -1,6 +1,5 @@
 // A term, part by part.
-ghost use Rattle.std.specs.Prelude.{◌≡◌, IfOk, map};
-ghost use Rattle.index_fn.specs.Index.{mapping_of};
+ghost use Rattle.std.specs.Prelude.{◌≡◌, IfOk};
 ghost use Rattle.passes.specs.Limits.{HasSeveral};
 ghost use Rattle.passes.specs.Merge.{ended, from_end, merged, most, nothing, with_passes};
 ghost use Rattle.passes.specs.Term.{move, nest};
@@ -8,6 +7,7 @@ ghost use Rattle.passes.specs.Views.{plain_term, plain_work};
 ghost use Rattle.passes.specs.Work.{HasWords};
 ghost use Rattle.term_merge.specs.Known.{AreKnownPasses, HasRoom, IsGood, IsKnown};
 ghost use Rattle.pass_places.specs.Known.{AreSteps};
+ghost use Rattle.pass_places.specs.Views.{mappings_of};
 ghost use Rattle.passes.specs.Words.{AreWords};
 ghost use Rattle.term_merge.specs.Views.{plain_merging};
 ghost use Rattle.loop_nests.specs.Views.{plain_passes};
@@ -36,7 +36,8 @@ pub(crate) fn merged(
     requires good { IsGood limits.size (plain_term term) }
     requires several { HasSeveral (plain_term term) }
     requires words { AreWords limits.size (plain_term term) }
-    ensures { IfOk result (λ next. plain_merging next ≡ merged (most limits.room) limits.size (plain_merging state) (plain_term term)) }
+    ensures { IfOk result (λ next. plain_merging next
+        ≡ merged (most limits.room) limits.size (plain_merging state) (plain_term term)) }
 {
     match term {
         Term::Same => Ok(state),
@@ -85,7 +86,7 @@ pub(crate) fn merged(
             };
             let right = merged(alloc, Box::into_inner(second), nothing(alloc), inner)?;
             let right = finished(alloc, right, inner)?;
-            let both = sides(alloc, &path, (first_size, second_size), room, left, right)?;
+            let both = sides(alloc, &path, (first_size, second_size), left, right)?;
             let next = with_passes(alloc, state, both, limits)?;
             Ok(next)
         }
@@ -104,7 +105,8 @@ fn with_copies(
     requires good { IsGood limits.size (nest path.now (plain_work work)) }
     requires several { HasSeveral (nest path.now (plain_work work)) }
     requires words { HasWords (plain_work work) }
-    ensures { IfOk result (λ next. plain_merging next ≡ merged (most limits.room) limits.size (plain_merging state) (nest path.now (plain_work work))) }
+    ensures { IfOk result (λ next. plain_merging next ≡ merged (most limits.room) limits.size
+        (plain_merging state) (nest path.now (plain_work work))) }
 {
     let nest = natural_nest(alloc, path, work)?;
     let pass = alone(alloc, nest)?;
@@ -123,7 +125,8 @@ fn with_moved(
     requires known { IsKnown limits.room limits.size (plain_merging state) }
     requires good { IsGood limits.size (move path.now places.now) }
     requires several { HasSeveral (move path.now places.now) }
-    ensures { IfOk result (λ next. plain_merging next ≡ merged (most limits.room) limits.size (plain_merging state) (move path.now places.now)) }
+    ensures { IfOk result (λ next. plain_merging next ≡ merged (most limits.room) limits.size
+        (plain_merging state) (move path.now places.now)) }
 {
     let nest = moved_nest(alloc, path, places)?;
     let pass = alone(alloc, nest)?;
@@ -149,7 +152,8 @@ pub(crate) fn finished(
 ) -> Result<Vec<Vec<Nest>>, NoMemory>
     requires room { HasRoom limits.room limits.size }
     requires known { IsKnown limits.room limits.size (plain_merging state) }
-    ensures { IfOk result (λ ps. plain_passes ps.items ≡ ended (most limits.room) limits.size (from_end (plain_merging state).waiting) (plain_merging state).passes) }
+    ensures { IfOk result (λ ps. plain_passes ps.items ≡ ended (most limits.room) limits.size
+        (from_end (plain_merging state).waiting) (plain_merging state).passes) }
 {
     let Merging { waiting, passes } = state;
     let turned = from_end(alloc, &waiting)?;
@@ -165,9 +169,10 @@ fn with_passes(
     limits: Limits,
 ) -> Result<Merging, NoMemory>
     requires room { HasRoom limits.room limits.size }
-    requires steps { AreSteps limits.size (map mapping_of state.waiting.items) }
+    requires steps { AreSteps limits.size (mappings_of state.waiting.items) }
     requires known { AreKnownPasses limits.room limits.size (plain_passes passes.items) }
-    ensures { IfOk result (λ next. plain_merging next ≡ with_passes (most limits.room) limits.size (plain_merging state) (plain_passes passes.items)) }
+    ensures { IfOk result (λ next. plain_merging next ≡ with_passes (most limits.room) limits.size
+        (plain_merging state) (plain_passes passes.items)) }
 {
     let mut later = passes;
     match later.pop() {

@@ -1,16 +1,19 @@
 // What a diagonal does to a state of merging.
-ghost use Rattle.std.specs.Prelude.{◌≡◌, ◌&&◌, [], IfOk, None, Some, Vec, false, map, not, true};
+ghost use Rattle.std.specs.Prelude.{◌≡◌, [], IfOk, false, map, not, true};
 ghost use Rattle.std.specs.List.{list_all};
-ghost use Rattle.index_fn.specs.Index.{mapping_of};
-ghost use Rattle.passes.specs.Merge.{can_multiply, factor_places, is_tile, most, multiplied, suits, with_copy, with_diagonal};
+ghost use Rattle.passes.specs.Merge.{factor_places, is_tile, most, multiplied, suits, with_copy, with_diagonal};
 ghost use Rattle.passes.specs.Nest.{factor_count, spread};
 ghost use Rattle.passes.specs.Views.{plain_factors, plain_nest, plain_work};
 ghost use Rattle.sum_limits.specs.Leading.{CanCarry};
+ghost use Rattle.sum_limits.specs.Outcomes.{IfMade, IfRefused};
 ghost use Rattle.tensor_paths.specs.Path.{size_under};
 ghost use Rattle.term_merge.specs.Known.{AreKnownPasses, HasRoom, IsKnown};
 ghost use Rattle.pass_places.specs.Known.{AreSteps, IsKnownPass};
+ghost use Rattle.pass_places.specs.Multiplied.{functions_of};
+ghost use Rattle.pass_places.specs.Views.{mappings_of};
+ghost use Rattle.term_merge.specs.Taken.{takes_diagonal};
 ghost use Rattle.term_merge.specs.Views.{plain_merging};
-ghost use Rattle.loop_nests.specs.Views.{plain_passes};
+ghost use Rattle.loop_nests.specs.Views.{plain_pass, plain_passes};
 
 use crate::copies::{settled, with_before, with_first};
 use crate::firsts::{FirstPass, parted};
@@ -34,7 +37,9 @@ pub(crate) fn with_diagonal(
     requires room { HasRoom limits.room limits.size }
     requires known { IsKnown limits.room limits.size (plain_merging state) }
     requires size { size_under path.items (factor_count (plain_factors factors)) ≡ limits.size }
-    ensures { IfOk result (λ next. plain_merging next ≡ with_diagonal (most limits.room) limits.size (plain_merging state).waiting (plain_merging state).passes path.items (plain_factors factors)) }
+    ensures { IfOk result (λ next. plain_merging next ≡ with_diagonal (most limits.room) limits.size
+        (plain_merging state).waiting (plain_merging state).passes path.items
+        (plain_factors factors)) }
 {
     let count = factor_count(&path, &factors);
     let places = factor_places(alloc, limits.size, &state.waiting, &path, &factors)?;
@@ -55,12 +60,15 @@ fn multiplied_last(
     limits: Limits,
 ) -> Result<Merging, NoMemory>
     requires room { HasRoom limits.room limits.size }
-    requires steps { AreSteps limits.size (map mapping_of state.waiting.items) }
+    requires steps { AreSteps limits.size (mappings_of state.waiting.items) }
     requires known { AreKnownPasses limits.room limits.size (plain_passes state.passes.items) }
     requires count { diagonal.count ≡ factor_count (plain_factors diagonal.factors) }
-    requires places { map mapping_of diagonal.places.items ≡ factor_places (map mapping_of state.waiting.items) path.items (plain_factors diagonal.factors) }
-    requires can { CanCarry limits.size (map mapping_of diagonal.places.items) }
-    ensures { IfOk result (λ next. plain_merging next ≡ with_diagonal (most limits.room) limits.size (map mapping_of state.waiting.items) (plain_passes state.passes.items) path.items (plain_factors diagonal.factors)) }
+    requires places { functions_of diagonal
+        ≡ factor_places (mappings_of state.waiting.items) path.items (plain_factors diagonal.factors) }
+    requires can { CanCarry limits.size (functions_of diagonal) }
+    ensures { IfOk result (λ next. plain_merging next ≡ with_diagonal (most limits.room) limits.size
+        (mappings_of state.waiting.items) (plain_passes state.passes.items) path.items
+        (plain_factors diagonal.factors)) }
 {
     let Merging { waiting, passes } = state;
     match parted(passes) {
@@ -95,11 +103,13 @@ fn with_copy(
     limits: Limits,
 ) -> Result<Merging, NoMemory>
     requires room { HasRoom limits.room limits.size }
-    requires steps { AreSteps limits.size (map mapping_of state.waiting.items) }
+    requires steps { AreSteps limits.size (mappings_of state.waiting.items) }
     requires count { diagonal.count ≡ factor_count (plain_factors diagonal.factors) }
-    requires places { map mapping_of diagonal.places.items ≡ factor_places (map mapping_of state.waiting.items) path.items (plain_factors diagonal.factors) }
-    requires can { CanCarry limits.size (map mapping_of diagonal.places.items) }
-    ensures { IfOk result (λ next. plain_merging next ≡ with_copy (most limits.room) limits.size (plain_merging state) path.items (plain_factors diagonal.factors)) }
+    requires places { functions_of diagonal
+        ≡ factor_places (mappings_of state.waiting.items) path.items (plain_factors diagonal.factors) }
+    requires can { CanCarry limits.size (functions_of diagonal) }
+    ensures { IfOk result (λ next. plain_merging next ≡ with_copy (most limits.room) limits.size
+        (plain_merging state) path.items (plain_factors diagonal.factors)) }
 {
     let Merging { waiting, passes } = state;
     let copies = copying(alloc, limits.size)?;
@@ -128,7 +138,8 @@ fn multiplied_whole(
     diagonal: Diagonal,
     nests: &[Nest],
 ) -> Result<Vec<Nest>, NoMemory>
-    ensures { IfOk result (λ zs. map plain_nest zs.items ≡ multiplied (spread path.items (plain_factors diagonal.factors)) [] (map plain_nest nests.now)) }
+    ensures { IfOk result (λ zs. plain_pass zs ≡ multiplied
+        (spread path.items (plain_factors diagonal.factors)) [] (map plain_nest nests.now)) }
 {
     let Diagonal { factors, .. } = diagonal;
     let factors = Factors::Spread {
@@ -148,11 +159,17 @@ fn multiplied_if_suited(
     limits: Limits,
 ) -> Result<Option<Vec<Nest>>, NoMemory>
     requires room { HasRoom limits.room limits.size }
-    requires can { CanCarry limits.size (map mapping_of diagonal.now.places.items) }
+    requires can { CanCarry limits.size (functions_of diagonal.now) }
     requires count { diagonal.now.count ≡ factor_count (plain_factors diagonal.now.factors) }
     requires known { IsKnownPass limits.room limits.size (map plain_nest nests.now) }
-    ensures some { IfOk result (λ r. (zs : Vec Nest Global) → r ≡ Some zs → ((suits path.now (map plain_nest nests.now) && can_multiply limits.room limits.size (plain_factors diagonal.now.factors) (map mapping_of diagonal.now.places.items) (map plain_nest nests.now)) ≡ true) × (map plain_nest zs.items ≡ multiplied (plain_factors diagonal.now.factors) (map mapping_of diagonal.now.places.items) (map plain_nest nests.now))) }
-    ensures none { IfOk result (λ r. r ≡ None → (suits path.now (map plain_nest nests.now) && can_multiply limits.room limits.size (plain_factors diagonal.now.factors) (map mapping_of diagonal.now.places.items) (map plain_nest nests.now)) ≡ false) }
+    ensures some { IfMade result (λ zs.
+        (takes_diagonal limits.room limits.size path.now (plain_factors diagonal.now.factors)
+        (functions_of diagonal.now) (map plain_nest nests.now) ≡ true)
+        × (plain_pass zs ≡ multiplied (plain_factors diagonal.now.factors)
+        (functions_of diagonal.now) (map plain_nest nests.now))) }
+    ensures none { IfRefused result
+        (takes_diagonal limits.room limits.size path.now (plain_factors diagonal.now.factors)
+        (functions_of diagonal.now) (map plain_nest nests.now) ≡ false) }
 {
     if !suits(path, nests) {
         return Ok(None);

@@ -1,12 +1,12 @@
 // What a gather, a pass and a scatter do to a state of merging.
-ghost use Rattle.std.specs.Prelude.{◌≡◌, ◌∷◌, [], IfOk, map};
+ghost use Rattle.std.specs.Prelude.{◌≡◌, ◌∷◌, [], IfOk};
 ghost use Rattle.index_fn.specs.Index.{mapping_of};
 ghost use Rattle.passes.specs.Merge.{ended, most, with_pass, with_scatter};
-ghost use Rattle.passes.specs.Views.{plain_nest};
 ghost use Rattle.term_merge.specs.Known.{AreKnownPasses, HasRoom, IsKnown};
 ghost use Rattle.pass_places.specs.Known.{AreSteps, IsKnownPass, IsStep};
+ghost use Rattle.pass_places.specs.Views.{mappings_of};
 ghost use Rattle.term_merge.specs.Views.{plain_merging};
-ghost use Rattle.loop_nests.specs.Views.{plain_passes};
+ghost use Rattle.loop_nests.specs.Views.{plain_pass, plain_passes};
 
 use crate::copies::{settled, taken, with_before, with_first};
 use crate::firsts::{FirstPass, from_end, parted};
@@ -20,8 +20,10 @@ use sum_limits::Limits;
 
 /// A gather waits.
 pub(crate) fn with_gather(state: Merging, f: Index) -> Result<Merging, NoMemory>
-    ensures waiting { IfOk result (λ next. (plain_merging next).waiting ≡ mapping_of f ∷ (plain_merging state).waiting) }
-    ensures passes { IfOk result (λ next. (plain_merging next).passes ≡ (plain_merging state).passes) }
+    ensures waiting { IfOk result (λ next.
+        (plain_merging next).waiting ≡ mapping_of f ∷ (plain_merging state).waiting) }
+    ensures passes { IfOk result (λ next.
+        (plain_merging next).passes ≡ (plain_merging state).passes) }
 {
     let Merging { waiting, passes } = state;
     let mut waiting = waiting;
@@ -37,9 +39,10 @@ pub(crate) fn with_pass(
     limits: Limits,
 ) -> Result<Merging, NoMemory>
     requires room { HasRoom limits.room limits.size }
-    requires known { IsKnownPass limits.room limits.size (map plain_nest pass.items) }
-    requires steps { AreSteps limits.size (map mapping_of state.waiting.items) }
-    ensures { IfOk result (λ next. plain_merging next ≡ with_pass (most limits.room) limits.size (plain_merging state) (map plain_nest pass.items)) }
+    requires known { IsKnownPass limits.room limits.size (plain_pass pass) }
+    requires steps { AreSteps limits.size (mappings_of state.waiting.items) }
+    ensures { IfOk result (λ next. plain_merging next
+        ≡ with_pass (most limits.room) limits.size (plain_merging state) (plain_pass pass)) }
 {
     let Merging { waiting, passes } = state;
     let more = taken(alloc, pass, &waiting, limits)?;
@@ -60,7 +63,8 @@ pub(crate) fn with_scatter(
     requires room { HasRoom limits.room limits.size }
     requires step { IsStep limits.size (mapping_of f.now) }
     requires known { IsKnown limits.room limits.size (plain_merging state) }
-    ensures { IfOk result (λ next. plain_merging next ≡ with_scatter (most limits.room) limits.size (plain_merging state).waiting (plain_merging state).passes (mapping_of f.now)) }
+    ensures { IfOk result (λ next. plain_merging next ≡ with_scatter (most limits.room) limits.size
+        (plain_merging state).waiting (plain_merging state).passes (mapping_of f.now)) }
 {
     let Merging { waiting, passes } = state;
     if !waiting.is_empty() {
@@ -81,7 +85,8 @@ fn scattered_last(
     requires room { HasRoom limits.room limits.size }
     requires step { IsStep limits.size (mapping_of f.now) }
     requires known { AreKnownPasses limits.room limits.size (plain_passes passes.items) }
-    ensures { IfOk result (λ next. plain_merging next ≡ with_scatter (most limits.room) limits.size [] (plain_passes passes.items) (mapping_of f.now)) }
+    ensures { IfOk result (λ next. plain_merging next ≡ with_scatter (most limits.room) limits.size
+        [] (plain_passes passes.items) (mapping_of f.now)) }
 {
     let waiting = Vec::new(alloc);
     match parted(passes) {
@@ -113,9 +118,10 @@ pub(crate) fn ended(
     limits: Limits,
 ) -> Result<Vec<Vec<Nest>>, NoMemory>
     requires room { HasRoom limits.room limits.size }
-    requires steps { AreSteps limits.size (map mapping_of waiting.now) }
+    requires steps { AreSteps limits.size (mappings_of waiting.now) }
     requires known { AreKnownPasses limits.room limits.size (plain_passes passes.items) }
-    ensures { IfOk result (λ ps. plain_passes ps.items ≡ ended (most limits.room) limits.size (map mapping_of waiting.now) (plain_passes passes.items)) }
+    ensures { IfOk result (λ ps. plain_passes ps.items ≡ ended (most limits.room) limits.size
+        (mappings_of waiting.now) (plain_passes passes.items)) }
 {
     match waiting.split_first() {
         None => Ok(passes),

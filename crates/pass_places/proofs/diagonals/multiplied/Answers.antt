@@ -1,9 +1,9 @@
-use Rattle.std.specs.Prelude.{map}
-use Rattle.index_fn.specs.Index.{mapping_of}
 use Rattle.passes.specs.Nest.{factor_count}
 use Rattle.passes.specs.Views.{plain_factors, plain_nest}
-use Rattle.pass_places.proofs.Passes.{can_multiply_nest, ready-nest-at, within-nest-at}
-use Rattle.pass_places.proofs.Sums.{fails-at, grown, alone}
+use Rattle.pass_places.specs.Multiplied.{functions_of, nest_can_multiply, nest_multiplied}
+use Rattle.pass_places.specs.declared.access.Access.TheVariants.{Stores}
+use Rattle.pass_places.proofs.Passes.{ready-nest-at, side-within-at}
+use Rattle.pass_places.proofs.Sums.{fails-at, grown}
 use Rattle.std.proofs.Common.{◌≡◌, true, false, subst}
 use Rattle.pass_places.proofs.diagonals.multiplied.Goals as goal
 
@@ -12,19 +12,19 @@ multiplied_nest-requires-clause-ready c = ready-nest-at _ plain_nest c.args.nest
 
 pub multiplied_nest-requires-clause-within : goal.multiplied_nest-requires-clause-within
 multiplied_nest-requires-clause-within c =
-    (within-nest-at c.args.limits.room c.args.limits.size _ plain_nest c.args.nests.now c.loop-nest.nest-index c.nest-item.result c.requires.known.within c.loop-nest-test.true c.nest-item.is).stores
+    side-within-at Stores c.args.limits.room c.args.limits.size _ plain_nest c.args.nests.now c.loop-nest.nest-index c.nest-item.result c.requires.known.within c.loop-nest-test.true c.nest-item.is
 
 pub returns-in-None-clause-none : goal.returns-in-None-clause-none
 returns-in-None-clause-none c = λ t.
-    let fs = map mapping_of c.args.diagonal.now.places.items in
-    let fails = subst (λ count. can_multiply_nest c.args.limits.room c.args.limits.size count fs (plain_nest c.nest-item.result) ≡ false) c.requires.count (c.in_ok-multiplied_nest.ensures.none c.in-None.is) in
-    fails-at _ _ (can_multiply_nest c.args.limits.room c.args.limits.size (factor_count (plain_factors c.args.diagonal.now.factors)) fs) plain_nest c.args.nests.now c.loop-nest.nest-index c.nest-item.result
+    let fs = functions_of c.args.diagonal.now in
+    let fails = subst (λ count. nest_can_multiply c.args.limits.room c.args.limits.size count fs (plain_nest c.nest-item.result) ≡ false) c.requires.count (c.in_ok-multiplied_nest.ensures.none c.in-None.is) in
+    fails-at _ _ (nest_can_multiply c.args.limits.room c.args.limits.size (factor_count (plain_factors c.args.diagonal.now.factors)) fs) plain_nest c.args.nests.now c.loop-nest.nest-index c.nest-item.result
     c.loop-nest-test.true c.nest-item.is fails
 
 pub loop-nest-preserved : goal.loop-nest-preserved
 loop-nest-preserved c =
-    let fs = map mapping_of c.args.diagonal.now.places.items in
+    let fs = functions_of c.args.diagonal.now in
     let made = c.in_ok-multiplied_nest.ensures.some c.in-Some.nest c.in-Some.is in
-    let holds = subst (λ count. can_multiply_nest c.args.limits.room c.args.limits.size count fs (plain_nest c.nest-item.result) ≡ true) c.requires.count made.0 in
-    grown _ _ _ _ (can_multiply_nest c.args.limits.room c.args.limits.size (factor_count (plain_factors c.args.diagonal.now.factors)) fs) plain_nest _ plain_nest c.loop-nest.changed.items c.push.new.self.items
-    c.in-Some.nest c.args.nests.now c.loop-nest.nest-index c.nest-item.result c.loop-nest-test.true c.nest-item.is c.in_ok-push-in-Some.ensures.items c.loop-nest.invariant holds (alone _ _ _ made.1)
+    let holds = subst (λ count. nest_can_multiply c.args.limits.room c.args.limits.size count fs (plain_nest c.nest-item.result) ≡ true) c.requires.count made.0 in
+    grown _ _ _ _ (nest_can_multiply c.args.limits.room c.args.limits.size (factor_count (plain_factors c.args.diagonal.now.factors)) fs) plain_nest (nest_multiplied (plain_factors c.args.diagonal.now.factors) fs) plain_nest c.loop-nest.changed.items c.push.new.self.items
+    c.in-Some.nest c.args.nests.now c.loop-nest.nest-index c.nest-item.result c.loop-nest-test.true c.nest-item.is c.in_ok-push-in-Some.ensures.items c.loop-nest.invariant holds made.1

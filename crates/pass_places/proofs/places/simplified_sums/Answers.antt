@@ -9,17 +9,17 @@ use Rattle.pass_places.proofs.places.simplified_sums.Goals as goal
 pub simplify_within-requires-clause-affine : goal.simplify_within-requires-clause-affine
 simplify_within-requires-clause-affine c =
     (place-at c.args.limits.room c.args.limits.size (length c.args.counts.now) (slice_index c.args.counts.now) _ plain_sum c.args.sums.now c.loop-sum.sum-index c.sum-item.result
-    c.requires.size c.requires.ready c.requires.within c.loop-sum-test.true c.sum-item.is).is_affine
+    c.requires.leads.0 c.requires.ready c.requires.within c.loop-sum-test.true c.sum-item.is).is_affine
 
 pub simplify_within-requires-clause-fits : goal.simplify_within-requires-clause-fits
 simplify_within-requires-clause-fits c =
     (place-at c.args.limits.room c.args.limits.size (length c.args.counts.now) (slice_index c.args.counts.now) _ plain_sum c.args.sums.now c.loop-sum.sum-index c.sum-item.result
-    c.requires.size c.requires.ready c.requires.within c.loop-sum-test.true c.sum-item.is).fits
+    c.requires.leads.0 c.requires.ready c.requires.within c.loop-sum-test.true c.sum-item.is).fits
 
 pub simplify_within-requires-clause-defined : goal.simplify_within-requires-clause-defined
 simplify_within-requires-clause-defined c = λ vs range.
-    c.requires.defined _ ((place-at c.args.limits.room c.args.limits.size (length c.args.counts.now) (slice_index c.args.counts.now) _ plain_sum c.args.sums.now c.loop-sum.sum-index c.sum-item.result
-    c.requires.size c.requires.ready c.requires.within c.loop-sum-test.true c.sum-item.is).below vs range)
+    c.requires.leads.2 _ ((place-at c.args.limits.room c.args.limits.size (length c.args.counts.now) (slice_index c.args.counts.now) _ plain_sum c.args.sums.now c.loop-sum.sum-index c.sum-item.result
+    c.requires.leads.0 c.requires.ready c.requires.within c.loop-sum-test.true c.sum-item.is).below vs range)
 
 pub returns-in-None-clause-none : goal.returns-in-None-clause-none
 returns-in-None-clause-none c = λ t.
