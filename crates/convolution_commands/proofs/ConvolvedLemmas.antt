@@ -30,9 +30,10 @@ use Rattle.spiral_status.specs.declared.status.Status.TheVariants.{Success, Writ
 use Rattle.spiral_status.specs.Fault.{status_of_conv, status_of_fault, status_of_stream}
 use Rattle.spiral_status.specs.Status.{IsDefined}
 use Rattle.spiral_input.specs.Asking.{asked_by, AsksBy, Asks}
-use Rattle.convolution_commands.specs.Convolved.{conv_procs, conv_spelt, IsConvolvable, IsConvRefused, conv_lines, IsConvText, conv_status, SettlesConv, IsConvOver, GoesOnBehind, BreaksOffConv, ComesToConv, conv_outcomes, data_outcomes, IsListProgram}
+use Rattle.convolution_commands.specs.Convolved.{conv_procs, conv_spelt, IsConvolvable, IsConvRefused, conv_lines, IsConvText, conv_status, SettlesConv, conv_in, GoesOnBehind, BreaksOffConv, ComesToConv, conv_outcomes, data_outcomes, IsListProgram}
 use Rattle.spiral_input.specs.Line.{data_of, room_behind, HasEnded}
 use Rattle.spiral_input.specs.Refusals.{IsRefusal}
+use Rattle.spiral_input.specs.Stage.{HasGiven}
 use Rattle.spiral_input.proofs.InputLemmas.{none_read, none_left, none_cut, still_ended}
 use Rattle.spiral_input.specs.Outcomes.{Meets, ToldMeets}
 use Rattle.spiral_input.proofs.OutcomeLemmas.{meets_nothing}
@@ -352,10 +353,10 @@ convolves_after wanted bytes read rest taken request left out out' status whole 
     let same : length (data_of bytes) ≡ length rest = ap length data_here in
     let room : limit - taken ≡ room_behind bytes = ap (λ n. limit - n) (let first = asked.0 in omega arith) in
     let line : HasEnded read (rest ≡ []) = line_there read rest (λ more none. (asked.1 more none).1) in
-    let over : (more : List ℕ) (ended : Type 0) → (rest ≡ [] → more ≡ []) → (rest ≡ [] → ended) → IsConvolvable request → IsConvOver wanted (read ++ more) ended request =
+    let over : (more : List ℕ) (ended : Type 0) → (rest ≡ [] → more ≡ []) → (rest ≡ [] → ended) → IsConvolvable request → HasGiven (HasEnded (read ++ more) ended) (conv_in wanted (read ++ more)) request =
     λ more ended none goes able. record {
-      line = still_ended read more (rest ≡ []) ended line goes;
-      asks = record { value = request; before = (asked.1 more none).0; behind = (able, refl) };
+      front = still_ended read more (rest ≡ []) ended line goes;
+      gives = record { value = request; before = (asked.1 more none).0; behind = (able, refl) };
     } in
     let asked_here : asked_by conv_procs conv_spelt wanted bytes (Ok request) = subst (λ b. asked_by conv_procs conv_spelt wanted b (Ok request)) (sym whole) here.0 in
     record {

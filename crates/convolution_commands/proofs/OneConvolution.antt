@@ -29,7 +29,7 @@ use Rattle.convolution_commands.specs.Convolved.{conv_procs, conv_spelt, convolv
 use Rattle.spiral_input.specs.Line.{line_of, data_of, room_behind}
 use Rattle.spiral_input.specs.Stage.{given}
 use Rattle.convolution_commands.proofs.OneRequest.{spelt_once, faulty, judged_ok, judged_once, unshared_ok}
-use Rattle.spiral_input.proofs.Stages.{IsDecided, done, ended, done_same, ended_same, done_ended, given_decided, bind_decided}
+use Rattle.spiral_input.proofs.Stages.{IsDecided, done, ended, given_decided, bind_decided, of_answers}
 use Rattle.stream_run.specs.Stream.{data_vectors}
 
 -- The line
@@ -159,22 +159,12 @@ text_once : (wanted : Command) (r : Request) (vectors : List (List ℕ)) (s t : 
 text_once wanted r [] s t one p q = p ∙ sym q
 text_once wanted r (h ∷ later) s t one p q = list_text_once wanted r h later s t one p q
 
--- the request of both calls is one
-moved : (wanted : Command) (bytes : List ℕ) (a : Status) (s : List ℕ) (f g : Request) → conv_in wanted bytes (Ok f) → conv_in wanted bytes (Ok g)
-    → SettlesConv wanted f (room_behind bytes) (data_of bytes) a s → SettlesConv wanted g (room_behind bytes) (data_of bytes) a s
-moved wanted bytes a s f g p q settles =
-    subst (λ (request : Request). SettlesConv wanted request (room_behind bytes) (data_of bytes) a s)
-    (done_same f g (conv_decided wanted bytes (Ok f) (Ok g) p q)) settles
-
 pub conv_status_once : (wanted : Command) (bytes : List ℕ) (a b : Status) (s t : List ℕ) → IsConvAnswer wanted bytes a s → IsConvAnswer wanted bytes b t → a ≡ b
-conv_status_once wanted bytes a b s t (inl p) (inl q) = ended_same a b (conv_decided wanted bytes (Err a) (Err b) p.0 q.0)
-conv_status_once wanted bytes a b s t (inl p) (inr q) = absurd (done_ended q.0 a (conv_decided wanted bytes (Ok q.0) (Err a) q.1 p.0))
-conv_status_once wanted bytes a b s t (inr p) (inl q) = absurd (done_ended p.0 b (conv_decided wanted bytes (Ok p.0) (Err b) p.1 q.0))
-conv_status_once wanted bytes a b s t (inr p) (inr q) = (moved wanted bytes a s p.0 q.0 p.1 q.1 p.2).0 ∙ sym q.2.0
+conv_status_once wanted bytes a b s t =
+    of_answers (a ≡ b) (conv_in wanted bytes) (λ (r : Request). SettlesConv wanted r (room_behind bytes) (data_of bytes)) a b s t (conv_decided wanted bytes)
+    (λ same _. same) (λ _ _ p q. p.0 ∙ sym q.0)
 
 pub conv_text_once : (wanted : Command) (bytes : List ℕ) (a b : Status) (s t : List ℕ) → prints_one_text wanted ≡ true → IsConvAnswer wanted bytes a s → IsConvAnswer wanted bytes b t → s ≡ t
-conv_text_once wanted bytes a b s t one (inl p) (inl q) = p.1 ∙ sym q.1
-conv_text_once wanted bytes a b s t one (inl p) (inr q) = absurd (done_ended q.0 a (conv_decided wanted bytes (Ok q.0) (Err a) q.1 p.0))
-conv_text_once wanted bytes a b s t one (inr p) (inl q) = absurd (done_ended p.0 b (conv_decided wanted bytes (Ok p.0) (Err b) p.1 q.0))
-conv_text_once wanted bytes a b s t one (inr p) (inr q) =
-    text_once wanted q.0 (data_vectors q.0.size q.0.modulus (room_behind bytes) (data_of bytes)) s t one (moved wanted bytes a s p.0 q.0 p.1 q.1 p.2).1 q.2.1
+conv_text_once wanted bytes a b s t one =
+    of_answers (s ≡ t) (conv_in wanted bytes) (λ (r : Request). SettlesConv wanted r (room_behind bytes) (data_of bytes)) a b s t (conv_decided wanted bytes)
+    (λ _ same. same) (λ r _ p q. text_once wanted r (data_vectors r.size r.modulus (room_behind bytes) (data_of bytes)) s t one p.1 q.1)

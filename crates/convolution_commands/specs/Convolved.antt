@@ -20,7 +20,7 @@ use Rattle.spiral_status.specs.Fault.{status_of_conv, status_of_fault, status_of
 use Rattle.spiral_input.specs.Asking.{asked_by}
 use Rattle.spiral_input.specs.Line.{data_of, room_behind, HasEnded, IsPartOfLine}
 use Rattle.spiral_input.specs.Outcomes.{Outcomes}
-use Rattle.spiral_input.specs.Stage.{Stage, ◌>>=◌}
+use Rattle.spiral_input.specs.Stage.{Stage, ◌>>=◌, IsAnswerBy, IsBrokenBy, IsCutBy}
 use Rattle.stream_run.specs.Progress.{lacking}
 use Rattle.stream_run.specs.Stream.{lines, vectors_of, data_answer, data_vectors}
 use Rattle.stream_run.specs.declared.stream.StreamFault.{StreamFault}
@@ -96,15 +96,9 @@ SettlesConv wanted request room bytes status text =
 -- The status and the text of `convolve`: there is no request for it, and nothing is written, or they are those for the request
 abbrev pub IsConvAnswer : Command → List ℕ → Status → List ℕ → Type 0
 IsConvAnswer wanted bytes status text =
-    (conv_in wanted bytes (Err status) × (text ≡ []))
-    ⊎ ((request : Request) × conv_in wanted bytes (Ok request) × SettlesConv wanted request (room_behind bytes) (data_of bytes) status text)
+    IsAnswerBy (conv_in wanted bytes) (λ (request : Request). SettlesConv wanted request (room_behind bytes) (data_of bytes)) status text
 
 -- What a fault of the outside leaves
-
--- the bytes are a line that has ended, which spells the request for the command, and what stands behind it
-pub record IsConvOver (wanted : Command) (read : List ℕ) (ended : Type 0) (request : Request) : Type 0 where
-  pub line : HasEnded read ended
-  pub asks : conv_in wanted read (Ok request)
 
 -- the listing is written once the list is there, and nothing more is read
 abbrev pub GoesOnBehind : Command → List (List ℕ) → Type 0
@@ -120,8 +114,7 @@ BreaksOffConv wanted request bytes text =
 -- The bytes that were read show no fault: they are a part of the line, and nothing is written, or a request and a part of its data
 abbrev pub IsBrokenConv : Command → List ℕ → Type 0 → List ℕ → Type 0
 IsBrokenConv wanted read ended text =
-    (IsPartOfLine read × (text ≡ []))
-    ⊎ ((request : Request) × IsConvOver wanted read ended request × BreaksOffConv wanted request (data_of read) text)
+    IsBrokenBy (IsPartOfLine read) (HasEnded read ended) (conv_in wanted read) (λ (request : Request). BreaksOffConv wanted request (data_of read)) text
 
 -- The text to which the command has come by the bytes that it read behind the line, where this is left
 abbrev pub ComesToConv : Command → Request → List ℕ → List ℕ → List ℕ → Type 0
@@ -132,7 +125,7 @@ ComesToConv wanted request bytes left text =
 -- The text to which a call has come by the bytes that were read, where this is left
 abbrev pub IsCutConv : Command → List ℕ → List ℕ → List ℕ → Type 0
 IsCutConv wanted read left text =
-    (request : Request) × IsConvOver wanted read (left ≡ []) request × ComesToConv wanted request (data_of read) left text
+    IsCutBy (HasEnded read (left ≡ [])) (conv_in wanted read) (λ (request : Request). ComesToConv wanted request (data_of read) left) text
 
 -- what is right for `convolve`
 abbrev pub conv_outcomes : Command → Outcomes

@@ -1,10 +1,10 @@
 -- What `compile` and `apply` come to.
-use Rattle.std.proofs.Common.{◌≡◌, ◌≢◌, ◌⊎◌, ◌<◌, ◌≤◌, ◌+◌, ◌-◌, ◌/◌, ℕ, true, false, List, [], ◌++◌, None, Some, Ok, Err, Result, nat_le, length, cond, refl, sym, ap, subst, ◌∙◌, arith, append_assoc, append-nil, length-append, inl, inr}
+use Rattle.std.proofs.Common.{◌≡◌, ◌≢◌, ◌<◌, ◌≤◌, ◌+◌, ◌-◌, ◌/◌, ℕ, true, false, List, [], ◌++◌, None, Some, Ok, Err, Result, nat_le, length, cond, refl, sym, ap, subst, ◌∙◌, arith, append_assoc, append-nil, length-append, inl, inr}
 use Rattle.std.proofs.lemmas.Grind.{common_steps}
 use Rattle.std.proofs.KnownBytes.{Appends-nil, Consumes-trans, Consumes-kept}
 use Rattle.std.proofs.Math.Nat.{div-mul-le_self}
 use Rattle.std.proofs.lemmas.List.Elements.{All-from_get_or}
-use Rattle.std.specs.List.{All, list_all, list_any}
+use Rattle.std.specs.List.{All, list_any}
 use Rattle.std.specs.declared.option.Option.{Option}
 use Rattle.std.specs.Io.KnownBytes.{Appends, Consumes, IsAtEnd}
 use Rattle.icode.specs.Machine.{Code, State, results, runs}
@@ -14,9 +14,6 @@ use Rattle.icode.proofs.Below.{below_from_all}
 use Rattle.formula_code.specs.Code.{IsCodeOf}
 use Rattle.spl_ast.specs.Formula.{Formula, size_of}
 use Rattle.spl_ast.specs.Meaning as formulas
-use Rattle.spl_text.specs.Answer.{IsFirst, Shows}
-use Rattle.spl_text.specs.declared.reading.SplFault.{SplFault}
-use Rattle.spl_text.specs.declared.reading.SplFault.TheVariants as spl
 use Rattle.io_edge.specs.declared.feed.FeedFault.{FeedFault}
 use Rattle.io_edge.specs.declared.feed.FeedFault.TheVariants as feed
 use Rattle.io_edge.specs.Feed.{Fed, Feeds, limit}
@@ -24,7 +21,6 @@ use Rattle.io_edge.specs.Taken.{AppendsPrefix}
 use Rattle.input_rest.specs.FeedFaults.{rest_fault}
 use Rattle.input_rest.specs.declared.RestFault.{RestFault}
 use Rattle.input_rest.specs.declared.RestFault.TheVariants as rest_fault
-use Rattle.data_stream.specs.Data.{tokens, closed_part, is_good}
 use Rattle.request_text.specs.Schedule.{Plan}
 use Rattle.request_text.specs.Turns.{turns_of}
 use Rattle.par_machine.proofs.Schedules.{turns_there}
@@ -34,12 +30,12 @@ use Rattle.spiral_status.specs.declared.status.Status.{Status}
 use Rattle.spiral_status.specs.declared.status.Status.TheVariants.{Success, Turn, ReadFault, WriteFault, NoMemory, TooLong}
 use Rattle.stream_run.specs.declared.stream.StreamFault.{StreamFault}
 use Rattle.spiral_input.specs.Commands.{admitted, first_stranger, procs_named}
-use Rattle.formula_commands.specs.Compiled.{formula_limit, formula_line, written, formed, formula_in, IsAppliedText, IsCompiledText, IsFormulaCode, GivesText, formula_outcomes}
-use Rattle.spiral_status.specs.Fault.{status_of_spl, status_of_stream, status_of_text}
+use Rattle.formula_commands.specs.Compiled.{formula_limit, formula_line, written, formed, formula_in, IsAppliedText, SettlesFormula, BreaksOffFormula, ComesToFormula, IsCompiledText, IsFormulaCode, GivesText, formula_outcomes}
+use Rattle.spiral_status.specs.Fault.{status_of_stream, status_of_text}
 use Rattle.spiral_input.specs.Line.{is_line_end, first_line, data_of, room_behind, HasEnded, IsWholeLine}
 use Rattle.spiral_status.specs.Status.{IsDefined}
 use Rattle.spiral_input.specs.Refusals.{IsRefusal}
-use Rattle.stream_run.specs.Stream.{run_text, lines, vectors_of, data_answer, data_vectors, HasNoStranger, Streams}
+use Rattle.stream_run.specs.Stream.{run_text, lines, vectors_of, HasNoStranger, Streams}
 use Rattle.spiral_input.proofs.InputLemmas.{none_read, none_left, none_cut, still_ended}
 use Rattle.spiral_input.specs.Outcomes.{Meets, ToldMeets}
 use Rattle.spiral_input.proofs.OutcomeLemmas.{meets_nothing}
@@ -71,18 +67,6 @@ text_failed text start before after old new feed.TooLong consumed taken short un
 -- The formula
 
 -- the text spells none
-pub unwritten : (text : List ℕ) (fault : SplFault) → IsFirst text (Err fault) → Shows text (Err fault) → IsDefined (status_of_spl fault) → written text (Err (status_of_spl fault))
-unwritten text (spl.Syntax at) first shows d = (spl.Syntax at, λ e. cc, first, shows, refl)
-unwritten text (spl.TooDeep at) first shows d = (spl.TooDeep at, λ e. cc, first, shows, refl)
-unwritten text (spl.Shape at left right) first shows d = (spl.Shape at left right, λ e. cc, first, shows, refl)
-unwritten text spl.NoMemory first shows d = absurd (d.memory refl)
-
-pub spl_refusal : (fault : SplFault) → IsRefusal (status_of_spl fault)
-spl_refusal (spl.Syntax at) = record { success = λ e. cc; read = λ e. cc; write = λ e. cc; usage = λ e. cc }
-spl_refusal (spl.TooDeep at) = record { success = λ e. cc; read = λ e. cc; write = λ e. cc; usage = λ e. cc }
-spl_refusal (spl.Shape at left right) = record { success = λ e. cc; read = λ e. cc; write = λ e. cc; usage = λ e. cc }
-spl_refusal spl.NoMemory = record { success = λ e. cc; read = λ e. cc; write = λ e. cc; usage = λ e. cc }
-
 pub unformed : (wanted : Command) (text : List ℕ) (status : Status) → written text (Err status) → formed wanted text (Err status)
 unformed wanted text status none = inl none
 
@@ -177,8 +161,8 @@ computes_cut m (Some bytes) (Some rest) out out' read text listing consumed whol
         (
           made.0,
           record {
-            line = ended;
-            orders = subst (λ b. formula_in (command.Compile m) b (Ok made.0)) all (ordered_by (command.Compile m) read rest text made.0 whole short made.1 [] (λ e. refl));
+            front = ended;
+            gives = subst (λ b. formula_in (command.Compile m) b (Ok made.0)) all (ordered_by (command.Compile m) read rest text made.0 whole short made.1 [] (λ e. refl));
           },
           (behind, made.2),
         ),
@@ -187,15 +171,6 @@ computes_cut m (Some bytes) (Some rest) out out' read text listing consumed whol
     }
 
 -- A formula over its data
-
-abbrev IsGoodData : List ℕ → Type 0
-IsGoodData bytes = list_all is_good (tokens bytes) ≡ true
-
-abbrev IsTextUpTo : ℕ → Formula → List ℕ → List ℕ → Type 0
-IsTextUpTo m formula text bytes = IsAppliedText m formula (vectors_of (size_of formula) m (tokens (closed_part bytes))) text
-
-abbrev IsTextOfAll : ℕ → Formula → List ℕ → List ℕ → Type 0
-IsTextOfAll m formula text bytes = IsAppliedText m formula (vectors_of (size_of formula) m (tokens bytes)) text
 
 -- what a formula's program does behind the line is what the call does
 computes_after : (m : ℕ) (schedule : Plan) (bytes read rest text : List ℕ) (taken : ℕ) (formula : Formula) (left out out' : Option (List ℕ)) (status : Status)
@@ -212,15 +187,14 @@ computes_after m schedule bytes read rest text taken formula left out out' statu
     let by : (more : List ℕ) → (rest ≡ [] → more ≡ []) → formula_in wanted (read ++ more) (Ok formula) = ordered_by wanted read rest text formula whole short orders in
     record {
       answer = λ d.
-          let found = p.answer d in
-          let first : status ≡ status_of_stream (data_answer (size_of formula) (room_behind bytes) (data_of bytes)) =
-          subst (λ n. status ≡ status_of_stream (data_answer (size_of formula) n (data_of bytes))) room
-          (subst (λ b. status ≡ status_of_stream (data_answer (size_of formula) (limit - taken) b)) (sym behind) found.1) in
-          let second : IsAppliedText m formula (data_vectors (size_of formula) m (room_behind bytes) (data_of bytes)) found.0 =
-          subst (λ n. IsAppliedText m formula (data_vectors (size_of formula) m n (data_of bytes)) found.0) room
-          (subst (λ b. IsAppliedText m formula (data_vectors (size_of formula) m (limit - taken) b) found.0) (sym behind) found.2) in (
+          let found = p.answer d in (
             found.0,
-            inr (formula, subst (λ b. formula_in wanted b (Ok formula)) (sym cut) (by rest (λ e. e)), (first, second)),
+            inr (
+              formula,
+              subst (λ b. formula_in wanted b (Ok formula)) (sym cut) (by rest (λ e. e)),
+              subst (λ n. SettlesFormula wanted formula n (data_of bytes) status found.0) room
+                  (subst (λ b. SettlesFormula wanted formula (limit - taken) b status found.0) (sym behind) (found.1, found.2)),
+            ),
             found.3,
           );
       read_fault = λ e.
@@ -233,10 +207,10 @@ computes_after m schedule bytes read rest text taken formula left out out' statu
             inr (
               formula,
               record {
-                line = still_ended read found.0 (rest ≡ []) (IsAtEnd left) line (none_left rest found.0 left found.2);
-                orders = by found.0 none;
+                front = still_ended read found.0 (rest ≡ []) (IsAtEnd left) line (none_left rest found.0 left found.2);
+                gives = by found.0 none;
               },
-              (subst IsGoodData (sym data_is) found.3, subst (IsTextUpTo m formula found.1) (sym data_is) found.4),
+              subst (λ b. BreaksOffFormula wanted formula b found.1) (sym data_is) (found.3, found.4),
             ),
             found.5,
           );
@@ -251,14 +225,10 @@ computes_after m schedule bytes read rest text taken formula left out out' statu
             (
               formula,
               record {
-                line = still_ended read found.0 (rest ≡ []) (found.1 ≡ []) line (λ end. (none end).1);
-                orders = by found.0 (λ end. (none end).0);
+                front = still_ended read found.0 (rest ≡ []) (found.1 ≡ []) line (λ end. (none end).1);
+                gives = by found.0 (λ end. (none end).0);
               },
-              (
-                subst IsGoodData (sym data_is) found.4,
-                subst (λ b. (closed_part b ≡ b) ⊎ (found.1 ≡ [])) (sym data_is) found.5,
-                subst (IsTextOfAll m formula found.2) (sym data_is) found.6,
-              ),
+              subst (λ b. ComesToFormula wanted formula b found.1 found.2) (sym data_is) (found.4, found.5, found.6),
             ),
             found.7,
           );

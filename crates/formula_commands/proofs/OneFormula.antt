@@ -1,5 +1,5 @@
 -- The bytes of a call of `compile` or `apply` determine its status, and of `apply` its text.
-use Rattle.std.proofs.Common.{◌≡◌, ◌≢◌, ℕ, true, List, Ok, Err, Result, refl, sym, ap, ap₂, subst, ◌∙◌, arith, inl, inr}
+use Rattle.std.proofs.Common.{◌≡◌, ◌≢◌, ℕ, true, List, Ok, Err, Result, refl, sym, ap, ap₂, ◌∙◌, arith}
 use Rattle.grammar.specs.Stops.{Stop, Lost, Fault}
 use Rattle.spl_ast.specs.Formula.{Formula}
 use Rattle.spl_text.specs.Answer.{IsFirst, IsLeft}
@@ -14,7 +14,7 @@ use Rattle.formula_commands.specs.Compiled.{formula_line, written, formula_in, S
 use Rattle.spiral_status.specs.Fault.{status_of_spl}
 use Rattle.spiral_input.specs.Line.{data_of, room_behind}
 use Rattle.spiral_input.specs.Stage.{given}
-use Rattle.spiral_input.proofs.Stages.{IsDecided, done, ended, done_same, ended_same, done_ended, given_decided, bind_decided}
+use Rattle.spiral_input.proofs.Stages.{IsDecided, done, ended, given_decided, bind_decided, of_answers}
 
 -- A text has one first fault
 
@@ -111,23 +111,12 @@ text_once (command.Compile modulus) formula room bytes a b s t h p q = absurd (c
 text_once (command.Apply modulus schedule) formula room bytes a b s t h p q = p.1 ∙ sym q.1
 text_once _ formula room bytes a b s t h p q = absurd p
 
--- the formula of both calls is one
-moved : (wanted : Command) (bytes : List ℕ) (a : Status) (s : List ℕ) (f g : Formula) → formula_in wanted bytes (Ok f) → formula_in wanted bytes (Ok g)
-    → SettlesFormula wanted f (room_behind bytes) (data_of bytes) a s → SettlesFormula wanted g (room_behind bytes) (data_of bytes) a s
-moved wanted bytes a s f g p q settles =
-    subst (λ (formula : Formula). SettlesFormula wanted formula (room_behind bytes) (data_of bytes) a s)
-    (done_same f g (formula_decided wanted bytes (Ok f) (Ok g) p q)) settles
-
 pub formula_status_once : (wanted : Command) (bytes : List ℕ) (a b : Status) (s t : List ℕ) → IsFormulaAnswer wanted bytes a s → IsFormulaAnswer wanted bytes b t → a ≡ b
-formula_status_once wanted bytes a b s t (inl p) (inl q) = ended_same a b (formula_decided wanted bytes (Err a) (Err b) p.0 q.0)
-formula_status_once wanted bytes a b s t (inl p) (inr q) = absurd (done_ended q.0 a (formula_decided wanted bytes (Ok q.0) (Err a) q.1 p.0))
-formula_status_once wanted bytes a b s t (inr p) (inl q) = absurd (done_ended p.0 b (formula_decided wanted bytes (Ok p.0) (Err b) p.1 q.0))
-formula_status_once wanted bytes a b s t (inr p) (inr q) =
-    settled_once wanted q.0 (room_behind bytes) (data_of bytes) a b s t (moved wanted bytes a s p.0 q.0 p.1 q.1 p.2) q.2
+formula_status_once wanted bytes a b s t =
+    of_answers (a ≡ b) (formula_in wanted bytes) (λ (f : Formula). SettlesFormula wanted f (room_behind bytes) (data_of bytes)) a b s t (formula_decided wanted bytes)
+    (λ same _. same) (λ f _ p q. settled_once wanted f (room_behind bytes) (data_of bytes) a b s t p q)
 
 pub formula_text_once : (wanted : Command) (bytes : List ℕ) (a b : Status) (s t : List ℕ) → prints_one_text wanted ≡ true → IsFormulaAnswer wanted bytes a s → IsFormulaAnswer wanted bytes b t → s ≡ t
-formula_text_once wanted bytes a b s t h (inl p) (inl q) = p.1 ∙ sym q.1
-formula_text_once wanted bytes a b s t h (inl p) (inr q) = absurd (done_ended q.0 a (formula_decided wanted bytes (Ok q.0) (Err a) q.1 p.0))
-formula_text_once wanted bytes a b s t h (inr p) (inl q) = absurd (done_ended p.0 b (formula_decided wanted bytes (Ok p.0) (Err b) p.1 q.0))
-formula_text_once wanted bytes a b s t h (inr p) (inr q) =
-    text_once wanted q.0 (room_behind bytes) (data_of bytes) a b s t h (moved wanted bytes a s p.0 q.0 p.1 q.1 p.2) q.2
+formula_text_once wanted bytes a b s t h =
+    of_answers (s ≡ t) (formula_in wanted bytes) (λ (f : Formula). SettlesFormula wanted f (room_behind bytes) (data_of bytes)) a b s t (formula_decided wanted bytes)
+    (λ _ same. same) (λ f _ p q. text_once wanted f (room_behind bytes) (data_of bytes) a b s t h p q)

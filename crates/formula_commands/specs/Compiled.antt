@@ -23,7 +23,7 @@ use Rattle.spiral_status.specs.Fault.{status_of_spl, status_of_stream, status_of
 use Rattle.spiral_input.specs.Commands.{admitted, first_stranger, procs_named}
 use Rattle.spiral_input.specs.Line.{is_line_end, first_line, data_of, room_behind, HasEnded, IsWholeLine}
 use Rattle.spiral_input.specs.Outcomes.{Outcomes}
-use Rattle.spiral_input.specs.Stage.{Stage, given, ◌>>=◌}
+use Rattle.spiral_input.specs.Stage.{Stage, given, ◌>>=◌, IsAnswerBy, IsBrokenBy, IsCutBy}
 use Rattle.stream_run.specs.Stream.{lines, vectors_of, data_answer, data_vectors}
 
 -- how many bytes the line of a formula has at most
@@ -73,8 +73,7 @@ SettlesFormula _ formula room bytes status text = ⊥
 -- The status and the text of `compile` and `apply`: there is no formula for the command, and nothing is written, or they are those of the command for the formula
 abbrev pub IsFormulaAnswer : Command → List ℕ → Status → List ℕ → Type 0
 IsFormulaAnswer wanted bytes status text =
-    (formula_in wanted bytes (Err status) × (text ≡ []))
-    ⊎ ((formula : Formula) × formula_in wanted bytes (Ok formula) × SettlesFormula wanted formula (room_behind bytes) (data_of bytes) status text)
+    IsAnswerBy (formula_in wanted bytes) (λ (formula : Formula). SettlesFormula wanted formula (room_behind bytes) (data_of bytes)) status text
 
 -- What a fault of the outside leaves
 
@@ -82,11 +81,6 @@ IsFormulaAnswer wanted bytes status text =
 pub record IsPartOfFormula (bytes : List ℕ) : Type 0 where
   pub unended : list_any is_line_end bytes ≡ false
   pub short : length bytes ≤ formula_limit
-
--- the bytes are a line that has ended, which spells the formula for the command, and what stands behind it
-pub record IsFormulaOver (wanted : Command) (read : List ℕ) (ended : Type 0) (formula : Formula) : Type 0 where
-  pub line : HasEnded read ended
-  pub orders : formula_in wanted read (Ok formula)
 
 -- The bytes behind the line show no fault so far, and the text is that of the vectors that are whole in them, though more may follow. `compile` reads no such bytes
 abbrev pub BreaksOffFormula : Command → Formula → List ℕ → List ℕ → Type 0
@@ -97,8 +91,7 @@ BreaksOffFormula _ formula bytes text = ⊥
 -- The bytes that were read show no fault: they are a part of the line, and nothing is written, or a formula and a part of its data
 abbrev pub IsBrokenFormula : Command → List ℕ → Type 0 → List ℕ → Type 0
 IsBrokenFormula wanted read ended text =
-    (IsPartOfFormula read × (text ≡ []))
-    ⊎ ((formula : Formula) × IsFormulaOver wanted read ended formula × BreaksOffFormula wanted formula (data_of read) text)
+    IsBrokenBy (IsPartOfFormula read) (HasEnded read ended) (formula_in wanted read) (λ (formula : Formula). BreaksOffFormula wanted formula (data_of read)) text
 
 -- The text to which the command has come by the bytes that it read behind the line, where this is left
 abbrev pub ComesToFormula : Command → Formula → List ℕ → List ℕ → List ℕ → Type 0
@@ -111,7 +104,7 @@ ComesToFormula _ formula bytes left text = ⊥
 -- The text to which a call has come by the bytes that were read, where this is left
 abbrev pub IsCutFormula : Command → List ℕ → List ℕ → List ℕ → Type 0
 IsCutFormula wanted read left text =
-    (formula : Formula) × IsFormulaOver wanted read (left ≡ []) formula × ComesToFormula wanted formula (data_of read) left text
+    IsCutBy (HasEnded read (left ≡ [])) (formula_in wanted read) (λ (formula : Formula). ComesToFormula wanted formula (data_of read) left) text
 
 -- what is right for a command that goes by a formula
 abbrev pub formula_outcomes : Command → Outcomes

@@ -23,8 +23,8 @@ use spiral_words::Command;
 use std::alloc::Global;
 use stream_run::run_stream;
 
-// A machine with a program for the formula that the text spells, if the schedule names its one processor alone, and room
-// for a vector.
+// A machine with a program for the formula that the text spells, if the schedule names its one processor alone, and
+// room for a vector.
 fn formula_engine(
     alloc: Global,
     modulus: &Modulus,
@@ -49,8 +49,8 @@ fn formula_engine(
     Ok((machine, vector))
 }
 
-/// Writes for each vector of the data behind the first line the line of the matrix times it, whose formula the first line
-/// spells.
+/// Writes for each vector of the data behind the first line the line of the matrix times it, whose formula the first
+/// line spells.
 pub(crate) fn apply<I: Source, O: Sink>(
     alloc: Global,
     modulus: &Modulus,

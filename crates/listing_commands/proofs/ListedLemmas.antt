@@ -1,8 +1,7 @@
 -- What `exec` comes to.
-use Rattle.std.proofs.Common.{◌≡◌, ◌≢◌, ◌⊎◌, ◌<◌, ◌≤◌, ◌+◌, ◌-◌, ℕ, true, false, List, [], ◌∷◌, ◌++◌, None, Some, Ok, Err, Result, nat_le, length, cond, refl, sym, ap, subst, ◌∙◌, arith, append_assoc, length-append, inl, inr}
+use Rattle.std.proofs.Common.{◌≡◌, ◌≢◌, ◌<◌, ◌≤◌, ◌+◌, ◌-◌, ℕ, true, false, List, [], ◌∷◌, ◌++◌, None, Some, Ok, Err, Result, nat_le, length, cond, refl, sym, ap, subst, ◌∙◌, arith, append_assoc, length-append, inl, inr}
 use Rattle.std.proofs.lemmas.Grind.{common_steps}
 use Rattle.std.proofs.KnownBytes.{Appends-nil, Consumes-trans}
-use Rattle.std.specs.List.{list_all}
 use Rattle.std.specs.declared.option.Option.{Option}
 use Rattle.std.specs.Io.KnownBytes.{Consumes, IsAtEnd}
 use Rattle.icode.specs.Actions.{plain_code}
@@ -10,26 +9,21 @@ use Rattle.icode.specs.Machine.{Code, State, results, runs, words_at, padded}
 use Rattle.icode.specs.Plain.{PlainProgram}
 use Rattle.icode.proofs.Lists.{code_is}
 use Rattle.icode.proofs.Runs.{memory_of_runs}
-use Rattle.listing_text.specs.declared.listing.ListingFault.{ListingFault}
-use Rattle.listing_text.specs.declared.listing.ListingFault.TheVariants as listing
-use Rattle.listing_text.specs.Texts.{is_listing, TextAnswers}
-use Rattle.code_check.specs.declared.fault.CheckFault.{CheckFault}
-use Rattle.code_check.specs.declared.fault.CheckFault.TheVariants as check
-use Rattle.code_check.specs.Refusals.{PassesCheck, IsCause}
+use Rattle.listing_text.specs.Texts.{is_listing}
+use Rattle.code_check.specs.Refusals.{PassesCheck}
 use Rattle.io_edge.specs.Feed.{Fed, limit}
 use Rattle.input_rest.specs.declared.RestFault.{RestFault}
 use Rattle.input_rest.specs.declared.RestFault.TheVariants as rest_fault
 use Rattle.input_rest.specs.Part.{first_part, second_part, IsWholePart, GivesPart}
 use Rattle.input_rest.proofs.PartLemmas.{still_ended}
-use Rattle.data_stream.specs.Data.{tokens, closed_part, is_good}
 use Rattle.data_stream.specs.Line.{line_of}
 use Rattle.request_text.specs.Schedule.{Plan}
 use Rattle.spiral_status.specs.declared.status.Status.{Status}
 use Rattle.spiral_status.specs.declared.status.Status.TheVariants.{Turn, ReadFault, WriteFault, NoMemory, TooLong}
 use Rattle.stream_run.specs.declared.stream.StreamFault.{StreamFault}
 use Rattle.spiral_input.specs.Commands.{stranger, admitted}
-use Rattle.spiral_status.specs.Fault.{status_of_listing, status_of_check, status_of_part, status_of_stream}
-use Rattle.listing_commands.specs.Listed.{listing_limit, action_limit, listing_in, loaded, runnable, result_of, IsResultText, room_behind_listing, IsAnswerOfProgram, exec_outcomes}
+use Rattle.spiral_status.specs.Fault.{status_of_part, status_of_stream}
+use Rattle.listing_commands.specs.Listed.{listing_limit, action_limit, listing_in, loaded, runnable, result_of, IsResultText, room_behind_listing, IsAnswerOfProgram, BreaksOffProgram, ComesToProgram, exec_outcomes}
 use Rattle.spiral_status.specs.Status.{IsDefined}
 use Rattle.spiral_input.specs.Refusals.{IsRefusal}
 use Rattle.stream_run.specs.Stream.{run_text, texts, lines, vectors_of, Streams}
@@ -53,34 +47,6 @@ listing_long bytes long =
     ap (λ b. cond {A = Result (List ℕ) Status} b (Ok (first_part bytes)) (Err (TooLong listing_limit))) test
 
 -- The program of the listing
-
--- the text is no listing
-pub unlisted : (schedule : Plan) (text : List ℕ) (fault : ListingFault) → TextAnswers text (Err fault) → IsDefined (status_of_listing fault) → loaded schedule text (Err (status_of_listing fault))
-unlisted schedule text (listing.Syntax line) answer d = inl (line, answer, refl)
-unlisted schedule text listing.NoMemory answer d = absurd (d.memory refl)
-
-pub listing_refusal : (fault : ListingFault) → IsRefusal (status_of_listing fault)
-listing_refusal (listing.Syntax line) = record { success = λ e. cc; read = λ e. cc; write = λ e. cc; usage = λ e. cc }
-listing_refusal listing.NoMemory = record { success = λ e. cc; read = λ e. cc; write = λ e. cc; usage = λ e. cc }
-
--- the program does not pass the check
-refuted : (schedule : Plan) (text : List ℕ) (program : PlainProgram) (fault : CheckFault) → is_listing text program → fault ≢ check.NoMemory → IsCause action_limit program fault → loaded schedule text (Err (status_of_check fault))
-refuted schedule text program fault listed other cause = inr (record { value = program; before = listed; behind = inl (fault, other, cause, refl) })
-
-pub unverified : (schedule : Plan) (text : List ℕ) (program : PlainProgram) (fault : CheckFault) → is_listing text program → IsCause action_limit program fault → IsDefined (status_of_check fault)
-    → loaded schedule text (Err (status_of_check fault))
-unverified schedule text program (check.OverSteps limit) listed cause d = refuted schedule text program (check.OverSteps limit) listed (λ e. cc) cause
-unverified schedule text program (check.Address phase q i) listed cause d = refuted schedule text program (check.Address phase q i) listed (λ e. cc) cause
-unverified schedule text program (check.Register phase q i) listed cause d = refuted schedule text program (check.Register phase q i) listed (λ e. cc) cause
-unverified schedule text program (check.LineShared phase line a b) listed cause d = refuted schedule text program (check.LineShared phase line a b) listed (λ e. cc) cause
-unverified schedule text program check.NoMemory listed cause d = absurd (d.memory refl)
-
-pub check_refusal : (fault : CheckFault) → IsRefusal (status_of_check fault)
-check_refusal (check.OverSteps limit) = record { success = λ e. cc; read = λ e. cc; write = λ e. cc; usage = λ e. cc }
-check_refusal (check.Address phase q i) = record { success = λ e. cc; read = λ e. cc; write = λ e. cc; usage = λ e. cc }
-check_refusal (check.Register phase q i) = record { success = λ e. cc; read = λ e. cc; write = λ e. cc; usage = λ e. cc }
-check_refusal (check.LineShared phase line a b) = record { success = λ e. cc; read = λ e. cc; write = λ e. cc; usage = λ e. cc }
-check_refusal check.NoMemory = record { success = λ e. cc; read = λ e. cc; write = λ e. cc; usage = λ e. cc }
 
 -- the schedule names a processor that is not there
 pub unturned : (schedule : Plan) (text : List ℕ) (program : PlainProgram) (q : ℕ) → is_listing text program → PassesCheck action_limit program → stranger schedule program.procs ≡ Some q
@@ -162,15 +128,6 @@ executes_refused schedule (Some bytes) (Some rest) out read text status consumed
 
 -- A program over its data
 
-abbrev IsGoodData : List ℕ → Type 0
-IsGoodData bytes = list_all is_good (tokens bytes) ≡ true
-
-abbrev IsTextUpTo : PlainProgram → List ℕ → List ℕ → Type 0
-IsTextUpTo program text bytes = IsResultText program (vectors_of program.size program.modulus (tokens (closed_part bytes))) text
-
-abbrev IsTextOfAll : PlainProgram → List ℕ → List ℕ → Type 0
-IsTextOfAll program text bytes = IsResultText program (vectors_of program.size program.modulus (tokens bytes)) text
-
 -- what a program does behind its listing is what the call does
 executes_after : (schedule : Plan) (bytes read rest text : List ℕ) (taken : ℕ) (program : PlainProgram) (left out out' : Option (List ℕ)) (status : Status)
     → bytes ≡ read ++ rest → taken ≡ length read → IsWholePart read (rest ≡ []) text → length text ≤ listing_limit → loaded schedule text (Ok program)
@@ -205,11 +162,10 @@ executes_after schedule bytes read rest text taken program left out out' status 
             inr (
               program,
               record {
-                listing = still_ended read found.0 (rest ≡ []) (IsAtEnd left) whole.end (none_left rest found.0 left found.2);
-                runs = runs found.0 none;
-                good = subst IsGoodData (sym data_is) found.3;
+                front = still_ended read found.0 (rest ≡ []) (IsAtEnd left) whole.end (none_left rest found.0 left found.2);
+                gives = runs found.0 none;
               },
-              subst (IsTextUpTo program found.1) (sym data_is) found.4,
+              subst (λ b. BreaksOffProgram program b found.1) (sym data_is) (found.3, found.4),
             ),
             found.5,
           );
@@ -224,12 +180,10 @@ executes_after schedule bytes read rest text taken program left out out' status 
             (
               program,
               record {
-                listing = still_ended read found.0 (rest ≡ []) (found.1 ≡ []) whole.end (λ end. (none end).1);
-                runs = runs found.0 (λ end. (none end).0);
-                good = subst IsGoodData (sym data_is) found.4;
+                front = still_ended read found.0 (rest ≡ []) (found.1 ≡ []) whole.end (λ end. (none end).1);
+                gives = runs found.0 (λ end. (none end).0);
               },
-              subst (λ b. (closed_part b ≡ b) ⊎ (found.1 ≡ [])) (sym data_is) found.5,
-              subst (IsTextOfAll program found.2) (sym data_is) found.6,
+              subst (λ b. ComesToProgram program b found.1 found.2) (sym data_is) (found.4, found.5, found.6),
             ),
             found.7,
           );

@@ -1,5 +1,5 @@
 -- The schedule and the bytes of a call of `exec` determine its status and its text.
-use Rattle.std.proofs.Common.{◌≡◌, ◌<◌, ◌≤◌, ◌-◌, ◌==◌, ℕ, zero, suc, Bool, true, false, List, [], ◌∷◌, ◌++◌, None, Ok, Err, Result, nat_lt, cond, refl, sym, ap, subst, ◌∙◌, arith, append_assoc, inl, inr}
+use Rattle.std.proofs.Common.{◌≡◌, ◌<◌, ◌≤◌, ◌-◌, ◌==◌, ℕ, zero, suc, Bool, true, false, List, [], ◌∷◌, ◌++◌, None, Ok, Err, Result, nat_lt, cond, refl, sym, ap, subst, ◌∙◌, arith, append_assoc}
 use Rattle.std.proofs.lemmas.Grind.{common_steps}
 use Rattle.icode.specs.Plain.{PlainProgram}
 use Rattle.grammar.specs.Grammar.{Begins, IsLost, first_lines}
@@ -16,7 +16,7 @@ use Rattle.spiral_status.specs.Fault.{status_of_check}
 use Rattle.listing_commands.specs.Listed.{action_limit, listing_in, listed, verified, runnable, IsAnswerOfProgram, room_behind_listing, IsExecution}
 use Rattle.spiral_input.specs.Stage.{given}
 use Rattle.input_rest.specs.Part.{second_part}
-use Rattle.spiral_input.proofs.Stages.{IsDecided, done, ended, done_same, ended_same, done_ended, given_decided, bind_decided}
+use Rattle.spiral_input.proofs.Stages.{IsDecided, done, ended, given_decided, bind_decided, of_answers}
 
 -- A text is lost in one line
 
@@ -80,21 +80,11 @@ runnable_decided schedule bytes =
 -- The call
 
 pub execution_status_once : (schedule : Plan) (bytes : List ℕ) (a b : Status) (s t : List ℕ) → IsExecution schedule bytes a s → IsExecution schedule bytes b t → a ≡ b
-execution_status_once schedule bytes a b s t (inl p) (inl q) = ended_same a b (runnable_decided schedule bytes (Err a) (Err b) p.0 q.0)
-execution_status_once schedule bytes a b s t (inl p) (inr q) = absurd (done_ended q.0 a (runnable_decided schedule bytes (Ok q.0) (Err a) q.1 p.0))
-execution_status_once schedule bytes a b s t (inr p) (inl q) = absurd (done_ended p.0 b (runnable_decided schedule bytes (Ok p.0) (Err b) p.1 q.0))
-execution_status_once schedule bytes a b s t (inr p) (inr q) =
-    let same : p.0 ≡ q.0 = done_same p.0 q.0 (runnable_decided schedule bytes (Ok p.0) (Ok q.0) p.1 q.1) in
-    let first : IsAnswerOfProgram q.0 (room_behind_listing bytes) (second_part bytes) a s =
-    subst (λ (program : PlainProgram). IsAnswerOfProgram program (room_behind_listing bytes) (second_part bytes) a s) same p.2 in
-    first.0 ∙ sym q.2.0
+execution_status_once schedule bytes a b s t =
+    of_answers (a ≡ b) (runnable schedule bytes) (λ (program : PlainProgram). IsAnswerOfProgram program (room_behind_listing bytes) (second_part bytes)) a b s t (runnable_decided schedule bytes)
+    (λ same _. same) (λ _ _ p q. p.0 ∙ sym q.0)
 
 pub execution_text_once : (schedule : Plan) (bytes : List ℕ) (a b : Status) (s t : List ℕ) → IsExecution schedule bytes a s → IsExecution schedule bytes b t → s ≡ t
-execution_text_once schedule bytes a b s t (inl p) (inl q) = p.1 ∙ sym q.1
-execution_text_once schedule bytes a b s t (inl p) (inr q) = absurd (done_ended q.0 a (runnable_decided schedule bytes (Ok q.0) (Err a) q.1 p.0))
-execution_text_once schedule bytes a b s t (inr p) (inl q) = absurd (done_ended p.0 b (runnable_decided schedule bytes (Ok p.0) (Err b) p.1 q.0))
-execution_text_once schedule bytes a b s t (inr p) (inr q) =
-    let same : p.0 ≡ q.0 = done_same p.0 q.0 (runnable_decided schedule bytes (Ok p.0) (Ok q.0) p.1 q.1) in
-    let first : IsAnswerOfProgram q.0 (room_behind_listing bytes) (second_part bytes) a s =
-    subst (λ (program : PlainProgram). IsAnswerOfProgram program (room_behind_listing bytes) (second_part bytes) a s) same p.2 in
-    first.1 ∙ sym q.2.1
+execution_text_once schedule bytes a b s t =
+    of_answers (s ≡ t) (runnable schedule bytes) (λ (program : PlainProgram). IsAnswerOfProgram program (room_behind_listing bytes) (second_part bytes)) a b s t (runnable_decided schedule bytes)
+    (λ _ same. same) (λ _ _ p q. p.1 ∙ sym q.1)

@@ -20,7 +20,7 @@ use Rattle.spiral_status.specs.declared.status.Status.TheVariants.{TooLong, List
 use Rattle.spiral_status.specs.Fault.{status_of_check, status_of_stream, status_of_part}
 use Rattle.spiral_input.specs.Commands.{stranger, admitted}
 use Rattle.spiral_input.specs.Outcomes.{Outcomes}
-use Rattle.spiral_input.specs.Stage.{Stage, given, ◌>>=◌}
+use Rattle.spiral_input.specs.Stage.{Stage, given, ◌>>=◌, IsAnswerBy, IsBrokenBy, IsCutBy}
 use Rattle.stream_run.specs.Stream.{lines, vectors_of, data_answer, data_vectors}
 
 -- how many bytes a listing has at most, and how many actions its program
@@ -77,28 +77,30 @@ IsAnswerOfProgram program room bytes status text =
 -- The status and the text of `exec`: there is no program to run, and nothing is written, or they are those of the program over what stands behind the listing
 abbrev pub IsExecution : Turns → List ℕ → Status → List ℕ → Type 0
 IsExecution schedule bytes status text =
-    (runnable schedule bytes (Err status) × (text ≡ []))
-    ⊎ ((program : PlainProgram) × runnable schedule bytes (Ok program) × IsAnswerOfProgram program (room_behind_listing bytes) (second_part bytes) status text)
+    IsAnswerBy (runnable schedule bytes) (λ (program : PlainProgram). IsAnswerOfProgram program (room_behind_listing bytes) (second_part bytes)) status text
 
 -- What a fault of the outside leaves
 
--- the bytes are a listing that has ended, whose program is to run, and what stands behind it, where all tokens are good
-pub record IsProgramOver (schedule : Turns) (read : List ℕ) (ended : Type 0) (program : PlainProgram) : Type 0 where
-  pub listing : HasPartEnded read ended
-  pub runs : runnable schedule read (Ok program)
-  pub good : list_all is_good (tokens (second_part read)) ≡ true
+-- The bytes behind the listing show no fault so far, and the text is that of the vectors that are whole in them, though more may follow
+abbrev pub BreaksOffProgram : PlainProgram → List ℕ → List ℕ → Type 0
+BreaksOffProgram program bytes text =
+    (list_all is_good (tokens bytes) ≡ true) × IsResultText program (vectors_of program.size program.modulus (tokens (closed_part bytes))) text
 
 -- The bytes that were read show no fault: they are a part of the listing, and nothing is written, or a program and a part of its data, of which no token counts that may go on
 abbrev pub IsBrokenExecution : Turns → List ℕ → Type 0 → List ℕ → Type 0
 IsBrokenExecution schedule read ended text =
-    (IsInPart listing_limit read × (text ≡ []))
-    ⊎ ((program : PlainProgram) × IsProgramOver schedule read ended program × IsResultText program (vectors_of program.size program.modulus (tokens (closed_part (second_part read)))) text)
+    IsBrokenBy (IsInPart listing_limit read) (HasPartEnded read ended) (runnable schedule read) (λ (program : PlainProgram). BreaksOffProgram program (second_part read)) text
 
--- The text to which a program has come by the bytes that were read, where this is left
+-- The text to which a program has come by the bytes that were read behind the listing, where this is left
+abbrev pub ComesToProgram : PlainProgram → List ℕ → List ℕ → List ℕ → Type 0
+ComesToProgram program bytes left text =
+    (list_all is_good (tokens bytes) ≡ true) × ((closed_part bytes ≡ bytes) ⊎ (left ≡ []))
+    × IsResultText program (vectors_of program.size program.modulus (tokens bytes)) text
+
+-- The text to which a call has come by the bytes that were read, where this is left
 abbrev pub IsCutExecution : Turns → List ℕ → List ℕ → List ℕ → Type 0
 IsCutExecution schedule read left text =
-    (program : PlainProgram) × IsProgramOver schedule read (left ≡ []) program × ((closed_part (second_part read) ≡ second_part read) ⊎ (left ≡ []))
-    × IsResultText program (vectors_of program.size program.modulus (tokens (second_part read))) text
+    IsCutBy (HasPartEnded read (left ≡ [])) (runnable schedule read) (λ (program : PlainProgram). ComesToProgram program (second_part read) left) text
 
 -- what is right for `exec`
 abbrev pub exec_outcomes : Turns → Outcomes

@@ -44,7 +44,8 @@ fn listing_text<I: Source>(alloc: Global, feed: &mut Feed, input: &mut I) -> Res
     }
 }
 
-// A machine with the listing's program, if it passes the check and has the schedule's processors, and room for a vector.
+// A machine with the listing's program, if it passes the check and has the schedule's processors, and room for a
+// vector.
 fn loaded_engine(
     alloc: Global,
     text: &[u8],
@@ -66,8 +67,8 @@ fn loaded_engine(
     Ok((machine, vector))
 }
 
-/// Runs the program of the listing with which the input begins on each vector of the data behind it, and writes the line
-/// of its results. The program runs only if it passes the check.
+/// Runs the program of the listing with which the input begins on each vector of the data behind it, and writes the
+/// line of its results. The program runs only if it passes the check.
 pub fn exec<I: Source, O: Sink>(
     alloc: Global,
     schedule: &Schedule,

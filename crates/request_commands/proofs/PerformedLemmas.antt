@@ -1,5 +1,5 @@
 -- What the commands for a request perform.
-use Rattle.std.proofs.Common.{◌≡◌, ◌≢◌, ◌<◌, ◌≤◌, ◌+◌, ◌-◌, ◌/◌, ℕ, true, false, List, [], ◌++◌, None, Some, Err, Result, length, refl, sym, ap, subst, ◌∙◌, arith, append-nil, length-append, inl, inr}
+use Rattle.std.proofs.Common.{◌≡◌, ◌<◌, ◌≤◌, ◌+◌, ◌-◌, ◌/◌, ℕ, true, false, List, [], ◌++◌, None, Some, Err, Result, length, refl, sym, ap, subst, ◌∙◌, arith, append-nil, length-append, inl, inr}
 use Rattle.std.proofs.Math.Nat.{div-mul-le_self}
 use Rattle.std.proofs.KnownBytes.{Appends-nil}
 use Rattle.std.specs.List.{All}
@@ -14,7 +14,7 @@ use Rattle.io_edge.specs.Taken.{AppendsPrefix}
 use Rattle.data_stream.specs.Reading.{residues}
 use Rattle.plan_faults.specs.declared.generating.GenerateFault.{GenerateFault}
 use Rattle.plan_faults.specs.declared.generating.GenerateFault.TheVariants as generate
-use Rattle.transform_code.specs.Planned.{IsPlanned, IsAdmitted, IsBarred}
+use Rattle.transform_code.specs.Planned.{IsAdmitted, IsBarred}
 use Rattle.icode.specs.Program.{plain_program, code_of}
 use Rattle.listing_text.specs.Listing.{listing_of}
 use Rattle.input_rest.specs.declared.RestFault.{RestFault}
@@ -46,13 +46,7 @@ use Rattle.spiral_input.proofs.OutcomeLemmas.{meets_nothing}
 
 -- Refusals
 
--- why there is no program
-pub generate_refused : (request : TransformRequest) (fault : GenerateFault) → (fault ≢ generate.NoMemory → IsPlanned request (Err fault)) → IsDefined (status_of_generate fault) → IsRefused request (status_of_generate fault)
-generate_refused request (generate.Root power) p d = (generate.Root power, p (λ e. cc), refl)
-generate_refused request generate.NoDivide p d = (generate.NoDivide, p (λ e. cc), refl)
-generate_refused request (generate.OverBudget cost budget) p d = (generate.OverBudget cost budget, p (λ e. cc), refl)
-generate_refused request generate.NoMemory p d = absurd (d.memory refl)
-
+-- a fault of the making refuses the request
 pub generate_refusal : (fault : GenerateFault) → IsRefusal (status_of_generate fault)
 generate_refusal (generate.Root power) = record { success = λ e. cc; read = λ e. cc; write = λ e. cc; usage = λ e. cc }
 generate_refusal generate.NoDivide = record { success = λ e. cc; read = λ e. cc; write = λ e. cc; usage = λ e. cc }
@@ -254,10 +248,6 @@ listing_cut order request listing code room (Some bytes) left out out' made in_r
 -- a command that has no memory
 performs_nothing : (wanted : Command) (request : TransformRequest) (room : ℕ) (bytes : List ℕ) (left out : Option (List ℕ)) → Meets (request_outcomes wanted request room) bytes left out out NoMemory
 performs_nothing wanted request room bytes left out = record { answer = λ d. absurd (d.memory refl); read_fault = λ e. absurd (cc); write_fault = λ e. absurd (cc) }
-
-pub told_nothing : (wanted : Command) (request : TransformRequest) (room : ℕ) (before left out : Option (List ℕ)) → ToldMeets (request_outcomes wanted request room) before left out out NoMemory
-told_nothing wanted request room None left out = tt
-told_nothing wanted request room (Some bytes) left out = performs_nothing wanted request room bytes left out
 
 judged_performs : (request : TransformRequest) (room : ℕ) (bytes : List ℕ) (left out out' : Option (List ℕ)) (found : Verdict)
     → IsAdmitted request → length bytes ≤ certificate_limit → IsVerdict request bytes found → Appends out out' (verdict_text found)

@@ -17,9 +17,6 @@ pub good_procs : (request : TransformRequest) (code : Code) → IsGoodCode reque
 good_procs request code good = ap (λ (k : Code). k.procs) good.4 ∙ good.3.header.procs
 
 -- the turns of a schedule are of these processors
-pub good_stranger : (plan : Plan) (request : TransformRequest) (code : Code) → IsGoodCode request code → HasNoStranger plan (procs_of request) → HasNoStranger plan code.procs
-good_stranger plan request code good none = subst (HasNoStranger plan) (sym (good_procs request code good)) none
-
 pub good_turns : (plan : Plan) (request : TransformRequest) (code : Code) → IsGoodCode request code → IsRequestInRange request → HasNoStranger plan (procs_of request) → All (λ q. q < procs_of request) (turns_of plan code.procs)
 good_turns plan request code good in_range none =
     subst (λ p. All (λ q. q < procs_of request) (turns_of plan p)) (sym (good_procs request code good))

@@ -1,7 +1,7 @@
 -- Stages that have one right answer.
-use Rattle.std.proofs.Common.{◌≡◌, Ok, Err, Result, sym, ap, subst, ◌∙◌, inl, inr}
+use Rattle.std.proofs.Common.{◌≡◌, ℕ, List, Ok, Err, Result, sym, ap, subst, ◌∙◌, inl, inr}
 use Rattle.spiral_status.specs.declared.status.Status.{Status}
-use Rattle.spiral_input.specs.Stage.{Stage, given, GoesOn, ◌>>=◌}
+use Rattle.spiral_input.specs.Stage.{Stage, given, GoesOn, ◌>>=◌, IsAnswerBy}
 
 -- at most one answer is right
 abbrev pub IsDecided : {A : Type 0} → Stage A → Type 0
@@ -44,3 +44,20 @@ bind_decided first next d n (Err s) (Err t) (inl p) (inl q) = ap ended (ended_sa
 bind_decided first next d n (Err s) (Err t) (inl p) (inr q) = absurd (stage_clash first next s (Err t) d p q)
 bind_decided first next d n (Err s) (Err t) (inr p) (inl q) = absurd (stage_clash first next t (Err s) d q p)
 bind_decided first next d n (Err s) (Err t) (inr p) (inr q) = behind_same first next d n (Err s) (Err t) p q
+
+-- What a call answers by such a stage
+
+-- where the stage gives a value, the answer is right for it
+pub answer_for : {A : Type 0} (stage : Stage A) (Settles : A → Status → List ℕ → Type 0) (value : A) (status : Status) (text : List ℕ)
+    → IsDecided stage → stage (Ok value) → IsAnswerBy stage Settles status text → Settles value status text
+answer_for stage Settles value status text decided gives (inl p) = absurd (done_ended value status (decided (Ok value) (Err status) gives p.0))
+answer_for {A} stage Settles value status text decided gives (inr p) =
+    subst (λ (v : A). Settles v status text) (done_same p.0 value (decided (Ok p.0) (Ok value) p.1 gives)) p.2
+
+-- what is so of two answers without a value, and of two that are right for one value, is so of any two
+pub of_answers : {A : Type 0} (Holds : Type 0) (stage : Stage A) (Settles : A → Status → List ℕ → Type 0) (a b : Status) (s t : List ℕ) → IsDecided stage
+    → (a ≡ b → s ≡ t → Holds) → ((value : A) → stage (Ok value) → Settles value a s → Settles value b t → Holds)
+    → IsAnswerBy stage Settles a s → IsAnswerBy stage Settles b t → Holds
+of_answers Holds stage Settles a b s t decided without by (inl p) (inl q) = without (ended_same a b (decided (Err a) (Err b) p.0 q.0)) (p.1 ∙ sym q.1)
+of_answers Holds stage Settles a b s t decided without by (inl p) (inr q) = absurd (done_ended q.0 a (decided (Ok q.0) (Err a) q.1 p.0))
+of_answers Holds stage Settles a b s t decided without by (inr p) q = by p.0 p.1 p.2 (answer_for stage Settles p.0 b t decided p.1 q)

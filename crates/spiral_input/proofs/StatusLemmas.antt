@@ -10,8 +10,7 @@ use Rattle.spiral_status.specs.declared.status.Status.TheVariants.{Success, Usag
 use Rattle.stream_run.specs.declared.stream.StreamFault.{StreamFault}
 use Rattle.stream_run.specs.declared.stream.StreamFault.TheVariants as stream
 use Rattle.spiral_status.specs.Fault.{status_of_rest, status_of_fault}
-use Rattle.spiral_input.proofs.Stages.{ended, ended_same}
-use Rattle.spiral_input.specs.Ends.{EndsCleanly, ReadsCleanly}
+use Rattle.spiral_input.specs.Ends.{EndsCleanly}
 use Rattle.spiral_input.specs.Refusals.{IsRefusal}
 
 -- the faults of a run over the data, as statuses
@@ -96,17 +95,6 @@ quiet_ends status held before now writes out same usage read write = record {
   usage = usage;
   read = rw same (unreported (status ≡ ReadFault) before read);
   write = unreported (status ≡ WriteFault) writes write;
-  memory = λ e. Appends-nil out;
-}
-
--- as its reading ended
-pub reading_ends : {A : Type 0} (status : Status) (held : List ℕ) (before now writes : ℕ) (out : Option (List ℕ))
-    → ReadsCleanly {A = A} (ended {A = A} status) held before now → EndsCleanly status held before now writes writes out out
-reading_ends {A} status held before now writes out ends = record {
-  empty = λ e. ends.empty (ap (ended {A = A}) e);
-  usage = ends.others.usage;
-  read = record { later = ends.read.later; cause = λ e. ends.read.cause (ap (ended {A = A}) e); told = λ h. ended_same {A = A} status ReadFault (ends.read.told h) };
-  write = unreported (status ≡ WriteFault) writes ends.others.write;
   memory = λ e. Appends-nil out;
 }
 

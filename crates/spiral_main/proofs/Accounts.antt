@@ -18,8 +18,9 @@ use Rattle.spiral_input.specs.Line.{data_of, HasEnded, room_behind}
 use Rattle.spiral_status.specs.Status.{IsDefined}
 use Rattle.request_commands.specs.Settled.{IsAccepted, Settles, BreaksOff, ComesTo}
 use Rattle.spiral_input.specs.Asking.{requested, spelt, AsksBy, Asks}
-use Rattle.spiral_main.specs.Outcome.{Job, IsOrder, call_outcomes}
+use Rattle.spiral_main.specs.Outcome.{Job, ordered, call_outcomes}
 use Rattle.spiral_input.specs.Refusals.{IsEarly}
+use Rattle.spiral_input.specs.Stage.{HasGiven}
 use Rattle.request_commands.specs.Performed.{request_outcomes}
 use Rattle.listing_commands.specs.Listed.{exec_outcomes}
 use Rattle.formula_commands.specs.Compiled.{formula_outcomes}
@@ -47,10 +48,10 @@ accounts_after words bytes read rest taken wanted request left out out' status n
     let room : limit - taken ≡ room_behind bytes = ap (λ n. limit - n) (let first = asked.0 in omega arith) in
     let line : HasEnded read (rest ≡ []) = line_there read rest (λ more none. (asked.1 more none).1) in
     let job : Job = record { command = wanted; request = request } in
-    let order : (more : List ℕ) (ended : Type 0) → (rest ≡ [] → more ≡ []) → (rest ≡ [] → ended) → IsAccepted wanted request → IsOrder words (read ++ more) ended job =
+    let order : (more : List ℕ) (ended : Type 0) → (rest ≡ [] → more ≡ []) → (rest ≡ [] → ended) → IsAccepted wanted request → HasGiven (HasEnded (read ++ more) ended) (ordered words (read ++ more)) job =
     λ more ended none goes there. record {
-      line = still_ended read more (rest ≡ []) ended line goes;
-      asks = record { value = wanted; before = named; behind = record { value = request; before = (asked.1 more none).0; behind = (there, refl) } };
+      front = still_ended read more (rest ≡ []) ended line goes;
+      gives = record { value = wanted; before = named; behind = record { value = request; before = (asked.1 more none).0; behind = (there, refl) } };
     } in
     record {
       answer = λ d.
@@ -73,7 +74,7 @@ accounts_after words bytes read rest taken wanted request left out out' status n
             read ++ found.0,
             found.1,
             Consumes-trans (Some bytes) (Some rest) left read found.0 whole found.2,
-            inr (inl (
+            inl (inr (
               job,
               order found.0 (IsAtEnd left) none (none_left rest found.0 left found.2) found.3.0,
               subst (λ b. BreaksOff wanted request b found.1) (sym (asked.1 found.0 none).1) found.3.1,
@@ -120,7 +121,7 @@ accounted_line words (Some bytes) (Some rest) left taken wanted out status named
     inl (inl (inr (record { value = wanted; before = named; behind = inl (subst (λ b. requested wanted b (Err status)) (sym a.1) (a.2.0 d)) }), refl)),
     Appends-nil out,
   );
-  read_fault = λ e. (a.0, [], subst (λ (o : Option (List ℕ)). Consumes (Some bytes) o a.0) (same e) a.1, inl ((wanted, named), a.2.1 e, refl), Appends-nil out);
+  read_fault = λ e. (a.0, [], subst (λ (o : Option (List ℕ)). Consumes (Some bytes) o a.0) (same e) a.1, inl (inl (((wanted, named), a.2.1 e), refl)), Appends-nil out);
   write_fault = λ e. absurd (w e);
 }
 
@@ -130,7 +131,7 @@ pub executed_accounts : (words : List (List ℕ)) (schedule : Plan) (before left
     → IsAsked words (command.Exec schedule) → ToldMeets (exec_outcomes schedule) before left out out' status → ToldMeets (call_outcomes words) before left out out' status
 executed_accounts words schedule before left out out' status asked =
     meets_wider (exec_outcomes schedule) (call_outcomes words) before left out out' status
-    (λ bytes s text p. inr (inl (schedule, asked, p))) (λ read text p. inr (inr (inl (schedule, asked, p)))) (λ read rest text p. inr (inl (schedule, asked, p)))
+    (λ bytes s text p. inr (inl (schedule, asked, p))) (λ read text p. inr (inl (schedule, asked, p))) (λ read rest text p. inr (inl (schedule, asked, p)))
 
 -- By a formula
 
@@ -138,7 +139,7 @@ pub computed_accounts : (words : List (List ℕ)) (wanted : Command) (before lef
     → AskForFormula words wanted → ToldMeets (formula_outcomes wanted) before left out out' status → ToldMeets (call_outcomes words) before left out out' status
 computed_accounts words wanted before left out out' status asked =
     meets_wider (formula_outcomes wanted) (call_outcomes words) before left out out' status
-    (λ bytes s text p. inr (inr (inl (wanted, asked, p)))) (λ read text p. inr (inr (inr (inl (wanted, asked, p))))) (λ read rest text p. inr (inr (inl (wanted, asked, p))))
+    (λ bytes s text p. inr (inr (inl (wanted, asked, p)))) (λ read text p. inr (inr (inl (wanted, asked, p)))) (λ read rest text p. inr (inr (inl (wanted, asked, p))))
 
 -- By a list
 
@@ -146,4 +147,4 @@ pub convolved_accounts : (words : List (List ℕ)) (wanted : Command) (before le
     → AskForConvolution words wanted → ToldMeets (conv_outcomes wanted) before left out out' status → ToldMeets (call_outcomes words) before left out out' status
 convolved_accounts words wanted before left out out' status asked =
     meets_wider (conv_outcomes wanted) (call_outcomes words) before left out out' status
-    (λ bytes s text p. inr (inr (inr (wanted, asked, p)))) (λ read text p. inr (inr (inr (inr (wanted, asked, p))))) (λ read rest text p. inr (inr (inr (wanted, asked, p))))
+    (λ bytes s text p. inr (inr (inr (wanted, asked, p)))) (λ read text p. inr (inr (inr (wanted, asked, p)))) (λ read rest text p. inr (inr (inr (wanted, asked, p))))

@@ -26,7 +26,7 @@ use Rattle.convolution_commands.proofs.OneConvolution.{conv_status_once}
 use Rattle.listing_commands.proofs.OneExecution.{execution_status_once}
 use Rattle.formula_commands.proofs.OneFormula.{formula_status_once}
 use Rattle.spiral_main.proofs.OnePlan.{bar_clash, bar_once, plan_clash, refusal_once}
-use Rattle.spiral_input.proofs.Stages.{IsDecided, done, ended, done_same, ended_same, done_ended, given_decided, bind_decided}
+use Rattle.spiral_input.proofs.Stages.{IsDecided, done, ended, given_decided, bind_decided, of_answers}
 use Rattle.spiral_words.proofs.OneCommand.{asked_once}
 
 -- The words and the line
@@ -182,13 +182,9 @@ settled_once wanted r room bytes a b s t (inr (inr p)) (inr (inl q)) = absurd (t
 settled_once wanted r room bytes a b s t (inr (inr p)) (inr (inr q)) = checked_once r bytes a b s t p.1 q.1
 
 answer_once : (words : List (List ℕ)) (bytes : List ℕ) (a b : Status) (s t : List ℕ) → IsAnswerToRequest words bytes a s → IsAnswerToRequest words bytes b t → a ≡ b
-answer_once words bytes a b s t (inl p) (inl q) = ended_same a b (ordered_decided words bytes (Err a) (Err b) p.0 q.0)
-answer_once words bytes a b s t (inl p) (inr q) = absurd (done_ended q.0 a (ordered_decided words bytes (Ok q.0) (Err a) q.1 p.0))
-answer_once words bytes a b s t (inr p) (inl q) = absurd (done_ended p.0 b (ordered_decided words bytes (Ok p.0) (Err b) p.1 q.0))
-answer_once words bytes a b s t (inr p) (inr q) =
-    let same : p.0 ≡ q.0 = done_same p.0 q.0 (ordered_decided words bytes (Ok p.0) (Ok q.0) p.1 q.1) in
-    settled_once q.0.command q.0.request (room_behind bytes) (data_of bytes) a b s t
-    (subst (λ (job : Job). Settles job.command job.request (room_behind bytes) (data_of bytes) a s) same p.2) q.2
+answer_once words bytes a b s t =
+    of_answers (a ≡ b) (ordered words bytes) (λ (job : Job). Settles job.command job.request (room_behind bytes) (data_of bytes)) a b s t (ordered_decided words bytes)
+    (λ same _. same) (λ job _ p q. settled_once job.command job.request (room_behind bytes) (data_of bytes) a b s t p q)
 
 -- By a request, by a listing, by a formula or by a list
 

@@ -1,5 +1,5 @@
 -- The words and the bytes of a call determine its text, but for the commands that print a program.
-use Rattle.std.proofs.Common.{◌≡◌, ℕ, true, List, [], ◌∷◌, ◌++◌, Ok, Err, sym, ap, subst, ◌∙◌, arith, inl, inr}
+use Rattle.std.proofs.Common.{◌≡◌, ℕ, true, List, [], ◌∷◌, ◌++◌, Ok, sym, ap, subst, ◌∙◌, arith, inl, inr}
 use Rattle.transform_requests.specs.declared.TransformRequest.{TransformRequest}
 use Rattle.request_text.specs.Schedule.{Plan}
 use Rattle.spiral_words.specs.declared.Command.{Command}
@@ -30,7 +30,7 @@ use Rattle.convolution_commands.proofs.OneConvolution.{conv_text_once}
 use Rattle.listing_commands.proofs.OneExecution.{execution_text_once}
 use Rattle.formula_commands.proofs.OneFormula.{formula_text_once}
 use Rattle.spiral_main.proofs.OneOutcome.{ordered_decided, data_or_text, data_or_check, text_or_check, no_both, listing_alone, request_alone, schedule_asked_once}
-use Rattle.spiral_input.proofs.Stages.{done_same, done_ended}
+use Rattle.spiral_input.proofs.Stages.{of_answers}
 
 text_once : (wanted : Command) (r : TransformRequest) (s t : List ℕ) → prints_one_text wanted ≡ true → IsTextOf wanted r s → IsTextOf wanted r t → s ≡ t
 text_once command.Plan r s t h p q = p.2 ∙ ap (plan_text r) (planned_once r p.0 q.0 p.1 q.1) ∙ sym q.2
@@ -90,14 +90,12 @@ job_asked words bytes job p = subst (λ (j : Job). IsAsked words j.command) (sym
 
 answer_text_once : (words : List (List ℕ)) (bytes : List ℕ) (wanted : Command) (a b : Status) (s t : List ℕ) → IsAsked words wanted → prints_one_text wanted ≡ true
     → IsAnswerToRequest words bytes a s → IsAnswerToRequest words bytes b t → s ≡ t
-answer_text_once words bytes wanted a b s t asked h (inl p) (inl q) = p.1 ∙ sym q.1
-answer_text_once words bytes wanted a b s t asked h (inl p) (inr q) = absurd (done_ended q.0 a (ordered_decided words bytes (Ok q.0) (Err a) q.1 p.0))
-answer_text_once words bytes wanted a b s t asked h (inr p) (inl q) = absurd (done_ended p.0 b (ordered_decided words bytes (Ok p.0) (Err b) p.1 q.0))
-answer_text_once words bytes wanted a b s t asked h (inr p) (inr q) =
-    let same : p.0 ≡ q.0 = done_same p.0 q.0 (ordered_decided words bytes (Ok p.0) (Ok q.0) p.1 q.1) in
-    let own : wanted ≡ q.0.command = asked_once words wanted q.0.command asked (job_asked words bytes q.0 q.1) in
-    settled_text_once q.0.command q.0.request (room_behind bytes) (data_of bytes) a b s t (subst (λ (k : Command). prints_one_text k ≡ true) own h)
-    (subst (λ (job : Job). Settles job.command job.request (room_behind bytes) (data_of bytes) a s) same p.2) q.2
+answer_text_once words bytes wanted a b s t asked h =
+    of_answers (s ≡ t) (ordered words bytes) (λ (job : Job). Settles job.command job.request (room_behind bytes) (data_of bytes)) a b s t (ordered_decided words bytes)
+    (λ _ same. same)
+    (λ job ordered_so p q.
+    let own : wanted ≡ job.command = asked_once words wanted job.command asked (job_asked words bytes job ordered_so) in
+    settled_text_once job.command job.request (room_behind bytes) (data_of bytes) a b s t (subst (λ (k : Command). prints_one_text k ≡ true) own h) p q)
 
 pub one_text : (words : List (List ℕ)) (bytes : List ℕ) (wanted : Command) (a b : Status) (s t : List ℕ) → IsAsked words wanted → prints_one_text wanted ≡ true
     → IsOutcome words bytes a s → IsOutcome words bytes b t → s ≡ t

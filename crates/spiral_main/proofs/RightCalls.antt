@@ -1,5 +1,5 @@
 -- A call that is right succeeds, unless the outside fails or memory runs out.
-use Rattle.std.proofs.Common.{◌≡◌, ◌≢◌, ◌⊎◌, ℕ, true, false, List, Ok, Err, refl, ap, subst, ◌∙◌, arith, inl, inr}
+use Rattle.std.proofs.Common.{◌≡◌, ◌≢◌, ◌⊎◌, ℕ, true, false, List, Ok, refl, ap, subst, ◌∙◌, arith, inl, inr}
 use Rattle.std.specs.declared.option.Option.{Option}
 use Rattle.matrix_meaning.specs.declared.Request.{Request}
 use Rattle.transform_requests.specs.declared.TransformRequest.{TransformRequest}
@@ -22,7 +22,7 @@ use Rattle.formula_commands.specs.Compiled.{formula_in, SettlesFormula, IsFormul
 use Rattle.spiral_status.specs.Fault.{status_of_stream}
 use Rattle.spiral_input.specs.Line.{data_of, room_behind}
 use Rattle.listing_commands.specs.Listed.{runnable, room_behind_listing, IsAnswerOfProgram, IsExecution}
-use Rattle.spiral_main.specs.Outcome.{Job, IsAnswerToRequest, IsOutcome, Accounts}
+use Rattle.spiral_main.specs.Outcome.{Job, ordered, IsAnswerToRequest, IsOutcome, Accounts}
 use Rattle.request_commands.specs.Settled.{IsTextOfData, Settles}
 use Rattle.spiral_main.specs.Right.{AreRightData, AreRightVectors, BeginWithList, AreWholeVectors, IsRightRest, IsRightRequest, IsRightCall, Succeeds}
 use Rattle.stream_run.specs.Stream.{data_answer}
@@ -31,7 +31,7 @@ use Rattle.convolution_commands.proofs.OneConvolution.{conv_decided}
 use Rattle.listing_commands.proofs.OneExecution.{runnable_decided}
 use Rattle.formula_commands.proofs.OneFormula.{formula_decided}
 use Rattle.spiral_main.proofs.OneOutcome.{ordered_decided, no_order, no_answer, no_formula, no_request, no_plain_request, no_convolution, no_both, listing_alone, schedule_asked_once}
-use Rattle.spiral_input.proofs.Stages.{done_same, done_ended}
+use Rattle.spiral_input.proofs.Stages.{answer_for}
 use Rattle.stream_run.proofs.StreamLemmas.{right_answer}
 
 data_right : (wanted : Command) (r : TransformRequest) (room : ℕ) (bytes : List ℕ) (vectors : List (List ℕ)) (text : List ℕ) → IsRightRest wanted r room bytes → IsTextOfData wanted r vectors text
@@ -72,19 +72,15 @@ settled_right wanted r room bytes s text right (inr (inl p)) = p.0
 settled_right wanted r room bytes s text right (inr (inr p)) = check_right wanted r room bytes s text right p.0 p.1
 
 answer_success : (words : List (List ℕ)) (bytes : List ℕ) (s : Status) (text : List ℕ) → IsRightRequest words bytes → IsAnswerToRequest words bytes s text → s ≡ Success
-answer_success words bytes s text right (inl p) = absurd (done_ended right.job s (ordered_decided words bytes (Ok right.job) (Err s) right.asks p.0))
-answer_success words bytes s text right (inr p) =
-    let same : p.0 ≡ right.job = done_same p.0 right.job (ordered_decided words bytes (Ok p.0) (Ok right.job) p.1 right.asks) in
+answer_success words bytes s text right p =
     settled_right right.job.command right.job.request (room_behind bytes) (data_of bytes) s text right.rest
-    (subst (λ (job : Job). Settles job.command job.request (room_behind bytes) (data_of bytes) s text) same p.2)
+    (answer_for (ordered words bytes) (λ (job : Job). Settles job.command job.request (room_behind bytes) (data_of bytes)) right.job s text (ordered_decided words bytes) right.asks p)
 
 execution_success : (schedule : Plan) (bytes : List ℕ) (program : PlainProgram) (s : Status) (text : List ℕ) → runnable schedule bytes (Ok program)
     → AreWholeVectors program.size (room_behind_listing bytes) (second_part bytes) → IsExecution schedule bytes s text → s ≡ Success
-execution_success schedule bytes program s text runs right (inl p) = absurd (done_ended program s (runnable_decided schedule bytes (Ok program) (Err s) runs p.0))
-execution_success schedule bytes program s text runs right (inr p) =
-    let same : p.0 ≡ program = done_same p.0 program (runnable_decided schedule bytes (Ok p.0) (Ok program) p.1 runs) in
+execution_success schedule bytes program s text runs right p =
     let answer : IsAnswerOfProgram program (room_behind_listing bytes) (second_part bytes) s text =
-    subst (λ (q : PlainProgram). IsAnswerOfProgram q (room_behind_listing bytes) (second_part bytes) s text) same p.2 in
+    answer_for (runnable schedule bytes) (λ (q : PlainProgram). IsAnswerOfProgram q (room_behind_listing bytes) (second_part bytes)) program s text (runnable_decided schedule bytes) runs p in
     answer.0 ∙ ap status_of_stream (right_answer program.size (room_behind_listing bytes) (second_part bytes) right.few right.good right.whole)
 
 settled_formula : (wanted : Command) (formula : Formula) (room : ℕ) (bytes : List ℕ) (s : Status) (text : List ℕ) → AreRightData wanted formula room bytes
@@ -96,11 +92,9 @@ settled_formula _ formula room bytes s text right p = absurd p
 
 formula_success : (wanted : Command) (bytes : List ℕ) (formula : Formula) (s : Status) (text : List ℕ) → formula_in wanted bytes (Ok formula)
     → AreRightData wanted formula (room_behind bytes) (data_of bytes) → IsFormulaAnswer wanted bytes s text → s ≡ Success
-formula_success wanted bytes formula s text orders right (inl p) = absurd (done_ended formula s (formula_decided wanted bytes (Ok formula) (Err s) orders p.0))
-formula_success wanted bytes formula s text orders right (inr p) =
-    let same : p.0 ≡ formula = done_same p.0 formula (formula_decided wanted bytes (Ok p.0) (Ok formula) p.1 orders) in
+formula_success wanted bytes formula s text orders right p =
     settled_formula wanted formula (room_behind bytes) (data_of bytes) s text right
-    (subst (λ (f : Formula). SettlesFormula wanted f (room_behind bytes) (data_of bytes) s text) same p.2)
+    (answer_for (formula_in wanted bytes) (λ (f : Formula). SettlesFormula wanted f (room_behind bytes) (data_of bytes)) formula s text (formula_decided wanted bytes) orders p)
 
 list_right : (wanted : Command) (request : Request) (room : ℕ) (bytes : List ℕ) → takes_convolution wanted ≡ true → AreRightVectors wanted request room bytes
     → list_status wanted (data_answer request.size room bytes) ≡ Success
@@ -110,10 +104,9 @@ list_right _ request room bytes h right = absurd (cc)
 
 conv_success : (wanted : Command) (bytes : List ℕ) (request : Request) (s : Status) (text : List ℕ) → takes_convolution wanted ≡ true → conv_in wanted bytes (Ok request)
     → BeginWithList request (room_behind bytes) (data_of bytes) → AreRightVectors wanted request (room_behind bytes) (data_of bytes) → IsConvAnswer wanted bytes s text → s ≡ Success
-conv_success wanted bytes request s text h orders list right (inl p) = absurd (done_ended request s (conv_decided wanted bytes (Ok request) (Err s) orders p.0))
-conv_success wanted bytes request s text h orders list right (inr p) =
-    let same : p.0 ≡ request = done_same p.0 request (conv_decided wanted bytes (Ok p.0) (Ok request) p.1 orders) in
-    let settles = subst (λ (r : Request). SettlesConv wanted r (room_behind bytes) (data_of bytes) s text) same p.2 in
+conv_success wanted bytes request s text h orders list right p =
+    let settles : SettlesConv wanted request (room_behind bytes) (data_of bytes) s text =
+    answer_for (conv_in wanted bytes) (λ (r : Request). SettlesConv wanted r (room_behind bytes) (data_of bytes)) request s text (conv_decided wanted bytes) orders p in
     settles.0 ∙ ap (conv_status wanted request.size (data_answer request.size (room_behind bytes) (data_of bytes))) list.2
     ∙ list_right wanted request (room_behind bytes) (data_of bytes) h right
 

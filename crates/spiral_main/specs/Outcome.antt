@@ -16,7 +16,7 @@ use Rattle.formula_commands.specs.Compiled.{IsFormulaAnswer, IsBrokenFormula, Is
 use Rattle.spiral_input.specs.Line.{data_of, IsPartOfLine, HasEnded, room_behind}
 use Rattle.listing_commands.specs.Listed.{IsExecution, IsBrokenExecution, IsCutExecution}
 use Rattle.spiral_input.specs.Outcomes.{Outcomes, Meets}
-use Rattle.spiral_input.specs.Stage.{Stage, ◌>>=◌}
+use Rattle.spiral_input.specs.Stage.{Stage, ◌>>=◌, IsAnswerBy, IsBrokenBy, IsCutBy}
 use Rattle.spiral_input.specs.Asking.{requested}
 use Rattle.request_commands.specs.Settled.{IsAccepted, IsDeclined, Settles, BreaksOff, ComesTo}
 
@@ -42,8 +42,7 @@ ordered words bytes = do
 -- by a request: a stage ends the run, and nothing is written, or the status and the text are those of the job
 abbrev pub IsAnswerToRequest : List (List ℕ) → List ℕ → Status → List ℕ → Type 0
 IsAnswerToRequest words bytes status text =
-    (ordered words bytes (Err status) × (text ≡ []))
-    ⊎ ((job : Job) × ordered words bytes (Ok job) × Settles job.command job.request (room_behind bytes) (data_of bytes) status text)
+    IsAnswerBy (ordered words bytes) (λ (job : Job). Settles job.command job.request (room_behind bytes) (data_of bytes)) status text
 
 -- The status and the text, by a request, by a listing, by a formula or by a list
 abbrev pub IsOutcome : List (List ℕ) → List ℕ → Status → List ℕ → Type 0
@@ -55,24 +54,28 @@ IsOutcome words bytes status text =
 
 -- What a fault of the outside leaves
 
--- the bytes are a first line that has ended, which orders the job, and what stands behind it
-pub record IsOrder (words : List (List ℕ)) (read : List ℕ) (ended : Type 0) (job : Job) : Type 0 where
-  pub line : HasEnded read ended
-  pub asks : ordered words read (Ok job)
+-- by a request: the bytes that were read are a part of the first line, and nothing is written, or a job and a part of what stands behind it
+abbrev pub IsBrokenRequest : List (List ℕ) → List ℕ → Type 0 → List ℕ → Type 0
+IsBrokenRequest words read ended text =
+    IsBrokenBy (AskForRequest words × IsPartOfLine read) (HasEnded read ended) (ordered words read) (λ (job : Job). BreaksOff job.command job.request (data_of read)) text
 
--- The bytes that were read show no fault: they are a part of the first line, and nothing is written, or a job and a part of what stands behind it, or as much of what is executed, of a formula and its data, or of a list and the vectors behind it
+-- The bytes that were read show no fault, and the text is what was written up to there, by a request, by a listing, by a formula or by a list
 abbrev pub IsBrokenOff : List (List ℕ) → List ℕ → Type 0 → List ℕ → Type 0
 IsBrokenOff words read ended text =
-    (AskForRequest words × IsPartOfLine read × (text ≡ []))
-    ⊎ (((job : Job) × IsOrder words read ended job × BreaksOff job.command job.request (data_of read) text)
+    IsBrokenRequest words read ended text
     ⊎ (((schedule : Turns) × IsAsked words (command.Exec schedule) × IsBrokenExecution schedule read ended text)
     ⊎ (((wanted : Command) × AskForFormula words wanted × IsBrokenFormula wanted read ended text)
-    ⊎ ((wanted : Command) × AskForConvolution words wanted × IsBrokenConv wanted read ended text))))
+    ⊎ ((wanted : Command) × AskForConvolution words wanted × IsBrokenConv wanted read ended text)))
+
+-- by a request: the text to which the job has come
+abbrev pub IsCutRequest : List (List ℕ) → List ℕ → List ℕ → List ℕ → Type 0
+IsCutRequest words read left text =
+    IsCutBy (HasEnded read (left ≡ [])) (ordered words read) (λ (job : Job). ComesTo job.command job.request (data_of read) left) text
 
 -- The text to which a call has come by the bytes that were read, where this is left
 abbrev pub IsCutOff : List (List ℕ) → List ℕ → List ℕ → List ℕ → Type 0
 IsCutOff words read left text =
-    ((job : Job) × IsOrder words read (left ≡ []) job × ComesTo job.command job.request (data_of read) left text)
+    IsCutRequest words read left text
     ⊎ (((schedule : Turns) × IsAsked words (command.Exec schedule) × IsCutExecution schedule read left text)
     ⊎ (((wanted : Command) × AskForFormula words wanted × IsCutFormula wanted read left text)
     ⊎ ((wanted : Command) × AskForConvolution words wanted × IsCutConv wanted read left text)))

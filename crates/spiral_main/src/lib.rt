@@ -31,8 +31,8 @@ pub fn calls_have_one_text()
         → IsOutcome words bytes a s → IsOutcome words bytes b t → s ≡ t }
 {}
 
-/// A call that is right in all that is asked of it succeeds with the text that its words and bytes call for, unless a read
-/// or a write fails or memory runs out.
+/// A call that is right in all that is asked of it succeeds with the text that its words and bytes call for, unless a
+/// read or a write fails or memory runs out.
 pub fn right_calls_succeed()
     ensures { (words : List (List ℕ)) (bytes : List ℕ) (left before after : Option (List ℕ))
         (status : SpecStatus) → IsRightCall words bytes

@@ -3,7 +3,8 @@ ghost use Rattle.std.specs.Prelude.{◌≡◌, [], IfSome, MatchOption, Ok, map,
 ghost use Rattle.std.specs.declared.option.Option.{Option};
 ghost use Rattle.std.specs.Io.KnownBytes.{Appends, IsAtEnd};
 ghost use Rattle.io_edge.specs.Faults.{Reports};
-ghost use Rattle.spiral_input.specs.Commands.{takes_convolution, takes_formula, takes_listing, AskForRest, AskForCommand, AreJudged};
+ghost use Rattle.spiral_input.specs.Commands.{takes_convolution, takes_formula, takes_listing};
+ghost use Rattle.spiral_input.specs.Commands.{AskForRest, AskForCommand, AreJudged};
 ghost use Rattle.spiral_input.specs.Outcomes.{ToldMeets};
 ghost use Rattle.spiral_main.specs.Outcome.{Accounts, Notes, call_outcomes};
 ghost use Rattle.spiral_input.specs.Stage.{status_of};
@@ -95,13 +96,13 @@ fn ending(ended: Result<(), Status>) -> Status
 
 /// Does what the words and the input ask for, and says in the note why not if it doesn't.
 ///
-/// The words are the program's name, a command and its options. The first line of the input is the request. What stands
-/// behind it are the data of `run` and `trace`, numbers in tokens, of which every vector has as many as the request's size,
-/// or the certificate that `check` judges. `exec` has no request: the lines before the first empty line of its input are a
-/// listing, and what stands behind that line are the data of its program. Nor have `compile` and `apply`: the first line of
-/// their input is a formula, and what stands behind it are the data of `apply`. The first line of `convolve` is a request for
-/// convolutions, and the first vector of its data is the list with which it convolves the others; for the listing it reads
-/// nothing behind that list.
+/// The words are the program's name, a command and its options. The first line of the input is the request. What
+/// stands behind it are the data of `run` and `trace`, numbers in tokens, of which every vector has as many as the
+/// request's size, or the certificate that `check` judges. `exec` has no request: the lines before the first empty line
+/// of its input are a listing, and what stands behind that line are the data of its program. Nor have `compile` and
+/// `apply`: the first line of their input is a formula, and what stands behind it are the data of `apply`. The first
+/// line of `convolve` is a request for convolutions, and the first vector of its data is the list with which it
+/// convolves the others; for the listing it reads nothing behind that list.
 pub fn spiral_run<I: Source, O: Sink, E: Sink>(
     alloc: Global,
     words: &Vec<String>,
@@ -113,7 +114,8 @@ pub fn spiral_run<I: Source, O: Sink, E: Sink>(
     // read failed, that is the whole text of what the input gave.
     ensures told { IfSome (I.left input.old) (λ bytes. Accounts (map string_bytes words.now.items)
         bytes (I.left input.new) (O.taken output.old) (O.taken output.new) result) }
-    // `run`, `trace`, `check`, `exec`, `apply` and `convolve` without `--code` have read their input to its end where they succeed.
+    // `run`, `trace`, `check`, `exec`, `apply` and `convolve` without `--code` have read their input to its end where
+    // they succeed.
     ensures end { result ≡ Status.Success
         → AskForRest (map string_bytes words.now.items) → IsAtEnd (I.left input.new) }
 
