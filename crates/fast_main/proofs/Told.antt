@@ -105,14 +105,7 @@ rest_fails rest.ReadFault e = absurd (cc)
 rest_fails rest.TooLong e = absurd (cc)
 rest_fails rest.NoMemory e = absurd (cc)
 
-pub translated_from : (bytes text : List ℕ) (program verified taken : Program) → is_listing bytes (plain_program program) → verified ≡ program → taken ≡ verified
-    → PassesCheck action_limit (plain_program program) → IsFaithful (plain_program taken) → text ≡ fast_text (plain_program taken) → IsTranslated bytes text
-translated_from bytes text program verified taken listing first second passes faithful says =
-    let same : program ≡ taken = sym (second ∙ first) in
-    record {
-      program = plain_program taken;
-      listing = subst (λ (p : Program). is_listing bytes (plain_program p)) same listing;
-      passes = subst (λ (p : Program). PassesCheck action_limit (plain_program p)) same passes;
-      faithful = faithful;
-      says = says;
-    }
+pub translated_from : (bytes text : List ℕ) (program : Program) → is_listing bytes (plain_program program) → PassesCheck action_limit (plain_program program)
+    → IsFaithful (plain_program program) → text ≡ fast_text (plain_program program) → IsTranslated bytes text
+translated_from bytes text program listing passes faithful says =
+    record { program = plain_program program; listing = listing; passes = passes; faithful = faithful; says = says }

@@ -3,16 +3,21 @@ use Rattle.std.specs.Prelude.{◌≡◌, ℕ, ◌<◌, List, All}
 use Rattle.icode.specs.Actions.{plain_code}
 use Rattle.icode.specs.Machine.{results}
 use Rattle.icode.specs.Plain.{PlainProgram}
+use Rattle.loop_interchange.specs.Interchange.{interchanged}
 use Rattle.word_code.specs.Choice.{fast_words}
 use Rattle.word_code.specs.WordMachine.{word_results}
-use Rattle.word_code.specs.WordProgram.{word_code}
+use Rattle.word_code.specs.WordProgram.{PlainWordProgram, word_code}
 use Rattle.word_print.specs.WordText.{words_text}
 
--- the text of the program on words that is chosen for it
+-- the program on words that is chosen for it, where loops are interchanged
+abbrev pub words_for : PlainProgram → PlainWordProgram
+words_for p = fast_words (interchanged p)
+
+-- and its text
 abbrev pub fast_text : PlainProgram → List ℕ
-fast_text p = words_text (fast_words p)
+fast_text p = words_text (words_for p)
 
 -- for every vector of residues and every order of turns, the program on words leaves in Y the words that the program leaves
 abbrev pub IsFaithful : PlainProgram → Type 0
 IsFaithful p =
-    (x turns orders : List ℕ) → All (λ v. v < p.modulus) x → word_results (word_code (fast_words p)) x turns ≡ results (plain_code p) x orders
+    (x turns orders : List ℕ) → All (λ v. v < p.modulus) x → word_results (word_code (words_for p)) x turns ≡ results (plain_code p) x orders

@@ -19,6 +19,7 @@ use icode::program::Program;
 use input_rest::read_rest;
 use io_edge::{Feed, Sink, Source, write_all};
 use listing_text::read_listing;
+use loop_interchange::interchange;
 use memory::NoMemory;
 use std::alloc::Global;
 use word_code::choose::make_fast;
@@ -28,13 +29,14 @@ use word_print::print_words;
 pub const LISTING_LIMIT: u64 = 1 << 26;
 
 // The C text of a program.
-fn fast_text_of(alloc: Global, program: &Program) -> Result<Vec<u8>, NoMemory>
-    ensures text { IfOk result (λ text. text.items ≡ fast_text (plain_program program.now)) }
-    ensures faithful { IfOk result (λ text. Fits program.now
-        → ((phase : ℕ) → IsApart (code_of program.now) phase)
-        → IsFaithful (plain_program program.now)) }
+fn fast_text_of(alloc: Global, program: Program) -> Result<Vec<u8>, NoMemory>
+    ensures text { IfOk result (λ text. text.items ≡ fast_text (plain_program program)) }
+    ensures faithful { IfOk result (λ text. Fits program
+        → ((phase : ℕ) → IsApart (code_of program) phase)
+        → IsFaithful (plain_program program)) }
 {
-    let words = make_fast(alloc, program)?;
+    let program = interchange(program);
+    let words = make_fast(alloc, &program)?;
     let text = print_words(alloc, &words)?;
     Ok(text)
 }
@@ -46,8 +48,8 @@ fn text_of(alloc: Global, listing: &[u8]) -> Result<Vec<u8>, Status>
     ensures inside { IfErr result (λ status. IsInside status) }
 {
     let program = read_listing(alloc, listing)?;
-    let verified = verify(alloc, &program)?;
-    let text = fast_text_of(alloc, verified.program())?;
+    verify(alloc, &program)?;
+    let text = fast_text_of(alloc, program)?;
     Ok(text)
 }
 

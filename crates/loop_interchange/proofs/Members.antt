@@ -1,0 +1,36 @@
+-- Lists whose items are items of others.
+use Rattle.std.proofs.Common.{zero, suc, List, [], ◌∷◌, All, map, flat_map, arith, subst, ⊎_elim, Contains}
+use Rattle.std.proofs.lemmas.List.Elements.{Contains-get_or, Contains-append_left, Contains-append_right, Contains-append_cases}
+use Rattle.icode.proofs.Lines.{Contains-head, Contains-tail, Contains-nil, Contains-map}
+
+module _ {X : Type 0} where
+  -- all items of the first list are items of the second
+  abbrev pub IsWithin : List X → List X → Type 0
+  IsWithin xs zs = (x : X) → Contains xs x → Contains zs x
+
+  pub all_of_members : (P : X → Type 0) (xs : List X) → ((x : X) → Contains xs x → P x) → All P xs
+  all_of_members P xs each k d lt = each _ (Contains-get_or xs k d lt)
+
+  tail_within : (x : X) (xs zs : List X) → IsWithin (x ∷ xs) zs → IsWithin xs zs
+  tail_within x xs zs within y h = within y (Contains-tail x xs y h)
+
+  pub map_within : {Y : Type 0} (f : X → Y) (xs zs : List X) → IsWithin xs zs → (y : Y) → Contains (map f xs) y → Contains (map f zs) y
+  map_within f [] zs within y h = absurd (Contains-nil y h)
+  map_within f (x ∷ xs) zs within y (zero, lt, e) =
+      subst (λ w. Contains (map f zs) w) e (Contains-map f zs x (within x (Contains-head x xs)))
+  map_within f (x ∷ xs) zs within y (suc k, lt, e) = map_within f xs zs (tail_within x xs zs within) y (k, omega arith, e)
+
+  into_flat_map : {Y : Type 0} (f : X → List Y) (zs : List X) (x : X) (y : Y) → Contains zs x → Contains (f x) y → Contains (flat_map f zs) y
+  into_flat_map f [] x y h in_x = absurd (Contains-nil x h)
+  into_flat_map f (z ∷ zs) x y (zero, lt, e) in_x =
+      subst (λ w. Contains (f w) y → Contains (flat_map f (z ∷ zs)) y) e (λ in_z. Contains-append_left (f z) (flat_map f zs) y in_z) in_x
+  into_flat_map f (z ∷ zs) x y (suc k, lt, e) in_x =
+      Contains-append_right (f z) (flat_map f zs) y (into_flat_map f zs x y (k, omega arith, e) in_x)
+
+  pub flat_map_within : {Y : Type 0} (f : X → List Y) (xs zs : List X) → IsWithin xs zs → (y : Y) → Contains (flat_map f xs) y → Contains (flat_map f zs) y
+  flat_map_within f [] zs within y h = absurd (Contains-nil y h)
+  flat_map_within f (x ∷ xs) zs within y h =
+      ⊎_elim
+      (λ (here : Contains (f x) y). into_flat_map f zs x y (within x (Contains-head x xs)) here)
+      (λ (later : Contains (flat_map f xs) y). flat_map_within f xs zs (tail_within x xs zs within) y later)
+      (Contains-append_cases (f x) (flat_map f xs) y h)

@@ -1,0 +1,5 @@
+pub mod Places
+pub mod Rounds
+pub mod Interchange
+pub mod Laws
+pub mod View
