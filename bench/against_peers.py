@@ -124,10 +124,12 @@ def raced(race, size, title, primes, lanes, unroll):
     if size >= 4 * most * most:
         in_turn = fast_text(f"{request} procs 2 line {most} lanes {most} unroll {unroll}")
         race.text("fast, two processors in turn, clang, scheduled", "clang", in_turn, *NATIVE, *SCHEDULED)
+    race.text("fast, lanes, clang, AVX2", "clang", with_lanes, "-O3", "-mavx2")
+    race.text("fast, lanes, clang, AVX2, scheduled", "clang", with_lanes, "-O3", "-mavx2", *SCHEDULED)
     with_half = fast_text(f"{request} lanes {min(lanes // 2, most)} unroll {unroll}")
     race.text("fast, half the lanes, clang, AVX2", "clang", with_half, "-O3", "-mavx2")
     race.text("fast, half the lanes, clang, AVX2, scheduled", "clang", with_half, "-O3", "-mavx2", *SCHEDULED)
-    one = fast_text(f"{request} unroll 4")
+    one = fast_text(f"{request} unroll {unroll}")
     race.text("fast, one lane, clang", "clang", one, *NATIVE)
     race.text("fast, one lane, clang, scheduled", "clang", one, *NATIVE, *SCHEDULED)
     race.text("fast, one lane, gcc", "gcc", one, *NATIVE)
