@@ -108,6 +108,15 @@ def fast_text(request):
     return output([FAST], output([SPIRAL, "code"], request + "\n"))
 
 
+def by_clang(race, name, text):
+    """The text for this machine, and for one with AVX2 alone: any such, one scheduled otherwise, and Zen 3."""
+    race.text(f"fast, {name}, clang", "clang", text, *NATIVE)
+    race.text(f"fast, {name}, clang, scheduled", "clang", text, *NATIVE, *SCHEDULED)
+    race.text(f"fast, {name}, clang, AVX2", "clang", text, "-O3", "-mavx2")
+    race.text(f"fast, {name}, clang, AVX2, scheduled", "clang", text, "-O3", "-mavx2", *SCHEDULED)
+    race.text(f"fast, {name}, clang, AVX2, Zen 3", "clang", text, "-O3", "-march=znver3")
+
+
 def raced(race, size, title, primes, lanes, unroll):
     modulus, root = modulus_and_root(size, primes)
     request = f"dft {size} mod {modulus} root {root}"
@@ -118,20 +127,13 @@ def raced(race, size, title, primes, lanes, unroll):
     race.peer("textbook", "gcc", "race_textbook.c", ["-O3", "-march=native"], words)
     most = min(lanes, int(size**0.5))
     with_lanes = fast_text(f"{request} lanes {most} unroll {unroll}")
-    race.text("fast, lanes, clang", "clang", with_lanes, *NATIVE)
-    race.text("fast, lanes, clang, scheduled", "clang", with_lanes, *NATIVE, *SCHEDULED)
+    by_clang(race, "lanes", with_lanes)
     race.text("fast, lanes, gcc", "gcc", with_lanes, *NATIVE)
+    by_clang(race, "half the lanes", fast_text(f"{request} lanes {min(lanes // 2, most)} unroll {unroll}"))
     if size >= 4 * most * most:
-        in_turn = fast_text(f"{request} procs 2 line {most} lanes {most} unroll {unroll}")
-        race.text("fast, two processors in turn, clang, scheduled", "clang", in_turn, *NATIVE, *SCHEDULED)
-    race.text("fast, lanes, clang, AVX2", "clang", with_lanes, "-O3", "-mavx2")
-    race.text("fast, lanes, clang, AVX2, scheduled", "clang", with_lanes, "-O3", "-mavx2", *SCHEDULED)
-    with_half = fast_text(f"{request} lanes {min(lanes // 2, most)} unroll {unroll}")
-    race.text("fast, half the lanes, clang, AVX2", "clang", with_half, "-O3", "-mavx2")
-    race.text("fast, half the lanes, clang, AVX2, scheduled", "clang", with_half, "-O3", "-mavx2", *SCHEDULED)
+        by_clang(race, "two in turn", fast_text(f"{request} procs 2 line {most} lanes {most} unroll {unroll}"))
     one = fast_text(f"{request} unroll {unroll}")
     race.text("fast, one lane, clang", "clang", one, *NATIVE)
-    race.text("fast, one lane, clang, scheduled", "clang", one, *NATIVE, *SCHEDULED)
     race.text("fast, one lane, gcc", "gcc", one, *NATIVE)
     race.text("specified, gcc", "gcc", output([SPIRAL, "c"], request + "\n"), "-O2")
     race.run(f"{size}, {title}")
