@@ -5,6 +5,7 @@ use Rattle.std.proofs.lemmas.Bool.{not-true}
 use Rattle.std.proofs.lemmas.List.Elements.{All-head, All-tail, Contains-append_cases}
 use Rattle.std.proofs.lemmas.List.FromFn.{length-range_with_len, get_or-range_with_len}
 use Rattle.code_laws.specs.Nests.{AreInRange}
+use Rattle.icode.specs.declared.action.Action.{Action}
 use Rattle.icode.specs.declared.program.Array.{Array}
 use Rattle.icode.specs.declared.program.Array.TheVariants.{X, Y, A, B}
 use Rattle.icode.specs.Actions.{Step, StepFits, actions_of, array_start, step_of, steps_of_body}
@@ -100,33 +101,32 @@ loaded-step p step to (Load r array place) ws q k h fits has =
     }
 loaded-step p step to _ ws q k h fits has = absurd (Contains-nil k has)
 
-stored-in : (p : PlainProgram) (step : ℕ) (to : Stored) (body : PlainBody) (ws : List ℕ) (q k : ℕ) →
-    are_placed p.lanes to step body ≡ true → All (StepFits p) (steps_of_body p body ws q) →
-    Stores p.lanes (actions_of (steps_of_body p body ws q)) k → IsStored p to (parts_numbers to.parts ws q).value step k
-stored-in p step to NoStmts ws q k h fit has = absurd (Contains-nil k has)
-stored-in p step to (AndStmts (Do op) rest) ws q k h fit has =
+-- what holds of a word by each operation that names it holds of it by all of them
+of-operations : (p : PlainProgram) (step : ℕ) (to : Stored) (ws : List ℕ) (q k : ℕ) (words : Action → List ℕ) (Told : Type 0) →
+    ((op : PlainOp) → is_placed p.lanes to step op ≡ true → StepFits p (step_of p op ws q) → Contains (words (step_of p op ws q).action) k → Told) →
+    (body : PlainBody) → are_placed p.lanes to step body ≡ true → All (StepFits p) (steps_of_body p body ws q) →
+    Contains (flat_map words (actions_of (steps_of_body p body ws q))) k → Told
+of-operations p step to ws q k words Told by NoStmts h fit has = absurd (Contains-nil k has)
+of-operations p step to ws q k words Told by (AndStmts (Do op) rest) h fit has =
     let two = both_true (is_placed p.lanes to step op) (are_placed p.lanes to step rest) h in
     let first : Step = step_of p op ws q in
     let others : List Step = steps_of_body p rest ws q in
     ⊎_elim
-    (λ (one : Contains (stored_words p.lanes first.action) k). stored-step p step to op ws q k two.0 (All-head (StepFits p) first others fit) one)
-    (λ (more : Stores p.lanes (actions_of others) k). stored-in p step to rest ws q k two.1 (All-tail (StepFits p) first others fit) more)
-    (Contains-append_cases (stored_words p.lanes first.action) (flat_map (stored_words p.lanes) (actions_of others)) k has)
-stored-in p step to (AndStmts (Loop count body) rest) ws q k h fit has = wrong h
+    (λ (one : Contains (words first.action) k). by op two.0 (All-head (StepFits p) first others fit) one)
+    (λ (more : Contains (flat_map words (actions_of others)) k). of-operations p step to ws q k words Told by rest two.1 (All-tail (StepFits p) first others fit) more)
+    (Contains-append_cases (words first.action) (flat_map words (actions_of others)) k has)
+of-operations p step to ws q k words Told by (AndStmts (Loop count body) rest) h fit has = wrong h
+
+stored-in : (p : PlainProgram) (step : ℕ) (to : Stored) (body : PlainBody) (ws : List ℕ) (q k : ℕ) →
+    are_placed p.lanes to step body ≡ true → All (StepFits p) (steps_of_body p body ws q) →
+    Stores p.lanes (actions_of (steps_of_body p body ws q)) k → IsStored p to (parts_numbers to.parts ws q).value step k
+stored-in p step to body ws q k =
+    of-operations p step to ws q k (stored_words p.lanes) (IsStored p to (parts_numbers to.parts ws q).value step k) (λ op. stored-step p step to op ws q k) body
 
 loaded-in : (p : PlainProgram) (step : ℕ) (to : Stored) (body : PlainBody) (ws : List ℕ) (q k : ℕ) →
     are_placed p.lanes to step body ≡ true → All (StepFits p) (steps_of_body p body ws q) →
     Loads p.lanes (actions_of (steps_of_body p body ws q)) k → IsLoaded p to k
-loaded-in p step to NoStmts ws q k h fit has = absurd (Contains-nil k has)
-loaded-in p step to (AndStmts (Do op) rest) ws q k h fit has =
-    let two = both_true (is_placed p.lanes to step op) (are_placed p.lanes to step rest) h in
-    let first : Step = step_of p op ws q in
-    let others : List Step = steps_of_body p rest ws q in
-    ⊎_elim
-    (λ (one : Contains (loaded_words p.lanes first.action) k). loaded-step p step to op ws q k two.0 (All-head (StepFits p) first others fit) one)
-    (λ (more : Loads p.lanes (actions_of others) k). loaded-in p step to rest ws q k two.1 (All-tail (StepFits p) first others fit) more)
-    (Contains-append_cases (loaded_words p.lanes first.action) (flat_map (loaded_words p.lanes) (actions_of others)) k has)
-loaded-in p step to (AndStmts (Loop count body) rest) ws q k h fit has = wrong h
+loaded-in p step to body ws q k = of-operations p step to ws q k (loaded_words p.lanes) (IsLoaded p to k) (λ op. loaded-step p step to op ws q k) body
 
 -- ---- different rounds
 

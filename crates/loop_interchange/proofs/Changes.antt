@@ -80,18 +80,18 @@ module _ (m lanes : ℕ)
       AreFor m lanes (flat_map (λ j. flat_map (λ i. round i j) (range_with_len 0 outer)) (range_with_len 0 inner))
       (flat_map (λ i. flat_map (λ j. round i j) (range_with_len 0 inner)) (range_with_len 0 outer))
   for-exchange outer inner round same =
-      let column : ℕ → List Step = λ j. flat_map (λ i. round i j) (range_with_len 0 outer) in
-      let row : ℕ → List Step = λ i. flat_map (λ j. round i j) (range_with_len 0 inner) in
-      let new : actions_of (flat_map column (range_with_len 0 inner)) ≡ flat_map (λ j. flat_map (λ i. actions_of (round i j)) (range_with_len 0 outer)) (range_with_len 0 inner) =
-      actions_of-loop column (range_with_len 0 inner) ∙ ap (λ h. flat_map h (range_with_len 0 inner)) (fun_ext (λ j. actions_of-loop (λ i. round i j) (range_with_len 0 outer))) in
-      let old : actions_of (flat_map row (range_with_len 0 outer)) ≡ flat_map (λ i. flat_map (λ j. actions_of (round i j)) (range_with_len 0 inner)) (range_with_len 0 outer) =
-      actions_of-loop row (range_with_len 0 outer) ∙ ap (λ h. flat_map h (range_with_len 0 outer)) (fun_ext (λ i. actions_of-loop (λ j. round i j) (range_with_len 0 inner))) in
+      let over_outer : ℕ → List Step = λ j. flat_map (λ i. round i j) (range_with_len 0 outer) in
+      let over_inner : ℕ → List Step = λ i. flat_map (λ j. round i j) (range_with_len 0 inner) in
+      let new : actions_of (flat_map over_outer (range_with_len 0 inner)) ≡ flat_map (λ j. flat_map (λ i. actions_of (round i j)) (range_with_len 0 outer)) (range_with_len 0 inner) =
+      actions_of-loop over_outer (range_with_len 0 inner) ∙ ap (λ h. flat_map h (range_with_len 0 inner)) (fun_ext (λ j. actions_of-loop (λ i. round i j) (range_with_len 0 outer))) in
+      let old : actions_of (flat_map over_inner (range_with_len 0 outer)) ≡ flat_map (λ i. flat_map (λ j. actions_of (round i j)) (range_with_len 0 inner)) (range_with_len 0 outer) =
+      actions_of-loop over_inner (range_with_len 0 outer) ∙ ap (λ h. flat_map h (range_with_len 0 outer)) (fun_ext (λ i. actions_of-loop (λ j. round i j) (range_with_len 0 inner))) in
       record {
-        same = subst (λ xs. DoTheSame m lanes xs (actions_of (flat_map row (range_with_len 0 outer)))) (sym new)
+        same = subst (λ xs. DoTheSame m lanes xs (actions_of (flat_map over_inner (range_with_len 0 outer)))) (sym new)
             (subst (DoTheSame m lanes (flat_map (λ j. flat_map (λ i. actions_of (round i j)) (range_with_len 0 outer)) (range_with_len 0 inner))) (sym old) same);
         members = λ s h.
-            let at = of-loop column 0 inner s h in
-            let in_column = of-loop (λ i. round i at.round) 0 outer s at.inside in
-            in-loop row 0 outer in_column.round s in_column.low in_column.high
-            (in-loop (λ j. round in_column.round j) 0 inner at.round s at.low at.high in_column.inside);
+            let at = of-loop over_outer 0 inner s h in
+            let in_outer = of-loop (λ i. round i at.round) 0 outer s at.inside in
+            in-loop over_inner 0 outer in_outer.round s in_outer.low in_outer.high
+            (in-loop (λ j. round in_outer.round j) 0 inner at.round s at.low at.high in_outer.inside);
       }

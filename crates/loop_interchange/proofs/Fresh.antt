@@ -59,34 +59,25 @@ fresh_acts p body vs q h = fresh-from p 0 body vs q h
 
 -- ---- exchanged rounds
 
-fresh-exchanged : (lanes next loop : ℕ) (op : PlainOp) → is_fresh lanes next (exchanged_op loop op) ≡ is_fresh lanes next op
-fresh-exchanged lanes next loop (Load r array place) = refl
-fresh-exchanged lanes next loop (Store array place r) = refl
-fresh-exchanged lanes next loop (Zero r) = refl
-fresh-exchanged lanes next loop (Add r x y) = refl
-fresh-exchanged lanes next loop (Sub r x y) = refl
-fresh-exchanged lanes next loop (Neg r x) = refl
-fresh-exchanged lanes next loop (MulConst r x factor) = refl
-fresh-exchanged lanes next loop (MulTable r x table place step) = refl
-fresh-exchanged lanes next loop (Tile r x) = refl
-
-put-exchanged : (lanes next loop : ℕ) (op : PlainOp) → put_after lanes next (exchanged_op loop op) ≡ put_after lanes next op
-put-exchanged lanes next loop (Load r array place) = refl
-put-exchanged lanes next loop (Store array place r) = refl
-put-exchanged lanes next loop (Zero r) = refl
-put-exchanged lanes next loop (Add r x y) = refl
-put-exchanged lanes next loop (Sub r x y) = refl
-put-exchanged lanes next loop (Neg r x) = refl
-put-exchanged lanes next loop (MulConst r x factor) = refl
-put-exchanged lanes next loop (MulTable r x table place step) = refl
-put-exchanged lanes next loop (Tile r x) = refl
+-- the operation puts and reads the registers that it did
+same-registers : (lanes next loop : ℕ) (op : PlainOp) →
+    (is_fresh lanes next (exchanged_op loop op) ≡ is_fresh lanes next op) × (put_after lanes next (exchanged_op loop op) ≡ put_after lanes next op)
+same-registers lanes next loop (Load r array place) = (refl, refl)
+same-registers lanes next loop (Store array place r) = (refl, refl)
+same-registers lanes next loop (Zero r) = (refl, refl)
+same-registers lanes next loop (Add r x y) = (refl, refl)
+same-registers lanes next loop (Sub r x y) = (refl, refl)
+same-registers lanes next loop (Neg r x) = (refl, refl)
+same-registers lanes next loop (MulConst r x factor) = (refl, refl)
+same-registers lanes next loop (MulTable r x table place step) = (refl, refl)
+same-registers lanes next loop (Tile r x) = (refl, refl)
 
 are-fresh-exchanged : (lanes next loop : ℕ) (body : PlainBody) → are_fresh lanes next (exchanged_round loop body) ≡ are_fresh lanes next body
 are-fresh-exchanged lanes next loop NoStmts = refl
 are-fresh-exchanged lanes next loop (AndStmts (Do op) rest) =
     ap₂ (λ one more. one && more)
-    (fresh-exchanged lanes next loop op)
-    (ap (λ n. are_fresh lanes n (exchanged_round loop rest)) (put-exchanged lanes next loop op)
+    (same-registers lanes next loop op).0
+    (ap (λ n. are_fresh lanes n (exchanged_round loop rest)) (same-registers lanes next loop op).1
     ∙ are-fresh-exchanged lanes (put_after lanes next op) loop rest)
 are-fresh-exchanged lanes next loop (AndStmts (Loop count body) rest) = refl
 
