@@ -91,26 +91,26 @@ quick_more z h i stmts stmt before made new word bounds after lt e is same ends 
 
 -- No bound passes the limit
 
-array_sane : (z : Laziness) (array : Array) → 1 ≤ z.limit → z.keep ≤ z.limit → array_bound z.keep array ≤ z.limit
-array_sane z arrays.X some kept = some
-array_sane z arrays.Y some kept = some
-array_sane z arrays.A some kept = kept
-array_sane z arrays.B some kept = kept
+array_sane : (z : Laziness) (array : Array) → 1 ≤ z.limit → z.kept.of_a ≤ z.limit → z.kept.of_b ≤ z.limit → array_bound z.kept array ≤ z.limit
+array_sane z arrays.X some of_a of_b = some
+array_sane z arrays.Y some of_a of_b = some
+array_sane z arrays.A some of_a of_b = of_a
+array_sane z arrays.B some of_a of_b = of_b
 
-pub noted_sane : (z : Laziness) (m lanes : ℕ) (op : PlainOp) (bounds : List ℕ) → 1 ≤ z.limit → z.keep ≤ z.limit → product_bound z.width ≤ z.limit → ((r : ℕ) → bound_at z.limit bounds r ≤ z.limit) →
+pub noted_sane : (z : Laziness) (m lanes : ℕ) (op : PlainOp) (bounds : List ℕ) → 1 ≤ z.limit → z.kept.of_a ≤ z.limit → z.kept.of_b ≤ z.limit → product_bound z.width ≤ z.limit → ((r : ℕ) → bound_at z.limit bounds r ≤ z.limit) →
     (r : ℕ) → bound_at z.limit (noted z m lanes op bounds).bounds r ≤ z.limit
-noted_sane z m lanes (Load r array place) bounds some kept product sane = set_sane z.limit bounds r (array_bound z.keep array) (array_sane z array some kept) sane
-noted_sane z m lanes (Store array place r) bounds some kept product sane = settled_sane m z.limit (2 * z.limit) r r (2 * array_bound z.keep array) bounds sane
-noted_sane z m lanes (Zero r) bounds some kept product sane = set_sane z.limit bounds r 1 some sane
-noted_sane z m lanes (Add r x y) bounds some kept product sane =
+noted_sane z m lanes (Load r array place) bounds some of_a of_b product sane = set_sane z.limit bounds r (array_bound z.kept array) (array_sane z array some of_a of_b) sane
+noted_sane z m lanes (Store array place r) bounds some of_a of_b product sane = settled_sane m z.limit (2 * z.limit) r r (2 * array_bound z.kept array) bounds sane
+noted_sane z m lanes (Zero r) bounds some of_a of_b product sane = set_sane z.limit bounds r 1 some sane
+noted_sane z m lanes (Add r x y) bounds some of_a of_b product sane =
     set_sane z.limit (settled m z.limit (2 * z.limit) x y z.limit bounds).bounds r _ (omega arith) (settled_sane m z.limit (2 * z.limit) x y z.limit bounds sane)
-noted_sane z m lanes (Sub r x y) bounds some kept product sane =
+noted_sane z m lanes (Sub r x y) bounds some of_a of_b product sane =
     set_sane z.limit (settled m z.limit (2 * z.limit) x y z.limit bounds).bounds r _ (omega arith) (settled_sane m z.limit (2 * z.limit) x y z.limit bounds sane)
-noted_sane z m lanes (Neg r x) bounds some kept product sane =
+noted_sane z m lanes (Neg r x) bounds some of_a of_b product sane =
     set_sane z.limit (settled m z.limit (2 * z.limit) x x (2 * (z.limit - 1)) bounds).bounds r _ (omega arith) (settled_sane m z.limit (2 * z.limit) x x (2 * (z.limit - 1)) bounds sane)
-noted_sane z m lanes (MulConst r x factor) bounds some kept product sane = set_sane z.limit bounds r (product_bound z.width) product sane
-noted_sane z m lanes (MulTable r x table place step) bounds some kept product sane = set_sane z.limit bounds r (product_bound z.width) product sane
-noted_sane z m lanes (Tile r x) bounds some kept product sane =
+noted_sane z m lanes (MulConst r x factor) bounds some of_a of_b product sane = set_sane z.limit bounds r (product_bound z.width) product sane
+noted_sane z m lanes (MulTable r x table place step) bounds some of_a of_b product sane = set_sane z.limit bounds r (product_bound z.width) product sane
+noted_sane z m lanes (Tile r x) bounds some of_a of_b product sane =
     tile_sane z.limit lanes bounds r (greatest_bound z.limit bounds lanes x) (greatest_sane z.limit bounds lanes x sane) sane
 
 copies_sane : (limit n r : ℕ) → bound_at limit (replicate n limit) r ≤ limit
@@ -118,10 +118,10 @@ copies_sane limit zero r = omega arith
 copies_sane limit (suc n) zero = omega arith
 copies_sane limit (suc n) (suc r) = copies_sane limit n r
 
-pub stmt_sane : (z : Laziness) (h : Header) (stmt : PlainStmt) (bounds : List ℕ) → 1 ≤ z.limit → z.keep ≤ z.limit → product_bound z.width ≤ z.limit → ((r : ℕ) → bound_at z.limit bounds r ≤ z.limit) →
+pub stmt_sane : (z : Laziness) (h : Header) (stmt : PlainStmt) (bounds : List ℕ) → 1 ≤ z.limit → z.kept.of_a ≤ z.limit → z.kept.of_b ≤ z.limit → product_bound z.width ≤ z.limit → ((r : ℕ) → bound_at z.limit bounds r ≤ z.limit) →
     (r : ℕ) → bound_at z.limit (quick_stmt z h stmt bounds).bounds r ≤ z.limit
-stmt_sane z h (plain.Loop count body) bounds some kept product sane = λ r. copies_sane z.limit h.regs r
-stmt_sane z h (plain.Do op) bounds some kept product sane = noted_sane z h.modulus h.lanes op bounds some kept product sane
+stmt_sane z h (plain.Loop count body) bounds some of_a of_b product sane = λ r. copies_sane z.limit h.regs r
+stmt_sane z h (plain.Do op) bounds some of_a of_b product sane = noted_sane z h.modulus h.lanes op bounds some of_a of_b product sane
 
 -- What stands within the limits
 

@@ -7,7 +7,13 @@ pub mod Reduce
 pub mod Puts
 pub mod Operations
 pub mod Programs
+pub mod Quickened
 pub mod Settling
 pub mod Tables
 pub mod Emitting
 pub mod Wholes
+pub mod OneProcessor
+pub mod Needing
+pub mod Loosening
+pub mod Alone
+pub mod Flow

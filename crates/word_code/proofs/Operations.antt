@@ -26,7 +26,7 @@ scale z p =
       modulus = p.modulus;
       lanes = p.lanes;
       padded = whole_lines p.size p.line;
-      keep = z.keep;
+      kept = z.kept;
       limit = z.limit;
     }
 
@@ -133,24 +133,38 @@ module _ (z : Laziness) (p : PlainProgram) (sound : IsSound (scale z p)) where
 
   -- a load's words
   place : (array : Array) (at : ℕ) → at + p.lanes ≤ whole_lines p.size p.line → (memory : List ℕ) → IsMemoryBelow s memory → (l : ℕ) → l < p.lanes →
-      slice_index memory (array_start (whole_lines p.size p.line) array + at + l) < array_bound z.keep array * p.modulus
+      slice_index memory (array_start (whole_lines p.size p.line) array + at + l) < array_bound z.kept array * p.modulus
   place arrays.X at fits memory kept l lt = let a = kept.outer (0 + at + l) (omega arith) in omega arith
   place arrays.Y at fits memory kept l lt = let a = kept.outer (whole_lines p.size p.line + at + l) (omega arith) in omega arith
-  place arrays.A at fits memory kept l lt = kept.whole _
-  place arrays.B at fits memory kept l lt = kept.whole _
+  place arrays.A at fits memory kept l lt = kept.of_a (2 * whole_lines p.size p.line + at + l) (omega arith) (omega arith)
+  place arrays.B at fits memory kept l lt = kept.of_b (3 * whole_lines p.size p.line + at + l) (omega arith)
 
-  array_sane : (array : Array) → (1 ≤ array_bound z.keep array) × (array_bound z.keep array ≤ z.keep)
-  array_sane arrays.X = let a = sound.keep in (omega arith, omega arith)
-  array_sane arrays.Y = let a = sound.keep in (omega arith, omega arith)
-  array_sane arrays.A = let a = sound.keep in (omega arith, omega arith)
-  array_sane arrays.B = let a = sound.keep in (omega arith, omega arith)
+  array_sane : (array : Array) → (1 ≤ array_bound z.kept array) × (array_bound z.kept array ≤ z.limit)
+  array_sane arrays.X = let a = some in (omega arith, omega arith)
+  array_sane arrays.Y = let a = some in (omega arith, omega arith)
+  array_sane arrays.A = sound.of_a
+  array_sane arrays.B = sound.of_b
 
-  -- a store into the first two arrays has a residue
-  outer : (array : Array) (at d : ℕ) → d ≤ array_bound z.keep array → (k : ℕ) → k < 2 * whole_lines p.size p.line → array_start (whole_lines p.size p.line) array + at ≤ k → d ≤ 1
+  -- a store stays in its array: into the first two it has a residue, and into the others what they are below
+  outer : (array : Array) (at d : ℕ) → d ≤ array_bound z.kept array → (k : ℕ) → k < 2 * whole_lines p.size p.line → array_start (whole_lines p.size p.line) array + at ≤ k → d ≤ 1
   outer arrays.X at d le k lt from = le
   outer arrays.Y at d le k lt from = le
   outer arrays.A at d le k lt from = absurd (omega arith)
   outer arrays.B at d le k lt from = absurd (omega arith)
+
+  in_a : (array : Array) (at d : ℕ) → at + p.lanes ≤ whole_lines p.size p.line → d ≤ array_bound z.kept array → (k : ℕ) → 2 * whole_lines p.size p.line ≤ k → k < 3 * whole_lines p.size p.line →
+      array_start (whole_lines p.size p.line) array + at ≤ k → k < array_start (whole_lines p.size p.line) array + at + p.lanes → d ≤ z.kept.of_a
+  in_a arrays.X at d fits le k ge lt from to = absurd (omega arith)
+  in_a arrays.Y at d fits le k ge lt from to = absurd (omega arith)
+  in_a arrays.A at d fits le k ge lt from to = le
+  in_a arrays.B at d fits le k ge lt from to = absurd (omega arith)
+
+  in_b : (array : Array) (at d : ℕ) → at + p.lanes ≤ whole_lines p.size p.line → d ≤ array_bound z.kept array → (k : ℕ) → 3 * whole_lines p.size p.line ≤ k →
+      k < array_start (whole_lines p.size p.line) array + at + p.lanes → d ≤ z.kept.of_b
+  in_b arrays.X at d fits le k ge to = absurd (omega arith)
+  in_b arrays.Y at d fits le k ge to = absurd (omega arith)
+  in_b arrays.A at d fits le k ge to = absurd (omega arith)
+  in_b arrays.B at d fits le k ge to = le
 
   settles : (x y target : ℕ) (bounds : List ℕ) → 2 ≤ target → x < length bounds → y < length bounds → ((r : ℕ) → bound_at z.limit bounds r ≤ z.limit) →
       IsSettled (base_of z.width) p.modulus p.lanes z.limit x y target bounds (settled p.modulus z.limit (2 * z.limit) x y target bounds)
@@ -160,8 +174,8 @@ module _ (z : Laziness) (p : PlainProgram) (sound : IsSound (scale z p)) where
 
   pub do_is_quick : (op : PlainOp) (bounds : List ℕ) (vs : List ℕ) (q : ℕ) → length bounds ≡ p.regs → ((r : ℕ) → bound_at z.limit bounds r ≤ z.limit) → StepFits p (step_of p op vs q) → IsDone z p bounds op vs q
   do_is_quick (Load r array expr) bounds vs q long sane fits =
-      let v = array_bound z.keep array in
-      let le : v ≤ z.limit = let a = (array_sane array).1 in let b = sound.kept in omega (arith, a, b) in
+      let v = array_bound z.kept array in
+      let le : v ≤ z.limit = (array_sane array).1 in
       record {
         quick =
             quick_put s (bound_at z.limit bounds) (bound_at z.limit bounds) (bound_at z.limit (slice_set bounds r v)) [] _ 0 [] 1 v
@@ -171,16 +185,20 @@ module _ (z : Laziness) (p : PlainProgram) (sound : IsSound (scale z p)) where
         long = length-set bounds r v ∙ long;
       }
   do_is_quick (Store array expr r) bounds vs q long sane fits =
-      let v = array_bound z.keep array in
+      let v = array_bound z.kept array in
       let inside : r < length bounds = let a = fits.registers in omega (arith, a, long) in
       let done = settles r r (2 * v) bounds (let a = (array_sane array).0 in omega (arith, a)) inside inside sane in
       let after = settled p.modulus z.limit (2 * z.limit) r r (2 * v) bounds in
       let small : bound_at z.limit after.bounds r ≤ v = let a = done.small in omega (arith, a) in
+      let at = (sum_numbers expr vs q).value in
+      let d = bound_at z.limit after.bounds r in
       record {
         quick =
-            quick_store s (bound_at z.limit bounds) (bound_at z.limit after.bounds) after.reductions (array_start (whole_lines p.size p.line) array + (sum_numbers expr vs q).value) r 0 []
-            done.reductions (λ k. let a = done.low k in let b = sane k in omega (arith, a, b)) (let a = (array_sane array).1 in omega (arith, a, small))
-            (λ k lt from to. outer array (sum_numbers expr vs q).value (bound_at z.limit after.bounds r) small k lt from);
+            quick_store s (bound_at z.limit bounds) (bound_at z.limit after.bounds) after.reductions (array_start (whole_lines p.size p.line) array + at) r 0 []
+            done.reductions (λ k. let a = done.low k in let b = sane k in omega (arith, a, b))
+            (λ k lt from to. outer array at d small k lt from)
+            (λ k ge lt from to. in_a array at d fits.place small k ge lt from to)
+            (λ k ge from to. in_b array at d fits.place small k ge to);
         long = done.long ∙ long;
       }
   do_is_quick (Zero r) bounds vs q long sane fits =

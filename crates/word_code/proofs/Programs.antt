@@ -10,34 +10,38 @@ use Rattle.icode.specs.Actions.{Step, StepFits, PlainFits, step_of, steps_of_stm
 use Rattle.icode.specs.Machine.{Code, results}
 use Rattle.icode.specs.Plain.{PlainOp, PlainStmt, PlainBody, PlainProgram, Load, Store, Zero, Add, Sub, Neg, MulConst, MulTable, Tile}
 use Rattle.icode.specs.Plain as plain
-use Rattle.word_code.specs.WordMachine.{WordAction, WordCode, under, actions_under}
-use Rattle.word_code.specs.WordProgram.{WordBody, word_actions_of_stmt, word_actions_of_body, word_code}
-use Rattle.word_code.specs.Quicken.{Laziness, bound_at, loosest, header_of, noted, quick_stmt, quick_body, quickened}
-use Rattle.word_code.specs.Laws.{QuickenedIsSame}
+use Rattle.word_code.specs.WordMachine.{WordAction, WordCode, under, actions_under, word_results}
+use Rattle.word_code.specs.WordProgram.{WordBody, PlainWordProgram, word_actions_of_stmt, word_actions_of_body, word_code}
+use Rattle.word_code.specs.Quicken.{Laziness, bound_at, loosest, header_of, noted, quick_stmt, quick_body, quick_phase, quickened}
+use Rattle.word_code.specs.Laws.{IsLazyWithin}
 use Rattle.word_code.proofs.Residues.{AllBelow}
 use Rattle.word_code.proofs.Quick.{Scale, AreQuick, from_weaker, quick-append}
 use Rattle.word_code.proofs.Simulation.{IsQuickCode, scale_of, results_are}
 use Rattle.word_code.proofs.Puts.{IsSound}
 use Rattle.word_code.proofs.Operations.{scale, do_is_quick}
 
+-- the program on words with the same bounds of A and of B throughout
+abbrev pub evenly : Laziness → PlainProgram → PlainWordProgram
+evenly z p = record (quickened z p) { phases = map (quick_phase z (header_of p)) p.phases }
+
 -- facts on each item, by recursion
-abbrev Each : {X : Type 0} → (X → Type 0) → List X → Type 0
+abbrev pub Each : {X : Type 0} → (X → Type 0) → List X → Type 0
 Each P [] = Unit {0}
 Each P (x ∷ xs) = P x × Each P xs
 
-each_of_all : {X : Type 0} (P : X → Type 0) (xs : List X) → All P xs → Each P xs
+pub each_of_all : {X : Type 0} (P : X → Type 0) (xs : List X) → All P xs → Each P xs
 each_of_all P [] all = tt
 each_of_all P (x ∷ xs) all = (all 0 x (omega arith), each_of_all P xs (λ k d lt. all (suc k) d (omega arith)))
 
-each_front : {X : Type 0} (P : X → Type 0) (xs ys : List X) → Each P (xs ++ ys) → Each P xs
+pub each_front : {X : Type 0} (P : X → Type 0) (xs ys : List X) → Each P (xs ++ ys) → Each P xs
 each_front P [] ys e = tt
 each_front P (x ∷ xs) ys e = (e.0, each_front P xs ys e.1)
 
-each_back : {X : Type 0} (P : X → Type 0) (xs ys : List X) → Each P (xs ++ ys) → Each P ys
+pub each_back : {X : Type 0} (P : X → Type 0) (xs ys : List X) → Each P (xs ++ ys) → Each P ys
 each_back P [] ys e = e
 each_back P (x ∷ xs) ys e = each_back P xs ys e.1
 
-below_of_all : (m : ℕ) (xs : List ℕ) → All (λ v. v < m) xs → AllBelow m xs
+pub below_of_all : (m : ℕ) (xs : List ℕ) → All (λ v. v < m) xs → AllBelow m xs
 below_of_all m [] all = tt
 below_of_all m (x ∷ xs) all = (all 0 x (omega arith), below_of_all m xs (λ k d lt. all (suc k) d (omega arith)))
 
@@ -45,14 +49,14 @@ ends_weaker : (s : Scale) (b c d : ℕ → ℕ) (fs : List WordAction) → ((r :
 ends_weaker s b c d [] le are = λ r. let x = are r in let y = le r in omega (arith, x, y)
 ends_weaker s b c d (f ∷ fs) le are = (are.0, are.1, ends_weaker s are.0 c d fs le are.2)
 
-loosest_is : (limit regs r : ℕ) → bound_at limit (replicate regs limit) r ≡ limit
+pub loosest_is : (limit regs r : ℕ) → bound_at limit (replicate regs limit) r ≡ limit
 loosest_is limit zero r = refl
 loosest_is limit (suc regs) zero = refl
 loosest_is limit (suc regs) (suc r) = loosest_is limit regs r
 
 -- The actions under those on words
 
-step_is : (z : Laziness) (p : PlainProgram) (op : PlainOp) (vs : List ℕ) (q : ℕ) → (step_of (quickened z p).frame op vs q).action ≡ (step_of p op vs q).action
+pub step_is : (z : Laziness) (p : PlainProgram) (op : PlainOp) (vs : List ℕ) (q : ℕ) → (step_of (evenly z p).frame op vs q).action ≡ (step_of p op vs q).action
 step_is z p (Load r array place) vs q = refl
 step_is z p (Store array place r) vs q = refl
 step_is z p (Zero r) vs q = refl
@@ -63,13 +67,13 @@ step_is z p (MulConst r x factor) vs q = refl
 step_is z p (MulTable r x table place step) vs q = refl
 step_is z p (Tile r x) vs q = refl
 
-map-append : {X Y : Type 0} (f : X → Y) (xs ys : List X) → map f (xs ++ ys) ≡ map f xs ++ map f ys
+pub map-append : {X Y : Type 0} (f : X → Y) (xs ys : List X) → map f (xs ++ ys) ≡ map f xs ++ map f ys
 map-append f [] ys = refl
 map-append f (x ∷ xs) ys = ap (λ zs. f x ∷ zs) (map-append f xs ys)
 
 module _ (z : Laziness) (p : PlainProgram) where
   abbrev under_words : WordBody → List ℕ → ℕ → List Action
-  under_words body vs q = actions_under (word_actions_of_body (quickened z p) body vs q)
+  under_words body vs q = actions_under (word_actions_of_body (evenly z p) body vs q)
 
   turns_under : (f : ℕ → List WordAction) (g : ℕ → List Step) → ((i : ℕ) → actions_under (f i) ≡ actions_of (g i)) → (is : List ℕ) → actions_under (flat_map f is) ≡ actions_of (flat_map g is)
   turns_under f g e [] = refl
@@ -79,10 +83,10 @@ module _ (z : Laziness) (p : PlainProgram) where
       ∙ sym (map-append (λ (s : Step). s.action) (g i) (flat_map g is))
 
   mutual
-    stmt_under : (stmt : PlainStmt) (bounds vs : List ℕ) (q : ℕ) → actions_under (word_actions_of_stmt (quickened z p) (quick_stmt z (header_of p) stmt bounds).stmt vs q) ≡ actions_of (steps_of_stmt p stmt vs q)
+    pub stmt_under : (stmt : PlainStmt) (bounds vs : List ℕ) (q : ℕ) → actions_under (word_actions_of_stmt (evenly z p) (quick_stmt z (header_of p) stmt bounds).stmt vs q) ≡ actions_of (steps_of_stmt p stmt vs q)
     stmt_under (plain.Loop count body) bounds vs q =
         turns_under
-        (λ i. word_actions_of_body (quickened z p) (quick_body z (header_of p) body (loosest z (header_of p))).body (vs ++ i ∷ []) q)
+        (λ i. word_actions_of_body (evenly z p) (quick_body z (header_of p) body (loosest z (header_of p))).body (vs ++ i ∷ []) q)
         (λ i. steps_of_body p body (vs ++ i ∷ []) q)
         (λ i. body_under body (loosest z (header_of p)) (vs ++ i ∷ []) q)
         (range_with_len 0 count)
@@ -92,23 +96,23 @@ module _ (z : Laziness) (p : PlainProgram) where
     body_under plain.NoStmts bounds vs q = refl
     body_under (plain.AndStmts stmt rest) bounds vs q =
         let one = quick_stmt z (header_of p) stmt bounds in
-        map-append (λ (a : WordAction). a.action) (word_actions_of_stmt (quickened z p) one.stmt vs q) (word_actions_of_body (quickened z p) (quick_body z (header_of p) rest one.bounds).body vs q)
+        map-append (λ (a : WordAction). a.action) (word_actions_of_stmt (evenly z p) one.stmt vs q) (word_actions_of_body (evenly z p) (quick_body z (header_of p) rest one.bounds).body vs q)
         ∙ ap₂ (λ xs ys. xs ++ ys) (stmt_under stmt bounds vs q) (body_under rest one.bounds vs q)
         ∙ sym (map-append (λ (s : Step). s.action) (steps_of_stmt p stmt vs q) (steps_of_body p rest vs q))
 
   row_under : (body : PlainBody) (qs : List ℕ) →
-      map actions_under (map (λ q. word_actions_of_body (quickened z p) (quick_body z (header_of p) body (loosest z (header_of p))).body [] q) qs) ≡ map (λ q. actions_of (steps_of_body p body [] q)) qs
+      map actions_under (map (λ q. word_actions_of_body (evenly z p) (quick_body z (header_of p) body (loosest z (header_of p))).body [] q) qs) ≡ map (λ q. actions_of (steps_of_body p body [] q)) qs
   row_under body [] = refl
   row_under body (q ∷ qs) = ap₂ (λ x xs. x ∷ xs) (body_under body (loosest z (header_of p)) [] q) (row_under body qs)
 
   lists_under : (bodies : List PlainBody) (qs : List ℕ) →
       map (λ (lists : List (List WordAction)). map actions_under lists)
-      (map (λ body. map (λ q. word_actions_of_body (quickened z p) body [] q) qs) (map (λ body. (quick_body z (header_of p) body (loosest z (header_of p))).body) bodies))
+      (map (λ body. map (λ q. word_actions_of_body (evenly z p) body [] q) qs) (map (λ body. (quick_body z (header_of p) body (loosest z (header_of p))).body) bodies))
       ≡ map (λ body. map (λ q. actions_of (steps_of_body p body [] q)) qs) bodies
   lists_under [] qs = refl
   lists_under (body ∷ bodies) qs = ap₂ (λ x xs. x ∷ xs) (row_under body qs) (lists_under bodies qs)
 
-  pub code_under : under (word_code (quickened z p)) ≡ plain_code p
+  pub code_under : under (word_code (evenly z p)) ≡ plain_code p
   code_under =
       let made : List (List (List Action)) → Code = λ lists. record { size = p.size; modulus = p.modulus; procs = p.procs; line = p.line; lanes = p.lanes; regs = p.regs; lists = lists } in
       ap made (lists_under p.phases (range_with_len 0 p.procs))
@@ -122,10 +126,10 @@ module _ (z : Laziness) (p : PlainProgram) (sound : IsSound (scale z p)) where
   abbrev loose : List ℕ
   loose = loosest z (header_of p)
 
-  loose_sane : (r : ℕ) → bound_at z.limit loose r ≤ z.limit
+  pub loose_sane : (r : ℕ) → bound_at z.limit loose r ≤ z.limit
   loose_sane r = let e = loosest_is z.limit p.regs r in omega arith
 
-  loose_long : length loose ≡ p.regs
+  pub loose_long : length loose ≡ p.regs
   loose_long = copies p.regs
     where
       copies : (n : ℕ) → length (replicate n z.limit) ≡ n
@@ -136,10 +140,10 @@ module _ (z : Laziness) (p : PlainProgram) (sound : IsSound (scale z p)) where
   loose_weak bounds sane r = let e = loosest_is z.limit p.regs r in let a = sane r in omega (arith, e, a)
 
   -- a list of actions goes from the bounds to the bounds behind it
-  record Leads (bounds : List ℕ) (fs : List WordAction) (after : List ℕ) : Type 0 where
-    goes : AreQuick s (bound_at z.limit bounds) fs (bound_at z.limit after)
-    sane : (r : ℕ) → bound_at z.limit after r ≤ z.limit
-    long : length after ≡ p.regs
+  pub record Leads (bounds : List ℕ) (fs : List WordAction) (after : List ℕ) : Type 0 where
+    pub goes : AreQuick s (bound_at z.limit bounds) fs (bound_at z.limit after)
+    pub sane : (r : ℕ) → bound_at z.limit after r ≤ z.limit
+    pub long : length after ≡ p.regs
 
   -- the turns of a loop
   loop_leads : (f : ℕ → List WordAction) (g : ℕ → List Step) (after : List ℕ) → ((i : ℕ) → Each (StepFits p) (g i) → Leads loose (f i) after) → (is : List ℕ) → Each (StepFits p) (flat_map g is) →
@@ -152,10 +156,10 @@ module _ (z : Laziness) (p : PlainProgram) (sound : IsSound (scale z p)) where
       (loop_leads f g after each is (each_back (StepFits p) (g i) (flat_map g is) fit))
 
   mutual
-    stmt_leads : (stmt : PlainStmt) (bounds vs : List ℕ) (q : ℕ) → length bounds ≡ p.regs → ((r : ℕ) → bound_at z.limit bounds r ≤ z.limit) → Each (StepFits p) (steps_of_stmt p stmt vs q) →
-        Leads bounds (word_actions_of_stmt (quickened z p) (quick_stmt z (header_of p) stmt bounds).stmt vs q) (quick_stmt z (header_of p) stmt bounds).bounds
+    pub stmt_leads : (stmt : PlainStmt) (bounds vs : List ℕ) (q : ℕ) → length bounds ≡ p.regs → ((r : ℕ) → bound_at z.limit bounds r ≤ z.limit) → Each (StepFits p) (steps_of_stmt p stmt vs q) →
+        Leads bounds (word_actions_of_stmt (evenly z p) (quick_stmt z (header_of p) stmt bounds).stmt vs q) (quick_stmt z (header_of p) stmt bounds).bounds
     stmt_leads (plain.Loop count body) bounds vs q long sane fit =
-        let fs : ℕ → List WordAction = λ i. word_actions_of_body (quickened z p) (quick_body z (header_of p) body loose).body (vs ++ i ∷ []) q in
+        let fs : ℕ → List WordAction = λ i. word_actions_of_body (evenly z p) (quick_body z (header_of p) body loose).body (vs ++ i ∷ []) q in
         record {
           goes =
               from_weaker s (bound_at z.limit bounds) (bound_at z.limit loose) (flat_map fs (range_with_len 0 count)) (bound_at z.limit loose) (loose_weak bounds sane)
@@ -170,14 +174,14 @@ module _ (z : Laziness) (p : PlainProgram) (sound : IsSound (scale z p)) where
         record { goes = (bound_at z.limit (noted z p.modulus p.lanes op bounds).bounds, done.quick, λ r. omega arith); sane = done.quick.sane; long = done.long }
 
     body_leads : (body : PlainBody) (bounds vs : List ℕ) (q : ℕ) → length bounds ≡ p.regs → ((r : ℕ) → bound_at z.limit bounds r ≤ z.limit) → Each (StepFits p) (steps_of_body p body vs q) →
-        Leads bounds (word_actions_of_body (quickened z p) (quick_body z (header_of p) body bounds).body vs q) (quick_body z (header_of p) body bounds).bounds
+        Leads bounds (word_actions_of_body (evenly z p) (quick_body z (header_of p) body bounds).body vs q) (quick_body z (header_of p) body bounds).bounds
     body_leads plain.NoStmts bounds vs q long sane fit = record { goes = λ r. omega arith; sane = sane; long = long }
     body_leads (plain.AndStmts stmt rest) bounds vs q long sane fit =
         let one = stmt_leads stmt bounds vs q long sane (each_front (StepFits p) (steps_of_stmt p stmt vs q) (steps_of_body p rest vs q) fit) in
         let first = quick_stmt z (header_of p) stmt bounds in
         let after = body_leads rest first.bounds vs q one.long one.sane (each_back (StepFits p) (steps_of_stmt p stmt vs q) (steps_of_body p rest vs q) fit) in
         record {
-          goes = quick-append s (bound_at z.limit bounds) (bound_at z.limit first.bounds) (bound_at z.limit (quick_body z (header_of p) rest first.bounds).bounds) (word_actions_of_stmt (quickened z p) first.stmt vs q) (word_actions_of_body (quickened z p) (quick_body z (header_of p) rest first.bounds).body vs q) one.goes after.goes;
+          goes = quick-append s (bound_at z.limit bounds) (bound_at z.limit first.bounds) (bound_at z.limit (quick_body z (header_of p) rest first.bounds).bounds) (word_actions_of_stmt (evenly z p) first.stmt vs q) (word_actions_of_body (evenly z p) (quick_body z (header_of p) rest first.bounds).body vs q) one.goes after.goes;
           sane = after.sane;
           long = after.long;
         }
@@ -185,7 +189,7 @@ module _ (z : Laziness) (p : PlainProgram) (sound : IsSound (scale z p)) where
   -- The code of the program
 
   abbrev code : WordCode
-  code = word_code (quickened z p)
+  code = word_code (evenly z p)
 
   abbrev top : ℕ → ℕ
   top = λ r. z.limit
@@ -194,27 +198,27 @@ module _ (z : Laziness) (p : PlainProgram) (sound : IsSound (scale z p)) where
   quick_of body = (quick_body z (header_of p) body loose).body
 
   abbrev row : WordBody → List (List WordAction)
-  row body = map (λ q. word_actions_of_body (quickened z p) body [] q) (range_with_len 0 p.procs)
+  row body = map (λ q. word_actions_of_body (evenly z p) body [] q) (range_with_len 0 p.procs)
 
   -- the lists of the phases
   past_processors : (bodies : List WordBody) (phase q : ℕ) → p.procs ≤ q → slice_index_or (slice_index_or (map row bodies) phase []) q [] ≡ []
   past_processors [] phase q ge = refl
-  past_processors (body ∷ bodies) zero q ge = let a = length-map-range_with_len (λ q. word_actions_of_body (quickened z p) body [] q) 0 p.procs in get_or_past (row body) q [] (omega (arith, a, ge))
+  past_processors (body ∷ bodies) zero q ge = let a = length-map-range_with_len (λ q. word_actions_of_body (evenly z p) body [] q) 0 p.procs in get_or_past (row body) q [] (omega (arith, a, ge))
   past_processors (body ∷ bodies) (suc phase) q ge = past_processors bodies phase q ge
 
   in_phase : (bodies : List PlainBody) (phase q : ℕ) → q < p.procs → Each (StepFits p) (steps_of_body p (slice_index_or bodies phase plain.NoStmts) [] q) →
       AreQuick s top (slice_index_or (slice_index_or (map row (map quick_of bodies)) phase []) q []) top
   in_phase [] phase q lt fit = λ r. omega arith
   in_phase (body ∷ bodies) zero q lt fit =
-      let acts = word_actions_of_body (quickened z p) (quick_of body) [] q in
-      let is : slice_index_or (row (quick_of body)) q [] ≡ acts = get_or-map-range_with_len (λ q. word_actions_of_body (quickened z p) (quick_of body) [] q) 0 p.procs q q [] lt (omega arith) in
+      let acts = word_actions_of_body (evenly z p) (quick_of body) [] q in
+      let is : slice_index_or (row (quick_of body)) q [] ≡ acts = get_or-map-range_with_len (λ q. word_actions_of_body (evenly z p) (quick_of body) [] q) 0 p.procs q q [] lt (omega arith) in
       let lead = body_leads body loose [] q loose_long loose_sane fit in
       subst (λ fs. AreQuick s top fs top) (sym is)
       (from_weaker s top (bound_at z.limit loose) acts top (λ r. let e = loosest_is z.limit p.regs r in omega arith)
       (ends_weaker s (bound_at z.limit loose) (bound_at z.limit (quick_body z (header_of p) body loose).bounds) top acts lead.sane lead.goes))
   in_phase (body ∷ bodies) (suc phase) q lt fit = in_phase bodies phase q lt fit
 
-  quick_code : PlainFits p → IsQuickCode (scale_of code z.keep z.limit) code
+  quick_code : PlainFits p → IsQuickCode (scale_of code z.kept z.limit) code
   quick_code fits =
       record {
         each = λ phase q. ⊎_elim
@@ -224,9 +228,11 @@ module _ (z : Laziness) (p : PlainProgram) (sound : IsSound (scale z p)) where
         past = λ phase q ge. past_processors (map quick_of p.phases) phase q ge;
       }
 
-pub quickened_is_same : QuickenedIsSame
-quickened_is_same z p fits lazy pos line x turns low =
-    let sound : IsSound (scale z p) = record { half = lazy.half; modulus = pos; room = lazy.room; product = lazy.product; keep = lazy.keep; kept = lazy.kept } in
-    let some : 1 ≤ z.limit = let a = lazy.keep in let b = lazy.kept in omega (arith, a, b) in
-    results_are (word_code (quickened z p)) z.keep z.limit (quick_code z p sound fits) x turns pos line lazy.keep some (below_of_all p.modulus x low)
+-- what it leaves is what the program leaves, whatever the order of turns
+pub evenly_is_same : (z : Laziness) (p : PlainProgram) → PlainFits p → IsLazyWithin z p.modulus → 0 < p.modulus → 1 ≤ p.line → (x turns : List ℕ) → All (λ v. v < p.modulus) x →
+    word_results (word_code (evenly z p)) x turns ≡ results (plain_code p) x turns
+evenly_is_same z p fits lazy pos line x turns low =
+    let sound : IsSound (scale z p) = record { half = lazy.half; modulus = pos; room = lazy.room; product = lazy.product; of_a = lazy.of_a; of_b = lazy.of_b } in
+    let some : 1 ≤ z.limit = let a = lazy.of_a.0 in let b = lazy.of_a.1 in omega (arith, a, b) in
+    results_are (word_code (evenly z p)) z.kept z.limit (quick_code z p sound fits) x turns pos line lazy.of_a.0 lazy.of_b.0 some (below_of_all p.modulus x low)
     ∙ ap (λ c. results c x turns) (code_under z p)

@@ -23,8 +23,8 @@ pub record IsSound (s : Scale) : Type 0 where
   pub modulus : 0 < s.modulus
   pub room : s.limit * s.modulus < base_of s.width
   pub product : product_bound s.width ≤ s.limit
-  pub keep : 1 ≤ s.keep
-  pub kept : s.keep ≤ s.limit
+  pub of_a : (1 ≤ s.kept.of_a) × (s.kept.of_a ≤ s.limit)
+  pub of_b : (1 ≤ s.kept.of_b) × (s.kept.of_b ≤ s.limit)
 
 -- the words that an action puts into n registers stand for those of the residues, and are below v times the modulus
 pub record IsPut (s : Scale) (b : Bounds) (action : Action) (bias : ℕ) (quotients : List ℕ) (n v : ℕ) : Type 0 where
@@ -63,24 +63,30 @@ quick_put s b d c rs action bias quotients n v reductions stays put sane new old
         (ap (with_words (residues s.modulus words) (register_put action * s.lanes)) (put.same (settled t) (reductions.below t.registers low))
         ∙ residues-with_words s.modulus (word_put s.width s.modulus s.lanes bias quotients action (settled t)) words (register_put action * s.lanes))
 
--- a store
+-- a store, whose words are small enough for each array that it writes into
 pub quick_store : (s : Scale) (b d : Bounds) (rs : List Reduction) (address r bias : ℕ) (quotients : List ℕ) →
-    AreReductions (base_of s.width) s.modulus s.lanes b rs d → ((q : ℕ) → d q ≤ s.limit) → d r ≤ s.keep →
+    AreReductions (base_of s.width) s.modulus s.lanes b rs d → ((q : ℕ) → d q ≤ s.limit) →
     ((k : ℕ) → k < 2 * s.padded → address ≤ k → k < address + s.lanes → d r ≤ 1) →
+    ((k : ℕ) → 2 * s.padded ≤ k → k < 3 * s.padded → address ≤ k → k < address + s.lanes → d r ≤ s.kept.of_a) →
+    ((k : ℕ) → 3 * s.padded ≤ k → address ≤ k → k < address + s.lanes → d r ≤ s.kept.of_b) →
     IsQuick s b (record { before = rs; action = Store address r; bias = bias; quotients = quotients }) d
-quick_store s b d rs address r bias quotients reductions sane small outer =
+quick_store s b d rs address r bias quotients reductions sane outer of_a of_b =
     record {
       sane = sane;
       same = λ t kept low. same t low;
       memory = λ t kept low. record {
         outer = λ k lt.
             write_below (words t) t.memory address k (d r * s.modulus) s.modulus (below t low)
-            (λ from to. let long = length-words_at s.lanes (reduced t) (r * s.lanes) in let e = outer k lt from (omega (arith, to, long)) in let a = mul-le-mul_left s.modulus e in omega (arith, a))
+            (λ from to. let e = outer k lt from (inside t k to) in let a = mul-le-mul_left s.modulus e in omega (arith, a))
             (kept.outer k lt);
-        whole = λ k.
-            write_below (words t) t.memory address k (d r * s.modulus) (s.keep * s.modulus) (below t low)
-            (λ from to. let a = mul-le-mul_left s.modulus small in omega (arith, a))
-            (kept.whole k);
+        of_a = λ k ge lt.
+            write_below (words t) t.memory address k (d r * s.modulus) (s.kept.of_a * s.modulus) (below t low)
+            (λ from to. let a = mul-le-mul_left s.modulus (of_a k ge lt from (inside t k to)) in omega (arith, a))
+            (kept.of_a k ge lt);
+        of_b = λ k ge.
+            write_below (words t) t.memory address k (d r * s.modulus) (s.kept.of_b * s.modulus) (below t low)
+            (λ from to. let a = mul-le-mul_left s.modulus (of_b k ge from (inside t k to)) in omega (arith, a))
+            (kept.of_b k ge);
       };
       registers = λ t kept low. reductions.below t.registers low;
     }
@@ -90,6 +96,9 @@ quick_store s b d rs address r bias quotients reductions sane small outer =
 
     words : Local → List ℕ
     words t = register_of s.lanes (reduced t) r
+
+    inside : (t : Local) (k : ℕ) → k < address + length (words t) → k < address + s.lanes
+    inside t k to = let long = length-words_at s.lanes (reduced t) (r * s.lanes) in omega (arith, to, long)
 
     below : (t : Local) → AreRegistersBelow s.modulus s.lanes b t.registers → AllBelow (d r * s.modulus) (words t)
     below t low = register_below s.modulus s.lanes d (reduced t) r (reductions.below t.registers low)

@@ -2,24 +2,26 @@
 use Rattle.std.proofs.Common.{◌≡◌, ℕ, ◌*◌, ◌<◌, ◌≤◌, List, [], ◌∷◌, ◌++◌, arith}
 use Rattle.std.specs.Prelude.{slice_index}
 use Rattle.icode.specs.Machine.{Local, effect}
+use Rattle.word_code.specs.Quicken.{Kept}
 use Rattle.word_code.specs.Words.{Width}
 use Rattle.word_code.specs.WordMachine.{WordAction, word_effect}
 use Rattle.word_code.proofs.Residues.{residues}
 use Rattle.word_code.proofs.Bounds.{Bounds, AreRegistersBelow, weaker}
 
--- what code on words keeps: in the first two of the arrays of n words are residues, in the others words below `keep` times
--- the modulus, and in each register words below its bound, which is at most `limit`, times the modulus
+-- what code on words keeps: in the first two of the arrays of n words are residues, in A and in B words below what `kept`
+-- says, times the modulus, and in each register words below its bound, which is at most `limit`, times the modulus
 pub record Scale : Type 0 where
   pub width : Width
   pub modulus : ℕ
   pub lanes : ℕ
   pub padded : ℕ
-  pub keep : ℕ
+  pub kept : Kept
   pub limit : ℕ
 
 pub record IsMemoryBelow (s : Scale) (memory : List ℕ) : Type 0 where
   pub outer : (k : ℕ) → k < 2 * s.padded → slice_index memory k < s.modulus
-  pub whole : (k : ℕ) → slice_index memory k < s.keep * s.modulus
+  pub of_a : (k : ℕ) → 2 * s.padded ≤ k → k < 3 * s.padded → slice_index memory k < s.kept.of_a * s.modulus
+  pub of_b : (k : ℕ) → 3 * s.padded ≤ k → slice_index memory k < s.kept.of_b * s.modulus
 
 abbrev pub residue_local : ℕ → Local → Local
 residue_local m t = record { memory = residues m t.memory; registers = residues m t.registers }

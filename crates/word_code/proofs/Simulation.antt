@@ -7,6 +7,7 @@ use Rattle.std.proofs.lemmas.Bool.{cases_eq, cases_lt}
 use Rattle.std.proofs.lemmas.Option.{slice_get-map}
 use Rattle.std.proofs.lemmas.Nat.{div-add-mod', mod_below}
 use Rattle.icode.specs.Machine.{State, Local, acts, effect, is_open, none_done, first_open, phases_after, moved_on, acted, turn_with, turn, run, completion, start, runs, results, padded, words_at, whole_lines}
+use Rattle.word_code.specs.Quicken.{Kept}
 use Rattle.word_code.specs.WordMachine.{WordAction, WordCode, under, actions_under, word_acts, word_effect, word_acted, word_turn_with, word_turn, word_run, word_runs, word_results}
 use Rattle.word_code.proofs.Residues.{residues, residues-append, residues-zeros, residues-words_at, AllBelow, below-words_at}
 use Rattle.word_code.proofs.Bounds.{Bounds, AreRegistersBelow, weaker}
@@ -38,10 +39,26 @@ drop-at [] i x e = cc
 drop-at (y ∷ ys) zero x e = cc
 drop-at (y ∷ ys) (suc i) x e = drop-at ys i x e
 
-zero_at : (n q : ℕ) → slice_index (replicate n 0) q ≡ 0
+pub zero_at : (n q : ℕ) → slice_index (replicate n 0) q ≡ 0
 zero_at zero q = refl
 zero_at (suc n) zero = refl
 zero_at (suc n) (suc q) = zero_at n q
+
+pub residues-of_residues : (m : ℕ) (xs : List ℕ) → AllBelow m xs → residues m xs ≡ xs
+residues-of_residues m [] low = refl
+residues-of_residues m (x ∷ xs) low = ap₂ (λ y ys. y ∷ ys) (mod-eq_of_lt low.0) (residues-of_residues m xs low.1)
+
+pub input_below : (m : ℕ) (x : List ℕ) (n k : ℕ) → 0 < m → AllBelow m x → slice_index (x ++ replicate n 0) k < m
+input_below m [] n k pos low = subst (λ v. v < m) (sym (zero_at n k)) pos
+input_below m (v ∷ vs) n zero pos low = low.0
+input_below m (v ∷ vs) n (suc k) pos low = input_below m vs n k pos low.1
+
+-- an array has room for its words
+pub size_within : (size line : ℕ) → 1 ≤ line → size ≤ whole_lines size line
+size_within size line some =
+    let a = div-add-mod' (size + (line - 1)) line in
+    let b = mod_below (size + (line - 1)) line some in
+    omega (arith, a, b)
 
 abbrev top : Scale → Bounds
 top s = λ r. s.limit
@@ -69,20 +86,20 @@ pub record Goes (s : Scale) (code : WordCode) (residue : State) (t : State) : Ty
   pub same : residue ≡ residue_state code.modulus t
   pub steady : IsSteady s code t
 
-abbrev pub scale_of : WordCode → ℕ → ℕ → Scale
-scale_of code keep limit =
+abbrev pub scale_of : WordCode → Kept → ℕ → Scale
+scale_of code kept limit =
     record {
       width = code.width;
       modulus = code.modulus;
       lanes = code.lanes;
       padded = whole_lines code.size code.line;
-      keep = keep;
+      kept = kept;
       limit = limit;
     }
 
-module _ (code : WordCode) (keep limit : ℕ) (quick : IsQuickCode (scale_of code keep limit) code) where
+module _ (code : WordCode) (kept : Kept) (limit : ℕ) (quick : IsQuickCode (scale_of code kept limit) code) where
   abbrev s : Scale
-  s = scale_of code keep limit
+  s = scale_of code kept limit
 
   -- the phase moves on
 
@@ -237,15 +254,6 @@ module _ (code : WordCode) (keep limit : ℕ) (quick : IsQuickCode (scale_of cod
 
   -- whole runs
 
-  residues-of_residues : (m : ℕ) (xs : List ℕ) → AllBelow m xs → residues m xs ≡ xs
-  residues-of_residues m [] low = refl
-  residues-of_residues m (x ∷ xs) low = ap₂ (λ y ys. y ∷ ys) (mod-eq_of_lt low.0) (residues-of_residues m xs low.1)
-
-  input_below : (x : List ℕ) (n k : ℕ) → 0 < code.modulus → AllBelow code.modulus x → slice_index (x ++ replicate n 0) k < code.modulus
-  input_below [] n k pos low = subst (λ v. v < code.modulus) (sym (zero_at n k)) pos
-  input_below (v ∷ vs) n zero pos low = low.0
-  input_below (v ∷ vs) n (suc k) pos low = input_below vs n k pos low.1
-
   empty_files : (m procs n : ℕ) → map (residues m) (replicate procs (replicate n 0)) ≡ replicate procs (replicate n 0)
   empty_files m zero n = refl
   empty_files m (suc procs) n = ap₂ (λ y ys. y ∷ ys) (residues-zeros m n) (empty_files m procs n)
@@ -259,8 +267,8 @@ module _ (code : WordCode) (keep limit : ℕ) (quick : IsQuickCode (scale_of cod
   length-copies zero x = refl
   length-copies (suc n) x = ap suc (length-copies n x)
 
-  start_goes : (x : List ℕ) → 0 < code.modulus → 1 ≤ keep → 1 ≤ limit → AllBelow code.modulus x → Goes s code (start (under code) x) (start (under code) x)
-  start_goes x pos kept some low =
+  start_goes : (x : List ℕ) → 0 < code.modulus → 1 ≤ kept.of_a → 1 ≤ kept.of_b → 1 ≤ limit → AllBelow code.modulus x → Goes s code (start (under code) x) (start (under code) x)
+  start_goes x pos of_a of_b some low =
       record {
         same =
             let n = 4 * padded (under code) - code.size in
@@ -270,8 +278,9 @@ module _ (code : WordCode) (keep limit : ℕ) (quick : IsQuickCode (scale_of cod
             (sym words) (sym (empty_files code.modulus code.procs (code.regs * code.lanes)));
         steady = record {
           memory = record {
-            outer = λ k lt. input_below x (4 * padded (under code) - code.size) k pos low;
-            whole = λ k. let a = input_below x (4 * padded (under code) - code.size) k pos low in let b = mul-le-mul_left code.modulus kept in omega (arith, a, b);
+            outer = λ k lt. input_below code.modulus x (4 * padded (under code) - code.size) k pos low;
+            of_a = λ k ge lt. let a = input_below code.modulus x (4 * padded (under code) - code.size) k pos low in let b = mul-le-mul_left code.modulus of_a in omega (arith, a, b);
+            of_b = λ k ge. let a = input_below code.modulus x (4 * padded (under code) - code.size) k pos low in let b = mul-le-mul_left code.modulus of_b in omega (arith, a, b);
           };
           files = length-copies code.procs (replicate (code.regs * code.lanes) 0);
           counts = length-copies code.procs 0;
@@ -284,9 +293,9 @@ module _ (code : WordCode) (keep limit : ℕ) (quick : IsQuickCode (scale_of cod
         };
       }
 
-  runs_go : (x turns : List ℕ) → 0 < code.modulus → 1 ≤ keep → 1 ≤ limit → AllBelow code.modulus x → Goes s code (runs (under code) x turns) (word_runs code x turns)
-  runs_go x turns pos kept some low =
-      let begin = start_goes x pos kept some low in
+  runs_go : (x turns : List ℕ) → 0 < code.modulus → 1 ≤ kept.of_a → 1 ≤ kept.of_b → 1 ≤ limit → AllBelow code.modulus x → Goes s code (runs (under code) x turns) (word_runs code x turns)
+  runs_go x turns pos of_a of_b some low =
+      let begin = start_goes x pos of_a of_b some low in
       let middle = run_goes turns (start (under code) x) begin.steady in
       let between : run (under code) (start (under code) x) turns ≡ residue_state code.modulus (word_run code (start (under code) x) turns) =
       ap (λ r. run (under code) r turns) begin.same ∙ middle.same in
@@ -294,19 +303,13 @@ module _ (code : WordCode) (keep limit : ℕ) (quick : IsQuickCode (scale_of cod
       let last = run_goes (completion (under code) t) t middle.steady in
       record { same = ap (λ r. run (under code) r (completion (under code) r)) between ∙ last.same; steady = last.steady }
 
-  size_within : 1 ≤ code.line → code.size ≤ padded (under code)
-  size_within some =
-      let a = div-add-mod' (code.size + (code.line - 1)) code.line in
-      let b = mod_below (code.size + (code.line - 1)) code.line some in
-      omega (arith, a, b)
-
   -- the words that a run leaves in Y are those of the run on residues
-  pub results_are : (x turns : List ℕ) → 0 < code.modulus → 1 ≤ code.line → 1 ≤ keep → 1 ≤ limit → AllBelow code.modulus x → word_results code x turns ≡ results (under code) x turns
-  results_are x turns pos line kept some low =
-      let go = runs_go x turns pos kept some low in
+  pub results_are : (x turns : List ℕ) → 0 < code.modulus → 1 ≤ code.line → 1 ≤ kept.of_a → 1 ≤ kept.of_b → 1 ≤ limit → AllBelow code.modulus x → word_results code x turns ≡ results (under code) x turns
+  results_are x turns pos line of_a of_b some low =
+      let go = runs_go x turns pos of_a of_b some low in
       let t = word_runs code x turns in
       let n = padded (under code) in
-      let within = size_within line in
+      let within = size_within code.size code.line line in
       let outer = go.steady.memory.outer in
       let words : AllBelow code.modulus (words_at code.size t.memory n) = below-words_at code.modulus code.size t.memory n (λ l lt. outer (n + l) (omega arith)) in
       sym (

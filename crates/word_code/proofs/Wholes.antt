@@ -18,7 +18,7 @@ use Rattle.word_code.specs.Same.{LeavesTheSame, OrderIsFreeOf}
 use Rattle.word_code.specs.View.{plain_word_program}
 use Rattle.word_code.specs.WordMachine.{word_results}
 use Rattle.word_code.specs.WordProgram.{word_code}
-use Rattle.word_code.proofs.Programs.{quickened_is_same}
+use Rattle.word_code.proofs.Quickened.{quickened_is_same}
 
 entries_below : (m : ℕ) (entries : List ℕ) → list_all (λ c. nat_lt c m) entries ≡ true → All (λ c. c < m) entries
 entries_below m [] e k d lt = absurd (omega arith)

@@ -1,5 +1,6 @@
 -- How lazy the words of a program are: words of 32 bits where the modulus allows them, else of 64. A greater limit of
--- registers than 16 times the modulus is of no use, and A and B are kept below what products are below.
+-- registers than 16 times the modulus is of no use, and A and B are kept below what products are below, where their words
+-- are added up.
 use Rattle.std.specs.Prelude.{ℕ, ◌/◌, min, nat_lt, false, if◌then◌else◌}
 use Rattle.icode.specs.Plain.{PlainProgram}
 use Rattle.word_code.specs.WordProgram.{PlainWordProgram}
@@ -11,7 +12,12 @@ abbrev pub limit_within : ℕ → ℕ → ℕ
 limit_within greatest modulus = min 16 (greatest / modulus)
 
 abbrev pub lazy_within : Width → ℕ → Laziness
-lazy_within width limit = record { width = width; keep = product_bound width; limit = limit }
+lazy_within width limit =
+    record {
+      width = width;
+      kept = record { of_a = product_bound width; of_b = product_bound width };
+      limit = limit;
+    }
 
 -- in words of 32 bits
 abbrev pub narrow : ℕ → Laziness

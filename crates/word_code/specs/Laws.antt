@@ -13,8 +13,8 @@ pub record IsLazyWithin (z : Laziness) (modulus : ℕ) : Type 0 where
   pub half : 0 < z.width.half
   pub room : z.limit * modulus < base_of z.width
   pub product : product_bound z.width ≤ z.limit
-  pub keep : 1 ≤ z.keep
-  pub kept : z.keep ≤ z.limit
+  pub of_a : (1 ≤ z.kept.of_a) × (z.kept.of_a ≤ z.limit)
+  pub of_b : (1 ≤ z.kept.of_b) × (z.kept.of_b ≤ z.limit)
 
 -- Whatever the order of turns, the program on words leaves the residues that the program leaves
 abbrev pub QuickenedIsSame : Type 0

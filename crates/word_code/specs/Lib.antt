@@ -1,3 +1,4 @@
+pub mod Needs
 pub mod Words
 pub mod WordMachine
 pub mod WordProgram

@@ -1,20 +1,27 @@
 -- The program on words of a program: a bound for each register, in multiples of the modulus, and reductions where a sum of
 -- bounds would pass the limit.
-use Rattle.std.specs.Prelude.{ℕ, zero, suc, ◌+◌, ◌-◌, ◌*◌, ◌/◌, List, [], ◌∷◌, map, max, replicate, min, nat_le, if◌then◌else◌, slice_index_or, slice_set}
+use Rattle.std.specs.Prelude.{ℕ, zero, suc, ◌+◌, ◌-◌, ◌*◌, ◌/◌, ◌==◌, List, [], ◌∷◌, map, max, replicate, min, nat_le, if◌then◌else◌, slice_index_or, slice_set}
 use Rattle.icode.specs.declared.program.Array.{Array}
 use Rattle.icode.specs.declared.program.Array.TheVariants.{X, Y, A, B}
 use Rattle.icode.specs.Headers.{without_statements}
 use Rattle.icode.specs.Machine.{with_words}
 use Rattle.icode.specs.Plain.{PlainOp, PlainStmt, PlainBody, PlainProgram, Load, Store, Zero, Add, Sub, Neg, MulConst, MulTable, Tile}
 use Rattle.icode.specs.Plain as plain
+use Rattle.word_code.specs.declared.needs.Needs.{Needs}
+use Rattle.word_code.specs.Needs.{needs}
 use Rattle.word_code.specs.Words.{Width, base_of, quotient_of, product_bound}
 use Rattle.word_code.specs.declared.program.Reduction.{Reduction}
 use Rattle.word_code.specs.WordProgram.{Note, WordStmt, WordBody, PlainWordProgram, Loop, Do, NoStmts, AndStmts}
 
--- How lazy a program on words is: the words of A and B are below `keep` times the modulus, those of registers below `limit` times
+-- what the words of A and of B are below, in multiples of the modulus
+pub record Kept : Type 0 where
+  pub of_a : ℕ
+  pub of_b : ℕ
+
+-- How lazy a program on words is: the words of registers are below `limit` times the modulus
 pub record Laziness : Type 0 where
   pub width : Width
-  pub keep : ℕ
+  pub kept : Kept
   pub limit : ℕ
 
 abbrev pub bound_at : ℕ → List ℕ → ℕ → ℕ
@@ -45,11 +52,11 @@ settled m limit (suc n) x y target bounds =
     then_settled (record { register = r; amount = h * m }) (settled m limit n x y target (slice_set bounds r h))
 
 -- the bound of the words of an array
-abbrev pub array_bound : ℕ → Array → ℕ
-array_bound keep X = 1
-array_bound keep Y = 1
-array_bound keep A = keep
-array_bound keep B = keep
+abbrev pub array_bound : Kept → Array → ℕ
+array_bound kept X = 1
+array_bound kept Y = 1
+array_bound kept A = kept.of_a
+array_bound kept B = kept.of_b
 
 -- the greatest bound of n registers from x on, or 0
 abbrev pub greatest_bound : ℕ → List ℕ → ℕ → ℕ → ℕ
@@ -65,9 +72,9 @@ no_note = record { before = []; bias = 0; quotient = 0 }
 
 -- the note of an operation, where the registers have these bounds, and the bounds behind it
 abbrev pub noted : Laziness → ℕ → ℕ → PlainOp → List ℕ → Noted
-noted z m lanes (Load r array place) bounds = record { note = no_note; bounds = slice_set bounds r (array_bound z.keep array) }
+noted z m lanes (Load r array place) bounds = record { note = no_note; bounds = slice_set bounds r (array_bound z.kept array) }
 noted z m lanes (Store array place r) bounds =
-    let s = settled m z.limit (2 * z.limit) r r (2 * array_bound z.keep array) bounds in
+    let s = settled m z.limit (2 * z.limit) r r (2 * array_bound z.kept array) bounds in
     record { note = record { before = s.reductions; bias = 0; quotient = 0 }; bounds = s.bounds }
 noted z m lanes (Zero r) bounds = record { note = no_note; bounds = slice_set bounds r 1 }
 noted z m lanes (Add r x y) bounds =
@@ -96,6 +103,16 @@ noted z m lanes (MulConst r x factor) bounds =
 noted z m lanes (MulTable r x table place step) bounds = record { note = no_note; bounds = slice_set bounds r (product_bound z.width) }
 noted z m lanes (Tile r x) bounds =
     record { note = no_note; bounds = with_words bounds r (replicate lanes (greatest_bound z.limit bounds lanes x)) }
+
+-- the words of A and of B may be as great as those of registers, where nothing needs them smaller
+abbrev pub loosened : Laziness → Needs → Laziness
+loosened z n =
+    record z {
+      kept = record {
+        of_a = if n.of_a then z.kept.of_a else z.limit;
+        of_b = if n.of_b then z.kept.of_b else z.limit;
+      };
+    }
 
 -- the header of the program that is quickened
 pub record Header : Type 0 where
@@ -137,6 +154,21 @@ abbrev mutual
 abbrev pub quick_phase : Laziness → Header → PlainBody → WordBody
 quick_phase z h body = (quick_body z h body (loosest z h)).body
 
+-- ---- one processor and one phase: the words of A and of B may be as great as those of registers, from where on they are
+-- but multiplied
+
+-- the statement, where the words of A and of B may be as great as what is left of the phase allows
+abbrev pub quick_alone : Laziness → Header → PlainBody → List ℕ → QuickBody
+quick_alone z h plain.NoStmts bounds = record { body = NoStmts; bounds = bounds }
+quick_alone z h (plain.AndStmts stmt rest) bounds =
+    let one = quick_stmt (loosened z (needs (plain.AndStmts stmt rest))) h stmt bounds in quick_and one.stmt (quick_alone z h rest one.bounds)
+
+-- the statements of all phases on words, where there are so many processors
+abbrev pub quick_phases : Laziness → Header → ℕ → List PlainBody → List WordBody
+quick_phases z h procs (body ∷ []) =
+    (if procs == 1 then (quick_alone z h body (loosest z h)).body else quick_phase z h body) ∷ []
+quick_phases z h procs phases = map (quick_phase z h) phases
+
 abbrev pub quotients_of : Laziness → ℕ → List (List ℕ) → List (List ℕ)
 quotients_of z m tables = map (λ entries. map (quotient_of (base_of z.width) m) entries) tables
 
@@ -150,5 +182,5 @@ quickened z p =
       width = z.width;
       frame = without_statements p;
       quotients = quotients_of z p.modulus p.tables;
-      phases = map (quick_phase z (header_of p)) p.phases;
+      phases = quick_phases z (header_of p) p.procs p.phases;
     }

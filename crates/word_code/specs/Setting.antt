@@ -1,10 +1,12 @@
 -- What the statements of a program share, and what they are made with it.
 use Rattle.std.specs.Prelude.{ℕ, ◌*◌, ◌^◌, ◌<◌, ◌≤◌, List, []}
+use Rattle.icode.specs.declared.program.Array.{Array}
 use Rattle.icode.specs.declared.program.Stmt.{Stmt}
 use Rattle.icode.specs.Plain.{PlainOp, PlainBody, plain_stmt}
 use Rattle.word_code.specs.declared.program.Setting.{Setting}
+use Rattle.word_code.specs.declared.needs.Needs.{Needs}
 use Rattle.word_code.specs.Words.{base_of, quotient_of, product_bound}
-use Rattle.word_code.specs.Quicken.{Header, Settled, Noted, QuickStmt, bound_at, settled, noted, quick_stmt, quick_phase}
+use Rattle.word_code.specs.Quicken.{array_bound, Header, Settled, Noted, QuickStmt, bound_at, settled, noted, loosened, loosest, quick_stmt, quick_phase, quick_alone, quick_phases}
 use Rattle.word_code.specs.View.{lazy_of}
 use Rattle.word_code.specs.WordProgram.{Note, WordBody}
 
@@ -15,7 +17,8 @@ pub record IsSettingWithin (s : Setting) : Type 0 where
   pub small : s.slack.limit < 2 ^ 32
   pub some : 1 ≤ s.slack.limit
   pub half : s.slack.half ≤ 2 ^ 32
-  pub keep : s.slack.keep ≤ s.slack.limit
+  pub keep_a : s.slack.keep_a ≤ s.slack.limit
+  pub keep_b : s.slack.keep_b ≤ s.slack.limit
   pub product : product_bound (lazy_of s.slack).width ≤ s.slack.limit
   pub lanes : s.lanes ≤ 16
 
@@ -29,6 +32,10 @@ header_in s = record { modulus = s.modulus; lanes = s.lanes; regs = s.regs }
 -- two registers, settled to the target
 abbrev pub settled_in : Setting → ℕ → ℕ → ℕ → List ℕ → Settled
 settled_in s x y target bounds = settled s.modulus s.slack.limit (2 * s.slack.limit) x y target bounds
+
+-- the bound of the words of an array
+abbrev pub bound_in : Setting → Array → ℕ
+bound_in s array = array_bound (lazy_of s.slack).kept array
 
 -- the note with its reductions alone
 abbrev pub note_after : Settled → Note
@@ -47,6 +54,18 @@ noted_in s op bounds = noted (lazy_of s.slack) s.modulus s.lanes op bounds
 abbrev pub quick_stmt_in : Setting → Stmt → List ℕ → QuickStmt
 quick_stmt_in s stmt bounds = quick_stmt (lazy_of s.slack) (header_in s) (plain_stmt stmt) bounds
 
+-- the same for a statement of the only phase of the only processor, where this is needed from it on
+abbrev pub quick_needed_in : Setting → Needs → Stmt → List ℕ → QuickStmt
+quick_needed_in s n stmt bounds = quick_stmt (loosened (lazy_of s.slack) n) (header_in s) (plain_stmt stmt) bounds
+
 -- the statements of a phase on words
 abbrev pub quick_phase_in : Setting → PlainBody → WordBody
 quick_phase_in s = quick_phase (lazy_of s.slack) (header_in s)
+
+-- the same for the only phase of the only processor
+abbrev pub quick_alone_in : Setting → PlainBody → WordBody
+quick_alone_in s body = (quick_alone (lazy_of s.slack) (header_in s) body (loosest (lazy_of s.slack) (header_in s))).body
+
+-- the statements of all phases on words, where there are so many processors
+abbrev pub quick_phases_in : Setting → ℕ → List PlainBody → List WordBody
+quick_phases_in s procs phases = quick_phases (lazy_of s.slack) (header_in s) procs phases

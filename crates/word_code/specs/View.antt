@@ -12,7 +12,12 @@ use Rattle.word_code.specs.Quicken.{Laziness}
 use Rattle.word_code.specs.WordProgram as plain
 
 abbrev pub lazy_of : Slack → Laziness
-lazy_of k = record { width = record { half = k.half; rough = k.rough }; keep = k.keep; limit = k.limit }
+lazy_of k =
+    record {
+      width = record { half = k.half; rough = k.rough };
+      kept = record { of_a = k.keep_a; of_b = k.keep_b };
+      limit = k.limit;
+    }
 
 abbrev pub plain_note : declared_note.Note → plain.Note
 plain_note n = record { before = n.before.items; bias = n.bias; quotient = n.quotient }

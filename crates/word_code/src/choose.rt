@@ -31,7 +31,8 @@ fn narrow(modulus: u64) -> Slack
     Slack {
         half: 0x1_0000,
         rough: false,
-        keep: 2,
+        keep_a: 2,
+        keep_b: 2,
         limit: limit_within(0xffff_ffff, modulus),
     }
 }
@@ -42,10 +43,12 @@ fn wide(modulus: u64, lanes: u64) -> Slack
     ensures { lazy_of result ≡ wide modulus lanes }
 {
     let rough = lanes > 1;
+    let keep = if rough { 4 } else { 2 };
     Slack {
         half: 0x1_0000_0000,
         rough,
-        keep: if rough { 4 } else { 2 },
+        keep_a: keep,
+        keep_b: keep,
         limit: limit_within(u64::MAX, modulus),
     }
 }

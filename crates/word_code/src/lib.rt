@@ -4,7 +4,9 @@
 pub mod choose;
 mod copies;
 pub mod laws;
+mod needs;
 mod note;
 pub mod program;
 pub mod quicken;
 mod settle;
+mod single;

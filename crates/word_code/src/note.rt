@@ -8,7 +8,7 @@ ghost use Rattle.icode.specs.Plain.{Add, Sub, Neg, Tile, plain_op};
 ghost use Rattle.word_code.specs.Words.{quotient_of, product_bound};
 ghost use Rattle.word_code.specs.Kinds.{NeedsNoReductions};
 ghost use Rattle.word_code.specs.Quicken.{bound_at, array_bound, no_note as no_note_plain};
-ghost use Rattle.word_code.specs.Setting.{IsSettingWithin, AreBoundsWithin, settled_in};
+ghost use Rattle.word_code.specs.Setting.{IsSettingWithin, AreBoundsWithin, settled_in, bound_in};
 ghost use Rattle.word_code.specs.Setting.{note_after, note_of_factor, noted_in};
 ghost use Rattle.word_code.specs.View.{lazy_of, plain_note};
 
@@ -18,14 +18,14 @@ use icode::program::{Array, Op};
 use memory::NoMemory;
 use std::alloc::Global;
 
-pub(crate) fn bound_of_array(keep: u64, array: Array) -> u64
-    ensures { result ≡ array_bound keep array }
+pub(crate) fn bound_of_array(slack: Slack, array: Array) -> u64
+    ensures { result ≡ array_bound (lazy_of slack).kept array }
 {
     match array {
         Array::X => 1,
         Array::Y => 1,
-        Array::A => keep,
-        Array::B => keep,
+        Array::A => slack.keep_a,
+        Array::B => slack.keep_b,
     }
 }
 
@@ -104,12 +104,12 @@ fn note_of_store(
 ) -> Result<Note, NoMemory>
     requires setting { IsSettingWithin setting }
     requires sane { AreBoundsWithin setting bounds.old }
-    ensures note { IfOk result (λ n. let most = 2 * array_bound setting.slack.keep array in
+    ensures note { IfOk result (λ n. let most = 2 * bound_in setting array in
         plain_note n ≡ note_after (settled_in setting register register most bounds.old)) }
-    ensures after { OnOk result (let most = 2 * array_bound setting.slack.keep array in
+    ensures after { OnOk result (let most = 2 * bound_in setting array in
         bounds.new ≡ (settled_in setting register register most bounds.old).bounds) }
 {
-    let most = 2 * bound_of_array(setting.slack.keep, array);
+    let most = 2 * bound_of_array(setting.slack, array);
     let before = settle(alloc, setting, register, register, most, bounds)?;
     Ok(Note {
         before,
@@ -263,7 +263,7 @@ fn note_without_reductions(
         } => note_of_put(
             alloc,
             *register,
-            bound_of_array(setting.slack.keep, *array),
+            bound_of_array(setting.slack, *array),
             bounds,
         ),
         Op::Zero { register } => note_of_put(alloc, *register, 1, bounds),

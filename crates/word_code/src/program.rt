@@ -53,8 +53,10 @@ pub struct WordProgram {
 pub struct Slack {
     pub half: u64,
     pub rough: bool,
-    /// The words of A and B stay below this multiple of the modulus.
-    pub keep: u64,
+    /// The words of A stay below this multiple of the modulus.
+    pub keep_a: u64,
+    /// And those of B below this one.
+    pub keep_b: u64,
     /// And those of registers below this one.
     pub limit: u64,
 }

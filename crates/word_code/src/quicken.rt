@@ -1,7 +1,7 @@
 // From programs on residues to programs on words.
 
 ghost use Rattle.std.specs.Prelude.{◌≡◌, ◌*◌, ◌^◌, ◌<◌, ◌≤◌, length, map, replicate, All};
-ghost use Rattle.std.specs.Prelude.{IfOk, OnOk, IsTrue};
+ghost use Rattle.std.specs.Prelude.{IfOk, OnOk, IsTrue, ◌==◌, ◌&&◌};
 ghost use Rattle.icode.specs.Limits.{is_stmt_within, is_body_within};
 ghost use Rattle.icode.specs.Limits.{are_tables_within, are_phases_within};
 ghost use Rattle.icode.specs.Plain.{plain_stmt, plain_body, plain_tables, plain_phases};
@@ -11,13 +11,14 @@ ghost use Rattle.word_code.specs.Laws.{IsLazyWithin};
 ghost use Rattle.word_code.specs.Same.{LeavesTheSame, OrderIsFreeOf};
 ghost use Rattle.word_code.specs.Quicken.{quotients_of, quickened};
 ghost use Rattle.word_code.specs.Setting.{IsSettingWithin, AreBoundsWithin};
-ghost use Rattle.word_code.specs.Setting.{quick_stmt_in, quick_phase_in};
+ghost use Rattle.word_code.specs.Setting.{quick_stmt_in, quick_phase_in, quick_phases_in};
 ghost use Rattle.word_code.specs.View.{lazy_of, plain_word_stmt, plain_word_body};
 ghost use Rattle.word_code.specs.View.{plain_word_phases, plain_word_program};
 
 use crate::copies::{copy_op, copy_tables};
 use crate::note::{note_of, quotient};
 use crate::program::{Setting, Slack, WordProgram, WordStmt};
+use crate::single::quicken_alone;
 use icode::program::{Program, Stmt};
 use memory::NoMemory;
 use std::alloc::Global;
@@ -30,7 +31,7 @@ fn loosen(bounds: &mut [u64], limit: u64)
 }
 
 /// The statement on words, with the bounds of the registers behind it.
-fn quicken_stmt(
+pub(crate) fn quicken_stmt(
     alloc: Global,
     setting: Setting,
     stmt: &Stmt,
@@ -118,17 +119,30 @@ fn quotient_tables(
     Ok(made)
 }
 
+/// Whether there are one processor and one phase alone.
+fn is_alone(procs: u64, phases: &[Vec<Stmt>]) -> bool
+    ensures { result ≡ (procs == 1 && length phases.now == 1) }
+{
+    procs == 1 && phases.len() == 1
+}
+
 fn quicken_phases(
     alloc: Global,
     setting: Setting,
+    procs: u64,
     phases: &[Vec<Stmt>],
 ) -> Result<Vec<Vec<WordStmt>>, NoMemory>
     requires within { IsTrue (are_phases_within setting.modulus (plain_phases phases.now)) }
     requires setting { IsSettingWithin setting }
     ensures { IfOk result (λ made. plain_word_phases made.items
-        ≡ map (quick_phase_in setting) (plain_phases phases.now)) }
+        ≡ quick_phases_in setting procs (plain_phases phases.now)) }
 {
     let mut made = Vec::new(alloc);
+    if is_alone(procs, phases) {
+        let body = quicken_alone(alloc, setting, &phases[0])?;
+        made.push(body)?;
+        return Ok(made);
+    }
     for body in phases {
         let body = quicken_phase(alloc, setting, body)?;
         made.push(body)?;
@@ -151,7 +165,7 @@ fn words_of(alloc: Global, slack: Slack, program: &Program) -> Result<WordProgra
     };
     let tables = copy_tables(alloc, &program.tables)?;
     let quotients = quotient_tables(alloc, slack, program.modulus, &program.tables)?;
-    let phases = quicken_phases(alloc, setting, &program.phases)?;
+    let phases = quicken_phases(alloc, setting, program.procs, &program.phases)?;
     Ok(WordProgram {
         half: slack.half,
         rough: slack.rough,

@@ -1,4 +1,4 @@
-use Rattle.word_code.proofs.Programs.{quickened_is_same}
+use Rattle.word_code.proofs.Quickened.{quickened_is_same}
 use Rattle.word_code.proofs.laws.quickened_leaves_the_same.Goals as goal
 
 pub returns : goal.returns

@@ -36,7 +36,7 @@ loop-inner-preserved t c =
           c.loop-inner.bounds c.quicken_stmt.new.bounds (omega arith) c.inner-item.is c.loop-inner.invariant.is c.in_ok-inner-in-Loop.ensures.stmt ends c.in_ok-push-in-Loop.ensures.items;
       sane =
           subst (AreBoundsWithin c.args.setting) (sym ends)
-          (stmt_sane z h (plain_stmt c.inner-item.result) c.loop-inner.bounds c.requires.setting.some c.requires.setting.keep c.requires.setting.product c.loop-inner.invariant.sane);
+          (stmt_sane z h (plain_stmt c.inner-item.result) c.loop-inner.bounds c.requires.setting.some c.requires.setting.keep_a c.requires.setting.keep_b c.requires.setting.product c.loop-inner.invariant.sane);
     }
 
 pub returns-after-loop-inner-clause-stmt : goal.returns-after-loop-inner-clause-stmt

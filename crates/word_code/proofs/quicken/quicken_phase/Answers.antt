@@ -21,6 +21,6 @@ loop-stmt-preserved c =
           c.loop-stmt.bounds c.quicken_stmt.new.bounds (omega arith) c.stmt-item.is c.loop-stmt.invariant.is c.in_ok-stmt.ensures.stmt ends c.in_ok-push.ensures.items;
       sane =
           subst (AreBoundsWithin c.args.setting) (sym ends)
-          (stmt_sane z h (plain_stmt c.stmt-item.result) c.loop-stmt.bounds c.requires.setting.some c.requires.setting.keep c.requires.setting.product c.loop-stmt.invariant.sane);
+          (stmt_sane z h (plain_stmt c.stmt-item.result) c.loop-stmt.bounds c.requires.setting.some c.requires.setting.keep_a c.requires.setting.keep_b c.requires.setting.product c.loop-stmt.invariant.sane);
       long = c.quicken_stmt.auto.bounds ∙ c.loop-stmt.invariant.long;
     }
