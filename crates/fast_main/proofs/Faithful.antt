@@ -1,29 +1,56 @@
 -- The words of a program that passes the check leave what it leaves.
-use Rattle.std.proofs.Common.{◌≡◌, ℕ, All, ◌<◌, sym, ap, subst, ◌∙◌}
+use Rattle.std.proofs.Common.{◌≡◌, ℕ, All, length, ◌<◌, ◌≤◌, Bool, true, false, map, refl, sym, ap, subst, ◌∙◌}
+use Rattle.std.specs.Prelude.{if◌then◌else◌}
+use Rattle.std.specs.List.{list_all}
 use Rattle.icode.specs.Actions.{PlainFits, plain_code}
 use Rattle.icode.specs.declared.program.Program.{Program}
 use Rattle.icode.specs.Machine.{IsApart, results}
 use Rattle.icode.specs.Plain.{PlainProgram}
 use Rattle.icode.specs.Program.{plain_program, code_of, Fits}
-use Rattle.loop_interchange.specs.Interchange.{interchanged}
+use Rattle.in_place.specs.InPlace.{in_place}
+use Rattle.in_place.specs.Laws.{LeavesAlike}
+use Rattle.loop_interchange.specs.Interchange.{are_nests, interchanged_body, interchanged}
 use Rattle.loop_interchange.proofs.Law.{interchanged_leaves_the_same}
 use Rattle.loop_interchange.proofs.Programs.{modulus_stays}
 use Rattle.word_code.specs.declared.program.WordProgram.{WordProgram}
-use Rattle.word_code.specs.Choice.{fast_words}
+use Rattle.word_code.specs.Choice.{fast_words, laziness_for}
+use Rattle.word_code.specs.Quicken.{Laziness, quickened}
 use Rattle.word_code.specs.Same.{LeavesTheSame}
 use Rattle.word_code.specs.View.{plain_word_program}
 use Rattle.word_code.specs.WordMachine.{word_results}
-use Rattle.word_code.specs.WordProgram.{word_code}
-use Rattle.fast_main.specs.Translation.{IsFaithful}
+use Rattle.word_code.specs.WordProgram.{PlainWordProgram, word_code}
+use Rattle.fast_main.specs.Translation.{words_for, IsFaithful}
 
--- the program `there` is the interchanged one
-pub faithful_from : (words : WordProgram) (p there : Program) → plain_program there ≡ interchanged (plain_program p)
-    → plain_word_program words ≡ fast_words (plain_program there) → LeavesTheSame words there → Fits p
-    → ((phase : ℕ) → IsApart (code_of p) phase) → IsFaithful (plain_program p)
-faithful_from words p there is made same fits apart x turns orders low =
+size_stays : (p : PlainProgram) → (interchanged p).size ≡ p.size
+size_stays p = of_choice (list_all (are_nests p.lanes) p.phases)
+  where
+    of_choice : (b : Bool) → (if b then record p { phases = map (interchanged_body p.lanes) p.phases } else p).size ≡ p.size
+    of_choice true = refl
+    of_choice false = refl
+
+-- the program `there` is the interchanged one, and fits
+pub fits_from : (p there : Program) → plain_program there ≡ interchanged (plain_program p) → Fits p → ((phase : ℕ) → IsApart (code_of p) phase) → Fits there
+fits_from p there is fits apart = subst PlainFits (sym is) (interchanged_leaves_the_same (plain_program p) fits apart).fits
+
+-- the program `made` on words is `words` in place
+pub words_from : (words made : WordProgram) (p there : Program) → plain_program there ≡ interchanged (plain_program p)
+    → plain_word_program words ≡ fast_words (plain_program there) → plain_word_program made ≡ in_place (plain_program there) (plain_word_program words)
+    → plain_word_program made ≡ words_for (plain_program p)
+words_from words made p there is quick shared = shared ∙ ap (in_place (plain_program there)) quick ∙ ap (λ q. in_place q (fast_words q)) is
+
+-- and leaves what the program leaves
+pub faithful_from : (words made : WordProgram) (p there : Program) → plain_program there ≡ interchanged (plain_program p)
+    → plain_word_program words ≡ fast_words (plain_program there) → plain_word_program made ≡ in_place (plain_program there) (plain_word_program words)
+    → LeavesTheSame words there
+    → ((z : Laziness) → plain_word_program words ≡ quickened z (plain_program there) → LeavesAlike (plain_word_program made) (plain_word_program words))
+    → Fits p → ((phase : ℕ) → IsApart (code_of p) phase) → IsFaithful (plain_program p)
+faithful_from words made p there is quick shared same alike fits apart x turns orders long low =
     let law = interchanged_leaves_the_same (plain_program p) fits apart in
-    let fits_there : PlainFits (plain_program there) = subst PlainFits (sym is) law.fits in
-    ap (λ w. word_results (word_code w) x turns) (sym (made ∙ ap fast_words is))
-    ∙ same fits_there x turns (subst (λ (m : ℕ). All (λ v. v < m) x) (sym (ap (λ (z : PlainProgram). z.modulus) is ∙ modulus_stays (plain_program p))) low)
+    let z = laziness_for there.modulus there.lanes in
+    let size : (plain_word_program made).frame.size ≡ p.size =
+    ap (λ (w : PlainWordProgram). w.frame.size) (words_from words made p there is quick shared) ∙ size_stays (plain_program p) in
+    ap (λ w. word_results (word_code w) x turns) (sym (words_from words made p there is quick shared))
+    ∙ alike z quick x turns (subst (λ (n : ℕ). n ≤ length x) (sym size) long)
+    ∙ same (fits_from p there is fits apart) x turns (subst (λ (m : ℕ). All (λ v. v < m) x) (sym (ap (λ (z : PlainProgram). z.modulus) is ∙ modulus_stays (plain_program p))) low)
     ∙ ap (λ (z : PlainProgram). results (plain_code z) x turns) is
     ∙ law.same x turns orders

@@ -1,4 +1,5 @@
 pub mod Refusals
 pub mod Faithful
+pub mod Rerouted
 pub mod Once
 pub mod Told

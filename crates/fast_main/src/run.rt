@@ -16,6 +16,7 @@ ghost use Rattle.fast_main.specs.Translation.{fast_text, IsFaithful};
 use crate::status::{Status, write_note};
 use code_check::verify;
 use icode::program::Program;
+use in_place::work_in_place;
 use input_rest::read_rest;
 use io_edge::{Feed, Sink, Source, write_all};
 use listing_text::read_listing;
@@ -30,13 +31,14 @@ pub const LISTING_LIMIT: u64 = 1 << 26;
 
 // The C text of a program.
 fn fast_text_of(alloc: Global, program: Program) -> Result<Vec<u8>, NoMemory>
+    requires fits { Fits program }
+    requires apart { (phase : ℕ) → IsApart (code_of program) phase }
     ensures text { IfOk result (λ text. text.items ≡ fast_text (plain_program program)) }
-    ensures faithful { IfOk result (λ text. Fits program
-        → ((phase : ℕ) → IsApart (code_of program) phase)
-        → IsFaithful (plain_program program)) }
+    ensures faithful { IfOk result (λ _. IsFaithful (plain_program program)) }
 {
     let program = interchange(program);
     let words = make_fast(alloc, &program)?;
+    let words = work_in_place(alloc, &program, words)?;
     let text = print_words(alloc, &words)?;
     Ok(text)
 }

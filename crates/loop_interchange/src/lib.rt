@@ -11,3 +11,4 @@ mod registers;
 mod rounds;
 
 pub use loops::interchange;
+pub use parts::same_parts;

@@ -74,7 +74,7 @@ fn same_part(left: &Part, right: &Part) -> bool
 }
 
 /// Whether both are the same linear parts.
-pub(crate) fn same_parts(left: &[Part], right: &[Part]) -> bool
+pub fn same_parts(left: &[Part], right: &[Part]) -> bool
     ensures { result ≡ same_parts (plain_parts left.now) (plain_parts right.now) }
 {
     match (left.split_first(), right.split_first()) {

@@ -1,26 +1,33 @@
 use Rattle.std.proofs.Common.{ap, ◌∙◌}
-use Rattle.icode.specs.Plain.{PlainProgram}
 use Rattle.icode.specs.Program.{plain_program}
 use Rattle.word_code.specs.WordProgram.{PlainWordProgram}
-use Rattle.word_code.specs.Choice.{fast_words, laziness_for}
+use Rattle.word_code.specs.Choice.{laziness_for}
+use Rattle.word_code.specs.View.{plain_word_program}
 use Rattle.word_print.specs.WordText.{words_text}
 use Rattle.word_print.specs.WordNests.{are_word_phases_within}
 use Rattle.word_print.proofs.Nests.{quickened_nests}
-use Rattle.fast_main.proofs.Faithful.{faithful_from}
+use Rattle.fast_main.proofs.Faithful.{fits_from, words_from, faithful_from}
+use Rattle.fast_main.proofs.Rerouted.{in_place_nests}
 use Rattle.fast_main.proofs.run.fast_text_of.Goals as goal
+
+pub work_in_place-requires : goal.work_in_place-requires
+work_in_place-requires c =
+    record { fits = fits_from c.args.program c.interchange-program.result c.interchange-program.ensures c.requires.fits c.requires.apart }
 
 pub print_words-requires-clause-nests : goal.print_words-requires-clause-nests
 print_words-requires-clause-nests c =
     let program = c.interchange-program.result in
-    ap (λ (w : PlainWordProgram). are_word_phases_within w.phases) c.in_ok-words.ensures.made
+    ap (λ (w : PlainWordProgram). are_word_phases_within w.phases) c.in_ok-words-2.ensures.made
+    ∙ in_place_nests (plain_program program) (plain_word_program c.in_ok-words.words)
+    ∙ ap (λ (w : PlainWordProgram). are_word_phases_within w.phases) c.in_ok-words.ensures.made
     ∙ quickened_nests (laziness_for program.modulus program.lanes) (plain_program program) program.statements
 
 pub returns-clause-text : goal.returns-clause-text
 returns-clause-text c =
     c.in_ok-text.ensures
-    ∙ ap words_text c.in_ok-words.ensures.made
-    ∙ ap (λ (p : PlainProgram). words_text (fast_words p)) c.interchange-program.ensures
+    ∙ ap words_text (words_from c.in_ok-words.words c.in_ok-words-2.words c.args.program c.interchange-program.result c.interchange-program.ensures c.in_ok-words.ensures.made c.in_ok-words-2.ensures.made)
 
 pub returns-clause-faithful : goal.returns-clause-faithful
 returns-clause-faithful c =
-    faithful_from c.in_ok-words.words c.args.program c.interchange-program.result c.interchange-program.ensures c.in_ok-words.ensures.made c.in_ok-words.ensures.same
+    faithful_from c.in_ok-words.words c.in_ok-words-2.words c.args.program c.interchange-program.result c.interchange-program.ensures c.in_ok-words.ensures.made c.in_ok-words-2.ensures.made
+    c.in_ok-words.ensures.same c.in_ok-words-2.ensures.same c.requires.fits c.requires.apart

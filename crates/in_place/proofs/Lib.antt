@@ -1,0 +1,11 @@
+pub mod Joined
+pub mod Standing
+pub mod Pairs
+pub mod Pairing
+pub mod Law
+pub mod Walks
+pub mod Effects
+pub mod Choosing
+pub mod Housing
+pub mod Walking
+pub mod Rerouting
