@@ -38,7 +38,8 @@ pub fn combine(
     requires lanes { lanes ≤ 16 }
     requires left_in { (k : ℕ) → slice_index left.now k < modulus.now }
     requires right_in { (k : ℕ) → slice_index right.now k < modulus.now }
-    ensures { take lanes result ≡ lane_by_lane (operated operation modulus.now) (take lanes left.now) (take lanes right.now) }
+    ensures { take lanes result ≡ lane_by_lane (operated operation modulus.now)
+        (take lanes left.now) (take lanes right.now) }
 {
     let mut values = [0; MAX_LANES];
     for lane in 0..lanes {

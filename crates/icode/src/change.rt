@@ -18,7 +18,8 @@ pub fn change_registers(shape: &Shape, action: &Action, registers: &mut [u64])
     requires factors { FactorsFit shape.now.modulus action.now }
     requires file { length registers.old ≡ shape.now.regs * shape.now.lanes }
     requires residues { (k : ℕ) → slice_index registers.old k < shape.now.modulus }
-    ensures { registers.new ≡ registers_after shape.now.modulus shape.now.lanes action.now registers.old }
+    ensures { registers.new
+        ≡ registers_after shape.now.modulus shape.now.lanes action.now registers.old }
 {
     match action {
         Action::Zero { register } => clear_register(shape, registers, *register),

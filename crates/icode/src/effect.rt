@@ -1,10 +1,9 @@
 // What the operations do to registers and memory.
 
 ghost use Rattle.std.specs.Prelude.{◌≡◌, ℕ, ◌+◌, ◌-◌, ◌*◌, ◌<◌, ◌≤◌, ◌⊎◌, All, length, map, replicate, slice_index};
-ghost use Rattle.icode.specs.Machine.{lane_by_lane, register_of, transposed, with_words, words_at};
-ghost use Rattle.icode.specs.Operation.{operated};
+ghost use Rattle.icode.specs.Machine.{register_of, transposed, with_words, words_at};
+ghost use Rattle.icode.specs.Registers.{combined, scaled, with_register};
 ghost use Rattle.ring_mod.specs.Residue.{negation_mod};
-ghost use Rattle.icode.specs.declared.arithmetic.Operation.TheVariants.{Product};
 
 use crate::action::MAX_LANES;
 use crate::arithmetic::{Operation, combine, operate};
@@ -16,8 +15,10 @@ pub fn transpose(registers: &mut [u64], register: u64, source: u64, lanes: u64)
     requires lanes { lanes ≤ 16 }
     requires register { (register + lanes) * lanes ≤ length registers.old }
     requires source { (source + lanes) * lanes ≤ length registers.old }
-    requires apart { ((register + lanes) * lanes ≤ source * lanes) ⊎ ((source + lanes) * lanes ≤ register * lanes) }
-    ensures { registers.new ≡ with_words registers.old (register * lanes) (transposed lanes registers.old source) }
+    requires apart { ((register + lanes) * lanes ≤ source * lanes)
+        ⊎ ((source + lanes) * lanes ≤ register * lanes) }
+    ensures { registers.new
+        ≡ with_words registers.old (register * lanes) (transposed lanes registers.old source) }
 {
     for row in 0..lanes {
         for lane in 0..lanes {
@@ -48,7 +49,8 @@ pub fn copy_lanes(from: &[u64], at: u64, to: &mut [u64], place: u64, lanes: u64)
 pub fn clear_register(shape: &Shape, registers: &mut [u64], register: u64)
     requires named { register < shape.now.regs }
     requires file { length registers.old ≡ shape.now.regs * shape.now.lanes }
-    ensures { registers.new ≡ with_words registers.old (register * shape.now.lanes) (replicate shape.now.lanes 0) }
+    ensures { registers.new
+        ≡ with_register shape.now registers.old register (replicate shape.now.lanes 0) }
 {
     write_lanes(
         registers,
@@ -68,10 +70,12 @@ pub fn combine_registers(
     left: u64,
     right: u64,
 )
-    requires named { (register < shape.now.regs) × (left < shape.now.regs) × (right < shape.now.regs) }
+    requires named { (register < shape.now.regs)
+        × (left < shape.now.regs) × (right < shape.now.regs) }
     requires file { length registers.old ≡ shape.now.regs * shape.now.lanes }
     requires residues { (k : ℕ) → slice_index registers.old k < shape.now.modulus }
-    ensures { registers.new ≡ with_words registers.old (register * shape.now.lanes) (lane_by_lane (operated operation shape.now.modulus) (register_of shape.now.lanes registers.old left) (register_of shape.now.lanes registers.old right)) }
+    ensures { registers.new ≡ with_register shape.now registers.old register
+        (combined operation shape.now registers.old left right) }
 {
     let lanes = shape.lanes;
     let (to, left, right) = (register * lanes, left * lanes, right * lanes);
@@ -102,7 +106,7 @@ pub fn scale_register(
     requires file { length registers.old ≡ shape.now.regs * shape.now.lanes }
     requires residues { (k : ℕ) → slice_index registers.old k < shape.now.modulus }
     requires factors { (k : ℕ) → slice_index factors.now k < shape.now.modulus }
-    ensures { registers.new ≡ with_words registers.old (register * shape.now.lanes) (lane_by_lane (operated Product shape.now.modulus) (register_of shape.now.lanes registers.old source) factors.now) }
+    ensures { registers.new ≡ scaled shape.now registers.old register source factors.now }
 {
     let lanes = shape.lanes;
     let (to, from) = (register * lanes, source * lanes);
@@ -116,7 +120,8 @@ pub fn negate_register(shape: &Shape, registers: &mut [u64], register: u64, sour
     requires named { (register < shape.now.regs) × (source < shape.now.regs) }
     requires file { length registers.old ≡ shape.now.regs * shape.now.lanes }
     requires residues { (k : ℕ) → slice_index registers.old k < shape.now.modulus }
-    ensures { registers.new ≡ with_words registers.old (register * shape.now.lanes) (map (negation_mod shape.now.modulus) (register_of shape.now.lanes registers.old source)) }
+    ensures { registers.new ≡ with_register shape.now registers.old register
+        (map (negation_mod shape.now.modulus) (register_of shape.now.lanes registers.old source)) }
 {
     let lanes = shape.lanes;
     let (to, from) = (register * lanes, source * lanes);

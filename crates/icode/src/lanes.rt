@@ -10,7 +10,8 @@ pub fn read_lanes(words: &[u64], at: u64, lanes: u64) -> [u64; MAX_LANES]
     requires lanes { lanes ≤ 16 }
     requires inside { at + lanes ≤ length words.now }
     ensures value { take lanes result ≡ words_at lanes words.now at }
-    ensures below { (m : ℕ) → 0 < m → ((k : ℕ) → slice_index words.now k < m) → (k : ℕ) → slice_index result k < m }
+    ensures below { (m : ℕ) → 0 < m → ((k : ℕ) → slice_index words.now k < m)
+        → (k : ℕ) → slice_index result k < m }
 {
     let mut values = [0; MAX_LANES];
     for lane in 0..lanes {

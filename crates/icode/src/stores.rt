@@ -58,7 +58,8 @@ impl Program {
     pub fn stores(&self, phase: u64) -> u64
         requires phase { phase < length self.now.phases.items }
         requires fits { Fits self.now }
-        ensures each { (q : ℕ) → q < self.now.procs → result ≡ stores_among (acts (code_of self.now) phase q) }
+        ensures each { (q : ℕ) → q < self.now.procs
+            → result ≡ stores_among (acts (code_of self.now) phase q) }
         ensures few { result < 2 ^ 59 }
     {
         stores_of(&self.phases[phase as usize])

@@ -2,7 +2,6 @@ pub mod Header
 pub mod Position
 pub mod Instruction
 pub mod OnRegisters
-pub mod Scaled
 pub mod Hand
 pub mod Context
 pub mod Performed

@@ -32,8 +32,3 @@ counted_op lanes (Tile register source) c = c
 counted_op lanes (MulConst register source factor) c = record c { operations = c.operations + lanes; muls = c.muls + lanes }
 counted_op lanes (MulTable register source table place step) c = record c { operations = c.operations + lanes; muls = c.muls + lanes }
 counted_op lanes _ c = record c { operations = c.operations + lanes }
-
--- the operation names no place of an array or of a table
-abbrev pub HasNoPlace : PlainOp → Type 0
-HasNoPlace (MulTable register source table place step) = ⊥
-HasNoPlace op = IsOnRegisters op

@@ -1,8 +1,12 @@
--- The processor that finishes its list of the phase.
-use Rattle.std.specs.Prelude.{◌≡◌, ℕ, ◌-◌, ◌<◌, length, replicate, slice_index}
-use Rattle.icode.specs.Machine.{Code, State, acts, run, completion, finished}
+-- The turns that finish a run, one by one or a processor's list at once.
+use Rattle.std.specs.Prelude.{◌≡◌, ℕ, ◌-◌, ◌<◌, ◌∷◌, length, replicate, slice_index}
+use Rattle.icode.specs.Machine.{Code, State, acts, turn, run, completion, finished}
 
--- how many actions it has left
+-- this processor's turn is the next of them
+abbrev pub IsNextTurn : Code → State → ℕ → Type 0
+IsNextTurn code s q = (q < code.procs) × (completion code s ≡ q ∷ completion code (turn code s q))
+
+-- how many actions it has left in the phase
 abbrev pub left_of : Code → State → ℕ → ℕ
 left_of code s q = length (acts code s.phase q) - slice_index s.done q
 

@@ -1,157 +1,16 @@
 // From statements to straight code.
 
 ghost use Rattle.std.specs.Prelude.{◌≡◌, ℕ, ◌+◌, ◌<◌, ◌≤◌, ◌^◌, ◌++◌, [], List, length, replicate, All, IfOk, OnOk, IsTrue};
-ghost use Rattle.icode.specs.Plain.{plain_expr, plain_part, plain_op, plain_stmt, plain_body};
+ghost use Rattle.icode.specs.Plain.{plain_op, plain_stmt, plain_body};
 ghost use Rattle.icode.specs.Limits.{is_op_within, is_stmt_within, is_body_within};
 ghost use Rattle.icode.specs.Actions.{steps_of_stmt, steps_of_body};
 ghost use Rattle.icode.specs.Lengths.{len_of_stmt, len_of_body};
-ghost use Rattle.par_machine.specs.OnRegisters.{HasNoPlace};
 ghost use Rattle.par_machine.specs.Plays.{IsCompiled};
 
 use crate::cursor::Instruction;
-use icode::program::{Expr, Op, Part, Stmt};
+use icode::program::Stmt;
 use memory::NoMemory;
 use std::alloc::Global;
-
-#[cycle(copy)]
-fn copy_expr(alloc: Global, place: &Expr) -> Result<Expr, NoMemory>
-    ensures { IfOk result (λ e. plain_expr e ≡ plain_expr place.now) }
-{
-    let mut parts = Vec::new(alloc);
-    for part in &place.parts {
-        let copy = copy_part(alloc, part)?;
-        parts.push(copy)?;
-    }
-    Ok(Expr {
-        constant: place.constant,
-        parts,
-    })
-}
-
-#[cycle(copy)]
-fn copy_part(alloc: Global, part: &Part) -> Result<Part, NoMemory>
-    ensures { IfOk result (λ p. plain_part p ≡ plain_part part.now) }
-{
-    match part {
-        Part::Proc { factor } => Ok(Part::Proc { factor: *factor }),
-        Part::Var { depth, factor } => Ok(Part::Var {
-            depth: *depth,
-            factor: *factor,
-        }),
-        Part::Product {
-            outer,
-            inner,
-            factor,
-        } => Ok(Part::Product {
-            outer: *outer,
-            inner: *inner,
-            factor: *factor,
-        }),
-        Part::Rem {
-            of,
-            divisor,
-            factor,
-        } => {
-            let of = copy_expr(alloc, of)?;
-            Ok(Part::Rem {
-                of,
-                divisor: *divisor,
-                factor: *factor,
-            })
-        }
-        Part::Quot {
-            of,
-            divisor,
-            factor,
-        } => {
-            let of = copy_expr(alloc, of)?;
-            Ok(Part::Quot {
-                of,
-                divisor: *divisor,
-                factor: *factor,
-            })
-        }
-    }
-}
-
-// An operation that names no place.
-fn copy_placeless(op: &Op) -> Op
-    requires { HasNoPlace (plain_op op.now) }
-    ensures { plain_op result ≡ plain_op op.now }
-{
-    match *op {
-        Op::Zero { register } => Op::Zero { register },
-        Op::Add {
-            register,
-            left,
-            right,
-        } => Op::Add {
-            register,
-            left,
-            right,
-        },
-        Op::Sub {
-            register,
-            left,
-            right,
-        } => Op::Sub {
-            register,
-            left,
-            right,
-        },
-        Op::Neg { register, source } => Op::Neg { register, source },
-        Op::MulConst {
-            register,
-            source,
-            factor,
-        } => Op::MulConst {
-            register,
-            source,
-            factor,
-        },
-        Op::Tile { register, source } => Op::Tile { register, source },
-        Op::Load { .. } | Op::Store { .. } | Op::MulTable { .. } => unreachable!(),
-    }
-}
-
-fn copy_op(alloc: Global, op: &Op) -> Result<Op, NoMemory>
-    ensures { IfOk result (λ o. plain_op o ≡ plain_op op.now) }
-{
-    match op {
-        Op::Load {
-            register,
-            array,
-            place,
-        } => Ok(Op::Load {
-            register: *register,
-            array: *array,
-            place: copy_expr(alloc, place)?,
-        }),
-        Op::Store {
-            array,
-            place,
-            register,
-        } => Ok(Op::Store {
-            array: *array,
-            place: copy_expr(alloc, place)?,
-            register: *register,
-        }),
-        Op::MulTable {
-            register,
-            source,
-            table,
-            place,
-            step,
-        } => Ok(Op::MulTable {
-            register: *register,
-            source: *source,
-            table: *table,
-            place: copy_expr(alloc, place)?,
-            step: *step,
-        }),
-        _ => Ok(copy_placeless(op)),
-    }
-}
 
 /// Appends the straight code of a statement, where so many loops are open. A loop whose body holds
 /// no action has none.
@@ -183,7 +42,7 @@ pub(crate) fn compile(
             }
         }
         Stmt::Do(op) => {
-            let op = copy_op(alloc, op)?;
+            let op = op.copied(alloc)?;
             code.push(Instruction::Act { op, depth })?;
         }
     }

@@ -5,7 +5,7 @@ ghost use Rattle.icode.specs.Program.{plain_program};
 ghost use Rattle.icode.specs.Headers.{without_statements};
 ghost use Rattle.par_machine.specs.Header.{header_of};
 
-use crate::initial::copy_tables;
+use icode::copies::copied_tables;
 use icode::header::shape_of;
 use icode::program::Program;
 use icode::shape::Shape;
@@ -26,7 +26,7 @@ impl Engine {
             (λ engine. header_of engine ≡ without_statements (plain_program program.now)) }
     {
         let shape = shape_of(program);
-        let tables = copy_tables(alloc, &program.tables)?;
+        let tables = copied_tables(alloc, &program.tables)?;
         Ok(Engine { shape, tables })
     }
 }

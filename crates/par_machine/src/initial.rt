@@ -2,7 +2,7 @@
 
 ghost use Rattle.std.specs.Prelude.{◌≡◌, ◌-◌, ◌≤◌, ◌++◌, length, replicate, IfOk};
 ghost use Rattle.icode.specs.Actions.{PlainFits};
-ghost use Rattle.icode.specs.Plain.{plain_tables, plain_phases};
+ghost use Rattle.icode.specs.Plain.{plain_phases};
 ghost use Rattle.icode.specs.Program.{plain_program, Fits};
 ghost use Rattle.par_machine.specs.Processors.{fresh};
 ghost use Rattle.par_machine.specs.Translated.{AreTranslated};
@@ -13,25 +13,6 @@ use crate::processor::Processor;
 use icode::program::Program;
 use memory::NoMemory;
 use std::alloc::Global;
-
-fn copy_words(alloc: Global, words: &[u64]) -> Result<Vec<u64>, NoMemory>
-    ensures { IfOk result (λ copy. copy.items ≡ words.now) }
-{
-    let mut copy = Vec::new(alloc);
-    copy.extend_from_slice(words)?;
-    Ok(copy)
-}
-
-pub(crate) fn copy_tables(alloc: Global, tables: &[Vec<u64>]) -> Result<Vec<Vec<u64>>, NoMemory>
-    ensures { IfOk result (λ copy. plain_tables copy.items ≡ plain_tables tables.now) }
-{
-    let mut copy = Vec::new(alloc);
-    for entries in tables {
-        let entries = copy_words(alloc, entries)?;
-        copy.push(entries)?;
-    }
-    Ok(copy)
-}
 
 /// What every processor does in each phase.
 pub(crate) fn compile_phases(alloc: Global, program: &Program) -> Result<Vec<Routine>, NoMemory>

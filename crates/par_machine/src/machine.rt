@@ -7,7 +7,7 @@ ghost use Rattle.icode.specs.Program.{code_of, Fits};
 ghost use Rattle.request_text.specs.Turns.{named, turns_of};
 ghost use Rattle.par_machine.specs.Held.{AreFiles, with_memory, with_file};
 ghost use Rattle.par_machine.specs.Skipped.{skipped};
-ghost use Rattle.par_machine.specs.Unfinished.{IsUnfinished, left_of};
+ghost use Rattle.par_machine.specs.Unfinished.{IsNextTurn, IsUnfinished, left_of};
 
 use crate::engine::Engine;
 use crate::initial::{compile_phases, make_processors, put_input, zeros};
@@ -52,7 +52,8 @@ impl Machine {
     pub fn new(alloc: Global, program: &Program) -> Result<Self, NoMemory>
         requires { Fits program.now }
         ensures code { IfOk result (λ machine. machine.code ≡ code_of program.now) }
-        ensures state { IfOk result (λ machine. machine.state ≡ start (code_of program.now) (replicate program.now.size 0)) }
+        ensures state { IfOk result (λ machine. machine.state
+            ≡ start (code_of program.now) (replicate program.now.size 0)) }
     {
         let engine = Engine::new(alloc, program)?;
         let phases = compile_phases(alloc, program)?;
@@ -191,8 +192,10 @@ impl Machine {
 
     /// The turns of a schedule, without its completion.
     pub fn run_list(&mut self, schedule: &Schedule)
-        requires no_stranger { find (λ q. nat_le self.old.code.procs q) (named schedule.now) ≡ None }
-        ensures state { self.new.state ≡ run self.old.code self.old.state (turns_of schedule.now self.old.code.procs) }
+        requires no_stranger { find (λ q. nat_le self.old.code.procs q) (named schedule.now)
+            ≡ None }
+        ensures state { self.new.state
+            ≡ run self.old.code self.old.state (turns_of schedule.now self.old.code.procs) }
         ensures code { self.new.code ≡ self.old.code }
     {
         let procs = self.procs();
@@ -204,7 +207,7 @@ impl Machine {
 
     /// The processor whose turn is the next of those that finish the run.
     pub fn next_proc(&self) -> Option<u64>
-        ensures found { IfSome result (λ q. (q < self.now.code.procs) × (completion self.now.code self.now.state ≡ q ∷ completion self.now.code (turn self.now.code self.now.state q))) }
+        ensures found { IfSome result (IsNextTurn self.now.code self.now.state) }
         ensures none { IfNone result (completion self.now.code self.now.state ≡ []) }
         ensures few { length (completion self.now.code self.now.state) < 2 ^ 63 }
     {

@@ -2,7 +2,7 @@
 
 ghost use Rattle.std.specs.Prelude.{◌≡◌, ℕ, ◌+◌, ◌-◌, ◌*◌, ◌<◌, All, length, slice_index};
 ghost use Rattle.icode.specs.Actions.{lane_factors};
-ghost use Rattle.par_machine.specs.Scaled.{scaled, table_factors};
+ghost use Rattle.icode.specs.Registers.{scaled, table_factors};
 
 use icode::address::{same_factors, table_factors};
 use icode::effect::scale_register;
@@ -22,8 +22,8 @@ pub(crate) fn scale_by_constant(
     requires residues { (k : ℕ) → slice_index registers.old k < shape.now.modulus }
     requires factors { All (λ c. c < shape.now.modulus)
         (lane_factors shape.now.lanes (λ _. factor)) }
-    ensures { registers.new ≡ scaled shape.now register source
-        (lane_factors shape.now.lanes (λ _. factor)) registers.old }
+    ensures { registers.new ≡ scaled shape.now registers.old register source
+        (lane_factors shape.now.lanes (λ _. factor)) }
 {
     let lanes = shape.lanes;
     if lanes == 1 {
@@ -51,8 +51,8 @@ pub(crate) fn scale_by_entries(
     requires inside { at + step * (shape.now.lanes - 1) < length entries.now }
     requires factors { All (λ c. c < shape.now.modulus)
         (table_factors shape.now.lanes entries.now at step) }
-    ensures { registers.new ≡ scaled shape.now operands.0 operands.1
-        (table_factors shape.now.lanes entries.now at step) registers.old }
+    ensures { registers.new ≡ scaled shape.now registers.old operands.0 operands.1
+        (table_factors shape.now.lanes entries.now at step) }
 {
     let (register, source) = operands;
     let lanes = shape.lanes;

@@ -9,7 +9,6 @@ pub mod Operations
 pub mod Programs
 pub mod Quickened
 pub mod Settling
-pub mod Tables
 pub mod Emitting
 pub mod Wholes
 pub mod OneProcessor

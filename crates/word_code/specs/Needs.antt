@@ -58,10 +58,11 @@ abbrev mutual
   product_of last (Loop count body) = None
   product_of last (Do op) = product_after last op
 
--- ---- needs
+-- ---- needs: outside of loops, whatever is loaded may be added up by a statement behind it
 
 abbrev pub needs_of_stmt : PlainStmt → Needs
-needs_of_stmt stmt = if multiplies None stmt then no_needs else loads_of_stmt stmt
+needs_of_stmt (Loop count body) = if multiply None body then no_needs else loads_of_body body
+needs_of_stmt (Do op) = loads_of op
 
 -- some statement adds up words of the array
 abbrev pub needs : PlainBody → Needs

@@ -2,7 +2,6 @@
 #![tactic(auto)]
 
 pub mod choose;
-mod copies;
 pub mod laws;
 mod needs;
 mod note;

@@ -142,10 +142,9 @@ fn multiply(body: &[Stmt]) -> bool
 fn needs_of_stmt(stmt: &Stmt) -> Needs
     ensures { result ≡ needs_of_stmt (plain_stmt stmt.now) }
 {
-    if multiplies(None, stmt) {
-        Needs::NONE
-    } else {
-        loads_of_stmt(stmt)
+    match stmt {
+        Stmt::Loop { body, .. } if multiply(body) => Needs::NONE,
+        _ => loads_of_stmt(stmt),
     }
 }
 

@@ -15,10 +15,10 @@ ghost use Rattle.word_code.specs.Setting.{quick_stmt_in, quick_phase_in, quick_p
 ghost use Rattle.word_code.specs.View.{lazy_of, plain_word_stmt, plain_word_body};
 ghost use Rattle.word_code.specs.View.{plain_word_phases, plain_word_program};
 
-use crate::copies::{copy_op, copy_tables};
 use crate::note::{note_of, quotient};
 use crate::program::{Setting, Slack, WordProgram, WordStmt};
 use crate::single::quicken_alone;
+use icode::copies::copied_tables;
 use icode::program::{Program, Stmt};
 use memory::NoMemory;
 use std::alloc::Global;
@@ -64,7 +64,7 @@ pub(crate) fn quicken_stmt(
         }
         Stmt::Do(op) => {
             let note = note_of(alloc, setting, depth, op, bounds)?;
-            let op = copy_op(alloc, op)?;
+            let op = op.copied(alloc)?;
             Ok(WordStmt::Do { note, op })
         }
     }
@@ -163,7 +163,7 @@ fn words_of(alloc: Global, slack: Slack, program: &Program) -> Result<WordProgra
         lanes: program.lanes,
         regs: program.regs,
     };
-    let tables = copy_tables(alloc, &program.tables)?;
+    let tables = copied_tables(alloc, &program.tables)?;
     let quotients = quotient_tables(alloc, slack, program.modulus, &program.tables)?;
     let phases = quicken_phases(alloc, setting, program.procs, &program.phases)?;
     Ok(WordProgram {

@@ -3,7 +3,7 @@ use Rattle.std.specs.Prelude.{slice_index_or}
 use Rattle.icode.specs.Expression.{sum_numbers}
 use Rattle.icode.specs.Plain.{plain_expr, plain_tables}
 use Rattle.icode.proofs.Transposes.{tile_words}
-use Rattle.par_machine.specs.Scaled.{table_factors}
+use Rattle.icode.specs.Registers.{table_factors}
 use Rattle.par_machine.proofs.Tables.{table_is}
 use Rattle.par_machine.proofs.perform.perform_on_registers.Goals as goal
 

@@ -1,6 +1,6 @@
 use Rattle.std.proofs.Common.{◌∙◌, arith}
-use Rattle.par_machine.proofs.Tables.{table_more}
-use Rattle.par_machine.proofs.initial.copy_tables.Goals as goal
+use Rattle.icode.proofs.Tables.{table_more}
+use Rattle.icode.proofs.copies.copied_tables.Goals as goal
 
 pub loop-entries-preserved : goal.loop-entries-preserved
 loop-entries-preserved c =

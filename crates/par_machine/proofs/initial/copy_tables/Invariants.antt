@@ -1,6 +1,0 @@
-use Rattle.std.proofs.Common.{◌≡◌, take}
-use Rattle.icode.specs.Plain.{plain_tables}
-use Rattle.par_machine.proofs.initial.copy_tables.Given as goal
-
-abbrev pub invariant-loop-entries : goal.invariant-loop-entries
-invariant-loop-entries l = plain_tables l.copy.items ≡ plain_tables (take l.entries-index l.tables)
