@@ -1,5 +1,5 @@
 -- One part of a sum, times a number, and bounds.
-use Rattle.std.proofs.Common.{◌≡◌, ℕ, zero, suc, ◌+◌, ◌-◌, min, ◌*◌, ◌/◌, ◌%◌, ◌^◌, ◌<◌, ◌≤◌, arith, ap, ◌∙◌}
+use Rattle.std.proofs.Common.{◌≡◌, ℕ, ◌+◌, ◌-◌, min, ◌*◌, ◌/◌, ◌%◌, ◌^◌, ◌<◌, ◌≤◌, arith}
 use Rattle.perm_algebra.specs.Fits.{InRange}
 use Rattle.std.proofs.lemmas.Nat.{le-div, div-add-mod', mod_below, mul-le, div_below, mul-add-lt}
 

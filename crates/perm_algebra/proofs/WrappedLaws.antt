@@ -2,7 +2,7 @@
 use Rattle.std.proofs.Common.{◌≡◌, ℕ, zero, suc, ◌+◌, ◌*◌, ◌/◌, ◌%◌, ◌^◌, ◌<◌, ◌≤◌, arith, ap, ap₂, ◌∙◌, mod-eq_of_lt, mul-le-mul_left}
 use Rattle.std.specs.Prelude.{max}
 use Rattle.perm_algebra.specs.Affine.{Sum, constant, variable, remainder, quotient, value, peak, scaled, joined}
-use Rattle.perm_algebra.specs.Fits.{InRange, Agree, IsAffine, Stays}
+use Rattle.perm_algebra.specs.Fits.{Agree, IsAffine, Stays}
 use Rattle.perm_algebra.specs.Room.{constant_of, CanScale, CanJoin}
 use Rattle.perm_algebra.specs.Wrapped.{wrapped_multiple, raised, wrapped_sum}
 

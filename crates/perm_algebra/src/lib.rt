@@ -5,14 +5,13 @@ mod display;
 mod parts;
 mod sums;
 
-ghost use Rattle.std.specs.Prelude.{◌≡◌, ℕ, ◌+◌, ◌*◌, ◌/◌, ◌%◌, ◌^◌, ◌<◌, ◌≤◌, IfOk, length, slice_index};
+ghost use Rattle.std.specs.Prelude.{◌+◌, ◌*◌, ◌/◌, ◌%◌, ◌^◌, ◌<◌, ◌≤◌, IfOk};
 ghost use Rattle.index_fn.specs.Index.{mapping_of};
-ghost use Rattle.index_fn.specs.Mapping.{at, IsDefinedAt, IsWellFormed, Strided, ThomasOut};
-ghost use Rattle.perm_algebra.specs.Affine.{value, scaled, joined, divided, reduced, simplified, HasNoList, Divided, SimplifiedKeeps};
-ghost use Rattle.perm_algebra.specs.Fits.{Agree, InRange, IsAffine, Stays};
-ghost use Rattle.perm_algebra.specs.Room.{CanDivide, CanMix, HasRoomFor, RoomDecided};
+ghost use Rattle.index_fn.specs.Mapping.{at, IsDefinedAt, IsWellFormed, Strided, ThomasBack, ThomasOut};
+ghost use Rattle.perm_algebra.specs.Affine.{HasNoList, SimplifiedKeeps};
+ghost use Rattle.perm_algebra.specs.Contract.{EachValue, FitsOver, HasRoomOver, IsImage, IsSimplified, IsSumOver};
+ghost use Rattle.perm_algebra.specs.Room.{RoomDecided};
 ghost use Rattle.perm_algebra.specs.ShapeLaw.{ShapeKept};
-ghost use Rattle.perm_algebra.specs.Views.{plain_sum};
 
 use index_fn::Index;
 use memory::NoMemory;
@@ -37,13 +36,14 @@ pub enum Affine {
 pub fn simplify(alloc: Global, f: &Index, arg: &Affine, counts: &[u64]) -> Result<Affine, NoMemory>
     requires formed { IsWellFormed (mapping_of f.now) }
     requires no_list { HasNoList (mapping_of f.now) }
-    requires affine { IsAffine (length counts.now) (slice_index counts.now) (plain_sum arg.now) }
-    requires fits { Stays (slice_index counts.now) (value (plain_sum arg.now)) }
-    requires defined { (vs : ℕ → ℕ) → InRange (slice_index counts.now) vs → IsDefinedAt (mapping_of f.now) (value (plain_sum arg.now) vs) }
-    ensures value { IfOk result (λ sum. Agree (slice_index counts.now) (value (plain_sum sum)) (λ vs. at (mapping_of f.now) (value (plain_sum arg.now) vs))) }
-    ensures affine { IfOk result (λ sum. IsAffine (length counts.now) (slice_index counts.now) (plain_sum sum)) }
-    ensures fits { IfOk result (λ sum. Stays (slice_index counts.now) (value (plain_sum sum))) }
-    ensures form { HasRoomFor (slice_index counts.now) (mapping_of f.now) (plain_sum arg.now) → IfOk result (λ sum. plain_sum sum ≡ simplified (slice_index counts.now) (mapping_of f.now) (plain_sum arg.now)) }
+    requires affine { IsSumOver counts.now arg.now }
+    requires fits { FitsOver counts.now arg.now }
+    requires defined { EachValue counts.now (IsDefinedAt (mapping_of f.now)) arg.now }
+    ensures value { IfOk result (IsImage counts.now (at (mapping_of f.now)) arg.now) }
+    ensures affine { IfOk result (IsSumOver counts.now) }
+    ensures fits { IfOk result (FitsOver counts.now) }
+    ensures form { HasRoomOver counts.now (mapping_of f.now) arg.now
+        → IfOk result (IsSimplified counts.now (mapping_of f.now) arg.now) }
 {
     match f {
         Index::Identity => {
@@ -60,7 +60,7 @@ pub fn simplify(alloc: Global, f: &Index, arg: &Affine, counts: &[u64]) -> Resul
             Ok(sum)
         }
         Index::ThomasIn(r, s) => {
-            let sum = mix(alloc, counts, *r, *s, *s, *r, arg)?;
+            let sum = mix(alloc, counts, *r, *s, Multiples { quot: *s, rem: *r }, arg)?;
             Ok(sum)
         }
         Index::ThomasOut(r, s) => {
@@ -68,7 +68,7 @@ pub fn simplify(alloc: Global, f: &Index, arg: &Affine, counts: &[u64]) -> Resul
             Ok(sum)
         }
         Index::ThomasBack(r, s, e, g) => {
-            let sum = mix(alloc, counts, *r, *s, *e, *g, arg)?;
+            let sum = mix(alloc, counts, *r, *s, Multiples { quot: *e, rem: *g }, arg)?;
             Ok(sum)
         }
         Index::Explicit(_) => unreachable!(),
@@ -90,39 +90,51 @@ pub fn simplify(alloc: Global, f: &Index, arg: &Affine, counts: &[u64]) -> Resul
 #[tactic(auto, using(crate::proofs::PartLaws::turned_below))]
 fn turn(alloc: Global, counts: &[u64], r: u64, s: u64, arg: &Affine) -> Result<Affine, NoMemory>
     requires formed { IsWellFormed (Strided r s) }
-    requires affine { IsAffine (length counts.now) (slice_index counts.now) (plain_sum arg.now) }
-    requires fits { Stays (slice_index counts.now) (value (plain_sum arg.now)) }
-    requires defined { (vs : ℕ → ℕ) → InRange (slice_index counts.now) vs → value (plain_sum arg.now) vs < r * s }
-    ensures value { IfOk result (λ sum. Agree (slice_index counts.now) (value (plain_sum sum)) (λ vs. at (Strided r s) (value (plain_sum arg.now) vs))) }
-    ensures affine { IfOk result (λ sum. IsAffine (length counts.now) (slice_index counts.now) (plain_sum sum)) }
-    ensures fits { IfOk result (λ sum. Stays (slice_index counts.now) (value (plain_sum sum))) }
-    ensures form { HasRoomFor (slice_index counts.now) (Strided r s) (plain_sum arg.now) → IfOk result (λ sum. plain_sum sum ≡ simplified (slice_index counts.now) (Strided r s) (plain_sum arg.now)) }
+    requires affine { IsSumOver counts.now arg.now }
+    requires fits { FitsOver counts.now arg.now }
+    requires defined { EachValue counts.now (λ i. i < r * s) arg.now }
+    ensures value { IfOk result (IsImage counts.now (at (Strided r s)) arg.now) }
+    ensures affine { IfOk result (IsSumOver counts.now) }
+    ensures fits { IfOk result (FitsOver counts.now) }
+    ensures form { HasRoomOver counts.now (Strided r s) arg.now
+        → IfOk result (IsSimplified counts.now (Strided r s) arg.now) }
 {
     let Parts { quot, rem } = divide(alloc, counts, arg, s)?;
     Ok(both(counts, multiple(counts, r, rem), quot))
 }
 
-// `a` times the quotient by `s` and `b` times the remainder, modulo `r * s`.
+/// What the quotient and the remainder are multiplied by.
+#[derive(Clone, Copy)]
+pub struct Multiples {
+    pub quot: u64,
+    pub rem: u64,
+}
+
+// These multiples of the quotient and of the remainder by `s`, modulo `r * s`.
 fn mix(
     alloc: Global,
     counts: &[u64],
     r: u64,
     s: u64,
-    a: u64,
-    b: u64,
+    by: Multiples,
     arg: &Affine,
 ) -> Result<Affine, NoMemory>
     requires factors { (1 ≤ r) × (1 ≤ s) × (r * s < 2 ^ 64) }
-    requires affine { IsAffine (length counts.now) (slice_index counts.now) (plain_sum arg.now) }
-    requires fits { Stays (slice_index counts.now) (value (plain_sum arg.now)) }
-    requires defined { (vs : ℕ → ℕ) → InRange (slice_index counts.now) vs → a * (value (plain_sum arg.now) vs / s) + b * (value (plain_sum arg.now) vs % s) < 2 ^ 64 }
-    ensures value { IfOk result (λ sum. Agree (slice_index counts.now) (value (plain_sum sum)) (λ vs. (a * (value (plain_sum arg.now) vs / s) + b * (value (plain_sum arg.now) vs % s)) % (r * s))) }
-    ensures affine { IfOk result (λ sum. IsAffine (length counts.now) (slice_index counts.now) (plain_sum sum)) }
-    ensures fits { IfOk result (λ sum. Stays (slice_index counts.now) (value (plain_sum sum))) }
-    ensures form { (CanDivide (slice_index counts.now) s (plain_sum arg.now) × (let parts : Divided = divided (slice_index counts.now) s (plain_sum arg.now) in CanMix (slice_index counts.now) (r * s) a b parts.quot parts.rem)) → IfOk result (λ sum. plain_sum sum ≡ (let parts : Divided = divided (slice_index counts.now) s (plain_sum arg.now) in reduced (slice_index counts.now) (r * s) (joined (scaled a parts.quot) (scaled b parts.rem)))) }
+    requires affine { IsSumOver counts.now arg.now }
+    requires fits { FitsOver counts.now arg.now }
+    requires defined { EachValue counts.now
+        (λ i. by.quot * (i / s) + by.rem * (i % s) < 2 ^ 64) arg.now }
+    ensures value { IfOk result (IsImage counts.now
+        (λ i. (by.quot * (i / s) + by.rem * (i % s)) % (r * s)) arg.now) }
+    ensures affine { IfOk result (IsSumOver counts.now) }
+    ensures fits { IfOk result (FitsOver counts.now) }
+    ensures form { HasRoomOver counts.now (ThomasBack r s by.quot by.rem) arg.now
+        → IfOk result (IsSimplified counts.now (ThomasBack r s by.quot by.rem) arg.now) }
 {
     let Parts { quot, rem } = divide(alloc, counts, arg, s)?;
-    let both = both(counts, multiple(counts, a, quot), multiple(counts, b, rem));
+    let quot = multiple(counts, by.quot, quot);
+    let rem = multiple(counts, by.rem, rem);
+    let both = both(counts, quot, rem);
     let sum = reduce(alloc, counts, r * s, &both)?;
     Ok(sum)
 }
@@ -136,13 +148,14 @@ fn remainders(
     arg: &Affine,
 ) -> Result<Affine, NoMemory>
     requires formed { IsWellFormed (ThomasOut r s) }
-    requires affine { IsAffine (length counts.now) (slice_index counts.now) (plain_sum arg.now) }
-    requires fits { Stays (slice_index counts.now) (value (plain_sum arg.now)) }
-    requires defined { (vs : ℕ → ℕ) → InRange (slice_index counts.now) vs → value (plain_sum arg.now) vs < r * s }
-    ensures value { IfOk result (λ sum. Agree (slice_index counts.now) (value (plain_sum sum)) (λ vs. at (ThomasOut r s) (value (plain_sum arg.now) vs))) }
-    ensures affine { IfOk result (λ sum. IsAffine (length counts.now) (slice_index counts.now) (plain_sum sum)) }
-    ensures fits { IfOk result (λ sum. Stays (slice_index counts.now) (value (plain_sum sum))) }
-    ensures form { HasRoomFor (slice_index counts.now) (ThomasOut r s) (plain_sum arg.now) → IfOk result (λ sum. plain_sum sum ≡ simplified (slice_index counts.now) (ThomasOut r s) (plain_sum arg.now)) }
+    requires affine { IsSumOver counts.now arg.now }
+    requires fits { FitsOver counts.now arg.now }
+    requires defined { EachValue counts.now (λ i. i < r * s) arg.now }
+    ensures value { IfOk result (IsImage counts.now (at (ThomasOut r s)) arg.now) }
+    ensures affine { IfOk result (IsSumOver counts.now) }
+    ensures fits { IfOk result (FitsOver counts.now) }
+    ensures form { HasRoomOver counts.now (ThomasOut r s) arg.now
+        → IfOk result (IsSimplified counts.now (ThomasOut r s) arg.now) }
 {
     let Parts { quot: _, rem } = divide(alloc, counts, arg, r)?;
     let left = multiple(counts, s, rem);

@@ -1,6 +1,6 @@
-ghost use Rattle.std.specs.Prelude.{◌≡◌, ℕ, ◌*◌, ◌/◌, ◌%◌, ◌^◌, ◌<◌, ◌≤◌, IfOk, length, slice_index};
-ghost use Rattle.perm_algebra.specs.Affine.{value, top, head, rest_of, divided, mods, reduced};
-ghost use Rattle.perm_algebra.specs.Fits.{Agree, InRange, IsAffine, Stays};
+ghost use Rattle.std.specs.Prelude.{◌≡◌, ◌/◌, ◌%◌, ◌<◌, ◌≤◌, IfOk, slice_index};
+ghost use Rattle.perm_algebra.specs.Affine.{top, head, rest_of, divided, mods, reduced};
+ghost use Rattle.perm_algebra.specs.Contract.{EachValue, FitsOver, IsImage, IsSumOver};
 ghost use Rattle.perm_algebra.specs.Room.{HasTop, CanDivide};
 ghost use Rattle.perm_algebra.specs.Views.{plain_sum};
 
@@ -146,10 +146,11 @@ fn taken(sum: &mut Affine) -> Affine
 /// A number that no value of the sum is above, where each variable runs below its count.
 #[tactic(auto, using(crate::proofs::PartLaws::quotient_le, crate::proofs::PartLaws::in_range_at))]
 pub fn greatest(counts: &[u64], sum: &Affine) -> u64
-    requires affine { IsAffine (length counts.now) (slice_index counts.now) (plain_sum sum.now) }
-    requires fits { Stays (slice_index counts.now) (value (plain_sum sum.now)) }
-    ensures bound { (vs : ℕ → ℕ) → InRange (slice_index counts.now) vs → value (plain_sum sum.now) vs ≤ result }
-    ensures form { HasTop (slice_index counts.now) (plain_sum sum.now) → result ≡ top (plain_sum sum.now) (slice_index counts.now) }
+    requires affine { IsSumOver counts.now sum.now }
+    requires fits { FitsOver counts.now sum.now }
+    ensures bound { EachValue counts.now (λ i. i ≤ result) sum.now }
+    ensures form { HasTop (slice_index counts.now) (plain_sum sum.now)
+        → result ≡ top (plain_sum sum.now) (slice_index counts.now) }
 {
     match sum {
         Affine::Constant(c) => *c,
@@ -178,16 +179,18 @@ pub fn greatest(counts: &[u64], sum: &Affine) -> u64
 #[tactic(auto, using(crate::proofs::Division::affine_head, crate::proofs::Division::affine_rest, crate::proofs::Division::fits_rest, crate::proofs::Division::quotient_read, crate::proofs::Division::remainder_read, crate::proofs::Division::quotient_form, crate::proofs::Division::remainder_form, crate::proofs::Division::quotient_written, crate::proofs::Division::remainder_written))]
 pub fn divide(alloc: Global, counts: &[u64], sum: &Affine, s: u64) -> Result<Parts, NoMemory>
     requires divisor { 0 < s }
-    requires affine { IsAffine (length counts.now) (slice_index counts.now) (plain_sum sum.now) }
-    requires fits { Stays (slice_index counts.now) (value (plain_sum sum.now)) }
-    ensures quot { IfOk result (λ p. Agree (slice_index counts.now) (value (plain_sum p.quot)) (λ vs. value (plain_sum sum.now) vs / s)) }
-    ensures rem { IfOk result (λ p. Agree (slice_index counts.now) (value (plain_sum p.rem)) (λ vs. value (plain_sum sum.now) vs % s)) }
-    ensures quot_affine { IfOk result (λ p. IsAffine (length counts.now) (slice_index counts.now) (plain_sum p.quot)) }
-    ensures rem_affine { IfOk result (λ p. IsAffine (length counts.now) (slice_index counts.now) (plain_sum p.rem)) }
+    requires affine { IsSumOver counts.now sum.now }
+    requires fits { FitsOver counts.now sum.now }
+    ensures quot { IfOk result (λ p. IsImage counts.now (λ i. i / s) sum.now p.quot) }
+    ensures rem { IfOk result (λ p. IsImage counts.now (λ i. i % s) sum.now p.rem) }
+    ensures quot_affine { IfOk result (λ p. IsSumOver counts.now p.quot) }
+    ensures rem_affine { IfOk result (λ p. IsSumOver counts.now p.rem) }
 
     // As the definition has them, where the bounds fit.
-    ensures quot_form { CanDivide (slice_index counts.now) s (plain_sum sum.now) → IfOk result (λ p. plain_sum p.quot ≡ (divided (slice_index counts.now) s (plain_sum sum.now)).quot) }
-    ensures rem_form { CanDivide (slice_index counts.now) s (plain_sum sum.now) → IfOk result (λ p. plain_sum p.rem ≡ (divided (slice_index counts.now) s (plain_sum sum.now)).rem) }
+    ensures quot_form { CanDivide (slice_index counts.now) s (plain_sum sum.now) → IfOk result
+        (λ p. plain_sum p.quot ≡ (divided (slice_index counts.now) s (plain_sum sum.now)).quot) }
+    ensures rem_form { CanDivide (slice_index counts.now) s (plain_sum sum.now) → IfOk result
+        (λ p. plain_sum p.rem ≡ (divided (slice_index counts.now) s (plain_sum sum.now)).rem) }
 {
     let rem = others(alloc, s, sum)?;
     if greatest(counts, &rem) < s {
@@ -208,11 +211,12 @@ pub fn divide(alloc: Global, counts: &[u64], sum: &Affine, s: u64) -> Result<Par
 #[tactic(auto, using(crate::proofs::Division::affine_mods, crate::proofs::Division::fits_mods, crate::proofs::Division::reduced_read, crate::proofs::Division::reduced_written, crate::proofs::Division::reduced_form, crate::proofs::Division::reduced_form_written))]
 pub fn reduce(alloc: Global, counts: &[u64], n: u64, sum: &Affine) -> Result<Affine, NoMemory>
     requires divisor { 0 < n }
-    requires affine { IsAffine (length counts.now) (slice_index counts.now) (plain_sum sum.now) }
-    requires fits { Stays (slice_index counts.now) (value (plain_sum sum.now)) }
-    ensures value { IfOk result (λ a. Agree (slice_index counts.now) (value (plain_sum a)) (λ vs. value (plain_sum sum.now) vs % n)) }
-    ensures affine { IfOk result (λ a. IsAffine (length counts.now) (slice_index counts.now) (plain_sum a)) }
-    ensures form { HasTop (slice_index counts.now) (mods n (plain_sum sum.now)) → IfOk result (λ a. plain_sum a ≡ reduced (slice_index counts.now) n (plain_sum sum.now)) }
+    requires affine { IsSumOver counts.now sum.now }
+    requires fits { FitsOver counts.now sum.now }
+    ensures value { IfOk result (IsImage counts.now (λ i. i % n) sum.now) }
+    ensures affine { IfOk result (IsSumOver counts.now) }
+    ensures form { HasTop (slice_index counts.now) (mods n (plain_sum sum.now))
+        → IfOk result (λ a. plain_sum a ≡ reduced (slice_index counts.now) n (plain_sum sum.now)) }
 {
     let small = residues(alloc, n, sum)?;
     if greatest(counts, &small) < n {

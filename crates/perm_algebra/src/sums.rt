@@ -1,6 +1,6 @@
-ghost use Rattle.std.specs.Prelude.{◌≡◌, ◌+◌, ◌*◌, IfOk, length, slice_index};
-ghost use Rattle.perm_algebra.specs.Affine.{value, scaled, joined};
-ghost use Rattle.perm_algebra.specs.Fits.{Agree, IsAffine, Stays};
+ghost use Rattle.std.specs.Prelude.{◌≡◌, ◌+◌, ◌*◌, ◌^◌, ◌<◌, IfOk};
+ghost use Rattle.perm_algebra.specs.Affine.{scaled, joined};
+ghost use Rattle.perm_algebra.specs.Contract.{EachTwo, EachValue, IsImage, IsImageOfTwo, IsSumOver};
 ghost use Rattle.perm_algebra.specs.Room.{CanScale, CanJoin};
 ghost use Rattle.perm_algebra.specs.Views.{plain_sum};
 ghost use Rattle.perm_algebra.specs.Wrapped.{raised, wrapped_multiple, wrapped_sum};
@@ -36,10 +36,10 @@ pub fn copy(alloc: Global, sum: &Affine) -> Result<Affine, NoMemory>
 /// its factor is then.
 #[tactic(auto, using(crate::proofs::WrappedLaws::multiple_value, crate::proofs::WrappedLaws::affine_multiple, crate::proofs::WrappedLaws::multiple_form))]
 pub fn multiple(counts: &[u64], k: u64, sum: Affine) -> Affine
-    requires affine { IsAffine (length counts.now) (slice_index counts.now) (plain_sum sum) }
-    requires fits { Stays (slice_index counts.now) (λ vs. k * value (plain_sum sum) vs) }
-    ensures value { Agree (slice_index counts.now) (value (plain_sum result)) (λ vs. k * value (plain_sum sum) vs) }
-    ensures affine { IsAffine (length counts.now) (slice_index counts.now) (plain_sum result) }
+    requires affine { IsSumOver counts.now sum }
+    requires fits { EachValue counts.now (λ i. k * i < 2 ^ 64) sum }
+    ensures value { IsImage counts.now (λ i. k * i) sum result }
+    ensures affine { IsSumOver counts.now result }
     ensures form { CanScale k (plain_sum sum) → plain_sum result ≡ scaled k (plain_sum sum) }
 {
     let _count = counts.len();
@@ -71,12 +71,13 @@ fn multiply(k: u64, sum: &mut Affine)
 /// The sum of two sums.
 #[tactic(auto, using(crate::proofs::WrappedLaws::sum_value, crate::proofs::WrappedLaws::affine_sum, crate::proofs::WrappedLaws::sum_form))]
 pub fn both(counts: &[u64], a: Affine, b: Affine) -> Affine
-    requires affine { IsAffine (length counts.now) (slice_index counts.now) (plain_sum a) }
-    requires affine_too { IsAffine (length counts.now) (slice_index counts.now) (plain_sum b) }
-    requires fits { Stays (slice_index counts.now) (λ vs. value (plain_sum a) vs + value (plain_sum b) vs) }
-    ensures value { Agree (slice_index counts.now) (value (plain_sum result)) (λ vs. value (plain_sum a) vs + value (plain_sum b) vs) }
-    ensures affine { IsAffine (length counts.now) (slice_index counts.now) (plain_sum result) }
-    ensures form { CanJoin (plain_sum a) (plain_sum b) → plain_sum result ≡ joined (plain_sum a) (plain_sum b) }
+    requires affine { IsSumOver counts.now a }
+    requires affine_too { IsSumOver counts.now b }
+    requires fits { EachTwo counts.now (λ i j. i + j < 2 ^ 64) a b }
+    ensures value { IsImageOfTwo counts.now (λ i j. i + j) a b result }
+    ensures affine { IsSumOver counts.now result }
+    ensures form { CanJoin (plain_sum a) (plain_sum b)
+        → plain_sum result ≡ joined (plain_sum a) (plain_sum b) }
 {
     let _count = counts.len();
     let mut both = a;

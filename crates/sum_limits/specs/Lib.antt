@@ -1,3 +1,4 @@
+pub mod Contract
 pub mod Leading
 pub mod Mixes
 pub mod Outcomes

@@ -3,17 +3,17 @@
 
 mod rooms;
 
-ghost use Rattle.std.specs.Prelude.{◌≡◌, ℕ, ◌+◌, ◌*◌, ◌-◌, ◌^◌, ◌<◌, ◌≤◌, ◌↔◌, IsTrue, nat_lt, true, false, map, slice_index};
+ghost use Rattle.std.specs.Prelude.{◌≡◌, ◌+◌, ◌*◌, ◌-◌, ◌^◌, ◌<◌, ◌≤◌, ◌↔◌, IsTrue, nat_lt, true, false, map, slice_index};
 ghost use Rattle.std.specs.Option.{ForNone, ForSome};
 ghost use Rattle.index_fn.specs.Index.{mapping_of};
 ghost use Rattle.index_fn.specs.Mapping.{IsDefinedAt, IsWellFormed, at};
-ghost use Rattle.passes.specs.Merge.{all_simplified, are_small, carries_sum, is_divided, is_limited, total};
-ghost use Rattle.perm_algebra.specs.Affine.{HasNoList, levels, parts, peak, simplified, top, value};
-ghost use Rattle.perm_algebra.specs.Fits.{Agree, InRange, Stays};
-ghost use Rattle.perm_algebra.specs.Room.{has_room, has_top};
+ghost use Rattle.passes.specs.Merge.{all_simplified, are_small, carries_sum, is_divided, total};
+ghost use Rattle.perm_algebra.specs.Affine.{HasNoList, levels, parts, peak, top};
+ghost use Rattle.perm_algebra.specs.Contract.{EachValue, FitsOver, IsImage, IsSimplified, IsSumOver};
+ghost use Rattle.perm_algebra.specs.Room.{has_top};
 ghost use Rattle.perm_algebra.specs.Views.{plain_sum};
+ghost use Rattle.sum_limits.specs.Contract.{has_room_over, is_within};
 ghost use Rattle.sum_limits.specs.Leading.{CanCarry, can_lead};
-ghost use Rattle.sum_limits.specs.Mixes.{IsAffineBelow};
 ghost use Rattle.sum_limits.specs.Outcomes.{IfMade, IfRefused};
 
 use index_fn::Index;
@@ -42,22 +42,18 @@ pub fn simplify_within(
 ) -> Result<Option<Affine>, NoMemory>
     requires formed { IsWellFormed (mapping_of f.now) }
     requires no_list { HasNoList (mapping_of f.now) }
-    requires affine { IsAffineBelow counts.now (plain_sum arg.now) }
-    requires fits { Stays (slice_index counts.now) (value (plain_sum arg.now)) }
-    requires defined { (vs : ℕ → ℕ) → InRange (slice_index counts.now) vs
-        → IsDefinedAt (mapping_of f.now) (value (plain_sum arg.now) vs) }
-    ensures some { IfMade result (λ sum. plain_sum sum
-        ≡ simplified (slice_index counts.now) (mapping_of f.now) (plain_sum arg.now)) }
-    ensures room { IfMade result (λ sum.
-        has_room (slice_index counts.now) (mapping_of f.now) (plain_sum arg.now) ≡ true) }
-    ensures limited { IfMade result (λ sum.
-        is_limited limits.room limits.size (slice_index counts.now) (plain_sum sum) ≡ true) }
+    requires affine { IsSumOver counts.now arg.now }
+    requires fits { FitsOver counts.now arg.now }
+    requires defined { EachValue counts.now (IsDefinedAt (mapping_of f.now)) arg.now }
+    ensures some { IfMade result (IsSimplified counts.now (mapping_of f.now) arg.now) }
+    ensures room { IfMade result
+        (λ sum. has_room_over counts.now (mapping_of f.now) arg.now ≡ true) }
+    ensures limited { IfMade result (λ sum. is_within counts.now limits sum ≡ true) }
     ensures none { IfRefused result (can_lead limits.room limits.size (slice_index counts.now)
         (mapping_of f.now) (plain_sum arg.now) ≡ false) }
-    ensures value { IfMade result (λ sum. Agree (slice_index counts.now) (value (plain_sum sum))
-        (λ vs. at (mapping_of f.now) (value (plain_sum arg.now) vs))) }
-    ensures affine { IfMade result (λ sum. IsAffineBelow counts.now (plain_sum sum)) }
-    ensures fits { IfMade result (λ sum. Stays (slice_index counts.now) (value (plain_sum sum))) }
+    ensures value { IfMade result (IsImage counts.now (at (mapping_of f.now)) arg.now) }
+    ensures affine { IfMade result (IsSumOver counts.now) }
+    ensures fits { IfMade result (FitsOver counts.now) }
 {
     match simplify_in_room(alloc, f, arg, counts)? {
         None => Ok(None),
@@ -82,14 +78,14 @@ pub fn carry_within(
     count: u64,
 ) -> Result<Option<Affine>, NoMemory>
     requires can { CanCarry limits.size (map mapping_of functions.now) }
-    requires affine { IsAffineBelow counts.now (plain_sum arg.now) }
+    requires affine { IsSumOver counts.now arg.now }
     ensures some { IfMade result (λ sum. plain_sum sum ≡ all_simplified (slice_index counts.now)
         (map mapping_of functions.now) (plain_sum arg.now)) }
     ensures carries { IfMade result (λ sum. carries_sum limits.room limits.size count
         (slice_index counts.now) (map mapping_of functions.now) (plain_sum arg.now) ≡ true) }
     ensures none { IfRefused result (carries_sum limits.room limits.size count
         (slice_index counts.now) (map mapping_of functions.now) (plain_sum arg.now) ≡ false) }
-    ensures affine { IfMade result (λ sum. IsAffineBelow counts.now (plain_sum sum)) }
+    ensures affine { IfMade result (IsSumOver counts.now) }
 {
     match functions.split_first() {
         None => {
@@ -121,9 +117,8 @@ pub fn carry_within(
 
 /// Whether a place is within the limits: the test of merging.
 pub fn is_within(counts: &[u64], sum: &Affine, limits: Limits) -> bool
-    requires { IsAffineBelow counts.now (plain_sum sum.now) }
-    ensures { IsTrue result
-        ↔ (is_limited limits.room limits.size (slice_index counts.now) (plain_sum sum.now) ≡ true) }
+    requires { IsSumOver counts.now sum.now }
+    ensures { IsTrue result ↔ (is_within counts.now limits sum.now ≡ true) }
 {
     if let Affine::Constant(number) = sum {
         return *number < limits.size && is_small(*number);
@@ -215,7 +210,7 @@ fn total(sum: &Affine) -> Option<u64>
 
 // A bound on the values of a sum, if it fits a word.
 fn top_of(counts: &[u64], sum: &Affine) -> Option<u64>
-    requires { IsAffineBelow counts.now (plain_sum sum.now) }
+    requires { IsSumOver counts.now sum.now }
     ensures some { ForSome result (λ t. t ≡ top (plain_sum sum.now) (slice_index counts.now)) }
     ensures none { ForNone result (are_small (slice_index counts.now) (plain_sum sum.now) ≡ true
         → 2 ^ 64 ≤ top (plain_sum sum.now) (slice_index counts.now)) }
@@ -259,7 +254,7 @@ fn times_and(factor: u64, most: u64, rest: u64) -> Option<u64>
 
 // Whether the numbers at all levels are small.
 fn are_small(counts: &[u64], sum: &Affine) -> bool
-    requires { IsAffineBelow counts.now (plain_sum sum.now) }
+    requires { IsSumOver counts.now sum.now }
     ensures { IsTrue result ↔ (are_small (slice_index counts.now) (plain_sum sum.now) ≡ true) }
 {
     match sum {
@@ -276,7 +271,7 @@ fn are_small(counts: &[u64], sum: &Affine) -> bool
 
 // Whether a part may divide this sum.
 fn is_divided(counts: &[u64], factor: u64, of: &Affine, divisor: u64) -> bool
-    requires affine { IsAffineBelow counts.now (plain_sum of.now) }
+    requires affine { IsSumOver counts.now of.now }
     requires small { are_small (slice_index counts.now) (plain_sum of.now) ≡ true }
     ensures { IsTrue result
         ↔ (is_divided (slice_index counts.now) factor (plain_sum of.now) divisor ≡ true) }

@@ -1,18 +1,22 @@
 ghost use Rattle.std.specs.Prelude.{◌≡◌, ℕ, ◌+◌, ◌*◌, ◌/◌, ◌%◌, ◌^◌, ◌<◌, true, false, slice_index};
 ghost use Rattle.std.specs.Option.{ForNone, ForSome};
 ghost use Rattle.index_fn.specs.Index.{mapping_of};
-ghost use Rattle.index_fn.specs.Mapping.{IsDefinedAt, IsWellFormed, Line, Strided, ThomasOut, at};
+ghost use Rattle.index_fn.specs.Mapping.{IsDefinedAt, IsWellFormed, Line, Strided, ThomasBack, ThomasOut, at};
 ghost use Rattle.perm_algebra.specs.Affine.{HasNoList, constant, divided, joined, mods, reduced, scaled, simplified, value};
-ghost use Rattle.perm_algebra.specs.Fits.{Agree, InRange, Stays};
+ghost use Rattle.perm_algebra.specs.Contract.{EachTwo, EachValue, FitsOver, IsImage, IsImageOfTwo, IsSimplified, IsSumOver};
+ghost use Rattle.perm_algebra.specs.Fits.{InRange};
 ghost use Rattle.perm_algebra.specs.Room.{can_divide, can_join, can_mix, can_scale, constant_of, has_room, has_top};
 ghost use Rattle.perm_algebra.specs.Views.{plain_sum};
-ghost use Rattle.sum_limits.specs.Mixes.{IsAffineBelow, can_mix_parts, can_scale_and_join, mixed, mixed_parts};
+ghost use Rattle.sum_limits.specs.Contract.{has_room_over};
+ghost use Rattle.sum_limits.specs.Mixes.{can_scale_and_join, mixed};
 ghost use Rattle.sum_limits.specs.Outcomes.{IfMade, IfRefused};
 
 use crate::{greatest_factor, top_of};
 use index_fn::Index;
 use memory::NoMemory;
-use perm_algebra::{Affine, Parts, both, copy, divide, multiple, others, reduce, residues};
+use perm_algebra::{
+    Affine, Multiples, Parts, both, copy, divide, multiple, others, reduce, residues,
+};
 use std::alloc::Global;
 
 /// The function `f` at the place `arg`, where the variable d runs below `counts[d]`, if every number on the way fits 64
@@ -25,20 +29,17 @@ pub fn simplify_in_room(
 ) -> Result<Option<Affine>, NoMemory>
     requires formed { IsWellFormed (mapping_of f.now) }
     requires no_list { HasNoList (mapping_of f.now) }
-    requires affine { IsAffineBelow counts.now (plain_sum arg.now) }
-    requires fits { Stays (slice_index counts.now) (value (plain_sum arg.now)) }
-    requires defined { (vs : ℕ → ℕ) → InRange (slice_index counts.now) vs
-        → IsDefinedAt (mapping_of f.now) (value (plain_sum arg.now) vs) }
-    ensures some { IfMade result (λ sum. plain_sum sum
-        ≡ simplified (slice_index counts.now) (mapping_of f.now) (plain_sum arg.now)) }
-    ensures room { IfMade result (λ sum.
-        has_room (slice_index counts.now) (mapping_of f.now) (plain_sum arg.now) ≡ true) }
+    requires affine { IsSumOver counts.now arg.now }
+    requires fits { FitsOver counts.now arg.now }
+    requires defined { EachValue counts.now (IsDefinedAt (mapping_of f.now)) arg.now }
+    ensures some { IfMade result (IsSimplified counts.now (mapping_of f.now) arg.now) }
+    ensures room { IfMade result
+        (λ sum. has_room_over counts.now (mapping_of f.now) arg.now ≡ true) }
     ensures none { IfRefused result
-        (has_room (slice_index counts.now) (mapping_of f.now) (plain_sum arg.now) ≡ false) }
-    ensures value { IfMade result (λ sum. Agree (slice_index counts.now) (value (plain_sum sum))
-        (λ vs. at (mapping_of f.now) (value (plain_sum arg.now) vs))) }
-    ensures affine { IfMade result (λ sum. IsAffineBelow counts.now (plain_sum sum)) }
-    ensures fits { IfMade result (λ sum. Stays (slice_index counts.now) (value (plain_sum sum))) }
+        (has_room_over counts.now (mapping_of f.now) arg.now ≡ false) }
+    ensures value { IfMade result (IsImage counts.now (at (mapping_of f.now)) arg.now) }
+    ensures affine { IfMade result (IsSumOver counts.now) }
+    ensures fits { IfMade result (FitsOver counts.now) }
 {
     if let Affine::Constant(number) = arg {
         return Ok(Some(at_number(f, *number, counts)));
@@ -88,10 +89,9 @@ fn at_number(f: &Index, number: u64, counts: &[u64]) -> Affine
     ensures some { plain_sum result
         ≡ simplified (slice_index counts.now) (mapping_of f.now) (constant number) }
     ensures room { has_room (slice_index counts.now) (mapping_of f.now) (constant number) ≡ true }
-    ensures value { Agree (slice_index counts.now) (value (plain_sum result))
-        (λ vs. at (mapping_of f.now) number) }
-    ensures affine { IsAffineBelow counts.now (plain_sum result) }
-    ensures fits { Stays (slice_index counts.now) (value (plain_sum result)) }
+    ensures value { EachValue counts.now (λ i. i ≡ at (mapping_of f.now) number) result }
+    ensures affine { IsSumOver counts.now result }
+    ensures fits { FitsOver counts.now result }
 {
     let _count = counts.len();
     Affine::Constant(f.at(number))
@@ -105,18 +105,14 @@ fn line(
     step: u64,
     arg: &Affine,
 ) -> Result<Option<Affine>, NoMemory>
-    requires affine { IsAffineBelow counts.now (plain_sum arg.now) }
-    requires fits { Stays (slice_index counts.now)
-        (λ vs. base + step * value (plain_sum arg.now) vs) }
-    ensures some { IfMade result (λ sum.
-        plain_sum sum ≡ simplified (slice_index counts.now) (Line base step) (plain_sum arg.now)) }
-    ensures room { IfMade result (λ sum.
-        has_room (slice_index counts.now) (Line base step) (plain_sum arg.now) ≡ true) }
-    ensures none { IfRefused result
-        (has_room (slice_index counts.now) (Line base step) (plain_sum arg.now) ≡ false) }
-    ensures value { IfMade result (λ sum. Agree (slice_index counts.now) (value (plain_sum sum))
-        (λ vs. base + step * value (plain_sum arg.now) vs)) }
-    ensures affine { IfMade result (λ sum. IsAffineBelow counts.now (plain_sum sum)) }
+    requires affine { IsSumOver counts.now arg.now }
+    requires fits { EachValue counts.now (λ i. base + step * i < 2 ^ 64) arg.now }
+    ensures some { IfMade result (IsSimplified counts.now (Line base step) arg.now) }
+    ensures room { IfMade result
+        (λ sum. has_room_over counts.now (Line base step) arg.now ≡ true) }
+    ensures none { IfRefused result (has_room_over counts.now (Line base step) arg.now ≡ false) }
+    ensures value { IfMade result (IsImage counts.now (λ i. base + step * i) arg.now) }
+    ensures affine { IfMade result (IsSumOver counts.now) }
 {
     let Some(multiple) = scale_in_room(counts, step, copy(alloc, arg)?) else {
         return Ok(None);
@@ -134,20 +130,15 @@ fn turn(
     arg: &Affine,
 ) -> Result<Option<Affine>, NoMemory>
     requires formed { IsWellFormed (Strided r s) }
-    requires affine { IsAffineBelow counts.now (plain_sum arg.now) }
-    requires fits { Stays (slice_index counts.now) (value (plain_sum arg.now)) }
-    requires defined { (vs : ℕ → ℕ) → InRange (slice_index counts.now) vs
-        → value (plain_sum arg.now) vs < r * s }
-    ensures some { IfMade result (λ sum.
-        plain_sum sum ≡ simplified (slice_index counts.now) (Strided r s) (plain_sum arg.now)) }
-    ensures room { IfMade result (λ sum.
-        has_room (slice_index counts.now) (Strided r s) (plain_sum arg.now) ≡ true) }
-    ensures none { IfRefused result
-        (has_room (slice_index counts.now) (Strided r s) (plain_sum arg.now) ≡ false) }
-    ensures value { IfMade result (λ sum. Agree (slice_index counts.now) (value (plain_sum sum))
-        (λ vs. at (Strided r s) (value (plain_sum arg.now) vs))) }
-    ensures affine { IfMade result (λ sum. IsAffineBelow counts.now (plain_sum sum)) }
-    ensures fits { IfMade result (λ sum. Stays (slice_index counts.now) (value (plain_sum sum))) }
+    requires affine { IsSumOver counts.now arg.now }
+    requires fits { FitsOver counts.now arg.now }
+    requires defined { EachValue counts.now (λ i. i < r * s) arg.now }
+    ensures some { IfMade result (IsSimplified counts.now (Strided r s) arg.now) }
+    ensures room { IfMade result (λ sum. has_room_over counts.now (Strided r s) arg.now ≡ true) }
+    ensures none { IfRefused result (has_room_over counts.now (Strided r s) arg.now ≡ false) }
+    ensures value { IfMade result (IsImage counts.now (at (Strided r s)) arg.now) }
+    ensures affine { IfMade result (IsSumOver counts.now) }
+    ensures fits { IfMade result (FitsOver counts.now) }
 {
     let Some(Parts { quot, rem }) = divide_in_room(alloc, counts, arg, s)? else {
         return Ok(None);
@@ -164,20 +155,15 @@ fn remainders(
     arg: &Affine,
 ) -> Result<Option<Affine>, NoMemory>
     requires formed { IsWellFormed (ThomasOut r s) }
-    requires affine { IsAffineBelow counts.now (plain_sum arg.now) }
-    requires fits { Stays (slice_index counts.now) (value (plain_sum arg.now)) }
-    requires defined { (vs : ℕ → ℕ) → InRange (slice_index counts.now) vs
-        → value (plain_sum arg.now) vs < r * s }
-    ensures some { IfMade result (λ sum.
-        plain_sum sum ≡ simplified (slice_index counts.now) (ThomasOut r s) (plain_sum arg.now)) }
-    ensures room { IfMade result (λ sum.
-        has_room (slice_index counts.now) (ThomasOut r s) (plain_sum arg.now) ≡ true) }
-    ensures none { IfRefused result
-        (has_room (slice_index counts.now) (ThomasOut r s) (plain_sum arg.now) ≡ false) }
-    ensures value { IfMade result (λ sum. Agree (slice_index counts.now) (value (plain_sum sum))
-        (λ vs. at (ThomasOut r s) (value (plain_sum arg.now) vs))) }
-    ensures affine { IfMade result (λ sum. IsAffineBelow counts.now (plain_sum sum)) }
-    ensures fits { IfMade result (λ sum. Stays (slice_index counts.now) (value (plain_sum sum))) }
+    requires affine { IsSumOver counts.now arg.now }
+    requires fits { FitsOver counts.now arg.now }
+    requires defined { EachValue counts.now (λ i. i < r * s) arg.now }
+    ensures some { IfMade result (IsSimplified counts.now (ThomasOut r s) arg.now) }
+    ensures room { IfMade result (λ sum. has_room_over counts.now (ThomasOut r s) arg.now ≡ true) }
+    ensures none { IfRefused result (has_room_over counts.now (ThomasOut r s) arg.now ≡ false) }
+    ensures value { IfMade result (IsImage counts.now (at (ThomasOut r s)) arg.now) }
+    ensures affine { IfMade result (IsSumOver counts.now) }
+    ensures fits { IfMade result (FitsOver counts.now) }
 {
     let Some(Parts { quot: _, rem }) = divide_in_room(alloc, counts, arg, r)? else {
         return Ok(None);
@@ -186,13 +172,6 @@ fn remainders(
         return Ok(None);
     };
     Ok(scale_and_join(counts, s, rem, last))
-}
-
-// What the quotient and the remainder are multiplied by.
-#[derive(Clone, Copy)]
-struct Multiples {
-    quot: u64,
-    rem: u64,
 }
 
 // These multiples of the quotient and of the remainder by `s`, modulo `r * s`.
@@ -207,20 +186,19 @@ fn mixed(
     requires divisor { 0 < s }
     requires modulus { 0 < r * s }
     requires size { r * s < 2 ^ 64 }
-    requires affine { IsAffineBelow counts.now (plain_sum arg.now) }
-    requires fits { Stays (slice_index counts.now) (value (plain_sum arg.now)) }
-    requires mixed { Stays (slice_index counts.now) (λ vs.
-        by.quot * (value (plain_sum arg.now) vs / s) + by.rem * (value (plain_sum arg.now) vs % s)) }
-    ensures some { IfMade result (λ sum. plain_sum sum
-        ≡ mixed_parts (slice_index counts.now) s (r * s) by.quot by.rem (plain_sum arg.now)) }
-    ensures room { IfMade result (λ sum. can_mix_parts (slice_index counts.now) s (r * s)
-        by.quot by.rem (plain_sum arg.now) ≡ true) }
-    ensures none { IfRefused result (can_mix_parts (slice_index counts.now) s (r * s)
-        by.quot by.rem (plain_sum arg.now) ≡ false) }
-    ensures value { IfMade result (λ sum. Agree (slice_index counts.now) (value (plain_sum sum))
-        (λ vs. (by.quot * (value (plain_sum arg.now) vs / s)
-        + by.rem * (value (plain_sum arg.now) vs % s)) % (r * s))) }
-    ensures affine { IfMade result (λ sum. IsAffineBelow counts.now (plain_sum sum)) }
+    requires affine { IsSumOver counts.now arg.now }
+    requires fits { FitsOver counts.now arg.now }
+    requires mixed { EachValue counts.now
+        (λ i. by.quot * (i / s) + by.rem * (i % s) < 2 ^ 64) arg.now }
+    ensures some { IfMade result
+        (IsSimplified counts.now (ThomasBack r s by.quot by.rem) arg.now) }
+    ensures room { IfMade result
+        (λ sum. has_room_over counts.now (ThomasBack r s by.quot by.rem) arg.now ≡ true) }
+    ensures none { IfRefused result
+        (has_room_over counts.now (ThomasBack r s by.quot by.rem) arg.now ≡ false) }
+    ensures value { IfMade result (IsImage counts.now
+        (λ i. (by.quot * (i / s) + by.rem * (i % s)) % (r * s)) arg.now) }
+    ensures affine { IfMade result (IsSumOver counts.now) }
 {
     let Some(parts) = divide_in_room(alloc, counts, arg, s)? else {
         return Ok(None);
@@ -238,20 +216,19 @@ fn mix(
     n: u64,
 ) -> Result<Option<Affine>, NoMemory>
     requires divisor { 0 < n }
-    requires quot { IsAffineBelow counts.now (plain_sum parts.quot) }
-    requires rem { IsAffineBelow counts.now (plain_sum parts.rem) }
-    requires fits { Stays (slice_index counts.now) (λ vs.
-        by.quot * value (plain_sum parts.quot) vs + by.rem * value (plain_sum parts.rem) vs) }
+    requires quot { IsSumOver counts.now parts.quot }
+    requires rem { IsSumOver counts.now parts.rem }
+    requires fits { EachTwo counts.now
+        (λ i j. by.quot * i + by.rem * j < 2 ^ 64) parts.quot parts.rem }
     ensures some { IfMade result (λ sum. plain_sum sum ≡ mixed (slice_index counts.now) n
         by.quot by.rem (plain_sum parts.quot) (plain_sum parts.rem)) }
     ensures room { IfMade result (λ sum. can_mix (slice_index counts.now) n
         by.quot by.rem (plain_sum parts.quot) (plain_sum parts.rem) ≡ true) }
     ensures none { IfRefused result (can_mix (slice_index counts.now) n
         by.quot by.rem (plain_sum parts.quot) (plain_sum parts.rem) ≡ false) }
-    ensures value { IfMade result (λ sum. Agree (slice_index counts.now) (value (plain_sum sum))
-        (λ vs. (by.quot * value (plain_sum parts.quot) vs
-        + by.rem * value (plain_sum parts.rem) vs) % n)) }
-    ensures affine { IfMade result (λ sum. IsAffineBelow counts.now (plain_sum sum)) }
+    ensures value { IfMade result (IsImageOfTwo counts.now
+        (λ i j. (by.quot * i + by.rem * j) % n) parts.quot parts.rem) }
+    ensures affine { IfMade result (IsSumOver counts.now) }
 {
     let Parts { quot, rem } = parts;
     let Some(quot) = scale_in_room(counts, by.quot, quot) else {
@@ -275,14 +252,12 @@ fn divide_in_room(
     s: u64,
 ) -> Result<Option<Parts>, NoMemory>
     requires divisor { 0 < s }
-    requires affine { IsAffineBelow counts.now (plain_sum sum.now) }
-    requires fits { Stays (slice_index counts.now) (value (plain_sum sum.now)) }
-    ensures quot { IfMade result (λ p. Agree (slice_index counts.now) (value (plain_sum p.quot))
-        (λ vs. value (plain_sum sum.now) vs / s)) }
-    ensures rem { IfMade result (λ p. Agree (slice_index counts.now) (value (plain_sum p.rem))
-        (λ vs. value (plain_sum sum.now) vs % s)) }
-    ensures quot_affine { IfMade result (λ p. IsAffineBelow counts.now (plain_sum p.quot)) }
-    ensures rem_affine { IfMade result (λ p. IsAffineBelow counts.now (plain_sum p.rem)) }
+    requires affine { IsSumOver counts.now sum.now }
+    requires fits { FitsOver counts.now sum.now }
+    ensures quot { IfMade result (λ p. IsImage counts.now (λ i. i / s) sum.now p.quot) }
+    ensures rem { IfMade result (λ p. IsImage counts.now (λ i. i % s) sum.now p.rem) }
+    ensures quot_affine { IfMade result (λ p. IsSumOver counts.now p.quot) }
+    ensures rem_affine { IfMade result (λ p. IsSumOver counts.now p.rem) }
     ensures quot_form { IfMade result (λ p.
         plain_sum p.quot ≡ (divided (slice_index counts.now) s (plain_sum sum.now)).quot) }
     ensures rem_form { IfMade result (λ p.
@@ -310,17 +285,16 @@ fn reduce_in_room(
     sum: &Affine,
 ) -> Result<Option<Affine>, NoMemory>
     requires divisor { 0 < n }
-    requires affine { IsAffineBelow counts.now (plain_sum sum.now) }
-    requires fits { Stays (slice_index counts.now) (value (plain_sum sum.now)) }
+    requires affine { IsSumOver counts.now sum.now }
+    requires fits { FitsOver counts.now sum.now }
     ensures some { IfMade result (λ a.
         plain_sum a ≡ reduced (slice_index counts.now) n (plain_sum sum.now)) }
     ensures room { IfMade result (λ a.
         has_top (slice_index counts.now) (mods n (plain_sum sum.now)) ≡ true) }
     ensures none { IfRefused result
         (has_top (slice_index counts.now) (mods n (plain_sum sum.now)) ≡ false) }
-    ensures value { IfMade result (λ a. Agree (slice_index counts.now) (value (plain_sum a))
-        (λ vs. value (plain_sum sum.now) vs % n)) }
-    ensures affine { IfMade result (λ a. IsAffineBelow counts.now (plain_sum a)) }
+    ensures value { IfMade result (IsImage counts.now (λ i. i % n) sum.now) }
+    ensures affine { IfMade result (IsSumOver counts.now) }
 {
     let small = residues(alloc, n, sum)?;
     match top_of(counts, &small) {
@@ -334,14 +308,13 @@ fn reduce_in_room(
 
 // `k` times the sum, if each factor fits.
 fn scale_in_room(counts: &[u64], k: u64, sum: Affine) -> Option<Affine>
-    requires affine { IsAffineBelow counts.now (plain_sum sum) }
-    requires fits { Stays (slice_index counts.now) (λ vs. k * value (plain_sum sum) vs) }
+    requires affine { IsSumOver counts.now sum }
+    requires fits { EachValue counts.now (λ i. k * i < 2 ^ 64) sum }
     ensures some { ForSome result (λ a. plain_sum a ≡ scaled k (plain_sum sum)) }
     ensures room { ForSome result (λ a. can_scale k (plain_sum sum) ≡ true) }
     ensures none { ForNone result (can_scale k (plain_sum sum) ≡ false) }
-    ensures value { ForSome result (λ a. Agree (slice_index counts.now) (value (plain_sum a))
-        (λ vs. k * value (plain_sum sum) vs)) }
-    ensures affine { ForSome result (λ a. IsAffineBelow counts.now (plain_sum a)) }
+    ensures value { ForSome result (IsImage counts.now (λ i. k * i) sum) }
+    ensures affine { ForSome result (IsSumOver counts.now) }
 {
     if k.checked_mul(greatest_factor(&sum)).is_none() {
         return None;
@@ -351,17 +324,15 @@ fn scale_in_room(counts: &[u64], k: u64, sum: Affine) -> Option<Affine>
 
 // `k` times a sum, and another, if each factor and the constant fit.
 fn scale_and_join(counts: &[u64], k: u64, a: Affine, b: Affine) -> Option<Affine>
-    requires affine { IsAffineBelow counts.now (plain_sum a) }
-    requires affine_too { IsAffineBelow counts.now (plain_sum b) }
-    requires fits { Stays (slice_index counts.now)
-        (λ vs. k * value (plain_sum a) vs + value (plain_sum b) vs) }
+    requires affine { IsSumOver counts.now a }
+    requires affine_too { IsSumOver counts.now b }
+    requires fits { EachTwo counts.now (λ i j. k * i + j < 2 ^ 64) a b }
     ensures some { ForSome result (λ c.
         plain_sum c ≡ joined (scaled k (plain_sum a)) (plain_sum b)) }
     ensures room { ForSome result (λ c. can_scale_and_join k (plain_sum a) (plain_sum b) ≡ true) }
     ensures none { ForNone result (can_scale_and_join k (plain_sum a) (plain_sum b) ≡ false) }
-    ensures value { ForSome result (λ c. Agree (slice_index counts.now) (value (plain_sum c))
-        (λ vs. k * value (plain_sum a) vs + value (plain_sum b) vs)) }
-    ensures affine { ForSome result (λ c. IsAffineBelow counts.now (plain_sum c)) }
+    ensures value { ForSome result (IsImageOfTwo counts.now (λ i j. k * i + j) a b) }
+    ensures affine { ForSome result (IsSumOver counts.now) }
 {
     let multiple = scale_in_room(counts, k, a)?;
     join_in_room(counts, multiple, b)
@@ -369,16 +340,14 @@ fn scale_and_join(counts: &[u64], k: u64, a: Affine, b: Affine) -> Option<Affine
 
 // The sum of two sums, if its constant fits.
 fn join_in_room(counts: &[u64], a: Affine, b: Affine) -> Option<Affine>
-    requires affine { IsAffineBelow counts.now (plain_sum a) }
-    requires affine_too { IsAffineBelow counts.now (plain_sum b) }
-    requires fits { Stays (slice_index counts.now)
-        (λ vs. value (plain_sum a) vs + value (plain_sum b) vs) }
+    requires affine { IsSumOver counts.now a }
+    requires affine_too { IsSumOver counts.now b }
+    requires fits { EachTwo counts.now (λ i j. i + j < 2 ^ 64) a b }
     ensures some { ForSome result (λ c. plain_sum c ≡ joined (plain_sum a) (plain_sum b)) }
     ensures room { ForSome result (λ c. can_join (plain_sum a) (plain_sum b) ≡ true) }
     ensures none { ForNone result (can_join (plain_sum a) (plain_sum b) ≡ false) }
-    ensures value { ForSome result (λ c. Agree (slice_index counts.now) (value (plain_sum c))
-        (λ vs. value (plain_sum a) vs + value (plain_sum b) vs)) }
-    ensures affine { ForSome result (λ c. IsAffineBelow counts.now (plain_sum c)) }
+    ensures value { ForSome result (IsImageOfTwo counts.now (λ i j. i + j) a b) }
+    ensures affine { ForSome result (IsSumOver counts.now) }
 {
     if constant_of(&a).checked_add(constant_of(&b)).is_none() {
         return None;
