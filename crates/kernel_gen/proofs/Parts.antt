@@ -5,65 +5,67 @@ use Rattle.operators.specs.Identities.{turn}
 use Rattle.operators.specs.Operator.{good_thomas_in, good_thomas_out}
 use Rattle.operators.specs.Operator.{gather}
 use Rattle.operators.specs.Sum.{list_below}
-use Rattle.ring_mod.specs.Residue.{power_mod}
 use Rattle.tree_model.specs.declared.tree.Rule.{Rule}
 use Rattle.tree_model.specs.declared.tree.Rule.TheVariants.{Gt, Ct, Split}
 use Rattle.tree_model.specs.Breakdown.{Breakdown, node, size_of}
 use Rattle.rooted_trees.specs.Trees.{PlainTrees, single, tensor, trees_size}
 use Rattle.kernel_gen.specs.declared.straight.Kernel.{Kernel as KernelRecord}
 use Rattle.kernel_gen.specs.declared.straight.Instruction.{Instruction}
+use Rattle.kernel_gen.specs.declared.transform.Transform.{Transform}
 use Rattle.kernel_gen.specs.declared.writer.Writer.{Writer}
 use Rattle.kernel_gen.specs.Making.{Made, Maker, pick_make, then_make, rows_make}
 use Rattle.kernel_gen.specs.Kernel.{columns_make, twiddled_make, node_make, tree_make, trees_make}
 use Rattle.kernel_gen.specs.Kernels.{made_of}
-use Rattle.kernel_gen.specs.Writing.{next_of, Wrote}
+use Rattle.kernel_gen.specs.Writing.{make_of, next_of, part_of, Wrote}
 use Rattle.kernel_gen.proofs.Reduced.{tree-reduced}
 use Rattle.kernel_gen.proofs.Writes.{wrote-pick, wrote-then}
 
--- the parts of a tree, as the code has them: the trees, their sizes, and their roots
-pub record ArePartsOf (m : ℕ) (rule : Rule) (tree a b : Breakdown) (root r s left right : ℕ) : Type 0 where
+-- the parts of a tree, as the code has them: the trees, their sizes, and their transforms
+pub record ArePartsOf (transform left right : Transform) (rule : Rule) (tree a b : Breakdown) (r s : ℕ) : Type 0 where
   pub tree_is : tree ≡ node rule a b
   pub r_is : r ≡ size_of a
   pub s_is : s ≡ size_of b
-  pub left_is : left ≡ power_mod m root s
-  pub right_is : right ≡ power_mod m root r
+  pub left_is : left ≡ part_of transform s
+  pub right_is : right ≡ part_of transform r
 
-module _ (m : ℕ) (kind : Kind) (tree a b : Breakdown) (root r s left right : ℕ) where
-  wrote-node : (rule : Rule) (old new : Writer) (ins outs : List ℕ) → ArePartsOf m rule tree a b root r s left right →
-      Wrote old new (node_make m rule r s root (tree_make m kind a left) (tree_make m kind b right)) ins outs → Wrote old new (tree_make m kind tree root) ins outs
+module _ (transform left right : Transform) (tree a b : Breakdown) (r s : ℕ) where
+  wrote-node : (rule : Rule) (old new : Writer) (ins outs : List ℕ) → ArePartsOf transform left right rule tree a b r s →
+      Wrote old new (node_make transform.modulus.now rule r s transform.root (make_of left a) (make_of right b)) ins outs → Wrote old new (make_of transform tree) ins outs
   wrote-node rule old new ins outs parts whole =
-      let P = λ (p q u v : ℕ). Wrote old new (node_make m rule p q root (tree_make m kind a u) (tree_make m kind b v)) ins outs in
-      let left_end : left ≡ power_mod m root (size_of b) = parts.left_is ∙ ap (power_mod m root) parts.s_is in
-      let right_end : right ≡ power_mod m root (size_of a) = parts.right_is ∙ ap (power_mod m root) parts.r_is in
-      subst (λ (z : Breakdown). Wrote old new (tree_make m kind z root) ins outs) (sym parts.tree_is)
-      (subst (λ v. P (size_of a) (size_of b) (power_mod m root (size_of b)) v) right_end
+      let P = λ (p q : ℕ) (u v : Transform). Wrote old new (node_make transform.modulus.now rule p q transform.root (make_of u a) (make_of v b)) ins outs in
+      let left_end : left ≡ part_of transform (size_of b) = parts.left_is ∙ ap (part_of transform) parts.s_is in
+      let right_end : right ≡ part_of transform (size_of a) = parts.right_is ∙ ap (part_of transform) parts.r_is in
+      subst (λ (z : Breakdown). Wrote old new (make_of transform z) ins outs) (sym parts.tree_is)
+      (subst (λ v. P (size_of a) (size_of b) (part_of transform (size_of b)) v) right_end
       (subst (λ u. P (size_of a) (size_of b) u right) left_end
       (subst (λ q. P (size_of a) q left right) parts.s_is
       (subst (λ p. P p s left right) parts.r_is whole))))
 
-  pub wrote_ct : (old mid new : Writer) (ins x y z : List ℕ) → ArePartsOf m Ct tree a b root r s left right → x ≡ turn r s ins →
-      Wrote old mid (rows_make r s (twiddled_make m s root (tree_make m kind b right))) x y →
-      Wrote mid new (columns_make r s (tree_make m kind a left)) y z → Wrote old new (tree_make m kind tree root) ins z
+  pub wrote_ct : (old mid new : Writer) (ins x y z : List ℕ) → ArePartsOf transform left right Ct tree a b r s → x ≡ turn r s ins →
+      Wrote old mid (rows_make r s (twiddled_make right.modulus.now s transform.root (make_of right b))) x y →
+      Wrote mid new (columns_make r s (make_of left a)) y z → Wrote old new (make_of transform tree) ins z
   wrote_ct old mid new ins x y z parts x_is p q =
-      let rows : Maker = rows_make r s (twiddled_make m s root (tree_make m kind b right)) in
-      let columns : Maker = columns_make r s (tree_make m kind a left) in
+      let rows : Maker = rows_make r s (twiddled_make transform.modulus.now s transform.root (make_of right b)) in
+      let columns : Maker = columns_make r s (make_of left a) in
+      let same : right.modulus.now ≡ transform.modulus.now = ap (λ (z : Transform). z.modulus.now) parts.right_is in
       wrote-node Ct old new ins z parts
       (wrote-then old old new (pick_make (turn r s)) (then_make rows columns) ins x z (wrote-pick old (turn r s) ins x x_is)
-      (wrote-then old mid new rows columns x y z p q))
+      (wrote-then old mid new rows columns x y z
+      (subst (λ m. Wrote old mid (rows_make r s (twiddled_make m s transform.root (make_of right b))) x y) same p) q))
 
-  pub wrote_split : (old mid new : Writer) (ins y z : List ℕ) → ArePartsOf m Split tree a b root r s left right →
-      Wrote old mid (rows_make r s (λ _. tree_make m kind b right)) ins y →
-      Wrote mid new (columns_make r s (tree_make m kind a left)) y z → Wrote old new (tree_make m kind tree root) ins z
+  pub wrote_split : (old mid new : Writer) (ins y z : List ℕ) → ArePartsOf transform left right Split tree a b r s →
+      Wrote old mid (rows_make r s (λ _. make_of right b)) ins y →
+      Wrote mid new (columns_make r s (make_of left a)) y z → Wrote old new (make_of transform tree) ins z
   wrote_split old mid new ins y z parts p q =
-      wrote-node Split old new ins z parts (wrote-then old mid new (rows_make r s (λ _. tree_make m kind b right)) (columns_make r s (tree_make m kind a left)) ins y z p q)
+      wrote-node Split old new ins z parts (wrote-then old mid new (rows_make r s (λ _. make_of right b)) (columns_make r s (make_of left a)) ins y z p q)
 
-  pub wrote_gt : (old mid new : Writer) (ins x y z outs : List ℕ) → ArePartsOf m Gt tree a b root r s left right → x ≡ gather (r * s) (good_thomas_in r s) ins →
-      Wrote old mid (rows_make r s (λ _. tree_make m kind b right)) x y →
-      Wrote mid new (columns_make r s (tree_make m kind a left)) y z →
-      outs ≡ gather (r * s) (good_thomas_out r s) z → Wrote old new (tree_make m kind tree root) ins outs
+  pub wrote_gt : (old mid new : Writer) (ins x y z outs : List ℕ) → ArePartsOf transform left right Gt tree a b r s → x ≡ gather (r * s) (good_thomas_in r s) ins →
+      Wrote old mid (rows_make r s (λ _. make_of right b)) x y →
+      Wrote mid new (columns_make r s (make_of left a)) y z →
+      outs ≡ gather (r * s) (good_thomas_out r s) z → Wrote old new (make_of transform tree) ins outs
   wrote_gt old mid new ins x y z outs parts x_is p q outs_are =
-      let rows : Maker = rows_make r s (λ _. tree_make m kind b right) in
-      let columns : Maker = columns_make r s (tree_make m kind a left) in
+      let rows : Maker = rows_make r s (λ _. make_of right b) in
+      let columns : Maker = columns_make r s (make_of left a) in
       let back : Maker = pick_make (gather (r * s) (good_thomas_out r s)) in
       wrote-node Gt old new ins outs parts
       (wrote-then old old new (pick_make (gather (r * s) (good_thomas_in r s))) (then_make rows (then_make columns back)) ins x outs (wrote-pick old (gather (r * s) (good_thomas_in r s)) ins x x_is)

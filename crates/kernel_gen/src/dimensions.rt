@@ -5,6 +5,7 @@ ghost use Rattle.kernel_gen.specs.Making.{rows_make};
 ghost use Rattle.kernel_gen.specs.Writing.{Wrote};
 ghost use Rattle.rooted_trees.specs.Trees.{plain_trees, trees_size, AreWords};
 
+use crate::transform::{Grid, Transform};
 use crate::writer::Writer;
 use memory::NoMemory;
 use ring_mod::Modulus;
@@ -12,30 +13,30 @@ use rooted_trees::RootedTrees;
 use std::alloc::Global;
 
 impl Writer {
-    /// The code of trees for each of r rows of s inputs.
+    /// The code of trees for each row of inputs.
     #[cycle(trees)]
     fn put_trees_in_rows(
         &mut self,
         alloc: Global,
         m: &Modulus,
         trees: &RootedTrees,
-        r: u64,
-        s: u64,
+        grid: Grid,
         ins: &[u64],
     ) -> Result<Vec<u64>, NoMemory>
         requires inputs { self.old.inputs < 2 ^ 32 }
         requires words { AreWords (plain_trees trees.now) }
-        requires row { s ≡ trees_size (plain_trees trees.now) }
-        requires size { length ins.now ≡ r * s }
+        requires row { grid.columns ≡ trees_size (plain_trees trees.now) }
+        requires size { length ins.now ≡ grid.rows * grid.columns }
         ensures code { IfOk result (λ y. Wrote self.old self.new
-            (rows_make r s (λ _. trees_make m.now (plain_trees trees.now)))
+            (rows_make grid.rows grid.columns (λ _. trees_make m.now (plain_trees trees.now)))
             ins.now y.items) }
-        ensures size { IfOk result (λ y. vec_len y ≡ r * s) }
+        ensures size { IfOk result (λ y. vec_len y ≡ grid.rows * grid.columns) }
     {
         let mut outs = Vec::with_capacity(alloc, ins.len())?;
-        for i in 0..r {
-            let start = (i * s) as usize;
-            let row = self.put_trees(alloc, m, trees, &ins[start..start + s as usize])?;
+        for i in 0..grid.rows {
+            let start = (i * grid.columns) as usize;
+            let end = start + grid.columns as usize;
+            let row = self.put_trees(alloc, m, trees, &ins[start..end])?;
             outs.extend_from_slice(&row)?;
         }
         Ok(outs)
@@ -59,16 +60,26 @@ impl Writer {
     {
         match trees {
             RootedTrees::Single(only) => {
-                let root = m.reduce(only.root);
-                let outs = self.put_tree(alloc, m, only.kind, &only.tree, root, ins)?;
+                let transform = Transform {
+                    modulus: m,
+                    kind: only.kind,
+                    root: m.reduce(only.root),
+                };
+                let outs = self.put_tree(alloc, &transform, &only.tree, ins)?;
                 Ok(outs)
             }
             RootedTrees::Tensor(first, others) => {
-                let r = first.tree.size();
-                let s = others.size();
-                let root = m.reduce(first.root);
-                let rows = self.put_trees_in_rows(alloc, m, others, r, s, ins)?;
-                let outs = self.put_columns(alloc, m, first.kind, &first.tree, root, r, s, &rows)?;
+                let transform = Transform {
+                    modulus: m,
+                    kind: first.kind,
+                    root: m.reduce(first.root),
+                };
+                let grid = Grid {
+                    rows: first.tree.size(),
+                    columns: others.size(),
+                };
+                let rows = self.put_trees_in_rows(alloc, m, others, grid, ins)?;
+                let outs = self.put_columns(alloc, &transform, &first.tree, grid, &rows)?;
                 Ok(outs)
             }
         }

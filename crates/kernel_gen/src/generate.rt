@@ -8,6 +8,7 @@ ghost use Rattle.kernel_gen.specs.Writing.{next_of};
 ghost use Rattle.kernel_gen.specs.Kernels.{made_of, CostsDefinition, CostsNode, IsStraight, TransformsBy, TransformsNode};
 
 use crate::straight::Kernel;
+use crate::transform::Transform;
 use crate::writer::Writer;
 use matrix_meaning::Kind;
 use memory::NoMemory;
@@ -88,7 +89,12 @@ fn tree_kernel(
     let inputs = t.size();
     let first = first_registers(alloc, inputs)?;
     let mut writer = begun(alloc, inputs);
-    let outputs = writer.put_tree(alloc, modulus, kind, t, modulus.reduce(root), &first)?;
+    let transform = Transform {
+        modulus,
+        kind,
+        root: modulus.reduce(root),
+    };
+    let outputs = writer.put_tree(alloc, &transform, t, &first)?;
     Ok(ended(writer, outputs))
 }
 

@@ -7,6 +7,7 @@ mod matrix;
 mod nodes;
 mod places;
 mod straight;
+mod transform;
 mod writer;
 
 pub use generate::{dft_kernel, kernel, trees_kernel};

@@ -2,45 +2,42 @@
 ghost use Rattle.std.specs.Prelude.{◌≡◌, ℕ, ◌+◌, ◌*◌, ◌^◌, ◌<◌, ◌≤◌, length, vec_len, IfOk};
 ghost use Rattle.tree_model.specs.Breakdown.{breakdown_of, size_of, HasWordSizes};
 ghost use Rattle.kernel_gen.specs.Making.{rows_make};
-ghost use Rattle.kernel_gen.specs.Kernel.{columns_make, twiddled_make, tree_make};
-ghost use Rattle.kernel_gen.specs.Writing.{Wrote};
+ghost use Rattle.kernel_gen.specs.Kernel.{columns_make};
+ghost use Rattle.kernel_gen.specs.Writing.{make_of, twiddled_of, IsReduced, Wrote};
 
 use crate::places::{put_back, taken, turned};
+use crate::transform::{Grid, Transform};
 use crate::writer::Writer;
-use matrix_meaning::Kind;
 use memory::NoMemory;
-use ring_mod::Modulus;
 use std::alloc::Global;
 use tree_model::Tree;
 
 impl Writer {
-    /// The code of a tree for each of r rows of s inputs.
+    /// The code of a tree for each row of inputs.
     #[cycle(tree)]
     fn put_rows(
         &mut self,
         alloc: Global,
-        m: &Modulus,
-        kind: Kind,
-        t: &Tree,
-        root: u64,
-        r: u64,
-        s: u64,
+        transform: &Transform,
+        tree: &Tree,
+        grid: Grid,
         ins: &[u64],
     ) -> Result<Vec<u64>, NoMemory>
         requires inputs { self.old.inputs < 2 ^ 32 }
-        requires root { root < m.now }
-        requires words { HasWordSizes (breakdown_of t.now) }
-        requires row { s ≡ size_of (breakdown_of t.now) }
-        requires size { length ins.now ≡ r * s }
+        requires root { IsReduced transform.now }
+        requires words { HasWordSizes (breakdown_of tree.now) }
+        requires row { grid.columns ≡ size_of (breakdown_of tree.now) }
+        requires size { length ins.now ≡ grid.rows * grid.columns }
         ensures code { IfOk result (λ y. Wrote self.old self.new
-            (rows_make r s (λ _. tree_make m.now kind (breakdown_of t.now) root))
+            (rows_make grid.rows grid.columns (λ _. make_of transform.now (breakdown_of tree.now)))
             ins.now y.items) }
-        ensures size { IfOk result (λ y. vec_len y ≡ r * s) }
+        ensures size { IfOk result (λ y. vec_len y ≡ grid.rows * grid.columns) }
     {
         let mut outs = Vec::with_capacity(alloc, ins.len())?;
-        for i in 0..r {
-            let start = (i * s) as usize;
-            let row = self.put_tree(alloc, m, kind, t, root, &ins[start..start + s as usize])?;
+        for i in 0..grid.rows {
+            let start = (i * grid.columns) as usize;
+            let end = start + grid.columns as usize;
+            let row = self.put_tree(alloc, transform, tree, &ins[start..end])?;
             outs.extend_from_slice(&row)?;
         }
         Ok(outs)
@@ -51,61 +48,62 @@ impl Writer {
     fn put_twiddled_rows(
         &mut self,
         alloc: Global,
-        m: &Modulus,
-        kind: Kind,
-        t: &Tree,
-        root: u64,
+        transform: &Transform,
+        tree: &Tree,
         twiddle: u64,
-        r: u64,
-        s: u64,
+        grid: Grid,
         ins: &[u64],
     ) -> Result<Vec<u64>, NoMemory>
         requires inputs { self.old.inputs < 2 ^ 32 }
-        requires root { root < m.now }
-        requires twiddle { twiddle < m.now }
-        requires words { HasWordSizes (breakdown_of t.now) }
-        requires row { s ≡ size_of (breakdown_of t.now) }
-        requires size { length ins.now ≡ r * s }
-        ensures code { let tree = tree_make m.now kind (breakdown_of t.now) root in
+        requires root { IsReduced transform.now }
+        requires twiddle { twiddle < transform.now.modulus.now }
+        requires words { HasWordSizes (breakdown_of tree.now) }
+        requires row { grid.columns ≡ size_of (breakdown_of tree.now) }
+        requires size { length ins.now ≡ grid.rows * grid.columns }
+        ensures code { let row = twiddled_of transform.now grid.columns twiddle
+            (breakdown_of tree.now) in
             IfOk result (λ y. Wrote self.old self.new
-            (rows_make r s (twiddled_make m.now s twiddle tree)) ins.now y.items) }
-        ensures size { IfOk result (λ y. vec_len y ≡ r * s) }
+            (rows_make grid.rows grid.columns row) ins.now y.items) }
+        ensures size { IfOk result (λ y. vec_len y ≡ grid.rows * grid.columns) }
     {
         let mut outs = Vec::with_capacity(alloc, ins.len())?;
-        for i in 0..r {
-            let start = (i * s) as usize;
-            let row = self.put_tree(alloc, m, kind, t, root, &ins[start..start + s as usize])?;
-            let row = self.put_twiddles(alloc, m, twiddle, i, &row)?;
+        for i in 0..grid.rows {
+            let start = (i * grid.columns) as usize;
+            let end = start + grid.columns as usize;
+            let row = self.put_tree(alloc, transform, tree, &ins[start..end])?;
+            let row = self.put_twiddles(alloc, transform.modulus, twiddle, i, &row)?;
             outs.extend_from_slice(&row)?;
         }
         Ok(outs)
     }
 
-    /// The code of a tree for each of s columns of r inputs.
+    /// The code of a tree for each column of inputs.
     #[cycle(tree)]
     pub(crate) fn put_columns(
         &mut self,
         alloc: Global,
-        m: &Modulus,
-        kind: Kind,
-        t: &Tree,
-        root: u64,
-        r: u64,
-        s: u64,
+        transform: &Transform,
+        tree: &Tree,
+        grid: Grid,
         ins: &[u64],
     ) -> Result<Vec<u64>, NoMemory>
         requires inputs { self.old.inputs < 2 ^ 32 }
-        requires root { root < m.now }
-        requires words { HasWordSizes (breakdown_of t.now) }
-        requires column { r ≡ size_of (breakdown_of t.now) }
-        requires size { length ins.now ≡ r * s }
+        requires root { IsReduced transform.now }
+        requires words { HasWordSizes (breakdown_of tree.now) }
+        requires column { grid.rows ≡ size_of (breakdown_of tree.now) }
+        requires size { length ins.now ≡ grid.rows * grid.columns }
         ensures code { IfOk result (λ y. Wrote self.old self.new
-            (columns_make r s (tree_make m.now kind (breakdown_of t.now) root)) ins.now y.items) }
-        ensures size { IfOk result (λ y. vec_len y ≡ r * s) }
+            (columns_make grid.rows grid.columns (make_of transform.now (breakdown_of tree.now)))
+            ins.now y.items) }
+        ensures size { IfOk result (λ y. vec_len y ≡ grid.rows * grid.columns) }
     {
-        let columns = turned(alloc, s, r, ins)?;
-        let done = self.put_rows(alloc, m, kind, t, root, s, r, &columns)?;
-        let back = turned(alloc, r, s, &done)?;
+        let across = Grid {
+            rows: grid.columns,
+            columns: grid.rows,
+        };
+        let columns = turned(alloc, across, ins)?;
+        let done = self.put_rows(alloc, transform, tree, across, &columns)?;
+        let back = turned(alloc, grid, &done)?;
         Ok(back)
     }
 
@@ -114,54 +112,45 @@ impl Writer {
     pub(crate) fn put_tree(
         &mut self,
         alloc: Global,
-        m: &Modulus,
-        kind: Kind,
-        t: &Tree,
-        root: u64,
+        transform: &Transform,
+        tree: &Tree,
         ins: &[u64],
     ) -> Result<Vec<u64>, NoMemory>
         requires inputs { self.old.inputs < 2 ^ 32 }
-        requires root { root < m.now }
-        requires words { HasWordSizes (breakdown_of t.now) }
-        requires size { length ins.now ≡ size_of (breakdown_of t.now) }
+        requires root { IsReduced transform.now }
+        requires words { HasWordSizes (breakdown_of tree.now) }
+        requires size { length ins.now ≡ size_of (breakdown_of tree.now) }
         ensures code { IfOk result (λ y. Wrote self.old self.new
-            (tree_make m.now kind (breakdown_of t.now) root) ins.now y.items) }
-        ensures size { IfOk result (λ y. vec_len y ≡ size_of (breakdown_of t.now)) }
+            (make_of transform.now (breakdown_of tree.now)) ins.now y.items) }
+        ensures size { IfOk result (λ y. vec_len y ≡ size_of (breakdown_of tree.now)) }
     {
-        match t {
-            Tree::Leaf(_) => self.put_matrix(alloc, m, kind, root, ins),
+        match tree {
+            Tree::Leaf(_) => self.put_matrix(alloc, transform, ins),
             Tree::Gt(a, b) => {
-                let r = a.size();
-                let s = b.size();
-                let rows = taken(alloc, r, s, ins)?;
-                let inner = self.put_rows(alloc, m, kind, b, m.pow(root, r), r, s, &rows)?;
-                let outer = self.put_columns(alloc, m, kind, a, m.pow(root, s), r, s, &inner)?;
-                let outs = put_back(alloc, r, s, &outer)?;
+                let grid = Grid::of_parts(a, b);
+                let left = transform.part(grid.columns);
+                let right = transform.part(grid.rows);
+                let rows = taken(alloc, grid, ins)?;
+                let inner = self.put_rows(alloc, &right, b, grid, &rows)?;
+                let outer = self.put_columns(alloc, &left, a, grid, &inner)?;
+                let outs = put_back(alloc, grid, &outer)?;
                 Ok(outs)
             }
             Tree::Ct(a, b) => {
-                let r = a.size();
-                let s = b.size();
-                let rows = turned(alloc, r, s, ins)?;
-                let inner = self.put_twiddled_rows(
-                    alloc,
-                    m,
-                    kind,
-                    b,
-                    m.pow(root, r),
-                    root,
-                    r,
-                    s,
-                    &rows,
-                )?;
-                let outs = self.put_columns(alloc, m, kind, a, m.pow(root, s), r, s, &inner)?;
+                let grid = Grid::of_parts(a, b);
+                let left = transform.part(grid.columns);
+                let right = transform.part(grid.rows);
+                let rows = turned(alloc, grid, ins)?;
+                let inner = self.put_twiddled_rows(alloc, &right, b, transform.root, grid, &rows)?;
+                let outs = self.put_columns(alloc, &left, a, grid, &inner)?;
                 Ok(outs)
             }
             Tree::Split(a, b) => {
-                let r = a.size();
-                let s = b.size();
-                let inner = self.put_rows(alloc, m, kind, b, m.pow(root, r), r, s, ins)?;
-                let outs = self.put_columns(alloc, m, kind, a, m.pow(root, s), r, s, &inner)?;
+                let grid = Grid::of_parts(a, b);
+                let left = transform.part(grid.columns);
+                let right = transform.part(grid.rows);
+                let inner = self.put_rows(alloc, &right, b, grid, ins)?;
+                let outs = self.put_columns(alloc, &left, a, grid, &inner)?;
                 Ok(outs)
             }
         }

@@ -4,6 +4,7 @@ ghost use Rattle.operators.specs.Identities.{turn};
 ghost use Rattle.operators.specs.Operator.{good_thomas_in, good_thomas_out};
 ghost use Rattle.operators.specs.Operator.{gather, stride};
 
+use crate::transform::Grid;
 use memory::NoMemory;
 use std::alloc::Global;
 
@@ -18,16 +19,17 @@ fn stride_at(r: u64, s: u64, p: u64) -> u64
     (p % s) * r + p / s
 }
 
-/// Rows of s become columns.
-pub(crate) fn turned(alloc: Global, r: u64, s: u64, x: &[u64]) -> Result<Vec<u64>, NoMemory>
-    requires room { r * s < 2 ^ 63 }
-    requires size { length x.now ≡ r * s }
-    ensures value { IfOk result (λ y. y.items ≡ turn r s x.now) }
-    ensures size { IfOk result (λ y. vec_len y ≡ r * s) }
+/// Rows become columns.
+pub(crate) fn turned(alloc: Global, grid: Grid, x: &[u64]) -> Result<Vec<u64>, NoMemory>
+    requires room { grid.rows * grid.columns < 2 ^ 63 }
+    requires size { length x.now ≡ grid.rows * grid.columns }
+    ensures value { IfOk result (λ y. y.items ≡ turn grid.rows grid.columns x.now) }
+    ensures size { IfOk result (λ y. vec_len y ≡ grid.rows * grid.columns) }
 {
+    let Grid { rows, columns } = grid;
     Ok(
-        (0..r * s)
-            .map(|p| x[stride_at(r, s, p) as usize])
+        (0..rows * columns)
+            .map(|p| x[stride_at(rows, columns, p) as usize])
             .collect(alloc)?,
     )
 }
@@ -43,15 +45,17 @@ fn good_thomas_in_at(r: u64, s: u64, p: u64) -> u64
 }
 
 /// The inputs of a transform by Good and Thomas.
-pub(crate) fn taken(alloc: Global, r: u64, s: u64, x: &[u64]) -> Result<Vec<u64>, NoMemory>
-    requires room { r * s < 2 ^ 63 }
-    requires size { length x.now ≡ r * s }
-    ensures value { IfOk result (λ y. y.items ≡ gather (r * s) (good_thomas_in r s) x.now) }
-    ensures size { IfOk result (λ y. vec_len y ≡ r * s) }
+pub(crate) fn taken(alloc: Global, grid: Grid, x: &[u64]) -> Result<Vec<u64>, NoMemory>
+    requires room { grid.rows * grid.columns < 2 ^ 63 }
+    requires size { length x.now ≡ grid.rows * grid.columns }
+    ensures value { IfOk result (λ y. y.items
+        ≡ gather (grid.rows * grid.columns) (good_thomas_in grid.rows grid.columns) x.now) }
+    ensures size { IfOk result (λ y. vec_len y ≡ grid.rows * grid.columns) }
 {
+    let Grid { rows, columns } = grid;
     Ok(
-        (0..r * s)
-            .map(|p| x[good_thomas_in_at(r, s, p) as usize])
+        (0..rows * columns)
+            .map(|p| x[good_thomas_in_at(rows, columns, p) as usize])
             .collect(alloc)?,
     )
 }
@@ -67,15 +71,17 @@ fn good_thomas_out_at(r: u64, s: u64, k: u64) -> u64
 }
 
 /// The outputs of a transform by Good and Thomas.
-pub(crate) fn put_back(alloc: Global, r: u64, s: u64, x: &[u64]) -> Result<Vec<u64>, NoMemory>
-    requires room { r * s < 2 ^ 63 }
-    requires size { length x.now ≡ r * s }
-    ensures value { IfOk result (λ y. y.items ≡ gather (r * s) (good_thomas_out r s) x.now) }
-    ensures size { IfOk result (λ y. vec_len y ≡ r * s) }
+pub(crate) fn put_back(alloc: Global, grid: Grid, x: &[u64]) -> Result<Vec<u64>, NoMemory>
+    requires room { grid.rows * grid.columns < 2 ^ 63 }
+    requires size { length x.now ≡ grid.rows * grid.columns }
+    ensures value { IfOk result (λ y. y.items
+        ≡ gather (grid.rows * grid.columns) (good_thomas_out grid.rows grid.columns) x.now) }
+    ensures size { IfOk result (λ y. vec_len y ≡ grid.rows * grid.columns) }
 {
+    let Grid { rows, columns } = grid;
     Ok(
-        (0..r * s)
-            .map(|k| x[good_thomas_out_at(r, s, k) as usize])
+        (0..rows * columns)
+            .map(|k| x[good_thomas_out_at(rows, columns, k) as usize])
             .collect(alloc)?,
     )
 }

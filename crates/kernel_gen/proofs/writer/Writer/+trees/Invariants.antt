@@ -8,5 +8,5 @@ use Rattle.rooted_trees.specs.Trees.{plain_trees}
 -- the rows so far
 abbrev pub invariant-put_trees_in_rows-loop-i : goal.invariant-put_trees_in_rows-loop-i
 invariant-put_trees_in_rows-loop-i l =
-    Wrote l.initial.self l.self (rows_make l.i l.s (λ _. trees_make l.m (plain_trees l.trees))) l.ins l.outs.items
-    × (vec_len l.outs ≡ l.i * l.s)
+    Wrote l.initial.self l.self (rows_make l.i l.grid.columns (λ _. trees_make l.m (plain_trees l.trees))) l.ins l.outs.items
+    × (vec_len l.outs ≡ l.i * l.grid.columns)
