@@ -7,3 +7,4 @@ pub mod Faults
 pub mod Laws
 pub mod Live
 pub mod Joined
+pub mod Workers

@@ -10,7 +10,7 @@ ghost use Rattle.code_check.specs.Faults.{fault_of};
 use crate::fault::CheckFault;
 use crate::lines::{LineUse, Sharing, first_sharing};
 use crate::live::live_of;
-use crate::walk::{MAX_DEPTH, Offence, walk_body};
+use crate::walk::{MAX_DEPTH, Offence, Worker, walk_body};
 use icode::program::Program;
 use memory::NoMemory;
 use std::alloc::Global;
@@ -61,7 +61,8 @@ pub(crate) fn check_phase(
     let mut values = [0; MAX_DEPTH];
     for proc in 0..program.procs {
         let mut count = 0;
-        let walk = walk_body(&body, program, &mut values, 0, proc, &mut count, &mut lines);
+        let worker = Worker { program, proc };
+        let walk = walk_body(&body, &worker, &mut values, 0, &mut count, &mut lines);
         if let Err(offence) = walk {
             return Err(fault_of(offence, phase as u64, proc, count));
         }

@@ -15,7 +15,8 @@ fn ends_by(first: u64, count: u64, end: u64) -> bool
 /// Whether all registers of the operation are there, and those of a tile don't meet.
 pub(crate) fn registers_fit(program: &Program, op: &Op) -> bool
     ensures { (vs : List ℕ) (q : ℕ) → result
-        ≡ registers_fit program.now.regs program.now.lanes (op_step program.now op.now vs q).action }
+        ≡ registers_fit program.now.regs program.now.lanes
+        (op_step program.now op.now vs q).action }
 {
     let regs = program.regs;
     let lanes = program.lanes;

@@ -1,6 +1,6 @@
 // A walk over the actions of a processor.
 
-ghost use Rattle.std.specs.Prelude.{◌≡◌, ◌↔◌, ◌+◌, ◌*◌, ◌-◌, ◌^◌, ◌<◌, ◌≤◌, [], None, Some, length, take, IsTrue, SomeIff, MatchResult};
+ghost use Rattle.std.specs.Prelude.{◌≡◌, ◌↔◌, ◌+◌, ◌*◌, ◌-◌, ◌^◌, ◌<◌, ◌≤◌, [], length, take, IsTrue, SomeIff};
 ghost use Rattle.icode.specs.Actions.{steps_of_stmt, steps_of_body};
 ghost use Rattle.icode.specs.Expression.{expr_numbers};
 ghost use Rattle.icode.specs.Lengths.{len_of_stmt, len_of_body};
@@ -8,8 +8,9 @@ ghost use Rattle.icode.specs.Limits.{is_expr_within, is_op_within, is_stmt_withi
 ghost use Rattle.icode.specs.Plain.{plain_expr, plain_op};
 ghost use Rattle.icode.specs.Program.{array_size, table_of, plain_program, op_step};
 ghost use Rattle.code_check.specs.Live.{plain_live, plain_lives};
-ghost use Rattle.code_check.specs.Uses.{line_count, noted};
-ghost use Rattle.code_check.specs.Walk.{judged, walked, Answers};
+ghost use Rattle.code_check.specs.Uses.{line_count};
+ghost use Rattle.code_check.specs.Walk.{walked, Answers};
+ghost use Rattle.code_check.specs.Workers.{program_of, AnswersStep};
 
 use crate::lines::{LineUse, touch};
 use crate::live::Live;
@@ -29,11 +30,19 @@ pub(crate) enum Offence {
     Register,
 }
 
+/// A processor of a program.
+#[derive(Clone, Copy)]
+pub(crate) struct Worker<'a> {
+    pub(crate) program: &'a Program,
+    pub(crate) proc: u64,
+}
+
 // The place, where it is inside its array with all lanes.
 fn array_place(program: &Program, place: &Expr, values: &[u64], proc: u64) -> Option<u64>
     requires { IsTrue (is_expr_within (plain_expr place.now) (length values.now)) }
     ensures { let at = expr_numbers place.now values.now proc in
-        SomeIff result ((at.peak < 2 ^ 64) × (at.value + program.now.lanes ≤ array_size program.now)) at.value }
+        SomeIff result ((at.peak < 2 ^ 64)
+        × (at.value + program.now.lanes ≤ array_size program.now)) at.value }
 {
     let Some(at) = checked_value(place, values, proc) else {
         return None;
@@ -80,14 +89,13 @@ pub(crate) fn check_op(
     proc: u64,
     lines: &mut [LineUse],
 ) -> Result<(), Offence>
-    requires within { IsTrue (is_op_within program.now.modulus (plain_op op.now) (length values.now)) }
+    requires within { IsTrue
+        (is_op_within program.now.modulus (plain_op op.now) (length values.now)) }
     requires lines { length lines.old ≡ line_count (plain_program program.now) }
     requires proc { proc < 256 }
     ensures { let p = plain_program program.now in
-        let s = op_step program.now op.now values.now proc in
-        MatchResult result
-        (λ _. (judged p s ≡ None) × (lines.new ≡ noted p proc s lines.old))
-        (λ offence. judged p s ≡ Some offence) }
+        let step = op_step program.now op.now values.now proc in
+        AnswersStep result p proc step lines.old lines.new }
 {
     let fit = registers_fit(program, op);
     match op {
@@ -96,13 +104,8 @@ pub(crate) fn check_op(
                 return Err(Offence::Place);
             };
             if fit {
-                touch(
-                    program,
-                    program.address(*array, at),
-                    proc as u8,
-                    false,
-                    lines,
-                );
+                let address = program.address(*array, at);
+                touch(program, address, proc as u8, false, lines);
             }
         }
         Op::Store { array, place, .. } => {
@@ -110,13 +113,8 @@ pub(crate) fn check_op(
                 return Err(Offence::Place);
             };
             if fit {
-                touch(
-                    program,
-                    program.address(*array, at),
-                    proc as u8,
-                    true,
-                    lines,
-                );
+                let address = program.address(*array, at);
+                touch(program, address, proc as u8, true, lines);
             }
         }
         Op::MulTable {
@@ -139,32 +137,32 @@ pub(crate) fn check_op(
 #[cycle(walk)]
 pub(crate) fn walk_stmt(
     stmt: &Live<'_>,
-    program: &Program,
+    worker: &Worker<'_>,
     values: &mut [u64; MAX_DEPTH],
     depth: usize,
-    proc: u64,
     count: &mut u64,
     lines: &mut [LineUse],
 ) -> Result<(), Offence>
-    requires within { IsTrue (is_stmt_within program.now.modulus (plain_live stmt.now) depth) }
+    requires within { IsTrue
+        (is_stmt_within (program_of worker.now).modulus (plain_live stmt.now) depth) }
     requires depth { depth ≤ 64 }
     requires few { count.old + len_of_stmt (plain_live stmt.now) < 2 ^ 64 }
-    requires lines { length lines.old ≡ line_count (plain_program program.now) }
-    requires proc { proc < 256 }
-    ensures walk { let p = plain_program program.now in
-        let steps = steps_of_stmt p (plain_live stmt.now) (take depth values.old) proc in
-        Answers result count.new lines.new (walked p proc steps count.old lines.old) }
+    requires lines { length lines.old ≡ line_count (program_of worker.now) }
+    requires proc { worker.now.proc < 256 }
+    ensures walk { let p = program_of worker.now in let q = worker.now.proc in
+        let steps = steps_of_stmt p (plain_live stmt.now) (take depth values.old) q in
+        Answers result count.new lines.new (walked p q steps count.old lines.old) }
     ensures values { take depth values.new ≡ take depth values.old }
 {
     match stmt {
         Live::Loop { count: turns, body } => {
             for turn in 0..*turns {
                 values[depth] = turn;
-                walk_body(body, program, values, depth + 1, proc, count, lines)?;
+                walk_body(body, worker, values, depth + 1, count, lines)?;
             }
         }
         Live::Do(op) => {
-            check_op(op, program, &values[..depth], proc, lines)?;
+            check_op(op, worker.program, &values[..depth], worker.proc, lines)?;
             *count += 1;
         }
     }
@@ -175,25 +173,25 @@ pub(crate) fn walk_stmt(
 #[cycle(walk)]
 pub(crate) fn walk_body(
     body: &[Live<'_>],
-    program: &Program,
+    worker: &Worker<'_>,
     values: &mut [u64; MAX_DEPTH],
     depth: usize,
-    proc: u64,
     count: &mut u64,
     lines: &mut [LineUse],
 ) -> Result<(), Offence>
-    requires within { IsTrue (is_body_within program.now.modulus (plain_lives body.now) depth) }
+    requires within { IsTrue
+        (is_body_within (program_of worker.now).modulus (plain_lives body.now) depth) }
     requires depth { depth ≤ 64 }
     requires few { count.old + len_of_body (plain_lives body.now) < 2 ^ 64 }
-    requires lines { length lines.old ≡ line_count (plain_program program.now) }
-    requires proc { proc < 256 }
-    ensures walk { let p = plain_program program.now in
-        let steps = steps_of_body p (plain_lives body.now) (take depth values.old) proc in
-        Answers result count.new lines.new (walked p proc steps count.old lines.old) }
+    requires lines { length lines.old ≡ line_count (program_of worker.now) }
+    requires proc { worker.now.proc < 256 }
+    ensures walk { let p = program_of worker.now in let q = worker.now.proc in
+        let steps = steps_of_body p (plain_lives body.now) (take depth values.old) q in
+        Answers result count.new lines.new (walked p q steps count.old lines.old) }
     ensures values { take depth values.new ≡ take depth values.old }
 {
     for stmt in body {
-        walk_stmt(stmt, program, values, depth, proc, count, lines)?;
+        walk_stmt(stmt, worker, values, depth, count, lines)?;
     }
     Ok(())
 }

@@ -145,7 +145,8 @@ fn table_of(
     cursor: &mut Cursor,
     most: u64,
 ) -> Result<Option<(u64, Vec<u64>)>, ReadError>
-    ensures { Tells (λ table. option_map (λ t. (t.0, t.1.items)) table) result cursor.new (outside_by most false cursor.old) }
+    ensures { Tells (λ table. option_map (λ t. (t.0, t.1.items)) table) result cursor.new
+        (outside_by most false cursor.old) }
 {
     let number = cursor.number(u64::MAX)?;
     cursor.word(b" values ")?;
@@ -159,7 +160,8 @@ fn outside_of(
     cursor: &mut Cursor,
     most: u64,
 ) -> Result<Option<(u64, Vec<u64>)>, ReadError>
-    ensures { Tells (λ table. option_map (λ t. (t.0, t.1.items)) table) result cursor.new (outside_at most cursor.old) }
+    ensures { Tells (λ table. option_map (λ t. (t.0, t.1.items)) table) result cursor.new
+        (outside_at most cursor.old) }
 {
     let is_phase = is_phase(cursor)?;
     if is_phase {
@@ -170,7 +172,8 @@ fn outside_of(
 
 // A line outside of phases: a table's number and its entries, or the begin of a phase.
 fn read_outside(alloc: Global, line: &[u8]) -> Result<Option<(u64, Vec<u64>)>, ReadError>
-    ensures { TellsAll (λ table. option_map (λ t. (t.0, t.1.items)) table) result (whole (outside_at (length line.now)) line.now) }
+    ensures { TellsAll (λ table. option_map (λ t. (t.0, t.1.items)) table) result
+        (whole (outside_at (length line.now)) line.now) }
 {
     let mut cursor = Cursor::new(line);
     let outside = outside_of(alloc, &mut cursor, line.len() as u64)?;

@@ -1,7 +1,7 @@
 //! The limits of what stands in a phase.
 
-ghost use Rattle.std.specs.Prelude.{◌≡◌, ◌+◌, ◌≤◌, ◌<◌, ◌^◌, MatchOption};
-ghost use Rattle.icode.specs.Plain.{plain_expr, plain_part, plain_op};
+ghost use Rattle.std.specs.Prelude.{◌≡◌, ℕ, ◌+◌, ◌≤◌, ◌<◌, ◌^◌, MatchOption};
+ghost use Rattle.icode.specs.Plain.{MulTable, plain_expr, plain_part, plain_op};
 ghost use Rattle.icode.specs.Limits.{is_small, is_small_positive, rank, next_rank, is_sum_within, is_part_within, is_expr_within, is_op_within, sum_parts, part_parts, sum_depth};
 ghost use Rattle.listing_text.specs.Acts.{OpFits};
 
@@ -102,7 +102,8 @@ fn is_part_within(part: &Part, loops: u64) -> bool
 // How many of so many parts are left, if there are as many in the place.
 #[cycle(counts)]
 fn left_of(place: &Expr, parts: u64) -> Option<u64>
-    ensures { MatchOption result (parts < sum_parts (plain_expr place.now)) (λ left. left + sum_parts (plain_expr place.now) ≡ parts) }
+    ensures { MatchOption result (parts < sum_parts (plain_expr place.now))
+        (λ left. left + sum_parts (plain_expr place.now) ≡ parts) }
 {
     let mut left = parts;
     for part in &place.parts {
@@ -116,7 +117,8 @@ fn left_of(place: &Expr, parts: u64) -> Option<u64>
 
 #[cycle(counts)]
 fn left_of_part(part: &Part, parts: u64) -> Option<u64>
-    ensures { MatchOption result (parts < part_parts (plain_part part.now)) (λ left. left + part_parts (plain_part part.now) ≡ parts) }
+    ensures { MatchOption result (parts < part_parts (plain_part part.now))
+        (λ left. left + part_parts (plain_part part.now) ≡ parts) }
 {
     if parts == 0 {
         return None;
@@ -134,6 +136,24 @@ fn is_expr_within(place: &Expr, loops: u64) -> bool
     ensures { result ≡ is_expr_within (plain_expr place.now) loops }
 {
     is_sum_within(place, loops) && left_of(place, 64).is_some()
+}
+
+// A product with factors of a table may stand inside so many loops, whatever the modulus.
+fn is_product_within(
+    register: u64,
+    source: u64,
+    table: u64,
+    place: &Expr,
+    step: u64,
+    loops: u64,
+) -> bool
+    requires loops { loops ≤ 64 }
+    requires parentheses { sum_depth (plain_expr place.now) ≤ 64 }
+    ensures { (m : ℕ) → result
+        ≡ is_op_within m (MulTable register source table (plain_expr place.now) step) loops }
+{
+    is_small(register)
+        && (is_small(source) && (is_small(table) && (step < 2 && is_expr_within(place, loops))))
 }
 
 /// The operation may stand in a program with this modulus, inside so many loops.
@@ -176,11 +196,7 @@ pub fn is_op_within(modulus: u64, op: &Op, loops: u64) -> bool
             table,
             place,
             step,
-        } => {
-            is_small(*register)
-                && (is_small(*source)
-                    && (is_small(*table) && (*step < 2 && is_expr_within(place, loops))))
-        }
+        } => is_product_within(*register, *source, *table, place, *step, loops),
         Op::Tile { register, source } => is_small(*register) && is_small(*source),
     }
 }

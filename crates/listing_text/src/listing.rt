@@ -28,7 +28,8 @@ pub enum ListingFault {
 
 /// The first line with its end, and what stands behind it.
 pub fn cut_line(text: &[u8]) -> Option<(&[u8], &[u8])>
-    ensures { MatchOption result (IsTrue (is_open text.now)) (λ cut. IsLine cut.0.now × (text.now ≡ cut.0.now ++ cut.1.now)) }
+    ensures { MatchOption result (IsTrue (is_open text.now)) (λ cut. IsLine cut.0.now
+        × (text.now ≡ cut.0.now ++ cut.1.now)) }
 {
     for (at, byte) in text.iter().enumerate() {
         if *byte == b'\n' {
@@ -50,7 +51,8 @@ fn stepped(alloc: Global, draft: Option<Draft>, line: &[u8]) -> Result<Draft, Re
 // The draft, where this is left behind so many lines.
 fn finished(draft: Option<Draft>, rest: &[u8], lines: u64) -> Result<Draft, ListingFault>
     requires { lines < 2 ^ 63 }
-    ensures { Reads result (later lines (ended rest.now (valued (finish (plain_draft_or_none draft))))) }
+    ensures { Reads result
+        (later lines (ended rest.now (valued (finish (plain_draft_or_none draft))))) }
 {
     if !rest.is_empty() {
         return Err(ListingFault::Syntax { line: lines + 1 });
@@ -87,7 +89,8 @@ fn drafted(alloc: Global, text: &[u8]) -> Result<Draft, ListingFault>
 /// The program whose listing a text is.
 pub fn read_listing(alloc: Global, text: &[u8]) -> Result<Program, ListingFault>
     ensures answer { TextAnswers text.now result }
-    ensures only { (p : PlainProgram) → is_listing text.now p → IsOkUnless result ListingFault.NoMemory × IfOk result (λ q. plain_program q ≡ p) }
+    ensures only { (p : PlainProgram) → is_listing text.now p
+        → IsOkUnless result ListingFault.NoMemory × IfOk result (λ q. plain_program q ≡ p) }
 {
     match drafted(alloc, text) {
         Ok(draft) => Ok(Program {

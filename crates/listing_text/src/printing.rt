@@ -23,7 +23,8 @@ pub fn put(out: &mut Vec<u8>, word: &[u8], number: u64) -> Result<(), AllocError
 
 /// Writes words, each with a number behind it.
 pub fn put_numbers(out: &mut Vec<u8>, numbers: &[(&[u8], u64)]) -> Result<(), AllocError>
-    ensures { OnOk result (out.new.items ≡ numbers_behind out.old.items (map (λ p. (p.0.now, p.1)) numbers.now)) }
+    ensures { OnOk result (out.new.items
+        ≡ numbers_behind out.old.items (map (λ p. (p.0.now, p.1)) numbers.now)) }
 {
     for (word, number) in numbers {
         put(out, word, *number)?;
@@ -94,7 +95,8 @@ pub fn put_array(out: &mut Vec<u8>, array: Array) -> Result<(), AllocError>
 }
 
 fn put_place(out: &mut Vec<u8>, array: Array, place: &Expr) -> Result<(), AllocError>
-    ensures { OnOk result (out.new.items ≡ out.old.items ++ array_text array ++ codes "[" ++ sum_text (plain_expr place.now) ++ codes "]") }
+    ensures { OnOk result (out.new.items ≡ out.old.items ++ array_text array ++ codes "["
+        ++ sum_text (plain_expr place.now) ++ codes "]") }
 {
     put_array(out, array)?;
     out.extend_from_slice(b"[")?;
@@ -104,7 +106,8 @@ fn put_place(out: &mut Vec<u8>, array: Array, place: &Expr) -> Result<(), AllocE
 
 // An operation on one register.
 fn put_unary(out: &mut Vec<u8>, word: &[u8], register: u64, source: u64) -> Result<(), AllocError>
-    ensures { OnOk result (out.new.items ≡ out.old.items ++ (word.now ++ decimal register ++ codes " r" ++ decimal source)) }
+    ensures { OnOk result (out.new.items
+        ≡ out.old.items ++ (word.now ++ decimal register ++ codes " r" ++ decimal source)) }
 {
     put(out, word, register)?;
     put(out, b" r", source)
@@ -118,13 +121,15 @@ fn put_binary(
     left: u64,
     right: u64,
 ) -> Result<(), AllocError>
-    ensures { OnOk result (out.new.items ≡ out.old.items ++ (word.now ++ decimal register ++ codes " r" ++ decimal left ++ codes " r" ++ decimal right)) }
+    ensures { OnOk result (out.new.items ≡ out.old.items ++ (word.now ++ decimal register
+        ++ codes " r" ++ decimal left ++ codes " r" ++ decimal right)) }
 {
     put_numbers(out, &[(word, register), (b" r", left), (b" r", right)])
 }
 
 fn put_load(out: &mut Vec<u8>, register: u64, array: Array, place: &Expr) -> Result<(), AllocError>
-    ensures { OnOk result (out.new.items ≡ out.old.items ++ op_text (Load register array (plain_expr place.now))) }
+    ensures { OnOk result (out.new.items
+        ≡ out.old.items ++ op_text (Load register array (plain_expr place.now))) }
 {
     put(out, b"ld r", register)?;
     out.extend_from_slice(b" ")?;
@@ -132,7 +137,8 @@ fn put_load(out: &mut Vec<u8>, register: u64, array: Array, place: &Expr) -> Res
 }
 
 fn put_store(out: &mut Vec<u8>, array: Array, place: &Expr, register: u64) -> Result<(), AllocError>
-    ensures { OnOk result (out.new.items ≡ out.old.items ++ op_text (Store array (plain_expr place.now) register)) }
+    ensures { OnOk result (out.new.items
+        ≡ out.old.items ++ op_text (Store array (plain_expr place.now) register)) }
 {
     out.extend_from_slice(b"st ")?;
     put_place(out, array, place)?;
@@ -146,7 +152,8 @@ fn put_const_product(
     source: u64,
     factor: u64,
 ) -> Result<(), AllocError>
-    ensures { OnOk result (out.new.items ≡ out.old.items ++ op_text (MulConst register source factor)) }
+    ensures { OnOk result (out.new.items
+        ≡ out.old.items ++ op_text (MulConst register source factor)) }
 {
     put_numbers(
         out,
@@ -163,7 +170,8 @@ fn put_table_product(
     place: &Expr,
     step: u64,
 ) -> Result<(), AllocError>
-    ensures { OnOk result (out.new.items ≡ out.old.items ++ op_text (MulTable register source table (plain_expr place.now) step)) }
+    ensures { OnOk result (out.new.items
+        ≡ out.old.items ++ op_text (MulTable register source table (plain_expr place.now) step)) }
 {
     put_numbers(
         out,
@@ -240,7 +248,8 @@ fn put_stmt(out: &mut Vec<u8>, stmt: &Stmt, depth: u64) -> Result<(), AllocError
 
 /// Writes the header, without its line's end.
 pub fn put_header(out: &mut Vec<u8>, program: &Program) -> Result<(), AllocError>
-    ensures { OnOk result (out.new.items ≡ out.old.items ++ header_text (plain_program program.now)) }
+    ensures { OnOk result (out.new.items
+        ≡ out.old.items ++ header_text (plain_program program.now)) }
 {
     put_numbers(
         out,
@@ -267,7 +276,8 @@ fn put_table(out: &mut Vec<u8>, number: u64, entries: &[u64]) -> Result<(), Allo
 }
 
 fn put_tables(out: &mut Vec<u8>, tables: &[Vec<u64>]) -> Result<(), AllocError>
-    ensures { OnOk result (out.new.items ≡ out.old.items ++ tables_text 0 (plain_tables tables.now)) }
+    ensures { OnOk result (out.new.items
+        ≡ out.old.items ++ tables_text 0 (plain_tables tables.now)) }
 {
     for (number, entries) in tables.iter().enumerate() {
         put_table(out, number as u64, entries)?;
@@ -288,7 +298,8 @@ fn put_body(out: &mut Vec<u8>, body: &[Stmt]) -> Result<(), AllocError>
 
 fn put_phases(out: &mut Vec<u8>, phases: &[Vec<Stmt>]) -> Result<(), AllocError>
     requires { IsTrue (list_all (λ body. are_nests_within body 0) (plain_phases phases.now)) }
-    ensures { OnOk result (out.new.items ≡ out.old.items ++ flat_map phase_text (plain_phases phases.now)) }
+    ensures { OnOk result (out.new.items
+        ≡ out.old.items ++ flat_map phase_text (plain_phases phases.now)) }
 {
     for body in phases {
         out.extend_from_slice(b"phase\n")?;
@@ -299,7 +310,8 @@ fn put_phases(out: &mut Vec<u8>, phases: &[Vec<Stmt>]) -> Result<(), AllocError>
 }
 
 fn put_listing(out: &mut Vec<u8>, program: &Program) -> Result<(), AllocError>
-    ensures { OnOk result (out.new.items ≡ out.old.items ++ listing_of (plain_program program.now)) }
+    ensures { OnOk result (out.new.items
+        ≡ out.old.items ++ listing_of (plain_program program.now)) }
 {
     put_header(out, program)?;
     out.extend_from_slice(b"\n")?;

@@ -29,7 +29,8 @@ fn is_second(cursor: &mut Cursor) -> Result<bool, Stuck>
 
 // What stands behind the first variable of a part.
 fn variable_of(cursor: &mut Cursor, depth: u64, is_product: bool) -> Result<Option<Part>, ReadError>
-    ensures { Tells (λ part. option_map plain_part part) result cursor.new (variable_at depth is_product cursor.old) }
+    ensures { Tells (λ part. option_map plain_part part) result cursor.new
+        (variable_at depth is_product cursor.old) }
 {
     if is_product {
         let inner = cursor.number(u64::MAX)?;
@@ -57,7 +58,8 @@ fn head_of(cursor: &mut Cursor) -> Result<Head, Stuck>
 
 #[cycle(places)]
 fn part_of(alloc: Global, cursor: &mut Cursor, depth: u64) -> Result<Option<Part>, ReadError>
-    ensures { Tells (λ part. option_map plain_part part) result cursor.new (part_at (inner_at depth) cursor.old) }
+    ensures { Tells (λ part. option_map plain_part part) result cursor.new
+        (part_at (inner_at depth) cursor.old) }
 {
     match head_of(cursor)? {
         Head::Proc => {
@@ -108,7 +110,8 @@ fn inner_of(alloc: Global, cursor: &mut Cursor, depth: u64) -> Result<Expr, Read
 
 #[cycle(places)]
 fn parts_of(alloc: Global, cursor: &mut Cursor, depth: u64) -> Result<Vec<Part>, ReadError>
-    ensures { Tells (λ parts. map plain_part parts.items) result cursor.new (up_to_at 64 (part_at (inner_at depth)) cursor.old) }
+    ensures { Tells (λ parts. map plain_part parts.items) result cursor.new
+        (up_to_at 64 (part_at (inner_at depth)) cursor.old) }
 {
     let mut parts = Vec::new(alloc);
     for _ in 0..64_u64 {

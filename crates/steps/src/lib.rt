@@ -2,8 +2,9 @@
 #![tactic(auto)]
 
 ghost use Rattle.std.specs.Prelude.{◌≡◌, ◌∷◌, ◌++◌, [], List, ℕ, map, IfOk, OnOk};
+ghost use Rattle.steps.specs.Appends.{Appends};
 ghost use Rattle.steps.specs.Meaning.{transform_of, all_on, StepsTransform, StepsCost};
-ghost use Rattle.steps.specs.Step.{PlainStep, step, steps_of, operations_in};
+ghost use Rattle.steps.specs.Step.{piece, step, steps_of, operations_in};
 ghost use Rattle.steps.specs.Views.{plain_step, plain_core};
 ghost use Rattle.tree_model.specs.Admissible.{IsAdmissible};
 ghost use Rattle.tree_model.specs.Breakdown.{breakdown_of, size_of, HasWordSizes};
@@ -40,7 +41,8 @@ pub struct Step {
 #[tactic(auto, using(crate::proofs::WordSizes::has_word_sizes))]
 pub fn steps_of_tree(alloc: Global, c: &Ctx, tree: &Tree) -> Result<Vec<Step>, NoMemory>
     requires { IsAdmissible c.now (breakdown_of tree.now) }
-    ensures form { IfOk result (λ steps. map plain_step steps.items ≡ steps_of c.now [] (breakdown_of tree.now)) }
+    ensures form { IfOk result
+        (λ steps. map plain_step steps.items ≡ steps_of c.now [] (breakdown_of tree.now)) }
 {
     let _request = c.request();
     let mut steps = Vec::new(alloc);
@@ -49,6 +51,7 @@ pub fn steps_of_tree(alloc: Global, c: &Ctx, tree: &Tree) -> Result<Vec<Step>, N
 }
 
 // Appends the steps of a tree under the tensors of the path.
+#[cycle(tree)]
 fn add_steps(
     alloc: Global,
     c: &Ctx,
@@ -57,7 +60,8 @@ fn add_steps(
     tree: &Tree,
 ) -> Result<(), NoMemory>
     requires { HasWordSizes (breakdown_of tree.now) }
-    ensures { OnOk result (map plain_step steps.new.items ≡ map plain_step steps.old.items ++ steps_of c.now path.now (breakdown_of tree.now)) }
+    ensures { OnOk result (Appends steps.old steps.new
+        (steps_of c.now path.now (breakdown_of tree.now))) }
 {
     match tree {
         Tree::Leaf(_) => add_piece(alloc, steps, path, tree),
@@ -67,20 +71,8 @@ fn add_steps(
                 return add_piece(alloc, steps, path, tree);
             }
             put(alloc, steps, path, Core::ThomasIn { rows, cols })?;
-            add_steps(
-                alloc,
-                c,
-                steps,
-                &longer(alloc, path, Tensor::Blocks(rows))?,
-                b,
-            )?;
-            add_steps(
-                alloc,
-                c,
-                steps,
-                &longer(alloc, path, Tensor::Columns(cols))?,
-                a,
-            )?;
+            add_part(alloc, c, steps, path, Tensor::Blocks(rows), b)?;
+            add_part(alloc, c, steps, path, Tensor::Columns(cols), a)?;
             put(alloc, steps, path, Core::ThomasOut { rows, cols })
         }
         Tree::Ct(a, b) => {
@@ -89,43 +81,36 @@ fn add_steps(
                 return add_piece(alloc, steps, path, tree);
             }
             put(alloc, steps, path, Core::Turns { rows, cols })?;
-            add_steps(
-                alloc,
-                c,
-                steps,
-                &longer(alloc, path, Tensor::Blocks(rows))?,
-                b,
-            )?;
+            add_part(alloc, c, steps, path, Tensor::Blocks(rows), b)?;
             put(alloc, steps, path, Core::Twiddles { rows, cols })?;
-            add_steps(
-                alloc,
-                c,
-                steps,
-                &longer(alloc, path, Tensor::Columns(cols))?,
-                a,
-            )
+            add_part(alloc, c, steps, path, Tensor::Columns(cols), a)
         }
         Tree::Split(a, b) => {
             let (rows, cols) = (a.size(), b.size());
             if is_kernel(c, rows * cols) {
                 return add_piece(alloc, steps, path, tree);
             }
-            add_steps(
-                alloc,
-                c,
-                steps,
-                &longer(alloc, path, Tensor::Blocks(rows))?,
-                b,
-            )?;
-            add_steps(
-                alloc,
-                c,
-                steps,
-                &longer(alloc, path, Tensor::Columns(cols))?,
-                a,
-            )
+            add_part(alloc, c, steps, path, Tensor::Blocks(rows), b)?;
+            add_part(alloc, c, steps, path, Tensor::Columns(cols), a)
         }
     }
+}
+
+// The same for a part of a tree, under one tensor more.
+#[cycle(tree)]
+fn add_part(
+    alloc: Global,
+    c: &Ctx,
+    steps: &mut Vec<Step>,
+    path: &[Tensor],
+    tensor: Tensor,
+    tree: &Tree,
+) -> Result<(), NoMemory>
+    requires { HasWordSizes (breakdown_of tree.now) }
+    ensures { OnOk result (Appends steps.old steps.new
+        (steps_of c.now (path.now ++ tensor ∷ []) (breakdown_of tree.now))) }
+{
+    add_steps(alloc, c, steps, &longer(alloc, path, tensor)?, tree)
 }
 
 fn add_piece(
@@ -134,13 +119,14 @@ fn add_piece(
     path: &[Tensor],
     tree: &Tree,
 ) -> Result<(), NoMemory>
-    ensures { let piece : PlainStep = step path.now (Rattle.steps.specs.Step.piece (breakdown_of tree.now)) in OnOk result (map plain_step steps.new.items ≡ map plain_step steps.old.items ++ piece ∷ []) }
+    ensures { OnOk result (Appends steps.old steps.new
+        (step path.now (piece (breakdown_of tree.now)) ∷ [])) }
 {
     put(alloc, steps, path, Core::Piece(tree.copied(alloc)?))
 }
 
 fn put(alloc: Global, steps: &mut Vec<Step>, path: &[Tensor], core: Core) -> Result<(), NoMemory>
-    ensures { OnOk result (map plain_step steps.new.items ≡ map plain_step steps.old.items ++ step path.now (plain_core core) ∷ []) }
+    ensures { OnOk result (Appends steps.old steps.new (step path.now (plain_core core) ∷ [])) }
 {
     let path = path.to_vec(alloc)?;
     steps.push(Step { path, core })?;

@@ -1,7 +1,7 @@
 -- The parts of a product and of a direct sum, each merged by itself.
-use Rattle.std.proofs.Common.{◌≡◌, ℕ, ◌+◌, ◌-◌, ◌<◌, ◌≤◌, arith, sym, ap, ◌∙◌, subst, List, length}
+use Rattle.std.proofs.Common.{◌≡◌, ℕ, ◌+◌, ◌-◌, ◌<◌, ◌≤◌, arith, refl, sym, ap, subst, List, length}
 use Rattle.passes.specs.Limits.{AreSeveral, HasSeveral}
-use Rattle.passes.specs.Merge.{most, Merging, nothing, from_end, ended, sides, merged}
+use Rattle.passes.specs.Merge.{most, Merging, nothing, sides, merged}
 use Rattle.passes.specs.Nest.{PlainNest}
 use Rattle.passes.specs.Term.{PlainTerm, product, beside}
 use Rattle.passes.specs.Views.{plain_term}
@@ -9,6 +9,7 @@ use Rattle.passes.specs.Words.{AreWords}
 use Rattle.passes.specs.declared.term.Term.{Term}
 use Rattle.tensor_paths.specs.Path.{Path, size_under}
 use Rattle.loop_nests.specs.Parts.{IsPart}
+use Rattle.term_merge.specs.Alone.{merged_alone}
 use Rattle.term_merge.specs.Known.{IsGood, AreKnownPasses, HasRoom, IsKnown}
 use Rattle.term_merge.proofs.Readies.{steps-end}
 use Rattle.term_merge.proofs.Merged.{inner-room, known-ended, known-sides, merged-known, nothing-known, ready-of, within-of}
@@ -69,15 +70,18 @@ parts-of room n depth path k l t a b can is deep = parted (subst (CanMerge room 
 
 -- ---- what is merged
 
-module _ (room n : ℕ) (a : PlainTerm) (start st : Merging) (can : CanMerge room n a) (begins : start ≡ nothing) (is : st ≡ merged (most room) n start a) where
-  pub part-known : IsKnown room n st
-  part-known = subst (IsKnown room n) (sym (is ∙ ap (λ b. merged (most room) n b a) begins)) (merged-known room n nothing a can.room_left can.good can.several can.words (nothing-known room n))
+pub merged-anew : (room n : ℕ) (a : PlainTerm) (st : Merging) → CanMerge room n a → st ≡ merged (most room) n nothing a → IsKnown room n st
+merged-anew room n a st can is =
+    subst (IsKnown room n) (sym is) (merged-known room n nothing a can.room_left can.good can.several can.words (nothing-known room n))
 
-  pub part-ended : (ps : List (List PlainNest)) → ps ≡ ended (most room) n (from_end st.waiting) st.passes → AreKnownPasses room n ps
-  part-ended ps e = subst (AreKnownPasses room n) (sym e) (known-ended room n can.room_left (from_end st.waiting) st.passes (steps-end n st.waiting part-known.waiting) part-known.passes)
+module _ (room n : ℕ) (a : PlainTerm) (can : CanMerge room n a) (ps : List (List PlainNest)) (is : ps ≡ merged_alone (most room) n a) where
+  pub alone-known : AreKnownPasses room n ps
+  alone-known =
+      let all = merged-anew room n a (merged (most room) n nothing a) can refl in
+      subst (AreKnownPasses room n) (sym is) (known-ended room n can.room_left _ _ (steps-end n _ all.waiting) all.passes)
 
-  pub is-part : (ps : List (List PlainNest)) → ps ≡ ended (most room) n (from_end st.waiting) st.passes → IsPart n ps
-  is-part ps e = let known = part-ended ps e in record { room = room; within = within-of room n ps known; ready = ready-of room n ps known }
+  pub is-part : IsPart n ps
+  is-part = record { room = room; within = within-of room n ps alone-known; ready = ready-of room n ps alone-known }
 
 pub known-both : (room r n : ℕ) (path : Path) (k l : ℕ) (a b : PlainTerm) (ps qs both : List (List PlainNest)) → HasRoom room n → AreParts room r n path k l a b →
     AreKnownPasses r k ps → AreKnownPasses r l qs → both ≡ sides path k l ps qs → AreKnownPasses room n both

@@ -71,7 +71,8 @@ fn copies_before(
     requires known { IsKnownPass limits.room limits.size (plain_pass pass) }
     requires steps { AreSteps limits.size (mappings_of waiting.now) }
     ensures { IfOk result (λ ps. plain_passes ps.items
-        ≡ copies_before (most limits.room) limits.size (plain_pass pass) (mappings_of waiting.now)) }
+        ≡ copies_before (most limits.room) limits.size (plain_pass pass)
+        (mappings_of waiting.now)) }
 {
     match waiting.split_first() {
         None => {

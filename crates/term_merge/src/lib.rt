@@ -21,13 +21,12 @@ ghost use Rattle.loop_nests.specs.Views.{plain_passes};
 
 use crate::copies::with_first;
 use crate::firsts::{FirstPass, parted};
-use crate::merging::{finished, merged, nothing};
+use crate::merging::merged_alone;
 use loop_nests::copying;
 use memory::NoMemory;
 use passes::{Nest, Term};
 pub use phases::merge;
 use std::alloc::Global;
-use sum_limits::Limits;
 
 /// The passes of a term on lists of `size` words, in their order: within the limits of programs.
 pub fn merge_term(alloc: Global, size: u64, term: Term) -> Result<Vec<Vec<Nest>>, NoMemory>
@@ -38,9 +37,7 @@ pub fn merge_term(alloc: Global, size: u64, term: Term) -> Result<Vec<Vec<Nest>>
     ensures { IfOk result (λ ps. map (λ zs. map plain_nest zs.items) ps.items
         ≡ passes_in_order size (plain_term term)) }
 {
-    let limits = Limits { size, room: 64 };
-    let state = merged(alloc, term, nothing(alloc), limits)?;
-    let passes = finished(alloc, state, limits)?;
+    let passes = merged_alone(alloc, size, term, 64)?;
     let mut passes = if_any(alloc, size, passes)?;
     passes.reverse();
     Ok(passes)

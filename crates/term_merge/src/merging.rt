@@ -5,6 +5,7 @@ ghost use Rattle.passes.specs.Merge.{ended, from_end, merged, most, nothing, wit
 ghost use Rattle.passes.specs.Term.{move, nest};
 ghost use Rattle.passes.specs.Views.{plain_term, plain_work};
 ghost use Rattle.passes.specs.Work.{HasWords};
+ghost use Rattle.term_merge.specs.Alone.{merged_alone};
 ghost use Rattle.term_merge.specs.Known.{AreKnownPasses, HasRoom, IsGood, IsKnown};
 ghost use Rattle.pass_places.specs.Known.{AreSteps};
 ghost use Rattle.pass_places.specs.Views.{mappings_of};
@@ -25,12 +26,8 @@ use sum_limits::Limits;
 use tensor_paths::Tensor;
 
 /// What a term does to a state of merging.
-pub(crate) fn merged(
-    alloc: Global,
-    term: Term,
-    state: Merging,
-    limits: Limits,
-) -> Result<Merging, NoMemory>
+#[cycle(merged)]
+fn merged(alloc: Global, term: Term, state: Merging, limits: Limits) -> Result<Merging, NoMemory>
     requires room { HasRoom limits.room limits.size }
     requires known { IsKnown limits.room limits.size (plain_merging state) }
     requires good { IsGood limits.size (plain_term term) }
@@ -41,30 +38,16 @@ pub(crate) fn merged(
 {
     match term {
         Term::Same => Ok(state),
-        Term::Gather(f) => {
-            let next = with_gather(state, f)?;
-            Ok(next)
-        }
-        Term::Scatter(f) => {
-            let next = with_scatter(alloc, state, &f, limits)?;
-            Ok(next)
-        }
+        Term::Gather(f) => Ok(with_gather(state, f)?),
+        Term::Scatter(f) => Ok(with_scatter(alloc, state, &f, limits)?),
         Term::Diagonal { path, factors } => {
-            let next = with_diagonal(alloc, state, path, factors, limits)?;
-            Ok(next)
+            Ok(with_diagonal(alloc, state, path, factors, limits)?)
         }
-        Term::Copies { path, work } => {
-            let next = with_copies(alloc, state, &path, work, limits)?;
-            Ok(next)
-        }
-        Term::Move { path, places } => {
-            let next = with_moved(alloc, state, &path, &places, limits)?;
-            Ok(next)
-        }
+        Term::Copies { path, work } => Ok(with_copies(alloc, state, &path, work, limits)?),
+        Term::Move { path, places } => Ok(with_moved(alloc, state, &path, &places, limits)?),
         Term::Product(a, b) => {
             let next = merged(alloc, Box::into_inner(a), state, limits)?;
-            let last = merged(alloc, Box::into_inner(b), next, limits)?;
-            Ok(last)
+            Ok(merged(alloc, Box::into_inner(b), next, limits)?)
         }
         Term::Beside {
             path,
@@ -74,23 +57,33 @@ pub(crate) fn merged(
             second,
         } => {
             let room = limits.room - path.len() as u64;
-            let inner = Limits {
-                size: first_size,
-                room,
-            };
-            let left = merged(alloc, Box::into_inner(first), nothing(alloc), inner)?;
-            let left = finished(alloc, left, inner)?;
-            let inner = Limits {
-                size: second_size,
-                room,
-            };
-            let right = merged(alloc, Box::into_inner(second), nothing(alloc), inner)?;
-            let right = finished(alloc, right, inner)?;
+            let left = merged_alone(alloc, first_size, Box::into_inner(first), room)?;
+            let right = merged_alone(alloc, second_size, Box::into_inner(second), room)?;
             let both = sides(alloc, &path, (first_size, second_size), left, right)?;
-            let next = with_passes(alloc, state, both, limits)?;
-            Ok(next)
+            Ok(with_passes(alloc, state, both, limits)?)
         }
     }
+}
+
+/// The passes of a term by itself, on lists of `size` words: the latest first.
+#[cycle(merged)]
+pub(crate) fn merged_alone(
+    alloc: Global,
+    size: u64,
+    term: Term,
+    room: u64,
+) -> Result<Vec<Vec<Nest>>, NoMemory>
+    requires room { HasRoom room size }
+    requires good { IsGood size (plain_term term) }
+    requires several { HasSeveral (plain_term term) }
+    requires words { AreWords size (plain_term term) }
+    ensures { IfOk result (λ ps.
+        plain_passes ps.items ≡ merged_alone (most room) size (plain_term term)) }
+{
+    let limits = Limits { size, room };
+    let state = merged(alloc, term, nothing(alloc), limits)?;
+    let passes = finished(alloc, state, limits)?;
+    Ok(passes)
 }
 
 fn with_copies(
@@ -134,8 +127,8 @@ fn with_moved(
     Ok(next)
 }
 
-/// No gathers wait, and there are no passes.
-pub(crate) fn nothing(alloc: Global) -> Merging
+// No gathers wait, and there are no passes.
+fn nothing(alloc: Global) -> Merging
     ensures { plain_merging result ≡ nothing }
 {
     Merging {
@@ -144,12 +137,8 @@ pub(crate) fn nothing(alloc: Global) -> Merging
     }
 }
 
-/// The passes of a term from the state that it leaves: the latest first.
-pub(crate) fn finished(
-    alloc: Global,
-    state: Merging,
-    limits: Limits,
-) -> Result<Vec<Vec<Nest>>, NoMemory>
+// The passes of a term from the state that it leaves: the latest first.
+fn finished(alloc: Global, state: Merging, limits: Limits) -> Result<Vec<Vec<Nest>>, NoMemory>
     requires room { HasRoom limits.room limits.size }
     requires known { IsKnown limits.room limits.size (plain_merging state) }
     ensures { IfOk result (λ ps. plain_passes ps.items ≡ ended (most limits.room) limits.size

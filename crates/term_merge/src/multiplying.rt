@@ -11,7 +11,7 @@ ghost use Rattle.term_merge.specs.Known.{AreKnownPasses, HasRoom, IsKnown};
 ghost use Rattle.pass_places.specs.Known.{AreSteps, IsKnownPass};
 ghost use Rattle.pass_places.specs.Multiplied.{functions_of};
 ghost use Rattle.pass_places.specs.Views.{mappings_of};
-ghost use Rattle.term_merge.specs.Taken.{takes_diagonal};
+ghost use Rattle.term_merge.specs.Suited.{nests_take, nests_with};
 ghost use Rattle.term_merge.specs.Views.{plain_merging};
 ghost use Rattle.loop_nests.specs.Views.{plain_pass, plain_passes};
 
@@ -64,32 +64,29 @@ fn multiplied_last(
     requires known { AreKnownPasses limits.room limits.size (plain_passes state.passes.items) }
     requires count { diagonal.count ≡ factor_count (plain_factors diagonal.factors) }
     requires places { functions_of diagonal
-        ≡ factor_places (mappings_of state.waiting.items) path.items (plain_factors diagonal.factors) }
+        ≡ factor_places (mappings_of state.waiting.items) path.items
+        (plain_factors diagonal.factors) }
     requires can { CanCarry limits.size (functions_of diagonal) }
     ensures { IfOk result (λ next. plain_merging next ≡ with_diagonal (most limits.room) limits.size
         (mappings_of state.waiting.items) (plain_passes state.passes.items) path.items
         (plain_factors diagonal.factors)) }
 {
     let Merging { waiting, passes } = state;
-    match parted(passes) {
-        None => {
-            let passes = Vec::new(alloc);
-            let next = with_copy(alloc, Merging { waiting, passes }, path, diagonal, limits)?;
-            Ok(next)
+    let Some(FirstPass { first, others }) = parted(passes) else {
+        let passes = Vec::new(alloc);
+        let next = with_copy(alloc, Merging { waiting, passes }, path, diagonal, limits)?;
+        return Ok(next);
+    };
+    match multiplied_if_suited(alloc, &path, &diagonal, &first, limits)? {
+        Some(pass) => {
+            let passes = with_first(pass, others)?;
+            Ok(Merging { waiting, passes })
         }
-        Some(FirstPass { first, others }) => {
-            match multiplied_if_suited(alloc, &path, &diagonal, &first, limits)? {
-                Some(pass) => {
-                    let passes = with_first(pass, others)?;
-                    Ok(Merging { waiting, passes })
-                }
-                None => {
-                    let passes = with_first(first, others)?;
-                    let state = Merging { waiting, passes };
-                    let next = with_copy(alloc, state, path, diagonal, limits)?;
-                    Ok(next)
-                }
-            }
+        None => {
+            let passes = with_first(first, others)?;
+            let state = Merging { waiting, passes };
+            let next = with_copy(alloc, state, path, diagonal, limits)?;
+            Ok(next)
         }
     }
 }
@@ -106,7 +103,8 @@ fn with_copy(
     requires steps { AreSteps limits.size (mappings_of state.waiting.items) }
     requires count { diagonal.count ≡ factor_count (plain_factors diagonal.factors) }
     requires places { functions_of diagonal
-        ≡ factor_places (mappings_of state.waiting.items) path.items (plain_factors diagonal.factors) }
+        ≡ factor_places (mappings_of state.waiting.items) path.items
+        (plain_factors diagonal.factors) }
     requires can { CanCarry limits.size (functions_of diagonal) }
     ensures { IfOk result (λ next. plain_merging next ≡ with_copy (most limits.room) limits.size
         (plain_merging state) path.items (plain_factors diagonal.factors)) }
@@ -162,14 +160,9 @@ fn multiplied_if_suited(
     requires can { CanCarry limits.size (functions_of diagonal.now) }
     requires count { diagonal.now.count ≡ factor_count (plain_factors diagonal.now.factors) }
     requires known { IsKnownPass limits.room limits.size (map plain_nest nests.now) }
-    ensures some { IfMade result (λ zs.
-        (takes_diagonal limits.room limits.size path.now (plain_factors diagonal.now.factors)
-        (functions_of diagonal.now) (map plain_nest nests.now) ≡ true)
-        × (plain_pass zs ≡ multiplied (plain_factors diagonal.now.factors)
-        (functions_of diagonal.now) (map plain_nest nests.now))) }
-    ensures none { IfRefused result
-        (takes_diagonal limits.room limits.size path.now (plain_factors diagonal.now.factors)
-        (functions_of diagonal.now) (map plain_nest nests.now) ≡ false) }
+    ensures some { IfMade result (λ zs. (nests_take limits path.now diagonal.now nests.now ≡ true)
+        × (plain_pass zs ≡ nests_with diagonal.now nests.now)) }
+    ensures none { IfRefused result (nests_take limits path.now diagonal.now nests.now ≡ false) }
 {
     if !suits(path, nests) {
         return Ok(None);

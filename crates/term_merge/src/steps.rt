@@ -1,7 +1,7 @@
 // What a gather, a pass and a scatter do to a state of merging.
 ghost use Rattle.std.specs.Prelude.{◌≡◌, ◌∷◌, [], IfOk};
 ghost use Rattle.index_fn.specs.Index.{mapping_of};
-ghost use Rattle.passes.specs.Merge.{ended, most, with_pass, with_scatter};
+ghost use Rattle.passes.specs.Merge.{ended, from_end, most, settled, with_pass, with_scatter};
 ghost use Rattle.term_merge.specs.Known.{AreKnownPasses, HasRoom, IsKnown};
 ghost use Rattle.pass_places.specs.Known.{AreSteps, IsKnownPass, IsStep};
 ghost use Rattle.pass_places.specs.Views.{mappings_of};
@@ -89,23 +89,21 @@ fn scattered_last(
         [] (plain_passes passes.items) (mapping_of f.now)) }
 {
     let waiting = Vec::new(alloc);
-    match parted(passes) {
-        None => {
-            let passes = Vec::new(alloc);
+    let Some(FirstPass { first, others }) = parted(passes) else {
+        let passes = Vec::new(alloc);
+        let next = with_gather(Merging { waiting, passes }, back_of(alloc, f)?)?;
+        return Ok(next);
+    };
+    match scattered(alloc, f, first, limits)? {
+        Change::Made(pass) => {
+            let passes = with_first(pass, others)?;
+            Ok(Merging { waiting, passes })
+        }
+        Change::Refused(first) => {
+            let passes = with_first(first, others)?;
             let next = with_gather(Merging { waiting, passes }, back_of(alloc, f)?)?;
             Ok(next)
         }
-        Some(FirstPass { first, others }) => match scattered(alloc, f, first, limits)? {
-            Change::Made(pass) => {
-                let passes = with_first(pass, others)?;
-                Ok(Merging { waiting, passes })
-            }
-            Change::Refused(first) => {
-                let passes = with_first(first, others)?;
-                let next = with_gather(Merging { waiting, passes }, back_of(alloc, f)?)?;
-                Ok(next)
-            }
-        },
     }
 }
 
@@ -123,30 +121,40 @@ pub(crate) fn ended(
     ensures { IfOk result (λ ps. plain_passes ps.items ≡ ended (most limits.room) limits.size
         (mappings_of waiting.now) (plain_passes passes.items)) }
 {
-    match waiting.split_first() {
-        None => Ok(passes),
-        Some((f, rest)) => match parted(passes) {
-            None => {
-                let turned = from_end(alloc, waiting)?;
-                let passes = settled(alloc, &turned, limits)?;
-                Ok(passes)
-            }
-            Some(FirstPass { first, others }) => {
-                let back = back_of(alloc, f)?;
-                match scattered(alloc, &back, first, limits)? {
-                    Change::Made(pass) => {
-                        let passes = with_first(pass, others)?;
-                        let passes = ended(alloc, rest, passes, limits)?;
-                        Ok(passes)
-                    }
-                    Change::Refused(first) => {
-                        let turned = from_end(alloc, waiting)?;
-                        let after = settled(alloc, &turned, limits)?;
-                        let passes = with_before(after, with_first(first, others)?)?;
-                        Ok(passes)
-                    }
-                }
-            }
-        },
+    let Some((f, rest)) = waiting.split_first() else {
+        return Ok(passes);
+    };
+    let Some(FirstPass { first, others }) = parted(passes) else {
+        let passes = settled_from_end(alloc, waiting, limits)?;
+        return Ok(passes);
+    };
+    let back = back_of(alloc, f)?;
+    match scattered(alloc, &back, first, limits)? {
+        Change::Made(pass) => {
+            let passes = with_first(pass, others)?;
+            let passes = ended(alloc, rest, passes, limits)?;
+            Ok(passes)
+        }
+        Change::Refused(first) => {
+            let after = settled_from_end(alloc, waiting, limits)?;
+            let passes = with_before(after, with_first(first, others)?)?;
+            Ok(passes)
+        }
     }
+}
+
+// Gathers, the earliest first, as copy passes: the latest first.
+fn settled_from_end(
+    alloc: Global,
+    waiting: &[Index],
+    limits: Limits,
+) -> Result<Vec<Vec<Nest>>, NoMemory>
+    requires room { HasRoom limits.room limits.size }
+    requires steps { AreSteps limits.size (mappings_of waiting.now) }
+    ensures { IfOk result (λ ps. plain_passes ps.items
+        ≡ settled (most limits.room) limits.size (from_end (mappings_of waiting.now))) }
+{
+    let turned = from_end(alloc, waiting)?;
+    let passes = settled(alloc, &turned, limits)?;
+    Ok(passes)
 }

@@ -13,6 +13,7 @@ use Rattle.code_check.specs.Walk.{walked}
 use Rattle.std.specs.Prelude.{◌==◌}
 use Rattle.code_check.proofs.Lives.{no_lives}
 use Rattle.code_check.proofs.Phases.{IsPhaseSoFar, limits_of, live_steps, live_within, idle_phase, body_is_short, phase_goes_on, phase_stops, phase_ends}
+use Rattle.code_check.proofs.Tables.{table_length}
 use Rattle.code_check.proofs.phase.check_phase.Goals as goal
 
 pub walk_body-walk-requires-clause-within : goal.walk_body-walk-requires-clause-within
@@ -30,6 +31,11 @@ walk_body-walk-requires-clause-few c =
       ap (λ (items : List Live). len_of_body (plain_lives items)) c.deref-in-loop-proc.ensures.value,
       body_is_short p c.args.phase c.index.result.now (plain_lives c.in_ok-body.body.items) c.requires.phase c.index.ensures lives c.requires.few,
     )
+
+pub walk_body-walk-requires-clause-lines : goal.walk_body-walk-requires-clause-lines
+walk_body-walk-requires-clause-lines c =
+    ap length c.deref_mut.ensures.value
+    ∙ (ap length c.loop-proc.invariant.noted ∙ table_length (plain_program c.args.program.now) c.args.phase c.loop-proc.proc)
 
 pub returns-in-Err : goal.returns-in-Err
 returns-in-Err c =

@@ -10,8 +10,8 @@ use Rattle.code_check.proofs.walk.+walk.Goals as goal
 
 pub walk_body-returns-in_err-walk_stmt-clause-walk : goal.walk_body-returns-in_err-walk_stmt-clause-walk
 walk_body-returns-in_err-walk_stmt-clause-walk t c =
-    let p = plain_program c.args.program.now in
-    let q = c.args.proc in
+    let p = plain_program c.args.worker.now.program.now in
+    let q = c.args.worker.now.proc in
     let vs : List ℕ = take c.args.depth c.args.values.now in
     let inv = c.loop-stmt.invariant in
     let next = next_live c.args.body.now c.loop-stmt.stmt-index c.stmt-item.result c.loop-stmt-test.true c.stmt-item.is in
@@ -23,8 +23,8 @@ walk_body-returns-in_err-walk_stmt-clause-walk t c =
 
 pub walk_body-loop-stmt-preserved : goal.walk_body-loop-stmt-preserved
 walk_body-loop-stmt-preserved t c =
-    let p = plain_program c.args.program.now in
-    let q = c.args.proc in
+    let p = plain_program c.args.worker.now.program.now in
+    let q = c.args.worker.now.proc in
     let vs : List ℕ = take c.args.depth c.args.values.now in
     let inv = c.loop-stmt.invariant in
     let next = next_live c.args.body.now c.loop-stmt.stmt-index c.stmt-item.result c.loop-stmt-test.true c.stmt-item.is in
@@ -37,8 +37,8 @@ walk_body-loop-stmt-preserved t c =
 
 pub walk_stmt-returns-in_err-walk_body-in-Loop-clause-walk : goal.walk_stmt-returns-in_err-walk_body-in-Loop-clause-walk
 walk_stmt-returns-in_err-walk_body-in-Loop-clause-walk t c =
-    let p = plain_program c.args.program.now in
-    let q = c.args.proc in
+    let p = plain_program c.args.worker.now.program.now in
+    let q = c.args.worker.now.proc in
     let vs : List ℕ = take c.args.depth c.args.values.now in
     let inv = c.loop-turn.invariant in
     let is = ap plain_live c.in-Loop.is ∙ plain_live-Loop c.in-Loop.turns c.in-Loop.body in
@@ -52,8 +52,8 @@ walk_stmt-returns-in_err-walk_body-in-Loop-clause-walk t c =
 
 pub walk_stmt-loop-turn-preserved : goal.walk_stmt-loop-turn-preserved
 walk_stmt-loop-turn-preserved t c =
-    let p = plain_program c.args.program.now in
-    let q = c.args.proc in
+    let p = plain_program c.args.worker.now.program.now in
+    let q = c.args.worker.now.proc in
     let vs : List ℕ = take c.args.depth c.args.values.now in
     let inv = c.loop-turn.invariant in
     let is = ap plain_live c.in-Loop.is ∙ plain_live-Loop c.in-Loop.turns c.in-Loop.body in

@@ -1,24 +1,24 @@
-use Rattle.std.proofs.Common.{rules, ◌≡◌, sym, ap, ◌∙◌, subst, arith, length, ◌-◌, ◌+◌}
-use Rattle.passes.specs.Merge.{sides}
+use Rattle.std.proofs.Common.{rules, ◌≡◌, sym, ap, ◌∙◌, subst, arith, length, ◌+◌}
+use Rattle.passes.specs.Merge.{Merging, ended, from_end, merged, most, sides}
 use Rattle.passes.specs.Views.{plain_term}
 use Rattle.term_merge.specs.Known.{IsKnown}
 use Rattle.term_merge.specs.Views.{plain_merging}
 use Rattle.loop_nests.specs.Views.{plain_passes}
 use Rattle.term_merge.proofs.Depths.{term_depth}
 use Rattle.term_merge.proofs.Merged.{merged-known, nothing-known}
-use Rattle.term_merge.proofs.Parts.{can-merge, factors-of, is-part, known-both, part-ended, part-known, parts-of, same-term}
+use Rattle.term_merge.proofs.Parts.{alone-known, can-merge, factors-of, is-part, known-both, merged-anew, parts-of, same-term}
 use Rattle.term_merge.proofs.merging.+merged.Goals as goal
 
-pub merged-requires : goal.merged-requires
-merged-requires t c =
+pub merged-merged-requires : goal.merged-merged-requires
+merged-merged-requires t c =
     let can = can-merge _ _ _ c.requires.room c.requires.good c.requires.several c.requires.words in
     let factors = factors-of _ _ _ _ _ can (ap plain_term c.in-Product.is) in
     let whole : term_depth (plain_term c.args.term) ≡ 1 + (term_depth (plain_term c.in-Product.a.value) + term_depth (plain_term c.in-Product.b.value)) = ap (λ x. term_depth (plain_term x)) c.in-Product.is in
     let first = same-term _ _ c.in-Product.a.value c.into_inner.result c.into_inner.ensures factors.first in
     (omega (arith, c.decreases, whole, ap (λ x. term_depth (plain_term x)) c.into_inner.ensures), (c.requires.room, (c.requires.known, (first.good, (first.several, first.words)))))
 
-pub merged-requires-in-Product : goal.merged-requires-in-Product
-merged-requires-in-Product t c =
+pub merged-merged-requires-in-Product : goal.merged-merged-requires-in-Product
+merged-merged-requires-in-Product t c =
     let can = can-merge _ _ _ c.requires.room c.requires.good c.requires.several c.requires.words in
     let factors = factors-of _ _ _ _ _ can (ap plain_term c.in-Product.is) in
     let whole : term_depth (plain_term c.args.term) ≡ 1 + (term_depth (plain_term c.in-Product.a.value) + term_depth (plain_term c.in-Product.b.value)) = ap (λ x. term_depth (plain_term x)) c.in-Product.is in
@@ -29,91 +29,71 @@ merged-requires-in-Product t c =
       (c.requires.room, (subst (IsKnown c.args.limits.room c.args.limits.size) (sym c.in_ok-next-in-Product.ensures) known, (second.good, (second.several, second.words)))),
     )
 
-pub overflow_sub-room : goal.overflow_sub-room
-overflow_sub-room t c =
+pub merged-overflow_sub-room : goal.merged-overflow_sub-room
+merged-overflow_sub-room t c =
     let can = can-merge _ _ _ c.requires.room c.requires.good c.requires.several c.requires.words in
     let long : c.len.result ≡ length c.in-Beside.path.items = search rules in
     let parts = parts-of _ _ c.len.result _ _ _ _ _ _ can (ap plain_term c.in-Beside.is) long in
     omega (arith, long, parts.short)
 
-pub merged-requires-in-Beside : goal.merged-requires-in-Beside
-merged-requires-in-Beside t c =
+pub merged-merged_alone-requires : goal.merged-merged_alone-requires
+merged-merged_alone-requires t c =
     let can = can-merge _ _ _ c.requires.room c.requires.good c.requires.several c.requires.words in
     let long : c.len.result ≡ length c.in-Beside.path.items = search rules in
     let parts = parts-of _ _ c.len.result _ _ _ _ _ _ can (ap plain_term c.in-Beside.is) long in
     let whole : term_depth (plain_term c.args.term) ≡ 1 + (term_depth (plain_term c.in-Beside.first.value) + term_depth (plain_term c.in-Beside.second.value)) = ap (λ x. term_depth (plain_term x)) c.in-Beside.is in
     let first = same-term _ _ c.in-Beside.first.value c.into_inner-in-Beside.result c.into_inner-in-Beside.ensures parts.first in
-    let room = c.args.limits.room - c.len.result in
-    let known = subst (IsKnown room c.in-Beside.first_size) (sym c.nothing.ensures) (nothing-known room c.in-Beside.first_size) in
-    (omega (arith, c.decreases, whole, ap (λ x. term_depth (plain_term x)) c.into_inner-in-Beside.ensures), (first.room_left, (known, (first.good, (first.several, first.words)))))
+    (omega (arith, c.decreases, whole, ap (λ x. term_depth (plain_term x)) c.into_inner-in-Beside.ensures), (first.room_left, (first.good, (first.several, first.words))))
 
-pub finished-requires-clause-room : goal.finished-requires-clause-room
-finished-requires-clause-room t c =
-    let can = can-merge _ _ _ c.requires.room c.requires.good c.requires.several c.requires.words in
-    let long : c.len.result ≡ length c.in-Beside.path.items = search rules in
-    let parts = parts-of _ _ c.len.result _ _ _ _ _ _ can (ap plain_term c.in-Beside.is) long in
-    parts.first.room_left
-
-pub finished-requires-clause-known : goal.finished-requires-clause-known
-finished-requires-clause-known t c =
-    let can = can-merge _ _ _ c.requires.room c.requires.good c.requires.several c.requires.words in
-    let long : c.len.result ≡ length c.in-Beside.path.items = search rules in
-    let parts = parts-of _ _ c.len.result _ _ _ _ _ _ can (ap plain_term c.in-Beside.is) long in
-    let first = same-term _ _ c.in-Beside.first.value c.into_inner-in-Beside.result c.into_inner-in-Beside.ensures parts.first in
-    part-known _ _ _ (plain_merging c.nothing.result) (plain_merging c.in_ok-left-in-Beside.left) first c.nothing.ensures c.in_ok-left-in-Beside.ensures
-
-pub merged-requires-in-Beside-2 : goal.merged-requires-in-Beside-2
-merged-requires-in-Beside-2 t c =
+pub merged-merged_alone-requires-in-Beside : goal.merged-merged_alone-requires-in-Beside
+merged-merged_alone-requires-in-Beside t c =
     let can = can-merge _ _ _ c.requires.room c.requires.good c.requires.several c.requires.words in
     let long : c.len.result ≡ length c.in-Beside.path.items = search rules in
     let parts = parts-of _ _ c.len.result _ _ _ _ _ _ can (ap plain_term c.in-Beside.is) long in
     let whole : term_depth (plain_term c.args.term) ≡ 1 + (term_depth (plain_term c.in-Beside.first.value) + term_depth (plain_term c.in-Beside.second.value)) = ap (λ x. term_depth (plain_term x)) c.in-Beside.is in
     let second = same-term _ _ c.in-Beside.second.value c.into_inner-in-Beside-2.result c.into_inner-in-Beside-2.ensures parts.second in
-    let room = c.args.limits.room - c.len.result in
-    let known = subst (IsKnown room c.in-Beside.second_size) (sym c.nothing-in-Beside.ensures) (nothing-known room c.in-Beside.second_size) in
-    (omega (arith, c.decreases, whole, ap (λ x. term_depth (plain_term x)) c.into_inner-in-Beside-2.ensures), (second.room_left, (known, (second.good, (second.several, second.words)))))
+    (omega (arith, c.decreases, whole, ap (λ x. term_depth (plain_term x)) c.into_inner-in-Beside-2.ensures), (second.room_left, (second.good, (second.several, second.words))))
 
-pub finished-requires-in-Beside-clause-room : goal.finished-requires-in-Beside-clause-room
-finished-requires-in-Beside-clause-room t c =
-    let can = can-merge _ _ _ c.requires.room c.requires.good c.requires.several c.requires.words in
-    let long : c.len.result ≡ length c.in-Beside.path.items = search rules in
-    let parts = parts-of _ _ c.len.result _ _ _ _ _ _ can (ap plain_term c.in-Beside.is) long in
-    parts.second.room_left
-
-pub finished-requires-in-Beside-clause-known : goal.finished-requires-in-Beside-clause-known
-finished-requires-in-Beside-clause-known t c =
-    let can = can-merge _ _ _ c.requires.room c.requires.good c.requires.several c.requires.words in
-    let long : c.len.result ≡ length c.in-Beside.path.items = search rules in
-    let parts = parts-of _ _ c.len.result _ _ _ _ _ _ can (ap plain_term c.in-Beside.is) long in
-    let second = same-term _ _ c.in-Beside.second.value c.into_inner-in-Beside-2.result c.into_inner-in-Beside-2.ensures parts.second in
-    part-known _ _ _ (plain_merging c.nothing-in-Beside.result) (plain_merging c.in_ok-right-in-Beside.right) second c.nothing-in-Beside.ensures c.in_ok-right-in-Beside.ensures
-
-pub sides-requires-clause-first : goal.sides-requires-clause-first
-sides-requires-clause-first t c =
+pub merged-sides-requires-clause-first : goal.merged-sides-requires-clause-first
+merged-sides-requires-clause-first t c =
     let can = can-merge _ _ _ c.requires.room c.requires.good c.requires.several c.requires.words in
     let long : c.len.result ≡ length c.in-Beside.path.items = search rules in
     let parts = parts-of _ _ c.len.result _ _ _ _ _ _ can (ap plain_term c.in-Beside.is) long in
     let first = same-term _ _ c.in-Beside.first.value c.into_inner-in-Beside.result c.into_inner-in-Beside.ensures parts.first in
-    is-part _ _ _ (plain_merging c.nothing.result) (plain_merging c.in_ok-left-in-Beside.left) first c.nothing.ensures c.in_ok-left-in-Beside.ensures (plain_passes c.in_ok-left-in-Beside-2.left.items) c.in_ok-left-in-Beside-2.ensures
+    is-part _ _ _ first (plain_passes c.in_ok-left-in-Beside.left.items) c.in_ok-left-in-Beside.ensures
 
-pub sides-requires-clause-second : goal.sides-requires-clause-second
-sides-requires-clause-second t c =
+pub merged-sides-requires-clause-second : goal.merged-sides-requires-clause-second
+merged-sides-requires-clause-second t c =
     let can = can-merge _ _ _ c.requires.room c.requires.good c.requires.several c.requires.words in
     let long : c.len.result ≡ length c.in-Beside.path.items = search rules in
     let parts = parts-of _ _ c.len.result _ _ _ _ _ _ can (ap plain_term c.in-Beside.is) long in
     let second = same-term _ _ c.in-Beside.second.value c.into_inner-in-Beside-2.result c.into_inner-in-Beside-2.ensures parts.second in
-    is-part _ _ _ (plain_merging c.nothing-in-Beside.result) (plain_merging c.in_ok-right-in-Beside.right) second c.nothing-in-Beside.ensures c.in_ok-right-in-Beside.ensures (plain_passes c.in_ok-right-in-Beside-2.right.items) c.in_ok-right-in-Beside-2.ensures
+    is-part _ _ _ second (plain_passes c.in_ok-right-in-Beside.right.items) c.in_ok-right-in-Beside.ensures
 
-pub with_passes-requires-clause-known : goal.with_passes-requires-clause-known
-with_passes-requires-clause-known t c =
+pub merged-with_passes-requires-clause-known : goal.merged-with_passes-requires-clause-known
+merged-with_passes-requires-clause-known t c =
     let can = can-merge _ _ _ c.requires.room c.requires.good c.requires.several c.requires.words in
     let long : c.len.result ≡ length c.in-Beside.path.items = search rules in
     let parts = parts-of _ _ c.len.result _ _ _ _ _ _ can (ap plain_term c.in-Beside.is) long in
     let first = same-term _ _ c.in-Beside.first.value c.into_inner-in-Beside.result c.into_inner-in-Beside.ensures parts.first in
     let second = same-term _ _ c.in-Beside.second.value c.into_inner-in-Beside-2.result c.into_inner-in-Beside-2.ensures parts.second in
-    let ps = plain_passes c.in_ok-left-in-Beside-2.left.items in
-    let qs = plain_passes c.in_ok-right-in-Beside-2.right.items in
+    let ps = plain_passes c.in_ok-left-in-Beside.left.items in
+    let qs = plain_passes c.in_ok-right-in-Beside.right.items in
     known-both _ _ _ _ _ _ _ _ ps qs _ c.requires.room parts
-    (part-ended _ _ _ (plain_merging c.nothing.result) (plain_merging c.in_ok-left-in-Beside.left) first c.nothing.ensures c.in_ok-left-in-Beside.ensures ps c.in_ok-left-in-Beside-2.ensures)
-    (part-ended _ _ _ (plain_merging c.nothing-in-Beside.result) (plain_merging c.in_ok-right-in-Beside.right) second c.nothing-in-Beside.ensures c.in_ok-right-in-Beside.ensures qs c.in_ok-right-in-Beside-2.ensures)
+    (alone-known _ _ _ first ps c.in_ok-left-in-Beside.ensures) (alone-known _ _ _ second qs c.in_ok-right-in-Beside.ensures)
     (c.in_ok-both-in-Beside.ensures ∙ ap (λ p. sides p c.in-Beside.first_size c.in-Beside.second_size ps qs) c.deref-in-Beside.ensures.value)
+
+pub merged_alone-merged-requires : goal.merged_alone-merged-requires
+merged_alone-merged-requires t c =
+    let known = subst (IsKnown c.args.room c.args.size) (sym c.nothing.ensures) (nothing-known c.args.room c.args.size) in
+    (omega (arith, c.decreases), (c.requires.room, (known, (c.requires.good, (c.requires.several, c.requires.words)))))
+
+pub merged_alone-finished-requires-clause-known : goal.merged_alone-finished-requires-clause-known
+merged_alone-finished-requires-clause-known t c =
+    let can = can-merge _ _ _ c.requires.room c.requires.good c.requires.several c.requires.words in
+    merged-anew c.args.room c.args.size (plain_term c.args.term) (plain_merging c.in_ok-state.state) can (c.in_ok-state.ensures ∙ ap (λ st. merged (most c.args.room) c.args.size st (plain_term c.args.term)) c.nothing.ensures)
+
+pub merged_alone-returns : goal.merged_alone-returns
+merged_alone-returns t c =
+    c.in_ok-passes.ensures
+    ∙ ap (λ (st : Merging). ended (most c.args.room) c.args.size (from_end st.waiting) st.passes) (c.in_ok-state.ensures ∙ ap (λ st. merged (most c.args.room) c.args.size st (plain_term c.args.term)) c.nothing.ensures)

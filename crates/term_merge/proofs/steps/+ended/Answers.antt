@@ -1,15 +1,11 @@
-use Rattle.std.proofs.Common.{refl, sym, ap, ◌∙◌, subst, arith, map}
+use Rattle.std.proofs.Common.{refl, sym, subst, arith, map}
 use Rattle.index_fn.specs.Index.{mapping_of}
 use Rattle.passes.specs.Good.{IsFormed}
 use Rattle.passes.specs.Views.{plain_nest}
 use Rattle.term_merge.specs.Known.{AreKnownPasses}
 use Rattle.pass_places.specs.Known.{AreSteps}
-use Rattle.term_merge.proofs.Readies.{known-stores, steps-end}
+use Rattle.term_merge.proofs.Readies.{known-stores}
 use Rattle.term_merge.proofs.steps.+ended.Goals as goal
-
-pub settled-requires-clause-steps : goal.settled-requires-clause-steps
-settled-requires-clause-steps t c =
-    subst (AreSteps c.args.limits.size) (sym (ap (map mapping_of) c.deref.ensures.value ∙ c.in_ok-turned-in-None-parted.ensures)) (steps-end c.args.limits.size (map mapping_of c.args.waiting.now) c.requires.steps)
 
 pub ended-requires : goal.ended-requires
 ended-requires t c =
@@ -17,13 +13,9 @@ ended-requires t c =
     let n = c.args.limits.size in
     let steps = subst (λ fs. AreSteps n (map mapping_of fs)) c.in-Some.ensures.cases.0 c.requires.steps in
     let known = subst (AreKnownPasses room n) (c.in-Some-parted.ensures.some c.in-Some-parted.field-0 refl) c.requires.known in
-    let formed = subst IsFormed (sym c.in_ok-back-in-Some-parted.ensures) steps.0.moves.back in
-    let made = c.in_ok-pass-in-Some-parted.ensures.made c.in-Made.pass c.in-Made.is in
-    let changed = known-stores room n c.requires.room (mapping_of c.in_ok-back-in-Some-parted.back) (map plain_nest c.in-Some-parted.field-0.first.items) (map plain_nest c.in-Made.pass.items) formed made.0 made.1 known.0 in (
+    let formed = subst IsFormed (sym c.in_ok-back.ensures) steps.0.moves.back in
+    let made = c.in_ok-pass.ensures.made c.in-Made.pass c.in-Made.is in
+    let changed = known-stores room n c.requires.room (mapping_of c.in_ok-back.back) (map plain_nest c.in-Some-parted.field-0.first.items) (map plain_nest c.in-Made.pass.items) formed made.0 made.1 known.0 in (
       omega (arith, c.decreases, c.in-Some.ensures.cases.1),
       (c.requires.room, (steps.1, subst (AreKnownPasses room n) (sym c.in_ok-passes-in-Made.ensures) (changed, known.1))),
     )
-
-pub settled-requires-in-Refused-clause-steps : goal.settled-requires-in-Refused-clause-steps
-settled-requires-in-Refused-clause-steps t c =
-    subst (AreSteps c.args.limits.size) (sym (ap (map mapping_of) c.deref-in-Refused.ensures.value ∙ c.in_ok-turned-in-Refused.ensures)) (steps-end c.args.limits.size (map mapping_of c.args.waiting.now) c.requires.steps)

@@ -1,0 +1,10 @@
+-- Steps that are added to those that were there.
+use Rattle.std.specs.Prelude.{◌≡◌, List, ◌++◌, map, Vec}
+use Rattle.std.proofs.Common.{Global}
+use Rattle.steps.specs.Step.{PlainStep}
+use Rattle.steps.specs.Views.{plain_step}
+use Rattle.steps.specs.declared.Step.{Step}
+
+-- the new steps are the old ones, and then these
+abbrev pub Appends : Vec Step Global → Vec Step Global → List PlainStep → Type 0
+Appends old new more = map plain_step new.items ≡ map plain_step old.items ++ more
