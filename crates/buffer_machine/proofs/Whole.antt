@@ -25,6 +25,7 @@ use Rattle.icode.proofs.BufferedCompletion.{drop_at}
 use Rattle.buffer_machine.specs.declared.machine.BufMachine.TheInside.{Inside}
 use Rattle.buffer_machine.specs.Backlog.{Backlog}
 use Rattle.buffer_machine.specs.Drains.{IsWritten}
+use Rattle.buffer_machine.specs.Fresh.{empty_queue, zero_stand}
 use Rattle.buffer_machine.specs.Good.{IsGood}
 use Rattle.buffer_machine.specs.Walking.{IsWalking}
 use Rattle.buffer_machine.specs.Ready.{CanAct}
@@ -316,21 +317,10 @@ put_whole a x v m w ev size below ec em =
 
 -- A new machine
 
--- all words 0, and queues with room for so many stores
-abbrev pub zero_stand : ℕ → ℕ → ℕ → ℕ → ℕ → Stand
-zero_stand room procs words lanes most =
-    record {
-      memory = replicate (4 * room) 0;
-      registers = replicate procs (replicate words 0);
-      queues = replicate procs (record { lanes = lanes; waiting = []; room = most; most = most; span = 4 * room });
-      phase = 0;
-      done = replicate procs 0;
-    }
-
 zero_standing : (p : Program) (most : ℕ) → ((phase q : ℕ) → q < p.procs → stores_among (acts (code_of p) phase q) ≤ most) → IsStanding (code_of p) (zero_stand (padded (code_of p)) p.procs (p.regs * p.lanes) p.lanes most)
 zero_standing p most h =
     let pos : 0 < p.modulus = omega (arith, p.header.of_modulus.0) in
-    let l : Backlog = record { lanes = p.lanes; waiting = []; room = most; most = most; span = 4 * padded (code_of p) } in
+    let l : Backlog = empty_queue p.lanes most (4 * padded (code_of p)) in
     let at : (q : ℕ) → q < p.procs → backlog_at (replicate p.procs l) q ≡ l = λ q lt. get_or-replicate p.procs q l (record { lanes = 0; waiting = []; room = 0; most = 0; span = 0 }) lt in
     record {
       memory = length-replicate {A = ℕ} (4 * padded (code_of p)) 0;
@@ -353,7 +343,7 @@ zero_standing p most h =
     zeros_below m (suc n) k zero pos = below-zeros m k pos
     zeros_below m (suc n) k (suc q) pos = zeros_below m n k q pos
 
-    none_sound : (m lanes span n lanes' most s q : ℕ) → AreSound m lanes span (backlog_at (replicate n (record { lanes = lanes'; waiting = []; room = most; most = most; span = s })) q).waiting
+    none_sound : (m lanes span n lanes' most s q : ℕ) → AreSound m lanes span (backlog_at (replicate n (empty_queue lanes' most s)) q).waiting
     none_sound m lanes span zero lanes' most s q = tt
     none_sound m lanes span (suc n) lanes' most s zero = tt
     none_sound m lanes span (suc n) lanes' most s (suc q) = none_sound m lanes span n lanes' most s q

@@ -11,3 +11,6 @@ pub mod Good
 pub mod Walking
 pub mod View
 pub mod Lent
+pub mod Fresh
+pub mod Next
+pub mod Acting

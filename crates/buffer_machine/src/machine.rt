@@ -1,10 +1,11 @@
 // The machine.
 
-ghost use Rattle.std.specs.Prelude.{◌≡◌, ℕ, ◌+◌, ◌-◌, ◌*◌, ◌^◌, ◌<◌, ◌≤◌, [], ◌∷◌, length, All, slice_index, replicate, false, IfSome, IfNone, IfOk};
+ghost use Rattle.std.specs.Prelude.{◌≡◌, ℕ, ◌+◌, ◌-◌, ◌*◌, ◌^◌, ◌<◌, ◌≤◌, [], length, All, slice_index, replicate, false, IfSome, IfNone, IfOk};
 ghost use Rattle.icode.specs.Buffers.{proc_of, some_wait, buffered_start, buffered_turn, drain, drain_answer, buffered_step, buffered_run, buffered_completion, buffered_finished};
 ghost use Rattle.icode.specs.Machine.{acts, answer, padded};
 ghost use Rattle.icode.specs.Program.{code_of, Fits};
 ghost use Rattle.buffer_machine.specs.Listed.{events_of, HasNoStranger};
+ghost use Rattle.buffer_machine.specs.Next.{IsNextEvent};
 ghost use Rattle.buffer_machine.specs.Running.{Running};
 
 use crate::events::Events;
@@ -48,7 +49,8 @@ impl BufMachine {
     pub fn new(alloc: Global, program: &Program) -> Result<Self, NoMemory>
         requires { Fits program.now }
         ensures code { IfOk result (λ machine. machine.code ≡ code_of program.now) }
-        ensures state { IfOk result (λ machine. machine.state ≡ buffered_start (code_of program.now) (replicate program.now.size 0)) }
+        ensures state { IfOk result (λ machine. machine.state
+            ≡ buffered_start (code_of program.now) (replicate program.now.size 0)) }
     {
         let shape = shape_of(program);
         let lens = make_lens(alloc, program)?;
@@ -113,7 +115,7 @@ impl BufMachine {
     /// The next of the events that finish the run: of the first processor that has an action left or a store that waits,
     /// its turn or else its drain.
     pub fn next_event(&self) -> Option<Event>
-        ensures found { IfSome result (λ e. (proc_of e < self.now.code.procs) × (buffered_completion self.now.code self.now.state ≡ e ∷ buffered_completion self.now.code (buffered_step self.now.code self.now.state e))) }
+        ensures found { IfSome result (λ event. IsNextEvent self.now.code self.now.state event) }
         ensures none { IfNone result (buffered_completion self.now.code self.now.state ≡ []) }
         ensures few { length (buffered_completion self.now.code self.now.state) < 2 ^ 60 }
     {
@@ -169,7 +171,8 @@ impl BufMachine {
     /// The events of a word, without their completion.
     pub fn run_events(&mut self, events: Events)
         requires no_stranger { HasNoStranger events self.old.code.procs }
-        ensures state { self.new.state ≡ buffered_run self.old.code self.old.state (events_of events.entry self.old.code.procs) }
+        ensures state { self.new.state ≡ buffered_run self.old.code self.old.state
+            (events_of events.entry self.old.code.procs) }
         ensures code { self.new.code ≡ self.old.code }
     {
         let procs = self.procs();
@@ -180,7 +183,7 @@ impl BufMachine {
 
     /// The next of the events that finish the run, as long as a store waits.
     fn next_waiting(&self) -> Option<Event>
-        ensures found { IfSome result (λ e. (proc_of e < self.now.code.procs) × (buffered_completion self.now.code self.now.state ≡ e ∷ buffered_completion self.now.code (buffered_step self.now.code self.now.state e))) }
+        ensures found { IfSome result (λ event. IsNextEvent self.now.code self.now.state event) }
         ensures none { IfNone result (some_wait self.now.state.queues ≡ false) }
         ensures few { length (buffered_completion self.now.code self.now.state) < 2 ^ 60 }
     {

@@ -1,10 +1,10 @@
 // The parts of a new machine.
 
-ghost use Rattle.std.specs.Prelude.{◌≡◌, ℕ, ◌*◌, ◌^◌, ◌<◌, ◌≤◌, [], replicate, IfOk};
+ghost use Rattle.std.specs.Prelude.{◌≡◌, ℕ, ◌*◌, ◌^◌, ◌<◌, ◌≤◌, replicate, IfOk};
 ghost use Rattle.icode.specs.Buffers.{stores_among};
 ghost use Rattle.icode.specs.Machine.{acts};
 ghost use Rattle.icode.specs.Program.{code_of, Fits};
-ghost use Rattle.buffer_machine.specs.Backlog.{Backlog};
+ghost use Rattle.buffer_machine.specs.Fresh.{empty_queue, zero_stand};
 ghost use Rattle.buffer_machine.specs.Stand.{HasLens};
 
 use crate::queue::Queue;
@@ -39,7 +39,8 @@ fn larger(a: u64, b: u64) -> u64
 /// The most stores that a processor makes in one phase.
 pub(crate) fn most_stores(program: &Program) -> u64
     requires { Fits program.now }
-    ensures each { (phase q : ℕ) → q < program.now.procs → stores_among (acts (code_of program.now) phase q) ≤ result }
+    ensures each { (phase q : ℕ) → q < program.now.procs
+        → stores_among (acts (code_of program.now) phase q) ≤ result }
     ensures few { result < 2 ^ 59 }
 {
     let mut most = 0;
@@ -59,7 +60,7 @@ pub(crate) fn make_queues(
 ) -> Result<Vec<Queue>, NoMemory>
     requires most { most < 2 ^ 59 }
     requires lanes { lanes ≤ 16 }
-    ensures { IfOk result (λ queues. queues.items ≡ replicate procs (record { lanes = lanes; waiting = []; room = most; most = most; span = span })) }
+    ensures { IfOk result (λ queues. queues.items ≡ replicate procs (empty_queue lanes most span)) }
 {
     let mut queues = Vec::new(alloc);
     while (queues.len() as u64) < procs {
@@ -88,7 +89,8 @@ pub(crate) fn make_registers(
 /// All words 0, no store that waits, and nothing done, in phase 0.
 pub(crate) fn make_values(alloc: Global, shape: &Shape, most: u64) -> Result<Values, NoMemory>
     requires most { most < 2 ^ 59 }
-    ensures { IfOk result (λ v. v ≡ record { memory = replicate (4 * shape.now.room) 0; registers = replicate shape.now.procs (replicate (shape.now.regs * shape.now.lanes) 0); queues = replicate shape.now.procs (record { lanes = shape.now.lanes; waiting = []; room = most; most = most; span = 4 * shape.now.room }); phase = 0; done = replicate shape.now.procs 0 }) }
+    ensures { IfOk result (λ v. v ≡ zero_stand shape.now.room shape.now.procs
+        (shape.now.regs * shape.now.lanes) shape.now.lanes most) }
 {
     let memory = vec![in alloc; 0; (4 * shape.room) as usize]?;
     let registers = make_registers(alloc, shape.procs, shape.regs * shape.lanes)?;

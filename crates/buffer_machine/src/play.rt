@@ -3,8 +3,8 @@
 ghost use Rattle.std.specs.Prelude.{◌≡◌, ℕ, ◌+◌, ◌*◌, ◌<◌, ◌≤◌, ◌++◌, [], ◌∷◌, length, slice_index};
 ghost use Rattle.icode.specs.Actions.{RegistersFit, FactorsFit};
 ghost use Rattle.icode.specs.Buffers.{overlaid, stored, stores_among};
-ghost use Rattle.icode.specs.Machine.{effect};
 ghost use Rattle.icode.specs.Operation.{AddressFits};
+ghost use Rattle.buffer_machine.specs.Acting.{registers_on};
 
 use crate::queue::Queue;
 use crate::registers::Registers;
@@ -27,8 +27,10 @@ pub(crate) fn play(
     requires room { stores_among (action.now ∷ []) ≤ queue.old.room }
     requires lanes { queue.old.lanes ≡ shape.now.lanes }
     requires span { queue.old.span ≡ length memory.now }
-    ensures registers { registers.new ≡ (effect shape.now.modulus shape.now.lanes action.now (record { memory = overlaid memory.now queue.old.waiting; registers = registers.old })).registers }
-    ensures waiting { queue.new.waiting ≡ queue.old.waiting ++ stored shape.now.lanes action.now registers.old }
+    ensures registers { registers.new ≡ registers_on shape.now.modulus shape.now.lanes action.now
+        (overlaid memory.now queue.old.waiting) registers.old }
+    ensures waiting { queue.new.waiting
+        ≡ queue.old.waiting ++ stored shape.now.lanes action.now registers.old }
     ensures room { queue.new.room + stores_among (action.now ∷ []) ≡ queue.old.room }
     ensures most { queue.new.most ≡ queue.old.most }
     ensures lanes { queue.new.lanes ≡ queue.old.lanes }

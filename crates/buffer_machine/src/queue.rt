@@ -3,6 +3,7 @@
 ghost use Rattle.std.specs.Prelude.{◌≡◌, ℕ, ◌+◌, ◌^◌, ◌<◌, ◌≤◌, [], ◌∷◌, ◌++◌, length, replicate, slice_index, IfOk};
 ghost use Rattle.icode.specs.Buffers.{is_waiting, overlaid};
 ghost use Rattle.icode.specs.Machine.{with_words, words_at};
+ghost use Rattle.buffer_machine.specs.Fresh.{empty_queue};
 ghost use Rattle.buffer_machine.specs.Waits.{OldestFits, IsDrained};
 
 use icode::effect::copy_lanes;
@@ -51,7 +52,7 @@ impl Queue {
     pub(crate) fn new(alloc: Global, most: u64, lanes: u64, span: u64) -> Result<Self, NoMemory>
         requires most { most < 2 ^ 59 }
         requires lanes { lanes ≤ 16 }
-        ensures { IfOk result (λ q. q ≡ record { lanes = lanes; waiting = []; room = most; most = most; span = span }) }
+        ensures { IfOk result (λ q. q ≡ empty_queue lanes most span) }
     {
         let addresses = vec![in alloc; 0; most as usize]?;
         let words = vec![in alloc; 0; (most * lanes) as usize]?;
@@ -68,7 +69,7 @@ impl Queue {
 
     /// No store waits, and there is room as at first.
     pub(crate) fn clear(&mut self)
-        ensures { self.new ≡ record { lanes = self.old.lanes; waiting = []; room = self.old.most; most = self.old.most; span = self.old.span } }
+        ensures { self.new ≡ empty_queue self.old.lanes self.old.most self.old.span }
     {
         self.newest.fill(0);
         self.tail = 0;
@@ -133,7 +134,8 @@ impl Queue {
         requires inside { address + self.now.lanes ≤ length memory.now }
         requires span { self.now.span ≡ length memory.now }
         requires to { place + self.now.lanes ≤ length registers.old }
-        ensures { registers.new ≡ with_words registers.old place (words_at self.now.lanes (overlaid memory.now self.now.waiting) address) }
+        ensures { registers.new ≡ with_words registers.old place
+            (words_at self.now.lanes (overlaid memory.now self.now.waiting) address) }
     {
         for lane in 0..self.lanes {
             registers[(place + lane) as usize] = self.seen(memory, address + lane);

@@ -73,7 +73,8 @@ impl Registers {
         requires inside { address + shape.now.lanes ≤ length memory.now }
         requires lanes { queue.now.lanes ≡ shape.now.lanes }
         requires span { queue.now.span ≡ length memory.now }
-        ensures { self.new ≡ with_words self.old (register * shape.now.lanes) (words_at shape.now.lanes (overlaid memory.now queue.now.waiting) address) }
+        ensures { self.new ≡ with_words self.old (register * shape.now.lanes)
+            (words_at shape.now.lanes (overlaid memory.now queue.now.waiting) address) }
     {
         queue.load(memory, address, &mut self.words, register * shape.lanes);
     }

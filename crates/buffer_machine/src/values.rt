@@ -42,8 +42,10 @@ impl Model for Values {
 impl Values {
     /// A processor does the action; the phase does not move on yet.
     pub(crate) fn play(&mut self, shape: &Shape, action: &Action, proc: u64)
-        requires { CanAct shape.now.modulus shape.now.lanes shape.now.regs proc action.now self.old }
-        ensures { self.new ≡ acted_stand shape.now.modulus shape.now.lanes proc action.now self.old }
+        requires { CanAct shape.now.modulus shape.now.lanes shape.now.regs
+            proc action.now self.old }
+        ensures { self.new
+            ≡ acted_stand shape.now.modulus shape.now.lanes proc action.now self.old }
     {
         let registers = &mut self.registers[proc as usize];
         let queue = &mut self.queues[proc as usize];
@@ -84,7 +86,8 @@ impl Values {
     /// A processor's oldest store is written to memory; the phase does not move on yet. The result is its address.
     pub(crate) fn write_oldest(&mut self, proc: u64) -> u64
         requires queues { proc < length self.old.queues }
-        requires fits { OldestFits (backlog_at self.old.queues proc).lanes (length self.old.memory) (backlog_at self.old.queues proc).waiting }
+        requires fits { OldestFits (backlog_at self.old.queues proc).lanes (length self.old.memory)
+            (backlog_at self.old.queues proc).waiting }
         ensures { IsWritten proc self.old self.new result }
     {
         self.queues[proc as usize].write_oldest(&mut self.memory)
@@ -125,7 +128,8 @@ impl Values {
     pub(crate) fn take_back(&mut self, machine: &Machine)
         requires { IsHeld machine.now.code self.old.memory self.old.registers }
         ensures stand { self.new ≡ back_from machine.now.state self.old }
-        ensures held { IsHeld machine.now.code machine.now.state.memory machine.now.state.registers }
+        ensures held { IsHeld machine.now.code
+            machine.now.state.memory machine.now.state.registers }
     {
         self.memory.copy_from_slice(machine.memory());
         take_registers(&mut self.registers, machine);

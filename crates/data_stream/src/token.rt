@@ -20,10 +20,10 @@ impl Token {
 
     /// Takes the next byte, and answers whether the token can still be good.
     pub fn push(&mut self, byte: u8) -> bool
-        ensures good { (bytes : List ℕ) → IsDigits self.old.count self.old.value bytes → IsTrue result
-            → IsDigits self.new.count self.new.value (bytes ++ byte ∷ []) }
-        ensures bad { (bytes : List ℕ) → IsDigits self.old.count self.old.value bytes → IsFalse result
-            → is_good (bytes ++ byte ∷ []) ≡ false }
+        ensures good { (bytes : List ℕ) → IsDigits self.old.count self.old.value bytes
+            → IsTrue result → IsDigits self.new.count self.new.value (bytes ++ byte ∷ []) }
+        ensures bad { (bytes : List ℕ) → IsDigits self.old.count self.old.value bytes
+            → IsFalse result → is_good (bytes ++ byte ∷ []) ≡ false }
     {
         if !byte.is_ascii_digit() || self.count >= 20 {
             return false;

@@ -80,14 +80,16 @@ impl Vectors {
         requires within { self.old.ended ≡ true → feed.old.taken ≤ limit }
         requires end { self.old.ended ≡ true → IsAtEnd (to_come feed.old (S.left source.old)) }
 
-        ensures answer { (read : List ℕ) × Consumes (to_come feed.old (S.left source.old)) (to_come feed.new (S.left source.new)) read
+        ensures answer { (read : List ℕ) × Consumes (to_come feed.old (S.left source.old))
+            (to_come feed.new (S.left source.new)) read
             × (self.old.ended ≡ true → (read ≡ []) × (self.new.ended ≡ true) × (result ≡ Ok None))
             × GivesToken feed.old feed.new read self.new.ended result }
         ensures end { self.new.ended ≡ true → IsAtEnd (to_come feed.new (S.left source.new)) }
         ensures within { result ≢ Err TokenFault.TooLong → feed.new.taken ≤ limit }
         ensures same { self.new ≡ record self.old { ended = self.new.ended } }
         ensures empty { IsErrOf result TokenFault.ReadFault → feed.new.held ≡ [] }
-        ensures cause { Reports (S.faults source.old) (S.faults source.new) (IsErrOf result TokenFault.ReadFault) }
+        ensures cause { Reports (S.faults source.old) (S.faults source.new)
+            (IsErrOf result TokenFault.ReadFault) }
     {
         if self.ended {
             return Ok(None);
@@ -121,18 +123,22 @@ impl Vectors {
         requires size { length vector.old ≡ self.old.size }
         requires ready { IsReady self.old feed.old (to_come feed.old (S.left source.old)) }
 
-        ensures answer { (read : List ℕ) × Consumes (to_come feed.old (S.left source.old)) (to_come feed.new (S.left source.new)) read
+        ensures answer { (read : List ℕ) × Consumes (to_come feed.old (S.left source.old))
+            (to_come feed.new (S.left source.new)) read
             × (self.old.ended ≡ true → read ≡ [])
-            × GivesVector self.old.size modulus.now self.old.done feed.old feed.new read self.new.ended vector.new result }
+            × GivesVector self.old.size modulus.now self.old.done feed.old feed.new read
+            self.new.ended vector.new result }
         ensures residues { result ≡ Ok Next.Vector → All (λ v. v < modulus.now) vector.new }
-        ensures ready { result ≡ Ok Next.Vector → IsReady self.new feed.new (to_come feed.new (S.left source.new)) }
+        ensures ready { result ≡ Ok Next.Vector
+            → IsReady self.new feed.new (to_come feed.new (S.left source.new)) }
         ensures end { self.new.ended ≡ true → IsAtEnd (to_come feed.new (S.left source.new)) }
         ensures within { result ≢ Err DataFault.TooLong → feed.new.taken ≤ limit }
         ensures once { self.old.ended ≡ true → (result ≡ Ok Next.End) × (self.new.ended ≡ true) }
         ensures size { self.new.size ≡ self.old.size }
         ensures done { result ≡ Ok Next.Vector → self.new.done ≡ self.old.done + self.old.size }
         ensures empty { IsErrOf result DataFault.ReadFault → feed.new.held ≡ [] }
-        ensures cause { Reports (S.faults source.old) (S.faults source.new) (IsErrOf result DataFault.ReadFault) }
+        ensures cause { Reports (S.faults source.old) (S.faults source.new)
+            (IsErrOf result DataFault.ReadFault) }
     {
         for place in 0..vector.len() {
             let have = place as u64;

@@ -67,10 +67,12 @@ pub fn read_rest<S: Source>(
     most: u64,
 ) -> Result<Vec<u8>, RestFault>
     requires { feed.old.taken + most < limit }
-    ensures answer { (read : List ℕ) × Consumes (to_come feed.old (S.left source.old)) (to_come feed.new (S.left source.new)) read
+    ensures answer { (read : List ℕ) × Consumes (to_come feed.old (S.left source.old))
+        (to_come feed.new (S.left source.new)) read
         × GivesRest most read (IsAtEnd (to_come feed.new (S.left source.new))) result }
     ensures empty { IsErrOf result RestFault.ReadFault → feed.new.held ≡ [] }
-    ensures cause { Reports (S.faults source.old) (S.faults source.new) (IsErrOf result RestFault.ReadFault) }
+    ensures cause { Reports (S.faults source.old) (S.faults source.new)
+        (IsErrOf result RestFault.ReadFault) }
 {
     let mut text = Vec::new(alloc);
     while let Some(byte) = feed.byte(source)? {

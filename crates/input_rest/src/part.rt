@@ -25,10 +25,13 @@ pub fn read_part<S: Source>(
     most: u64,
 ) -> Result<Vec<u8>, RestFault>
     requires { feed.old.taken + most < limit }
-    ensures answer { (read : List ℕ) × Consumes (to_come feed.old (S.left source.old)) (to_come feed.new (S.left source.new)) read
-        × GivesPart most read (IsAtEnd (to_come feed.new (S.left source.new))) feed.old.taken feed.new.taken result }
+    ensures answer { (read : List ℕ) × Consumes (to_come feed.old (S.left source.old))
+        (to_come feed.new (S.left source.new)) read
+        × GivesPart most read (IsAtEnd (to_come feed.new (S.left source.new)))
+        feed.old.taken feed.new.taken result }
     ensures empty { IsErrOf result RestFault.ReadFault → feed.new.held ≡ [] }
-    ensures cause { Reports (S.faults source.old) (S.faults source.new) (IsErrOf result RestFault.ReadFault) }
+    ensures cause { Reports (S.faults source.old) (S.faults source.new)
+        (IsErrOf result RestFault.ReadFault) }
 {
     let mut text = Vec::new(alloc);
     let mut begins = true;

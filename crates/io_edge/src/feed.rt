@@ -49,7 +49,10 @@ impl Model for Feed {
 
     ghost Value = { Fed };
 
-    ghost view = { λ f. record { held = take (f.filled - f.at) (drop f.at f.block.items); taken = f.taken } };
+    ghost view = { λ f. record {
+      held = take (f.filled - f.at) (drop f.at f.block.items);
+      taken = f.taken;
+    } };
 
     ghost invariant = { λ f. (f.at ≤ f.filled) × (f.filled ≤ length f.block.items)
         × (0 < length f.block.items) × (f.taken ≤ limit + 1) };
@@ -75,9 +78,11 @@ impl Feed {
 
     /// The next byte, or none at the end of the input.
     pub fn byte<S: Source>(&mut self, source: &mut S) -> Result<Option<u8>, FeedFault>
-        ensures answer { Feeds self.old self.new (to_come self.old (S.left source.old)) (to_come self.new (S.left source.new)) result }
+        ensures answer { Feeds self.old self.new (to_come self.old (S.left source.old))
+            (to_come self.new (S.left source.new)) result }
         ensures empty { IsErrOf result FeedFault.ReadFault → self.new.held ≡ [] }
-        ensures cause { Reports (S.faults source.old) (S.faults source.new) (IsErrOf result FeedFault.ReadFault) }
+        ensures cause { Reports (S.faults source.old) (S.faults source.new)
+            (IsErrOf result FeedFault.ReadFault) }
     {
         if self.taken > Self::LIMIT {
             return Err(FeedFault::TooLong);
@@ -101,7 +106,8 @@ impl Feed {
     // Asks the source for a block, and answers whether it gave one.
     fn refill<S: Source>(&mut self, source: &mut S) -> Result<bool, Failed>
         requires { self.old.held ≡ [] }
-        ensures kept { Keeps (to_come self.old (S.left source.old)) (to_come self.new (S.left source.new)) }
+        ensures kept { Keeps (to_come self.old (S.left source.old))
+            (to_come self.new (S.left source.new)) }
         ensures taken { self.new.taken ≡ self.old.taken }
         ensures more { result ≡ Ok true → 0 < length self.new.held }
         ensures end { result ≡ Ok false → IsAtEnd (to_come self.new (S.left source.new)) }

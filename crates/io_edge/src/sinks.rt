@@ -28,7 +28,13 @@ impl Model for MemSink {
 
     ghost Value = { Store };
 
-    ghost view = { λ s. record { kept = s.bytes.items; room = s.room; fail_at = s.fail_at.items; calls = s.calls; faults = s.faults } };
+    ghost view = { λ s. record {
+      kept = s.bytes.items;
+      room = s.room;
+      fail_at = s.fail_at.items;
+      calls = s.calls;
+      faults = s.faults;
+    } };
 
     ghost invariant = { λ s. (length s.bytes.items ≤ s.room) × (s.room ≤ vec_capacity s.bytes) };
 }
@@ -36,7 +42,8 @@ impl Model for MemSink {
 impl MemSink {
     /// An empty sink. It takes memory for its whole room at once.
     pub fn new(alloc: Global, room: u64, fail_at: Vec<u64>) -> Result<Self, NoMemory>
-        ensures { IfOk result (λ sink. sink ≡ record { kept = []; room = room; fail_at = fail_at.items; calls = 0; faults = 0 }) }
+        ensures { IfOk result (λ sink. sink
+            ≡ record { kept = []; room = room; fail_at = fail_at.items; calls = 0; faults = 0 }) }
     {
         let bytes = Vec::with_capacity(alloc, room as usize)?;
         Ok(MemSink {
@@ -70,7 +77,8 @@ impl Sink for MemSink {
         // It fails at the listed calls and at a full room alone, and takes as much as it may.
         ensures fails { IsErr result ↔ (Contains self.old.fail_at self.old.calls
             ⊎ ((0 < length piece.now) × (length self.old.kept ≡ self.old.room))) }
-        ensures count { IfOk result (λ count. count ≡ min (length piece.now) (self.old.room - length self.old.kept)) }
+        ensures count { IfOk result
+            (λ count. count ≡ min (length piece.now) (self.old.room - length self.old.kept)) }
         ensures calls { self.new.calls ≡ next_count self.old.calls }
         ensures faults { OnErr result (self.new.faults ≡ next_count self.old.faults) }
     {

@@ -36,7 +36,13 @@ impl Model for MemSource {
 
     ghost Value = { Supply };
 
-    ghost view = { λ s. record { left = drop s.at s.bytes.items; step = s.step; fail_at = s.fail_at.items; calls = s.calls; faults = s.faults } };
+    ghost view = { λ s. record {
+      left = drop s.at s.bytes.items;
+      step = s.step;
+      fail_at = s.fail_at.items;
+      calls = s.calls;
+      faults = s.faults;
+    } };
 
     ghost invariant = { λ s. (s.at ≤ length s.bytes.items) × (0 < s.step) };
 }
@@ -45,7 +51,13 @@ impl MemSource {
     /// A source of these bytes that gives at most `step` of them in one call.
     pub fn new(bytes: Vec<u8>, step: u64, fail_at: Vec<u64>) -> Self
         requires { 0 < step }
-        ensures { result ≡ record { left = bytes.items; step = step; fail_at = fail_at.items; calls = 0; faults = 0 } }
+        ensures { result ≡ record {
+          left = bytes.items;
+          step = step;
+          fail_at = fail_at.items;
+          calls = 0;
+          faults = 0;
+        } }
     {
         MemSource {
             bytes,
@@ -70,7 +82,8 @@ impl Source for MemSource {
 
         // It fails at the listed calls alone, and gives as much as it may.
         ensures fails { IsErr result ↔ Contains self.old.fail_at self.old.calls }
-        ensures count { IfOk result (λ count. count ≡ min self.old.step (min (length buf.old) (length self.old.left))) }
+        ensures count { IfOk result
+            (λ count. count ≡ min self.old.step (min (length buf.old) (length self.old.left))) }
         ensures calls { self.new.calls ≡ next_count self.old.calls }
         ensures faults { OnErr result (self.new.faults ≡ next_count self.old.faults) }
     {

@@ -1,11 +1,12 @@
 // A run over a stream with store buffers.
 ghost use Rattle.std.specs.Prelude.{◌≡◌, ◌≢◌, ◌<◌, ◌≤◌, [], length, All, Err, OnOk, IsErrOf};
-ghost use Rattle.icode.specs.Buffers.{buffered_finished, buffered_run, buffered_runs};
+ghost use Rattle.icode.specs.Buffers.{buffered_runs};
 ghost use Rattle.icode.specs.Machine.{words_at, padded};
 ghost use Rattle.io_edge.specs.Faults.{HasCause, Reports};
 ghost use Rattle.io_edge.specs.Feed.{to_come, limit};
 ghost use Rattle.io_edge.specs.Taken.{WritesAll};
 ghost use Rattle.buffer_machine.specs.Listed.{HasNoStranger, events_of};
+ghost use Rattle.trace_text.specs.Ends.{end_of_events};
 ghost use Rattle.stream_run.specs.BufferedText.{asked_lines, buffered_text};
 ghost use Rattle.stream_run.specs.Stream.{Streams};
 
@@ -18,7 +19,8 @@ use trace_text::write_events;
 // Puts the words of the machine's second array into the slice.
 fn take_results(machine: &BufMachine, vector: &mut [u64])
     requires size { length vector.old ≡ machine.now.code.size }
-    ensures { vector.new ≡ words_at machine.now.code.size machine.now.state.state.memory (padded machine.now.code) }
+    ensures { vector.new
+        ≡ words_at machine.now.code.size machine.now.state.state.memory (padded machine.now.code) }
 {
     let first = machine.span() / 4;
     prove!(machine.span() == 4 * first);
@@ -36,9 +38,11 @@ fn take_events<O: Sink>(
 ) -> Result<(), WriteFault>
     requires no_stranger { HasNoStranger events machine.old.code.procs }
     ensures bytes { WritesAll (O.taken output.old) (O.taken output.new) result
-        (asked_lines lines machine.old.code machine.old.state (events_of events.entry machine.old.code.procs)) }
+        (asked_lines lines machine.old.code machine.old.state
+        (events_of events.entry machine.old.code.procs)) }
     ensures cause { HasCause (O.faults output.old) (O.faults output.new) result }
-    ensures state { OnOk result (machine.new.state ≡ buffered_finished machine.old.code (buffered_run machine.old.code machine.old.state (events_of events.entry machine.old.code.procs))) }
+    ensures state { OnOk result (machine.new.state ≡ end_of_events machine.old.code
+        machine.old.state (events_of events.entry machine.old.code.procs)) }
     ensures code { machine.new.code ≡ machine.old.code }
 {
     if lines {
@@ -62,9 +66,11 @@ fn write_run<O: Sink>(
     requires residues { All (λ v. v < machine.old.code.modulus) vector.old }
     requires no_stranger { HasNoStranger events machine.old.code.procs }
     ensures bytes { WritesAll (O.taken output.old) (O.taken output.new) result
-        (buffered_text lines machine.old.code (events_of events.entry machine.old.code.procs) vector.old) }
+        (buffered_text lines machine.old.code
+        (events_of events.entry machine.old.code.procs) vector.old) }
     ensures cause { HasCause (O.faults output.old) (O.faults output.new) result }
-    ensures state { OnOk result (machine.new.state ≡ buffered_runs machine.old.code vector.old (events_of events.entry machine.old.code.procs)) }
+    ensures state { OnOk result (machine.new.state ≡ buffered_runs machine.old.code vector.old
+        (events_of events.entry machine.old.code.procs)) }
     ensures code { machine.new.code ≡ machine.old.code }
 {
     machine.put(vector);
@@ -92,7 +98,8 @@ pub fn run_buffered<I: Source, O: Sink>(
     requires no_stranger { HasNoStranger events machine.old.code.procs }
 
     // What it read, wrote and left, also of a source that doesn't tell its bytes.
-    ensures streams { Streams (buffered_text lines machine.old.code (events_of events.entry machine.old.code.procs))
+    ensures streams { Streams
+        (buffered_text lines machine.old.code (events_of events.entry machine.old.code.procs))
         (λ x. buffered_runs machine.old.code x (events_of events.entry machine.old.code.procs))
         machine.old.code.size machine.old.code.modulus feed.old feed.new
         (to_come feed.old (I.left input.old)) (to_come feed.new (I.left input.new))
@@ -102,8 +109,10 @@ pub fn run_buffered<I: Source, O: Sink>(
     ensures empty { IsErrOf result StreamFault.ReadFault → feed.new.held ≡ [] }
 
     // A fault has its cause, and is not swallowed.
-    ensures read { Reports (I.faults input.old) (I.faults input.new) (IsErrOf result StreamFault.ReadFault) }
-    ensures write { Reports (O.faults output.old) (O.faults output.new) (IsErrOf result StreamFault.WriteFault) }
+    ensures read { Reports (I.faults input.old) (I.faults input.new)
+        (IsErrOf result StreamFault.ReadFault) }
+    ensures write { Reports (O.faults output.old) (O.faults output.new)
+        (IsErrOf result StreamFault.WriteFault) }
 {
     let modulus = machine.modulus();
     let mut vectors = Vectors::new(vector.len() as u64);

@@ -1,11 +1,12 @@
 // A run over a stream: the lines of each vector.
 ghost use Rattle.std.specs.Prelude.{◌≡◌, ◌≢◌, ◌<◌, ◌≤◌, [], length, All, Err, OnOk, IsErrOf};
-ghost use Rattle.icode.specs.Machine.{words_at, padded, run, finished, results, runs};
+ghost use Rattle.icode.specs.Machine.{words_at, padded, results, runs};
 ghost use Rattle.io_edge.specs.Faults.{HasCause, Reports};
 ghost use Rattle.io_edge.specs.Feed.{to_come, limit};
 ghost use Rattle.io_edge.specs.Taken.{WritesAll};
 ghost use Rattle.request_text.specs.Turns.{turns_of};
 ghost use Rattle.data_stream.specs.Vectors.{IsReady};
+ghost use Rattle.trace_text.specs.Ends.{end_of_turns};
 ghost use Rattle.stream_run.specs.Progress.{StreamsOn};
 ghost use Rattle.stream_run.specs.Stream.{HasNoStranger, turn_lines, run_text, Streams};
 
@@ -66,7 +67,8 @@ impl From<WriteFault> for StreamFault {
 // Puts the words of the machine's second array into the slice.
 fn take_results(machine: &Machine, vector: &mut [u64])
     requires size { length vector.old ≡ machine.now.code.size }
-    ensures { vector.new ≡ words_at machine.now.code.size machine.now.state.memory (padded machine.now.code) }
+    ensures { vector.new
+        ≡ words_at machine.now.code.size machine.now.state.memory (padded machine.now.code) }
 {
     let first = machine.span() / 4;
     prove!(machine.span() == 4 * first);
@@ -80,8 +82,10 @@ pub fn transform(machine: &mut Machine, schedule: &Schedule, vector: &mut [u64])
     requires size { length vector.old ≡ machine.old.code.size }
     requires residues { All (λ v. v < machine.old.code.modulus) vector.old }
     requires no_stranger { HasNoStranger schedule.now machine.old.code.procs }
-    ensures vector { vector.new ≡ results machine.old.code vector.old (turns_of schedule.now machine.old.code.procs) }
-    ensures state { machine.new.state ≡ runs machine.old.code vector.old (turns_of schedule.now machine.old.code.procs) }
+    ensures vector { vector.new
+        ≡ results machine.old.code vector.old (turns_of schedule.now machine.old.code.procs) }
+    ensures state { machine.new.state
+        ≡ runs machine.old.code vector.old (turns_of schedule.now machine.old.code.procs) }
     ensures code { machine.new.code ≡ machine.old.code }
 {
     machine.put(vector);
@@ -99,9 +103,11 @@ fn take_turns<O: Sink>(
 ) -> Result<(), WriteFault>
     requires no_stranger { HasNoStranger schedule.now machine.old.code.procs }
     ensures bytes { WritesAll (O.taken output.old) (O.taken output.new) result
-        (turn_lines lines machine.old.code machine.old.state (turns_of schedule.now machine.old.code.procs)) }
+        (turn_lines lines machine.old.code machine.old.state
+        (turns_of schedule.now machine.old.code.procs)) }
     ensures cause { HasCause (O.faults output.old) (O.faults output.new) result }
-    ensures state { OnOk result (machine.new.state ≡ finished machine.old.code (run machine.old.code machine.old.state (turns_of schedule.now machine.old.code.procs))) }
+    ensures state { OnOk result (machine.new.state ≡ end_of_turns machine.old.code
+        machine.old.state (turns_of schedule.now machine.old.code.procs)) }
     ensures code { machine.new.code ≡ machine.old.code }
 {
     if lines {
@@ -125,9 +131,11 @@ fn write_run<O: Sink>(
     requires residues { All (λ v. v < machine.old.code.modulus) vector.old }
     requires no_stranger { HasNoStranger schedule.now machine.old.code.procs }
     ensures bytes { WritesAll (O.taken output.old) (O.taken output.new) result
-        (run_text lines machine.old.code (turns_of schedule.now machine.old.code.procs) vector.old) }
+        (run_text lines machine.old.code
+        (turns_of schedule.now machine.old.code.procs) vector.old) }
     ensures cause { HasCause (O.faults output.old) (O.faults output.new) result }
-    ensures state { OnOk result (machine.new.state ≡ runs machine.old.code vector.old (turns_of schedule.now machine.old.code.procs)) }
+    ensures state { OnOk result (machine.new.state
+        ≡ runs machine.old.code vector.old (turns_of schedule.now machine.old.code.procs)) }
     ensures code { machine.new.code ≡ machine.old.code }
 {
     machine.put(vector);
@@ -153,7 +161,8 @@ pub fn run_stream<I: Source, O: Sink>(
     requires no_stranger { HasNoStranger schedule.now machine.old.code.procs }
 
     // What it read, wrote and left, also of a source that doesn't tell its bytes.
-    ensures streams { Streams (run_text lines machine.old.code (turns_of schedule.now machine.old.code.procs))
+    ensures streams { Streams
+        (run_text lines machine.old.code (turns_of schedule.now machine.old.code.procs))
         (λ x. runs machine.old.code x (turns_of schedule.now machine.old.code.procs))
         machine.old.code.size machine.old.code.modulus feed.old feed.new
         (to_come feed.old (I.left input.old)) (to_come feed.new (I.left input.new))
@@ -163,8 +172,10 @@ pub fn run_stream<I: Source, O: Sink>(
     ensures empty { IsErrOf result StreamFault.ReadFault → feed.new.held ≡ [] }
 
     // A fault has its cause, and is not swallowed.
-    ensures read { Reports (I.faults input.old) (I.faults input.new) (IsErrOf result StreamFault.ReadFault) }
-    ensures write { Reports (O.faults output.old) (O.faults output.new) (IsErrOf result StreamFault.WriteFault) }
+    ensures read { Reports (I.faults input.old) (I.faults input.new)
+        (IsErrOf result StreamFault.ReadFault) }
+    ensures write { Reports (O.faults output.old) (O.faults output.new)
+        (IsErrOf result StreamFault.WriteFault) }
 {
     let mut vectors = Vectors::new(machine.size());
     run_vectors(
@@ -198,7 +209,8 @@ pub fn run_vectors<I: Source, O: Sink>(
     requires ready { IsReady vectors.old feed.old (to_come feed.old (I.left input.old)) }
 
     // What it read, wrote and left, also of a source that doesn't tell its bytes.
-    ensures streams { StreamsOn (run_text lines machine.old.code (turns_of schedule.now machine.old.code.procs))
+    ensures streams { StreamsOn
+        (run_text lines machine.old.code (turns_of schedule.now machine.old.code.procs))
         (λ x. runs machine.old.code x (turns_of schedule.now machine.old.code.procs))
         machine.old.code.modulus vectors.old feed.old feed.new
         (to_come feed.old (I.left input.old)) (to_come feed.new (I.left input.new))
@@ -208,8 +220,10 @@ pub fn run_vectors<I: Source, O: Sink>(
     ensures empty { IsErrOf result StreamFault.ReadFault → feed.new.held ≡ [] }
 
     // A fault has its cause, and is not swallowed.
-    ensures read { Reports (I.faults input.old) (I.faults input.new) (IsErrOf result StreamFault.ReadFault) }
-    ensures write { Reports (O.faults output.old) (O.faults output.new) (IsErrOf result StreamFault.WriteFault) }
+    ensures read { Reports (I.faults input.old) (I.faults input.new)
+        (IsErrOf result StreamFault.ReadFault) }
+    ensures write { Reports (O.faults output.old) (O.faults output.new)
+        (IsErrOf result StreamFault.WriteFault) }
 {
     let modulus = machine.modulus();
     while let Next::Vector = vectors.next(&modulus, feed, input, vector)? {

@@ -4,3 +4,5 @@ pub mod Course
 pub mod EventLines
 pub mod EventCourse
 pub mod Faults
+pub mod Ends
+pub mod FaultsMet

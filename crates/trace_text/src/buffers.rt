@@ -6,8 +6,9 @@ ghost use Rattle.io_edge.specs.Faults.{HasCause};
 ghost use Rattle.io_edge.specs.Taken.{WritesAll};
 ghost use Rattle.buffer_machine.specs.Listed.{HasNoStranger, events_of};
 ghost use Rattle.trace_text.specs.Course.{PassesThrough};
+ghost use Rattle.trace_text.specs.Ends.{end_of_events};
 ghost use Rattle.trace_text.specs.EventLines.{completed_events, event_line, event_lines, event_trace};
-ghost use Rattle.trace_text.specs.Faults.{FaultMet};
+ghost use Rattle.trace_text.specs.FaultsMet.{EventFaultMet};
 
 use crate::text::{Line, drain_line, line_of};
 use buffer_machine::{BufMachine, Event, Events};
@@ -40,7 +41,8 @@ fn write_event<O: Sink>(
     output: &mut O,
 ) -> Result<(), WriteFault>
     requires proc { proc_of event < machine.old.code.procs }
-    ensures bytes { WritesAll (O.taken output.old) (O.taken output.new) result (event_line machine.old.code machine.old.state number event) }
+    ensures bytes { WritesAll (O.taken output.old) (O.taken output.new) result
+        (event_line machine.old.code machine.old.state number event) }
     ensures cause { HasCause (O.faults output.old) (O.faults output.new) result }
     ensures state { machine.new.state ≡ buffered_step machine.old.code machine.old.state event }
     ensures code { machine.new.code ≡ machine.old.code }
@@ -56,13 +58,15 @@ fn write_list<O: Sink>(
     output: &mut O,
 ) -> Result<(), WriteFault>
     requires no_stranger { HasNoStranger events machine.old.code.procs }
-    ensures bytes { WritesAll (O.taken output.old) (O.taken output.new) result (event_lines machine.old.code machine.old.state 0 (events_of events.entry machine.old.code.procs)) }
+    ensures bytes { WritesAll (O.taken output.old) (O.taken output.new) result
+        (event_lines machine.old.code machine.old.state 0
+        (events_of events.entry machine.old.code.procs)) }
     ensures cause { HasCause (O.faults output.old) (O.faults output.new) result }
-    ensures state { OnOk result (machine.new.state ≡ buffered_run machine.old.code machine.old.state (events_of events.entry machine.old.code.procs)) }
+    ensures state { OnOk result (machine.new.state ≡ buffered_run machine.old.code machine.old.state
+        (events_of events.entry machine.old.code.procs)) }
     ensures way { PassesThrough (buffered_run machine.old.code) machine.old.state
         (events_of events.entry machine.old.code.procs) machine.new.state }
-    ensures met { OnErr result (FaultMet (buffered_run machine.old.code)
-        (event_lines machine.old.code) machine.old.state 0
+    ensures met { OnErr result (EventFaultMet machine.old.code machine.old.state 0
         (events_of events.entry machine.old.code.procs)
         machine.new.state (O.taken output.old) (O.taken output.new)) }
     ensures code { machine.new.code ≡ machine.old.code }
@@ -82,13 +86,15 @@ fn write_rest<O: Sink>(
     output: &mut O,
 ) -> Result<(), WriteFault>
     requires first { first ≤ 16000000 }
-    ensures bytes { WritesAll (O.taken output.old) (O.taken output.new) result (event_lines machine.old.code machine.old.state first (buffered_completion machine.old.code machine.old.state)) }
+    ensures bytes { WritesAll (O.taken output.old) (O.taken output.new) result
+        (event_lines machine.old.code machine.old.state first
+        (buffered_completion machine.old.code machine.old.state)) }
     ensures cause { HasCause (O.faults output.old) (O.faults output.new) result }
-    ensures state { OnOk result (machine.new.state ≡ buffered_finished machine.old.code machine.old.state) }
+    ensures state { OnOk result (machine.new.state
+        ≡ buffered_finished machine.old.code machine.old.state) }
     ensures way { PassesThrough (buffered_run machine.old.code) machine.old.state
         (buffered_completion machine.old.code machine.old.state) machine.new.state }
-    ensures met { OnErr result (FaultMet (buffered_run machine.old.code)
-        (event_lines machine.old.code) machine.old.state first
+    ensures met { OnErr result (EventFaultMet machine.old.code machine.old.state first
         (buffered_completion machine.old.code machine.old.state)
         machine.new.state (O.taken output.old) (O.taken output.new)) }
     ensures code { machine.new.code ≡ machine.old.code }
@@ -114,17 +120,19 @@ pub fn write_events<O: Sink>(
 ) -> Result<(), WriteFault>
     requires no_stranger { HasNoStranger events machine.old.code.procs }
     // The output took the lines of the run, or after a fault a prefix of them.
-    ensures bytes { WritesAll (O.taken output.old) (O.taken output.new) result (event_trace machine.old.code machine.old.state (events_of events.entry machine.old.code.procs)) }
+    ensures bytes { WritesAll (O.taken output.old) (O.taken output.new) result
+        (event_trace machine.old.code machine.old.state
+        (events_of events.entry machine.old.code.procs)) }
     ensures cause { HasCause (O.faults output.old) (O.faults output.new) result }
-    ensures state { OnOk result (machine.new.state ≡ buffered_finished machine.old.code (buffered_run machine.old.code machine.old.state (events_of events.entry machine.old.code.procs))) }
+    ensures state { OnOk result (machine.new.state ≡ end_of_events machine.old.code
+        machine.old.state (events_of events.entry machine.old.code.procs)) }
     ensures code { machine.new.code ≡ machine.old.code }
     // The machine stands behind a front of these events.
     ensures way { PassesThrough (buffered_run machine.old.code) machine.old.state
         (completed_events machine.old.code machine.old.state
         (events_of events.entry machine.old.code.procs)) machine.new.state }
     // After a fault lines of events are written, then a front of a line, whose event is the last done.
-    ensures met { OnErr result (FaultMet (buffered_run machine.old.code)
-        (event_lines machine.old.code) machine.old.state 0
+    ensures met { OnErr result (EventFaultMet machine.old.code machine.old.state 0
         (completed_events machine.old.code machine.old.state
         (events_of events.entry machine.old.code.procs))
         machine.new.state (O.taken output.old) (O.taken output.new)) }

@@ -31,7 +31,8 @@ fn put(line: &mut Line, word: &str, number: u64)
 /// Appends the numbers, each behind a comma.
 fn put_more(line: &mut Line, factors: &[u64])
     requires room { array_string_len line.old + 21 * length factors.now ≤ 512 }
-    ensures text { line.new.bytes ≡ line.old.bytes ++ flat_map (λ factor. codes "," ++ decimal factor) factors.now }
+    ensures text { line.new.bytes
+        ≡ line.old.bytes ++ flat_map (λ factor. codes "," ++ decimal factor) factors.now }
     ensures len { array_string_len line.new ≤ array_string_len line.old + 21 * length factors.now }
 {
     for factor in factors {
@@ -54,8 +55,10 @@ fn put_factors(line: &mut Line, factors: &[u64])
 /// Appends two numbers, each behind a word.
 fn put_two(line: &mut Line, word: &str, number: u64, then: &str, other: u64)
     requires room { array_string_len line.old + length word.now + length then.now + 40 ≤ 512 }
-    ensures text { line.new.bytes ≡ line.old.bytes ++ word.now ++ decimal number ++ then.now ++ decimal other }
-    ensures len { array_string_len line.new ≤ array_string_len line.old + length word.now + length then.now + 40 }
+    ensures text { line.new.bytes
+        ≡ line.old.bytes ++ word.now ++ decimal number ++ then.now ++ decimal other }
+    ensures len { array_string_len line.new
+        ≤ array_string_len line.old + length word.now + length then.now + 40 }
 {
     put(line, word, number);
     put(line, then, other);
@@ -64,7 +67,8 @@ fn put_two(line: &mut Line, word: &str, number: u64, then: &str, other: u64)
 /// Appends an operation on two registers.
 fn put_binary(line: &mut Line, word: &str, register: u64, left: u64, right: u64)
     requires room { array_string_len line.old + length word.now + 64 ≤ 512 }
-    ensures text { line.new.bytes ≡ line.old.bytes ++ word.now ++ decimal register ++ codes " r" ++ decimal left ++ codes " r" ++ decimal right }
+    ensures text { line.new.bytes ≡ line.old.bytes ++ word.now ++ decimal register ++ codes " r"
+        ++ decimal left ++ codes " r" ++ decimal right }
     ensures len { array_string_len line.new ≤ array_string_len line.old + length word.now + 64 }
 {
     put(line, word, register);
@@ -75,7 +79,8 @@ fn put_binary(line: &mut Line, word: &str, register: u64, left: u64, right: u64)
 fn put_product(line: &mut Line, register: u64, source: u64, factors: &[u64])
     requires factors { length factors.now ≤ 16 }
     requires room { array_string_len line.old ≤ 42 }
-    ensures text { line.new.bytes ≡ line.old.bytes ++ codes "mul r" ++ decimal register ++ codes " r" ++ decimal source ++ codes " " ++ join_by decimal (codes ",") factors.now }
+    ensures text { line.new.bytes ≡ line.old.bytes ++ codes "mul r" ++ decimal register
+        ++ codes " r" ++ decimal source ++ codes " " ++ join_by decimal (codes ",") factors.now }
     ensures len { array_string_len line.new ≤ 500 }
 {
     put_two(line, "mul r", register, " r", source);

@@ -7,7 +7,8 @@ ghost use Rattle.io_edge.specs.Faults.{HasCause};
 ghost use Rattle.io_edge.specs.Taken.{WritesAll};
 ghost use Rattle.request_text.specs.Turns.{named, turns_of};
 ghost use Rattle.trace_text.specs.Course.{CompletionActs, EachActs, PassesThrough};
-ghost use Rattle.trace_text.specs.Faults.{FaultMet};
+ghost use Rattle.trace_text.specs.Ends.{end_of_turns};
+ghost use Rattle.trace_text.specs.FaultsMet.{TurnFaultMet};
 ghost use Rattle.trace_text.specs.From.{lines_from};
 ghost use Rattle.trace_text.specs.Trace.{completed, turn_line, trace_of};
 
@@ -24,7 +25,9 @@ fn write_turn<O: Sink>(
     output: &mut O,
 ) -> Result<(), WriteFault>
     requires proc { proc < machine.old.code.procs }
-    ensures bytes { WritesAll (O.taken output.old) (O.taken output.new) result (turn_line machine.old.code.lanes number proc (answer machine.old.code machine.old.state proc)) }
+    ensures bytes { WritesAll (O.taken output.old) (O.taken output.new) result
+        (turn_line machine.old.code.lanes number proc
+        (answer machine.old.code machine.old.state proc)) }
     ensures cause { HasCause (O.faults output.old) (O.faults output.new) result }
     ensures state { machine.new.state ≡ turn machine.old.code machine.old.state proc }
     ensures code { machine.new.code ≡ machine.old.code }
@@ -41,13 +44,16 @@ fn write_list<O: Sink>(
     output: &mut O,
 ) -> Result<(), WriteFault>
     requires no_stranger { find (λ q. nat_le machine.old.code.procs q) (named schedule.now) ≡ None }
-    ensures bytes { WritesAll (O.taken output.old) (O.taken output.new) result (lines_from machine.old.code machine.old.state 0 (turns_of schedule.now machine.old.code.procs)) }
+    ensures bytes { WritesAll (O.taken output.old) (O.taken output.new) result
+        (lines_from machine.old.code machine.old.state 0
+        (turns_of schedule.now machine.old.code.procs)) }
     ensures cause { HasCause (O.faults output.old) (O.faults output.new) result }
-    ensures state { OnOk result (machine.new.state ≡ run machine.old.code machine.old.state (turns_of schedule.now machine.old.code.procs)) }
+    ensures state { OnOk result (machine.new.state
+        ≡ run machine.old.code machine.old.state (turns_of schedule.now machine.old.code.procs)) }
     ensures way { PassesThrough (run machine.old.code) machine.old.state
         (turns_of schedule.now machine.old.code.procs) machine.new.state }
-    ensures met { OnErr result (FaultMet (run machine.old.code) (lines_from machine.old.code)
-        machine.old.state 0 (turns_of schedule.now machine.old.code.procs)
+    ensures met { OnErr result (TurnFaultMet machine.old.code machine.old.state 0
+        (turns_of schedule.now machine.old.code.procs)
         machine.new.state (O.taken output.old) (O.taken output.new)) }
     ensures code { machine.new.code ≡ machine.old.code }
 {
@@ -62,15 +68,18 @@ fn write_list<O: Sink>(
 /// Takes the turns that finish the run, and writes the line of each before the next. They are numbered from `first` on.
 fn write_rest<O: Sink>(machine: &mut Machine, first: u64, output: &mut O) -> Result<(), WriteFault>
     requires first { first ≤ 16000000 }
-    ensures bytes { WritesAll (O.taken output.old) (O.taken output.new) result (lines_from machine.old.code machine.old.state first (completion machine.old.code machine.old.state)) }
+    ensures bytes { WritesAll (O.taken output.old) (O.taken output.new) result
+        (lines_from machine.old.code machine.old.state first
+        (completion machine.old.code machine.old.state)) }
     ensures cause { HasCause (O.faults output.old) (O.faults output.new) result }
     ensures state { OnOk result (machine.new.state ≡ finished machine.old.code machine.old.state) }
     ensures way { PassesThrough (run machine.old.code) machine.old.state
         (completion machine.old.code machine.old.state) machine.new.state }
-    ensures met { OnErr result (FaultMet (run machine.old.code) (lines_from machine.old.code)
-        machine.old.state first (completion machine.old.code machine.old.state)
+    ensures met { OnErr result (TurnFaultMet machine.old.code machine.old.state first
+        (completion machine.old.code machine.old.state)
         machine.new.state (O.taken output.old) (O.taken output.new)) }
-    ensures act { OnOk result (EachActs machine.old.code machine.old.state (completion machine.old.code machine.old.state)) }
+    ensures act { OnOk result (EachActs machine.old.code machine.old.state
+        (completion machine.old.code machine.old.state)) }
     ensures code { machine.new.code ≡ machine.old.code }
 {
     let mut number = first;
@@ -94,21 +103,25 @@ pub fn write_turns<O: Sink>(
 ) -> Result<(), WriteFault>
     requires no_stranger { find (λ q. nat_le machine.old.code.procs q) (named schedule.now) ≡ None }
     // The output took the lines of the run, or after a fault a prefix of them.
-    ensures bytes { WritesAll (O.taken output.old) (O.taken output.new) result (trace_of machine.old.code machine.old.state (turns_of schedule.now machine.old.code.procs)) }
+    ensures bytes { WritesAll (O.taken output.old) (O.taken output.new) result
+        (trace_of machine.old.code machine.old.state
+        (turns_of schedule.now machine.old.code.procs)) }
     ensures cause { HasCause (O.faults output.old) (O.faults output.new) result }
-    ensures state { OnOk result (machine.new.state ≡ finished machine.old.code (run machine.old.code machine.old.state (turns_of schedule.now machine.old.code.procs))) }
+    ensures state { OnOk result (machine.new.state ≡ end_of_turns machine.old.code
+        machine.old.state (turns_of schedule.now machine.old.code.procs)) }
     ensures code { machine.new.code ≡ machine.old.code }
     // The machine stands behind a front of these turns.
     ensures way { PassesThrough (run machine.old.code) machine.old.state
         (completed machine.old.code machine.old.state
         (turns_of schedule.now machine.old.code.procs)) machine.new.state }
     // After a fault lines of turns are written, then a front of a line, whose turn is the last taken.
-    ensures met { OnErr result (FaultMet (run machine.old.code) (lines_from machine.old.code)
-        machine.old.state 0 (completed machine.old.code machine.old.state
+    ensures met { OnErr result (TurnFaultMet machine.old.code machine.old.state 0
+        (completed machine.old.code machine.old.state
         (turns_of schedule.now machine.old.code.procs))
         machine.new.state (O.taken output.old) (O.taken output.new)) }
     // The lines of the completion are those of actions.
-    ensures act { OnOk result (CompletionActs machine.old.code machine.old.state (turns_of schedule.now machine.old.code.procs)) }
+    ensures act { OnOk result (CompletionActs machine.old.code machine.old.state
+        (turns_of schedule.now machine.old.code.procs)) }
 {
     write_list(machine, schedule, output)?;
     let count = schedule.len(machine.procs());

@@ -1,9 +1,10 @@
-use Rattle.std.proofs.Common.{◌≡◌, ◌-◌, ◌≤◌, length, replicate, []}
+use Rattle.std.proofs.Common.{◌≡◌, ◌-◌, ◌≤◌, length, replicate}
+use Rattle.buffer_machine.specs.Fresh.{empty_queue}
 use Rattle.buffer_machine.proofs.make.make_queues.Given as goal
 
 abbrev pub invariant-loop-alloc : goal.invariant-loop-alloc
 invariant-loop-alloc l = record {
-  alike : l.queues.items ≡ replicate (length l.queues.items) (record { lanes = l.lanes; waiting = []; room = l.most; most = l.most; span = l.span });
+  alike : l.queues.items ≡ replicate (length l.queues.items) (empty_queue l.lanes l.most l.span);
   few : length l.queues.items ≤ l.procs;
 }
 
