@@ -16,7 +16,8 @@ use Rattle.formula_lower.specs.Trees.{core_term}
 use Rattle.formula_lower.proofs.Moves.{back-wrapped, strided-move, in-move, out-move}
 use Rattle.formula_lower.proofs.Parts.{tile-under}
 use Rattle.formula_lower.proofs.Trees.{pick-work, core-lowers, flip}
-use Rattle.formula_lower.proofs.Vectors.{HasVectors, vectors-blocks, vectors-columns, laned-move}
+use Rattle.formula_lower.proofs.Vectors.{laned-move}
+use Rattle.sigma_lower.proofs.Vectors.{HasVectors, vectors-blocks, vectors-columns}
 use Rattle.sigma_lower.specs.Good.{IsGoodCore, IsGood}
 use Rattle.sigma_lower.specs.Term.{lowered_core, factor_term}
 use Rattle.sigma_lower.specs.Wrapped.{wrapped}

@@ -131,7 +131,8 @@ fn hadamard(alloc: Global, path: &[Tensor], n: u64) -> Result<Term, NoMemory>
 
 // WHT of two items, on columns.
 fn butterflies(alloc: Global, path: &[Tensor], count: u64) -> Result<Term, NoMemory>
-    ensures { IfOk result (λ t. plain_term t ≡ nest (one_more path.now (Columns count)) (kernel (single Wht 0 (leaf 2)))) }
+    ensures { IfOk result (λ t. plain_term t
+        ≡ nest (one_more path.now (Columns count)) (kernel (single Wht 0 (leaf 2)))) }
 {
     let path = one_more(alloc, path, Tensor::Columns(count))?;
     let work = leaf_kernel(Kind::Wht, 0, 2);
@@ -159,7 +160,8 @@ fn diagonal(
     path: &[Tensor],
     entries: &[u64],
 ) -> Result<Term, NoMemory>
-    ensures { IfOk result (λ t. plain_term t ≡ diag path.now (values (map (λ v. v % modulus.now) entries.now))) }
+    ensures { IfOk result
+        (λ t. plain_term t ≡ diag path.now (values (map (λ v. v % modulus.now) entries.now))) }
 {
     let path = path.to_vec(alloc)?;
     let factors = Factors::Values(residues(alloc, modulus, entries)?);
@@ -210,7 +212,8 @@ fn beside(
     second_size: u64,
     second: Term,
 ) -> Result<Term, NoMemory>
-    ensures { IfOk result (λ t. plain_term t ≡ beside path.now first_size (plain_term first) second_size (plain_term second)) }
+    ensures { IfOk result (λ t. plain_term t
+        ≡ beside path.now first_size (plain_term first) second_size (plain_term second)) }
 {
     let path = path.to_vec(alloc)?;
     let first = Box::new(alloc, first)?;

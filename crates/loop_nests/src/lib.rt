@@ -7,7 +7,4 @@ mod nests;
 mod placed;
 
 pub use beside::sides;
-pub use nests::{
-    alone, copied_factors, copied_nest, copied_sums, copying, copying_words, moved_nest,
-    natural_nest,
-};
+pub use nests::{alone, copied_nest, copying, copying_words, moved_nest, natural_nest};

@@ -7,7 +7,7 @@ ghost use Rattle.operators.specs.Sum.{list_below};
 ghost use Rattle.passes.specs.Good.{AreBelow};
 ghost use Rattle.passes.specs.Limits.{AreSeveral, HasRows};
 ghost use Rattle.passes.specs.Merge.{copying, one_loop};
-ghost use Rattle.passes.specs.Views.{plain_factors, plain_multiplier, plain_nest, plain_work};
+ghost use Rattle.passes.specs.Views.{plain_multiplier, plain_nest, plain_work};
 ghost use Rattle.passes.specs.Work.{HasWords, work_size};
 ghost use Rattle.perm_algebra.specs.Affine.{constant};
 ghost use Rattle.perm_algebra.specs.Views.{plain_sum};
@@ -18,8 +18,8 @@ ghost use Rattle.loop_nests.specs.NewNests.{CanMove, copied_by_word, loads_under
 use crate::placed::all_placed;
 use index_fn::Index;
 use memory::NoMemory;
-use passes::{Factors, Multiplier, Nest, Work, counts, items_in, items_out, limits};
-use perm_algebra::{Affine, copy};
+use passes::{Multiplier, Nest, Work, copied_sums, counts, items_in, items_out, limits};
+use perm_algebra::Affine;
 use smallvec::SmallVec;
 use std::alloc::Global;
 use tensor_paths::Tensor;
@@ -229,44 +229,9 @@ fn copied_multiplier(
     match multiplier {
         None => Ok(None),
         Some(multiplier) => {
-            let factors = copied_factors(alloc, &multiplier.factors)?;
+            let factors = multiplier.factors.copied(alloc)?;
             let places = copied_sums(alloc, &multiplier.places)?;
             Ok(Some(Multiplier { factors, places }))
-        }
-    }
-}
-
-/// The same sums, in other memory.
-pub fn copied_sums(alloc: Global, sums: &[Affine]) -> Result<Vec<Affine>, NoMemory>
-    ensures { IfOk result (λ es. map plain_sum es.items ≡ map plain_sum sums.now) }
-{
-    let mut others = Vec::with_capacity(alloc, sums.len())?;
-    for sum in sums {
-        let other = copy(alloc, sum)?;
-        others.push(other)?;
-    }
-    Ok(others)
-}
-
-/// The same factors, in other memory.
-pub fn copied_factors(alloc: Global, factors: &Factors) -> Result<Factors, NoMemory>
-    ensures { IfOk result (λ fs. plain_factors fs ≡ plain_factors factors.now) }
-{
-    match factors {
-        Factors::Values(entries) => Ok(Factors::Values(entries.as_slice().to_vec(alloc)?)),
-        Factors::Twiddles { rows, cols, root } => Ok(Factors::Twiddles {
-            rows: *rows,
-            cols: *cols,
-            root: *root,
-        }),
-        Factors::Repeated { value, count } => Ok(Factors::Repeated {
-            value: *value,
-            count: *count,
-        }),
-        Factors::Spread { path, factors } => {
-            let path = path.as_slice().to_vec(alloc)?;
-            let factors = Box::new(alloc, copied_factors(alloc, factors)?)?;
-            Ok(Factors::Spread { path, factors })
         }
     }
 }

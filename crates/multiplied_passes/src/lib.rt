@@ -10,8 +10,8 @@ ghost use Rattle.perm_algebra.specs.Affine.{constant};
 ghost use Rattle.perm_algebra.specs.Views.{plain_sum};
 
 use memory::NoMemory;
-use passes::{Factors, Merged, Multiplier, Nest};
-use perm_algebra::{Affine, copy};
+use passes::{Factors, Merged, Multiplier, Nest, copied_sums};
+use perm_algebra::Affine;
 use std::alloc::Global;
 
 /// Which factor of a diagonal each item takes.
@@ -123,7 +123,7 @@ fn multiply_each(
 {
     let mut changed = Vec::new(alloc);
     for nest in nests {
-        let copied = copied_factors(alloc, factors)?;
+        let copied = factors.copied(alloc)?;
         changed.push(multiply_nest(alloc, nest, pick, copied)?)?;
     }
     Ok(changed)
@@ -149,17 +149,6 @@ fn places_for(alloc: Global, pick: Pick, scatters: &[Affine]) -> Result<Vec<Affi
     }
 }
 
-fn copied_sums(alloc: Global, sums: &[Affine]) -> Result<Vec<Affine>, NoMemory>
-    ensures { IfOk result (λ others. map plain_sum others.items ≡ map plain_sum sums.now) }
-{
-    let mut others = Vec::new(alloc);
-    for sum in sums {
-        let other = copy(alloc, sum)?;
-        others.push(other)?;
-    }
-    Ok(others)
-}
-
 fn first_places(alloc: Global, sums: &[Affine]) -> Result<Vec<Affine>, NoMemory>
     ensures { IfOk result (λ others.
         map plain_sum others.items ≡ map (λ _. constant 0) (map plain_sum sums.now)) }
@@ -169,28 +158,6 @@ fn first_places(alloc: Global, sums: &[Affine]) -> Result<Vec<Affine>, NoMemory>
         others.push(Affine::Constant(0))?;
     }
     Ok(others)
-}
-
-fn copied_factors(alloc: Global, factors: &Factors) -> Result<Factors, NoMemory>
-    ensures { IfOk result (λ others. plain_factors others ≡ plain_factors factors.now) }
-{
-    match factors {
-        Factors::Values(entries) => Ok(Factors::Values(entries.as_slice().to_vec(alloc)?)),
-        Factors::Twiddles { rows, cols, root } => Ok(Factors::Twiddles {
-            rows: *rows,
-            cols: *cols,
-            root: *root,
-        }),
-        Factors::Repeated { value, count } => Ok(Factors::Repeated {
-            value: *value,
-            count: *count,
-        }),
-        Factors::Spread { path, factors } => {
-            let path = path.as_slice().to_vec(alloc)?;
-            let factors = Box::new(alloc, copied_factors(alloc, factors)?)?;
-            Ok(Factors::Spread { path, factors })
-        }
-    }
 }
 
 /// Such passes do what they did, and then a product with the factor of each place, modulo any number: a law of the

@@ -17,9 +17,9 @@ ghost use Rattle.pass_places.specs.declared.access.Access.TheVariants.{Stores};
 
 use crate::places::limits_of;
 use index_fn::Index;
-use loop_nests::{copied_factors, copied_nest, copied_sums};
+use loop_nests::copied_nest;
 use memory::NoMemory;
-use passes::{Factors, Multiplier, Nest};
+use passes::{Factors, Multiplier, Nest, copied_sums};
 use perm_algebra::Affine;
 use std::alloc::Global;
 use sum_limits::{Limits, carry_within};
@@ -75,7 +75,7 @@ fn multiplied_by(
     ensures { IfOk result (λ z. plain_nest z
         ≡ multiplied_by (plain_nest nest.now) (plain_factors factors.now) (plain_sums places)) }
 {
-    let factors = copied_factors(alloc, factors)?;
+    let factors = factors.copied(alloc)?;
     let mut other = copied_nest(alloc, nest)?;
     other.multiplier = Some(Multiplier { factors, places });
     Ok(other)

@@ -61,17 +61,17 @@ small-end cs v (quotient f of m rest) h =
 
 -- ---- multiples
 
-times-lt : (c f n : ℕ) → 0 < c → f < n → c * f < n * c
+pub times-lt : (c f n : ℕ) → 0 < c → f < n → c * f < n * c
 times-lt zero f n h k = absurd (omega arith)
 times-lt (suc c) f n h k = let bound = mul-add-lt f (suc c) c n k (omega arith) in let e : suc c * f ≡ f * suc c = omega arith in omega (arith, bound, e)
 
-peak-scaled : (c n : ℕ) (e : Sum) → 0 < c → peak e < n → peak (scaled c e) < n * c
+pub peak-scaled : (c n : ℕ) (e : Sum) → 0 < c → peak e < n → peak (scaled c e) < n * c
 peak-scaled c n (constant d) some h = times-lt c d n some h
 peak-scaled c n (variable f d rest) some h = max-lt (c * f) _ (n * c) (times-lt c f n some (max-left f (peak rest) n h)) (peak-scaled c n rest some (max-right f (peak rest) n h))
 peak-scaled c n (remainder f of m rest) some h = max-lt (c * f) _ (n * c) (times-lt c f n some (max-left f (peak rest) n h)) (peak-scaled c n rest some (max-right f (peak rest) n h))
 peak-scaled c n (quotient f of m rest) some h = max-lt (c * f) _ (n * c) (times-lt c f n some (max-left f (peak rest) n h)) (peak-scaled c n rest some (max-right f (peak rest) n h))
 
-above : (n : ℕ) → nat_lt 0 n ≡ true → 0 < n
+pub above : (n : ℕ) → nat_lt 0 n ≡ true → 0 < n
 above n h = grind (arith, nat_tests)
 
 -- a part that divides, from its numbers

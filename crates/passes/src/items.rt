@@ -17,7 +17,8 @@ use std::alloc::Global;
 pub fn items_in(alloc: Global, work: &Work, depth: u64) -> Result<Vec<Affine>, NoMemory>
     requires words { HasWords (plain_work work.now) }
     requires depth { depth + 1 < 2 ^ 64 }
-    ensures { IfOk result (λ items. map plain_sum items.items ≡ items_in (plain_work work.now) depth) }
+    ensures { IfOk result
+        (λ items. map plain_sum items.items ≡ items_in (plain_work work.now) depth) }
 {
     match work {
         Work::Rows { .. } => one(alloc, multiple_of(alloc, 1, depth + 1, 0)?),
@@ -30,7 +31,8 @@ pub fn items_in(alloc: Global, work: &Work, depth: u64) -> Result<Vec<Affine>, N
 /// The items that a copy stores: work by rows names them by the variable of the rows.
 pub fn items_out(alloc: Global, work: &Work, depth: u64) -> Result<Vec<Affine>, NoMemory>
     requires { HasWords (plain_work work.now) }
-    ensures { IfOk result (λ items. map plain_sum items.items ≡ items_out (plain_work work.now) depth) }
+    ensures { IfOk result
+        (λ items. map plain_sum items.items ≡ items_out (plain_work work.now) depth) }
 {
     match work {
         Work::Rows { .. } | Work::Horner { .. } => one(alloc, multiple_of(alloc, 1, depth, 0)?),
@@ -57,7 +59,8 @@ fn multiple_of(alloc: Global, factor: u64, d: u64, number: u64) -> Result<Affine
 
 // The last item first: less 1 is as much as `size - 1` more, modulo the size.
 fn backwards(alloc: Global, size: u64, column: u64) -> Result<Affine, NoMemory>
-    ensures { IfOk result (λ sum. plain_sum sum ≡ remainder 1 (variable (size - 1) column (constant (size - 1))) size (constant 0)) }
+    ensures { IfOk result (λ sum. plain_sum sum
+        ≡ remainder 1 (variable (size - 1) column (constant (size - 1))) size (constant 0)) }
 {
     let last = size.saturating_sub(1);
     let turned = Box::new(alloc, multiple_of(alloc, last, column, last)?)?;
@@ -67,7 +70,8 @@ fn backwards(alloc: Global, size: u64, column: u64) -> Result<Affine, NoMemory>
 
 // The numbers below this one.
 fn numbers(alloc: Global, count: u64) -> Result<Vec<Affine>, NoMemory>
-    ensures { IfOk result (λ numbers. map plain_sum numbers.items ≡ map constant (range_with_len 0 count)) }
+    ensures { IfOk result
+        (λ numbers. map plain_sum numbers.items ≡ map constant (range_with_len 0 count)) }
 {
     let mut numbers = Vec::new(alloc);
     for k in 0..count {
@@ -79,7 +83,8 @@ fn numbers(alloc: Global, count: u64) -> Result<Vec<Affine>, NoMemory>
 // The first item of each vector of a tile.
 fn multiples(alloc: Global, lanes: u64) -> Result<Vec<Affine>, NoMemory>
     requires { lanes * lanes < 2 ^ 64 }
-    ensures { IfOk result (λ items. map plain_sum items.items ≡ map (λ k. constant (k * lanes)) (range_with_len 0 lanes)) }
+    ensures { IfOk result (λ items. map plain_sum items.items
+        ≡ map (λ k. constant (k * lanes)) (range_with_len 0 lanes)) }
 {
     let mut items = Vec::new(alloc);
     for k in 0..lanes {

@@ -10,6 +10,7 @@ ghost use Rattle.passes.specs.Places.{PassStores};
 ghost use Rattle.passes.specs.Sigma.{SigmaMerges};
 ghost use Rattle.passes.specs.CopiesLaws.{KeepsOnce, LoadsGather, LoopsScale, StandSideBySide, StandUnder, StoresScatter};
 
+mod copies;
 mod items;
 mod nest;
 mod sizes;
@@ -17,6 +18,7 @@ mod term;
 mod variables;
 mod work;
 
+pub use copies::copied_sums;
 pub use items::{items_in, items_out};
 pub use nest::{Factors, Merged, Multiplier, Nest};
 pub use sizes::size_of_whole;

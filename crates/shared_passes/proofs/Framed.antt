@@ -17,7 +17,7 @@ use Rattle.shared_passes.proofs.Lanes.{HasStep, Laned, all-framed, laned-gath, l
 use Rattle.shared_passes.proofs.Merging.{nothing, merged-append, as_lowered, merged-lowered, merged-emitted, Keeps, steps-finish}
 use Rattle.shared_passes.proofs.Naturals.{within-append, IsLoop, transform-loop, blocks-within, tile-loop}
 use Rattle.shared_passes.proofs.Shares.{fits-of}
-use Rattle.shared_passes.proofs.Vectors.{KeepsVectors, HasVectors, single-vectors, vectors-append, vectors-blocks, vectors-columns, keeps-wrapped, is-one}
+use Rattle.sigma_lower.proofs.Vectors.{KeepsVectors, HasVectors, single-vectors, vectors-append, vectors-blocks, vectors-columns, keeps-wrapped, is-one}
 use Rattle.smp_rewrite.specs.Smp.{within}
 use Rattle.steps.specs.Step.{steps_of}
 use Rattle.tensor_paths.specs.declared.Tensor.TheVariants.{Blocks, Columns}

@@ -13,7 +13,8 @@ use Rattle.tensor_paths.specs.Path.{Path, place}
 use Rattle.shared_passes.specs.Shared.{step_of, IsFramed, AllFramed}
 use Rattle.shared_passes.proofs.Merging.{Ends, ends-push, ends-last, ends-weaken}
 use Rattle.shared_passes.proofs.Naturals.{IsLoop}
-use Rattle.shared_passes.proofs.Vectors.{KeepsVectors, AllKeepVectors, keep-append, through-keeps, HasVectors, inner-vectors}
+use Rattle.shared_passes.proofs.Vectors.{AllKeepVectors, keep-append, through-keeps, inner-vectors}
+use Rattle.sigma_lower.proofs.Vectors.{KeepsVectors, HasVectors}
 
 -- the entries of a diagonal for the words of a vector stand k apart
 abbrev pub HasStep : ℕ → ℕ → Path → ℕ → Type 0

@@ -4,7 +4,7 @@ use Rattle.std.specs.Prelude.{◌==◌}
 use Rattle.matrix_meaning.specs.declared.Request.{Request}
 use Rattle.loop_merge.specs.Items.{if_several, item_of, values_of}
 use Rattle.shared_passes.specs.Shared.{framed, HasLanes}
-use Rattle.shared_passes.proofs.Vectors.{is-one}
+use Rattle.sigma_lower.proofs.Vectors.{is-one}
 use Rattle.sigma_lower.specs.Work.{PlainWork, transforming, tiling, work_size}
 use Rattle.smp_rewrite.specs.Smp.{within}
 use Rattle.smp_rewrite.proofs.Tensors.{size-within}

@@ -10,7 +10,7 @@ use Rattle.operators.proofs.Lists.{row-of, column-of, place_below, factor_positi
 use Rattle.sigma_lower.specs.Wrapped.{wrapped}
 use Rattle.sigma_lower.proofs.Permuted.{StaysBelow, wrapped-below}
 use Rattle.shared_passes.specs.Shared.{IsOwner}
-use Rattle.shared_passes.proofs.Vectors.{apart, is-one}
+use Rattle.sigma_lower.proofs.Vectors.{apart, is-one}
 use Rattle.smp_rewrite.specs.Smp.{within}
 use Rattle.smp_rewrite.proofs.Dealt.{IsDealt, is_dealt}
 use Rattle.tensor_paths.specs.declared.Tensor.TheVariants.{Blocks, Columns}

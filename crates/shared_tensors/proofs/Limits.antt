@@ -14,7 +14,7 @@ use Rattle.passes.specs.Nest.{PlainMultiplier, PlainNest, factor_count}
 use Rattle.passes.specs.Work.{work_size}
 use Rattle.passes.proofs.Limited.{tested}
 use Rattle.passes.proofs.Sides.{rest_of, rest-index, up as row_up}
-use Rattle.passes.proofs.Small.{HasCounts, behind-small, max-lt, place-small, renumbered-small}
+use Rattle.passes.proofs.Small.{HasCounts, above, behind-small, max-lt, peak-scaled, place-small, renumbered-small, times-lt}
 use Rattle.passes.proofs.Walk.{and-left, and-right}
 use Rattle.passes.proofs.Within.{IsSmall, both-true, constant-small, limited, small-true}
 use Rattle.shared_tensors.proofs.GoodColumns.{column_sum}
@@ -65,19 +65,6 @@ joined-both room more n cs a e high t h g =
     }
 
 -- ---- multiples
-
-times-lt : (c f n : ℕ) → 0 < c → f < n → c * f < n * c
-times-lt zero f n h k = absurd (omega arith)
-times-lt (suc c) f n h k = let bound = mul-add-lt f (suc c) c n k (omega arith) in let e : suc c * f ≡ f * suc c = omega arith in omega (arith, bound, e)
-
-peak-scaled : (c n : ℕ) (e : Sum) → 0 < c → peak e < n → peak (scaled c e) < n * c
-peak-scaled c n (constant d) some h = times-lt c d n some h
-peak-scaled c n (variable f d rest) some h = max-lt (c * f) _ (n * c) (times-lt c f n some (max-left f (peak rest) n h)) (peak-scaled c n rest some (max-right f (peak rest) n h))
-peak-scaled c n (remainder f of m rest) some h = max-lt (c * f) _ (n * c) (times-lt c f n some (max-left f (peak rest) n h)) (peak-scaled c n rest some (max-right f (peak rest) n h))
-peak-scaled c n (quotient f of m rest) some h = max-lt (c * f) _ (n * c) (times-lt c f n some (max-left f (peak rest) n h)) (peak-scaled c n rest some (max-right f (peak rest) n h))
-
-above : (n : ℕ) → nat_lt 0 n ≡ true → 0 < n
-above n h = grind (arith, nat_tests)
 
 positive-true : (n : ℕ) → 0 < n → nat_lt 0 n ≡ true
 positive-true n h = grind (arith, nat_tests)
