@@ -30,7 +30,8 @@ pub fn expand(alloc: Global, c: &Ctx, t: &Tree) -> Result<Spl, NoMemory>
     ensures value { IfOk result (λ f. f ≡ expansion c.now (breakdown_of t.now)) }
     ensures size { IfOk result (λ f. rows_of f ≡ size_of (breakdown_of t.now)) }
     ensures meaning { IfOk result (IsNodeTransform c.now (size_of (breakdown_of t.now))) }
-    ensures whole { size_of (breakdown_of t.now) ≡ c.now.size → IfOk result (IsWholeTransform c.now) }
+    ensures whole { size_of (breakdown_of t.now) ≡ c.now.size
+        → IfOk result (IsWholeTransform c.now) }
     ensures printable { IfOk result IsPrintable }
 {
     let _ = c.request();
@@ -58,8 +59,10 @@ fn formula(alloc: Global, c: &Ctx, t: &Tree) -> Result<Spl, NoMemory>
 #[cycle(formula)]
 fn node_formula(alloc: Global, c: &Ctx, rule: Rule, a: &Tree, b: &Tree) -> Result<Spl, NoMemory>
     requires tree { IsWellFormed c.now.kind (node rule (breakdown_of a.now) (breakdown_of b.now)) }
-    requires divides { c.now.size % (size_of (breakdown_of a.now) * size_of (breakdown_of b.now)) ≡ 0 }
-    ensures { IfOk result (λ f. f ≡ expansion c.now (node rule (breakdown_of a.now) (breakdown_of b.now))) }
+    requires divides { c.now.size % (size_of (breakdown_of a.now) * size_of (breakdown_of b.now))
+        ≡ 0 }
+    ensures { IfOk result
+        (λ f. f ≡ expansion c.now (node rule (breakdown_of a.now) (breakdown_of b.now))) }
 {
     let _ = c.request();
     let left = formula(alloc, c, a)?;
@@ -71,7 +74,8 @@ fn node_formula(alloc: Global, c: &Ctx, rule: Rule, a: &Tree, b: &Tree) -> Resul
 fn by_rule(alloc: Global, c: &Ctx, rule: Rule, a: Spl, b: Spl) -> Result<Spl, NoMemory>
     requires size { IsSize (rows_of a * rows_of b) }
     requires factors { HasFactors rule (rows_of a) (rows_of b) }
-    ensures { IfOk result (λ f. f ≡ rule_formula rule (rows_of a) (rows_of b) (node_root c.now (rows_of a * rows_of b)) a b) }
+    ensures { IfOk result (λ f. f
+        ≡ rule_formula rule (rows_of a) (rows_of b) (node_root c.now (rows_of a * rows_of b)) a b) }
 {
     match rule {
         Rule::Gt => by_coprime_factors(alloc, a, b),
@@ -98,7 +102,8 @@ fn leaf(c: &Ctx, size: u64) -> Spl
 #[tactic(auto, using(crate::proofs::Sizes::first_size, crate::proofs::Sizes::second_size, crate::proofs::Sizes::multiple_of_first, crate::proofs::Sizes::multiple_of_second))]
 fn by_strides(alloc: Global, c: &Ctx, a: Spl, b: Spl) -> Result<Spl, NoMemory>
     requires size { IsSize (rows_of a * rows_of b) }
-    ensures { IfOk result (λ f. f ≡ rule_formula Ct (rows_of a) (rows_of b) (node_root c.now (rows_of a * rows_of b)) a b) }
+    ensures { IfOk result (λ f. f
+        ≡ rule_formula Ct (rows_of a) (rows_of b) (node_root c.now (rows_of a * rows_of b)) a b) }
 {
     let _ = c.request();
     let (r, s) = (a.rows(), b.rows());

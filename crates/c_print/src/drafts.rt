@@ -23,7 +23,8 @@ use std::alloc::Global;
 
 // The line stands at the front of the text.
 fn is_front(text: &[u8], line: &[u8]) -> bool
-    ensures yes { result ≡ true → (length line.now ≤ length text.now) × (word_in line.now text.now ≡ Ok (tt, drop (length line.now) text.now)) }
+    ensures yes { result ≡ true → (length line.now ≤ length text.now)
+        × (word_in line.now text.now ≡ Ok (tt, drop (length line.now) text.now)) }
     ensures no { result ≡ false → (left : ℕ) × (word_in line.now text.now ≡ Err left) }
 {
     Cursor::new(text).word(line).is_ok()
@@ -64,7 +65,8 @@ fn free(alloc: Global, draft: Draft, has_functions: bool) -> CDraft
 
 /// What the first line says.
 pub fn begun(alloc: Global, line: &[u8]) -> Result<CDraft, Refusal>
-    ensures { Makes result (option_map c_blank (read_step header_step (whole c_header_at line.now))) }
+    ensures { Makes result
+        (option_map c_blank (read_step header_step (whole c_header_at line.now))) }
 {
     let header = read_c_header(line)?;
     let draft = blank(alloc, header)?;
@@ -86,7 +88,8 @@ fn with_c_act(
     has_functions: bool,
     line: &[u8],
 ) -> Result<CDraft, Refusal>
-    ensures { Makes result (option_map (free has_functions) (read_step (act_step (plain_draft draft)) (whole c_line_at line.now))) }
+    ensures { Makes result (option_map (free has_functions)
+        (read_step (act_step (plain_draft draft)) (whole c_line_at line.now))) }
 {
     let act = read_c_line(alloc, line)?;
     let next = with_act(alloc, draft, act)?;
@@ -94,7 +97,8 @@ fn with_c_act(
 }
 
 fn with_c_table(alloc: Global, draft: Draft, line: &[u8]) -> Result<CDraft, Refusal>
-    ensures { Makes result (option_map (free false) (read_step (table_step (plain_draft draft)) (whole (c_table_at (length line.now)) line.now))) }
+    ensures { Makes result (option_map (free false) (read_step (table_step (plain_draft draft))
+        (whole (c_table_at (length line.now)) line.now))) }
 {
     let (number, entries) = read_c_table(alloc, line)?;
     let next = with_table(alloc, draft, number, entries)?;
@@ -103,7 +107,8 @@ fn with_c_table(alloc: Global, draft: Draft, line: &[u8]) -> Result<CDraft, Refu
 
 // The first line of the functions, or a table.
 fn before_phases(alloc: Global, draft: Draft, line: &[u8]) -> Result<CDraft, Refusal>
-    ensures { Makes result (functions_or_table (plain_draft draft) line.now (word_in line.now functions_text)) }
+    ensures { Makes result
+        (functions_or_table (plain_draft draft) line.now (word_in line.now functions_text)) }
 {
     let mut owed = Vec::new(alloc);
     put_functions(&mut owed)?;
@@ -120,7 +125,8 @@ fn before_phases(alloc: Global, draft: Draft, line: &[u8]) -> Result<CDraft, Ref
 
 // The first line of a phase.
 fn with_phase(alloc: Global, draft: Draft, line: &[u8]) -> Result<CDraft, Refusal>
-    ensures { Makes result (owing (listings.entered (plain_draft draft)) true (phase_start_text draft.header.regs (length (plain_draft draft).phases)) line.now) }
+    ensures { Makes result (owing (listings.entered (plain_draft draft)) true
+        (phase_start_text draft.header.regs (length (plain_draft draft).phases)) line.now) }
 {
     let mut owed = Vec::new(alloc);
     put_phase_start(&mut owed, draft.header.regs, draft.phases.len() as u64)?;

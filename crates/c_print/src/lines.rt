@@ -281,8 +281,10 @@ fn whole_line(alloc: Global, line: &[u8]) -> Result<Act, ReadError>
 /// bytes are left where reading stops.
 pub fn read_c_line(alloc: Global, line: &[u8]) -> Result<Act, ReadError>
     ensures read { TellsAll plain_act result (whole c_line_at line.now) }
-    ensures text { IfOk result (λ act. ActFits (plain_act act) × (line.now ≡ c_line_text (plain_act act))) }
-    ensures only { (act : PlainAct) → IsLineOf line.now act → IsOkUnless result ReadError.NoMemory × IfOk result (λ found. plain_act found ≡ act) }
+    ensures text { IfOk result (λ act. ActFits (plain_act act)
+        × (line.now ≡ c_line_text (plain_act act))) }
+    ensures only { (act : PlainAct) → IsLineOf line.now act
+        → IsOkUnless result ReadError.NoMemory × IfOk result (λ found. plain_act found ≡ act) }
 {
     match whole_line(alloc, line) {
         Ok(act) => Ok(act),

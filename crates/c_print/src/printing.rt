@@ -49,7 +49,8 @@ fn put_becomes(out: &mut Vec<u8>, register: u64) -> Result<(), AllocError>
 }
 
 fn put_load(out: &mut Vec<u8>, register: u64, array: Array, place: &Expr) -> Result<(), AllocError>
-    ensures { OnOk result (out.new.items ≡ out.old.items ++ (becomes_text register ++ array_text array ++ codes "[" ++ sum_text (plain_expr place.now) ++ codes " + l];")) }
+    ensures { OnOk result (out.new.items ≡ out.old.items ++ (becomes_text register
+        ++ array_text array ++ codes "[" ++ sum_text (plain_expr place.now) ++ codes " + l];")) }
 {
     put_becomes(out, register)?;
     put_array(out, array)?;
@@ -59,7 +60,9 @@ fn put_load(out: &mut Vec<u8>, register: u64, array: Array, place: &Expr) -> Res
 }
 
 fn put_store(out: &mut Vec<u8>, array: Array, place: &Expr, register: u64) -> Result<(), AllocError>
-    ensures { OnOk result (out.new.items ≡ out.old.items ++ (lane_loop ++ array_text array ++ codes "[" ++ sum_text (plain_expr place.now) ++ codes " + l] = " ++ lane_text register ++ codes ";")) }
+    ensures { OnOk result (out.new.items ≡ out.old.items
+        ++ (lane_loop ++ array_text array ++ codes "[" ++ sum_text (plain_expr place.now)
+        ++ codes " + l] = " ++ lane_text register ++ codes ";")) }
 {
     put_lane_loop(out)?;
     put_array(out, array)?;
@@ -78,7 +81,8 @@ fn put_call(
     left: u64,
     right: u64,
 ) -> Result<(), AllocError>
-    ensures { OnOk result (out.new.items ≡ out.old.items ++ (becomes_text register ++ function.now ++ lane_text left ++ codes ", " ++ lane_text right ++ codes ");")) }
+    ensures { OnOk result (out.new.items ≡ out.old.items ++ (becomes_text register ++ function.now
+        ++ lane_text left ++ codes ", " ++ lane_text right ++ codes ");")) }
 {
     put_becomes(out, register)?;
     out.extend_from_slice(function)?;
@@ -96,7 +100,9 @@ fn put_table_product(
     place: &Expr,
     step: u64,
 ) -> Result<(), AllocError>
-    ensures { OnOk result (out.new.items ≡ out.old.items ++ (becomes_text register ++ codes "mul(" ++ lane_text source ++ codes ", t" ++ decimal table ++ codes "[" ++ sum_text (plain_expr place.now) ++ codes " + " ++ decimal step ++ codes " * l]);")) }
+    ensures { OnOk result (out.new.items ≡ out.old.items ++ (becomes_text register ++ codes "mul("
+        ++ lane_text source ++ codes ", t" ++ decimal table ++ codes "["
+        ++ sum_text (plain_expr place.now) ++ codes " + " ++ decimal step ++ codes " * l]);")) }
 {
     put_becomes(out, register)?;
     out.extend_from_slice(b"mul(")?;
@@ -134,7 +140,8 @@ fn put_const_product(
     source: u64,
     factor: u64,
 ) -> Result<(), AllocError>
-    ensures { OnOk result (out.new.items ≡ out.old.items ++ c_op_text (MulConst register source factor)) }
+    ensures { OnOk result (out.new.items
+        ≡ out.old.items ++ c_op_text (MulConst register source factor)) }
 {
     put_becomes(out, register)?;
     out.extend_from_slice(b"mul(")?;
@@ -209,7 +216,8 @@ fn put_loop(out: &mut Vec<u8>, depth: u64, count: u64) -> Result<(), AllocError>
 // A statement inside so many loops.
 fn put_stmt(out: &mut Vec<u8>, stmt: &Stmt, depth: u64) -> Result<(), AllocError>
     requires { IsTrue (is_nest_within (plain_stmt stmt.now) depth) }
-    ensures { OnOk result (out.new.items ≡ out.old.items ++ c_stmt_text depth (plain_stmt stmt.now)) }
+    ensures { OnOk result (out.new.items
+        ≡ out.old.items ++ c_stmt_text depth (plain_stmt stmt.now)) }
 {
     match stmt {
         Stmt::Loop { count, body } => {
@@ -237,7 +245,8 @@ fn put_body(out: &mut Vec<u8>, body: &[Stmt]) -> Result<(), AllocError>
 }
 
 fn put_c_header(out: &mut Vec<u8>, program: &Program) -> Result<(), AllocError>
-    ensures { OnOk result (out.new.items ≡ out.old.items ++ c_header_text (plain_program program.now)) }
+    ensures { OnOk result (out.new.items
+        ≡ out.old.items ++ c_header_text (plain_program program.now)) }
 {
     put_word(out, b"/* ")?;
     put_header(out, program)?;
@@ -250,7 +259,8 @@ fn put_numbered(
     number: u64,
     after: &[u8],
 ) -> Result<(), AllocError>
-    ensures { OnOk result (out.new.items ≡ out.old.items ++ numbered_text before.now number after.now) }
+    ensures { OnOk result (out.new.items
+        ≡ out.old.items ++ numbered_text before.now number after.now) }
 {
     put(out, before, number)?;
     out.extend_from_slice(after)
@@ -308,7 +318,8 @@ fn put_table(out: &mut Vec<u8>, number: u64, entries: &[u64]) -> Result<(), Allo
 }
 
 fn put_tables(out: &mut Vec<u8>, tables: &[Vec<u64>]) -> Result<(), AllocError>
-    ensures { OnOk result (out.new.items ≡ out.old.items ++ c_tables_text 0 (plain_tables tables.now)) }
+    ensures { OnOk result (out.new.items
+        ≡ out.old.items ++ c_tables_text 0 (plain_tables tables.now)) }
 {
     for (number, entries) in tables.iter().enumerate() {
         put_table(out, number as u64, entries)?;
@@ -363,7 +374,8 @@ pub fn put_phase_start(out: &mut Vec<u8>, regs: u64, number: u64) -> Result<(), 
 
 fn put_phases(out: &mut Vec<u8>, regs: u64, phases: &[Vec<Stmt>]) -> Result<(), AllocError>
     requires { IsTrue (list_all (λ body. are_nests_within body 0) (plain_phases phases.now)) }
-    ensures { OnOk result (out.new.items ≡ out.old.items ++ c_phases_text regs 0 (plain_phases phases.now)) }
+    ensures { OnOk result (out.new.items
+        ≡ out.old.items ++ c_phases_text regs 0 (plain_phases phases.now)) }
 {
     for (number, body) in phases.iter().enumerate() {
         put_phase_start(out, regs, number as u64)?;

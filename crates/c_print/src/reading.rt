@@ -76,7 +76,8 @@ fn drafted(alloc: Global, text: &[u8]) -> Result<Draft, CFault>
 /// The program whose C text a text is: what `print_c` writes of a program is read back, and nothing else is read.
 pub fn read_c(alloc: Global, text: &[u8]) -> Result<Program, CFault>
     ensures answer { CAnswers text.now result }
-    ensures only { (p : PlainProgram) → is_c_text text.now p → IsOkUnless result CFault.NoMemory × IfOk result (λ q. plain_program q ≡ p) }
+    ensures only { (p : PlainProgram) → is_c_text text.now p
+        → IsOkUnless result CFault.NoMemory × IfOk result (λ q. plain_program q ≡ p) }
 {
     match drafted(alloc, text) {
         Ok(draft) => Ok(Program {

@@ -17,7 +17,8 @@ fn convolution_at(modulus: &Modulus, h: &[u64], x: &[u64], k: u64) -> u64
     requires place { k < length x.now }
     requires h_in { All (λ v. v < modulus.now) h.now }
     requires x_in { All (λ v. v < modulus.now) x.now }
-    ensures value { result ≡ sum_below (length x.now) (λ l. slice_index h.now l * slice_index x.now (difference_mod (length x.now) k l)) % modulus.now }
+    ensures value { result ≡ sum_below (length x.now) (λ l. slice_index h.now l * slice_index x.now
+        (difference_mod (length x.now) k l)) % modulus.now }
     ensures residue { result < modulus.now }
 {
     let n = x.len();
@@ -40,7 +41,8 @@ pub fn conv_plain(
     requires size { length h.now ≡ length x.now }
     requires h_in { All (λ v. v < modulus.now) h.now }
     requires x_in { All (λ v. v < modulus.now) x.now }
-    ensures value { IfOk result (λ y. y.items ≡ convolution modulus.now (length x.now) h.now x.now) }
+    ensures value { IfOk result
+        (λ y. y.items ≡ convolution modulus.now (length x.now) h.now x.now) }
     ensures size { IfOk result (λ y. vec_len y ≡ length x.now) }
     ensures residues { IfOk result (λ y. All (λ v. v < modulus.now) y.items) }
 {
@@ -83,7 +85,8 @@ fn power_sum(modulus: &Modulus, n: u64, w: u64, k: u64) -> u64
 /// The least place from 1 to n - 1 whose power sum is not 0.
 pub fn first_bad_power(modulus: &Modulus, n: u64, w: u64) -> Option<u64>
     requires { w < modulus.now }
-    ensures { MatchOption result (IsPrincipal modulus.now n w) (λ k. IsFirstBadPower modulus.now n w k) }
+    ensures { MatchOption result (IsPrincipal modulus.now n w)
+        (λ k. IsFirstBadPower modulus.now n w k) }
 {
     for k in 1..n {
         if power_sum(modulus, n, w, k) != 0 {

@@ -22,10 +22,13 @@ use tree_model::Ctx;
 /// The cheapest tree for both transforms of a convolution, with the cost of the whole; or the first cause to refuse.
 pub fn plan_conv(alloc: Global, request: &Request) -> Result<Plan, ConvFault>
     requires { IsConvRequest request.now }
-    ensures planned { IfOk result (λ plan. IsConvPlanned request.now (Ok (breakdown_of plan.tree))) }
-    ensures cost { IfOk result (λ plan. plan.cost ≡ conv_cost request.now (breakdown_of plan.tree)) }
+    ensures planned { IfOk result
+        (λ plan. IsConvPlanned request.now (Ok (breakdown_of plan.tree))) }
+    ensures cost { IfOk result
+        (λ plan. plan.cost ≡ conv_cost request.now (breakdown_of plan.tree)) }
     ensures valid { IfOk result (λ plan. IsValid request.now) }
-    ensures refused { IfErr result (λ cause. cause ≢ fault.NoMemory → IsConvPlanned request.now (Err cause)) }
+    ensures refused { IfErr result (λ cause. cause ≢ fault.NoMemory
+        → IsConvPlanned request.now (Err cause)) }
 {
     check_root(request)?;
     let Plan { tree, cost } = cheapest(alloc, request)?;

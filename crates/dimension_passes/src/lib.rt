@@ -62,7 +62,8 @@ fn merge_plain(
 ) -> Result<Merged, NoMemory>
     requires valid { AreValid request.now (listed dimensions.now) }
     requires size { size_in (listed dimensions.now) ≤ max_size }
-    requires trees { AreAdmissible request.now (listed dimensions.now) (map breakdown_of trees.now) }
+    requires trees { AreAdmissible request.now (listed dimensions.now)
+        (map breakdown_of trees.now) }
     ensures { IfOk result (λ merged. plain_merged merged ≡
         plain_passes request.now (listed dimensions.now) (map breakdown_of trees.now)) }
 {

@@ -74,7 +74,8 @@ pub fn after_word<'a>(text: &'a [u8], word: &[u8]) -> Result<&'a [u8], Stuck>
 
 /// The value of the word at the front, and what stands behind it.
 pub fn one_of<'a, T: Copy>(text: &'a [u8], words: &[(&[u8], T)]) -> Result<(T, &'a [u8]), Stuck>
-    ensures { GivesToken (λ x. (x.0, x.1.now)) result (one_of_in (map (λ w. (w.0.now, w.1)) words.now) text.now) }
+    ensures { GivesToken
+        (λ x. (x.0, x.1.now)) result (one_of_in (map (λ w. (w.0.now, w.1)) words.now) text.now) }
 {
     let mut left = text.len();
     for (word, value) in words {

@@ -109,8 +109,10 @@ impl Index {
     /// by coprime factors, or back from them, and else a list.
     pub fn inverse(&self, alloc: Global) -> Result<Index, NoMemory>
         requires well_formed { IsWellFormed (mapping_of self.now) }
-        requires permutes { IsSomeAnd (size_of (mapping_of self.now)) (Permutes (mapping_of self.now)) }
-        ensures undone { IfOk result (λ g. IfSome (size_of (mapping_of self.now)) (Undoes (mapping_of self.now) (mapping_of g))) }
+        requires permutes { IsSomeAnd (size_of (mapping_of self.now))
+            (Permutes (mapping_of self.now)) }
+        ensures undone { IfOk result (λ g. IfSome (size_of (mapping_of self.now))
+            (Undoes (mapping_of self.now) (mapping_of g))) }
         ensures formula { IfOk result (λ g. HasFormula (mapping_of self.now) (mapping_of g)) }
     {
         match self {

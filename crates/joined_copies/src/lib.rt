@@ -17,7 +17,8 @@ use std::alloc::Global;
 
 /// The same passes, with copies of words that stand side by side as one loop.
 pub fn join_copies(alloc: Global, passes: Vec<Vec<Nest>>) -> Result<Vec<Vec<Nest>>, NoMemory>
-    ensures { IfOk result (λ joined. plain_passes joined.items ≡ all_joined (plain_passes passes.items)) }
+    ensures { IfOk result
+        (λ joined. plain_passes joined.items ≡ all_joined (plain_passes passes.items)) }
 {
     let mut joined = Vec::with_capacity(alloc, passes.len())?;
     for pass in passes {

@@ -47,7 +47,8 @@ fn is_word(work: &Work) -> bool
 }
 
 fn same_words(loaded: Option<Run>, stored: Option<Run>) -> Option<Run>
-    ensures { option_map plain_run result ≡ same_words (option_map plain_run loaded) (option_map plain_run stored) }
+    ensures { option_map plain_run result
+        ≡ same_words (option_map plain_run loaded) (option_map plain_run stored) }
 {
     match (loaded, stored) {
         (Some(from), Some(to)) => {
@@ -104,7 +105,8 @@ fn counted_from(count: u64, place: &Affine) -> Option<Run>
 
 /// Both, where the second begins at the end of the first.
 pub(crate) fn together(first: Option<Run>, second: Option<Run>) -> Option<Run>
-    ensures { option_map plain_run result ≡ together (option_map plain_run first) (option_map plain_run second) }
+    ensures { option_map plain_run result
+        ≡ together (option_map plain_run first) (option_map plain_run second) }
 {
     match (first, second) {
         (Some(first), Some(second)) => {
@@ -141,7 +143,8 @@ pub(crate) fn copying_run(alloc: Global, run: Run) -> Result<Nest, NoMemory>
 }
 
 fn counting_from(alloc: Global, first: u64) -> Result<Vec<Affine>, NoMemory>
-    ensures { IfOk result (λ places. map plain_sum places.items ≡ variable 1 0 (constant first) ∷ []) }
+    ensures { IfOk result
+        (λ places. map plain_sum places.items ≡ variable 1 0 (constant first) ∷ []) }
 {
     let start = Box::new(alloc, Affine::Constant(first))?;
     let mut places = Vec::with_capacity(alloc, 1)?;

@@ -17,7 +17,9 @@ fn inverse_row_times(r: &Request, k: u64, x: &[u64]) -> u64
     requires row { k < r.now.size }
     requires size { length x.now ≡ r.now.size }
     requires residues { All (λ v. v < r.now.modulus) x.now }
-    ensures value { result ≡ sum_below r.now.size (λ l. inverse_entry r.now.modulus r.now.size r.now.root k l * slice_index x.now l) % r.now.modulus }
+    ensures value { result ≡ sum_below r.now.size
+        (λ l. inverse_entry r.now.modulus r.now.size r.now.root k l * slice_index x.now l)
+        % r.now.modulus }
     ensures residue { result < r.now.modulus }
 {
     let modulus = Modulus::new(r.modulus).unwrap();
@@ -31,7 +33,8 @@ fn inverse_plain(alloc: Global, r: &Request, x: &[u64]) -> Result<Vec<u64>, NoMe
     requires inverse { r.now.direction ≡ Direction.Inverse }
     requires size { length x.now ≡ r.now.size }
     requires residues { All (λ v. v < r.now.modulus) x.now }
-    ensures value { IfOk result (λ y. y.items ≡ inverse_transform r.now.modulus r.now.size r.now.root x.now) }
+    ensures value { IfOk result
+        (λ y. y.items ≡ inverse_transform r.now.modulus r.now.size r.now.root x.now) }
     ensures size { IfOk result (λ y. vec_len y ≡ r.now.size) }
     ensures residues { IfOk result (λ y. All (λ v. v < r.now.modulus) y.items) }
 {

@@ -45,7 +45,8 @@ fn row_choice_cost(c: &Ctx, rows: &[Row], row: &Row) -> u64
     requires high { row.now.size ≤ c.now.size }
     requires allowed { AllowsChoice c.now row.now.size row.now.rule row.now.left row.now.right }
     requires parts { HasModestParts (cost_at rows.now) row.now.size }
-    ensures value { result ≡ choice_cost c.now (cost_at rows.now) row.now.size row.now.rule row.now.left row.now.right }
+    ensures value { result ≡ choice_cost c.now
+        (cost_at rows.now) row.now.size row.now.rule row.now.left row.now.right }
     ensures modest { IsModest row.now.size result }
 {
     let Row {
@@ -111,7 +112,8 @@ fn split_least(c: &Ctx, rows: &[Row], d: u64, r: u64, least: u64) -> u64
     requires parts { HasModestParts (cost_at rows.now) d }
     ensures at_most { result ≤ least }
     ensures one_of { (result ≡ least) ⊎ IsChoiceCost c.now (cost_at rows.now) d result }
-    ensures bound { (rule : Rule) (s y : ℕ) → HasNodeCost c.now (cost_at rows.now) d y rule r s → result ≤ y }
+    ensures bound { (rule : Rule) (s y : ℕ) → HasNodeCost c.now (cost_at rows.now) d y rule r s
+        → result ≤ y }
 {
     let s = d / r;
     match best_rule(c, r, s) {

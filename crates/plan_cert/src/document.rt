@@ -34,7 +34,8 @@ pub(crate) fn document_rows(
     weight: u64,
     value: &Value,
 ) -> Result<Option<Vec<Row>>, NoMemory>
-    ensures { IfOk result (λ o. option_map (λ rows. rows.items) o ≡ document_rows size weight (view value.now)) }
+    ensures { IfOk result
+        (λ o. option_map (λ rows. rows.items) o ≡ document_rows size weight (view value.now)) }
 {
     if !has_head(value, size, weight) {
         return Ok(None);
@@ -95,7 +96,8 @@ fn has_number(value: &Value, name: &str, number: u64) -> bool
 }
 
 fn rows_of(alloc: Global, values: &[Value]) -> Result<Option<Vec<Row>>, NoMemory>
-    ensures { IfOk result (λ o. option_map (λ rows. rows.items) o ≡ rows_of (items_view values.now)) }
+    ensures { IfOk result
+        (λ o. option_map (λ rows. rows.items) o ≡ rows_of (items_view values.now)) }
 {
     let mut rows = Vec::new(alloc);
     for value in values {

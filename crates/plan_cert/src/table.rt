@@ -42,7 +42,8 @@ fn add_row(c: &Ctx, rows: &mut Vec<Row>, d: u64, plan: &Option<Plan>) -> Result<
     requires best { IsBestOf c.now d AnyTree plan.now }
     requires below { HasRowsBelow c.now rows.old.items d (length rows.old.items) }
     requires chosen { All (IsChosenRow c.now) rows.old.items }
-    ensures below { OnOk result (HasRowsBelow c.now rows.new.items (d + 1) (length rows.new.items)) }
+    ensures below { OnOk result
+        (HasRowsBelow c.now rows.new.items (d + 1) (length rows.new.items)) }
     ensures chosen { OnOk result (All (IsChosenRow c.now) rows.new.items) }
 {
     prove!(c.request().size <= MAX_SIZE);

@@ -38,7 +38,8 @@ pub fn certificate_value(alloc: Global, c: &Ctx) -> Result<Value, NoMemory>
 
 /// The text of a value, one line.
 pub fn value_line(alloc: Global, value: &Value) -> Result<Vec<u8>, NoMemory>
-    ensures { IfOk result (λ text. IsPlain (view value.now) → IsLineOf (view value.now) text.items) }
+    ensures { IfOk result (λ text. IsPlain (view value.now)
+        → IsLineOf (view value.now) text.items) }
 {
     let mut text = value.to_vec(alloc)?;
     text.push(b'\n')?;

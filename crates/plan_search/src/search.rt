@@ -117,7 +117,9 @@ fn beats(c: &Ctx, next: &Plan, best: &Plan) -> bool
     requires next_plan { IsPlan c.now (size_of (breakdown_of next.now.tree)) next.now }
     requires best_plan { IsPlan c.now (size_of (breakdown_of next.now.tree)) best.now }
     requires size { size_of (breakdown_of next.now.tree) ≤ c.now.size }
-    ensures { MatchBool result (IsNoWorse c.now (breakdown_of next.now.tree) (breakdown_of best.now.tree)) (IsNoWorse c.now (breakdown_of best.now.tree) (breakdown_of next.now.tree)) }
+    ensures { MatchBool result
+        (IsNoWorse c.now (breakdown_of next.now.tree) (breakdown_of best.now.tree))
+        (IsNoWorse c.now (breakdown_of best.now.tree) (breakdown_of next.now.tree)) }
 {
     prove!(c.request().size <= MAX_SIZE);
     match next.cost.cmp(&best.cost) {

@@ -24,7 +24,8 @@ fn put(out: &mut Vec<u8>, word: &[u8], number: u64) -> Result<(), NoMemory>
 
 /// Appends the text of a tree, as `ct(leaf(2),leaf(2))`.
 pub fn write_tree(out: &mut Vec<u8>, tree: &Tree) -> Result<(), NoMemory>
-    ensures { OnOk result (out.new.items ≡ out.old.items ++ texts.tree_text (breakdown_of tree.now)) }
+    ensures { OnOk result (out.new.items
+        ≡ out.old.items ++ texts.tree_text (breakdown_of tree.now)) }
 {
     match tree {
         Tree::Leaf(size) => {
@@ -81,7 +82,8 @@ pub fn print_plan(
 ) -> Result<Vec<u8>, NoMemory>
     requires procs { 0 < request.now.procs }
     requires cost { cost ≡ whole_cost request.now (breakdown_of tree.now) }
-    ensures { IfOk result (λ text. text.items ≡ texts.plan_text request.now (breakdown_of tree.now)) }
+    ensures { IfOk result
+        (λ text. text.items ≡ texts.plan_text request.now (breakdown_of tree.now)) }
 {
     let mut text = Vec::new(alloc);
     text.extend_from_slice(b"tree ")?;

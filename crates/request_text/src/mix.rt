@@ -120,7 +120,8 @@ fn whole_mix(alloc: Global, word: &[u8]) -> Result<Vec<Event>, ReadError>
 /// The turns and drains that a word names.
 pub fn read_mix(alloc: Global, word: &[u8]) -> Result<Mix, MixFault>
     ensures answer { MixAnswers word.now result }
-    ensures only { (events : List Event) → mix_word word.now events → IsOkUnless result MixFault.NoMemory × IfOk result (λ m. m ≡ events) }
+    ensures only { (events : List Event) → mix_word word.now events
+        → IsOkUnless result MixFault.NoMemory × IfOk result (λ m. m ≡ events) }
 {
     match whole_mix(alloc, word) {
         Ok(events) => Ok(Mix { events }),

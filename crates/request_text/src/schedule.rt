@@ -109,7 +109,8 @@ fn whole_schedule(alloc: Global, word: &[u8]) -> Result<Turns, ReadError>
 /// The schedule that a word spells.
 pub fn read_schedule(alloc: Global, word: &[u8]) -> Result<Schedule, ScheduleFault>
     ensures answer { WordAnswers word.now result }
-    ensures only { (plan : Plan) → schedule_word word.now plan → IsOkUnless result ScheduleFault.NoMemory × IfOk result (λ s. s ≡ plan) }
+    ensures only { (plan : Plan) → schedule_word word.now plan
+        → IsOkUnless result ScheduleFault.NoMemory × IfOk result (λ s. s ≡ plan) }
 {
     match whole_schedule(alloc, word) {
         Ok(turns) => Ok(Schedule { turns }),

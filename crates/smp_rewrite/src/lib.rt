@@ -50,8 +50,10 @@ pub struct SmpSpl {
 pub fn to_smp(alloc: Global, c: &Ctx, tree: &Tree) -> Result<SmpSpl, NoMemory>
     requires { IsAdmissible c.now (breakdown_of tree.now) }
     ensures form { IfOk result (λ f. plain_smp f ≡ smp_of c.now (breakdown_of tree.now)) }
-    ensures meaning { IfOk result (λ f. (x : List ℕ) → smp_on c.now (plain_smp f) x ≡ transform_of c.now c.now.size x) }
-    ensures operations { IfOk result (λ f. f.procs * smp_share c.now (plain_smp f) ≡ cost_of c.now (breakdown_of tree.now)) }
+    ensures meaning { IfOk result
+        (λ f. (x : List ℕ) → smp_on c.now (plain_smp f) x ≡ transform_of c.now c.now.size x) }
+    ensures operations { IfOk result
+        (λ f. f.procs * smp_share c.now (plain_smp f) ≡ cost_of c.now (breakdown_of tree.now)) }
     ensures shape { IfOk result (λ f. IsShaped c.now (plain_smp f)) }
 {
     let _request = c.request();
@@ -63,7 +65,8 @@ pub fn to_smp(alloc: Global, c: &Ctx, tree: &Tree) -> Result<SmpSpl, NoMemory>
 // The formula of steps.
 fn cut_steps(alloc: Global, c: &Ctx, steps: Vec<Step>) -> Result<SmpSpl, NoMemory>
     requires { All (λ s. step_size (plain_step s) ≡ c.now.size) steps.items }
-    ensures { IfOk result (λ f. plain_smp f ≡ cut c.now.size c.now.procs c.now.line (map plain_step steps.items)) }
+    ensures { IfOk result
+        (λ f. plain_smp f ≡ cut c.now.size c.now.procs c.now.line (map plain_step steps.items)) }
 {
     let request = c.request();
     let mut right = steps;
@@ -117,7 +120,8 @@ fn is_left(step: &Step) -> bool
 // The factors of steps.
 fn factors_in(alloc: Global, c: &Ctx, steps: Vec<Step>) -> Result<Vec<Factor>, NoMemory>
     requires { All (λ s. step_size (plain_step s) ≡ c.now.size) steps.items }
-    ensures { IfOk result (λ factors. map plain_factor factors.items ≡ flat_map (factors_of c.now.size c.now.procs) (map plain_step steps.items)) }
+    ensures { IfOk result (λ factors. map plain_factor factors.items
+        ≡ flat_map (factors_of c.now.size c.now.procs) (map plain_step steps.items)) }
 {
     let mut factors = Vec::new(alloc);
     for step in steps {
@@ -134,7 +138,8 @@ fn add_factors(
     step: Step,
 ) -> Result<(), NoMemory>
     requires { step_size (plain_step step) ≡ c.now.size }
-    ensures { OnOk result (map plain_factor factors.new.items ≡ map plain_factor factors.old.items ++ factors_of c.now.size c.now.procs (plain_step step)) }
+    ensures { OnOk result (map plain_factor factors.new.items ≡ map plain_factor factors.old.items
+        ++ factors_of c.now.size c.now.procs (plain_step step)) }
 {
     let request = c.request();
     if request.procs == 1 {
@@ -155,7 +160,8 @@ fn add_cut(
     requires procs { 0 < procs }
     requires low { 0 < size }
     requires size { step_size (plain_step step) ≡ size }
-    ensures { OnOk result (map plain_factor factors.new.items ≡ map plain_factor factors.old.items ++ cut_factors size procs (plain_step step).path (plain_step step).core) }
+    ensures { OnOk result (map plain_factor factors.new.items ≡ map plain_factor factors.old.items
+        ++ cut_factors size procs (plain_step step).path (plain_step step).core) }
 {
     match (step.path.split_first(), &step.core) {
         (None, Core::Turns { rows, cols }) => {

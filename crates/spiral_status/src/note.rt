@@ -17,7 +17,8 @@ fn note_number<E: Sink>(
     number: u64,
     end: &[u8],
 ) -> Result<(), WriteFault>
-    ensures bytes { WritesAll (E.taken note.old) (E.taken note.new) result (concat (front.now ∷ decimal number ∷ end.now ∷ [])) }
+    ensures bytes { WritesAll (E.taken note.old) (E.taken note.new) result
+        (concat (front.now ∷ decimal number ∷ end.now ∷ [])) }
     ensures cause { HasCause (E.faults note.old) (E.faults note.new) result }
 {
     let mut buffer = Buffer::new();
@@ -43,7 +44,8 @@ fn note_numbers<E: Sink>(
 
 // Writes a number behind a field's word.
 fn note_range<E: Sink>(note: &mut E, field: Field, value: u64) -> Result<(), WriteFault>
-    ensures bytes { WritesAll (E.taken note.old) (E.taken note.new) result (note_line (Status.Range field value)) }
+    ensures bytes { WritesAll (E.taken note.old) (E.taken note.new) result
+        (note_line (Status.Range field value)) }
     ensures cause { HasCause (E.faults note.old) (E.faults note.new) result }
 {
     let mut buffer = Buffer::new();
@@ -61,7 +63,8 @@ fn note_range<E: Sink>(note: &mut E, field: Field, value: u64) -> Result<(), Wri
 
 // Writes what is wrong with a certificate's row.
 fn note_row<E: Sink>(note: &mut E, size: u64, given: u64, found: u64) -> Result<(), WriteFault>
-    ensures bytes { WritesAll (E.taken note.old) (E.taken note.new) result (note_line (Status.Wrong size given found)) }
+    ensures bytes { WritesAll (E.taken note.old) (E.taken note.new) result
+        (note_line (Status.Wrong size given found)) }
     ensures cause { HasCause (E.faults note.old) (E.faults note.new) result }
 {
     let mut sizes = Buffer::new();
@@ -83,7 +86,8 @@ fn note_row<E: Sink>(note: &mut E, size: u64, given: u64, found: u64) -> Result<
 
 // Writes that a size is no power of two.
 fn note_shape<E: Sink>(note: &mut E, size: u64) -> Result<(), WriteFault>
-    ensures bytes { WritesAll (E.taken note.old) (E.taken note.new) result (note_line (Status.Shape size)) }
+    ensures bytes { WritesAll (E.taken note.old) (E.taken note.new) result
+        (note_line (Status.Shape size)) }
     ensures cause { HasCause (E.faults note.old) (E.faults note.new) result }
 {
     note_number(
@@ -96,7 +100,8 @@ fn note_shape<E: Sink>(note: &mut E, size: u64) -> Result<(), WriteFault>
 
 // Writes that the lanes do not divide the line.
 fn note_lanes_line<E: Sink>(note: &mut E, lanes: u64, line: u64) -> Result<(), WriteFault>
-    ensures bytes { WritesAll (E.taken note.old) (E.taken note.new) result (note_line (Status.LanesLine lanes line)) }
+    ensures bytes { WritesAll (E.taken note.old) (E.taken note.new) result
+        (note_line (Status.LanesLine lanes line)) }
     ensures cause { HasCause (E.faults note.old) (E.faults note.new) result }
 {
     note_numbers(
@@ -111,7 +116,8 @@ fn note_lanes_line<E: Sink>(note: &mut E, lanes: u64, line: u64) -> Result<(), W
 
 // Writes which processor of a schedule is none of so many.
 fn note_turn<E: Sink>(note: &mut E, q: u64, p: u64) -> Result<(), WriteFault>
-    ensures bytes { WritesAll (E.taken note.old) (E.taken note.new) result (note_line (Status.Turn q p)) }
+    ensures bytes { WritesAll (E.taken note.old) (E.taken note.new) result
+        (note_line (Status.Turn q p)) }
     ensures cause { HasCause (E.faults note.old) (E.faults note.new) result }
 {
     note_numbers(note, b"spiral: turn names processor ", q, b" of ", p, b"\n")
@@ -119,7 +125,8 @@ fn note_turn<E: Sink>(note: &mut E, q: u64, p: u64) -> Result<(), WriteFault>
 
 // Writes which factor the size and the modulus share.
 fn note_factor<E: Sink>(note: &mut E, gcd: u64) -> Result<(), WriteFault>
-    ensures bytes { WritesAll (E.taken note.old) (E.taken note.new) result (note_line (Status.NotUnit gcd)) }
+    ensures bytes { WritesAll (E.taken note.old) (E.taken note.new) result
+        (note_line (Status.NotUnit gcd)) }
     ensures cause { HasCause (E.faults note.old) (E.faults note.new) result }
 {
     note_number(
@@ -132,7 +139,8 @@ fn note_factor<E: Sink>(note: &mut E, gcd: u64) -> Result<(), WriteFault>
 
 // Writes which power sum of the root is not 0.
 fn note_power_sum<E: Sink>(note: &mut E, k: u64) -> Result<(), WriteFault>
-    ensures bytes { WritesAll (E.taken note.old) (E.taken note.new) result (note_line (Status.NotPrincipal k)) }
+    ensures bytes { WritesAll (E.taken note.old) (E.taken note.new) result
+        (note_line (Status.NotPrincipal k)) }
     ensures cause { HasCause (E.faults note.old) (E.faults note.new) result }
 {
     note_number(note, b"spiral: power sum ", k, b" is not zero\n")
@@ -140,7 +148,8 @@ fn note_power_sum<E: Sink>(note: &mut E, k: u64) -> Result<(), WriteFault>
 
 // Writes what a root to the power of the size is.
 fn note_root<E: Sink>(note: &mut E, power: u64) -> Result<(), WriteFault>
-    ensures bytes { WritesAll (E.taken note.old) (E.taken note.new) result (note_line (Status.Root power)) }
+    ensures bytes { WritesAll (E.taken note.old) (E.taken note.new) result
+        (note_line (Status.Root power)) }
     ensures cause { HasCause (E.faults note.old) (E.faults note.new) result }
 {
     note_number(note, b"spiral: root to the size is ", power, b", not 1\n")
@@ -148,7 +157,8 @@ fn note_root<E: Sink>(note: &mut E, power: u64) -> Result<(), WriteFault>
 
 // Writes that the least cost is over the budget.
 fn note_budget<E: Sink>(note: &mut E, cost: u64, budget: u64) -> Result<(), WriteFault>
-    ensures bytes { WritesAll (E.taken note.old) (E.taken note.new) result (note_line (Status.OverBudget cost budget)) }
+    ensures bytes { WritesAll (E.taken note.old) (E.taken note.new) result
+        (note_line (Status.OverBudget cost budget)) }
     ensures cause { HasCause (E.faults note.old) (E.faults note.new) result }
 {
     note_numbers(
@@ -163,7 +173,8 @@ fn note_budget<E: Sink>(note: &mut E, cost: u64, budget: u64) -> Result<(), Writ
 
 // Writes which token is no number.
 fn note_token<E: Sink>(note: &mut E, token: u64) -> Result<(), WriteFault>
-    ensures bytes { WritesAll (E.taken note.old) (E.taken note.new) result (note_line (Status.BadNumber token)) }
+    ensures bytes { WritesAll (E.taken note.old) (E.taken note.new) result
+        (note_line (Status.BadNumber token)) }
     ensures cause { HasCause (E.faults note.old) (E.faults note.new) result }
 {
     note_number(note, b"spiral: token ", token, b" is not a number\n")
@@ -171,7 +182,8 @@ fn note_token<E: Sink>(note: &mut E, token: u64) -> Result<(), WriteFault>
 
 // Writes how much of a vector the data hold.
 fn note_truncated<E: Sink>(note: &mut E, have: u64, need: u64) -> Result<(), WriteFault>
-    ensures bytes { WritesAll (E.taken note.old) (E.taken note.new) result (note_line (Status.Truncated have need)) }
+    ensures bytes { WritesAll (E.taken note.old) (E.taken note.new) result
+        (note_line (Status.Truncated have need)) }
     ensures cause { HasCause (E.faults note.old) (E.faults note.new) result }
 {
     note_numbers(
@@ -186,7 +198,8 @@ fn note_truncated<E: Sink>(note: &mut E, have: u64, need: u64) -> Result<(), Wri
 
 // Writes how many bytes are too many.
 fn note_too_long<E: Sink>(note: &mut E, limit: u64) -> Result<(), WriteFault>
-    ensures bytes { WritesAll (E.taken note.old) (E.taken note.new) result (note_line (Status.TooLong limit)) }
+    ensures bytes { WritesAll (E.taken note.old) (E.taken note.new) result
+        (note_line (Status.TooLong limit)) }
     ensures cause { HasCause (E.faults note.old) (E.faults note.new) result }
 {
     note_number(note, b"spiral: more than ", limit, b" bytes\n")
@@ -194,7 +207,8 @@ fn note_too_long<E: Sink>(note: &mut E, limit: u64) -> Result<(), WriteFault>
 
 // Writes at which line a listing is stuck.
 fn note_listing<E: Sink>(note: &mut E, line: u64) -> Result<(), WriteFault>
-    ensures bytes { WritesAll (E.taken note.old) (E.taken note.new) result (note_line (Status.ListingSyntax line)) }
+    ensures bytes { WritesAll (E.taken note.old) (E.taken note.new) result
+        (note_line (Status.ListingSyntax line)) }
     ensures cause { HasCause (E.faults note.old) (E.faults note.new) result }
 {
     note_number(note, b"spiral: listing syntax at line ", line, b"\n")
@@ -208,7 +222,8 @@ fn note_action<E: Sink>(
     proc: u64,
     action: u64,
 ) -> Result<(), WriteFault>
-    ensures bytes { WritesAll (E.taken note.old) (E.taken note.new) result (action_line front.now phase proc action) }
+    ensures bytes { WritesAll (E.taken note.old) (E.taken note.new) result
+        (action_line front.now phase proc action) }
     ensures cause { HasCause (E.faults note.old) (E.faults note.new) result }
 {
     note_numbers(note, front, phase, b", processor ", proc, b", action ")?;
@@ -223,7 +238,8 @@ fn note_shared<E: Sink>(
     a: u64,
     b: u64,
 ) -> Result<(), WriteFault>
-    ensures bytes { WritesAll (E.taken note.old) (E.taken note.new) result (note_line (Status.LineShared phase line a b)) }
+    ensures bytes { WritesAll (E.taken note.old) (E.taken note.new) result
+        (note_line (Status.LineShared phase line a b)) }
     ensures cause { HasCause (E.faults note.old) (E.faults note.new) result }
 {
     let mut phases = Buffer::new();
@@ -248,7 +264,8 @@ fn note_shared<E: Sink>(
 
 // Writes which part of a formula does not fit, and for which numbers.
 fn note_misfit<E: Sink>(note: &mut E, at: u64, left: u64, right: u64) -> Result<(), WriteFault>
-    ensures bytes { WritesAll (E.taken note.old) (E.taken note.new) result (note_line (Status.FormulaShape at left right)) }
+    ensures bytes { WritesAll (E.taken note.old) (E.taken note.new) result
+        (note_line (Status.FormulaShape at left right)) }
     ensures cause { HasCause (E.faults note.old) (E.faults note.new) result }
 {
     let mut places = Buffer::new();
@@ -270,7 +287,8 @@ fn note_misfit<E: Sink>(note: &mut E, at: u64, left: u64, right: u64) -> Result<
 
 // Writes where a formula is too deep.
 fn note_depth<E: Sink>(note: &mut E, at: u64) -> Result<(), WriteFault>
-    ensures bytes { WritesAll (E.taken note.old) (E.taken note.new) result (note_line (Status.FormulaTooDeep at)) }
+    ensures bytes { WritesAll (E.taken note.old) (E.taken note.new) result
+        (note_line (Status.FormulaTooDeep at)) }
     ensures cause { HasCause (E.faults note.old) (E.faults note.new) result }
 {
     note_number(note, b"spiral: formula too deep at byte ", at, b"\n")
@@ -278,7 +296,8 @@ fn note_depth<E: Sink>(note: &mut E, at: u64) -> Result<(), WriteFault>
 
 // Writes how many actions are too many.
 fn note_steps<E: Sink>(note: &mut E, limit: u64) -> Result<(), WriteFault>
-    ensures bytes { WritesAll (E.taken note.old) (E.taken note.new) result (note_line (Status.OverSteps limit)) }
+    ensures bytes { WritesAll (E.taken note.old) (E.taken note.new) result
+        (note_line (Status.OverSteps limit)) }
     ensures cause { HasCause (E.faults note.old) (E.faults note.new) result }
 {
     note_number(note, b"spiral: more than ", limit, b" actions\n")

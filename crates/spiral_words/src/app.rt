@@ -58,7 +58,8 @@ fn flagged<'a>(alloc: Global, name: &'a str, option: &'a str) -> Result<Command<
 
 /// A subcommand that takes a seed and a schedule.
 fn sampled<'a>(alloc: Global, name: &'a str) -> Result<Command<'a>, AllocError>
-    ensures shape { IfOk result (λ r. shape_of r ≡ command name.now (seed_rule ∷ schedule_rule ∷ [])) }
+    ensures shape { IfOk result
+        (λ r. shape_of r ≡ command name.now (seed_rule ∷ schedule_rule ∷ [])) }
     ensures local { IfOk result (λ r. (fields_of r).has_globals ≡ false) }
 {
     let seed = option(alloc, "seed", "0");
@@ -78,7 +79,8 @@ fn reduced<'a>(alloc: Global, name: &'a str) -> Result<Command<'a>, AllocError>
 
 /// A subcommand that takes a modulus and a schedule.
 fn applied<'a>(alloc: Global, name: &'a str) -> Result<Command<'a>, AllocError>
-    ensures shape { IfOk result (λ r. shape_of r ≡ command name.now (mod_rule ∷ schedule_rule ∷ [])) }
+    ensures shape { IfOk result
+        (λ r. shape_of r ≡ command name.now (mod_rule ∷ schedule_rule ∷ [])) }
     ensures local { IfOk result (λ r. (fields_of r).has_globals ≡ false) }
 {
     let reduced = reduced(alloc, name)?;
@@ -104,7 +106,8 @@ fn with_flagged<'a>(
     name: &'a str,
     option: &'a str,
 ) -> Result<Command<'a>, AllocError>
-    ensures { IfOk result (λ r. app_of r ≡ with_subcommand (app_of command.entry) (flagged name.now option.now)) }
+    ensures { IfOk result
+        (λ r. app_of r ≡ with_subcommand (app_of command.entry) (flagged name.now option.now)) }
 {
     let subcommand = flagged(alloc, name, option)?;
     command.subcommand(subcommand)

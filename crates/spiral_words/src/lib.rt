@@ -18,7 +18,8 @@ pub use command::{Command, Order, Refusal, command_of};
 
 /// Words name no command only where clap refuses them.
 pub fn clap_refuses()
-    ensures { (words : List Text) → named_of words ≡ None → is_empty (fault_of spiral_app words) ≡ false }
+    ensures { (words : List Text) → named_of words ≡ None
+        → is_empty (fault_of spiral_app words) ≡ false }
 {}
 
 /// Words that are no command line ask for nothing.

@@ -32,9 +32,12 @@ pub(crate) enum Named<'a> {
 
 /// What clap finds in the words.
 pub(crate) fn parsed<'a>(alloc: Global, words: &'a Vec<String>) -> Result<ArgMatches<'a>, Refusal>
-    ensures taken { OnOk result (is_empty (fault_of spiral_app (map string_bytes words.now.items)) ≡ true) }
-    ensures found { IfOk result (λ m. subcommand_rows_of m ≡ subcommand_of spiral_app (map string_bytes words.now.items)) }
-    ensures refused { result ≡ Err Refusal.Usage → is_empty (fault_of spiral_app (map string_bytes words.now.items)) ≡ false }
+    ensures taken { OnOk result
+        (is_empty (fault_of spiral_app (map string_bytes words.now.items)) ≡ true) }
+    ensures found { IfOk result
+        (λ m. subcommand_rows_of m ≡ subcommand_of spiral_app (map string_bytes words.now.items)) }
+    ensures refused { result ≡ Err Refusal.Usage
+        → is_empty (fault_of spiral_app (map string_bytes words.now.items)) ≡ false }
 {
     let line = spiral_app(alloc)?;
     match line.try_get_matches_from(words.as_slice()) {
@@ -130,7 +133,8 @@ fn is_true(word: &str) -> bool
 
 /// The word of an option, or its default.
 fn option_or<'a>(options: &ArgMatches<'a>, name: &str, default: &'a str) -> &'a str
-    ensures { result.now ≡ unwrap_or (first_of name.now (rows_of (found_of options.now))) default.now }
+    ensures { result.now
+        ≡ unwrap_or (first_of name.now (rows_of (found_of options.now))) default.now }
 {
     match option_in(options, name) {
         Some(word) => word,

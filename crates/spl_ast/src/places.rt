@@ -33,9 +33,11 @@ fn stride_place(r: u64, s: u64, p: u64) -> u64
 
 /// The items of `x` at these places.
 pub fn by_places(alloc: Global, places: &[u64], x: &[u64]) -> Result<Vec<u64>, NoMemory>
-    requires below { (i : ℕ) → i < length places.now → slice_index places.now i < length places.now }
+    requires below { (i : ℕ) → i < length places.now
+        → slice_index places.now i < length places.now }
     requires long { length x.now ≡ length places.now }
-    ensures { IfOk result (λ y. y.items ≡ gather (length places.now) (slice_index places.now) x.now) }
+    ensures { IfOk result
+        (λ y. y.items ≡ gather (length places.now) (slice_index places.now) x.now) }
 {
     Ok(
         (0..places.len())

@@ -72,7 +72,8 @@ fn blocks_times(
 ) -> Result<Vec<u64>, NoMemory>
     requires size { IsSize (count * size_of a.now) }
     requires vector { IsVector m.now (count * size_of a.now) x.now }
-    ensures { IfOk result (λ y. y.items ≡ on_blocks count (size_of a.now) (apply m.now a.now) x.now) }
+    ensures { IfOk result
+        (λ y. y.items ≡ on_blocks count (size_of a.now) (apply m.now a.now) x.now) }
 {
     let size = a.rows();
     let mut out = Vec::new(alloc);
@@ -95,7 +96,8 @@ fn columns_times(
 ) -> Result<Vec<u64>, NoMemory>
     requires size { IsSize (size_of a.now * count) }
     requires vector { IsVector m.now (size_of a.now * count) x.now }
-    ensures { IfOk result (λ y. y.items ≡ on_columns (size_of a.now) count (apply m.now a.now) x.now) }
+    ensures { IfOk result
+        (λ y. y.items ≡ on_columns (size_of a.now) count (apply m.now a.now) x.now) }
 {
     let size = a.rows();
     let columns = turned(alloc, count, size, x)?;
@@ -156,7 +158,8 @@ fn diagonal_times(
     x: &[u64],
 ) -> Result<Vec<u64>, NoMemory>
     requires vector { IsVector m.now (length values.now) x.now }
-    ensures { IfOk result (λ y. y.items ≡ scale m.now (length values.now) (slice_index values.now) x.now) }
+    ensures { IfOk result
+        (λ y. y.items ≡ scale m.now (length values.now) (slice_index values.now) x.now) }
 {
     Ok(
         (0..values.len())

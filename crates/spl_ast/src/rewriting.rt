@@ -92,7 +92,8 @@ fn rewrite_parts<R: Rule>(alloc: Global, rule: &R, f: Spl) -> Result<Spl, NoMemo
 // A part, rewritten until the rule matches nothing in it.
 #[cycle(rewrite)]
 fn rewrite_boxed<R: Rule>(alloc: Global, rule: &R, part: Box<Spl>) -> Result<Box<Spl>, NoMemory>
-    ensures keeps { IfOk result (λ g. Rewrites (R.modulus rule.now) (R.measure rule.now) part.value g.value) }
+    ensures keeps { IfOk result
+        (λ g. Rewrites (R.modulus rule.now) (R.measure rule.now) part.value g.value) }
     ensures no_match { IfOk result (λ g. HasNoMatch (R.is_match rule.now) g.value) }
 {
     let whole = rewrite(alloc, rule, Box::into_inner(part))?;

@@ -98,7 +98,8 @@ pub fn values(alloc: Global, cursor: &mut Cursor) -> Result<Vec<u64>, ReadError>
 // The ring values of the list, and those that are read, each behind a comma.
 fn more_values(cursor: &mut Cursor, front: Vec<u64>) -> Result<Vec<u64>, NoMemory>
     requires { All IsRingValue front.items }
-    ensures gives { IfOk result (λ v. in_front front.items (all_at (named_number_at (codes ",") (2 ^ 62)) cursor.old) ≡ Ok (v.items, cursor.new)) }
+    ensures gives { IfOk result (λ v. in_front front.items
+        (all_at (named_number_at (codes ",") (2 ^ 62)) cursor.old) ≡ Ok (v.items, cursor.new)) }
     ensures values { IfOk result (λ v. All IsRingValue v.items) }
 {
     let mut values = front;

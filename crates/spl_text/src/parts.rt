@@ -15,7 +15,8 @@ use std::alloc::Global;
 
 #[tactic(auto, using(crate::proofs::Judging::says_judged))]
 pub fn identity(cursor: &mut Cursor, place: usize) -> Result<Spl, Halt>
-    ensures { Says result cursor.new (tested_at place shape_fault (made_at one_size_at Identity cursor.old)) }
+    ensures { Says result cursor.new
+        (tested_at place shape_fault (made_at one_size_at Identity cursor.old)) }
 {
     let n = one_size(cursor)?;
     kinds::identity(place, n)
@@ -23,7 +24,8 @@ pub fn identity(cursor: &mut Cursor, place: usize) -> Result<Spl, Halt>
 
 #[tactic(auto, using(crate::proofs::Judging::says_judged))]
 pub fn fourier(cursor: &mut Cursor, place: usize) -> Result<Spl, Halt>
-    ensures { Says result cursor.new (tested_at place shape_fault (made_at size_value_at (λ x. Fourier x.0 x.1) cursor.old)) }
+    ensures { Says result cursor.new
+        (tested_at place shape_fault (made_at size_value_at (λ x. Fourier x.0 x.1) cursor.old)) }
 {
     let (n, w) = size_value(cursor)?;
     kinds::fourier(place, n, w)
@@ -31,7 +33,8 @@ pub fn fourier(cursor: &mut Cursor, place: usize) -> Result<Spl, Halt>
 
 #[tactic(auto, using(crate::proofs::Judging::says_judged))]
 pub fn hadamard(cursor: &mut Cursor, place: usize) -> Result<Spl, Halt>
-    ensures { Says result cursor.new (tested_at place shape_fault (made_at one_size_at Hadamard cursor.old)) }
+    ensures { Says result cursor.new
+        (tested_at place shape_fault (made_at one_size_at Hadamard cursor.old)) }
 {
     let n = one_size(cursor)?;
     kinds::hadamard(place, n)
@@ -39,7 +42,8 @@ pub fn hadamard(cursor: &mut Cursor, place: usize) -> Result<Spl, Halt>
 
 #[tactic(auto, using(crate::proofs::Judging::says_judged))]
 pub fn twiddles(cursor: &mut Cursor, place: usize) -> Result<Spl, Halt>
-    ensures { Says result cursor.new (tested_at place shape_fault (made_at sizes_value_at (λ x. Twiddles x.0 x.1 x.2) cursor.old)) }
+    ensures { Says result cursor.new (tested_at place shape_fault
+        (made_at sizes_value_at (λ x. Twiddles x.0 x.1 x.2) cursor.old)) }
 {
     let (n, s, w) = sizes_value(cursor)?;
     kinds::twiddles(place, n, s, w)
@@ -47,7 +51,8 @@ pub fn twiddles(cursor: &mut Cursor, place: usize) -> Result<Spl, Halt>
 
 #[tactic(auto, using(crate::proofs::Judging::says_judged))]
 pub fn stride(cursor: &mut Cursor, place: usize) -> Result<Spl, Halt>
-    ensures { Says result cursor.new (tested_at place shape_fault (made_at two_sizes_at (λ x. Stride x.0 x.1) cursor.old)) }
+    ensures { Says result cursor.new
+        (tested_at place shape_fault (made_at two_sizes_at (λ x. Stride x.0 x.1) cursor.old)) }
 {
     let (n, r) = two_sizes(cursor)?;
     kinds::stride(place, n, r)
@@ -55,7 +60,8 @@ pub fn stride(cursor: &mut Cursor, place: usize) -> Result<Spl, Halt>
 
 #[tactic(auto, using(crate::proofs::Judging::says_judged))]
 pub fn good_thomas_in(cursor: &mut Cursor, place: usize) -> Result<Spl, Halt>
-    ensures { Says result cursor.new (tested_at place shape_fault (made_at two_sizes_at (λ x. GoodThomasIn x.0 x.1) cursor.old)) }
+    ensures { Says result cursor.new (tested_at place shape_fault
+        (made_at two_sizes_at (λ x. GoodThomasIn x.0 x.1) cursor.old)) }
 {
     let (r, s) = two_sizes(cursor)?;
     kinds::good_thomas_in(place, r, s)
@@ -63,7 +69,8 @@ pub fn good_thomas_in(cursor: &mut Cursor, place: usize) -> Result<Spl, Halt>
 
 #[tactic(auto, using(crate::proofs::Judging::says_judged))]
 pub fn good_thomas_out(cursor: &mut Cursor, place: usize) -> Result<Spl, Halt>
-    ensures { Says result cursor.new (tested_at place shape_fault (made_at two_sizes_at (λ x. GoodThomasOut x.0 x.1) cursor.old)) }
+    ensures { Says result cursor.new (tested_at place shape_fault
+        (made_at two_sizes_at (λ x. GoodThomasOut x.0 x.1) cursor.old)) }
 {
     let (r, s) = two_sizes(cursor)?;
     kinds::good_thomas_out(place, r, s)
@@ -71,7 +78,8 @@ pub fn good_thomas_out(cursor: &mut Cursor, place: usize) -> Result<Spl, Halt>
 
 #[tactic(auto, using(crate::proofs::Judging::says_judged))]
 pub fn diagonal(alloc: Global, cursor: &mut Cursor, place: usize) -> Result<Spl, Halt>
-    ensures { Says result cursor.new (tested_at place shape_fault (made_at values_at Diagonal cursor.old)) }
+    ensures { Says result cursor.new
+        (tested_at place shape_fault (made_at values_at Diagonal cursor.old)) }
 {
     let c = values(alloc, cursor)?;
     kinds::diagonal(place, c)
@@ -79,7 +87,8 @@ pub fn diagonal(alloc: Global, cursor: &mut Cursor, place: usize) -> Result<Spl,
 
 #[tactic(auto, using(crate::proofs::Judging::says_judged))]
 pub fn permutation(alloc: Global, cursor: &mut Cursor, place: usize) -> Result<Spl, Halt>
-    ensures { Says result cursor.new (tested_at place shape_fault (made_at values_at Permutation cursor.old)) }
+    ensures { Says result cursor.new
+        (tested_at place shape_fault (made_at values_at Permutation cursor.old)) }
 {
     let k = values(alloc, cursor)?;
     kinds::permutation(alloc, place, k)

@@ -96,14 +96,16 @@ fn write_two(out: &mut Vec<u8>, head: &[u8], n: u64, r: u64) -> Result<(), NoMem
 }
 
 fn write_three(out: &mut Vec<u8>, head: &[u8], n: u64, s: u64, w: u64) -> Result<(), NoMemory>
-    ensures { OnOk result (out.new.items ≡ out.old.items ++ (head.now ++ (decimal n ++ (codes "," ++ (decimal s ++ (codes "," ++ (decimal w ++ codes ")"))))))) }
+    ensures { OnOk result (out.new.items ≡ out.old.items ++ (head.now
+        ++ (decimal n ++ (codes "," ++ (decimal s ++ (codes "," ++ (decimal w ++ codes ")"))))))) }
 {
     put(out, head, n)?;
     write_two(out, b",", s, w)
 }
 
 fn write_values(out: &mut Vec<u8>, head: &[u8], values: &[u64]) -> Result<(), NoMemory>
-    ensures { OnOk result (out.new.items ≡ out.old.items ++ (head.now ++ (values_text values.now ++ codes ")"))) }
+    ensures { OnOk result (out.new.items
+        ≡ out.old.items ++ (head.now ++ (values_text values.now ++ codes ")"))) }
 {
     match values {
         [] => {

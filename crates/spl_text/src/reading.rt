@@ -149,7 +149,8 @@ fn read_part(
     place: usize,
     head: Head,
 ) -> Result<Spl, Halt>
-    ensures { Says result cursor.new (tested_at place shape_fault (arguments_by (formula_at depth) head cursor.old)) }
+    ensures { Says result cursor.new
+        (tested_at place shape_fault (arguments_by (formula_at depth) head cursor.old)) }
 {
     match head {
         Head::I => parts::identity(cursor, place),
@@ -171,7 +172,8 @@ fn read_part(
 #[cycle(reading)]
 #[tactic(auto, using(crate::proofs::Judging::says_judged))]
 fn product(alloc: Global, cursor: &mut Cursor, depth: u64, place: usize) -> Result<Spl, Halt>
-    ensures { Says result cursor.new (tested_at place shape_fault (two_formulas_by (formula_at depth) Product cursor.old)) }
+    ensures { Says result cursor.new
+        (tested_at place shape_fault (two_formulas_by (formula_at depth) Product cursor.old)) }
 {
     let a = read_formula(alloc, cursor, depth)?;
     cursor.word(b",")?;
@@ -183,7 +185,8 @@ fn product(alloc: Global, cursor: &mut Cursor, depth: u64, place: usize) -> Resu
 #[cycle(reading)]
 #[tactic(auto, using(crate::proofs::Judging::says_judged))]
 fn direct_sum(alloc: Global, cursor: &mut Cursor, depth: u64, place: usize) -> Result<Spl, Halt>
-    ensures { Says result cursor.new (tested_at place shape_fault (two_formulas_by (formula_at depth) DirectSum cursor.old)) }
+    ensures { Says result cursor.new
+        (tested_at place shape_fault (two_formulas_by (formula_at depth) DirectSum cursor.old)) }
 {
     let a = read_formula(alloc, cursor, depth)?;
     cursor.word(b",")?;
@@ -195,7 +198,8 @@ fn direct_sum(alloc: Global, cursor: &mut Cursor, depth: u64, place: usize) -> R
 #[cycle(reading)]
 #[tactic(auto, using(crate::proofs::Judging::says_judged))]
 fn tensor_left(alloc: Global, cursor: &mut Cursor, depth: u64, place: usize) -> Result<Spl, Halt>
-    ensures { Says result cursor.new (tested_at place shape_fault (tensor_left_by (formula_at depth) cursor.old)) }
+    ensures { Says result cursor.new
+        (tested_at place shape_fault (tensor_left_by (formula_at depth) cursor.old)) }
 {
     let a = read_formula(alloc, cursor, depth)?;
     cursor.word(b",")?;
@@ -207,7 +211,8 @@ fn tensor_left(alloc: Global, cursor: &mut Cursor, depth: u64, place: usize) -> 
 #[cycle(reading)]
 #[tactic(auto, using(crate::proofs::Judging::says_judged))]
 fn tensor_right(alloc: Global, cursor: &mut Cursor, depth: u64, place: usize) -> Result<Spl, Halt>
-    ensures { Says result cursor.new (tested_at place shape_fault (tensor_right_by (formula_at depth) cursor.old)) }
+    ensures { Says result cursor.new
+        (tested_at place shape_fault (tensor_right_by (formula_at depth) cursor.old)) }
 {
     let k = factor(cursor)?;
     cursor.word(b",")?;
@@ -255,7 +260,8 @@ pub fn read_spl(alloc: Global, text: &[u8]) -> Result<Spl, SplFault>
     ensures first { IsFirst text.now result }
     ensures shows { Shows text.now result }
     ensures parts { IfOk result (λ f. parts_of f ≤ length text.now) }
-    ensures only { (f : Formula) → spells_line text.now f → IsShaped f → IsPrintable f → IsOkUnless result faults.NoMemory × IfOk result (λ g. g ≡ f) }
+    ensures only { (f : Formula) → spells_line text.now f → IsShaped f → IsPrintable f
+        → IsOkUnless result faults.NoMemory × IfOk result (λ g. g ≡ f) }
 {
     match whole_text(alloc, text) {
         Ok(f) => Ok(f),

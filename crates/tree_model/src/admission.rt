@@ -23,8 +23,10 @@ pub fn admissible(c: &Ctx, t: &Tree) -> bool
 /// The size of a tree that is well formed, unless it is none or its size is not a `u64`.
 #[tactic(auto, using(crate::proofs::Sizes::left_le))]
 fn well_formed_size(kind: Kind, t: &Tree) -> Option<u64>
-    ensures some { IfSome result (λ d. IsWellFormed kind (breakdown_of t.now) × (d ≡ size_of (breakdown_of t.now))) }
-    ensures none { IfNone result (IsWellFormed kind (breakdown_of t.now) → 2 ^ 64 ≤ size_of (breakdown_of t.now)) }
+    ensures some { IfSome result (λ d. IsWellFormed kind (breakdown_of t.now)
+        × (d ≡ size_of (breakdown_of t.now))) }
+    ensures none { IfNone result (IsWellFormed kind (breakdown_of t.now)
+        → 2 ^ 64 ≤ size_of (breakdown_of t.now)) }
 {
     match t {
         Tree::Leaf(size) => {

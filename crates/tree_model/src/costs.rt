@@ -192,7 +192,8 @@ fn row_cost(c: &Ctx, minus: u64, root: u64, k: u64, columns: u64) -> u64
     requires columns { columns ≤ 2 ^ 32 }
     requires minus { minus ≤ 1 }
     requires root { root < c.now.modulus }
-    ensures value { result ≡ sum_below columns (λ l. product_cost c.now minus (power_mod c.now.modulus root (k * l))) }
+    ensures value { result
+        ≡ sum_below columns (λ l. product_cost c.now minus (power_mod c.now.modulus root (k * l))) }
     ensures bound { result ≤ 1000 * columns }
 {
     let modulus = Modulus::new(c.request().modulus).unwrap();

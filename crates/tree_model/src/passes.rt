@@ -67,8 +67,10 @@ fn traffic_of(c: &Ctx, t: &Tree) -> Traffic
     requires tree { IsWellFormed c.now.kind (breakdown_of t.now) }
     requires size { size_of (breakdown_of t.now) ≤ c.now.size }
     ensures size { result.size ≡ size_of (breakdown_of t.now) }
-    ensures passes { (count : ℕ) → length (passes_of c.now count (breakdown_of t.now)) ≡ result.passes }
-    ensures loads { (count : ℕ) → loads_in c.now (passes_of c.now count (breakdown_of t.now)) ≡ result.loads }
+    ensures passes { (count : ℕ) → length (passes_of c.now count (breakdown_of t.now))
+        ≡ result.passes }
+    ensures loads { (count : ℕ) → loads_in c.now (passes_of c.now count (breakdown_of t.now))
+        ≡ result.loads }
     ensures few_passes { result.passes ≤ result.size }
     ensures few_loads { result.loads ≤ c.now.size * result.size }
 {
@@ -88,8 +90,10 @@ fn node_traffic(c: &Ctx, a: Traffic, b: Traffic) -> Traffic
     requires few_passes { (a.passes ≤ a.size) × (b.passes ≤ b.size) }
     requires few_loads { (a.loads ≤ c.now.size * a.size) × (b.loads ≤ c.now.size * b.size) }
     ensures size { result.size ≡ a.size * b.size }
-    ensures passes { result.passes ≡ (if is_kernel c.now (a.size * b.size) then 1 else b.passes + a.passes) }
-    ensures loads { result.loads ≡ (if is_kernel c.now (a.size * b.size) then c.now.size else b.loads + a.loads) }
+    ensures passes { result.passes
+        ≡ (if is_kernel c.now (a.size * b.size) then 1 else b.passes + a.passes) }
+    ensures loads { result.loads
+        ≡ (if is_kernel c.now (a.size * b.size) then c.now.size else b.loads + a.loads) }
     ensures few_passes { result.passes ≤ result.size }
     ensures few_loads { result.loads ≤ c.now.size * result.size }
 {
@@ -176,5 +180,6 @@ fn with_tiles(c: &Ctx, parts: Traffic, tiles: u64) -> Traffic
 
 /// The passes of an admissible tree do its operations: a law of the definitions.
 pub fn passes_do_the_cost()
-    ensures { (c : Request) (t : Breakdown) → IsAdmissible c t → passes_cost c c.size (whole_passes c t) ≡ cost_of c t }
+    ensures { (c : Request) (t : Breakdown) → IsAdmissible c t
+        → passes_cost c c.size (whole_passes c t) ≡ cost_of c t }
 {}

@@ -68,9 +68,12 @@ pub struct Grid {
 /// The formula of a tree for the request's processors and lanes.
 pub fn vec_of_tree(alloc: Global, c: &Ctx, tree: &Tree) -> Result<VecSpl, NoMemory>
     requires { IsAdmissible c.now (breakdown_of tree.now) }
-    ensures form { IfOk result (λ g. plain_vec g ≡ vec_of c.now (smp_of c.now (breakdown_of tree.now))) }
-    ensures meaning { IfOk result (λ g. (x : List ℕ) → vec_on c.now (plain_vec g) x ≡ transform_of c.now c.now.size x) }
-    ensures operations { IfOk result (λ g. g.procs * vec_share c.now (plain_vec g) ≡ cost_of c.now (breakdown_of tree.now)) }
+    ensures form { IfOk result
+        (λ g. plain_vec g ≡ vec_of c.now (smp_of c.now (breakdown_of tree.now))) }
+    ensures meaning { IfOk result
+        (λ g. (x : List ℕ) → vec_on c.now (plain_vec g) x ≡ transform_of c.now c.now.size x) }
+    ensures operations { IfOk result
+        (λ g. g.procs * vec_share c.now (plain_vec g) ≡ cost_of c.now (breakdown_of tree.now)) }
     ensures shape { IfOk result (λ g. IsLaned c.now (plain_vec g)) }
 {
     let f = to_smp(alloc, c, tree)?;
@@ -82,8 +85,10 @@ pub fn vec_of_tree(alloc: Global, c: &Ctx, tree: &Tree) -> Result<VecSpl, NoMemo
 pub fn to_vec(alloc: Global, c: &Ctx, f: SmpSpl) -> Result<VecSpl, NoMemory>
     requires { IsSmpOf c.now (plain_smp f) }
     ensures form { IfOk result (λ g. plain_vec g ≡ vec_of c.now (plain_smp f)) }
-    ensures meaning { IfOk result (λ g. (x : List ℕ) → vec_on c.now (plain_vec g) x ≡ smp_on c.now (plain_smp f) x) }
-    ensures operations { IfOk result (λ g. vec_share c.now (plain_vec g) ≡ smp_share c.now (plain_smp f)) }
+    ensures meaning { IfOk result
+        (λ g. (x : List ℕ) → vec_on c.now (plain_vec g) x ≡ smp_on c.now (plain_smp f) x) }
+    ensures operations { IfOk result
+        (λ g. vec_share c.now (plain_vec g) ≡ smp_share c.now (plain_smp f)) }
     ensures shape { IfOk result (λ g. IsLaned c.now (plain_vec g)) }
 {
     let _request = c.request();
@@ -117,7 +122,8 @@ fn lanes_of(alloc: Global, c: &Ctx, f: SmpSpl) -> Result<VecSpl, NoMemory>
 fn phase(alloc: Global, d: Deal, factors: Vec<Factor>) -> Result<Vec<VecFactor>, NoMemory>
     requires lanes { 0 < d.lanes }
     requires rows { All (λ f. HasRows (plain_factor f)) factors.items }
-    ensures { IfOk result (λ out. map plain_vec_factor out.items ≡ phase_of d (map plain_factor factors.items)) }
+    ensures { IfOk result
+        (λ out. map plain_vec_factor out.items ≡ phase_of d (map plain_factor factors.items)) }
 {
     if d.lanes == 1 {
         let same = kept_all(alloc, factors)?;
@@ -130,7 +136,8 @@ fn phase(alloc: Global, d: Deal, factors: Vec<Factor>) -> Result<Vec<VecFactor>,
 
 // On one lane each factor is as it was.
 fn kept_all(alloc: Global, factors: Vec<Factor>) -> Result<Vec<VecFactor>, NoMemory>
-    ensures { IfOk result (λ out. map plain_vec_factor out.items ≡ map kept (map plain_factor factors.items)) }
+    ensures { IfOk result
+        (λ out. map plain_vec_factor out.items ≡ map kept (map plain_factor factors.items)) }
 {
     let mut out = Vec::new(alloc);
     for factor in factors {
@@ -154,7 +161,8 @@ fn kept(factor: Factor) -> VecFactor
 fn laned_all(alloc: Global, d: Deal, factors: Vec<Factor>) -> Result<Vec<VecFactor>, NoMemory>
     requires lanes { 0 < d.lanes }
     requires rows { All (λ f. HasRows (plain_factor f)) factors.items }
-    ensures { IfOk result (λ out. map plain_vec_factor out.items ≡ laned_from d None (map plain_factor factors.items)) }
+    ensures { IfOk result (λ out. map plain_vec_factor out.items
+        ≡ laned_from d None (map plain_factor factors.items)) }
 {
     let mut out = Vec::new(alloc);
     let mut order = None;
@@ -207,7 +215,8 @@ fn add_laned(
 ) -> Result<(), NoMemory>
     requires lanes { 0 < d.lanes }
     requires rows { HasRows (plain_factor factor) }
-    ensures { OnOk result (map plain_vec_factor out.new.items ≡ map plain_vec_factor out.old.items ++ laned d order (plain_factor factor)) }
+    ensures { OnOk result (map plain_vec_factor out.new.items
+        ≡ map plain_vec_factor out.old.items ++ laned d order (plain_factor factor)) }
 {
     match factor {
         Factor::Blocks(step) => add_block(alloc, d, out, order, step),
@@ -239,7 +248,8 @@ fn add_block(
 ) -> Result<(), NoMemory>
     requires lanes { 0 < d.lanes }
     requires rows { HasRowsUnder (plain_step step).path }
-    ensures { OnOk result (map plain_vec_factor out.new.items ≡ map plain_vec_factor out.old.items ++ block_factors d order (plain_step step).path (plain_step step).core) }
+    ensures { OnOk result (map plain_vec_factor out.new.items ≡ map plain_vec_factor out.old.items
+        ++ block_factors d order (plain_step step).path (plain_step step).core) }
 {
     match (step.path.split_first(), &step.core) {
         (None, Core::Turns { rows, cols }) => {
@@ -279,7 +289,8 @@ fn add_block(
 // What each lane does of a step in columns.
 fn narrowed(alloc: Global, lanes: u64, step: Step) -> Result<Step, NoMemory>
     requires { 0 < lanes }
-    ensures { IfOk result (λ s. plain_step s ≡ narrowed lanes (plain_step step).path (plain_step step).core) }
+    ensures { IfOk result
+        (λ s. plain_step s ≡ narrowed lanes (plain_step step).path (plain_step step).core) }
 {
     match step.path.split_first() {
         Some((Tensor::Columns(cols), rest)) => {
@@ -297,7 +308,8 @@ fn add_settled(
     out: &mut Vec<VecFactor>,
     order: Option<Grid>,
 ) -> Result<(), NoMemory>
-    ensures { OnOk result (map plain_vec_factor out.new.items ≡ map plain_vec_factor out.old.items ++ settled d order) }
+    ensures { OnOk result (map plain_vec_factor out.new.items
+        ≡ map plain_vec_factor out.old.items ++ settled d order) }
 {
     let Some(grid) = order else { return Ok(()) };
     out.push(VecFactor::Tiles(tiles(alloc, grid)?))?;
@@ -314,7 +326,8 @@ fn add_grouped(
     order: Option<Grid>,
     grid: Grid,
 ) -> Result<(), NoMemory>
-    ensures { OnOk result (map plain_vec_factor out.new.items ≡ map plain_vec_factor out.old.items ++ grouped d order grid) }
+    ensures { OnOk result (map plain_vec_factor out.new.items
+        ≡ map plain_vec_factor out.old.items ++ grouped d order grid) }
 {
     if order.is_some() {
         return Ok(());
@@ -327,7 +340,8 @@ fn add_grouped(
 
 // The tensors of the tiles of a block.
 fn tiles(alloc: Global, grid: Grid) -> Result<Vec<Tensor>, NoMemory>
-    ensures { IfOk result (λ path. path.items ≡ within (Blocks grid.groups) (within (Blocks grid.tiles) [])) }
+    ensures { IfOk result
+        (λ path. path.items ≡ within (Blocks grid.groups) (within (Blocks grid.tiles) [])) }
 {
     let across = within(Tensor::Blocks(grid.tiles), Vec::new(alloc))?;
     within(Tensor::Blocks(grid.groups), across)
@@ -335,7 +349,8 @@ fn tiles(alloc: Global, grid: Grid) -> Result<Vec<Tensor>, NoMemory>
 
 // `L(rows * cols, rows)` in each group of each block.
 fn group_turn(alloc: Global, d: Deal, grid: Grid, rows: u64, cols: u64) -> Result<Step, NoMemory>
-    ensures { IfOk result (λ s. plain_step s ≡ step (within (Blocks d.procs) (within (Blocks grid.groups) [])) (turns rows cols)) }
+    ensures { IfOk result (λ s. plain_step s
+        ≡ step (within (Blocks d.procs) (within (Blocks grid.groups) [])) (turns rows cols)) }
 {
     let groups = within(Tensor::Blocks(grid.groups), Vec::new(alloc))?;
     step_within(Tensor::Blocks(d.procs), groups, Core::Turns { rows, cols })
