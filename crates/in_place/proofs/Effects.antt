@@ -10,7 +10,7 @@ use Rattle.word_code.specs.WordMachine.{WordAction, word_put, bare_effect, word_
 use Rattle.in_place.specs.Homes.{Homes, are_home}
 use Rattle.in_place.specs.Accesses.{Access, Reads, Writes, are_right, homes_after_all}
 use Rattle.word_code.proofs.OneProcessor.{word_effects}
-use Rattle.in_place.proofs.Pairs.{IsInner, IsOwnPair, IsLoadPair, IsStorePair, IsPair, ArePairs}
+use Rattle.in_place.proofs.Pairs.{IsInner, IsOwnPair, IsTouchPair, IsLoadPair, IsStorePair, IsPair, ArePairs, stored}
 use Rattle.in_place.proofs.Standing.{Stands, stands_housed, stands_read}
 use Rattle.in_place.proofs.Walks.{right-append, after-append}
 
@@ -90,22 +90,22 @@ module _ (w : Width) (m lanes words : ℕ) where
           subst (λ (k : WordAction). LeaveAlike f k accesses h one other registers) (sym is.same)
           (subst (λ (xs : List Access). LeaveAlike f f xs h one other registers) (sym is.none) (own_alike f h one other registers is.inner stands))
 
+      touch : (act : ℕ → ℕ → Action) (access : ℕ → ℕ → Access) (is : IsTouchPair act access lanes words f g accesses) →
+          LeaveAlike (record f { action = act is.register is.at }) (record f { action = act is.register is.to }) (access is.at is.to ∷ []) h one other registers → LeaveAlike f g accesses h one other registers
+      touch act access is alike =
+          let itself : f ≡ record f { action = act is.register is.at } = ap (λ (a : Action). let k : WordAction = record f { action = a } in k) is.acts in
+          subst (λ (k : WordAction). LeaveAlike k g accesses h one other registers) (sym itself)
+          (subst (λ (k : WordAction). LeaveAlike (record f { action = act is.register is.at }) k accesses h one other registers) (sym is.other)
+          (subst (λ (xs : List Access). LeaveAlike (record f { action = act is.register is.at }) (record f { action = act is.register is.to }) xs h one other registers) (sym is.touches)
+          alike))
+
       load : IsLoadPair lanes words f g accesses → LeaveAlike f g accesses h one other registers
       load is =
-          let itself : f ≡ record f { action = Load is.register is.at } = ap (λ (a : Action). let k : WordAction = record f { action = a } in k) is.loads in
-          let found = ap (λ (xs : List Access). are_right lanes xs h) (sym is.reads) ∙ right in
-          subst (λ (k : WordAction). LeaveAlike k g accesses h one other registers) (sym itself)
-          (subst (λ (k : WordAction). LeaveAlike (record f { action = Load is.register is.at }) k accesses h one other registers) (sym is.other)
-          (subst (λ (xs : List Access). LeaveAlike (record f { action = Load is.register is.at }) (record f { action = Load is.register is.to }) xs h one other registers) (sym is.reads)
-          (load_alike f is.register is.at is.to h one other registers is.inside is.inside_other found stands)))
+          let found = ap (λ (xs : List Access). are_right lanes xs h) (sym is.touches) ∙ right in
+          touch Load Reads is (load_alike f is.register is.at is.to h one other registers is.inside is.inside_other found stands)
 
       store : IsStorePair lanes words f g accesses → LeaveAlike f g accesses h one other registers
-      store is =
-          let itself : f ≡ record f { action = Store is.at is.register } = ap (λ (a : Action). let k : WordAction = record f { action = a } in k) is.stores in
-          subst (λ (k : WordAction). LeaveAlike k g accesses h one other registers) (sym itself)
-          (subst (λ (k : WordAction). LeaveAlike (record f { action = Store is.at is.register }) k accesses h one other registers) (sym is.other)
-          (subst (λ (xs : List Access). LeaveAlike (record f { action = Store is.at is.register }) (record f { action = Store is.to is.register }) xs h one other registers) (sym is.writes)
-          (store_alike f is.register is.at is.to h one other registers is.inside is.inside_other stands)))
+      store is = touch stored Writes is (store_alike f is.register is.at is.to h one other registers is.inside is.inside_other stands)
 
   -- both have the same reductions before them
   same_before : (f g : WordAction) (accesses : List Access) → IsPair lanes words f g accesses → f.before ≡ g.before

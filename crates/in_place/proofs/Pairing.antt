@@ -1,7 +1,9 @@
 -- Actions of a program and of its statements that go by routes differ in their addresses alone.
-use Rattle.std.proofs.Common.{ℕ, ◌+◌, ◌*◌, ◌≤◌, List, [], ◌∷◌, ◌++◌, All, flat_map, inl, inr, refl, arith}
+use Rattle.std.proofs.Common.{ℕ, ◌+◌, ◌*◌, ◌≤◌, List, [], ◌∷◌, ◌++◌, All, flat_map, inl, inr, refl, arith, ◌≡◌}
 use Rattle.std.specs.List.{range_with_len}
 use Rattle.std.proofs.lemmas.List.Elements.{All-head}
+use Rattle.icode.specs.declared.action.Action.{Action}
+use Rattle.icode.specs.declared.action.Action.TheVariants as action
 use Rattle.icode.specs.declared.program.Array.{Array}
 use Rattle.icode.specs.declared.program.Array.TheVariants.{X, Y, A, B}
 use Rattle.icode.specs.Actions.{Step, StepFits, array_start, step_of, steps_of_stmt, steps_of_body}
@@ -14,12 +16,12 @@ use Rattle.word_code.specs.Quicken.{Laziness, loosest, loosened, header_of, quic
 use Rattle.word_code.specs.WordMachine.{WordAction}
 use Rattle.word_code.specs.WordProgram.{Note, PlainWordProgram, word_action_of, word_actions_of_stmt, word_actions_of_body}
 use Rattle.in_place.specs.declared.routes.Route.{Route}
-use Rattle.in_place.specs.Accesses.{Access, accesses_of, accesses_of_stmt, accesses_of_body, accesses_of_phase}
+use Rattle.in_place.specs.Accesses.{Access, Reads, Writes, accesses_of, accesses_of_stmt, accesses_of_body, accesses_of_phase}
 use Rattle.in_place.specs.Choice.{chosen}
 use Rattle.in_place.specs.Routes.{rerouted_op, rerouted_stmt, rerouted_body, rerouted_phase, rerouted}
 use Rattle.in_place.specs.View.{StmtFits, BodyFits}
 use Rattle.in_place.proofs.Joined.{all_front, all_back}
-use Rattle.in_place.proofs.Pairs.{IsInner, IsLoadPair, IsStorePair, ArePairs, pairs-append}
+use Rattle.in_place.proofs.Pairs.{IsInner, IsTouchPair, ArePairs, pairs-append, stored}
 
 -- what lies in an array lies in the memory
 inside_memory : (words at lanes : ℕ) (array : Array) → at + lanes ≤ words → array_start words array + at + lanes ≤ 4 * words
@@ -47,8 +49,11 @@ module _ (z : Laziness) (p : PlainProgram) (all : List Route) where
   abbrev other_of : PlainWordProgram
   other_of = rerouted all words_of
 
+  abbrev words : ℕ
+  words = whole_lines p.size p.line
+
   abbrev span_of : ℕ
-  span_of = 4 * whole_lines p.size p.line
+  span_of = 4 * words
 
   abbrev Alike : List WordAction → List WordAction → List Access → Type 0
   Alike fs gs accesses = ArePairs p.lanes span_of fs gs accesses
@@ -56,35 +61,29 @@ module _ (z : Laziness) (p : PlainProgram) (all : List Route) where
   own_pair : (f : WordAction) → IsInner f.action → Alike (f ∷ []) (f ∷ []) []
   own_pair f inner = ([], [], refl, inl (record { same = refl; inner = inner; none = refl }), refl)
 
+  touch_pair : (act : ℕ → ℕ → Action) (access : ℕ → ℕ → Access) (f : WordAction) (register at : ℕ) (array target : Array) → f.action ≡ act register (array_start words array + at) → at + p.lanes ≤ words →
+      IsTouchPair act access p.lanes span_of f (record f { action = act register (array_start words target + at) }) (access (array_start words array + at) (array_start words target + at) ∷ [])
+  touch_pair act access f register at array target acts inside =
+      record {
+        register = register;
+        at = array_start words array + at;
+        to = array_start words target + at;
+        acts = acts;
+        other = refl;
+        touches = refl;
+        inside = inside_memory words at p.lanes array inside;
+        inside_other = inside_memory words at p.lanes target inside;
+      }
+
   op_pairs : (route : Route) (note : Note) (op : PlainOp) (vs : List ℕ) → StepFits p (step_of p op vs 0) →
       Alike (word_action_of words_of note op vs 0 ∷ []) (word_action_of other_of note (rerouted_op route op) vs 0 ∷ []) (accesses_of p route op vs)
   op_pairs route note (Load register array place) vs fits =
-      let words = whole_lines p.size p.line in
-      let at = (sum_numbers place vs 0).value in
-      let pair : IsLoadPair p.lanes span_of (word_action_of words_of note (Load register array place) vs 0) (word_action_of other_of note (Load register route.source place) vs 0) (accesses_of p route (Load register array place) vs) = record {
-        register = register;
-        at = array_start words array + at;
-        to = array_start words route.source + at;
-        loads = refl;
-        other = refl;
-        reads = refl;
-        inside = inside_memory words at p.lanes array fits.place;
-        inside_other = inside_memory words at p.lanes route.source fits.place;
-      } in
+      let load = word_action_of words_of note (Load register array place) vs 0 in
+      let pair = touch_pair action.Load Reads load register (sum_numbers place vs 0).value array route.source refl fits.place in
       (accesses_of p route (Load register array place) vs, [], refl, inr (inl pair), refl)
   op_pairs route note (Store array place register) vs fits =
-      let words = whole_lines p.size p.line in
-      let at = (sum_numbers place vs 0).value in
-      let pair : IsStorePair p.lanes span_of (word_action_of words_of note (Store array place register) vs 0) (word_action_of other_of note (Store route.target place register) vs 0) (accesses_of p route (Store array place register) vs) = record {
-        register = register;
-        at = array_start words array + at;
-        to = array_start words route.target + at;
-        stores = refl;
-        other = refl;
-        writes = refl;
-        inside = inside_memory words at p.lanes array fits.place;
-        inside_other = inside_memory words at p.lanes route.target fits.place;
-      } in
+      let store = word_action_of words_of note (Store array place register) vs 0 in
+      let pair = touch_pair stored Writes store register (sum_numbers place vs 0).value array route.target refl fits.place in
       (accesses_of p route (Store array place register) vs, [], refl, inr (inr pair), refl)
   op_pairs route note (Zero r) vs fits = own_pair (word_action_of words_of note (Zero r) vs 0) tt
   op_pairs route note (Add r x y) vs fits = own_pair (word_action_of words_of note (Add r x y) vs 0) tt

@@ -16,25 +16,25 @@ pub record IsOwnPair (f g : WordAction) (accesses : List Access) : Type 0 where
   pub inner : IsInner f.action
   pub none : accesses ≡ []
 
-pub record IsLoadPair (lanes words : ℕ) (f g : WordAction) (accesses : List Access) : Type 0 where
+-- the same access by two actions, of one place and of another
+pub record IsTouchPair (act : ℕ → ℕ → Action) (access : ℕ → ℕ → Access) (lanes words : ℕ) (f g : WordAction) (accesses : List Access) : Type 0 where
   pub register : ℕ
   pub at : ℕ
   pub to : ℕ
-  pub loads : f.action ≡ Load register at
-  pub other : g ≡ record f { action = Load register to }
-  pub reads : accesses ≡ Reads at to ∷ []
+  pub acts : f.action ≡ act register at
+  pub other : g ≡ record f { action = act register to }
+  pub touches : accesses ≡ access at to ∷ []
   pub inside : at + lanes ≤ words
   pub inside_other : to + lanes ≤ words
 
-pub record IsStorePair (lanes words : ℕ) (f g : WordAction) (accesses : List Access) : Type 0 where
-  pub register : ℕ
-  pub at : ℕ
-  pub to : ℕ
-  pub stores : f.action ≡ Store at register
-  pub other : g ≡ record f { action = Store to register }
-  pub writes : accesses ≡ Writes at to ∷ []
-  pub inside : at + lanes ≤ words
-  pub inside_other : to + lanes ≤ words
+abbrev pub stored : ℕ → ℕ → Action
+stored register address = Store address register
+
+abbrev pub IsLoadPair : ℕ → ℕ → WordAction → WordAction → List Access → Type 0
+IsLoadPair = IsTouchPair Load Reads
+
+abbrev pub IsStorePair : ℕ → ℕ → WordAction → WordAction → List Access → Type 0
+IsStorePair = IsTouchPair stored Writes
 
 abbrev pub IsPair : ℕ → ℕ → WordAction → WordAction → List Access → Type 0
 IsPair lanes words f g accesses =
