@@ -56,9 +56,11 @@ prepared() {
   { echo "$1" && cat "$work/data"; } | "$program" run >"$work/wanted"
 }
 
-# fast_text REQUEST: as the text
+# fast_text REQUEST [WORD ..]: as the text
 fast_text() {
-  echo "$1" | "$program" code | "$fast" >"$work/text.c"
+  local request=$1
+  shift
+  echo "$request" | "$program" code | "$fast" "$@" >"$work/text.c"
 }
 
 while read -r request; do
@@ -91,6 +93,16 @@ while read -r request; do
     compared "fast text of $request" gcc -O1 -g -fsanitize=address,undefined
   elif [[ $request == *procs* ]]; then
     compared "fast text of $request" gcc -O1 -g -fsanitize=thread
+  fi
+  # words of 52 bits, with the operation for their products and without it
+  if [ "$modulus" -lt $((1 << 51)) ]; then
+    fast_text "$request" --words 52
+    compared "52-bit words of $request" gcc -O2
+    compared "52-bit words of $request" clang -O3 -march=native
+    compared "52-bit words of $request" clang -O3 -march=native -mno-avx512ifma
+    if [ "$size" -le 256 ]; then
+      compared "52-bit words of $request" gcc -O1 -g -fsanitize=address,undefined
+    fi
   fi
 done <"$top/examples/fast_requests"
 

@@ -2,3 +2,4 @@ pub mod Grouping
 pub mod Depths
 pub mod Lists
 pub mod Sums
+pub mod Halves

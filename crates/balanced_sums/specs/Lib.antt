@@ -1,3 +1,5 @@
 pub mod Depth
 pub mod Rows
 pub mod Summands
+pub mod Halves
+pub mod Taken

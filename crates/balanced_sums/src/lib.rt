@@ -4,7 +4,9 @@
 ghost use Rattle.std.specs.Prelude.{◌≡◌, ℕ, ◌+◌, ◌≤◌, ◌++◌, All, IfOk, OnOk, vec_len};
 ghost use Rattle.std.specs.List.{flat_map};
 ghost use Rattle.balanced_sums.specs.Depth.{IsBalanced, IsSummand, IsSumOf};
+ghost use Rattle.balanced_sums.specs.Halves.{balanced, balanced_summands};
 ghost use Rattle.balanced_sums.specs.Summands.{summands};
+ghost use Rattle.balanced_sums.specs.Taken.{IsTakenFrom};
 ghost use Rattle.balanced_sums.specs.Rows.{rows_of};
 ghost use Rattle.operators.specs.Sizes.{max_size};
 ghost use Rattle.spl_ast.specs.Formula.{size_of};
@@ -20,6 +22,7 @@ pub fn balance(alloc: Global, formula: Spl) -> Result<Spl, NoMemory>
     ensures summands { IfOk result (λ g. summands g ≡ summands formula) }
     ensures same { IfOk result (λ g. (m : ℕ) → IsSameMatrix m formula g) }
     ensures balanced { IfOk result IsBalanced }
+    ensures halves { IfOk result (λ g. g ≡ balanced formula) }
 {
     let _ = &formula.node;
     let mut parts = Vec::new(alloc);
@@ -40,6 +43,8 @@ fn add_summands(alloc: Global, parts: &mut Vec<Spl>, formula: Spl) -> Result<(),
         ≡ flat_map summands parts.old.items ++ summands formula) }
     ensures rows { OnOk result
         (rows_of parts.new.items ≡ rows_of parts.old.items + size_of formula) }
+    ensures items { OnOk result
+        (parts.new.items ≡ parts.old.items ++ balanced_summands formula) }
     ensures more { OnOk result (1 + vec_len parts.old ≤ vec_len parts.new) }
 {
     let node = formula.node;
@@ -78,7 +83,7 @@ fn add_summands(alloc: Global, parts: &mut Vec<Spl>, formula: Spl) -> Result<(),
 }
 
 // The sum of the last `count` parts, in halves, which it takes away.
-#[tactic(auto, using(crate::proofs::Lists::rows_more, crate::proofs::Depths::single_sum, crate::proofs::Depths::sum_of_halves))]
+#[tactic(auto, using(crate::proofs::Lists::rows_more, crate::proofs::Depths::single_sum, crate::proofs::Depths::sum_of_halves, crate::proofs::Halves::single_taken, crate::proofs::Halves::halves_taken))]
 fn take_sum(alloc: Global, parts: &mut Vec<Spl>, count: usize) -> Result<Spl, NoMemory>
     requires some { 1 ≤ count }
     requires there { count ≤ vec_len parts.old }
@@ -91,6 +96,7 @@ fn take_sum(alloc: Global, parts: &mut Vec<Spl>, count: usize) -> Result<Spl, No
     ensures rows { IfOk result
         (λ g. rows_of parts.old.items ≡ rows_of parts.new.items + size_of g) }
     ensures taken { IfOk result (λ g. vec_len parts.old ≡ vec_len parts.new + count) }
+    ensures halves { IfOk result (IsTakenFrom count parts.old.items parts.new.items) }
 {
     if count == 1 {
         let Some(last) = parts.pop() else {

@@ -1,3 +1,4 @@
 pub mod ConvolutionLaw
 mod GeometricSums
 mod PowerSums
+pub mod Undoing

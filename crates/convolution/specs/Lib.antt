@@ -1,2 +1,3 @@
 pub mod Convolution
 pub mod Request
+pub mod Undoing

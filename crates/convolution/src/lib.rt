@@ -4,6 +4,7 @@
 
 ghost use Rattle.std.specs.Prelude.{◌≡◌, ℕ, ◌+◌, ◌-◌, ◌*◌, ◌%◌, ◌^◌, ◌<◌, ◌≤◌, length, slice_index, vec_len, IfOk, All, MatchOption};
 ghost use Rattle.convolution.specs.Convolution.{convolution, power_sum, ConvolutionByDiagonal, ConvolutionByTransforms, IsPrincipal, IsFirstBadPower};
+ghost use Rattle.convolution.specs.Undoing.{InverseUndoes, TransformUndoes};
 ghost use Rattle.operators.specs.Sum.{sum_below};
 ghost use Rattle.ring_mod.specs.Residue.{difference_mod, power_mod};
 
@@ -102,4 +103,12 @@ pub fn first_bad_power(modulus: &Modulus, n: u64, w: u64) -> Option<u64>
 pub fn convolution_by_transforms()
     ensures transforms { ConvolutionByTransforms }
     ensures diagonal { ConvolutionByDiagonal }
+{}
+
+/// Where the power sums of the root are 0 and the size has an inverse, the transform and the inverse transform undo each other: a
+/// law of the definitions.
+#[tactic(auto, using(crate::proofs::Undoing::inverse_undoes, crate::proofs::Undoing::transform_undoes))]
+pub fn inverse_undoes()
+    ensures inverse { InverseUndoes }
+    ensures transform { TransformUndoes }
 {}

@@ -154,10 +154,10 @@ convolves_listing schedule request cut old new (Some bytes) (Some rest) out out'
       answer = λ d. (
         listing,
         inr (
-          (made.0, made.1),
+          (made.tree, made.planned),
           (
             sym (ap (conv_status (listing_for schedule) request.size (data_answer request.size room bytes)) seen),
-            subst (λ vectors. IsConvText (listing_for schedule) request vectors listing) (sym seen) (made.0, program, made.1, made.2, same),
+            subst (λ vectors. IsConvText (listing_for schedule) request vectors listing) (sym seen) (program, made, same),
           ),
         ),
         wrote,
@@ -185,11 +185,11 @@ convolves_cut schedule request cut old new (Some bytes) (Some rest) out out' h l
         listing,
         r.consumed,
         (
-          (made.0, made.1),
+          (made.tree, made.planned),
           (
             r.answer.1,
             r.answer.2,
-            subst (λ vectors. IsConvText (listing_for schedule) request vectors listing) (sym seen) (made.0, program, made.1, made.2, same),
+            subst (λ vectors. IsConvText (listing_for schedule) request vectors listing) (sym seen) (program, made, same),
           ),
         ),
         wrote,
@@ -221,7 +221,7 @@ convolved_lines request h program code turns later made same some there whole =
     let f : List ℕ → List ℕ = λ x. results code x turns in
     let g : List ℕ → List ℕ = convolution request.modulus request.size h in
     let each : (x : List ℕ) → length x ≡ request.size → All (λ v. v < request.modulus) x → f x ≡ g x =
-    λ x full below. ap (λ k. results k x turns) same ∙ made.2.product x turns (record { size = full; residues = below }) there in
+    λ x full below. ap (λ k. results k x turns) same ∙ made.convolver.product x turns (record { size = full; residues = below }) there in
     later_lines request.size request.modulus f g each some (length whole.0 / request.size) whole.0 h later (div-mul-le_self (length whole.0) request.size) whole.1
 
 -- where nothing failed
@@ -303,16 +303,16 @@ run_told schedule request code old new None after out out' h program leaves firs
 run_told schedule request code old new (Some bytes) None out out' h program leaves first last result made same own some none start s = absurd s.reads.consumed
 run_told schedule request code old new (Some bytes) (Some rest) out out' h program leaves first last result made same own some none start s =
     let turns = turns_of schedule code.procs in
-    let one : code.procs ≡ 1 = ap (λ (k : Code). k.procs) same ∙ made.2.header.procs ∙ own in
+    let one : code.procs ≡ 1 = ap (λ (k : Code). k.procs) same ∙ made.convolver.header.procs ∙ own in
     let whole = reads_vectors request.size request.modulus old new s.reads.read (rest ≡ []) (h ∷ s.later) result s.reads.answer in
-    lines_ended schedule request old new bytes rest h s.later out out' (lines (λ x. results code x turns) s.later) result (made.0, made.1) start s.reads
+    lines_ended schedule request old new bytes rest h s.later out out' (lines (λ x. results code x turns) s.later) result (made.tree, made.planned) start s.reads
     (convolved_lines request h program code turns s.later made same some (conv_turns schedule request code.procs own one none) whole) s.wrote
 
 -- the list has come, by what the machine's code says of the modulus
 pub list_come : (request : Request) (code : Code) (cut : Cut) (old now : Fed) (before mid : Option (List ℕ)) (h : List ℕ) (program : Program)
     → IsListProgram request h program → code ≡ code_of program → HasCome request.modulus cut old now before mid (h ∷ []) → HasCome code.modulus cut old now before mid (h ∷ [])
 list_come request code cut old now before mid h program made same come =
-    subst (λ m. HasCome m cut old now before mid (h ∷ [])) (sym (ap (λ (k : Code). k.modulus) same ∙ made.2.header.modulus)) come
+    subst (λ m. HasCome m cut old now before mid (h ∷ [])) (sym (ap (λ (k : Code). k.modulus) same ∙ made.convolver.header.modulus)) come
 
 -- the machine runs behind the list
 pub convolves_run : {S : Type 0} (schedule : Plan) (request : Request) (code : Code) (cut : Cut) (old now new : Fed) (before mid after out out' : Option (List ℕ)) (h : List ℕ) (program : Program) (leaves : List ℕ → S) (first last : S)
@@ -323,7 +323,7 @@ pub convolves_run : {S : Type 0} (schedule : Plan) (request : Request) (code : C
     → ToldMeets (data_outcomes (lines_for schedule) request (limit - old.taken)) before after out out' (status_of_stream result)
 convolves_run schedule request code cut old now new before mid after out out' h program leaves first last result made same size own some none start come s =
     let text : List ℕ → List ℕ = run_text false code (turns_of schedule code.procs) in
-    let modulus : code.modulus ≡ request.modulus = ap (λ (k : Code). k.modulus) same ∙ made.2.header.modulus in
+    let modulus : code.modulus ≡ request.modulus = ap (λ (k : Code). k.modulus) same ∙ made.convolver.header.modulus in
     run_told schedule request code old new before after out out' h program leaves first last result made same own some none start
     (subst (λ n. StreamsBehind (h ∷ []) text leaves n request.modulus old new before after out out' first last result) size
     (subst (λ m. StreamsBehind (h ∷ []) text leaves cut.size m old new before after out out' first last result) modulus

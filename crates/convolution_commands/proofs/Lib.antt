@@ -1,3 +1,4 @@
 pub mod ConvolvedLemmas
+pub mod Existence
 pub mod OneConvolution
 pub mod OneRequest

@@ -4,10 +4,15 @@ use Rattle.std.proofs.lemmas.Grind.{common_steps}
 use Rattle.std.specs.Int.{IsGcd}
 use Rattle.convolution.specs.Convolution.{IsFirstBadPower}
 use Rattle.convolution.specs.Request.{IsConvRequest}
+use Rattle.convolver.specs.Letters.{conv_program}
 use Rattle.convolver.specs.Planned.{IsConvPlanned, both_halves}
 use Rattle.plan_faults.specs.declared.convolving.ConvFault.{ConvFault}
 use Rattle.plan_faults.specs.declared.convolving.ConvFault.TheVariants as conv
 use Rattle.grammar.specs.Grammar.{IsStuck}
+use Rattle.icode.specs.Program.{plain_program}
+use Rattle.icode.specs.declared.program.Program.{Program}
+use Rattle.listing_text.specs.Listing.{listing_of}
+use Rattle.plan_cert.proofs.OneTree.{chosen_once}
 use Rattle.matrix_meaning.specs.declared.Direction.TheVariants.{Inverse}
 use Rattle.matrix_meaning.specs.declared.Request.{Request}
 use Rattle.request_text.specs.ConvAnswer.{IsConvFaultOf, ConvAnswers}
@@ -24,8 +29,8 @@ use Rattle.tree_model.specs.Admissible.{IsLeast}
 use Rattle.tree_model.specs.Breakdown.{Breakdown}
 use Rattle.tree_model.specs.Cost.{cost_of}
 use Rattle.spiral_input.specs.Asking.{asked_by}
-use Rattle.spiral_input.specs.Commands.{prints_one_text, scheduled}
-use Rattle.convolution_commands.specs.Convolved.{conv_procs, conv_spelt, convolvable, conv_in, IsListText, IsConvText, SettlesConv, IsConvAnswer}
+use Rattle.spiral_input.specs.Commands.{scheduled}
+use Rattle.convolution_commands.specs.Convolved.{conv_procs, conv_spelt, convolvable, conv_in, IsListProgram, IsListText, IsConvText, SettlesConv, IsConvAnswer}
 use Rattle.spiral_input.specs.Line.{line_of, data_of, room_behind}
 use Rattle.spiral_input.specs.Stage.{given}
 use Rattle.convolution_commands.proofs.OneRequest.{spelt_once, faulty, judged_ok, judged_once, unshared_ok}
@@ -150,21 +155,25 @@ conv_decided wanted bytes = bind_decided (asked_by conv_procs conv_spelt wanted 
 
 -- The answer
 
-list_text_once : (wanted : Command) (r : Request) (h : List ℕ) (later : List (List ℕ)) (s t : List ℕ) → prints_one_text wanted ≡ true → IsListText wanted r h later s → IsListText wanted r h later t → s ≡ t
-list_text_once (command.Convolve schedule true) r h later s t one p q = absurd (cc)
-list_text_once (command.Convolve schedule false) r h later s t one p q = p ∙ sym q
-list_text_once _ r h later s t one p q = absurd p
+-- the program of the list is one
+program_once : (r : Request) (h : List ℕ) (p q : Program) → IsListProgram r h p → IsListProgram r h q → plain_program p ≡ plain_program q
+program_once r h p q mine other = mine.letters ∙ ap (λ t. conv_program r t h) (chosen_once r r.size mine.tree other.tree mine.planned.2 other.planned.2) ∙ sym other.letters
 
-text_once : (wanted : Command) (r : Request) (vectors : List (List ℕ)) (s t : List ℕ) → prints_one_text wanted ≡ true → IsConvText wanted r vectors s → IsConvText wanted r vectors t → s ≡ t
-text_once wanted r [] s t one p q = p ∙ sym q
-text_once wanted r (h ∷ later) s t one p q = list_text_once wanted r h later s t one p q
+list_text_once : (wanted : Command) (r : Request) (h : List ℕ) (later : List (List ℕ)) (s t : List ℕ) → IsListText wanted r h later s → IsListText wanted r h later t → s ≡ t
+list_text_once (command.Convolve schedule true) r h later s t p q = p.2 ∙ ap listing_of (program_once r h p.0 q.0 p.1 q.1) ∙ sym q.2
+list_text_once (command.Convolve schedule false) r h later s t p q = p ∙ sym q
+list_text_once _ r h later s t p q = absurd p
+
+text_once : (wanted : Command) (r : Request) (vectors : List (List ℕ)) (s t : List ℕ) → IsConvText wanted r vectors s → IsConvText wanted r vectors t → s ≡ t
+text_once wanted r [] s t p q = p ∙ sym q
+text_once wanted r (h ∷ later) s t p q = list_text_once wanted r h later s t p q
 
 pub conv_status_once : (wanted : Command) (bytes : List ℕ) (a b : Status) (s t : List ℕ) → IsConvAnswer wanted bytes a s → IsConvAnswer wanted bytes b t → a ≡ b
 conv_status_once wanted bytes a b s t =
     of_answers (a ≡ b) (conv_in wanted bytes) (λ (r : Request). SettlesConv wanted r (room_behind bytes) (data_of bytes)) a b s t (conv_decided wanted bytes)
     (λ same _. same) (λ _ _ p q. p.0 ∙ sym q.0)
 
-pub conv_text_once : (wanted : Command) (bytes : List ℕ) (a b : Status) (s t : List ℕ) → prints_one_text wanted ≡ true → IsConvAnswer wanted bytes a s → IsConvAnswer wanted bytes b t → s ≡ t
-conv_text_once wanted bytes a b s t one =
+pub conv_text_once : (wanted : Command) (bytes : List ℕ) (a b : Status) (s t : List ℕ) → IsConvAnswer wanted bytes a s → IsConvAnswer wanted bytes b t → s ≡ t
+conv_text_once wanted bytes a b s t =
     of_answers (s ≡ t) (conv_in wanted bytes) (λ (r : Request). SettlesConv wanted r (room_behind bytes) (data_of bytes)) a b s t (conv_decided wanted bytes)
-    (λ _ same. same) (λ r _ p q. text_once wanted r (data_vectors r.size r.modulus (room_behind bytes) (data_of bytes)) s t one p.1 q.1)
+    (λ _ same. same) (λ r _ p q. text_once wanted r (data_vectors r.size r.modulus (room_behind bytes) (data_of bytes)) s t p.1 q.1)

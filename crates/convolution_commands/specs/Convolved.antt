@@ -3,6 +3,7 @@ use Rattle.std.specs.Prelude.{◌≡◌, ◌⊎◌, ℕ, true, false, List, [], 
 use Rattle.std.specs.List.{list_all}
 use Rattle.convolution.specs.Convolution.{convolution}
 use Rattle.convolver.specs.Convolver.{IsConvolver}
+use Rattle.convolver.specs.Letters.{conv_program}
 use Rattle.convolver.specs.Planned.{IsConvPlanned}
 use Rattle.plan_faults.specs.declared.convolving.ConvFault.{ConvFault}
 use Rattle.data_stream.specs.Data.{tokens, closed_part, is_good}
@@ -57,10 +58,16 @@ conv_in wanted bytes = do
 
 -- What is written
 
--- the text is the listing of a program for convolutions with h, by the chosen tree
+-- the program of the chosen tree and the list h, statement by statement, which convolves with the list
+pub record IsListProgram (request : Request) (h : List ℕ) (program : Program) : Type 0 where
+  pub tree : Breakdown
+  pub planned : IsConvPlanned request (Ok tree)
+  pub letters : plain_program program ≡ conv_program request tree h
+  pub convolver : IsConvolver request tree h program
+
+-- the text is the listing of that program
 abbrev pub IsConvListing : Request → List ℕ → List ℕ → Type 0
-IsConvListing request h text =
-    (tree : Breakdown) × (program : Program) × IsConvPlanned request (Ok tree) × IsConvolver request tree h program × (text ≡ listing_of (plain_program program))
+IsConvListing request h text = (program : Program) × IsListProgram request h program × (text ≡ listing_of (plain_program program))
 
 -- a line for each vector, of its convolution with h
 abbrev pub conv_lines : Request → List ℕ → List (List ℕ) → List ℕ
@@ -146,7 +153,3 @@ data_outcomes wanted request room = record {
   broken = λ read ended text. IsConvolvable request × BreaksOffConv wanted request read text;
   cut = λ read rest text. IsConvolvable request × ComesToConv wanted request read rest text;
 }
-
--- the program convolves with the list, by the chosen tree
-abbrev pub IsListProgram : Request → List ℕ → Program → Type 0
-IsListProgram request h program = (tree : Breakdown) × IsConvPlanned request (Ok tree) × IsConvolver request tree h program

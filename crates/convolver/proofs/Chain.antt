@@ -11,12 +11,14 @@ use Rattle.matrix_meaning.specs.declared.Kind.TheVariants.{Dft}
 use Rattle.matrix_meaning.specs.declared.Request.{Request}
 use Rattle.matrix_meaning.specs.Valid.{HasRoot, IsValid}
 use Rattle.pass_programs.specs.Contract.{CanProgram, Performs}
+use Rattle.pass_programs.specs.Program.{program_of}
 use Rattle.passes.specs.Merged.{PlainMerged}
 use Rattle.program_emit.specs.Conditions.{machine_for}
 use Rattle.tree_model.specs.Breakdown.{Breakdown}
 use Rattle.tree_passes.specs.Laws.{machine_of}
+use Rattle.convolver.specs.Factors.{factors_of}
+use Rattle.convolver.specs.Letters.{conv_merged, conv_program}
 use Rattle.convolver.specs.Planned.{IsConvPlanned}
-use Rattle.convolver.proofs.Goodness.{conv_merged}
 
 is-one : (power : ℕ) → has_root Dft power ≡ true → power ≡ 1
 is-one power is = grind (arith, nat_tests)
@@ -45,3 +47,14 @@ conv-performs r t ds g m line p same residues words performs =
     subst (λ n. Performs (machine_for r.modulus n (conv_merged r t ds)) (conv_merged r t ds) p) words
     (subst (λ n. Performs (machine_for n line (conv_merged r t ds)) (conv_merged r t ds) p) residues
     (subst (λ z. Performs (machine_for m line z) z p) same performs))
+
+-- statement by statement it is theirs
+pub conv-letters : (r : Request) (t : Breakdown) (h ds : List ℕ) (g : PlainMerged) (m line : ℕ) (p : PlainProgram) → g ≡ conv_merged r t ds → m ≡ r.modulus → line ≡ r.line → ds ≡ factors_of r h →
+    p ≡ program_of (machine_for m line g) g → p ≡ conv_program r t h
+conv-letters r t h ds g m line p same residues words listed written =
+    let g' = conv_merged r t ds in
+    written
+    ∙ ap (λ z. program_of (machine_for m line z) z) same
+    ∙ ap (λ n. program_of (machine_for n line g') g') residues
+    ∙ ap (λ n. program_of (machine_for r.modulus n g') g') words
+    ∙ ap (λ fs. program_of (machine_of r) (conv_merged r t fs)) listed

@@ -13,14 +13,13 @@ use Rattle.inverse_requests.specs.Inverted.{inverted}
 use Rattle.inverse_requests.proofs.Costs.{inverse_costs}
 use Rattle.inverse_requests.proofs.Requests.{inverse_is_valid, inverse_admits}
 use Rattle.inverse_requests.proofs.Traffic.{inverse_loads, whole-same}
-use Rattle.joined_passes.specs.Joined.{joined, with_values}
+use Rattle.joined_passes.specs.Joined.{with_values}
 use Rattle.joined_passes.specs.Laws.{CountsBoth, JoinedCanProgram, JoinedCounts, JoinedMeans}
 use Rattle.matrix_meaning.specs.declared.Direction.TheVariants.{Forward}
 use Rattle.matrix_meaning.specs.declared.Request.{Request}
 use Rattle.matrix_meaning.specs.Valid.{IsValid}
 use Rattle.pass_programs.specs.Contract.{CanProgram, Performs}
 use Rattle.passes.specs.Good as passes
-use Rattle.passes.specs.Merged.{PlainMerged}
 use Rattle.request_passes.proofs.Small.{tree-small}
 use Rattle.tree_model.specs.Admissible.{IsAdmissible}
 use Rattle.tree_model.specs.Breakdown.{Breakdown}
@@ -29,12 +28,9 @@ use Rattle.tree_passes.specs.Laws.{machine_of}
 use Rattle.tree_passes.proofs.TreesCanProgram.{trees_can_program}
 use Rattle.convolver.specs.Convolver.{IsConvolver}
 use Rattle.convolver.specs.Factors.{factors_of}
+use Rattle.convolver.specs.Letters.{conv_merged}
 use Rattle.convolver.proofs.Meaning.{joined-convolve}
 use Rattle.convolver.proofs.Totals.{tree-totals}
-
--- the passes of a convolution
-abbrev pub conv_merged : Request → Breakdown → List ℕ → PlainMerged
-conv_merged r t ds = joined (tree_merged r t) ds (tree_merged (inverted r) t)
 
 module _ (r : Request) (t : Breakdown) (ds : List ℕ) (request : IsConvRequest r) (valid : IsValid r) (h : IsAdmissible r t) where
   valid' : IsValid (inverted r)

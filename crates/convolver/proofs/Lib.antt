@@ -3,3 +3,4 @@ pub mod Totals
 pub mod Meaning
 pub mod Goodness
 pub mod Chain
+pub mod Existence

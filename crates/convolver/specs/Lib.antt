@@ -1,3 +1,4 @@
 pub mod Planned
 pub mod Factors
 pub mod Convolver
+pub mod Letters

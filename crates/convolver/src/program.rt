@@ -2,11 +2,13 @@
 ghost use Rattle.std.specs.Prelude.{◌≡◌, ◌<◌, Ok, IfOk, All, map, vec_len};
 ghost use Rattle.convolution.specs.Request.{IsConvRequest};
 ghost use Rattle.generate.specs.Good.{IsVector};
+ghost use Rattle.icode.specs.Program.{plain_program};
 ghost use Rattle.ring_mod.specs.Residue.{product_mod};
 ghost use Rattle.tree_model.specs.Admissible.{IsAdmissible};
 ghost use Rattle.tree_model.specs.Breakdown.{breakdown_of};
 ghost use Rattle.convolver.specs.Convolver.{IsConvolver};
 ghost use Rattle.convolver.specs.Factors.{factors_of, root_transform};
+ghost use Rattle.convolver.specs.Letters.{conv_program};
 ghost use Rattle.convolver.specs.Planned.{IsConvPlanned};
 
 use breakdown::expand;
@@ -33,7 +35,10 @@ pub fn generate_conv(
     requires request { IsConvRequest request.now }
     requires plan { IsConvPlanned request.now (Ok (breakdown_of plan.now.tree)) }
     requires list { IsVector request.now h.now }
-    ensures { IfOk result (IsConvolver request.now (breakdown_of plan.now.tree) h.now) }
+    ensures convolver { IfOk result
+        (IsConvolver request.now (breakdown_of plan.now.tree) h.now) }
+    ensures letters { IfOk result (λ p.
+        plain_program p ≡ conv_program request.now (breakdown_of plan.now.tree) h.now) }
 {
     let forward = Ctx::new(request);
     let backward = Ctx::new(&inverted(request));

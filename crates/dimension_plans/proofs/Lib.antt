@@ -1,3 +1,4 @@
 pub mod ChosenLaws
 pub mod Examples
+pub mod Existence
 pub mod Plans

@@ -3,10 +3,12 @@
 
 mod plan;
 
-ghost use Rattle.std.specs.Prelude.{◌≡◌, ◌<◌, ◌^◌};
+ghost use Rattle.std.specs.Prelude.{◌≡◌, ◌<◌, ◌^◌, List};
 ghost use Rattle.dimensions.specs.Transform.{listed, size_in};
 ghost use Rattle.dimension_plans.specs.Laws.{ChosenByParts, LeastByParts};
-ghost use Rattle.dimension_plans.specs.Several.{IsSeveralRequest, part_of, whole_of};
+ghost use Rattle.dimension_plans.specs.Several.{AreChosen, CanShare, IsLeastOf, IsSeveralRequest, part_of, several_cost, whole_of};
+ghost use Rattle.dimension_plans.specs.declared.SeveralRequest.{SeveralRequest as SpecRequest};
+ghost use Rattle.tree_model.specs.Breakdown.{Breakdown};
 
 use dimensions::{Dimension, Dimensions};
 use matrix_meaning::{Direction, Kind, Request};
@@ -64,4 +66,12 @@ impl SeveralRequest {
 pub fn dimensions_are_planned_apart()
     ensures chosen { ChosenByParts }
     ensures least { LeastByParts }
+{}
+
+/// A valid request of several dimensions that can be shared has chosen trees, and their cost is the least.
+pub fn chosen_trees_exist()
+    ensures chosen { (r : SpecRequest) → IsSeveralRequest r → CanShare r
+        → (ts : List Breakdown) × AreChosen r ts }
+    ensures least { (r : SpecRequest) (ts : List Breakdown) → AreChosen r ts
+        → IsLeastOf r (several_cost r (listed r.dimensions) ts) }
 {}

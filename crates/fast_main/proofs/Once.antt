@@ -1,5 +1,5 @@
 -- The words and the bytes of a call determine its status and its text.
-use Rattle.std.proofs.Common.{◌≡◌, ℕ, zero, suc, ◌-◌, ◌<◌, ◌≤◌, Bool, true, false, cond, eqb, List, [], ◌∷◌, ◌++◌, None, Ok, Err, Result, inl, inr, refl, sym, ap, subst, ◌∙◌, append_assoc, arith}
+use Rattle.std.proofs.Common.{◌≡◌, ℕ, zero, suc, ◌-◌, ◌<◌, ◌≤◌, Bool, true, false, cond, eqb, List, [], ◌∷◌, ◌++◌, Some, None, Ok, Err, Result, inl, inr, refl, sym, ap, subst, ◌∙◌, append_assoc, arith}
 use Rattle.icode.specs.Plain.{PlainProgram}
 use Rattle.code_check.specs.Refusals.{PassesCheck, IsCause}
 use Rattle.code_check.proofs.Causes.{one_cause, none_if_passed}
@@ -10,9 +10,12 @@ use Rattle.listing_text.specs.Texts.{is_listing}
 use Rattle.listing_text.proofs.DraftReads.{listing_judges}
 use Rattle.fast_main.specs.declared.status.Status.{Status}
 use Rattle.fast_main.specs.declared.status.Status.TheVariants.{ListingSyntax}
-use Rattle.fast_main.specs.Outcome.{action_limit, IsTranslated, IsRefused, IsAnswer, IsOutcomeOfInput, IsOutcome}
+use Rattle.fast_main.specs.Outcome.{action_limit, IsUnsound, IsTranslated, IsRefused, IsAnswer, IsOutcomeOfInput, IsOutcome}
 use Rattle.fast_main.specs.Status.{status_of_check}
 use Rattle.fast_main.specs.Translation.{fast_text}
+use Rattle.fast_main.specs.Words.{size_asked}
+use Rattle.word_code.specs.declared.choose.WordSize.{WordSize}
+use Rattle.word_code.specs.Choice.{allows}
 
 -- The first lines are a front of the first lines and one more
 
@@ -61,41 +64,63 @@ one_program bytes p q a b = read_once bytes (read_lines step finish None [] byte
 
 -- Answers
 
-refused_once : (bytes : List ℕ) (a b : Status) → IsRefused bytes a → IsRefused bytes b → a ≡ b
-refused_once bytes a b (inl p) (inl q) = p.says ∙ ap (λ n. ListingSyntax n) (lost_once is_listing bytes p.line q.line p.lost q.lost) ∙ sym q.says
-refused_once bytes a b (inl p) (inr q) = absurd (p.lost.nothing q.program q.listing)
-refused_once bytes a b (inr p) (inl q) = absurd (q.lost.nothing p.program p.listing)
-refused_once bytes a b (inr p) (inr q) =
+same_cause : (bytes : List ℕ) (a b : Status) → IsUnsound bytes a → IsUnsound bytes b → a ≡ b
+same_cause bytes a b p q =
     let same = one_program bytes q.program p.program q.listing p.listing in
     let cause = subst (λ x. IsCause action_limit x q.fault) same q.cause in
     p.says ∙ ap status_of_check (one_cause action_limit p.program p.fault q.fault p.told q.told p.cause cause) ∙ sym q.says
 
-refused_or_translated : (bytes text : List ℕ) (a : Status) → IsRefused bytes a → IsTranslated bytes text → ⊥
-refused_or_translated bytes text a (inl p) q = p.lost.nothing q.program q.listing
-refused_or_translated bytes text a (inr p) q =
-    let same = one_program bytes q.program p.program q.listing p.listing in
-    none_if_passed action_limit p.program p.fault p.told (subst (λ x. PassesCheck action_limit x) same q.passes) p.cause
+-- no program both passes the check and does not
+passes_or_not : (bytes : List ℕ) (a : Status) (program : PlainProgram) → IsUnsound bytes a → is_listing bytes program → PassesCheck action_limit program → ⊥
+passes_or_not bytes a program p listing passes =
+    let same = one_program bytes program p.program listing p.listing in
+    none_if_passed action_limit p.program p.fault p.told (subst (λ x. PassesCheck action_limit x) same passes) p.cause
 
-translated_once : (bytes s t : List ℕ) → IsTranslated bytes s → IsTranslated bytes t → s ≡ t
-translated_once bytes s t p q = p.says ∙ ap fast_text (one_program bytes p.program q.program p.listing q.listing) ∙ sym q.says
+refused_once : (size : WordSize) (bytes : List ℕ) (a b : Status) → IsRefused size bytes a → IsRefused size bytes b → a ≡ b
+refused_once size bytes a b (inl p) (inl q) = p.says ∙ ap (λ n. ListingSyntax n) (lost_once is_listing bytes p.line q.line p.lost q.lost) ∙ sym q.says
+refused_once size bytes a b (inl p) (inr (inl q)) = absurd (p.lost.nothing q.program q.listing)
+refused_once size bytes a b (inl p) (inr (inr q)) = absurd (p.lost.nothing q.program q.listing)
+refused_once size bytes a b (inr (inl p)) (inl q) = absurd (q.lost.nothing p.program p.listing)
+refused_once size bytes a b (inr (inl p)) (inr (inl q)) = same_cause bytes a b p q
+refused_once size bytes a b (inr (inl p)) (inr (inr q)) = absurd (passes_or_not bytes a q.program p q.listing q.passes)
+refused_once size bytes a b (inr (inr p)) (inl q) = absurd (q.lost.nothing p.program p.listing)
+refused_once size bytes a b (inr (inr p)) (inr (inl q)) = absurd (passes_or_not bytes b p.program q p.listing p.passes)
+refused_once size bytes a b (inr (inr p)) (inr (inr q)) = p.says ∙ sym q.says
+
+refused_or_translated : (size : WordSize) (bytes text : List ℕ) (a : Status) → IsRefused size bytes a → IsTranslated size bytes text → ⊥
+refused_or_translated size bytes text a (inl p) q = p.lost.nothing q.program q.listing
+refused_or_translated size bytes text a (inr (inl p)) q = passes_or_not bytes a q.program p q.listing q.passes
+refused_or_translated size bytes text a (inr (inr p)) q =
+    let same = one_program bytes q.program p.program q.listing p.listing in
+    let yes = ap (λ (x : PlainProgram). allows size x.modulus) same in
+    let no = p.wide in
+    let allowed = q.allowed in
+    absurd (cc)
+
+translated_once : (size : WordSize) (bytes s t : List ℕ) → IsTranslated size bytes s → IsTranslated size bytes t → s ≡ t
+translated_once size bytes s t p q = p.says ∙ ap (fast_text size) (one_program bytes p.program q.program p.listing q.listing) ∙ sym q.says
 
 abbrev Same : Status → Status → List ℕ → List ℕ → Type 0
 Same a b s t = (a ≡ b) × (s ≡ t)
 
-answer_once : (bytes : List ℕ) (a b : Status) (s t : List ℕ) → IsAnswer bytes a s → IsAnswer bytes b t → Same a b s t
-answer_once bytes a b s t (inl p) (inl q) = (refused_once bytes a b p.0 q.0, p.1 ∙ sym q.1)
-answer_once bytes a b s t (inl p) (inr q) = absurd (refused_or_translated bytes t a p.0 q.1)
-answer_once bytes a b s t (inr p) (inl q) = absurd (refused_or_translated bytes s b q.0 p.1)
-answer_once bytes a b s t (inr p) (inr q) = (p.0 ∙ sym q.0, translated_once bytes s t p.1 q.1)
+answer_once : (size : WordSize) (bytes : List ℕ) (a b : Status) (s t : List ℕ) → IsAnswer size bytes a s → IsAnswer size bytes b t → Same a b s t
+answer_once size bytes a b s t (inl p) (inl q) = (refused_once size bytes a b p.0 q.0, p.1 ∙ sym q.1)
+answer_once size bytes a b s t (inl p) (inr q) = absurd (refused_or_translated size bytes t a p.0 q.1)
+answer_once size bytes a b s t (inr p) (inl q) = absurd (refused_or_translated size bytes s b q.0 p.1)
+answer_once size bytes a b s t (inr p) (inr q) = (p.0 ∙ sym q.0, translated_once size bytes s t p.1 q.1)
 
-input_once : (bytes : List ℕ) (a b : Status) (s t : List ℕ) → IsOutcomeOfInput bytes a s → IsOutcomeOfInput bytes b t → Same a b s t
-input_once bytes a b s t (inl p) (inl q) = (p.1 ∙ sym q.1, p.2 ∙ sym q.2)
-input_once bytes a b s t (inl p) (inr q) = let x = p.0 in let y = q.0 in absurd (omega (arith, x, y))
-input_once bytes a b s t (inr p) (inl q) = let x = p.0 in let y = q.0 in absurd (omega (arith, x, y))
-input_once bytes a b s t (inr p) (inr q) = answer_once bytes a b s t p.1 q.1
+input_once : (size : WordSize) (bytes : List ℕ) (a b : Status) (s t : List ℕ) → IsOutcomeOfInput size bytes a s → IsOutcomeOfInput size bytes b t → Same a b s t
+input_once size bytes a b s t (inl p) (inl q) = (p.1 ∙ sym q.1, p.2 ∙ sym q.2)
+input_once size bytes a b s t (inl p) (inr q) = let x = p.0 in let y = q.0 in absurd (omega (arith, x, y))
+input_once size bytes a b s t (inr p) (inl q) = let x = p.0 in let y = q.0 in absurd (omega (arith, x, y))
+input_once size bytes a b s t (inr p) (inr q) = answer_once size bytes a b s t p.1 q.1
+
+asked_once : (words : List (List ℕ)) (a b : WordSize) → size_asked words ≡ Some a → size_asked words ≡ Some b → a ≡ b
+asked_once words a b p q = let e = sym p ∙ q in cc
 
 pub outcome_once : (words : List (List ℕ)) (bytes : List ℕ) (a b : Status) (s t : List ℕ) → IsOutcome words bytes a s → IsOutcome words bytes b t → (a ≡ b) × (s ≡ t)
 outcome_once words bytes a b s t (inl p) (inl q) = (p.1 ∙ sym q.1, p.2 ∙ sym q.2)
-outcome_once words bytes a b s t (inl p) (inr q) = absurd (p.0 q.0)
-outcome_once words bytes a b s t (inr p) (inl q) = absurd (q.0 p.0)
-outcome_once words bytes a b s t (inr p) (inr q) = input_once bytes a b s t p.1 q.1
+outcome_once words bytes a b s t (inl p) (inr q) = let e = sym p.0 ∙ q.1 in absurd (cc)
+outcome_once words bytes a b s t (inr p) (inl q) = let e = sym p.1 ∙ q.0 in absurd (cc)
+outcome_once words bytes a b s t (inr p) (inr q) =
+    input_once p.0 bytes a b s t p.2 (subst (λ size. IsOutcomeOfInput size bytes b t) (asked_once words q.0 p.0 q.1 p.1) q.2)

@@ -1,3 +1,4 @@
+pub mod Words
 pub mod Translation
 pub mod Status
 pub mod Outcome

@@ -1,5 +1,5 @@
 -- What a call answers for its words and the bytes of its input, and what it writes.
-use Rattle.std.specs.Prelude.{◌≡◌, ◌≢◌, ◌⊎◌, ℕ, ◌<◌, ◌≤◌, List, [], length, Some, IfSome}
+use Rattle.std.specs.Prelude.{◌≡◌, ◌≢◌, ◌⊎◌, ℕ, ◌<◌, ◌≤◌, List, [], length, Some, None, IfSome, true, false}
 use Rattle.std.specs.declared.option.Option.{Option}
 use Rattle.std.specs.Io.KnownBytes.{Appends, Consumes}
 use Rattle.icode.specs.Plain.{PlainProgram}
@@ -8,12 +8,15 @@ use Rattle.listing_text.specs.Texts.{is_listing}
 use Rattle.code_check.specs.declared.CheckFault.{CheckFault}
 use Rattle.code_check.specs.declared.CheckFault.TheVariants as faults
 use Rattle.code_check.specs.Refusals.{PassesCheck, IsCause}
+use Rattle.word_code.specs.declared.choose.WordSize.{WordSize}
+use Rattle.word_code.specs.Choice.{allows}
 use Rattle.io_edge.specs.Faults.{Rose}
 use Rattle.io_edge.specs.Taken.{AppendsPrefix}
 use Rattle.fast_main.specs.declared.status.Status.{Status}
-use Rattle.fast_main.specs.declared.status.Status.TheVariants.{Success, Usage, ListingSyntax, ReadFault, WriteFault, NoMemory, TooLong}
+use Rattle.fast_main.specs.declared.status.Status.TheVariants.{Success, Usage, ListingSyntax, WideModulus, ReadFault, WriteFault, NoMemory, TooLong}
 use Rattle.fast_main.specs.Status.{listing_limit, status_of_check}
-use Rattle.fast_main.specs.Translation.{fast_text, IsFaithful}
+use Rattle.fast_main.specs.Translation.{fast_text, AreSoundWords}
+use Rattle.fast_main.specs.Words.{size_asked, bits_of}
 
 -- how many actions a program has at most
 abbrev pub action_limit : ℕ
@@ -34,31 +37,41 @@ pub record IsUnsound (bytes : List ℕ) (status : Status) : Type 0 where
   pub cause : IsCause action_limit program fault
   pub says : status ≡ status_of_check fault
 
--- they are that of a program that passes the check, and the text is its own, of words that leave what it leaves
-pub record IsTranslated (bytes text : List ℕ) : Type 0 where
+-- they are that of a program that passes the check, whose modulus words of the size do not take
+pub record IsTooWide (size : WordSize) (bytes : List ℕ) (status : Status) : Type 0 where
   pub program : PlainProgram
   pub listing : is_listing bytes program
   pub passes : PassesCheck action_limit program
-  pub faithful : IsFaithful program
-  pub says : text ≡ fast_text program
+  pub wide : allows size program.modulus ≡ false
+  pub says : status ≡ WideModulus (bits_of size)
+
+-- they are that of a program that passes the check, and the text is its own, of words of the size, which fit, are apart and leave
+-- what it leaves
+pub record IsTranslated (size : WordSize) (bytes text : List ℕ) : Type 0 where
+  pub program : PlainProgram
+  pub listing : is_listing bytes program
+  pub passes : PassesCheck action_limit program
+  pub allowed : allows size program.modulus ≡ true
+  pub sound : AreSoundWords size program
+  pub says : text ≡ fast_text size program
 
 -- why the bytes of a listing have no text
-abbrev pub IsRefused : List ℕ → Status → Type 0
-IsRefused bytes status = IsUnread bytes status ⊎ IsUnsound bytes status
+abbrev pub IsRefused : WordSize → List ℕ → Status → Type 0
+IsRefused size bytes status = IsUnread bytes status ⊎ (IsUnsound bytes status ⊎ IsTooWide size bytes status)
 
 -- status and text for bytes that are no more than may be
-abbrev pub IsAnswer : List ℕ → Status → List ℕ → Type 0
-IsAnswer bytes status text = (IsRefused bytes status × (text ≡ [])) ⊎ ((status ≡ Success) × IsTranslated bytes text)
+abbrev pub IsAnswer : WordSize → List ℕ → Status → List ℕ → Type 0
+IsAnswer size bytes status text = (IsRefused size bytes status × (text ≡ [])) ⊎ ((status ≡ Success) × IsTranslated size bytes text)
 
 -- for all bytes
-abbrev pub IsOutcomeOfInput : List ℕ → Status → List ℕ → Type 0
-IsOutcomeOfInput bytes status text =
-    ((listing_limit < length bytes) × (status ≡ TooLong listing_limit) × (text ≡ [])) ⊎ ((length bytes ≤ listing_limit) × IsAnswer bytes status text)
+abbrev pub IsOutcomeOfInput : WordSize → List ℕ → Status → List ℕ → Type 0
+IsOutcomeOfInput size bytes status text =
+    ((listing_limit < length bytes) × (status ≡ TooLong listing_limit) × (text ≡ [])) ⊎ ((length bytes ≤ listing_limit) × IsAnswer size bytes status text)
 
--- The words are the program's name alone, or nothing is read
+-- The words ask for words of a size, or nothing is read
 abbrev pub IsOutcome : List (List ℕ) → List ℕ → Status → List ℕ → Type 0
 IsOutcome words bytes status text =
-    ((length words ≢ 1) × (status ≡ Usage) × (text ≡ [])) ⊎ ((length words ≡ 1) × IsOutcomeOfInput bytes status text)
+    ((size_asked words ≡ None) × (status ≡ Usage) × (text ≡ [])) ⊎ ((size : WordSize) × (size_asked words ≡ Some size) × IsOutcomeOfInput size bytes status text)
 
 -- the words and the bytes call for the status: it is neither a fault of the outside nor want of memory
 pub record IsDefined (status : Status) : Type 0 where
@@ -78,7 +91,7 @@ pub record Accounts (words : List (List ℕ)) (bytes : List ℕ) (left before af
   -- where nothing failed, they are the outcome
   pub answer : IsDefined status → (text : List ℕ) × IsOutcome words bytes status text × Appends before after text
   -- a read failed, behind bytes that may be the front of a listing's, and nothing was written
-  pub read_fault : status ≡ ReadFault → (length words ≡ 1) × ((read : List ℕ) × Consumes (Some bytes) left read × (length read ≤ listing_limit)) × Appends before after []
+  pub read_fault : status ≡ ReadFault → (size_asked words ≢ None) × ((read : List ℕ) × Consumes (Some bytes) left read × (length read ≤ listing_limit)) × Appends before after []
   -- a write failed at the text that the bytes call for, of which the output took a front
   pub write_fault : status ≡ WriteFault → (text : List ℕ) × IsOutcome words bytes Success text × AppendsPrefix before after text
 

@@ -8,7 +8,7 @@ use Rattle.input_rest.specs.declared.RestFault.TheVariants as rest
 use Rattle.listing_text.specs.declared.listing.ListingFault.{ListingFault}
 use Rattle.listing_text.specs.declared.listing.ListingFault.TheVariants as listing
 use Rattle.fast_main.specs.declared.status.Status.{Status}
-use Rattle.fast_main.specs.declared.status.Status.TheVariants.{Success, Usage, ListingSyntax, OverSteps, Address, Register, LineShared, ReadFault, WriteFault, NoMemory, TooLong}
+use Rattle.fast_main.specs.declared.status.Status.TheVariants.{Success, Usage, ListingSyntax, OverSteps, Address, Register, LineShared, WideModulus, ReadFault, WriteFault, NoMemory, TooLong}
 
 abbrev pub code_of : Status → ℕ
 code_of Success = 0
@@ -22,6 +22,7 @@ code_of (Address phase q i) = 19
 code_of (Register phase q i) = 20
 code_of (LineShared phase line a b) = 21
 code_of (OverSteps limit) = 22
+code_of (WideModulus bits) = 24
 
 -- a text, and which action of which processor in which phase
 abbrev pub action_line : List ℕ → ℕ → ℕ → ℕ → List ℕ
@@ -31,7 +32,7 @@ action_line front phase q i =
 
 abbrev pub note_line : Status → List ℕ
 note_line Success = []
-note_line Usage = codes "spiral_fast: usage: spiral_fast\n"
+note_line Usage = codes "spiral_fast: usage: spiral_fast [--words 32|52|64]\n"
 note_line ReadFault = codes "spiral_fast: read failed\n"
 note_line WriteFault = codes "spiral_fast: write failed\n"
 note_line NoMemory = codes "spiral_fast: out of memory\n"
@@ -42,6 +43,7 @@ note_line (Register phase q i) = action_line (codes "spiral_fast: bad register")
 note_line (LineShared phase line a b) =
     concat (codes "spiral_fast: phase " ∷ decimal phase ∷ codes " line " ∷ decimal line ∷ codes " is shared by " ∷ decimal a ∷ codes " and " ∷ decimal b ∷ codes "\n" ∷ [])
 note_line (OverSteps limit) = concat (codes "spiral_fast: more than " ∷ decimal limit ∷ codes " actions\n" ∷ [])
+note_line (WideModulus bits) = concat (codes "spiral_fast: modulus of more than " ∷ decimal bits ∷ codes "-bit words\n" ∷ [])
 
 -- how many bytes a listing has at most
 abbrev pub listing_limit : ℕ

@@ -7,6 +7,7 @@ ghost use Rattle.fast_main.specs.Outcome.{IsOutcome};
 
 mod run;
 mod status;
+mod words;
 
 pub use run::{LISTING_LIMIT, fast_run};
 pub use status::Status;

@@ -46,6 +46,10 @@ pub enum Status {
         a: u64,
         b: u64,
     },
+    /// The modulus has more bits than words of so many take.
+    WideModulus {
+        bits: u64,
+    },
     /// The input failed.
     ReadFault,
     /// The output failed.
@@ -74,6 +78,7 @@ impl Status {
             Status::Register { .. } => 20,
             Status::LineShared { .. } => 21,
             Status::OverSteps { .. } => 22,
+            Status::WideModulus { .. } => 24,
         }
     }
 }
@@ -253,7 +258,10 @@ pub(crate) fn write_note<E: Sink>(note: &mut E, status: Status) -> Result<(), Wr
 {
     match status {
         Status::Success => Ok(()),
-        Status::Usage => write_all(note, b"spiral_fast: usage: spiral_fast\n"),
+        Status::Usage => write_all(
+            note,
+            b"spiral_fast: usage: spiral_fast [--words 32|52|64]\n",
+        ),
         Status::ReadFault => write_all(note, b"spiral_fast: read failed\n"),
         Status::WriteFault => write_all(note, b"spiral_fast: write failed\n"),
         Status::NoMemory => write_all(note, b"spiral_fast: out of memory\n"),
@@ -277,5 +285,11 @@ pub(crate) fn write_note<E: Sink>(note: &mut E, status: Status) -> Result<(), Wr
         Status::OverSteps { limit } => {
             note_number(note, b"spiral_fast: more than ", limit, b" actions\n")
         }
+        Status::WideModulus { bits } => note_number(
+            note,
+            b"spiral_fast: modulus of more than ",
+            bits,
+            b"-bit words\n",
+        ),
     }
 }

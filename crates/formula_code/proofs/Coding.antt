@@ -1,14 +1,16 @@
 -- A program that performs a formula's passes is its code.
 use Rattle.std.proofs.Common.{◌≡◌, ℕ, ◌^◌, ◌<◌, ◌≤◌, List, [], ◌∷◌, ◌++◌, map, refl, sym, ap, ap₂, ◌∙◌, arith, subst, Vec, Global}
 use Rattle.std.specs.Prelude.{reverse}
-use Rattle.std.proofs.lemmas.List.{reverse-append}
+use Rattle.std.proofs.lemmas.List.{length-map, reverse-append}
 use Rattle.formula_code.specs.Code.{IsCodeOf}
+use Rattle.formula_code.specs.Letters.{program_as_it_stands}
 use Rattle.formula_lower.specs.Terms.{term_of}
 use Rattle.formula_lower.proofs.Lowers.{lowers}
 use Rattle.formula_lower.proofs.Several.{term-several}
 use Rattle.formula_passes.specs.Computes.{formula_merged}
 use Rattle.formula_passes.proofs.Formulas.{formulas_can_program}
 use Rattle.formula_passes.proofs.Programs.{formulas_compute}
+use Rattle.icode.specs.Plain.{PlainProgram}
 use Rattle.icode.specs.Machine.{padded, results, words_at}
 use Rattle.icode.specs.Program.{code_of, plain_program}
 use Rattle.icode.specs.declared.program.Program.{Program}
@@ -18,6 +20,7 @@ use Rattle.joined_copies.specs.Joined.{all_joined}
 use Rattle.joined_copies.proofs.Passes.{joined-order, joined_are_plain}
 use Rattle.pass_actions.specs.Machine.{plain_machine}
 use Rattle.pass_programs.specs.Contract.{CanProgram, Performs}
+use Rattle.pass_programs.specs.Program.{program_of}
 use Rattle.passes.specs.Limits.{HasSeveral}
 use Rattle.passes.specs.Merge.{passes_of}
 use Rattle.passes.specs.Merged.{PlainMerged}
@@ -84,6 +87,7 @@ code-of m f p large small shaped few performs =
       header = record { size = performs.size; modulus = performs.modulus; procs = performs.procs; line = performs.line; lanes = performs.lanes };
       limits = performs.limits;
       fits = performs.fits;
+      phases = length-map _ _ ∙ performs.phases;
       apart = performs.apart;
       product = λ x turns vector _. any-turns m f p performs x turns ∙ computes.results x vector;
       operations = computes.cost 1 (omega arith);
@@ -91,3 +95,8 @@ code-of m f p large small shaped few performs =
 
 pub is_code : (m : ℕ) (f : Formula) (g : PlainMerged) (p : Program) → 2 ≤ m → m < 2 ^ 62 → IsShaped f → parts_of f ≤ 65536 → g ≡ formula_merged m f → Performs (machine_for m 1 g) g (plain_program p) → IsCodeOf m f p
 is_code m f g p large small shaped few is performs = code-of m f p large small shaped few (subst (λ h. Performs (machine_for m 1 h) h (plain_program p)) is performs)
+
+-- ---- letters
+
+pub has_letters : (m : ℕ) (f : Formula) (g : PlainMerged) (p : PlainProgram) → g ≡ formula_merged m f → p ≡ program_of (machine_for m 1 g) g → p ≡ program_as_it_stands m f
+has_letters m f g p is written = written ∙ ap (λ h. program_of (machine_for m 1 h) h) is

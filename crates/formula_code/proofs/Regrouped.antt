@@ -37,6 +37,7 @@ same_code m f g p regrouped same code = record {
   };
   limits = code.limits;
   fits = code.fits;
+  phases = code.phases;
   apart = code.apart;
   product = λ x turns v mine.
       code.product x turns (subst (λ (n : ℕ). IsVector m n x) (sym same.size) v) mine

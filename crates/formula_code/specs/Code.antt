@@ -1,5 +1,5 @@
 -- What makes a program the code of a formula.
-use Rattle.std.specs.Prelude.{◌≡◌, ℕ, ◌<◌, List, All}
+use Rattle.std.specs.Prelude.{◌≡◌, ℕ, ◌<◌, List, length, All}
 use Rattle.icode.specs.declared.program.Program.{Program}
 use Rattle.icode.specs.Limits.{IsWithinLimits}
 use Rattle.icode.specs.Machine.{IsApart, results, weighted, whole_counts}
@@ -17,12 +17,13 @@ pub record HasHeader (m : ℕ) (f : Formula) (p : Program) : Type 0 where
   pub line : p.line ≡ 1
   pub lanes : p.lanes ≡ 1
 
--- Whatever the vector and whatever turns come first, the program leaves the formula's matrix times the vector, in exactly
--- the formula's operations. It stands within the limits of listings, and every place that it names is there
+-- Whatever the vector and whatever turns come first, the program leaves the formula's matrix times the vector, in one
+-- phase, in exactly the formula's operations. It stands within the limits of listings, and every place that it names is there
 pub record IsCodeOf (m : ℕ) (f : Formula) (p : Program) : Type 0 where
   pub header : HasHeader m f p
   pub limits : IsWithinLimits (plain_program p)
   pub fits : Fits p
+  pub phases : length (code_of p).lists ≡ 1
   pub apart : (phase : ℕ) → IsApart (code_of p) phase
   pub product : (x turns : List ℕ) → IsVector m (size_of f) x → All (λ q. q < 1) turns →
       results (code_of p) x turns ≡ apply m f x

@@ -3,7 +3,9 @@
 
 ghost use Rattle.std.specs.Prelude.{◌≡◌, ◌≤◌, IfOk};
 ghost use Rattle.formula_code.specs.Code.{IsCodeOf};
+ghost use Rattle.formula_code.specs.Letters.{program_as_it_stands, program_for};
 ghost use Rattle.formula_passes.specs.Computes.{formula_merged};
+ghost use Rattle.icode.specs.Program.{plain_program};
 ghost use Rattle.passes.specs.Views.{plain_merged};
 ghost use Rattle.spl_ast.specs.Formula.{parts_of};
 
@@ -26,6 +28,8 @@ use term_merge::merge_term;
 pub fn formula_program(alloc: Global, modulus: &Modulus, formula: Spl) -> Result<Program, NoMemory>
     requires few { parts_of formula ≤ 65536 }
     ensures code { IfOk result (λ program. IsCodeOf modulus.now formula program) }
+    ensures letters { IfOk result (λ program.
+        plain_program program ≡ program_for modulus.now formula) }
 {
     let balanced = balance(alloc, formula)?;
     let program = code_of_formula(alloc, modulus, &balanced)?;
@@ -36,6 +40,8 @@ pub fn formula_program(alloc: Global, modulus: &Modulus, formula: Spl) -> Result
 fn code_of_formula(alloc: Global, modulus: &Modulus, formula: &Spl) -> Result<Program, NoMemory>
     requires few { parts_of formula.now ≤ 65536 }
     ensures code { IfOk result (λ program. IsCodeOf modulus.now formula.now program) }
+    ensures letters { IfOk result (λ program.
+        plain_program program ≡ program_as_it_stands modulus.now formula.now) }
 {
     let _modulus = modulus.get();
     let _rows = formula.rows();

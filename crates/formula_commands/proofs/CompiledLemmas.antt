@@ -261,7 +261,7 @@ computes_run m schedule code old new (Some bytes) (Some rest) None out out' read
 computes_run m schedule code old new (Some bytes) (Some rest) (Some left) out out' read text first last result consumed count whole short few made none s =
     let formula : Formula = made.0 in
     let program : Program = made.1 in
-    let is : IsCodeOf m formula program = made.3 in
+    let is : IsCodeOf m formula program = made.3.code in
     let turns : List ℕ = turns_of schedule code.procs in
     let size : code.size ≡ size_of formula = ap (λ (k : Code). k.size) made.4 ∙ is.header.size in
     let modulus : code.modulus ≡ m = ap (λ (k : Code). k.modulus) made.4 ∙ is.header.modulus in

@@ -1,5 +1,5 @@
--- The bytes of a call of `compile` or `apply` determine its status, and of `apply` its text.
-use Rattle.std.proofs.Common.{◌≡◌, ◌≢◌, ℕ, true, List, Ok, Err, Result, refl, sym, ap, ap₂, ◌∙◌, arith}
+-- The bytes of a call of `compile` or `apply` determine its status and its text.
+use Rattle.std.proofs.Common.{◌≡◌, ◌≢◌, ℕ, List, Ok, Err, Result, refl, sym, ap, ap₂, ◌∙◌, arith}
 use Rattle.grammar.specs.Stops.{Stop, Lost, Fault}
 use Rattle.spl_ast.specs.Formula.{Formula}
 use Rattle.spl_text.specs.Answer.{IsFirst, IsLeft}
@@ -9,7 +9,8 @@ use Rattle.spl_text.specs.declared.reading.SplFault.TheVariants as spl
 use Rattle.spiral_words.specs.declared.Command.{Command}
 use Rattle.spiral_words.specs.declared.Command.TheVariants as command
 use Rattle.spiral_status.specs.declared.status.Status.{Status}
-use Rattle.spiral_input.specs.Commands.{admitted, first_stranger, procs_named, prints_one_text}
+use Rattle.spiral_input.specs.Commands.{admitted, first_stranger, procs_named}
+use Rattle.listing_text.specs.Listing.{listing_of}
 use Rattle.formula_commands.specs.Compiled.{formula_line, written, formula_in, SettlesFormula, IsFormulaAnswer}
 use Rattle.spiral_status.specs.Fault.{status_of_spl}
 use Rattle.spiral_input.specs.Line.{data_of, room_behind}
@@ -105,18 +106,18 @@ settled_once (command.Compile modulus) formula room bytes a b s t p q = p.0 ∙ 
 settled_once (command.Apply modulus schedule) formula room bytes a b s t p q = p.0 ∙ sym q.0
 settled_once _ formula room bytes a b s t p q = absurd p
 
-text_once : (wanted : Command) (formula : Formula) (room : ℕ) (bytes : List ℕ) (a b : Status) (s t : List ℕ) → prints_one_text wanted ≡ true
+text_once : (wanted : Command) (formula : Formula) (room : ℕ) (bytes : List ℕ) (a b : Status) (s t : List ℕ)
     → SettlesFormula wanted formula room bytes a s → SettlesFormula wanted formula room bytes b t → s ≡ t
-text_once (command.Compile modulus) formula room bytes a b s t h p q = absurd (cc)
-text_once (command.Apply modulus schedule) formula room bytes a b s t h p q = p.1 ∙ sym q.1
-text_once _ formula room bytes a b s t h p q = absurd p
+text_once (command.Compile modulus) formula room bytes a b s t p q = p.1.2 ∙ ap listing_of (p.1.1.letters ∙ sym q.1.1.letters) ∙ sym q.1.2
+text_once (command.Apply modulus schedule) formula room bytes a b s t p q = p.1 ∙ sym q.1
+text_once _ formula room bytes a b s t p q = absurd p
 
 pub formula_status_once : (wanted : Command) (bytes : List ℕ) (a b : Status) (s t : List ℕ) → IsFormulaAnswer wanted bytes a s → IsFormulaAnswer wanted bytes b t → a ≡ b
 formula_status_once wanted bytes a b s t =
     of_answers (a ≡ b) (formula_in wanted bytes) (λ (f : Formula). SettlesFormula wanted f (room_behind bytes) (data_of bytes)) a b s t (formula_decided wanted bytes)
     (λ same _. same) (λ f _ p q. settled_once wanted f (room_behind bytes) (data_of bytes) a b s t p q)
 
-pub formula_text_once : (wanted : Command) (bytes : List ℕ) (a b : Status) (s t : List ℕ) → prints_one_text wanted ≡ true → IsFormulaAnswer wanted bytes a s → IsFormulaAnswer wanted bytes b t → s ≡ t
-formula_text_once wanted bytes a b s t h =
+pub formula_text_once : (wanted : Command) (bytes : List ℕ) (a b : Status) (s t : List ℕ) → IsFormulaAnswer wanted bytes a s → IsFormulaAnswer wanted bytes b t → s ≡ t
+formula_text_once wanted bytes a b s t =
     of_answers (s ≡ t) (formula_in wanted bytes) (λ (f : Formula). SettlesFormula wanted f (room_behind bytes) (data_of bytes)) a b s t (formula_decided wanted bytes)
-    (λ _ same. same) (λ f _ p q. text_once wanted f (room_behind bytes) (data_of bytes) a b s t h p q)
+    (λ _ same. same) (λ f _ p q. text_once wanted f (room_behind bytes) (data_of bytes) a b s t p q)

@@ -6,6 +6,7 @@ use Rattle.icode.specs.Machine.{Code}
 use Rattle.icode.specs.Program.{plain_program, code_of}
 use Rattle.icode.specs.declared.program.Program.{Program}
 use Rattle.formula_code.specs.Code.{IsCodeOf}
+use Rattle.formula_code.specs.Letters.{program_for}
 use Rattle.spl_ast.specs.Formula.{Formula, size_of}
 use Rattle.spl_ast.specs.Meaning as formulas
 use Rattle.spl_text.specs.Answer.{IsFirst, Shows}
@@ -54,9 +55,14 @@ formula_in wanted bytes = do
 
 -- What is written
 
--- the text is the listing of a program for the formula
+-- the program of the formula, statement by statement, which is its code
+pub record IsFormulaProgram (m : ℕ) (formula : Formula) (program : Program) : Type 0 where
+  pub letters : plain_program program ≡ program_for m formula
+  pub code : IsCodeOf m formula program
+
+-- the text is the listing of that program
 abbrev pub IsFormulaListing : ℕ → Formula → List ℕ → Type 0
-IsFormulaListing m formula text = (program : Program) × IsCodeOf m formula program × (text ≡ listing_of (plain_program program))
+IsFormulaListing m formula text = (program : Program) × IsFormulaProgram m formula program × (text ≡ listing_of (plain_program program))
 
 -- the text has a line for each vector, of the formula's matrix times it
 abbrev pub IsAppliedText : ℕ → Formula → List (List ℕ) → List ℕ → Type 0
@@ -132,4 +138,4 @@ IsCompiledText m text listing = (formula : Formula) × formed (command.Compile m
 -- the code of the program for the formula that the text spells
 abbrev pub IsFormulaCode : ℕ → Command → List ℕ → Code → Type 0
 IsFormulaCode m wanted text code =
-    (formula : Formula) × (program : Program) × formed wanted text (Ok formula) × IsCodeOf m formula program × (code ≡ code_of program)
+    (formula : Formula) × (program : Program) × formed wanted text (Ok formula) × IsFormulaProgram m formula program × (code ≡ code_of program)

@@ -13,6 +13,7 @@ use Rattle.matrix_meaning.specs.Valid.{AllowsDirection, IsValid}
 use Rattle.multiplied_passes.specs.Multiplied.{multiplied}
 use Rattle.multiplied_passes.specs.declared.Pick.TheVariants.{First}
 use Rattle.pass_programs.specs.Contract.{CanProgram, Performs}
+use Rattle.pass_programs.specs.Program.{program_of}
 use Rattle.passes.specs.Merged.{PlainMerged}
 use Rattle.passes.specs.Nest.{repeated}
 use Rattle.passes.specs.Sigma.{PlainSigma, merged_of}
@@ -29,6 +30,7 @@ use Rattle.tree_passes.specs.Merged.{IsMergedTree}
 use Rattle.tree_passes.proofs.Merged.{trees_are_merged}
 use Rattle.vec_rewrite.specs.Turning.{vec_of}
 use Rattle.vec_rewrite.specs.Vectors.{PlainVec}
+use Rattle.generate.specs.Letters.{program_for}
 
 -- the formula for lanes is the tree's
 pub vectors_are : (c : Request) (t : Breakdown) (blocks : PlainSmp) (vectors : PlainVec) → blocks ≡ smp_of c t → vectors ≡ vec_of c blocks → vectors ≡ vec_of c (smp_of c t)
@@ -70,6 +72,17 @@ request-performs r t g m line p same residues words performs =
     (subst (λ n. Performs (machine_for r.modulus n g') g' p) words
     (subst (λ n. Performs (machine_for n line g') g' p) residues
     (subst (λ z. Performs (machine_for m line z) z p) same performs)))
+
+-- statement by statement it is theirs
+pub request-letters : (r : Request) (t : Breakdown) (g : PlainMerged) (m line : ℕ) (p : PlainProgram) → g ≡ request_merged r t → m ≡ r.modulus → line ≡ r.line → p ≡ program_of (machine_for m line g) g →
+    p ≡ program_for r t
+request-letters r t g m line p same residues words written =
+    let g' = request_merged r t in
+    written
+    ∙ ap (λ z. program_of (machine_for m line z) z) same
+    ∙ ap (λ n. program_of (machine_for n line g') g') residues
+    ∙ ap (λ n. program_of (machine_for r.modulus n g') g') words
+    ∙ ap (λ h. program_of h g') (sym (host-is r t))
 
 -- what a request for an inverse has
 pub inverse-allowed : (r : Request) → IsValid r → r.direction ≡ Inverse → (r.kind ≡ Dft) × IsGcd r.size r.modulus 1

@@ -2,8 +2,10 @@
 //! turns, shares no line, and executes exactly the operations of the cheapest tree.
 #![tactic(auto)]
 
-ghost use Rattle.std.specs.Prelude.{◌≡◌, ◌≢◌, false, Ok, Err, IfOk, IfErr, IfNone, IfSome, OnOk, OnErr};
+ghost use Rattle.std.specs.Prelude.{◌≡◌, ◌≢◌, false, Ok, Err, Result, IfOk, IfErr, IfNone, IfSome, OnOk, OnErr};
 ghost use Rattle.matrix_meaning.specs.Valid.{IsInRange, IsValid};
+ghost use Rattle.matrix_meaning.specs.declared.Request.{Request as SpecRequest};
+ghost use Rattle.plan_faults.specs.declared.generating.GenerateFault.{GenerateFault as SpecFault};
 ghost use Rattle.matrix_meaning.specs.declared.Direction.TheVariants.{Inverse};
 ghost use Rattle.formula_lower.specs.Merged.{tree_merged};
 ghost use Rattle.icode.specs.Program.{plain_program};
@@ -11,11 +13,12 @@ ghost use Rattle.pass_programs.specs.Contract.{Performs};
 ghost use Rattle.passes.specs.Views.{plain_merged};
 ghost use Rattle.request_passes.specs.Merged.{inverse_merged, request_merged};
 ghost use Rattle.tree_model.specs.Admissible.{IsAdmissible};
-ghost use Rattle.tree_model.specs.Breakdown.{breakdown_of};
+ghost use Rattle.tree_model.specs.Breakdown.{Breakdown, breakdown_of};
 ghost use Rattle.tree_model.specs.Cost.{whole_cost};
 ghost use Rattle.tree_passes.specs.Laws.{machine_of};
 ghost use Rattle.tree_passes.specs.Merged.{IsMergedTree};
 ghost use Rattle.generate.specs.Good.{IsGood, IsLean};
+ghost use Rattle.generate.specs.Letters.{program_for};
 ghost use Rattle.generate.specs.Planned.{IsPlanned, IsAdmitted, IsBarred, IsRooted, has_root, root_power};
 ghost use Rattle.plan_faults.specs.declared.generating.GenerateFault.TheVariants as fault;
 
@@ -124,6 +127,9 @@ pub fn generate(alloc: Global, request: &Request) -> Result<Product, GenerateFau
         product.program) }
     ensures lean { IfOk result (λ product.
         IsLean request.now (breakdown_of product.plan.tree) product.program) }
+    ensures letters { IfOk result (λ product.
+        plain_program product.program
+        ≡ program_for request.now (breakdown_of product.plan.tree)) }
     ensures refused { IfErr result (λ cause.
         cause ≢ fault.NoMemory → IsPlanned request.now (Err cause)) }
 {
@@ -136,7 +142,9 @@ pub fn generate(alloc: Global, request: &Request) -> Result<Product, GenerateFau
 // The program of a tree: the merged passes of the request, written as code.
 fn tree_program(alloc: Global, c: &Ctx, tree: &Tree) -> Result<Program, NoMemory>
     requires { IsAdmissible c.now (breakdown_of tree.now) }
-    ensures { IfOk result (λ p.
+    ensures letters { IfOk result (λ p.
+        plain_program p ≡ program_for c.now (breakdown_of tree.now)) }
+    ensures performs { IfOk result (λ p.
         Performs (machine_of c.now) (request_merged c.now (breakdown_of tree.now))
         (plain_program p)) }
 {
@@ -195,3 +203,9 @@ pub fn merge_tree(alloc: Global, c: &Ctx, tree: &Tree) -> Result<Merged, NoMemor
     let merged = merge(alloc, sigma)?;
     Ok(merged)
 }
+
+/// A request in range has a tree, or a first cause to be refused.
+pub fn plans_exist()
+    ensures { (r : SpecRequest) → IsInRange r
+        → (answer : Result Breakdown SpecFault) × IsPlanned r answer }
+{}

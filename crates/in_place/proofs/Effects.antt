@@ -5,7 +5,7 @@ use Rattle.icode.specs.declared.action.Action.TheVariants.{Load, Store, Zero, Ad
 use Rattle.icode.specs.Machine.{Local, with_words, register_of, memory_after, register_put}
 use Rattle.icode.proofs.Bools.{both_true}
 use Rattle.icode.proofs.Words.{length-words_at}
-use Rattle.word_code.specs.Words.{Width, base_of}
+use Rattle.word_code.specs.Words.{Width, sums_of}
 use Rattle.word_code.specs.WordMachine.{WordAction, word_put, bare_effect, word_effect, reduce_registers}
 use Rattle.in_place.specs.Homes.{Homes, are_home}
 use Rattle.in_place.specs.Accesses.{Access, Reads, Writes, are_right, homes_after_all}
@@ -120,9 +120,9 @@ module _ (w : Width) (m lanes words : ℕ) where
   step_alike : (f g : WordAction) (accesses : List Access) (h : Homes) (s t : Local) → IsPair lanes words f g accesses →
       are_right lanes accesses h ≡ true → Alike words h s t → Alike words (homes_after_all lanes accesses h) (word_effect w m lanes f s) (word_effect w m lanes g t)
   step_alike f g accesses h s t pair right alike =
-      let reduced = ap₂ (λ reductions registers. reduce_registers (base_of w) lanes reductions registers) (same_before f g accesses pair) alike.registers in
+      let reduced = ap₂ (λ reductions registers. reduce_registers (sums_of w) lanes reductions registers) (same_before f g accesses pair) alike.registers in
       subst (λ registers. Alike words (homes_after_all lanes accesses h) (word_effect w m lanes f s) (bare_effect w m lanes g (local t.memory registers))) reduced
-      (pair_alike f g accesses h s.memory t.memory (reduce_registers (base_of w) lanes f.before s.registers) pair right alike.stands)
+      (pair_alike f g accesses h s.memory t.memory (reduce_registers (sums_of w) lanes f.before s.registers) pair right alike.stands)
 
   -- whole lists leave words and registers alike
   lists_alike : (fs gs : List WordAction) (accesses : List Access) (h : Homes) (s t : Local) → ArePairs lanes words fs gs accesses →

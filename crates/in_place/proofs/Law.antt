@@ -26,10 +26,10 @@ use Rattle.in_place.proofs.Standing.{stands_first, stands_read}
 -- Routes are none, or those that are chosen
 
 -- the only phase of the only processor may go its routes
-record Goes (p : PlainProgram) (phases : List PlainBody) : Type 0 where
+pub record Goes (p : PlainProgram) (phases : List PlainBody) : Type 0 where
   body : PlainBody
   only : phases ≡ body ∷ []
-  alone : p.procs ≡ 1
+  pub alone : p.procs ≡ 1
   may : may_go p body (chosen body) ≡ true
   routes : routes_of p phases ≡ chosen body
 
@@ -41,7 +41,7 @@ goes_by p body true e =
     let second = both_true (are_loops body && are_full body) _ first.1 in
     inr (record { body = body; only = refl; alone = eqb-true p.procs 1 first.0; may = second.1; routes = ap (λ (b : Bool). if b then chosen body else []) e })
 
-stays_or_goes : (p : PlainProgram) (phases : List PlainBody) → (routes_of p phases ≡ []) ⊎ Goes p phases
+pub stays_or_goes : (p : PlainProgram) (phases : List PlainBody) → (routes_of p phases ≡ []) ⊎ Goes p phases
 stays_or_goes p [] = inl refl
 stays_or_goes p (body ∷ []) = goes_by p body _ refl
 stays_or_goes p (body ∷ second ∷ rest) = inl refl
@@ -52,7 +52,7 @@ same_bodies : (bodies : List WordBody) → map (rerouted_phase []) bodies ≡ bo
 same_bodies [] = refl
 same_bodies (body ∷ bodies) = ap (λ rest. body ∷ rest) (same_bodies bodies)
 
-no_routes : (z : Laziness) (p : PlainProgram) → rerouted [] (quickened z p) ≡ quickened z p
+pub no_routes : (z : Laziness) (p : PlainProgram) → rerouted [] (quickened z p) ≡ quickened z p
 no_routes z p =
     let with_phases : List WordBody → PlainWordProgram = λ phases. record (quickened z p) { phases = phases } in
     ap with_phases (same_bodies (quick_phases z (header_of p) p.procs p.phases))

@@ -39,24 +39,24 @@ texts_same f g same (x ∷ xs) = ap₂ (λ (l m : List ℕ). l ++ m) (same x) (t
 -- with store buffers a good program leaves what it leaves without
 pub good_memory : (request : TransformRequest) (code : Code) → IsGoodCode request code → (x : List ℕ) (events : List Event) → buffered_results code x events ≡ results code x []
 good_memory request code good x events =
-    let own : Code = code_of good.1 in
-    let is : IsCode own = code_is (plain_program good.1) in
-    let same : buffered_results own x events ≡ results own x [] = ap (λ (m : List ℕ). words_at own.size m (padded own)) (memory_of_buffered own is good.3.apart x events ∙ sym (memory_of_runs own is good.3.apart x [])) in
-    subst (λ (k : Code). buffered_results k x events ≡ results k x []) (sym good.4) same
+    let own : Code = code_of good.0 in
+    let is : IsCode own = code_is (plain_program good.0) in
+    let same : buffered_results own x events ≡ results own x [] = ap (λ (m : List ℕ). words_at own.size m (padded own)) (memory_of_buffered own is good.1.2.good.apart x events ∙ sym (memory_of_runs own is good.1.2.good.apart x [])) in
+    subst (λ (k : Code). buffered_results k x events ≡ results k x []) (sym good.2) same
 
 pub performs_buffered_run : (order : Order) (request : TransformRequest) (code : Code) (events : List Event) (old new : Fed) (before after out out' : Option (List ℕ)) (first last : Buffered) (result : Result (Unit {0}) StreamFault)
     → IsGoodCode request code → IsRequestInRange request → old.taken ≤ limit
     → Streams (buffered_text false code events) (λ x. buffered_runs code x events) code.size code.modulus old new before after out out' first last result
     → ToldMeets (request_outcomes (command.Run order) request (limit - old.taken)) before after out out' (status_of_stream result)
 performs_buffered_run order request code events old new before after out out' first last result good in_range within s =
-    let size : code.size ≡ size_of request = ap (λ (k : Code). k.size) good.4 ∙ good.3.header.size in
-    let modulus : code.modulus ≡ modulus_of request = ap (λ (k : Code). k.modulus) good.4 ∙ good.3.header.modulus in
+    let size : code.size ≡ size_of request = ap (λ (k : Code). k.size) good.2 ∙ good.1.2.good.header.size in
+    let modulus : code.modulus ≡ modulus_of request = ap (λ (k : Code). k.modulus) good.2 ∙ good.1.2.good.header.modulus in
     let leaves : List ℕ → Buffered = λ x. buffered_runs code x events in
     let sized = stream_of_request request code (buffered_text false code events) leaves old new before after out out' first last result size modulus s in
     let writes : IsTextFor (command.Run order) request [] (buffered_text false code events) =
     λ ts. texts_same (buffered_text false code events) (λ x. line_of (results code x [])) (λ x. ap line_of (good_memory request code good x events)) (vectors_of (size_of request) (modulus_of request) ts)
     ∙ good_lines request code [] (vectors_of (size_of request) (modulus_of request) ts) good (limits request in_range).modulus (λ i d lt. absurd (omega arith)) (ts, refl) in
-    performs_stream (command.Run order) request [] (buffered_text false code events) leaves old new before after out out out' first last result (good.0, good.2) writes (Appends-nil out) within sized
+    performs_stream (command.Run order) request [] (buffered_text false code events) leaves old new before after out out out' first last result (good.1.0, good.1.1) writes (Appends-nil out) within sized
 
 -- the text of a traced run
 traced_events : (events : Events) (procs : ℕ) (code : Code) → traced_text (order_of events) procs code ≡ buffered_text true code (events_of events procs)

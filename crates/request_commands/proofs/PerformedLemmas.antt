@@ -11,7 +11,6 @@ use Rattle.transform_requests.specs.Fields.{modulus_of, procs_of, size_of}
 use Rattle.icode.specs.Machine.{Code, State, results, runs}
 use Rattle.io_edge.specs.Feed.{Fed, limit}
 use Rattle.io_edge.specs.Taken.{AppendsPrefix}
-use Rattle.data_stream.specs.Reading.{residues}
 use Rattle.plan_faults.specs.declared.generating.GenerateFault.{GenerateFault}
 use Rattle.plan_faults.specs.declared.generating.GenerateFault.TheVariants as generate
 use Rattle.transform_code.specs.Planned.{IsAdmitted, IsBarred}
@@ -137,10 +136,10 @@ performs_cut wanted request room bytes left out out' text p l w = record {
 pub good_lines : (request : TransformRequest) (code : Code) (turns : List ℕ) (vectors : List (List ℕ)) → IsGoodCode request code → 0 < modulus_of request → All (λ q. q < procs_of request) turns
     → (ts : List (List ℕ)) × (vectors_of (size_of request) (modulus_of request) ts ≡ vectors) → lines (λ x. results code x turns) vectors ≡ lines (product request) vectors
 good_lines request code turns vectors good some there made =
-    let apart = good.3.product in
+    let apart = good.1.2.good.product in
     let f : List ℕ → List ℕ = λ x. results code x turns in
     let same : (x : List ℕ) → length x ≡ size_of request → All (λ v. v < modulus_of request) x → f x ≡ product request x =
-    λ x full below. ap (λ k. results k x turns) good.4 ∙ apart x turns (record { size = full; residues = below }) there in
+    λ x full below. ap (λ k. results k x turns) good.2 ∙ apart x turns (record { size = full; residues = below }) there in
     subst (λ (v : List (List ℕ)). lines f v ≡ lines (product request) v) made.1
     (lines_equal (size_of request) (modulus_of request) f (product request) same some (length made.0 / size_of request) made.0 (div-mul-le_self (length made.0) (size_of request)))
 
@@ -184,18 +183,18 @@ pub performs_run : (order : Order) (request : TransformRequest) (code : Code) (t
     → Streams (run_text false code turns) (λ x. runs code x turns) code.size code.modulus old new before after out out' first last result
     → ToldMeets (request_outcomes (command.Run order) request (limit - old.taken)) before after out out' (status_of_stream result)
 performs_run order request code turns old new before after out out' first last result good in_range there within s =
-    let size : code.size ≡ size_of request = ap (λ (k : Code). k.size) good.4 ∙ good.3.header.size in
-    let modulus : code.modulus ≡ modulus_of request = ap (λ (k : Code). k.modulus) good.4 ∙ good.3.header.modulus in
+    let size : code.size ≡ size_of request = ap (λ (k : Code). k.size) good.2 ∙ good.1.2.good.header.size in
+    let modulus : code.modulus ≡ modulus_of request = ap (λ (k : Code). k.modulus) good.2 ∙ good.1.2.good.header.modulus in
     let sized = stream_of_request request code (run_text false code turns) (λ x. runs code x turns) old new before after out out' first last result size modulus s in
     let writes : IsTextFor (command.Run order) request [] (run_text false code turns) =
     λ ts. good_lines request code turns (vectors_of (size_of request) (modulus_of request) ts) good (limits request in_range).modulus there (ts, refl) in
-    performs_stream (command.Run order) request [] (run_text false code turns) (λ x. runs code x turns) old new before after out out out' first last result (good.0, good.2) writes (Appends-nil out) within sized
+    performs_stream (command.Run order) request [] (run_text false code turns) (λ x. runs code x turns) old new before after out out out' first last result (good.1.0, good.1.1) writes (Appends-nil out) within sized
 
 traced_affordable : (request : TransformRequest) (listing : List ℕ) (code : Code) → IsTraced request listing code → IsAffordable request
 traced_affordable request listing code made = (made.1.0, made.1.1)
 
 traced_procs : (request : TransformRequest) (listing : List ℕ) (code : Code) → IsTraced request listing code → code.procs ≡ procs_of request
-traced_procs request listing code made = ap (λ (k : Code). k.procs) made.3 ∙ made.1.2.0.header.procs
+traced_procs request listing code made = ap (λ (k : Code). k.procs) made.3 ∙ made.1.2.good.header.procs
 
 pub traced_stranger : (names : List ℕ) (request : TransformRequest) (listing : List ℕ) (code : Code) → IsTraced request listing code → first_stranger names (procs_of request) ≡ None → first_stranger names code.procs ≡ None
 traced_stranger names request listing code made none = subst (λ p. first_stranger names p ≡ None) (sym (traced_procs request listing code made)) none
@@ -213,8 +212,8 @@ pub performs_trace : {S : Type 0} (order : Order) (request : TransformRequest) (
     → Streams (traced_text order code.procs code) leaves code.size code.modulus old new before after out out' first last result
     → ToldMeets (request_outcomes (command.Trace order) request (limit - old.taken)) before after start out' (status_of_stream result)
 performs_trace order request listing code leaves old new before after start out out' first last result made begun within s =
-    let size : code.size ≡ size_of request = ap (λ (k : Code). k.size) made.3 ∙ made.1.2.0.header.size in
-    let modulus : code.modulus ≡ modulus_of request = ap (λ (k : Code). k.modulus) made.3 ∙ made.1.2.0.header.modulus in
+    let size : code.size ≡ size_of request = ap (λ (k : Code). k.size) made.3 ∙ made.1.2.good.header.size in
+    let modulus : code.modulus ≡ modulus_of request = ap (λ (k : Code). k.modulus) made.3 ∙ made.1.2.good.header.modulus in
     let text = traced_text order code.procs code in
     let sized = stream_of_request request code text leaves old new before after out out' first last result size modulus s in
     performs_stream (command.Trace order) request listing text leaves old new before after start out out' first last result (traced_affordable request listing code made) (traced_writes order request listing code made) begun within sized

@@ -14,7 +14,7 @@ use Rattle.stream_run.specs.Stream.{HasNoStranger}
 
 -- a good program has the request's processors
 pub good_procs : (request : TransformRequest) (code : Code) → IsGoodCode request code → code.procs ≡ procs_of request
-good_procs request code good = ap (λ (k : Code). k.procs) good.4 ∙ good.3.header.procs
+good_procs request code good = ap (λ (k : Code). k.procs) good.2 ∙ good.1.2.good.header.procs
 
 -- the turns of a schedule are of these processors
 pub good_turns : (plan : Plan) (request : TransformRequest) (code : Code) → IsGoodCode request code → IsRequestInRange request → HasNoStranger plan (procs_of request) → All (λ q. q < procs_of request) (turns_of plan code.procs)

@@ -55,34 +55,34 @@ sample_below modulus size seed some = All-map (λ v. v < modulus) (λ i. state_a
 -- and they are residues of a good program's machine
 pub sample_residues : (request : TransformRequest) (code : Code) (m n seed : ℕ) (xs : List ℕ) → IsGoodCode request code → IsRequestInRange request → m ≡ code.modulus → xs ≡ sample_vector m n seed → All (λ v. v < code.modulus) xs
 sample_residues request code m n seed xs good in_range same is =
-    let of_request : code.modulus ≡ modulus_of request = ap (λ (k : Code). k.modulus) good.4 ∙ good.3.header.modulus in
+    let of_request : code.modulus ≡ modulus_of request = ap (λ (k : Code). k.modulus) good.2 ∙ good.1.2.good.header.modulus in
     let some : 0 < code.modulus = omega (arith, of_request, (limits request in_range).modulus) in
     rw (is, same) (sample_below code.modulus n seed some)
 
 -- a finished run of a good program is counted in 64 bits
 pub good_counts : (request : TransformRequest) (code : Code) (state : State) (vector turns : List ℕ) → IsGoodCode request code → IsRequestInRange request → state ≡ runs code vector turns → AreCountable code state
 good_counts request code state vector turns good in_range ran =
-    let p = plain_program good.1 in
-    let header = good.3.header in
+    let p = plain_program good.0 in
+    let header = good.1.2.good.header in
     let few : p.lanes ≤ 16 = omega (arith, header.lanes, (limits request in_range).lanes) in
-    let is : IsCode code = subst IsCode (sym good.4) (code_is p) in
-    let apart : (phase : ℕ) → IsApart code phase = λ phase. subst (λ (k : Code). IsApart k phase) (sym good.4) (good.3.apart phase) in
-    let whole : (q : ℕ) → counts_so_far code state q ≡ whole_counts (code_of good.1) q = λ q.
-    ap (λ s. counts_so_far code s q) ran ∙ counts_of_runs code is vector turns q ∙ ap (λ (k : Code). whole_counts k q) good.4 in
-    let same : (pick : Counts → ℕ) → sum_below code.procs (λ q. pick (counts_so_far code state q)) ≡ sum_below p.procs (λ q. pick (whole_counts (code_of good.1) q)) = λ pick.
-    ap (λ (k : Code). sum_below k.procs (λ q. pick (counts_so_far code state q))) good.4 ∙ sum_below-same p.procs _ _ (λ q _. ap pick (whole q)) in
+    let is : IsCode code = subst IsCode (sym good.2) (code_is p) in
+    let apart : (phase : ℕ) → IsApart code phase = λ phase. subst (λ (k : Code). IsApart k phase) (sym good.2) (good.1.2.good.apart phase) in
+    let whole : (q : ℕ) → counts_so_far code state q ≡ whole_counts (code_of good.0) q = λ q.
+    ap (λ s. counts_so_far code s q) ran ∙ counts_of_runs code is vector turns q ∙ ap (λ (k : Code). whole_counts k q) good.2 in
+    let same : (pick : Counts → ℕ) → sum_below code.procs (λ q. pick (counts_so_far code state q)) ≡ sum_below p.procs (λ q. pick (whole_counts (code_of good.0) q)) = λ pick.
+    ap (λ (k : Code). sum_below k.procs (λ q. pick (counts_so_far code state q))) good.2 ∙ sum_below-same p.procs _ _ (λ q _. ap pick (whole q)) in
     let small : (actions : List Action) → AreSmall (length actions * p.lanes) (counts_of p.lanes actions) = counts_small p.lanes in
     record {
-      operations = omega (arith, same (λ c. c.operations), within_word p good.3.fits few (λ c. c.operations) (λ actions. (small actions).operations));
-      muls = omega (arith, same (λ c. c.muls), within_word p good.3.fits few (λ c. c.muls) (λ actions. (small actions).muls));
-      loads = omega (arith, same (λ c. c.loads), within_word p good.3.fits few (λ c. c.loads) (λ actions. (small actions).loads));
-      stores = omega (arith, same (λ c. c.stores), within_word p good.3.fits few (λ c. c.stores) (λ actions. (small actions).stores));
+      operations = omega (arith, same (λ c. c.operations), within_word p good.1.2.good.fits few (λ c. c.operations) (λ actions. (small actions).operations));
+      muls = omega (arith, same (λ c. c.muls), within_word p good.1.2.good.fits few (λ c. c.muls) (λ actions. (small actions).muls));
+      loads = omega (arith, same (λ c. c.loads), within_word p good.1.2.good.fits few (λ c. c.loads) (λ actions. (small actions).loads));
+      stores = omega (arith, same (λ c. c.stores), within_word p good.1.2.good.fits few (λ c. c.stores) (λ actions. (small actions).stores));
     }
 
 -- the vector of a seed is one of the request
 pub sample_is : (request : TransformRequest) (code : Code) (m n seed : ℕ) → IsGoodCode request code → m ≡ code.modulus → n ≡ code.size → sample_vector m n seed ≡ sample_vector (modulus_of request) (size_of request) seed
 sample_is request code m n seed good modulus size =
-    ap₂ (λ k l. sample_vector k l seed) (modulus ∙ ap (λ (k : Code). k.modulus) good.4 ∙ good.3.header.modulus) (size ∙ ap (λ (k : Code). k.size) good.4 ∙ good.3.header.size)
+    ap₂ (λ k l. sample_vector k l seed) (modulus ∙ ap (λ (k : Code). k.modulus) good.2 ∙ good.1.2.good.header.modulus) (size ∙ ap (λ (k : Code). k.size) good.2 ∙ good.1.2.good.header.size)
 
 sample_fits : (request : TransformRequest) (seed : ℕ) → IsRequestInRange request → IsVector request (sample_vector (modulus_of request) (size_of request) seed)
 sample_fits request seed in_range = record {
@@ -104,25 +104,25 @@ sum-weighted weight (suc n) f =
 pub costs : (request : TransformRequest) (code after : Code) (vector turns : List ℕ) (state : State) (counts : Counts) → (good : IsGoodCode request code) → IsRequestInRange request → after ≡ code → state ≡ runs code vector turns
     → counts.operations ≡ sum_below after.procs (λ q. (counts_so_far after state q).operations)
     → counts.muls ≡ sum_below after.procs (λ q. (counts_so_far after state q).muls)
-    → weighted (weight_of request) counts ≡ cost_of request good.0
+    → weighted (weight_of request) counts ≡ cost_of request good.1.0
 costs request code after vector turns state counts good in_range same ran operations muls =
-    let program = good.1 in
-    let is : IsCode code = subst IsCode (sym good.4) (code_is (plain_program program)) in
-    let apart : (phase : ℕ) → IsApart code phase = λ phase. subst (λ (k : Code). IsApart k phase) (sym good.4) (good.3.apart phase) in
+    let program = good.0 in
+    let is : IsCode code = subst IsCode (sym good.2) (code_is (plain_program program)) in
+    let apart : (phase : ℕ) → IsApart code phase = λ phase. subst (λ (k : Code). IsApart k phase) (sym good.2) (good.1.2.good.apart phase) in
     let whole : (q : ℕ) → counts_so_far code state q ≡ whole_counts code q = λ q. ap (λ s. counts_so_far code s q) ran ∙ counts_of_runs code is vector turns q in
-    let some : 0 < (code_of program).procs = omega (arith, good.3.header.procs, (limits request in_range).procs) in
-    let share : (q : ℕ) → q < (code_of program).procs → (code_of program).procs * weighted (weight_of request) (whole_counts (code_of program) q) ≡ cost_of request good.0 =
-    λ q below. ap (λ n. n * weighted (weight_of request) (whole_counts (code_of program) q)) good.3.header.procs ∙ good.3.operations q (subst (λ n. q < n) good.3.header.procs below) in
+    let some : 0 < (code_of program).procs = omega (arith, good.1.2.good.header.procs, (limits request in_range).procs) in
+    let share : (q : ℕ) → q < (code_of program).procs → (code_of program).procs * weighted (weight_of request) (whole_counts (code_of program) q) ≡ cost_of request good.1.0 =
+    λ q below. ap (λ n. n * weighted (weight_of request) (whole_counts (code_of program) q)) good.1.2.good.header.procs ∙ good.1.2.good.operations q (subst (λ n. q < n) good.1.2.good.header.procs below) in
     ap₂ (λ o m. o + (weight_of request - 1) * m) operations muls
     ∙ sym (sum-weighted (weight_of request) after.procs (λ q. counts_so_far after state q))
     ∙ ap (λ (k : Code). sum_below k.procs (λ q. weighted (weight_of request) (counts_so_far k state q))) same
     ∙ sum_below-same code.procs _ _ (λ q _. ap (weighted (weight_of request)) (whole q))
-    ∙ ap (λ (k : Code). sum_below k.procs (λ q. weighted (weight_of request) (whole_counts k q))) good.4
-    ∙ whole-of (code_of program).procs (cost_of request good.0) (λ q. weighted (weight_of request) (whole_counts (code_of program) q)) some share
+    ∙ ap (λ (k : Code). sum_below k.procs (λ q. weighted (weight_of request) (whole_counts k q))) good.2
+    ∙ whole-of (code_of program).procs (cost_of request good.1.0) (λ q. weighted (weight_of request) (whole_counts (code_of program) q)) some share
 
 -- which is counted in 64 bits
-pub cost_fits : (request : TransformRequest) (code : Code) (n : ℕ) → (good : IsGoodCode request code) → IsRequestInRange request → n ≡ cost_of request good.0 → n < 2 ^ 64
-cost_fits request code n good in_range is = let within = within_budget request good.0 good.2 in let high = (limits request in_range).budget in omega arith
+pub cost_fits : (request : TransformRequest) (code : Code) (n : ℕ) → (good : IsGoodCode request code) → IsRequestInRange request → n ≡ cost_of request good.1.0 → n < 2 ^ 64
+cost_fits request code n good in_range is = let within = within_budget request good.1.0 good.1.1 in let high = (limits request in_range).budget in omega arith
 
 -- what the parts of a sample come to
 pub sampled : (request : TransformRequest) (code after : Code) (plan : Plan) (m n seed : ℕ) (vector y : List ℕ) (state : State) (sum : ℕ) (counts : Counts) (text : List ℕ)
@@ -137,26 +137,26 @@ pub sampled : (request : TransformRequest) (code after : Code) (plan : Plan) (m 
     → IsSampleText request seed text
 sampled request code after plan m n seed vector y state sum counts text good in_range none same modulus size v run ran s operations muls loads stores t =
     let turns = turns_of plan code.procs in
-    let program = good.1 in
-    let is : IsCode code = subst IsCode (sym good.4) (code_is (plain_program program)) in
-    let apart : (phase : ℕ) → IsApart code phase = λ phase. subst (λ (k : Code). IsApart k phase) (sym good.4) (good.3.apart phase) in
+    let program = good.0 in
+    let is : IsCode code = subst IsCode (sym good.2) (code_is (plain_program program)) in
+    let apart : (phase : ℕ) → IsApart code phase = λ phase. subst (λ (k : Code). IsApart k phase) (sym good.2) (good.1.2.good.apart phase) in
     let here : vector ≡ sample_vector (modulus_of request) (size_of request) seed = v ∙ sample_is request code m n seed good modulus size in
     let fits : IsVector request vector = subst (IsVector request) (sym here) (sample_fits request seed in_range) in
-    let times : y ≡ product request vector = run ∙ ap (λ k. results k vector turns) good.4 ∙ good.3.product vector turns fits (good_turns plan request code good in_range none) in
-    let of_request : m ≡ modulus_of request = modulus ∙ ap (λ (k : Code). k.modulus) good.4 ∙ good.3.header.modulus in
+    let times : y ≡ product request vector = run ∙ ap (λ k. results k vector turns) good.2 ∙ good.1.2.good.product vector turns fits (good_turns plan request code good in_range none) in
+    let of_request : m ≡ modulus_of request = modulus ∙ ap (λ (k : Code). k.modulus) good.2 ∙ good.1.2.good.header.modulus in
     let whole : (q : ℕ) → counts_so_far code state q ≡ whole_counts code q = λ q. ap (λ s. counts_so_far code s q) ran ∙ counts_of_runs code is vector turns q in
     let sum_is = s ∙ ap₂ weighted_sum of_request (times ∙ ap (product request) here) in
-    let operations_is : weighted (weight_of request) counts ≡ cost_of request good.0 = costs request code after vector turns state counts good in_range same ran operations muls in
-    let loads_is : counts.loads ≡ loads_of request good.0 =
+    let operations_is : weighted (weight_of request) counts ≡ cost_of request good.1.0 = costs request code after vector turns state counts good in_range same ran operations muls in
+    let loads_is : counts.loads ≡ loads_of request good.1.0 =
     loads ∙ ap (λ (k : Code). sum_below k.procs (λ q. (counts_so_far k state q).loads)) same
-    ∙ sum_below-same code.procs _ _ (λ q _. ap (λ (c : Counts). c.loads) (whole q)) ∙ ap (λ (k : Code). sum_below k.procs (λ q. (whole_counts k q).loads)) good.4
-    ∙ ap (λ n. sum_below n (λ q. (whole_counts (code_of program) q).loads)) good.3.header.procs ∙ lean_loads request good.0 program good.5 in
-    let stores_is : counts.stores ≡ stores_of request good.0 =
+    ∙ sum_below-same code.procs _ _ (λ q _. ap (λ (c : Counts). c.loads) (whole q)) ∙ ap (λ (k : Code). sum_below k.procs (λ q. (whole_counts k q).loads)) good.2
+    ∙ ap (λ n. sum_below n (λ q. (whole_counts (code_of program) q).loads)) good.1.2.good.header.procs ∙ lean_loads request good.1.0 program good.1.2.lean in
+    let stores_is : counts.stores ≡ stores_of request good.1.0 =
     stores ∙ ap (λ (k : Code). sum_below k.procs (λ q. (counts_so_far k state q).stores)) same
-    ∙ sum_below-same code.procs _ _ (λ q _. ap (λ (c : Counts). c.stores) (whole q)) ∙ ap (λ (k : Code). sum_below k.procs (λ q. (whole_counts k q).stores)) good.4
-    ∙ ap (λ n. sum_below n (λ q. (whole_counts (code_of program) q).stores)) good.3.header.procs ∙ lean_stores request good.0 program good.5 in
+    ∙ sum_below-same code.procs _ _ (λ q _. ap (λ (c : Counts). c.stores) (whole q)) ∙ ap (λ (k : Code). sum_below k.procs (λ q. (whole_counts k q).stores)) good.2
+    ∙ ap (λ n. sum_below n (λ q. (whole_counts (code_of program) q).stores)) good.1.2.good.header.procs ∙ lean_stores request good.1.0 program good.1.2.lean in
     let text_is =
     t ∙ ap (λ k. sample_text k (weighted (weight_of request) counts) counts.loads counts.stores) sum_is
     ∙ ap (λ k. sample_text (weighted_sum (modulus_of request) (product request (sample_vector (modulus_of request) (size_of request) seed))) k counts.loads counts.stores) operations_is
-    ∙ ap₂ (sample_text (weighted_sum (modulus_of request) (product request (sample_vector (modulus_of request) (size_of request) seed))) (cost_of request good.0)) loads_is stores_is in
-    (good.0, good.2, text_is)
+    ∙ ap₂ (sample_text (weighted_sum (modulus_of request) (product request (sample_vector (modulus_of request) (size_of request) seed))) (cost_of request good.1.0)) loads_is stores_is in
+    (good.1.0, good.1.1, text_is)

@@ -1,23 +1,18 @@
 -- What is right for a command for a request.
-use Rattle.std.specs.Prelude.{◌≡◌, ◌⊎◌, ℕ, List, [], Ok}
+use Rattle.std.specs.Prelude.{◌≡◌, ◌⊎◌, ℕ, List, []}
 use Rattle.transform_requests.specs.declared.TransformRequest.{TransformRequest}
-use Rattle.transform_requests.specs.Trees.{cost_of}
 use Rattle.icode.specs.declared.program.Program.{Program}
 use Rattle.icode.specs.Machine.{Code}
 use Rattle.icode.specs.Program.{plain_program, code_of}
 use Rattle.listing_text.specs.Listing.{listing_of}
-use Rattle.transform_code.specs.Good.{IsGood}
-use Rattle.transform_code.specs.Lean.{IsLean}
-use Rattle.transform_code.specs.Planned.{IsPlanned}
-use Rattle.tree_model.specs.Breakdown.{Breakdown}
 use Rattle.spiral_words.specs.declared.Command.{Command}
 use Rattle.spiral_status.specs.declared.status.Status.{Status}
 use Rattle.spiral_input.specs.Outcomes.{Outcomes}
 use Rattle.request_commands.specs.Settled.{IsAccepted, IsDeclined, IsProgramFor, Settles, BreaksOff, ComesTo}
 
--- the code of a program that is good for the request
+-- the code of the program of the chosen trees
 abbrev pub IsGoodCode : TransformRequest → Code → Type 0
-IsGoodCode request code = (trees : List Breakdown) × (program : Program) × IsPlanned request (Ok trees) × IsGood request (cost_of request trees) program × (code ≡ code_of program) × IsLean request trees program
+IsGoodCode request code = (program : Program) × IsProgramFor request program × (code ≡ code_of program)
 
 -- what a traced run stands on: the listing of a program for the request, and its code
 abbrev pub IsTraced : TransformRequest → List ℕ → Code → Type 0

@@ -8,6 +8,7 @@ use Rattle.icode.specs.declared.program.Program.{Program}
 use Rattle.plan_faults.specs.declared.generating.GenerateFault.{GenerateFault}
 use Rattle.transform_code.specs.Good.{IsGood}
 use Rattle.transform_code.specs.Lean.{IsLean, loads_of, stores_of}
+use Rattle.transform_code.specs.Letters.{HasLetters}
 use Rattle.transform_code.specs.Planned.{IsPlanned, IsAdmitted, IsBarred}
 use Rattle.icode.specs.Program.{plain_program, code_of}
 use Rattle.tree_model.specs.Breakdown.{Breakdown}
@@ -60,19 +61,21 @@ IsDeclined _ request status = IsRefused request status
 abbrev pub product : TransformRequest → List ℕ → List ℕ
 product r x = asked_of r x
 
--- a good program for the request, which executes, loads and stores exactly what the trees do
-abbrev pub IsProgramOf : TransformRequest → List Breakdown → Program → Type 0
-IsProgramOf request trees program = IsGood request (cost_of request trees) program × IsLean request trees program
+-- the program of the trees, statement by statement: good for the request, and it executes, loads and stores exactly what the trees do
+pub record IsProgramOf (request : TransformRequest) (trees : List Breakdown) (program : Program) : Type 0 where
+  pub letters : HasLetters request trees (plain_program program)
+  pub good : IsGood request (cost_of request trees) program
+  pub lean : IsLean request trees program
 
--- such a program for the chosen trees
+-- the program of the chosen trees
 abbrev pub IsProgramFor : TransformRequest → Program → Type 0
 IsProgramFor request program = (trees : List Breakdown) × IsPlanned request (Ok trees) × IsProgramOf request trees program
 
--- the text is the listing of such a program
+-- the text is the listing of that program
 abbrev pub IsListing : TransformRequest → List ℕ → Type 0
 IsListing request text = (program : Program) × IsProgramFor request program × (text ≡ listing_of (plain_program program))
 
--- the text is the C text of such a program
+-- the text is the C text of that program
 abbrev pub IsCText : TransformRequest → List ℕ → Type 0
 IsCText request text = (program : Program) × IsProgramFor request program × (text ≡ c_text_of (plain_program program))
 
@@ -99,7 +102,7 @@ IsTextOf command.C request text = IsCText request text
 IsTextOf (command.Sample seed schedule) request text = IsSampleText request seed text
 IsTextOf _ request text = ⊥
 
--- the listing of a good program, and for each vector the lines of its run in the order and the line of its results
+-- the listing of the program of the chosen trees, and for each vector the lines of its run in the order and the line of its results
 abbrev pub IsTrace : Order → TransformRequest → List (List ℕ) → List ℕ → Type 0
 IsTrace order request vectors text = (program : Program) × IsProgramFor request program
     × (text ≡ listing_of (plain_program program) ++ texts (traced_text order (procs_of request) (code_of program)) vectors)

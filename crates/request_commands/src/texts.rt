@@ -1,10 +1,12 @@
 // The texts of commands that need no data.
 ghost use Rattle.std.specs.Prelude.{◌≡◌, true, vec_len, Ok, IfOk, IfErr, OnOk, ◌<◌};
+ghost use Rattle.icode.specs.Program.{plain_program};
 ghost use Rattle.transform_requests.specs.Fields.{procs_of};
 ghost use Rattle.transform_requests.specs.Range.{IsRequestInRange};
 ghost use Rattle.transform_requests.specs.Trees.{cost_of};
 ghost use Rattle.transform_code.specs.Good.{IsGood};
 ghost use Rattle.transform_code.specs.Lean.{IsLean};
+ghost use Rattle.transform_code.specs.Letters.{HasLetters};
 ghost use Rattle.transform_code.specs.Planned.{IsPlanned};
 ghost use Rattle.transform_code.specs.Views.{trees_of};
 ghost use Rattle.spiral_input.specs.Commands.{has_text, NamesNoStranger};
@@ -35,6 +37,8 @@ pub(crate) fn good_product(
         IsGood request.now (cost_of request.now (trees_of product.plan)) product.program) }
     ensures lean { IfOk result (λ product.
         IsLean request.now (trees_of product.plan) product.program) }
+    ensures letters { IfOk result (λ product.
+        HasLetters request.now (trees_of product.plan) (plain_program product.program)) }
     ensures program { IfOk result (λ product. IsProgramFor request.now product.program) }
     ensures affordable { OnOk result (IsAffordable request.now) }
     ensures refused { IfErr result (λ status. IsDefined status → IsRefused request.now status) }

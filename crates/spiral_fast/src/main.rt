@@ -25,7 +25,7 @@ fn main(rt: HostRuntime) -> ExitCode {
             let _ = write_all(&mut note, b"spiral_fast: out of memory\n");
             return ExitCode::from(Status::NoMemory.code());
         }
-        // Words that are no text are more than the program's name, and so are no words.
+        // Words that are no text are no right call, and so are no words.
         Err(_) => Vec::new(rt.alloc()),
     };
     let status = fast_run(rt.alloc(), &words, &mut input, &mut output, &mut note);

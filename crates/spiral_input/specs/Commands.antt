@@ -59,15 +59,6 @@ has_text C = true
 has_text (Sample seed schedule) = true
 has_text _ = false
 
--- the commands that print no program. Of programs any good one will do
-abbrev pub prints_one_text : Command → Bool
-prints_one_text Code = false
-prints_one_text C = false
-prints_one_text (Trace order) = false
-prints_one_text (Compile modulus) = false
-prints_one_text (Convolve schedule true) = false
-prints_one_text _ = true
-
 -- the command that the words ask for, if it goes by a request
 abbrev pub commanded : List (List ℕ) → Stage Command
 commanded words (Ok command) = IsAsked words command × (takes_request command ≡ true)

@@ -3,3 +3,4 @@ pub mod OneOutcome
 pub mod OnePlan
 pub mod OneText
 pub mod RightCalls
+pub mod SomeOutcome

@@ -5,10 +5,12 @@ use Rattle.dimension_plans.specs.declared.SeveralRequest.{SeveralRequest}
 use Rattle.dimension_plans.specs.Several.{several_cost, IsLeastFor}
 use Rattle.dimensions.specs.declared.Dimension.{Dimension}
 use Rattle.dimensions.specs.Transform.{listed}
+use Rattle.icode.specs.Plain.{PlainProgram}
 use Rattle.matrix_meaning.specs.declared.Request.{Request}
 use Rattle.plan_faults.specs.declared.generating.GenerateFault.{GenerateFault}
 use Rattle.plan_faults.specs.declared.generating.GenerateFault.TheVariants as generate
 use Rattle.ring_mod.specs.Residue.{power_mod}
+use Rattle.transform_code.specs.Letters.{HasLetters, HasOneLetters}
 use Rattle.transform_code.specs.Planned.{IsAdmitted, IsBarred, IsFirstPower, IsPlanned}
 use Rattle.transform_requests.specs.declared.TransformRequest.{TransformRequest}
 use Rattle.transform_requests.specs.declared.TransformRequest.TheVariants.{One, Several}
@@ -163,3 +165,13 @@ bar_clash (Several r) fault p q = several_bar_clash r fault p q
 pub bar_once : (r : TransformRequest) (f g : GenerateFault) → IsBarred r f → IsBarred r g → f ≡ g
 bar_once (One r) f g p q = one_bar_once r f g p q
 bar_once (Several r) f g p q = several_bar_once r f g p q
+
+-- ---- the letters of a program
+
+one_letters_once : (r : Request) (ts : List Breakdown) (p q : PlainProgram) → HasOneLetters r ts p → HasOneLetters r ts q → p ≡ q
+one_letters_once r [] p q mine other = absurd mine
+one_letters_once r (t ∷ ts) p q mine other = mine ∙ sym other
+
+pub letters_once : (r : TransformRequest) (ts : List Breakdown) (p q : PlainProgram) → HasLetters r ts p → HasLetters r ts q → p ≡ q
+letters_once (One r) ts p q mine other = one_letters_once r ts p q mine other
+letters_once (Several r) ts p q mine other = mine ∙ sym other

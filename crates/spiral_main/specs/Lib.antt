@@ -1,2 +1,4 @@
 pub mod Outcome
 pub mod Right
+pub mod Always
+pub mod Programs

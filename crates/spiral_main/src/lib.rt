@@ -3,12 +3,19 @@
 
 ghost use Rattle.std.specs.Prelude.{◌≡◌, ◌≢◌, ◌⊎◌, ℕ, true, List};
 ghost use Rattle.std.specs.declared.option.Option.{Option};
+ghost use Rattle.icode.specs.Machine.{Code};
+ghost use Rattle.icode.specs.Program.{plain_program};
+ghost use Rattle.icode.specs.declared.program.Program.{Program as SpecProgram};
+ghost use Rattle.request_commands.specs.Performed.{IsGoodCode};
+ghost use Rattle.request_commands.specs.Settled.{IsListing, IsProgramFor};
+ghost use Rattle.transform_requests.specs.declared.TransformRequest.{TransformRequest as SpecRequest};
 ghost use Rattle.spiral_words.specs.Asked.{IsAsked};
 ghost use Rattle.spiral_words.specs.declared.Command.{Command as SpecCommand};
 ghost use Rattle.spiral_status.specs.declared.status.Status.{Status as SpecStatus};
 ghost use Rattle.spiral_status.specs.declared.status.Status.TheVariants.{ReadFault, WriteFault, NoMemory};
-ghost use Rattle.spiral_input.specs.Commands.{prints_one_text};
+ghost use Rattle.spiral_main.specs.Always.{is_by_equation};
 ghost use Rattle.spiral_main.specs.Outcome.{Accounts, IsOutcome};
+ghost use Rattle.spiral_main.specs.Programs.{IsCodeListed};
 ghost use Rattle.spiral_main.specs.Right.{IsRightCall, Succeeds};
 
 mod run;
@@ -24,11 +31,19 @@ pub fn calls_have_one_status()
         IsOutcome words bytes a s → IsOutcome words bytes b t → a ≡ b }
 {}
 
-/// The words and the bytes of a call determine its text, but for the commands that print a program.
+/// The words and the bytes of a call determine its text.
 pub fn calls_have_one_text()
-    ensures { (words : List (List ℕ)) (bytes : List ℕ) (wanted : SpecCommand)
-        (a b : SpecStatus) (s t : List ℕ) → IsAsked words wanted → prints_one_text wanted ≡ true
-        → IsOutcome words bytes a s → IsOutcome words bytes b t → s ≡ t }
+    ensures { (words : List (List ℕ)) (bytes : List ℕ) (a b : SpecStatus) (s t : List ℕ) →
+        IsOutcome words bytes a s → IsOutcome words bytes b t → s ≡ t }
+{}
+
+/// The trees of a request determine its program: what `code`, `c` and `trace` print, and what `run`, `trace` and `sample`
+/// run, is one program.
+pub fn requests_have_one_program()
+    ensures program { (request : SpecRequest) (p q : SpecProgram) →
+        IsProgramFor request p → IsProgramFor request q → plain_program p ≡ plain_program q }
+    ensures code { (request : SpecRequest) (code : Code) (listing : List ℕ) →
+        IsGoodCode request code → IsListing request listing → IsCodeListed code listing }
 {}
 
 /// A call that is right in all that is asked of it succeeds with the text that its words and bytes call for, unless a
@@ -39,4 +54,12 @@ pub fn right_calls_succeed()
         → Accounts words bytes left before after status
         → status ≢ ReadFault → status ≢ WriteFault
         → (status ≡ NoMemory) ⊎ Succeeds words bytes before after status }
+{}
+
+/// A call of `plan`, `formula`, `run`, `sample`, `apply` or `convolve` without `--code`, and one whose words are no
+/// command line, has an outcome.
+pub fn calls_have_an_outcome()
+    ensures { (words : List (List ℕ)) (bytes : List ℕ)
+        → ((wanted : SpecCommand) → IsAsked words wanted → is_by_equation wanted ≡ true)
+        → (status : SpecStatus) × (text : List ℕ) × IsOutcome words bytes status text }
 {}

@@ -1,7 +1,7 @@
 //! What the words of a command line ask for.
 #![tactic(auto)]
 
-ghost use Rattle.std.specs.Prelude.{◌≡◌, List, None, false};
+ghost use Rattle.std.specs.Prelude.{◌≡◌, ◌⊎◌, List, None, false};
 ghost use Rattle.clap.specs.Words.{Text, fault_of};
 ghost use Rattle.clap.specs.Walk.{is_empty};
 ghost use Rattle.spiral_words.specs.declared.command.Command.{Command};
@@ -30,4 +30,9 @@ pub fn usage_asks_nothing()
 /// Words ask for one command.
 pub fn words_ask_for_one_command()
     ensures { (words : List Text) (a b : Command) → IsAsked words a → IsAsked words b → a ≡ b }
+{}
+
+/// Words ask for a command, or are no command line.
+pub fn words_are_decided()
+    ensures { (words : List Text) → ((command : Command) × IsAsked words command) ⊎ IsUsage words }
 {}

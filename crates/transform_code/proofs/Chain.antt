@@ -6,9 +6,11 @@ use Rattle.dimension_plans.specs.declared.SeveralRequest.{SeveralRequest}
 use Rattle.icode.specs.Plain.{PlainProgram}
 use Rattle.pass_actions.specs.Machine.{PlainMachine}
 use Rattle.pass_programs.specs.Contract.{CanProgram, Performs}
+use Rattle.pass_programs.specs.Program.{program_of}
 use Rattle.passes.specs.Merged.{PlainMerged}
 use Rattle.program_emit.specs.Conditions.{machine_for}
 use Rattle.tree_model.specs.Breakdown.{Breakdown}
+use Rattle.transform_code.specs.Letters.{several_program}
 
 abbrev machine : ℕ → ℕ → ℕ → ℕ → ℕ → PlainMachine
 machine modulus line size procs lanes = record { size = size; modulus = modulus; procs = procs; line = line; lanes = lanes }
@@ -39,3 +41,12 @@ module _ (can : SeveralCanProgram) (r : SeveralRequest) (ts : List Breakdown) (t
       subst (λ h. Performs h g' p) (sym host-is)
       (subst (λ n. Performs (machine_for n r.line g') g' p) residues
       (subst (λ z. Performs (machine_for m r.line z) z p) same performs))
+
+  -- statement by statement it is theirs
+  pub several-letters : (g : PlainMerged) (m : ℕ) (p : PlainProgram) → g ≡ several_merged r ts → m ≡ r.modulus → p ≡ program_of (machine_for m r.line g) g → p ≡ several_program r ts
+  several-letters g m p same residues written =
+      let g' = several_merged r ts in
+      written
+      ∙ ap (λ z. program_of (machine_for m r.line z) z) same
+      ∙ ap (λ n. program_of (machine_for n r.line g') g') residues
+      ∙ ap (λ h. program_of h g') (sym host-is)

@@ -2,3 +2,4 @@ pub mod Costs
 pub mod Parts
 pub mod Goodness
 pub mod Chain
+pub mod Existence

@@ -7,14 +7,19 @@ mod plan;
 mod program;
 mod roots;
 
-ghost use Rattle.std.specs.Prelude.{◌≡◌, ◌≢◌, Ok, Err, IfOk, IfErr, OnOk};
+ghost use Rattle.std.specs.Prelude.{◌≡◌, ◌≢◌, List, Ok, Err, Result, IfOk, IfErr, OnOk};
+ghost use Rattle.icode.specs.Program.{plain_program};
+ghost use Rattle.plan_faults.specs.declared.generating.GenerateFault.{GenerateFault as SpecFault};
 ghost use Rattle.plan_faults.specs.declared.generating.GenerateFault.TheVariants as fault;
 ghost use Rattle.transform_code.specs.Good.{IsGood};
 ghost use Rattle.transform_code.specs.Lean.{IsLean};
+ghost use Rattle.transform_code.specs.Letters.{HasLetters};
 ghost use Rattle.transform_code.specs.Planned.{IsAdmitted, IsBarred, IsPlanned, IsRequestValid};
 ghost use Rattle.transform_code.specs.Views.{trees_of};
 ghost use Rattle.transform_requests.specs.Range.{IsRequestInRange};
 ghost use Rattle.transform_requests.specs.Trees.{cost_of};
+ghost use Rattle.transform_requests.specs.declared.TransformRequest.{TransformRequest as SpecRequest};
+ghost use Rattle.tree_model.specs.Breakdown.{Breakdown};
 
 use admit::admit_dimensions;
 use generate::admit;
@@ -85,6 +90,8 @@ pub fn generate_request(
         IsGood request.now (cost_of request.now (trees_of product.plan)) product.program) }
     ensures lean { IfOk result (λ product.
         IsLean request.now (trees_of product.plan) product.program) }
+    ensures letters { IfOk result (λ product.
+        HasLetters request.now (trees_of product.plan) (plain_program product.program)) }
     ensures refused { IfErr result (λ cause.
         cause ≢ fault.NoMemory → IsPlanned request.now (Err cause)) }
 {
@@ -93,3 +100,9 @@ pub fn generate_request(
         TransformRequest::Several(request) => generate_dimensions(alloc, request),
     }
 }
+
+/// A request in range has trees, or a first cause to be refused.
+pub fn plans_exist()
+    ensures { (r : SpecRequest) → IsRequestInRange r
+        → (answer : Result (List Breakdown) SpecFault) × IsPlanned r answer }
+{}

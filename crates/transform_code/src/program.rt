@@ -12,6 +12,7 @@ ghost use Rattle.transform_requests.specs.declared.TransformRequest.TheVariants.
 ghost use Rattle.tree_model.specs.Breakdown.{breakdown_of};
 ghost use Rattle.transform_code.specs.Good.{IsGood};
 ghost use Rattle.transform_code.specs.Lean.{AreLean, IsOneLean};
+ghost use Rattle.transform_code.specs.Letters.{HasOneLetters, several_program};
 ghost use Rattle.transform_code.specs.Planned.{ArePlanned, IsOnePlanned};
 ghost use Rattle.transform_code.specs.Views.{trees_of};
 
@@ -41,6 +42,8 @@ pub fn generate_one(alloc: Global, request: &Request) -> Result<TransformProduct
         product.program) }
     ensures lean { IfOk result (λ product.
         IsOneLean request.now (trees_of product.plan) product.program) }
+    ensures letters { IfOk result (λ product.
+        HasOneLetters request.now (trees_of product.plan) (plain_program product.program)) }
     ensures refused { IfErr result (λ cause.
         cause ≢ fault.NoMemory → IsOnePlanned request.now (Err cause)) }
 {
@@ -64,6 +67,8 @@ pub fn generate_dimensions(
         product.program) }
     ensures lean { IfOk result (λ product.
         AreLean request.now (trees_of product.plan) product.program) }
+    ensures letters { IfOk result (λ product.
+        plain_program product.program ≡ several_program request.now (trees_of product.plan)) }
     ensures refused { IfErr result (λ cause.
         cause ≢ fault.NoMemory → ArePlanned request.now (Err cause)) }
 {
@@ -79,7 +84,9 @@ fn program_of_trees(
     trees: &[Tree],
 ) -> Result<Program, NoMemory>
     requires { AreTreesFor request.now (map breakdown_of trees.now) }
-    ensures { IfOk result (λ p.
+    ensures letters { IfOk result (λ p.
+        plain_program p ≡ several_program request.now (map breakdown_of trees.now)) }
+    ensures performs { IfOk result (λ p.
         Performs (machine_of request.now)
         (several_merged request.now (map breakdown_of trees.now)) (plain_program p)) }
 {

@@ -4,3 +4,4 @@ pub mod Line
 pub mod InRange
 pub mod Once
 pub mod Answered
+pub mod Existence

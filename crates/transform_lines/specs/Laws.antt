@@ -12,3 +12,7 @@ SpeltOnce = (text : List ℕ) (r s : TransformRequest) → transform_line text r
 -- any two answers for a text agree
 abbrev pub OneAnswer : Type 0
 OneAnswer = (text : List ℕ) (a b : Result TransformRequest RequestFault) → TransformAnswers text a → TransformAnswers text b → a ≡ b
+
+-- each text has an answer
+abbrev pub SomeAnswer : Type 0
+SomeAnswer = (text : List ℕ) → (answer : Result TransformRequest RequestFault) × TransformAnswers text answer

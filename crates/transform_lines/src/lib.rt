@@ -2,7 +2,7 @@
 #![tactic(auto)]
 
 ghost use Rattle.transform_lines.specs.Answer.{IsAnswerTo, TransformAnswers};
-ghost use Rattle.transform_lines.specs.Laws.{OneAnswer, SpeltOnce};
+ghost use Rattle.transform_lines.specs.Laws.{OneAnswer, SomeAnswer, SpeltOnce};
 ghost use Rattle.transform_lines.specs.Line.{transform_line};
 ghost use Rattle.transform_requests.specs.declared.TransformRequest.{TransformRequest};
 
@@ -25,8 +25,9 @@ pub fn read_transform(text: &[u8]) -> Result<TransformRequest, RequestFault>
     }
 }
 
-/// A line spells one request at most, and has one answer.
+/// A line spells one request at most, and has an answer and no other.
 pub fn lines_have_one_answer()
     ensures spelt { SpeltOnce }
     ensures answer { OneAnswer }
+    ensures some { SomeAnswer }
 {}

@@ -53,7 +53,7 @@ beginning code x =
     }
 
 -- one processor shares no line
-apart_alone : (code : Code) → ((phase q : ℕ) → 1 ≤ q → acts code phase q ≡ []) → (phase : ℕ) → IsApart code phase
+pub apart_alone : (code : Code) → ((phase q : ℕ) → 1 ≤ q → acts code phase q ≡ []) → (phase : ℕ) → IsApart code phase
 apart_alone code none phase =
     record {
       alone = λ q other line differ written touched.

@@ -137,7 +137,9 @@ product_word w m a c q pos positive room small is =
     let over : a * c < (h + product_bound w) * m = product_over (base_of w) m a c h (product_bound w) whole positive small near.1 in
     let e : a * c ≡ h * m + (a * c - h * m) = omega arith in
     let below : a * c - h * m < product_bound w * m = omega (arith, under, over) in
-    let value : lazy_product w m a c q ≡ a * c - h * m = ap (lazy_product w m a c) is ∙ wraps_back (base_of w) (a * c) (h * m) (a * c - h * m) e (omega (arith, below, room)) in (
+    let whole_a : lazy_product w m a c (quotient_of (base_of w) m c) ≡ wrapped_difference (base_of w) (a * c % base_of w) (h * m % base_of w) =
+    ap (λ n. wrapped_difference (base_of w) (a * c % base_of w) (high_of w n (quotient_of (base_of w) m c) * m % base_of w)) (mod-eq_of_lt small) in
+    let value : lazy_product w m a c q ≡ a * c - h * m = ap (lazy_product w m a c) is ∙ whole_a ∙ wraps_back (base_of w) (a * c) (h * m) (a * c - h * m) e (omega (arith, below, room)) in (
       mul-mod_first a c m ∙ ap (λ n. n % m) e ∙ mul-add-mod_self_right h m (a * c - h * m) ∙ sym (ap (λ n. n % m) value),
       subst (λ n. n < product_bound w * m) (sym value) below,
     )

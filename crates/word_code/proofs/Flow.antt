@@ -2,7 +2,7 @@
 use Rattle.std.proofs.Common.{◌≡◌, ℕ, ◌+◌, ◌*◌, ◌<◌, ◌≤◌, List, [], ◌∷◌, ◌++◌, Bool, true, false, ◌||◌, All, length, map, flat_map, refl, sym, ap, ap₂, ◌∙◌, subst, arith, mul-le-mul_left}
 use Rattle.std.specs.Prelude.{slice_index, slice_index_or, if◌then◌else◌}
 use Rattle.std.specs.List.{range_with_len}
-use Rattle.std.proofs.lemmas.List.{length-replicate}
+use Rattle.std.proofs.lemmas.List.{length-replicate, map-append}
 use Rattle.icode.specs.Actions.{Step, StepFits, PlainFits, steps_of_stmt, steps_of_body, actions_of, plain_code}
 use Rattle.icode.specs.Machine.{Local, effects, results, whole_lines, words_at}
 use Rattle.icode.specs.Plain.{PlainOp, PlainStmt, PlainBody, PlainProgram, Load, Store, Zero, Add, Sub, Neg, MulConst, MulTable, Tile}
@@ -20,7 +20,7 @@ use Rattle.word_code.proofs.Quick.{IsMemoryBelow, residue_local, AreQuick}
 use Rattle.word_code.proofs.Simulation.{residues-of_residues, size_within}
 use Rattle.word_code.proofs.Puts.{IsSound}
 use Rattle.word_code.proofs.Operations.{scale}
-use Rattle.word_code.proofs.Programs.{evenly, Each, each_of_all, each_front, each_back, below_of_all, loosest_is, map-append, stmt_under, stmt_leads}
+use Rattle.word_code.proofs.Programs.{evenly, Each, each_of_all, each_front, each_back, below_of_all, loosest_is, stmt_under, stmt_leads}
 use Rattle.word_code.proofs.OneProcessor.{word_effects, results_alone}
 use Rattle.word_code.proofs.Alone.{goes_along, effects-append, word_effects-append, beginning, results_on_residues, beginning_is, begins_below, begins_low}
 
@@ -30,11 +30,12 @@ kept_or_limit : (b : Bool) (x y : ℕ) → 1 ≤ x → x ≤ y → (1 ≤ (if b 
 kept_or_limit true x y some le = (some, le)
 kept_or_limit false x y some le = (omega arith, omega arith)
 
-loosened_lazy : (z : Laziness) (m : ℕ) (n : Needs) → IsLazyWithin z m → IsLazyWithin (loosened z n) m
+pub loosened_lazy : (z : Laziness) (m : ℕ) (n : Needs) → IsLazyWithin z m → IsLazyWithin (loosened z n) m
 loosened_lazy z m n lazy =
     record {
       half = lazy.half;
       room = lazy.room;
+      sums = lazy.sums;
       product = lazy.product;
       of_a = kept_or_limit n.of_a z.kept.of_a z.limit lazy.of_a.0 lazy.of_a.1;
       of_b = kept_or_limit n.of_b z.kept.of_b z.limit lazy.of_b.0 lazy.of_b.1;
@@ -95,7 +96,7 @@ module _ (z : Laziness) (p : PlainProgram) (lazy : IsLazyWithin z p.modulus) (po
   sound : (n : Needs) → IsSound (scale (loosened z n) p)
   sound n =
       let known = loosened_lazy z p.modulus n lazy in
-      record { half = known.half; modulus = pos; room = known.room; product = known.product; of_a = known.of_a; of_b = known.of_b }
+      record { half = known.half; modulus = pos; room = known.room; sums = known.sums; product = known.product; of_a = known.of_a; of_b = known.of_b }
 
   -- words that stand for the residues, and in X and Y are residues
   record Ends (residue here : Local) : Type 0 where

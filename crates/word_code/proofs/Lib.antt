@@ -16,3 +16,5 @@ pub mod Needing
 pub mod Loosening
 pub mod Alone
 pub mod Flow
+pub mod Bare
+pub mod Numbers

@@ -10,7 +10,7 @@ use Rattle.icode.specs.Actions.{step_of, StepFits, lane_factors, array_start}
 use Rattle.icode.specs.Expression.{sum_numbers}
 use Rattle.icode.specs.Machine.{whole_lines, with_words}
 use Rattle.icode.specs.Plain.{PlainOp, PlainProgram, Load, Store, Zero, Add, Sub, Neg, MulConst, MulTable, Tile}
-use Rattle.word_code.specs.Words.{base_of, quotient_of, product_bound}
+use Rattle.word_code.specs.Words.{base_of, sums_of, quotient_of, product_bound}
 use Rattle.word_code.specs.WordProgram.{word_action_of}
 use Rattle.word_code.specs.Quicken.{Laziness, bound_at, settled, array_bound, greatest_bound, noted, quickened}
 use Rattle.word_code.proofs.Arithmetic.{two_at_least}
@@ -91,7 +91,7 @@ quotients_of_zeros : (base m n : ℕ) → AreQuotients base m (replicate n 0) (r
 quotients_of_zeros base m zero = tt
 quotients_of_zeros base m (suc n) = (sym (quotient_of_zero base m), quotients_of_zeros base m n)
 
-quotients_of_lanes : (base m : ℕ) (f g : ℕ → ℕ) → ((l : ℕ) → g l ≡ quotient_of base m (f l)) → (n from k : ℕ) →
+pub quotients_of_lanes : (base m : ℕ) (f g : ℕ → ℕ) → ((l : ℕ) → g l ≡ quotient_of base m (f l)) → (n from k : ℕ) →
     AreQuotients base m (map f (range_with_len from n) ++ replicate k 0) (map g (range_with_len from n) ++ replicate k 0)
 quotients_of_lanes base m f g e zero from k = quotients_of_zeros base m k
 quotients_of_lanes base m f g e (suc n) from k = (e from, quotients_of_lanes base m f g e n (from + 1) k)
@@ -106,12 +106,12 @@ enough_factors lanes f =
     rows zero from = refl
     rows (suc n) from = ap suc (rows n (from + 1))
 
-quotient_entry : (base m : ℕ) (entries : List ℕ) (i : ℕ) → slice_index (map (quotient_of base m) entries) i ≡ quotient_of base m (slice_index entries i)
+pub quotient_entry : (base m : ℕ) (entries : List ℕ) (i : ℕ) → slice_index (map (quotient_of base m) entries) i ≡ quotient_of base m (slice_index entries i)
 quotient_entry base m [] i = sym (quotient_of_zero base m)
 quotient_entry base m (c ∷ entries) zero = refl
 quotient_entry base m (c ∷ entries) (suc i) = quotient_entry base m entries i
 
-quotient_table : (base m : ℕ) (tables : List (List ℕ)) (t : ℕ) → slice_index_or (map (λ entries. map (quotient_of base m) entries) tables) t [] ≡ map (quotient_of base m) (slice_index_or tables t [])
+pub quotient_table : (base m : ℕ) (tables : List (List ℕ)) (t : ℕ) → slice_index_or (map (λ entries. map (quotient_of base m) entries) tables) t [] ≡ map (quotient_of base m) (slice_index_or tables t [])
 quotient_table base m [] t = refl
 quotient_table base m (entries ∷ tables) zero = refl
 quotient_table base m (entries ∷ tables) (suc t) = quotient_table base m tables t
@@ -124,6 +124,9 @@ pub record IsDone (z : Laziness) (p : PlainProgram) (bounds : List ℕ) (op : Pl
 module _ (z : Laziness) (p : PlainProgram) (sound : IsSound (scale z p)) where
   abbrev s : Scale
   s = scale z p
+
+  roomy : z.limit * p.modulus < sums_of z.width
+  roomy = let a = sound.room in let b = sound.sums in omega (arith, a, b)
 
   two : 2 ≤ z.limit
   two = let a = two_at_least z.width in let b = sound.product in omega arith
@@ -167,9 +170,9 @@ module _ (z : Laziness) (p : PlainProgram) (sound : IsSound (scale z p)) where
   in_b arrays.B at d fits le k ge to = le
 
   settles : (x y target : ℕ) (bounds : List ℕ) → 2 ≤ target → x < length bounds → y < length bounds → ((r : ℕ) → bound_at z.limit bounds r ≤ z.limit) →
-      IsSettled (base_of z.width) p.modulus p.lanes z.limit x y target bounds (settled p.modulus z.limit (2 * z.limit) x y target bounds)
+      IsSettled (sums_of z.width) p.modulus p.lanes z.limit x y target bounds (settled p.modulus z.limit (2 * z.limit) x y target bounds)
   settles x y target bounds enough in_x in_y sane =
-      settled_is (base_of z.width) p.modulus p.lanes z.limit (2 * z.limit) x y target bounds sound.modulus sound.room enough in_x in_y sane
+      settled_is (sums_of z.width) p.modulus p.lanes z.limit (2 * z.limit) x y target bounds sound.modulus roomy enough in_x in_y sane
       (let a = sane x in let b = sane y in omega (arith, a, b))
 
   pub do_is_quick : (op : PlainOp) (bounds : List ℕ) (vs : List ℕ) (q : ℕ) → length bounds ≡ p.regs → ((r : ℕ) → bound_at z.limit bounds r ≤ z.limit) → StepFits p (step_of p op vs q) → IsDone z p bounds op vs q
@@ -179,7 +182,7 @@ module _ (z : Laziness) (p : PlainProgram) (sound : IsSound (scale z p)) where
       record {
         quick =
             quick_put s (bound_at z.limit bounds) (bound_at z.limit bounds) (bound_at z.limit (slice_set bounds r v)) [] _ 0 [] 1 v
-            (no_reductions (base_of z.width) p.modulus p.lanes (bound_at z.limit bounds)) (λ t. refl)
+            (no_reductions (sums_of z.width) p.modulus p.lanes (bound_at z.limit bounds)) (λ t. refl)
             (load_put s (bound_at z.limit bounds) r (array_start (whole_lines p.size p.line) array + (sum_numbers expr vs q).value) v (place array (sum_numbers expr vs q).value fits.place))
             (set_sane z.limit bounds r v le sane) (λ k from to. set_bound_here z.limit bounds r v k le from to) (λ k apart. kept_bound z.limit bounds r v k apart);
         long = length-set bounds r v ∙ long;
@@ -205,7 +208,7 @@ module _ (z : Laziness) (p : PlainProgram) (sound : IsSound (scale z p)) where
       record {
         quick =
             quick_put s (bound_at z.limit bounds) (bound_at z.limit bounds) (bound_at z.limit (slice_set bounds r 1)) [] _ 0 [] 1 1
-            (no_reductions (base_of z.width) p.modulus p.lanes (bound_at z.limit bounds)) (λ t. refl)
+            (no_reductions (sums_of z.width) p.modulus p.lanes (bound_at z.limit bounds)) (λ t. refl)
             (zero_put s (bound_at z.limit bounds) r sound)
             (set_sane z.limit bounds r 1 some sane) (λ k from to. set_bound_here z.limit bounds r 1 k some from to) (λ k apart. kept_bound z.limit bounds r 1 k apart);
         long = length-set bounds r 1 ∙ long;
@@ -258,7 +261,7 @@ module _ (z : Laziness) (p : PlainProgram) (sound : IsSound (scale z p)) where
       record {
         quick =
             quick_put s (bound_at z.limit bounds) (bound_at z.limit bounds) (bound_at z.limit (slice_set bounds r v)) [] _ 0 _ 1 v
-            (no_reductions (base_of z.width) p.modulus p.lanes (bound_at z.limit bounds)) (λ t. refl)
+            (no_reductions (sums_of z.width) p.modulus p.lanes (bound_at z.limit bounds)) (λ t. refl)
             (mul_put s (bound_at z.limit bounds) r x 0 (lane_factors p.lanes (λ lane. factor)) (lane_factors p.lanes (λ lane. quotient_of (base_of z.width) p.modulus factor)) sound (sane x) (enough_factors p.lanes (λ lane. factor))
             (quotients_of_lanes (base_of z.width) p.modulus (λ lane. factor) (λ lane. quotient_of (base_of z.width) p.modulus factor) (λ l. refl) p.lanes 0 (16 - p.lanes)))
             (set_sane z.limit bounds r v sound.product sane) (λ k from to. set_bound_here z.limit bounds r v k sound.product from to) (λ k apart. kept_bound z.limit bounds r v k apart);
@@ -274,7 +277,7 @@ module _ (z : Laziness) (p : PlainProgram) (sound : IsSound (scale z p)) where
       record {
         quick =
             quick_put s (bound_at z.limit bounds) (bound_at z.limit bounds) (bound_at z.limit (slice_set bounds r v)) [] _ 0 _ 1 v
-            (no_reductions (base_of z.width) p.modulus p.lanes (bound_at z.limit bounds)) (λ t. refl)
+            (no_reductions (sums_of z.width) p.modulus p.lanes (bound_at z.limit bounds)) (λ t. refl)
             (mul_put s (bound_at z.limit bounds) r x 0 (lane_factors p.lanes entry) (lane_factors p.lanes quotient) sound (sane x) (enough_factors p.lanes entry)
             (quotients_of_lanes (base_of z.width) p.modulus entry quotient are p.lanes 0 (16 - p.lanes)))
             (set_sane z.limit bounds r v sound.product sane) (λ k from to. set_bound_here z.limit bounds r v k sound.product from to) (λ k apart. kept_bound z.limit bounds r v k apart);
@@ -286,7 +289,7 @@ module _ (z : Laziness) (p : PlainProgram) (sound : IsSound (scale z p)) where
       record {
         quick =
             quick_put s (bound_at z.limit bounds) (bound_at z.limit bounds) (bound_at z.limit (with_words bounds r (replicate p.lanes v))) [] _ 0 [] p.lanes v
-            (no_reductions (base_of z.width) p.modulus p.lanes (bound_at z.limit bounds)) (λ t. refl)
+            (no_reductions (sums_of z.width) p.modulus p.lanes (bound_at z.limit bounds)) (λ t. refl)
             (tile_put s (bound_at z.limit bounds) r x v (λ l lt. greatest_is z.limit bounds p.lanes x l lt))
             (tile_sane z.limit p.lanes bounds r v le sane) (λ k from to. tile_new z.limit p.lanes bounds r v k le from to) (λ k apart. tile_old z.limit p.lanes bounds r v k apart);
         long = tile_length p.lanes bounds r v ∙ long;

@@ -5,15 +5,16 @@ use Rattle.std.specs.List.{range_with_len}
 use Rattle.std.proofs.lemmas.Bool.{cases_lt}
 use Rattle.std.proofs.lemmas.List.{get_or_past}
 use Rattle.std.proofs.lemmas.List.FromFn.{get_or-map-range_with_len, length-map-range_with_len}
-use Rattle.icode.specs.declared.action.Action.{Action}
-use Rattle.icode.specs.Actions.{Step, StepFits, PlainFits, step_of, steps_of_stmt, steps_of_body, steps_of_phase, actions_of, plain_code}
-use Rattle.icode.specs.Machine.{Code, results}
+use Rattle.icode.specs.Actions.{Step, StepFits, PlainFits, steps_of_stmt, steps_of_body, steps_of_phase, actions_of, plain_code}
+use Rattle.icode.specs.Machine.{results}
 use Rattle.icode.specs.Plain.{PlainOp, PlainStmt, PlainBody, PlainProgram, Load, Store, Zero, Add, Sub, Neg, MulConst, MulTable, Tile}
 use Rattle.icode.specs.Plain as plain
 use Rattle.word_code.specs.WordMachine.{WordAction, WordCode, under, actions_under, word_results}
 use Rattle.word_code.specs.WordProgram.{WordBody, PlainWordProgram, word_actions_of_stmt, word_actions_of_body, word_code}
 use Rattle.word_code.specs.Quicken.{Laziness, bound_at, loosest, header_of, noted, quick_stmt, quick_body, quick_phase, quickened}
 use Rattle.word_code.specs.Laws.{IsLazyWithin}
+use Rattle.word_code.specs.Bare.{bare, with_bodies}
+use Rattle.word_code.proofs.Bare.{phases_stay, stmt_stays, stmt_acts, code_under_is}
 use Rattle.word_code.proofs.Residues.{AllBelow}
 use Rattle.word_code.proofs.Quick.{Scale, AreQuick, from_weaker, quick-append}
 use Rattle.word_code.proofs.Simulation.{IsQuickCode, scale_of, results_are}
@@ -56,66 +57,17 @@ loosest_is limit (suc regs) (suc r) = loosest_is limit regs r
 
 -- The actions under those on words
 
-pub step_is : (z : Laziness) (p : PlainProgram) (op : PlainOp) (vs : List ℕ) (q : ℕ) → (step_of (evenly z p).frame op vs q).action ≡ (step_of p op vs q).action
-step_is z p (Load r array place) vs q = refl
-step_is z p (Store array place r) vs q = refl
-step_is z p (Zero r) vs q = refl
-step_is z p (Add r x y) vs q = refl
-step_is z p (Sub r x y) vs q = refl
-step_is z p (Neg r x) vs q = refl
-step_is z p (MulConst r x factor) vs q = refl
-step_is z p (MulTable r x table place step) vs q = refl
-step_is z p (Tile r x) vs q = refl
+bare_evenly : (z : Laziness) (p : PlainProgram) → bare (evenly z p) ≡ p
+bare_evenly z p = ap (with_bodies p) (phases_stay z (header_of p) p.phases)
 
-pub map-append : {X Y : Type 0} (f : X → Y) (xs ys : List X) → map f (xs ++ ys) ≡ map f xs ++ map f ys
-map-append f [] ys = refl
-map-append f (x ∷ xs) ys = ap (λ zs. f x ∷ zs) (map-append f xs ys)
+pub stmt_under : (z : Laziness) (p : PlainProgram) (stmt : PlainStmt) (bounds vs : List ℕ) (q : ℕ) →
+    actions_under (word_actions_of_stmt (evenly z p) (quick_stmt z (header_of p) stmt bounds).stmt vs q) ≡ actions_of (steps_of_stmt p stmt vs q)
+stmt_under z p stmt bounds vs q =
+    stmt_acts (evenly z p) (quick_stmt z (header_of p) stmt bounds).stmt vs q
+    ∙ ap₂ (λ p stmt. actions_of (steps_of_stmt p stmt vs q)) (bare_evenly z p) (stmt_stays z (header_of p) stmt bounds)
 
-module _ (z : Laziness) (p : PlainProgram) where
-  abbrev under_words : WordBody → List ℕ → ℕ → List Action
-  under_words body vs q = actions_under (word_actions_of_body (evenly z p) body vs q)
-
-  turns_under : (f : ℕ → List WordAction) (g : ℕ → List Step) → ((i : ℕ) → actions_under (f i) ≡ actions_of (g i)) → (is : List ℕ) → actions_under (flat_map f is) ≡ actions_of (flat_map g is)
-  turns_under f g e [] = refl
-  turns_under f g e (i ∷ is) =
-      map-append (λ (a : WordAction). a.action) (f i) (flat_map f is)
-      ∙ ap₂ (λ xs ys. xs ++ ys) (e i) (turns_under f g e is)
-      ∙ sym (map-append (λ (s : Step). s.action) (g i) (flat_map g is))
-
-  mutual
-    pub stmt_under : (stmt : PlainStmt) (bounds vs : List ℕ) (q : ℕ) → actions_under (word_actions_of_stmt (evenly z p) (quick_stmt z (header_of p) stmt bounds).stmt vs q) ≡ actions_of (steps_of_stmt p stmt vs q)
-    stmt_under (plain.Loop count body) bounds vs q =
-        turns_under
-        (λ i. word_actions_of_body (evenly z p) (quick_body z (header_of p) body (loosest z (header_of p))).body (vs ++ i ∷ []) q)
-        (λ i. steps_of_body p body (vs ++ i ∷ []) q)
-        (λ i. body_under body (loosest z (header_of p)) (vs ++ i ∷ []) q)
-        (range_with_len 0 count)
-    stmt_under (plain.Do op) bounds vs q = ap (λ a. a ∷ []) (step_is z p op vs q)
-
-    body_under : (body : PlainBody) (bounds vs : List ℕ) (q : ℕ) → under_words (quick_body z (header_of p) body bounds).body vs q ≡ actions_of (steps_of_body p body vs q)
-    body_under plain.NoStmts bounds vs q = refl
-    body_under (plain.AndStmts stmt rest) bounds vs q =
-        let one = quick_stmt z (header_of p) stmt bounds in
-        map-append (λ (a : WordAction). a.action) (word_actions_of_stmt (evenly z p) one.stmt vs q) (word_actions_of_body (evenly z p) (quick_body z (header_of p) rest one.bounds).body vs q)
-        ∙ ap₂ (λ xs ys. xs ++ ys) (stmt_under stmt bounds vs q) (body_under rest one.bounds vs q)
-        ∙ sym (map-append (λ (s : Step). s.action) (steps_of_stmt p stmt vs q) (steps_of_body p rest vs q))
-
-  row_under : (body : PlainBody) (qs : List ℕ) →
-      map actions_under (map (λ q. word_actions_of_body (evenly z p) (quick_body z (header_of p) body (loosest z (header_of p))).body [] q) qs) ≡ map (λ q. actions_of (steps_of_body p body [] q)) qs
-  row_under body [] = refl
-  row_under body (q ∷ qs) = ap₂ (λ x xs. x ∷ xs) (body_under body (loosest z (header_of p)) [] q) (row_under body qs)
-
-  lists_under : (bodies : List PlainBody) (qs : List ℕ) →
-      map (λ (lists : List (List WordAction)). map actions_under lists)
-      (map (λ body. map (λ q. word_actions_of_body (evenly z p) body [] q) qs) (map (λ body. (quick_body z (header_of p) body (loosest z (header_of p))).body) bodies))
-      ≡ map (λ body. map (λ q. actions_of (steps_of_body p body [] q)) qs) bodies
-  lists_under [] qs = refl
-  lists_under (body ∷ bodies) qs = ap₂ (λ x xs. x ∷ xs) (row_under body qs) (lists_under bodies qs)
-
-  pub code_under : under (word_code (evenly z p)) ≡ plain_code p
-  code_under =
-      let made : List (List (List Action)) → Code = λ lists. record { size = p.size; modulus = p.modulus; procs = p.procs; line = p.line; lanes = p.lanes; regs = p.regs; lists = lists } in
-      ap made (lists_under p.phases (range_with_len 0 p.procs))
+code_under : (z : Laziness) (p : PlainProgram) → under (word_code (evenly z p)) ≡ plain_code p
+code_under z p = code_under_is (evenly z p) ∙ ap plain_code (bare_evenly z p)
 
 -- Statements go by their bounds
 
@@ -232,7 +184,7 @@ module _ (z : Laziness) (p : PlainProgram) (sound : IsSound (scale z p)) where
 pub evenly_is_same : (z : Laziness) (p : PlainProgram) → PlainFits p → IsLazyWithin z p.modulus → 0 < p.modulus → 1 ≤ p.line → (x turns : List ℕ) → All (λ v. v < p.modulus) x →
     word_results (word_code (evenly z p)) x turns ≡ results (plain_code p) x turns
 evenly_is_same z p fits lazy pos line x turns low =
-    let sound : IsSound (scale z p) = record { half = lazy.half; modulus = pos; room = lazy.room; product = lazy.product; of_a = lazy.of_a; of_b = lazy.of_b } in
+    let sound : IsSound (scale z p) = record { half = lazy.half; modulus = pos; room = lazy.room; sums = lazy.sums; product = lazy.product; of_a = lazy.of_a; of_b = lazy.of_b } in
     let some : 1 ≤ z.limit = let a = lazy.of_a.0 in let b = lazy.of_a.1 in omega (arith, a, b) in
     results_are (word_code (evenly z p)) z.kept z.limit (quick_code z p sound fits) x turns pos line lazy.of_a.0 lazy.of_b.0 some (below_of_all p.modulus x low)
     ∙ ap (λ c. results c x turns) (code_under z p)

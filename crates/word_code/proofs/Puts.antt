@@ -8,7 +8,7 @@ use Rattle.icode.specs.declared.action.Action.TheVariants.{Load, Store, Zero, Ad
 use Rattle.icode.specs.Machine.{Local, effect, value_put, memory_after, register_put, register_of, with_words, lane_by_lane}
 use Rattle.icode.proofs.Words.{length-words_at}
 use Rattle.code_laws.proofs.Placing.{length-lane_by_lane, length-mapped}
-use Rattle.word_code.specs.Words.{base_of, product_bound, wrapped_sum, wrapped_difference, biased_difference, lazy_product}
+use Rattle.word_code.specs.Words.{base_of, sums_of, product_bound, wrapped_sum, wrapped_difference, biased_difference, lazy_product}
 use Rattle.word_code.specs.declared.program.Reduction.{Reduction}
 use Rattle.word_code.specs.WordMachine.{word_put, bare_effect, reduce_registers, lane_by_three}
 use Rattle.word_code.proofs.Arithmetic.{sum_word, difference_word, negation_word}
@@ -22,6 +22,7 @@ pub record IsSound (s : Scale) : Type 0 where
   pub half : 0 < s.width.half
   pub modulus : 0 < s.modulus
   pub room : s.limit * s.modulus < base_of s.width
+  pub sums : base_of s.width ≤ sums_of s.width
   pub product : product_bound s.width ≤ s.limit
   pub of_a : (1 ≤ s.kept.of_a) × (s.kept.of_a ≤ s.limit)
   pub of_b : (1 ≤ s.kept.of_b) × (s.kept.of_b ≤ s.limit)
@@ -36,7 +37,7 @@ pub record IsPut (s : Scale) (b : Bounds) (action : Action) (bias : ℕ) (quotie
 
 -- an action that leaves the memory
 pub quick_put : (s : Scale) (b d c : Bounds) (rs : List Reduction) (action : Action) (bias : ℕ) (quotients : List ℕ) (n v : ℕ) →
-    AreReductions (base_of s.width) s.modulus s.lanes b rs d → ((t : Local) → memory_after s.lanes action t ≡ t.memory) → IsPut s d action bias quotients n v →
+    AreReductions (sums_of s.width) s.modulus s.lanes b rs d → ((t : Local) → memory_after s.lanes action t ≡ t.memory) → IsPut s d action bias quotients n v →
     ((r : ℕ) → c r ≤ s.limit) → ((q : ℕ) → register_put action ≤ q → q < register_put action + n → v ≤ c q) → ((q : ℕ) → (q < register_put action) ⊎ (register_put action + n ≤ q) → d q ≤ c q) →
     IsQuick s b (record { before = rs; action = action; bias = bias; quotients = quotients }) c
 quick_put s b d c rs action bias quotients n v reductions stays put sane new old =
@@ -50,12 +51,12 @@ quick_put s b d c rs action bias quotients n v reductions stays put sane new old
     }
   where
     settled : Local → Local
-    settled t = record { memory = t.memory; registers = reduce_registers (base_of s.width) s.lanes rs t.registers }
+    settled t = record { memory = t.memory; registers = reduce_registers (sums_of s.width) s.lanes rs t.registers }
 
     same : (t : Local) → AreRegistersBelow s.modulus s.lanes b t.registers →
         effect s.modulus s.lanes action (residue_local s.modulus t) ≡ residue_local s.modulus (bare_effect s.width s.modulus s.lanes (record { before = rs; action = action; bias = bias; quotients = quotients }) (settled t))
     same t low =
-        let words = reduce_registers (base_of s.width) s.lanes rs t.registers in
+        let words = reduce_registers (sums_of s.width) s.lanes rs t.registers in
         let made : List ℕ → List ℕ → Local = λ memory registers. record { memory = memory; registers = registers } in
         ap (λ registers. effect s.modulus s.lanes action (made (residues s.modulus t.memory) registers)) (sym (reductions.same t.registers low))
         ∙ ap₂ made
@@ -65,7 +66,7 @@ quick_put s b d c rs action bias quotients n v reductions stays put sane new old
 
 -- a store, whose words are small enough for each array that it writes into
 pub quick_store : (s : Scale) (b d : Bounds) (rs : List Reduction) (address r bias : ℕ) (quotients : List ℕ) →
-    AreReductions (base_of s.width) s.modulus s.lanes b rs d → ((q : ℕ) → d q ≤ s.limit) →
+    AreReductions (sums_of s.width) s.modulus s.lanes b rs d → ((q : ℕ) → d q ≤ s.limit) →
     ((k : ℕ) → k < 2 * s.padded → address ≤ k → k < address + s.lanes → d r ≤ 1) →
     ((k : ℕ) → 2 * s.padded ≤ k → k < 3 * s.padded → address ≤ k → k < address + s.lanes → d r ≤ s.kept.of_a) →
     ((k : ℕ) → 3 * s.padded ≤ k → address ≤ k → k < address + s.lanes → d r ≤ s.kept.of_b) →
@@ -92,7 +93,7 @@ quick_store s b d rs address r bias quotients reductions sane outer of_a of_b =
     }
   where
     reduced : Local → List ℕ
-    reduced t = reduce_registers (base_of s.width) s.lanes rs t.registers
+    reduced t = reduce_registers (sums_of s.width) s.lanes rs t.registers
 
     words : Local → List ℕ
     words t = register_of s.lanes (reduced t) r
@@ -150,19 +151,20 @@ add_put s d r x y sound small =
     record {
       same = λ t low. ap₂ (lane_by_lane (sum_mod s.modulus)) (residues-words_at s.modulus s.lanes t.registers (x * s.lanes)) (residues-words_at s.modulus s.lanes t.registers (y * s.lanes)) ∙ (lanes t low).0;
       low = λ t kept low. (lanes t low).1;
-      long = λ t. length-both s (wrapped_sum (base_of s.width)) t.registers x y;
+      long = λ t. length-both s (wrapped_sum (sums_of s.width)) t.registers x y;
     }
   where
     lanes : (t : Local) → AreRegistersBelow s.modulus s.lanes d t.registers →
-        (lane_by_lane (sum_mod s.modulus) (residues s.modulus (register_of s.lanes t.registers x)) (residues s.modulus (register_of s.lanes t.registers y)) ≡ residues s.modulus (lane_by_lane (wrapped_sum (base_of s.width)) (register_of s.lanes t.registers x) (register_of s.lanes t.registers y)))
-        × AllBelow ((d x + d y) * s.modulus) (lane_by_lane (wrapped_sum (base_of s.width)) (register_of s.lanes t.registers x) (register_of s.lanes t.registers y))
+        (lane_by_lane (sum_mod s.modulus) (residues s.modulus (register_of s.lanes t.registers x)) (residues s.modulus (register_of s.lanes t.registers y)) ≡ residues s.modulus (lane_by_lane (wrapped_sum (sums_of s.width)) (register_of s.lanes t.registers x) (register_of s.lanes t.registers y)))
+        × AllBelow ((d x + d y) * s.modulus) (lane_by_lane (wrapped_sum (sums_of s.width)) (register_of s.lanes t.registers x) (register_of s.lanes t.registers y))
     lanes t low =
         let up = mul-le-mul_left s.modulus small in
         let all = sound.room in
+        let more = sound.sums in
         let spread : (d x + d y) * s.modulus ≡ d x * s.modulus + d y * s.modulus = omega arith in
-        let room : d x * s.modulus + d y * s.modulus ≤ base_of s.width = omega (arith, up, all, spread) in
-        lazy_lanes s.modulus (d x * s.modulus) (d y * s.modulus) ((d x + d y) * s.modulus) (sum_mod s.modulus) (wrapped_sum (base_of s.width))
-        (λ a b la lb. let go = sum_word (base_of s.width) s.modulus (d x * s.modulus) (d y * s.modulus) a b room la lb in (go.0, subst (λ k. wrapped_sum (base_of s.width) a b < k) (sym spread) go.1))
+        let room : d x * s.modulus + d y * s.modulus ≤ sums_of s.width = omega (arith, up, all, more, spread) in
+        lazy_lanes s.modulus (d x * s.modulus) (d y * s.modulus) ((d x + d y) * s.modulus) (sum_mod s.modulus) (wrapped_sum (sums_of s.width))
+        (λ a b la lb. let go = sum_word (sums_of s.width) s.modulus (d x * s.modulus) (d y * s.modulus) a b room la lb in (go.0, subst (λ k. wrapped_sum (sums_of s.width) a b < k) (sym spread) go.1))
         (register_of s.lanes t.registers x) (register_of s.lanes t.registers y) (register_below s.modulus s.lanes d t.registers x low) (register_below s.modulus s.lanes d t.registers y low)
 
 pub sub_put : (s : Scale) (d : Bounds) (r x y : ℕ) → IsSound s → d x + d y ≤ s.limit → IsPut s d (Sub r x y) (d y * s.modulus) [] 1 (d x + d y)
@@ -170,19 +172,20 @@ sub_put s d r x y sound small =
     record {
       same = λ t low. ap₂ (lane_by_lane (difference_mod s.modulus)) (residues-words_at s.modulus s.lanes t.registers (x * s.lanes)) (residues-words_at s.modulus s.lanes t.registers (y * s.lanes)) ∙ (lanes t low).0;
       low = λ t kept low. (lanes t low).1;
-      long = λ t. length-both s (biased_difference (base_of s.width) (d y * s.modulus)) t.registers x y;
+      long = λ t. length-both s (biased_difference (sums_of s.width) (d y * s.modulus)) t.registers x y;
     }
   where
     lanes : (t : Local) → AreRegistersBelow s.modulus s.lanes d t.registers →
-        (lane_by_lane (difference_mod s.modulus) (residues s.modulus (register_of s.lanes t.registers x)) (residues s.modulus (register_of s.lanes t.registers y)) ≡ residues s.modulus (lane_by_lane (biased_difference (base_of s.width) (d y * s.modulus)) (register_of s.lanes t.registers x) (register_of s.lanes t.registers y)))
-        × AllBelow ((d x + d y) * s.modulus) (lane_by_lane (biased_difference (base_of s.width) (d y * s.modulus)) (register_of s.lanes t.registers x) (register_of s.lanes t.registers y))
+        (lane_by_lane (difference_mod s.modulus) (residues s.modulus (register_of s.lanes t.registers x)) (residues s.modulus (register_of s.lanes t.registers y)) ≡ residues s.modulus (lane_by_lane (biased_difference (sums_of s.width) (d y * s.modulus)) (register_of s.lanes t.registers x) (register_of s.lanes t.registers y)))
+        × AllBelow ((d x + d y) * s.modulus) (lane_by_lane (biased_difference (sums_of s.width) (d y * s.modulus)) (register_of s.lanes t.registers x) (register_of s.lanes t.registers y))
     lanes t low =
         let up = mul-le-mul_left s.modulus small in
         let all = sound.room in
+        let more = sound.sums in
         let spread : (d x + d y) * s.modulus ≡ d x * s.modulus + d y * s.modulus = omega arith in
-        let room : d x * s.modulus + d y * s.modulus ≤ base_of s.width = omega (arith, up, all, spread) in
-        lazy_lanes s.modulus (d x * s.modulus) (d y * s.modulus) ((d x + d y) * s.modulus) (difference_mod s.modulus) (biased_difference (base_of s.width) (d y * s.modulus))
-        (λ a b la lb. let go = difference_word (base_of s.width) s.modulus (d x * s.modulus) (d y) a b sound.modulus room la lb in (go.0, subst (λ k. biased_difference (base_of s.width) (d y * s.modulus) a b < k) (sym spread) go.1))
+        let room : d x * s.modulus + d y * s.modulus ≤ sums_of s.width = omega (arith, up, all, more, spread) in
+        lazy_lanes s.modulus (d x * s.modulus) (d y * s.modulus) ((d x + d y) * s.modulus) (difference_mod s.modulus) (biased_difference (sums_of s.width) (d y * s.modulus))
+        (λ a b la lb. let go = difference_word (sums_of s.width) s.modulus (d x * s.modulus) (d y) a b sound.modulus room la lb in (go.0, subst (λ k. biased_difference (sums_of s.width) (d y * s.modulus) a b < k) (sym spread) go.1))
         (register_of s.lanes t.registers x) (register_of s.lanes t.registers y) (register_below s.modulus s.lanes d t.registers x low) (register_below s.modulus s.lanes d t.registers y low)
 
 pub neg_put : (s : Scale) (d : Bounds) (r x : ℕ) → IsSound s → d x + 1 ≤ s.limit → IsPut s d (Neg r x) (d x * s.modulus) [] 1 (d x + 1)
@@ -190,18 +193,19 @@ neg_put s d r x sound small =
     record {
       same = λ t low. ap (map (negation_mod s.modulus)) (residues-words_at s.modulus s.lanes t.registers (x * s.lanes)) ∙ (lanes t low).0;
       low = λ t kept low. (lanes t low).1;
-      long = λ t. length-mapped (wrapped_difference (base_of s.width) (d x * s.modulus)) (register_of s.lanes t.registers x) ∙ length-words_at s.lanes t.registers (x * s.lanes) ∙ one_lane s.lanes;
+      long = λ t. length-mapped (wrapped_difference (sums_of s.width) (d x * s.modulus)) (register_of s.lanes t.registers x) ∙ length-words_at s.lanes t.registers (x * s.lanes) ∙ one_lane s.lanes;
     }
   where
     lanes : (t : Local) → AreRegistersBelow s.modulus s.lanes d t.registers →
-        (map (negation_mod s.modulus) (residues s.modulus (register_of s.lanes t.registers x)) ≡ residues s.modulus (map (wrapped_difference (base_of s.width) (d x * s.modulus)) (register_of s.lanes t.registers x)))
-        × AllBelow ((d x + 1) * s.modulus) (map (wrapped_difference (base_of s.width) (d x * s.modulus)) (register_of s.lanes t.registers x))
+        (map (negation_mod s.modulus) (residues s.modulus (register_of s.lanes t.registers x)) ≡ residues s.modulus (map (wrapped_difference (sums_of s.width) (d x * s.modulus)) (register_of s.lanes t.registers x)))
+        × AllBelow ((d x + 1) * s.modulus) (map (wrapped_difference (sums_of s.width) (d x * s.modulus)) (register_of s.lanes t.registers x))
     lanes t low =
         let up = mul-le-mul_left s.modulus small in
         let all = sound.room in
-        let room : (d x + 1) * s.modulus ≤ base_of s.width = omega (arith, up, all) in
-        lazy_map s.modulus (d x * s.modulus) ((d x + 1) * s.modulus) (negation_mod s.modulus) (wrapped_difference (base_of s.width) (d x * s.modulus))
-        (λ a la. negation_word (base_of s.width) s.modulus (d x) a sound.modulus room la)
+        let more = sound.sums in
+        let room : (d x + 1) * s.modulus ≤ sums_of s.width = omega (arith, up, all, more) in
+        lazy_map s.modulus (d x * s.modulus) ((d x + 1) * s.modulus) (negation_mod s.modulus) (wrapped_difference (sums_of s.width) (d x * s.modulus))
+        (λ a la. negation_word (sums_of s.width) s.modulus (d x) a sound.modulus room la)
         (register_of s.lanes t.registers x) (register_below s.modulus s.lanes d t.registers x low)
 
 pub mul_put : (s : Scale) (d : Bounds) (r x bias : ℕ) (factors quotients : List ℕ) → IsSound s → d x ≤ s.limit → s.lanes ≤ length factors → AreQuotients (base_of s.width) s.modulus factors quotients →

@@ -12,12 +12,14 @@ use Rattle.icode.proofs.Bools.{both_true, item_passes}
 use Rattle.icode.proofs.Lists.{code_is}
 use Rattle.icode.proofs.Runs.{memory_of_runs}
 use Rattle.word_code.specs.declared.program.WordProgram.{WordProgram}
+use Rattle.word_code.specs.Bare.{WordsFit}
 use Rattle.word_code.specs.Laws.{IsLazyWithin}
 use Rattle.word_code.specs.Quicken.{Laziness, quickened}
-use Rattle.word_code.specs.Same.{LeavesTheSame, OrderIsFreeOf}
+use Rattle.word_code.specs.Same.{LeavesTheSame, OrderIsFreeOf, FitsAs}
 use Rattle.word_code.specs.View.{plain_word_program}
 use Rattle.word_code.specs.WordMachine.{word_results}
 use Rattle.word_code.specs.WordProgram.{word_code}
+use Rattle.word_code.proofs.Numbers.{quickened_fits}
 use Rattle.word_code.proofs.Quickened.{quickened_is_same}
 
 entries_below : (m : ℕ) (entries : List ℕ) → list_all (λ c. nat_lt c m) entries ≡ true → All (λ c. c < m) entries
@@ -41,6 +43,10 @@ pub same_from : (z : Laziness) (words : WordProgram) (p : Program) → plain_wor
 same_from z words p made lazy fits x turns low =
     ap (λ w. word_results (word_code w) x turns) made
     ∙ quickened_is_same z (plain_program p) fits lazy (let a = p.header.of_modulus.0 in omega arith) p.header.of_line.0 x turns low
+
+pub fits_from : (z : Laziness) (words : WordProgram) (p : Program) → plain_word_program words ≡ quickened z (plain_program p) → IsLazyWithin z p.modulus → FitsAs words p
+fits_from z words p made lazy fits =
+    subst WordsFit (sym made) (quickened_fits z (plain_program p) fits lazy (let a = p.header.of_modulus.0 in omega arith))
 
 pub order_from : (words : WordProgram) (p : Program) → LeavesTheSame words p → OrderIsFreeOf words p
 order_from words p same fits apart x turns low =

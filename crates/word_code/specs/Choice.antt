@@ -1,7 +1,8 @@
--- How lazy the words of a program are: words of 32 bits where the modulus allows them, else of 64. A greater limit of
--- registers than 16 times the modulus is of no use, and A and B are kept below what products are below, where their words
--- are added up.
-use Rattle.std.specs.Prelude.{ℕ, ◌/◌, min, nat_lt, false, if◌then◌else◌}
+-- How lazy the words of a program are, by the size of words that is asked for. A greater limit of registers than 16 times
+-- the modulus is of no use, and A and B are kept below what products are below, where their words are added up.
+use Rattle.std.specs.Prelude.{ℕ, ◌/◌, min, nat_lt, Bool, true, false, if◌then◌else◌}
+use Rattle.word_code.specs.declared.choose.WordSize.{WordSize}
+use Rattle.word_code.specs.declared.choose.WordSize.TheVariants.{Any, Of32, Of52, Of64}
 use Rattle.icode.specs.Plain.{PlainProgram}
 use Rattle.word_code.specs.WordProgram.{PlainWordProgram}
 use Rattle.word_code.specs.Words.{Width, product_bound}
@@ -23,13 +24,28 @@ lazy_within width limit =
 abbrev pub narrow : ℕ → Laziness
 narrow modulus = lazy_within (record { half = 65536; rough = false }) (limit_within 4294967295 modulus)
 
+-- in words of 52 bits
+abbrev pub middle : ℕ → Laziness
+middle modulus = lazy_within (record { half = 67108864; rough = false }) (limit_within 4503599627370495 modulus)
+
 -- in words of 64 bits. With several lanes the high half of a product is made of three partial products
 abbrev pub wide : ℕ → ℕ → Laziness
 wide modulus lanes = lazy_within (record { half = 4294967296; rough = nat_lt 1 lanes }) (limit_within 18446744073709551615 modulus)
 
-abbrev pub laziness_for : ℕ → ℕ → Laziness
-laziness_for modulus lanes = if nat_lt modulus 2147483648 then narrow modulus else wide modulus lanes
+-- the modulus is less than half of the words' base
+abbrev pub allows : WordSize → ℕ → Bool
+allows Any modulus = true
+allows Of32 modulus = nat_lt modulus 2147483648
+allows Of52 modulus = nat_lt modulus 2251799813685248
+allows Of64 modulus = true
+
+-- where any words will do, those of 32 bits are taken if the modulus allows them
+abbrev pub laziness_for : WordSize → ℕ → ℕ → Laziness
+laziness_for Any modulus lanes = if nat_lt modulus 2147483648 then narrow modulus else wide modulus lanes
+laziness_for Of32 modulus lanes = narrow modulus
+laziness_for Of52 modulus lanes = middle modulus
+laziness_for Of64 modulus lanes = wide modulus lanes
 
 -- the program on words
-abbrev pub fast_words : PlainProgram → PlainWordProgram
-fast_words p = quickened (laziness_for p.modulus p.lanes) p
+abbrev pub fast_words : WordSize → PlainProgram → PlainWordProgram
+fast_words size p = quickened (laziness_for size p.modulus p.lanes) p

@@ -9,3 +9,4 @@ pub mod Setting
 pub mod Same
 pub mod Kinds
 pub mod Choice
+pub mod Bare

@@ -4,7 +4,7 @@ use Rattle.icode.specs.declared.action.Action.{Action}
 use Rattle.icode.specs.declared.action.Action.TheVariants.{Load, Store, Zero, Add, Sub, Neg, Mul, Tile}
 use Rattle.icode.specs.Machine.{Code, State, Local, words_at, with_words, lane_by_lane, transposed, register_of, memory_after, register_put, moved_on, completion, start, padded}
 use Rattle.word_code.specs.declared.program.Reduction.{Reduction}
-use Rattle.word_code.specs.Words.{Width, base_of, wrapped_sum, wrapped_difference, biased_difference, lazy_product, reduced}
+use Rattle.word_code.specs.Words.{Width, sums_of, wrapped_sum, wrapped_difference, biased_difference, lazy_product, reduced}
 
 -- an action, with the reductions before it, the bias of a difference and the quotients of a product's factors
 pub record WordAction : Type 0 where
@@ -34,11 +34,11 @@ word_put w m lanes bias quotients (Load r address) s = words_at lanes s.memory a
 word_put w m lanes bias quotients (Store address r) s = []
 word_put w m lanes bias quotients (Zero r) s = replicate lanes 0
 word_put w m lanes bias quotients (Add r x y) s =
-    lane_by_lane (wrapped_sum (base_of w)) (register_of lanes s.registers x) (register_of lanes s.registers y)
+    lane_by_lane (wrapped_sum (sums_of w)) (register_of lanes s.registers x) (register_of lanes s.registers y)
 word_put w m lanes bias quotients (Sub r x y) s =
-    lane_by_lane (biased_difference (base_of w) bias) (register_of lanes s.registers x) (register_of lanes s.registers y)
+    lane_by_lane (biased_difference (sums_of w) bias) (register_of lanes s.registers x) (register_of lanes s.registers y)
 word_put w m lanes bias quotients (Neg r x) s =
-    map (wrapped_difference (base_of w) bias) (register_of lanes s.registers x)
+    map (wrapped_difference (sums_of w) bias) (register_of lanes s.registers x)
 word_put w m lanes bias quotients (Mul r x factors) s =
     lane_by_three (lazy_product w m) (register_of lanes s.registers x) factors quotients
 word_put w m lanes bias quotients (Tile r x) s = transposed lanes s.registers x
@@ -54,7 +54,7 @@ bare_effect w m lanes f s =
 -- what an action on words leaves
 abbrev pub word_effect : Width → ℕ → ℕ → WordAction → Local → Local
 word_effect w m lanes f s =
-    bare_effect w m lanes f (record { memory = s.memory; registers = reduce_registers (base_of w) lanes f.before s.registers })
+    bare_effect w m lanes f (record { memory = s.memory; registers = reduce_registers (sums_of w) lanes f.before s.registers })
 
 -- what a machine of words runs: phase by phase, the list of actions of each processor
 pub record WordCode : Type 0 where

@@ -1,7 +1,7 @@
 -- Operations on words: numbers below a base, as 2 ^ 64, that wrap.
-use Rattle.std.specs.Prelude.{ℕ, ◌+◌, ◌-◌, ◌*◌, ◌/◌, ◌%◌, Bool, min, if◌then◌else◌}
+use Rattle.std.specs.Prelude.{ℕ, ◌+◌, ◌-◌, ◌*◌, ◌/◌, ◌%◌, ◌==◌, Bool, min, if◌then◌else◌}
 
--- A word's size: its base is the square of `half`. Where `rough` holds, the high half of a product is made of three of
+-- A word's size: products go by a base that is the square of `half`. Where `rough` holds, the high half of a product is made of three of
 -- its four partial products, and may be up to 2 too small
 pub record Width : Type 0 where
   pub half : ℕ
@@ -9,6 +9,10 @@ pub record Width : Type 0 where
 
 abbrev pub base_of : Width → ℕ
 base_of w = w.half * w.half
+
+-- what sums and differences wrap at: words of 52 bits stand in words of 64
+abbrev pub sums_of : Width → ℕ
+sums_of w = if w.half == 65536 then 4294967296 else 18446744073709551616
 
 abbrev pub wrapped_sum : ℕ → ℕ → ℕ → ℕ
 wrapped_sum base a b = (a + b) % base
@@ -35,10 +39,10 @@ high_of w a b = if w.rough then rough_high w.half a b else high (base_of w) a b
 abbrev pub quotient_of : ℕ → ℕ → ℕ → ℕ
 quotient_of base m c = c * base / m
 
--- a times the factor c with quotient q, up to a multiple of m
+-- a times the factor c with quotient q, up to a multiple of m. Of a, what is below the base counts
 abbrev pub lazy_product : Width → ℕ → ℕ → ℕ → ℕ → ℕ
 lazy_product w m a c q =
-    wrapped_difference (base_of w) (wrapped_product (base_of w) a c) (wrapped_product (base_of w) (high_of w a q) m)
+    wrapped_difference (base_of w) (wrapped_product (base_of w) a c) (wrapped_product (base_of w) (high_of w (a % base_of w) q) m)
 
 -- such a product is below so many times m
 abbrev pub product_bound : Width → ℕ

@@ -1,10 +1,10 @@
 // How lazy a program may be.
 
-ghost use Rattle.std.specs.Prelude.{◌≡◌, ◌^◌, ◌<◌, ◌≤◌, IfOk};
+ghost use Rattle.std.specs.Prelude.{◌≡◌, ◌^◌, ◌<◌, ◌≤◌, IfOk, IsTrue};
 ghost use Rattle.icode.specs.Program.{plain_program};
-ghost use Rattle.word_code.specs.Choice.{limit_within, narrow, wide, laziness_for, fast_words};
+ghost use Rattle.word_code.specs.Choice.{limit_within, narrow, middle, wide, allows, laziness_for, fast_words};
 ghost use Rattle.word_code.specs.Laws.{IsLazyWithin};
-ghost use Rattle.word_code.specs.Same.{LeavesTheSame, OrderIsFreeOf};
+ghost use Rattle.word_code.specs.Same.{LeavesTheSame, OrderIsFreeOf, FitsAs};
 ghost use Rattle.word_code.specs.View.{lazy_of, plain_word_program};
 
 use crate::program::{Slack, WordProgram};
@@ -12,6 +12,33 @@ use crate::quicken::quicken;
 use icode::program::Program;
 use memory::NoMemory;
 use std::alloc::Global;
+
+/// The size of the words that a program is to have.
+#[derive(Clone, Copy, Drop, PartialEq, Eq, Debug)]
+pub enum WordSize {
+    /// 32 bits where the modulus allows them, else 64.
+    Any,
+    /// 32 bits.
+    Of32,
+    /// 52 bits, in words of 64 for sums.
+    Of52,
+    /// 64 bits.
+    Of64,
+}
+
+impl WordSize {
+    /// Whether the modulus is less than half of the words' base.
+    pub fn allows(&self, modulus: u64) -> bool
+        ensures { result ≡ allows self.now modulus }
+    {
+        match self {
+            WordSize::Any => true,
+            WordSize::Of32 => modulus < 0x8000_0000,
+            WordSize::Of52 => modulus < 0x8_0000_0000_0000,
+            WordSize::Of64 => true,
+        }
+    }
+}
 
 /// The greatest bound of registers that is of use.
 const ENOUGH: u64 = 16;
@@ -37,6 +64,20 @@ fn narrow(modulus: u64) -> Slack
     }
 }
 
+// For words of 52 bits.
+fn middle(modulus: u64) -> Slack
+    requires { 2 ≤ modulus }
+    ensures { lazy_of result ≡ middle modulus }
+{
+    Slack {
+        half: 0x400_0000,
+        rough: false,
+        keep_a: 2,
+        keep_b: 2,
+        limit: limit_within(0xf_ffff_ffff_ffff, modulus),
+    }
+}
+
 // For words of 64 bits.
 fn wide(modulus: u64, lanes: u64) -> Slack
     requires { 2 ≤ modulus }
@@ -53,31 +94,41 @@ fn wide(modulus: u64, lanes: u64) -> Slack
     }
 }
 
-/// How lazy the words of a program with this modulus and so many lanes are.
-pub fn slack_for(modulus: u64, lanes: u64) -> Slack
+/// How lazy words of this size are in a program with this modulus and so many lanes.
+pub fn slack_for(size: WordSize, modulus: u64, lanes: u64) -> Slack
     requires modulus { (2 ≤ modulus) × (modulus < 2 ^ 62) }
-    ensures choice { lazy_of result ≡ laziness_for modulus lanes }
+    requires allowed { IsTrue (allows size modulus) }
+    ensures choice { lazy_of result ≡ laziness_for size modulus lanes }
     ensures lazy { IsLazyWithin (lazy_of result) modulus }
     ensures small { result.limit < 2 ^ 32 }
     ensures half { result.half ≤ 2 ^ 32 }
 {
-    if modulus < 0x8000_0000 {
-        narrow(modulus)
-    } else {
-        wide(modulus, lanes)
+    match size {
+        WordSize::Any => {
+            if modulus < 0x8000_0000 {
+                narrow(modulus)
+            } else {
+                wide(modulus, lanes)
+            }
+        }
+        WordSize::Of32 => narrow(modulus),
+        WordSize::Of52 => middle(modulus),
+        WordSize::Of64 => wide(modulus, lanes),
     }
 }
 
-/// The program on words that is chosen for a program. Where the program fits it leaves the residues that the
-/// program leaves, for every vector of residues and every order of turns; where no processor touches a line that
-/// another writes, that order is free.
-pub fn make_fast(alloc: Global, program: &Program) -> Result<WordProgram, NoMemory>
+/// The program on words of this size that is chosen for a program. Where the program fits it leaves the
+/// residues that the program leaves, for every vector of residues and every order of turns; where no
+/// processor touches a line that another writes, that order is free.
+pub fn make_fast(alloc: Global, size: WordSize, program: &Program) -> Result<WordProgram, NoMemory>
+    requires allowed { IsTrue (allows size program.now.modulus) }
     ensures made { IfOk result
-        (λ words. plain_word_program words ≡ fast_words (plain_program program.now)) }
+        (λ words. plain_word_program words ≡ fast_words size (plain_program program.now)) }
+    ensures fits { IfOk result (λ words. FitsAs words program.now) }
     ensures same { IfOk result (λ words. LeavesTheSame words program.now) }
     ensures order { IfOk result (λ words. OrderIsFreeOf words program.now) }
 {
-    let slack = slack_for(program.modulus, program.lanes);
+    let slack = slack_for(size, program.modulus, program.lanes);
     let words = quicken(alloc, slack, program)?;
     Ok(words)
 }

@@ -8,7 +8,7 @@ ghost use Rattle.icode.specs.Plain.{plain_stmt, plain_body, plain_tables, plain_
 ghost use Rattle.icode.specs.Program.{plain_program};
 ghost use Rattle.word_code.specs.Words.{quotient_of};
 ghost use Rattle.word_code.specs.Laws.{IsLazyWithin};
-ghost use Rattle.word_code.specs.Same.{LeavesTheSame, OrderIsFreeOf};
+ghost use Rattle.word_code.specs.Same.{LeavesTheSame, OrderIsFreeOf, FitsAs};
 ghost use Rattle.word_code.specs.Quicken.{quotients_of, quickened};
 ghost use Rattle.word_code.specs.Setting.{IsSettingWithin, AreBoundsWithin};
 ghost use Rattle.word_code.specs.Setting.{quick_stmt_in, quick_phase_in, quick_phases_in};
@@ -190,6 +190,7 @@ pub fn quicken(alloc: Global, slack: Slack, program: &Program) -> Result<WordPro
     requires half { slack.half ≤ 2 ^ 32 }
     ensures made { IfOk result (λ words. plain_word_program words
         ≡ quickened (lazy_of slack) (plain_program program.now)) }
+    ensures fits { IfOk result (λ words. FitsAs words program.now) }
     ensures same { IfOk result (λ words. LeavesTheSame words program.now) }
     ensures order { IfOk result (λ words. OrderIsFreeOf words program.now) }
 {

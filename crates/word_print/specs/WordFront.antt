@@ -10,6 +10,10 @@ word_text =
     ++ codes "#if HALF == 65536\n"
     ++ codes "typedef uint32_t word;\n"
     ++ codes "INLINE word high(word a, word q) { return (uint64_t)a * q >> 32; }\n"
+    ++ codes "#elif HALF == 67108864\n"
+    ++ codes "typedef uint64_t word;\n"
+    ++ codes "#define LOW52 0xfffffffffffffULL\n"
+    ++ codes "INLINE word high(word a, word q) { return (unsigned __int128)(a & LOW52) * q >> 52; }\n"
     ++ codes "#else\n"
     ++ codes "typedef uint64_t word;\n"
     ++ codes "#if ROUGH\n"
@@ -30,14 +34,18 @@ one_lane_text =
     ++ codes "INLINE vec add(vec a, vec b) { return a + b; }\n"
     ++ codes "INLINE vec sub(vec a, vec b, word k) { return a + k - b; }\n"
     ++ codes "INLINE vec neg(vec a, word k) { return k - a; }\n"
+    ++ codes "#if HALF == 67108864\n"
+    ++ codes "INLINE vec mul(vec a, vec c, vec q) { return (a * c - high(a, q) * (word)M) & LOW52; }\n"
+    ++ codes "#else\n"
     ++ codes "INLINE vec mul(vec a, vec c, vec q) { return a * c - high(a, q) * (word)M; }\n"
+    ++ codes "#endif\n"
     ++ codes "INLINE vec reduced(vec a, word k) { vec d = a - k; return a < d ? a : d; }\n"
     ++ codes "INLINE void tile(vec *b) { (void)b; }\n"
 
 -- a register as a vector of GCC and Clang
 unfoldable pub vector_text : List ℕ
 vector_text =
-    codes "#elif (V == 2 || V == 4 || V == 8 || V == 16) && (HALF == 65536 || ROUGH)\n"
+    codes "#elif (V == 2 || V == 4 || V == 8 || V == 16) && (HALF == 65536 || HALF == 67108864 || ROUGH)\n"
     ++ codes "typedef word vec __attribute__((vector_size(sizeof(word) * V)));\n"
     ++ codes "typedef word unaligned __attribute__((vector_size(sizeof(word) * V), aligned(sizeof(word)), may_alias));\n"
     ++ codes "typedef uint64_t wide __attribute__((vector_size(sizeof(word) * V)));\n"
@@ -64,7 +72,31 @@ vector_reduced_text =
     ++ codes "INLINE vec reduced(vec a, word k) { vec d = a - k; return k > TOP_BIT ? a - ((vec)(a >= k) & k) : d + ((vec)((__typeof__(a < d))d < 0) & k); }\n"
     ++ codes "#endif\n"
 
--- the products of such registers
+-- the products of such registers in words of 52 bits: by an operation that gives the low or the high half of a product, or else
+-- by halves of 26 bits
+unfoldable pub vector_fused_text : List ℕ
+vector_fused_text =
+    codes "#if HALF == 67108864\n"
+    ++ codes "#if V == 8 && defined __AVX512IFMA__\n"
+    ++ codes "#include <immintrin.h>\n"
+    ++ codes "#define FMA(h, a, b, c) (vec)_mm512_madd52##h##_epu64((__m512i)(a), (__m512i)(b), (__m512i)(c))\n"
+    ++ codes "#elif V == 4 && defined __AVX512IFMA__ && defined __AVX512VL__\n"
+    ++ codes "#include <immintrin.h>\n"
+    ++ codes "#define FMA(h, a, b, c) (vec)_mm256_madd52##h##_epu64((__m256i)(a), (__m256i)(b), (__m256i)(c))\n"
+    ++ codes "#endif\n"
+    ++ codes "#ifdef FMA\n"
+    ++ codes "INLINE vec mul(vec a, vec c, vec q) { return FMA(lo, FMA(lo, (vec){}, a, c), FMA(hi, (vec){}, a, q), splat((1ULL << 52) - M)) & LOW52; }\n"
+    ++ codes "#else\n"
+    ++ codes "#define PART 0x3ffffffULL\n"
+    ++ codes "INLINE vec low(vec a, vec b) { return (a & 0xffffffffULL) * (b & 0xffffffffULL); }\n"
+    ++ codes "INLINE vec mul(vec a, vec c, vec q) {\n"
+    ++ codes "vec a1 = (a & LOW52) >> 26, a0 = a & PART, q1 = q >> 26, q0 = q & PART;\n"
+    ++ codes "vec h = low(a1, q1) + ((low(a1, q0) + low(a0, q1) + (low(a0, q0) >> 26)) >> 26);\n"
+    ++ codes "return (a * c - h * (word)M) & LOW52; }\n"
+    ++ codes "#endif\n"
+    ++ codes "#else\n"
+
+-- the products of such registers in words of 32 and of 64 bits
 unfoldable pub vector_product_text : List ℕ
 vector_product_text =
     codes "#define LOW 0xffffffffULL\n"
@@ -75,6 +107,7 @@ vector_product_text =
     ++ codes "INLINE wide halves(wide a, wide q) { wide a1 = a >> 32, q1 = q >> 32; return low(a1, q1) + (low(a1, q) >> 32) + (low(a, q1) >> 32); }\n"
     ++ codes "#endif\n"
     ++ codes "INLINE vec mul(vec a, vec c, vec q) { return a * c - (vec)halves((wide)a, (wide)q) * (word)M; }\n"
+    ++ codes "#endif\n"
 
 -- two such registers exchange the lanes that are d apart
 unfoldable pub exchange_text : List ℕ
@@ -131,7 +164,11 @@ lanes_text =
     ++ codes "INLINE vec add(vec a, vec b) { LANES(a.l[l] + b.l[l]); }\n"
     ++ codes "INLINE vec sub(vec a, vec b, word k) { LANES(a.l[l] + k - b.l[l]); }\n"
     ++ codes "INLINE vec neg(vec a, word k) { LANES(k - a.l[l]); }\n"
+    ++ codes "#if HALF == 67108864\n"
+    ++ codes "INLINE vec mul(vec a, vec c, vec q) { LANES((a.l[l] * c.l[l] - high(a.l[l], q.l[l]) * (word)M) & LOW52); }\n"
+    ++ codes "#else\n"
     ++ codes "INLINE vec mul(vec a, vec c, vec q) { LANES(a.l[l] * c.l[l] - high(a.l[l], q.l[l]) * (word)M); }\n"
+    ++ codes "#endif\n"
     ++ codes "INLINE word least(word a, word b) { return a < b ? a : b; }\n"
     ++ codes "INLINE vec reduced(vec a, word k) { LANES(least(a.l[l], a.l[l] - k)); }\n"
     ++ codes "INLINE void tile(vec *b) { vec a[V]; for (int k = 0; k < V; k++) a[k] = b[k]; for (int k = 0; k < V; k++) for (int l = 0; l < V; l++) b[k].l[l] = a[l].l[k]; }\n"
@@ -139,7 +176,7 @@ lanes_text =
 
 -- what operations do, whatever the program
 unfoldable pub functions_text : List ℕ
-functions_text = word_text ++ one_lane_text ++ vector_text ++ vector_reduced_text ++ vector_product_text ++ exchange_text ++ vector_tile_text ++ lanes_text
+functions_text = word_text ++ one_lane_text ++ vector_text ++ vector_reduced_text ++ vector_fused_text ++ vector_product_text ++ exchange_text ++ vector_tile_text ++ lanes_text
 
 abbrev pub rough_text : Bool → List ℕ
 rough_text true = codes "#define ROUGH 1\n"

@@ -1,13 +1,30 @@
 -- The C text of a program on words. Its functions and vectors are those of the first lines, its registers variables, which
--- are 0 where a phase begins. It is meant for words of 32 bits, and for those of 64 bits.
+-- are 0 where a phase begins. It is meant for words of 32, 52 and 64 bits.
 use Rattle.std.specs.Prelude.{ℕ, zero, suc, ◌+◌, ◌==◌, List, [], ◌∷◌, ◌++◌, codes, decimal, flat_map, if◌then◌else◌}
 use Rattle.icode.specs.declared.program.Array.{Array}
 use Rattle.icode.specs.Machine.{whole_lines}
-use Rattle.icode.specs.Plain.{PlainExpr, PlainOp, Load, Store, Zero, Add, Sub, Neg, MulConst, MulTable, Tile}
-use Rattle.listing_text.specs.Listing.{sum_text, array_text, header_text}
+use Rattle.icode.specs.Plain.{PlainExpr, PlainParts, PlainPart, PlainOp, Sum, NoParts, AndParts, Proc, Var, Product, Rem, Quot, Load, Store, Zero, Add, Sub, Neg, MulConst, MulTable, Tile}
+use Rattle.listing_text.specs.Listing.{array_text, header_text}
 use Rattle.word_code.specs.declared.program.Reduction.{Reduction}
 use Rattle.word_code.specs.WordProgram.{Note, WordStmt, WordBody, PlainWordProgram, Loop, Do, NoStmts, AndStmts}
 use Rattle.word_print.specs.WordFront.{functions_text, numbered_text, sizes_text, arrays_text}
+
+-- a place: its constant and its parts. The constant is unsigned, of 64 bits, and each sum has one, so sums and what is made of
+-- them wrap at the same base as in programs
+abbrev mutual
+  pub index_text : PlainExpr → List ℕ
+  index_text (Sum constant parts) = decimal constant ++ codes "ULL" ++ index_parts_text parts
+
+  pub index_parts_text : PlainParts → List ℕ
+  index_parts_text NoParts = []
+  index_parts_text (AndParts part rest) = index_part_text part ++ index_parts_text rest
+
+  pub index_part_text : PlainPart → List ℕ
+  index_part_text (Proc factor) = codes "+q*" ++ decimal factor
+  index_part_text (Var depth factor) = codes "+v" ++ decimal depth ++ codes "*" ++ decimal factor
+  index_part_text (Product outer inner factor) = codes "+v" ++ decimal outer ++ codes "*v" ++ decimal inner ++ codes "*" ++ decimal factor
+  index_part_text (Rem of divisor factor) = codes "+(" ++ index_text of ++ codes ")%" ++ decimal divisor ++ codes "*" ++ decimal factor
+  index_part_text (Quot of divisor factor) = codes "+(" ++ index_text of ++ codes ")/" ++ decimal divisor ++ codes "*" ++ decimal factor
 
 abbrev pub register_text : ℕ → List ℕ
 register_text register = codes "r" ++ decimal register
@@ -25,12 +42,12 @@ call_text register function source = becomes_text register ++ function ++ regist
 
 abbrev pub load_text : ℕ → Array → PlainExpr → List ℕ
 load_text register array place =
-    becomes_text register ++ codes "load(" ++ array_text array ++ codes " + " ++ sum_text place
+    becomes_text register ++ codes "load(" ++ array_text array ++ codes " + " ++ index_text place
     ++ codes ");\n"
 
 abbrev pub store_text : Array → PlainExpr → ℕ → List ℕ
 store_text array place register =
-    codes "store(" ++ array_text array ++ codes " + " ++ sum_text place ++ codes ", "
+    codes "store(" ++ array_text array ++ codes " + " ++ index_text place ++ codes ", "
     ++ register_text register ++ codes ");\n"
 
 abbrev pub addition_text : ℕ → ℕ → ℕ → List ℕ
@@ -55,12 +72,12 @@ const_product_text register source factor quotient =
 -- one entry of a table, or of its quotients, for all lanes
 abbrev pub entry_text : List ℕ → ℕ → PlainExpr → List ℕ
 entry_text name table place =
-    codes "splat(" ++ name ++ decimal table ++ codes "[" ++ sum_text place ++ codes "])"
+    codes "splat(" ++ name ++ decimal table ++ codes "[" ++ index_text place ++ codes "])"
 
 -- one for each lane, from the place on
 abbrev pub row_text : List ℕ → ℕ → PlainExpr → List ℕ
 row_text name table place =
-    codes "load(" ++ name ++ decimal table ++ codes " + " ++ sum_text place ++ codes ")"
+    codes "load(" ++ name ++ decimal table ++ codes " + " ++ index_text place ++ codes ")"
 
 abbrev pub entries_text : List ℕ → ℕ → PlainExpr → ℕ → List ℕ
 entries_text name table place step =

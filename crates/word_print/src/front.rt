@@ -2,7 +2,7 @@
 
 ghost use Rattle.std.specs.Prelude.{◌≡◌, ◌++◌, OnOk};
 ghost use Rattle.word_code.specs.Words.{Width};
-ghost use Rattle.word_print.specs.WordFront.{word_text, one_lane_text, vector_text, vector_reduced_text, vector_product_text, exchange_text, vector_tile_text, lanes_text, functions_text, rough_text, numbered_text, sizes_text, arrays_text};
+ghost use Rattle.word_print.specs.WordFront.{word_text, one_lane_text, vector_text, vector_reduced_text, vector_fused_text, vector_product_text, exchange_text, vector_tile_text, lanes_text, functions_text, rough_text, numbered_text, sizes_text, arrays_text};
 
 use listing_text::put;
 use std::alloc::AllocError;
@@ -37,6 +37,10 @@ fn put_word_type(out: &mut Vec<u8>) -> Result<(), AllocError>
 #if HALF == 65536
 typedef uint32_t word;
 INLINE word high(word a, word q) { return (uint64_t)a * q >> 32; }
+#elif HALF == 67108864
+typedef uint64_t word;
+#define LOW52 0xfffffffffffffULL
+INLINE word high(word a, word q) { return (unsigned __int128)(a & LOW52) * q >> 52; }
 #else
 typedef uint64_t word;
 #if ROUGH
@@ -63,7 +67,11 @@ INLINE void store(word *p, vec a) { *p = a; }
 INLINE vec add(vec a, vec b) { return a + b; }
 INLINE vec sub(vec a, vec b, word k) { return a + k - b; }
 INLINE vec neg(vec a, word k) { return k - a; }
+#if HALF == 67108864
+INLINE vec mul(vec a, vec c, vec q) { return (a * c - high(a, q) * (word)M) & LOW52; }
+#else
 INLINE vec mul(vec a, vec c, vec q) { return a * c - high(a, q) * (word)M; }
+#endif
 INLINE vec reduced(vec a, word k) { vec d = a - k; return a < d ? a : d; }
 INLINE void tile(vec *b) { (void)b; }
 ",
@@ -76,7 +84,7 @@ fn put_vector(out: &mut Vec<u8>) -> Result<(), AllocError>
     ensures { OnOk result (out.new.items ≡ out.old.items ++ vector_text) }
 {
     out.extend_from_slice(
-        b"#elif (V == 2 || V == 4 || V == 8 || V == 16) && (HALF == 65536 || ROUGH)
+        b"#elif (V == 2 || V == 4 || V == 8 || V == 16) && (HALF == 65536 || HALF == 67108864 || ROUGH)
 typedef word vec __attribute__((vector_size(sizeof(word) * V)));
 typedef word unaligned __attribute__((vector_size(sizeof(word) * V), aligned(sizeof(word)), may_alias));
 typedef uint64_t wide __attribute__((vector_size(sizeof(word) * V)));
@@ -112,7 +120,37 @@ INLINE vec reduced(vec a, word k) { vec d = a - k; return k > TOP_BIT ? a - ((ve
     )
 }
 
-// The products of such registers.
+// The products of such registers in words of 52 bits: by an operation that gives the low or the high half of a product, or else
+// by halves of 26 bits.
+#[tactic(auto, unfolding(crate::specs::WordFront::vector_fused_text))]
+fn put_vector_fused(out: &mut Vec<u8>) -> Result<(), AllocError>
+    ensures { OnOk result (out.new.items ≡ out.old.items ++ vector_fused_text) }
+{
+    out.extend_from_slice(
+        b"#if HALF == 67108864
+#if V == 8 && defined __AVX512IFMA__
+#include <immintrin.h>
+#define FMA(h, a, b, c) (vec)_mm512_madd52##h##_epu64((__m512i)(a), (__m512i)(b), (__m512i)(c))
+#elif V == 4 && defined __AVX512IFMA__ && defined __AVX512VL__
+#include <immintrin.h>
+#define FMA(h, a, b, c) (vec)_mm256_madd52##h##_epu64((__m256i)(a), (__m256i)(b), (__m256i)(c))
+#endif
+#ifdef FMA
+INLINE vec mul(vec a, vec c, vec q) { return FMA(lo, FMA(lo, (vec){}, a, c), FMA(hi, (vec){}, a, q), splat((1ULL << 52) - M)) & LOW52; }
+#else
+#define PART 0x3ffffffULL
+INLINE vec low(vec a, vec b) { return (a & 0xffffffffULL) * (b & 0xffffffffULL); }
+INLINE vec mul(vec a, vec c, vec q) {
+vec a1 = (a & LOW52) >> 26, a0 = a & PART, q1 = q >> 26, q0 = q & PART;
+vec h = low(a1, q1) + ((low(a1, q0) + low(a0, q1) + (low(a0, q0) >> 26)) >> 26);
+return (a * c - h * (word)M) & LOW52; }
+#endif
+#else
+",
+    )
+}
+
+// The products of such registers in words of 32 and of 64 bits.
 #[tactic(auto, unfolding(crate::specs::WordFront::vector_product_text))]
 fn put_vector_product(out: &mut Vec<u8>) -> Result<(), AllocError>
     ensures { OnOk result (out.new.items ≡ out.old.items ++ vector_product_text) }
@@ -126,6 +164,7 @@ INLINE wide halves(wide a, wide q) { return (low(a, q) >> 32) | (low(a >> 32, q 
 INLINE wide halves(wide a, wide q) { wide a1 = a >> 32, q1 = q >> 32; return low(a1, q1) + (low(a1, q) >> 32) + (low(a, q1) >> 32); }
 #endif
 INLINE vec mul(vec a, vec c, vec q) { return a * c - (vec)halves((wide)a, (wide)q) * (word)M; }
+#endif
 ",
     )
 }
@@ -200,7 +239,11 @@ INLINE void store(word *p, vec a) { for (int l = 0; l < V; l++) p[l] = a.l[l]; }
 INLINE vec add(vec a, vec b) { LANES(a.l[l] + b.l[l]); }
 INLINE vec sub(vec a, vec b, word k) { LANES(a.l[l] + k - b.l[l]); }
 INLINE vec neg(vec a, word k) { LANES(k - a.l[l]); }
+#if HALF == 67108864
+INLINE vec mul(vec a, vec c, vec q) { LANES((a.l[l] * c.l[l] - high(a.l[l], q.l[l]) * (word)M) & LOW52); }
+#else
 INLINE vec mul(vec a, vec c, vec q) { LANES(a.l[l] * c.l[l] - high(a.l[l], q.l[l]) * (word)M); }
+#endif
 INLINE word least(word a, word b) { return a < b ? a : b; }
 INLINE vec reduced(vec a, word k) { LANES(least(a.l[l], a.l[l] - k)); }
 INLINE void tile(vec *b) { vec a[V]; for (int k = 0; k < V; k++) a[k] = b[k]; for (int k = 0; k < V; k++) for (int l = 0; l < V; l++) b[k].l[l] = a[l].l[k]; }
@@ -218,6 +261,7 @@ pub(crate) fn put_functions(out: &mut Vec<u8>) -> Result<(), AllocError>
     put_one_lane(out)?;
     put_vector(out)?;
     put_vector_reduced(out)?;
+    put_vector_fused(out)?;
     put_vector_product(out)?;
     put_exchange(out)?;
     put_vector_tile(out)?;

@@ -3,6 +3,7 @@
 
 mod front;
 mod operations;
+mod places;
 mod printing;
 
 pub use printing::print_words;

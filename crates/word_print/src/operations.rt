@@ -7,8 +7,9 @@ ghost use Rattle.word_print.specs.WordText.{becomes_text, reduction_text, call_t
 ghost use Rattle.word_print.specs.WordNests.{is_tile_small};
 
 use crate::front::{put_numbered, put_word};
+use crate::places::put_index;
 use icode::program::{Array, Expr, Op};
-use listing_text::{put, put_array, put_expr};
+use listing_text::{put, put_array};
 use std::alloc::AllocError;
 use word_code::program::{Note, Reduction};
 
@@ -61,7 +62,7 @@ fn put_load(out: &mut Vec<u8>, register: u64, array: Array, place: &Expr) -> Res
     put_word(out, b"load(")?;
     put_array(out, array)?;
     put_word(out, b" + ")?;
-    put_expr(out, place)?;
+    put_index(out, place)?;
     put_word(out, b");\n")
 }
 
@@ -72,7 +73,7 @@ fn put_store(out: &mut Vec<u8>, array: Array, place: &Expr, register: u64) -> Re
     put_word(out, b"store(")?;
     put_array(out, array)?;
     put_word(out, b" + ")?;
-    put_expr(out, place)?;
+    put_index(out, place)?;
     put_word(out, b", ")?;
     put(out, b"r", register)?;
     put_word(out, b");\n")
@@ -142,7 +143,7 @@ fn put_entry(out: &mut Vec<u8>, name: &[u8], table: u64, place: &Expr) -> Result
     put_word(out, b"splat(")?;
     put(out, name, table)?;
     put_word(out, b"[")?;
-    put_expr(out, place)?;
+    put_index(out, place)?;
     put_word(out, b"])")
 }
 
@@ -154,7 +155,7 @@ fn put_row(out: &mut Vec<u8>, name: &[u8], table: u64, place: &Expr) -> Result<(
     put_word(out, b"load(")?;
     put(out, name, table)?;
     put_word(out, b" + ")?;
-    put_expr(out, place)?;
+    put_index(out, place)?;
     put_word(out, b")")
 }
 

@@ -1,10 +1,12 @@
-use Rattle.std.proofs.Common.{◌≡◌, [], ◌∷◌, ◌++◌, ◌∙◌, ap, subst, arith}
+use Rattle.std.proofs.Common.{◌≡◌, [], ◌∷◌, ◌++◌, ◌∙◌, sym, ap, subst, arith}
 use Rattle.std.specs.List.{flat_map}
 use Rattle.std.proofs.lemmas.List.Elements.{All-append, All-cons, All-nil}
 use Rattle.balanced_sums.specs.Depth.{IsSummand}
+use Rattle.balanced_sums.specs.Halves.{balanced_summands}
 use Rattle.balanced_sums.specs.Rows.{rows_of}
 use Rattle.balanced_sums.specs.Summands.{summands}
 use Rattle.balanced_sums.proofs.Depths.{leaf_summand}
+use Rattle.balanced_sums.proofs.Halves.{all_halved, leaf_alone}
 use Rattle.balanced_sums.proofs.Lists.{all_taken, rows_more, summands_more}
 use Rattle.balanced_sums.proofs.Sums.{same_matrix}
 use Rattle.spl_ast.specs.Shape.{IsShaped}
@@ -18,10 +20,14 @@ add_summands-returns-in_ok-push-in_default t c =
     let leaf : IsSummand c.args.formula =
     subst IsSummand c.formula.view_is
     (leaf_summand c.formula.inside.node c.in_default.not-Compose c.in_default.not-TensorLeft c.in_default.not-TensorRight c.in_default.not-DirectSum c.in_default.not-Todo) in
+    let alone : balanced_summands c.args.formula ≡ c.args.formula ∷ [] =
+    subst (λ f. balanced_summands f ≡ f ∷ []) c.formula.view_is
+    (leaf_alone c.formula.inside.node c.in_default.not-Compose c.in_default.not-TensorLeft c.in_default.not-TensorRight c.in_default.not-DirectSum c.in_default.not-Todo) in
     record {
       apart = rw is (All-append IsSummand c.args.parts.now.items (c.args.formula ∷ []) c.requires.apart (All-cons IsSummand c.args.formula [] leaf (All-nil IsSummand)));
       summands = rw is (summands_more c.args.parts.now.items c.args.formula);
       rows = rw is (rows_more c.args.parts.now.items c.args.formula);
+      items = is ∙ ap (λ fs. c.args.parts.now.items ++ fs) (sym alone);
       more = omega (arith, c.in_ok-push-in_default.ensures.len);
     }
 
@@ -39,3 +45,11 @@ balance-returns-clause-same t c m =
     (omega (arith, c.in_ok-sum.ensures.taken))
     (c.in_ok-add_summands.ensures.summands ∙ ap (λ fs. flat_map summands fs ++ summands c.args.formula) c.new-parts.ensures.items)
     c.in_ok-sum.ensures.summands)
+
+pub balance-returns-clause-halves : goal.balance-returns-clause-halves
+balance-returns-clause-halves t c =
+    all_halved c.add_summands.new.parts.items c.take_sum.new.parts.items c.args.formula c.in_ok-sum.sum c.len-count.result
+    (c.in_ok-add_summands.ensures.items ∙ ap (λ fs. fs ++ balanced_summands c.args.formula) c.new-parts.ensures.items)
+    (omega (arith, c.len-count.ensures))
+    (omega (arith, c.in_ok-sum.ensures.taken))
+    c.in_ok-sum.ensures.halves

@@ -1,6 +1,8 @@
 use Rattle.std.proofs.Common.{◌≡◌, ◌<◌, ◌-◌, All, length, ap, subst, sym, ◌∙◌}
 use Rattle.std.proofs.lemmas.Result.{err_from_is_err_and}
 use Rattle.std.proofs.lemmas.List.{with_items_is}
+use Rattle.convolver.specs.Convolver.{IsConvolver}
+use Rattle.convolver.specs.Letters.{conv_program}
 use Rattle.tree_model.specs.Breakdown.{breakdown_of}
 use Rattle.io_edge.specs.Feed.{to_come, limit}
 use Rattle.spiral_status.specs.Fault.{status_of_conv}
@@ -40,4 +42,17 @@ generate_conv-requires-clause-list g c =
     record {
       size = ap length same ∙ c.read_first.auto.vector ∙ size;
       residues = subst (All (λ v. v < request.modulus)) (sym same) (subst (λ m. All (λ v. v < m) c.read_first.new.vector) modulus c.in_ok-read_first.ensures.residues);
+    }
+
+-- the list is the first vector
+pub returns-clause-program : goal.returns-clause-program
+returns-clause-program g c =
+    let request = c.args.request.now in
+    let tree = breakdown_of c.in_ok-plan.plan.tree in
+    let program = c.in_ok-program.program in
+    record {
+      tree = tree;
+      planned = c.in_ok-plan.ensures.planned;
+      letters = c.in_ok-program.ensures.letters ∙ ap (conv_program request tree) c.deref.ensures.value;
+      convolver = subst (λ h. IsConvolver request tree h program) c.deref.ensures.value c.in_ok-program.ensures.convolver;
     }

@@ -68,3 +68,18 @@ returns-in_err-machine-clause-ends g c =
     let p = err_from_is_err_and c.from_residual-in_err-machine.result c.from_residual-in_err-machine.ensures.1 in
     rw (p.1, p.2) (quiet_ends NoMemory c.listed_program.new.feed.held (read c.args.input.now) (read c.listed_program.new.input) (g.O.Sink.faults c.args.output.now) (g.O.Sink.taken c.args.output.now)
     same (λ e. cc) (λ e. cc) (λ e. cc))
+
+pub returns-clause-ends : goal.returns-clause-ends
+returns-clause-ends g c =
+    let read = g.I.Source.faults in
+    let write = g.O.Sink.faults in
+    let first = reports_none (read c.args.input.now) (read c.listed_program.new.input) _ c.in_ok-program.ensures.ends.read (λ e. cc) in
+    let second = reports_none (read c.listed_program.new.input) (read c.run_vectors.new.input) _ c.in_ok-run_vectors.ensures.read (λ e. cc) in
+    let wrote = reports_none (write c.args.output.now) (write c.run_vectors.new.output) _ c.in_ok-run_vectors.ensures.write (λ e. cc) in
+    record {
+      empty = λ e. absurd (cc);
+      usage = λ e. cc;
+      read = record { later = omega (arith, first, second); cause = λ e. absurd (cc); told = λ h. absurd (omega (arith, first, second, h)) };
+      write = record { later = omega (arith, wrote); cause = λ e. absurd (cc); told = λ h. absurd (omega (arith, wrote, h)) };
+      memory = λ e. absurd (cc);
+    }

@@ -1,5 +1,6 @@
+use Rattle.icode.specs.Program.{plain_program}
 use Rattle.passes.specs.Views.{plain_merged}
-use Rattle.formula_code.proofs.Coding.{can_emit, is_code}
+use Rattle.formula_code.proofs.Coding.{can_emit, has_letters, is_code}
 use Rattle.formula_code.proofs.code_of_formula.Goals as goal
 
 pub emit_on-requires : goal.emit_on-requires
@@ -10,4 +11,5 @@ returns c =
     record {
       code = is_code c.args.modulus.now c.args.formula.now (plain_merged c.in_ok-merged.merged) c.in_ok-program.program c.get-modulus.ensures.at_least_two c.get-modulus.ensures.below_limit c.rows-rows.ensures.shaped c.requires.few
           c.in_ok-merged.ensures c.in_ok-program.ensures.performs;
+      letters = has_letters c.args.modulus.now c.args.formula.now (plain_merged c.in_ok-merged.merged) (plain_program c.in_ok-program.program) c.in_ok-merged.ensures c.in_ok-program.ensures.code;
     }

@@ -1,3 +1,5 @@
+use Rattle.std.proofs.Common.{ap, ◌∙◌}
+use Rattle.formula_code.specs.Letters.{program_as_it_stands}
 use Rattle.formula_code.proofs.Regrouped.{same_code}
 use Rattle.formula_code.proofs.formula_program.Goals as goal
 
@@ -6,4 +8,5 @@ returns c =
     record {
       code = same_code c.args.modulus.now c.args.formula c.in_ok-balanced.balanced c.in_ok-program.program
           c.in_ok-balanced.ensures.summands (c.in_ok-balanced.ensures.same c.args.modulus.now) c.in_ok-program.ensures.code;
+      letters = c.in_ok-program.ensures.letters ∙ ap (program_as_it_stands c.args.modulus.now) c.in_ok-balanced.ensures.halves;
     }

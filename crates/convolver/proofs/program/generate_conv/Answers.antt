@@ -10,7 +10,7 @@ use Rattle.operators.proofs.Lists.{length-list_below}
 use Rattle.passes.specs.Views.{plain_merged}
 use Rattle.tree_model.specs.Breakdown.{breakdown_of}
 use Rattle.convolver.specs.Factors.{factors_of}
-use Rattle.convolver.proofs.Chain.{can-emit, conv-performs, joined-same, planned-valid}
+use Rattle.convolver.proofs.Chain.{can-emit, conv-letters, conv-performs, joined-same, planned-valid}
 use Rattle.convolver.proofs.Goodness.{can-convolve, is-convolver}
 use Rattle.convolver.proofs.program.generate_conv.Goals as goal
 
@@ -35,8 +35,8 @@ emit_on-requires c =
     can-emit r t ds (plain_merged c.in_ok-joined.joined) c.unwrap-modulus.result r.line same residues refl
     (can-convolve r t ds c.requires.request valid c.requires.plan.2.candidate joined_can_program size below)
 
-pub returns : goal.returns
-returns c =
+pub returns-clause-convolver : goal.returns-clause-convolver
+returns-clause-convolver c =
     let r = c.args.request.now in
     let t = breakdown_of c.args.plan.now.tree in
     let ds = c.in_ok-diagonal.diagonal.items in
@@ -47,3 +47,14 @@ returns c =
     let residues : c.unwrap-modulus.result ≡ r.modulus = rw c.unwrap-modulus.ensures at c.new.ensures.value in
     let performs = conv-performs r t ds (plain_merged c.in_ok-joined.joined) c.unwrap-modulus.result r.line (plain_program c.in_ok-program.program) same residues refl c.in_ok-program.ensures.performs in
     is-convolver r t ds c.requires.request valid c.requires.plan.2.candidate c.args.h.now c.in_ok-program.program performs joined_means joined_counts c.requires.plan.1 listed
+
+pub returns-clause-letters : goal.returns-clause-letters
+returns-clause-letters c =
+    let r = c.args.request.now in
+    let t = breakdown_of c.args.plan.now.tree in
+    let ds = c.in_ok-diagonal.diagonal.items in
+    let same = joined-same r c.new-forward.result c.new-backward.result t ds (plain_merged c.in_ok-first.first) (plain_merged c.in_ok-second.second) (plain_merged c.in_ok-joined.joined)
+    c.new-forward.ensures (c.new-backward.ensures ∙ c.inverted.ensures) c.in_ok-first.ensures.merged c.in_ok-second.ensures.merged c.in_ok-joined.ensures.joined in
+    let listed : ds ≡ factors_of r c.args.h.now = c.in_ok-diagonal.ensures.value ∙ ap (λ z. factors_of z c.args.h.now) c.new-forward.ensures in
+    let residues : c.unwrap-modulus.result ≡ r.modulus = rw c.unwrap-modulus.ensures at c.new.ensures.value in
+    conv-letters r t c.args.h.now ds (plain_merged c.in_ok-joined.joined) c.unwrap-modulus.result r.line (plain_program c.in_ok-program.program) same residues refl listed c.in_ok-program.ensures.code

@@ -1,18 +1,9 @@
 use Rattle.icode.specs.Program.{plain_program}
 use Rattle.code_check.proofs.Phases.{limits_of}
 use Rattle.code_check.proofs.Whole.{passed_fits}
-use Rattle.fast_main.proofs.Told.{translated_from}
 use Rattle.fast_main.proofs.run.text_of.Goals as goal
 
 pub fast_text_of-requires-clause-fits : goal.fast_text_of-requires-clause-fits
 fast_text_of-requires-clause-fits c =
     let program = c.in_ok-program.program in
     passed_fits (plain_program program) (limits_of program) c.in_ok-verify.ensures.verified
-
-pub fast_text_of-requires-clause-apart : goal.fast_text_of-requires-clause-apart
-fast_text_of-requires-clause-apart c = c.in_ok-verify.ensures.verified.apart
-
-pub returns-clause-text : goal.returns-clause-text
-returns-clause-text c =
-    let program = c.in_ok-program.program in
-    translated_from c.args.listing.now c.in_ok-text.text.items program c.in_ok-program.ensures.answer c.in_ok-verify.ensures.verified c.in_ok-text.ensures.faithful c.in_ok-text.ensures.text

@@ -23,7 +23,7 @@ returns-clause-code c = (
   c.in_ok-formula.formula,
   c.in_ok-program.program,
   forms (command.Apply c.args.modulus.now c.args.schedule.now) c.args.text.now c.in_ok-formula.formula c.in_ok-formula.ensures.formula (sym c.stranger.ensures ∙ c.in_ok-check_turns.ensures.none),
-  c.in_ok-program.ensures.code,
+  record { letters = c.in_ok-program.ensures.letters; code = c.in_ok-program.ensures.code },
   c.in_ok-machine.ensures.code,
 )
 

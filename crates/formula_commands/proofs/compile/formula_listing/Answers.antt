@@ -13,5 +13,5 @@ pub returns-clause-text : goal.returns-clause-text
 returns-clause-text c = (
   c.in_ok-formula.formula,
   forms (command.Compile c.args.modulus.now) c.args.text.now c.in_ok-formula.formula c.in_ok-formula.ensures.formula refl,
-  (c.in_ok-program.program, c.in_ok-program.ensures.code, c.in_ok-listing.ensures.text),
+  (c.in_ok-program.program, record { letters = c.in_ok-program.ensures.letters; code = c.in_ok-program.ensures.code }, c.in_ok-listing.ensures.text),
 )
