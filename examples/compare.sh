@@ -106,5 +106,20 @@ while read -r request; do
   fi
 done <"$top/examples/fast_requests"
 
+# A listing with a place of constants alone, which numbers of 32 bits do not hold: as `exec` runs it
+cat >"$work/listing" <<'END'
+program size 8 mod 17 procs 1 line 1 lanes 1 regs 1
+phase
+ld r0 X[0+(0+(65536)/1*65536)%7*1]
+st Y[0] r0
+end
+END
+vectors 8 5 >"$work/data"
+{ cat "$work/listing" && echo && cat "$work/data"; } | "$program" exec >"$work/wanted"
+"$fast" <"$work/listing" >"$work/text.c"
+compared "fast text of a listing" gcc -O2
+compared "fast text of a listing" clang -O2
+compared "fast text of a listing" gcc -O1 -g -fsanitize=address,undefined
+
 echo "examples: $passed passed, $failed failed"
 [ "$failed" -eq 0 ]
