@@ -1,7 +1,5 @@
 -- Each line of a convolution has an answer, and each of its requests too.
-use Rattle.std.proofs.Common.{ℕ, zero, suc, ◌-◌, ◌%◌, ◌<◌, List, length, Result, Ok, Err, refl, arith, mod-lt}
-use Rattle.std.specs.Int.{IsGcd}
-use Rattle.std.proofs.lemmas.Nat.Gcd.{IsGcd-from_zero, IsGcd-from_mod}
+use Rattle.std.proofs.Common.{ℕ, ◌-◌, List, length, Result, Ok, Err, refl}
 use Rattle.convolution.specs.Request.{IsConvRequest}
 use Rattle.convolver.proofs.Existence.{conv_plan_exists}
 use Rattle.convolver.specs.Planned.{IsConvPlanned}
@@ -10,6 +8,7 @@ use Rattle.grammar.specs.Reading.{whole}
 use Rattle.matrix_meaning.specs.declared.Direction.TheVariants.{Inverse}
 use Rattle.matrix_meaning.specs.declared.Request.{Request}
 use Rattle.plan_faults.specs.declared.convolving.ConvFault.{ConvFault}
+use Rattle.plan_search.proofs.Gcds.{gcd_exists}
 use Rattle.request_text.specs.ConvAnswer.{ConvAnswers}
 use Rattle.request_text.specs.ConvLine.{conv_line}
 use Rattle.request_text.specs.ConvReading.{conv_at}
@@ -23,17 +22,9 @@ use Rattle.spiral_status.specs.declared.status.Status.{Status}
 use Rattle.tree_model.specs.Breakdown.{Breakdown}
 use Rattle.convolution_commands.specs.Convolved.{conv_spelt, convolvable}
 
-gcd_within : (n a b : ℕ) → b < n → (g : ℕ) × IsGcd a b g
-gcd_within zero a b less = absurd (omega arith)
-gcd_within (suc n) a zero less = (a, IsGcd-from_zero a zero refl)
-gcd_within (suc n) a (suc b) less =
-    let rest_below : a % suc b < suc b = mod-lt a (omega arith) in
-    let inner = gcd_within n (suc b) (a % suc b) (omega arith) in
-    (inner.0, IsGcd-from_mod a (suc b) inner.0 inner.1)
-
 answered : (line : List ℕ) (read : Result Request ℕ) → Judges conv_line line read → (answer : Result Request RequestFault) × ConvAnswers line answer
 answered line (Ok r) judges =
-    let g = gcd_within (suc r.modulus) r.size r.modulus (omega arith) in
+    let g = gcd_exists r.size r.modulus in
     let judgement : Result Request RequestFault = judged Inverse g.0 r in
     (judgement, conv_judged_answers line r judgement judges.0 (g.0, g.1, refl))
 answered line (Err left) judges = (Err (Syntax (length line - left)), judges.1)

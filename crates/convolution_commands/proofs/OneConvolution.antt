@@ -12,7 +12,8 @@ use Rattle.grammar.specs.Grammar.{IsStuck}
 use Rattle.icode.specs.Program.{plain_program}
 use Rattle.icode.specs.declared.program.Program.{Program}
 use Rattle.listing_text.specs.Listing.{listing_of}
-use Rattle.plan_cert.proofs.OneTree.{chosen_once}
+use Rattle.plan_search.proofs.BestTrees.{least_once}
+use Rattle.plan_search.proofs.OneTree.{chosen_once}
 use Rattle.matrix_meaning.specs.declared.Direction.TheVariants.{Inverse}
 use Rattle.matrix_meaning.specs.declared.Request.{Request}
 use Rattle.request_text.specs.ConvAnswer.{IsConvFaultOf, ConvAnswers}
@@ -25,7 +26,6 @@ use Rattle.spiral_words.specs.declared.Command.{Command}
 use Rattle.spiral_words.specs.declared.Command.TheVariants as command
 use Rattle.spiral_status.specs.declared.status.Status.{Status}
 use Rattle.spiral_status.specs.Fault.{status_of_conv, status_of_request}
-use Rattle.tree_model.specs.Admissible.{IsLeast}
 use Rattle.tree_model.specs.Breakdown.{Breakdown}
 use Rattle.tree_model.specs.Cost.{cost_of}
 use Rattle.spiral_input.specs.Asking.{asked_by}
@@ -116,12 +116,6 @@ bad_once m n w j k p q = cases (nat_lt j k) (nat_lt k j) refl refl
     cases true b e f = absurd (bad_first m n w j k p q (grind (arith, common_steps)))
     cases false true e f = absurd (bad_first m n w k j q p (grind (arith, common_steps)))
     cases false false e f = grind (arith, common_steps)
-
-pub least_once : (r : Request) (a b : ℕ) → IsLeast r a → IsLeast r b → a ≡ b
-least_once r a b p q =
-    let one : a ≤ cost_of r q.reached.0 = p.bound q.reached.0 q.reached.1 in
-    let two : b ≤ cost_of r p.reached.0 = q.bound p.reached.0 p.reached.1 in
-    omega (arith, one, two, p.reached.2, q.reached.2)
 
 refusal_once : (r : Request) (f g : ConvFault) → IsConvPlanned r (Err f) → IsConvPlanned r (Err g) → f ≡ g
 refusal_once r (conv.Root power) (conv.Root other) p q = ap conv.Root (p.1 ∙ sym q.1)

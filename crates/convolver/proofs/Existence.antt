@@ -1,13 +1,11 @@
 -- Each request for convolutions has a tree, or a first cause to be refused.
 use Rattle.std.proofs.Common.{◌≡◌, ◌⊎◌, ℕ, zero, suc, ◌<◌, ◌≤◌, true, refl, inl, inr, subst, arith, Result, Ok, Err}
-use Rattle.std.proofs.lemmas.Bool.{and_from, cases_Bool, cases_eq, cases_lt, eq-eqb, eqb-true}
+use Rattle.std.proofs.lemmas.Bool.{and_from, cases_Bool, cases_eq, cases_lt, eq-eqb}
 use Rattle.convolution.specs.Convolution.{IsFirstBadPower, power_sum}
 use Rattle.convolution.specs.Request.{IsConvRequest}
+use Rattle.generate.proofs.Existence.{valid_of_rooted}
 use Rattle.generate.specs.Planned.{IsRooted, has_root, root_power}
-use Rattle.matrix_meaning.specs.declared.Kind.{Kind}
-use Rattle.matrix_meaning.specs.declared.Kind.TheVariants.{Dft, Wht}
 use Rattle.matrix_meaning.specs.declared.Request.{Request}
-use Rattle.matrix_meaning.specs.Valid.{HasRoot}
 use Rattle.plan_faults.specs.declared.convolving.ConvFault.{ConvFault}
 use Rattle.plan_faults.specs.declared.convolving.ConvFault.TheVariants.{Root, NotPrincipal, OverBudget}
 use Rattle.plan_search.proofs.BestTrees.{chosen_exists, chosen_is_least}
@@ -34,10 +32,6 @@ first_bad_or_none m n w (suc k) within = elim (first_bad_or_none m n w k (omega 
   ]
 ]
 
-rooted_by : (kind : Kind) (r : Request) → has_root kind (root_power r) ≡ true → HasRoot kind r.modulus r.root r.size
-rooted_by Dft r e = eqb-true (root_power r) 1 e
-rooted_by Wht r e = tt
-
 within_budget_or_not : (r : Request) (t : Breakdown) → IsRooted r → HasPrincipalRoot r → IsChosen r t → (answer : Result Breakdown ConvFault) × IsConvPlanned r answer
 within_budget_or_not r t rooted principal chosen = elim (cases_lt r.budget (conv_cost r t)) [
   | inl over ↦ (Err (OverBudget (conv_cost r t) r.budget), (rooted, principal, (cost_of r t, chosen_is_least r t chosen, refl), refl, over))
@@ -51,7 +45,7 @@ conv_plan_exists r h = elim (cases_Bool (has_root r.kind (root_power r))) [
     | inr bad ↦ (Err (NotPrincipal bad.0), (rooted, bad.1))
     | inl principal ↦
         let plain = and_from _ _ (eq-eqb r.procs 1 h.procs) (eq-eqb r.lanes 1 h.lanes) in
-        let tree = chosen_exists r (record { in_range = h.in_range; root = rooted_by r.kind r rooted }) (inl plain) in
+        let tree = chosen_exists r (valid_of_rooted r h.in_range rooted) (inl plain) in
         within_budget_or_not r tree.0 rooted principal tree.1
   ]
 ]

@@ -6,7 +6,7 @@ use Rattle.dimensions.specs.Transform.{listed, size_in}
 use Rattle.tree_model.specs.Breakdown.{Breakdown}
 use Rattle.tree_model.specs.Cost.{is_plain}
 use Rattle.plan_search.proofs.BestTrees.{chosen_exists}
-use Rattle.plan_search.proofs.Decisions.{IsDecided, decided_fits}
+use Rattle.plan_search.proofs.Decisions.{IsDecidable, decided_fits}
 use Rattle.dimension_plans.specs.declared.SeveralRequest.{SeveralRequest}
 use Rattle.dimension_plans.specs.Laws.{EachIsChosen}
 use Rattle.dimension_plans.specs.Several.{AreChosen, AreValid, CanShare, FitsFirst, IsLeastOf, IsSeveralRequest, part_of, whole_of, several_cost}
@@ -30,7 +30,7 @@ chosen_trees r valid can =
 pub chosen_are_least : (r : SeveralRequest) (ts : List Breakdown) → AreChosen r ts → IsLeastOf r (several_cost r (listed r.dimensions) ts)
 chosen_are_least r ts h = (h.0, record { reached = (ts, h.1.admissible, refl); bound = h.1.least })
 
-decided_first : (r : SeveralRequest) (ds : List Dimension) → IsDecided (FitsFirst r ds)
+decided_first : (r : SeveralRequest) (ds : List Dimension) → IsDecidable (FitsFirst r ds)
 decided_first r [] = inr (λ none. none)
 decided_first r (d ∷ others) = elim (cases_Bool (is_plain (whole_of r))) [
   | inl plain ↦ inl (inl plain)
@@ -40,5 +40,5 @@ decided_first r (d ∷ others) = elim (cases_Bool (is_plain (whole_of r))) [
   ]
 ]
 
-pub decided_share : (r : SeveralRequest) → IsDecided (CanShare r)
+pub decided_share : (r : SeveralRequest) → IsDecidable (CanShare r)
 decided_share r = decided_first r (listed r.dimensions)

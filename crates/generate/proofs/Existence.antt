@@ -18,7 +18,7 @@ rooted_by : (kind : Kind) (r : Request) → has_root kind (root_power r) ≡ tru
 rooted_by Dft r e = eqb-true (root_power r) 1 e
 rooted_by Wht r e = tt
 
-valid_of_rooted : (r : Request) → IsInRange r → IsRooted r → IsValid r
+pub valid_of_rooted : (r : Request) → IsInRange r → IsRooted r → IsValid r
 valid_of_rooted r range rooted = record { in_range = range; root = rooted_by r.kind r rooted }
 
 within_budget_or_not : (r : Request) (t : Breakdown) → IsRooted r → IsChosen r t → (answer : Result Breakdown GenerateFault) × IsPlanned r answer

@@ -10,7 +10,7 @@ use Rattle.tree_model.specs.Cost.{cost_of}
 use Rattle.plan_cert.specs.declared.certificate.Row.{Row}
 use Rattle.plan_cert.specs.Found.{extra_at}
 use Rattle.plan_cert.specs.Table.{IsRootOf, IsChosenRow, IsTable}
-use Rattle.plan_cert.proofs.OneTree.{chosen_once}
+use Rattle.plan_search.proofs.OneTree.{chosen_once}
 
 roots_same : (t : Breakdown) (a b : Option Rule) (r s u v : ℕ) → IsRootOf t a r s → IsRootOf t b u v → (a ≡ b) × (r ≡ u) × (s ≡ v)
 roots_same (leaf d) a b r s u v p q = (p.0 ∙ sym q.0, p.1 ∙ sym q.1, p.2 ∙ sym q.2)

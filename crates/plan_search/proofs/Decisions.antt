@@ -1,8 +1,8 @@
 -- What is decided: whether a request divides, and which rules and leaves it allows.
-use Rattle.std.proofs.Common.{◌≡◌, ◌⊎◌, ℕ, zero, suc, ◌*◌, ◌/◌, ◌%◌, ◌<◌, ◌≤◌, Bool, true, false, refl, sym, subst, inl, inr, arith, mod-lt}
+use Rattle.std.proofs.Common.{◌≡◌, ◌⊎◌, ℕ, zero, suc, ◌*◌, ◌/◌, ◌%◌, ◌<◌, ◌≤◌, Bool, true, false, refl, sym, subst, inl, inr, arith}
 use Rattle.std.specs.Int.{IsGcd}
 use Rattle.std.proofs.lemmas.Bool.{cases_lt, cases_eq, cases_Bool}
-use Rattle.std.proofs.lemmas.Nat.Gcd.{IsGcd-from_zero, IsGcd-from_mod, same_from_IsGcd}
+use Rattle.std.proofs.lemmas.Nat.Gcd.{same_from_IsGcd}
 use Rattle.matrix_meaning.specs.declared.Kind.{Kind}
 use Rattle.matrix_meaning.specs.declared.Kind.TheVariants.{Dft, Wht}
 use Rattle.matrix_meaning.specs.declared.Request.{Request}
@@ -14,35 +14,37 @@ use Rattle.tree_model.specs.Order.{rule_rank}
 use Rattle.tree_model.specs.Admissible.{DividesBoth, Fits, CanDivide, RuleFits, AllowsLeafAt, AllowsNodeAt}
 use Rattle.tree_model.proofs.Splits.{no_left_fits, fits_quotient}
 use Rattle.plan_search.specs.Search.{IsBestRule}
+use Rattle.plan_search.proofs.Gcds.{gcd_exists}
 use Rattle.plan_search.proofs.Parts.{next_cases}
 
 -- it holds, or it does not
-abbrev pub IsDecided : Type 0 → Type 0
-IsDecided A = A ⊎ (A → ⊥)
+abbrev pub IsDecidable : Type 0 → Type 0
+IsDecidable A = A ⊎ (A → ⊥)
 
-pub decided_as : {A B : Type 0} → (A → B) → (B → A) → IsDecided A → IsDecided B
+pub decided_as : {A B : Type 0} → (A → B) → (B → A) → IsDecidable A → IsDecidable B
 decided_as to from (inl a) = inl (to a)
 decided_as to from (inr not) = inr (λ b. not (from b))
 
-pub decided_both : {A B : Type 0} → IsDecided A → IsDecided B → IsDecided (A × B)
+pub decided_both : {A B : Type 0} → IsDecidable A → IsDecidable B → IsDecidable (A × B)
 decided_both (inl a) (inl b) = inl (a, b)
 decided_both (inl a) (inr not) = inr (λ both. not both.1)
 decided_both (inr not) h = inr (λ both. not both.0)
 
-pub decided_where : {A B : Type 0} → IsDecided A → IsDecided B → IsDecided (A → B)
+pub decided_where : {A B : Type 0} → IsDecidable A → IsDecidable B → IsDecidable (A → B)
 decided_where (inl a) (inl b) = inl (λ x. b)
 decided_where (inl a) (inr not) = inr (λ f. not (f a))
 decided_where (inr not) h = inl (λ a. absurd (not a))
 
-decided_le : (a b : ℕ) → IsDecided (a ≤ b)
+decided_le : (a b : ℕ) → IsDecidable (a ≤ b)
 decided_le a b = elim (cases_lt b a) [ inl over ↦ inr (λ le. omega arith) | inr le ↦ inl le ]
 
-decided_false : (b : Bool) → IsDecided (b ≡ false)
+decided_false : (b : Bool) → IsDecidable (b ≡ false)
 decided_false false = inl refl
 decided_false true = inr (λ e. grind arith)
 
 -- one of the numbers below n, or none
-decided_below : (P : ℕ → Type 0) → ((k : ℕ) → IsDecided (P k)) → (n : ℕ) → ((k : ℕ) × P k) ⊎ ((k : ℕ) → k < n → P k → ⊥)
+decided_below : (P : ℕ → Type 0) → ((k : ℕ) → IsDecidable (P k)) → (n : ℕ) →
+    ((k : ℕ) × P k) ⊎ ((k : ℕ) → k < n → P k → ⊥)
 decided_below P each zero = inr (λ k less p. omega arith)
 decided_below P each (suc n) = elim (each n) [
   | inl p ↦ inl (n, p)
@@ -52,25 +54,17 @@ decided_below P each (suc n) = elim (each n) [
   ]
 ]
 
-gcd_within : (n a b : ℕ) → b < n → (g : ℕ) × IsGcd a b g
-gcd_within zero a b less = absurd (omega arith)
-gcd_within (suc n) a zero less = (a, IsGcd-from_zero a zero refl)
-gcd_within (suc n) a (suc b) less =
-    let rest_below : a % suc b < suc b = mod-lt a (omega arith) in
-    let inner = gcd_within n (suc b) (a % suc b) (omega arith) in
-    (inner.0, IsGcd-from_mod a (suc b) inner.0 inner.1)
-
-decided_coprime : (r s : ℕ) → IsDecided (IsGcd r s 1)
+decided_coprime : (r s : ℕ) → IsDecidable (IsGcd r s 1)
 decided_coprime r s =
-    let g = gcd_within (suc s) r s (omega arith) in
+    let g = gcd_exists r s in
     elim (cases_eq g.0 1) [ inl one ↦ inl (subst (λ (k : ℕ). IsGcd r s k) one g.1) | inr other ↦ inr (λ h. other (same_from_IsGcd r s g.0 1 g.1 h)) ]
 
 -- ---- roots
 
-decided_divides_both : (q r s : ℕ) → IsDecided (DividesBoth q r s)
+decided_divides_both : (q r s : ℕ) → IsDecidable (DividesBoth q r s)
 decided_divides_both q r s = decided_both (cases_eq (r % q) 0) (cases_eq (s % q) 0)
 
-pub decided_fits : (c : Request) (r s : ℕ) → IsDecided (Fits c r s)
+pub decided_fits : (c : Request) (r s : ℕ) → IsDecidable (Fits c r s)
 decided_fits c r s =
     decided_as
     (λ h. record { left = h.0.0; right = h.0.1; product = h.1.0; procs = h.1.1.0; lanes = h.1.1.1 })
@@ -79,10 +73,10 @@ decided_fits c r s =
     (decided_both (cases_eq (r * s) c.size)
     (decided_both (decided_where (decided_le 2 c.procs) (decided_divides_both (c.procs * c.line) r s)) (decided_where (decided_le 2 c.lanes) (decided_divides_both c.lanes r s)))))
 
-decided_left : (c : Request) (r : ℕ) → IsDecided ((s : ℕ) × Fits c r s)
+decided_left : (c : Request) (r : ℕ) → IsDecidable ((s : ℕ) × Fits c r s)
 decided_left c r = decided_as (λ h. (c.size / r, h)) (fits_quotient c r) (decided_fits c r (c.size / r))
 
-pub decided_divide : (c : Request) → IsDecided (CanDivide c)
+pub decided_divide : (c : Request) → IsDecidable (CanDivide c)
 decided_divide c = elim (cases_Bool (is_plain c)) [
   | inl plain ↦ inl (inl plain)
   | inr spread ↦ elim (decided_below (λ r. (s : ℕ) × Fits c r s) (decided_left c) c.size) [
@@ -93,16 +87,16 @@ decided_divide c = elim (cases_Bool (is_plain c)) [
 
 -- ---- leaves and rules
 
-decided_leaf_of : (kind : Kind) (d : ℕ) → IsDecided (AllowsLeaf kind d)
+decided_leaf_of : (kind : Kind) (d : ℕ) → IsDecidable (AllowsLeaf kind d)
 decided_leaf_of Dft d = decided_le 1 d
 decided_leaf_of Wht d = decided_both (decided_le 1 d) (decided_le d 2)
 
-pub decided_leaf : (c : Request) (d : ℕ) → IsDecided (AllowsLeafAt c d)
+pub decided_leaf : (c : Request) (d : ℕ) → IsDecidable (AllowsLeafAt c d)
 decided_leaf c d =
     decided_as (λ h. record { leaf = h.0; root = h.1 }) (λ h. (h.leaf, h.root))
     (decided_both (decided_leaf_of c.kind d) (decided_where (cases_eq d c.size) (decided_where (decided_false (is_plain c)) (inr (λ none. none)))))
 
-decided_rule : (kind : Kind) (rule : Rule) (r s : ℕ) → IsDecided (AllowsRule kind rule r s)
+decided_rule : (kind : Kind) (rule : Rule) (r s : ℕ) → IsDecidable (AllowsRule kind rule r s)
 decided_rule Dft Gt r s = decided_coprime r s
 decided_rule Dft Ct r s = inl tt
 decided_rule Dft Split r s = inr (λ none. none)
@@ -110,12 +104,12 @@ decided_rule Wht Gt r s = inr (λ none. none)
 decided_rule Wht Ct r s = inr (λ none. none)
 decided_rule Wht Split r s = inl tt
 
-decided_root : (c : Request) (rule : Rule) (r s : ℕ) → IsDecided (RuleFits c rule r s)
+decided_root : (c : Request) (rule : Rule) (r s : ℕ) → IsDecidable (RuleFits c rule r s)
 decided_root c Gt r s = inr (λ none. none)
 decided_root c Ct r s = decided_fits c r s
 decided_root c Split r s = decided_fits c r s
 
-decided_node : (c : Request) (rule : Rule) (r s : ℕ) → IsDecided (AllowsNodeAt c rule r s)
+decided_node : (c : Request) (rule : Rule) (r s : ℕ) → IsDecidable (AllowsNodeAt c rule r s)
 decided_node c rule r s =
     decided_as
     (λ h. record { split = record { left = h.0.0; right = h.0.1.0; allowed = h.0.1.1 }; root = h.1 })

@@ -17,9 +17,9 @@ use Rattle.transform_requests.specs.declared.TransformRequest.TheVariants.{One, 
 use Rattle.transform_requests.specs.Range.{AreRooted}
 use Rattle.tree_model.specs.Breakdown.{Breakdown}
 use Rattle.tree_model.specs.Cost.{cost_of}
-use Rattle.plan_cert.proofs.OneTree.{chosen_once}
+use Rattle.plan_search.proofs.BestTrees.{least_once}
+use Rattle.plan_search.proofs.OneTree.{chosen_once}
 use Rattle.transform_certs.proofs.OneText.{trees_once}
-use Rattle.convolution_commands.proofs.OneConvolution.{least_once}
 use Rattle.request_commands.proofs.PlanLemmas.{candidate_divides}
 
 two_values : (b : Bool) → b ≡ true → b ≡ false → ⊥

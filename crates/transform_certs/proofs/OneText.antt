@@ -10,7 +10,7 @@ use Rattle.matrix_meaning.specs.declared.Kind.TheVariants.{Dft}
 use Rattle.plan_cert.specs.declared.certificate.Row.{Row}
 use Rattle.plan_cert.specs.Table.{table_data}
 use Rattle.plan_cert.proofs.OneTable.{table_once}
-use Rattle.plan_cert.proofs.OneTree.{chosen_once}
+use Rattle.plan_search.proofs.OneTree.{chosen_once}
 use Rattle.serde_json.specs.Written.{compact_text}
 use Rattle.tree_model.specs.Breakdown.{Breakdown}
 use Rattle.tree_model.proofs.Sizes.{one_le_size_of}

@@ -1,11 +1,10 @@
 -- Each line has an answer.
-use Rattle.std.proofs.Common.{ℕ, zero, suc, ◌-◌, ◌%◌, ◌<◌, List, length, max, Result, Ok, Err, refl, arith, mod-lt}
-use Rattle.std.specs.Int.{IsGcd}
-use Rattle.std.proofs.lemmas.Nat.Gcd.{IsGcd-from_zero, IsGcd-from_mod}
+use Rattle.std.proofs.Common.{ℕ, ◌-◌, List, length, max, Result, Ok, Err, refl}
 use Rattle.dimension_plans.specs.declared.SeveralRequest.{SeveralRequest}
 use Rattle.grammar.specs.Grammar.{IsStuck, Judges}
 use Rattle.grammar.specs.Reading.{whole}
 use Rattle.matrix_meaning.specs.declared.Request.{Request}
+use Rattle.plan_search.proofs.Gcds.{gcd_exists}
 use Rattle.request_text.specs.Answer.{Answers}
 use Rattle.request_text.specs.Limits.{IsJudged, judged}
 use Rattle.request_text.specs.Line.{request_line}
@@ -29,17 +28,9 @@ IsAnswered text = (answer : Result TransformRequest RequestFault) × TransformAn
 
 -- ---- one size
 
-gcd_within : (n a b : ℕ) → b < n → (g : ℕ) × IsGcd a b g
-gcd_within zero a b less = absurd (omega arith)
-gcd_within (suc n) a zero less = (a, IsGcd-from_zero a zero refl)
-gcd_within (suc n) a (suc b) less =
-    let rest_below : a % suc b < suc b = mod-lt a (omega arith) in
-    let inner = gcd_within n (suc b) (a % suc b) (omega arith) in
-    (inner.0, IsGcd-from_mod a (suc b) inner.0 inner.1)
-
 judgement_of : (r : Request) → (judgement : Result Request RequestFault) × IsJudged r.direction r judgement
 judgement_of r =
-    let g = gcd_within (suc r.modulus) r.size r.modulus (omega arith) in
+    let g = gcd_exists r.size r.modulus in
     (judged r.direction g.0 r, (g.0, g.1, refl))
 
 of_judgement : (text : List ℕ) (r : Request) (judgement : Result Request RequestFault) → request_line text r → Answers text judgement → IsAnswered text
