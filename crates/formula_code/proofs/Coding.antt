@@ -5,8 +5,6 @@ use Rattle.std.proofs.lemmas.List.{length-map, reverse-append}
 use Rattle.formula_code.specs.Code.{IsCodeOf}
 use Rattle.formula_code.specs.Letters.{program_as_it_stands}
 use Rattle.formula_lower.specs.Terms.{term_of}
-use Rattle.formula_lower.proofs.Lowers.{lowers}
-use Rattle.formula_lower.proofs.Several.{term-several}
 use Rattle.formula_passes.specs.Computes.{formula_merged}
 use Rattle.formula_passes.proofs.Formulas.{formulas_can_program}
 use Rattle.formula_passes.proofs.Programs.{formulas_compute}
@@ -21,11 +19,10 @@ use Rattle.joined_copies.proofs.Passes.{joined-order, joined_are_plain}
 use Rattle.pass_actions.specs.Machine.{plain_machine}
 use Rattle.pass_programs.specs.Contract.{CanProgram, Performs}
 use Rattle.pass_programs.specs.Program.{program_of}
-use Rattle.passes.specs.Limits.{HasSeveral}
 use Rattle.passes.specs.Merge.{passes_of}
 use Rattle.passes.specs.Merged.{PlainMerged}
 use Rattle.passes.specs.Nest.{PlainNest}
-use Rattle.passes.specs.Sigma.{passes_in_order}
+use Rattle.passes.specs.Sigma.{CanMerge, passes_in_order}
 use Rattle.passes.specs.Views.{plain_nest}
 use Rattle.passes.specs.declared.nest.Nest.{Nest}
 use Rattle.passes.specs.Term.{PlainTerm}
@@ -34,18 +31,12 @@ use Rattle.program_laws.specs.Plain.{in_order}
 use Rattle.program_laws.proofs.Plain.{plain-can}
 use Rattle.spl_ast.specs.Formula.{Formula, parts_of, size_of}
 use Rattle.spl_ast.specs.Shape.{IsShaped}
-use Rattle.spl_ast.proofs.Vectors.{shaped_size}
-use Rattle.term_merge.specs.Known.{IsGood}
 
 -- ---- the term of a formula
 
-pub term_good : (m n : ℕ) (f : Formula) (t : PlainTerm) → 2 ≤ m → IsShaped f → n ≡ size_of f → t ≡ term_of m [] f → IsGood n t
-term_good m n f t large shaped size is =
-    let lowered = lowers m [] f (omega (arith, large)) (shaped_size f shaped) shaped in
-    subst (IsGood n) (sym is) (subst (λ k. IsGood k (term_of m [] f)) (sym size) (record { lanes = 0; term = lowered.good }))
-
-pub term_several : (m : ℕ) (f : Formula) (t : PlainTerm) → IsShaped f → t ≡ term_of m [] f → HasSeveral t
-term_several m f t shaped is = subst HasSeveral (sym is) (term-several m [] f tt shaped)
+-- it can be merged
+pub term_merges : (n : ℕ) (f : Formula) (t : PlainTerm) → n ≡ size_of f → CanMerge 0 (size_of f) t → CanMerge 0 n t
+term_merges n f t size can = subst (λ k. CanMerge 0 k t) (sym size) can
 
 -- ---- passes in one phase
 

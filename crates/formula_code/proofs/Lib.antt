@@ -1,3 +1,2 @@
 pub mod Coding
 pub mod Regrouped
-pub mod Wording

@@ -51,7 +51,6 @@ fn code_of_formula(alloc: Global, modulus: &Modulus, formula: &Spl) -> Result<Pr
 }
 
 // The passes of a formula, with copies joined, as one phase of one processor and one lane.
-#[tactic(auto, using(crate::proofs::Coding::term_several, crate::proofs::Wording::term_words))]
 fn merge_formula(alloc: Global, modulus: &Modulus, formula: &Spl) -> Result<Merged, NoMemory>
     ensures { IfOk result (λ g. plain_merged g ≡ formula_merged modulus.now formula.now) }
 {

@@ -15,6 +15,8 @@ pub mod TreesKeep
 pub mod Numbers
 pub mod TightPaths
 pub mod CanMerge
+pub mod FormulaWords
+pub mod Formulas
 mod Roomy
 pub mod Sigmas
 pub mod Costs

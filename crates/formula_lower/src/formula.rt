@@ -1,17 +1,22 @@
 // The term of a formula.
-ghost use Rattle.std.specs.Prelude.{◌≡◌, ◌%◌, [], IfOk, map};
+ghost use Rattle.std.specs.Prelude.{◌≡◌, ◌%◌, ℕ, List, [], IfOk, map};
+ghost use Rattle.formula_lower.specs.Operations.{operations, work_cost};
 ghost use Rattle.formula_lower.specs.Terms.{one_more, halvings, hadamard_term, fourier_term, term_of};
 ghost use Rattle.index_fn.specs.Index.{mapping_of};
 ghost use Rattle.matrix_meaning.specs.declared.Kind.TheVariants.{Wht};
 ghost use Rattle.matrix_meaning.specs.Kind.{IsPowerOfTwo};
+ghost use Rattle.passes.specs.Counts.{term_cost};
+ghost use Rattle.passes.specs.Good.{IsVector};
 ghost use Rattle.passes.specs.Nest.{twiddles, values};
-ghost use Rattle.passes.specs.Term.{gath, diag, nest, move, product, beside};
+ghost use Rattle.passes.specs.Sigma.{CanMerge};
+ghost use Rattle.passes.specs.Term.{gath, diag, nest, move, product, beside, term_on};
 ghost use Rattle.passes.specs.Views.{plain_term, plain_work};
 ghost use Rattle.passes.specs.Work.{kernel};
 ghost use Rattle.rooted_trees.specs.Trees.{single};
 ghost use Rattle.passes.specs.Room.{HasRoom};
 ghost use Rattle.sigma_lower.specs.Wrapped.{wrapped};
 ghost use Rattle.spl_ast.specs.Formula.{size_of};
+ghost use Rattle.spl_ast.specs.Meaning.{apply};
 ghost use Rattle.tensor_paths.specs.declared.Tensor.TheVariants.{Columns};
 ghost use Rattle.tree_model.specs.Breakdown.{leaf};
 
@@ -30,10 +35,22 @@ use tree_model::Tree;
 /// The longest DFT that is straight-line code.
 const MAX_KERNEL: u64 = 8;
 
-/// The term of a formula over residues: its diagonals hold residues.
+/// The term of a formula over residues: its diagonals hold residues. It does what the formula does, in its operations,
+/// and can be merged.
 pub fn lower_formula(alloc: Global, modulus: &Modulus, formula: &Spl) -> Result<Term, NoMemory>
-    ensures { IfOk result (λ t. plain_term t ≡ term_of modulus.now [] formula.now) }
+    ensures form { IfOk result (λ t. plain_term t ≡ term_of modulus.now [] formula.now) }
+    ensures meaning { IfOk result (λ t. (x : List ℕ)
+        → IsVector modulus.now (size_of formula.now) x
+        → term_on modulus.now (size_of formula.now) (plain_term t) x
+        ≡ apply modulus.now formula.now x) }
+
+    // It has no tiles, so the lanes are 0.
+    ensures good { IfOk result (λ t. CanMerge 0 (size_of formula.now) (plain_term t)) }
+    ensures operations { IfOk result (λ t. (weight : ℕ)
+        → term_cost weight (work_cost weight modulus.now) (size_of formula.now) (plain_term t)
+        ≡ operations weight modulus.now formula.now) }
 {
+    let _modulus = modulus.get();
     let _rows = formula.rows();
     let whole = term(alloc, modulus, &[], formula)?;
     Ok(whole)

@@ -32,7 +32,8 @@ fourier-words size path n w low =
       | inr short ↦ let is : fourier_term path n w ≡ nest path (kernel (single Dft w (leaf n))) = grind (arith, nat_tests) in subst (AreWords size) (sym is) (omega (arith, low))
     ]
 
-term-words : (m : ℕ) (path : Path) (f : Formula) → size_under path (size_of f) ≤ 1048576 → IsShaped f → AreWords (size_under path (size_of f)) (term_of m path f)
+pub term-words : (m : ℕ) (path : Path) (f : Formula) → size_under path (size_of f) ≤ 1048576 → IsShaped f →
+    AreWords (size_under path (size_of f)) (term_of m path f)
 term-words m path (Identity n) high shaped = tt
 term-words m path (Fourier n w) high shaped = let low = shaped.0.1 in fourier-words (size_under path n) path n w low
 term-words m path (Hadamard n) high shaped = hadamard-words (size_under path n) path (halvings n n)
@@ -63,7 +64,3 @@ term-words m path (TensorRight k a) high shaped =
     subst (λ z. AreWords z (term_of m (one_more path (Blocks k)) a)) size (term-words m (one_more path (Blocks k)) a (omega (arith, size, high)) shaped.1)
 term-words m path (DirectSum a b) high shaped = (term-words m [] a (size_is_size a shaped.0).1 shaped.0, term-words m [] b (size_is_size b shaped.1).1 shaped.1)
 term-words m path (Pending a) high shaped = term-words m path a high shaped
-
-pub term_words : (m n : ℕ) (f : Formula) (t : PlainTerm) → IsShaped f → n ≡ size_of f → t ≡ term_of m [] f → AreWords n t
-term_words m n f t shaped size is =
-    subst (λ s. AreWords n s) (sym is) (subst (λ k. AreWords k (term_of m [] f)) (sym size) (term-words m [] f (size_is_size f shaped).1 shaped))
