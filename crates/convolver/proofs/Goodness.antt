@@ -70,7 +70,8 @@ module _ (r : Request) (t : Breakdown) (ds : List ℕ) (request : IsConvRequest 
 
     counts-both : JoinedCounts → CountsBoth (machine_of r) (tree_merged r t) (tree_merged (inverted r) t) (plain_program p)
     counts-both counts =
-        (counts (machine_of r) (tree_merged r t) (tree_merged (inverted r) t) ds (trees_can_program r t valid h) (tree-small r valid t h).free).program (plain_program p) request.procs performs
+        (counts (tree_merged r t) (tree_merged (inverted r) t) ds (machine_of r) (trees_can_program r t valid h)
+        (tree-small r valid t h).free).program (plain_program p) request.procs performs
 
     pub is-convolver : JoinedMeans → JoinedCounts → IsPrincipal r.modulus r.size r.root → ds ≡ factors_of r ls → IsConvolver r t ls p
     is-convolver means counts principal listed =

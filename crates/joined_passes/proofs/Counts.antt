@@ -6,7 +6,7 @@ use Rattle.std.proofs.lemmas.List.Sums.{sum_by-append}
 use Rattle.icode.specs.Machine.{counts_of, weighted}
 use Rattle.icode.specs.Plain.{PlainProgram}
 use Rattle.joined_passes.specs.Joined.{joined, with_values}
-use Rattle.joined_passes.specs.Laws.{CountsBoth, CountsJoined, IsFree, JoinedCounts, LastHas}
+use Rattle.joined_passes.specs.Laws.{CountBoth, CountsBoth, CountsJoined, IsFree, JoinedCounts, LastHas}
 use Rattle.multiplied_passes.specs.Multiplied.{multiplied_last}
 use Rattle.multiplied_passes.specs.declared.Pick.TheVariants.{Own}
 use Rattle.multiplied_passes.proofs.Adding.{CountsPasses, executed, performed-count}
@@ -54,7 +54,7 @@ module _ (h : PlainMachine) (g k : PlainMerged) (ds : List ℕ) (can : CanProgra
             ∙ ap (λ n. h.size * n) (length-append changed second ∙ ap (λ n. n + length second) (length-last (map (with_values ds)) (all_passes g.phases)));
       }
 
-  pub counts-joined : CountsJoined h g ds k
+  pub counts-joined : CountsJoined h g k (joined g ds k)
   counts-joined =
       record {
         costs = λ weight.
@@ -65,4 +65,12 @@ module _ (h : PlainMachine) (g k : PlainMerged) (ds : List ℕ) (can : CanProgra
       }
 
 pub joined_counts : JoinedCounts
-joined_counts h g k ds can free = counts-joined h g k ds can free
+joined_counts g k ds h can free = counts-joined h g k ds can free
+
+-- so does what has their phases
+pub count_both : (g k : PlainMerged) (ds : List ℕ) (phases : List (List (List PlainNest))) → phases ≡ (joined g ds k).phases →
+    CountBoth g k (record { size = g.size; procs = g.procs; lanes = g.lanes; phases = phases })
+count_both g k ds phases is =
+    let Counts : List (List (List PlainNest)) → Type 0 =
+    λ ps. CountBoth g k (record { size = g.size; procs = g.procs; lanes = g.lanes; phases = ps }) in
+    subst Counts (sym is) (joined_counts g k ds)

@@ -51,13 +51,19 @@ pub record CountsBoth (h : PlainMachine) (g k : PlainMerged) (p : PlainProgram) 
   pub loads : (whole_counts (plain_code p) 0).loads ≡ sum_by pass_loads (all_passes g.phases) + sum_by pass_loads (all_passes k.phases)
   pub stores : (whole_counts (plain_code p) 0).stores ≡ h.size * (length (all_passes g.phases) + length (all_passes k.phases))
 
--- pass by pass, and in a program for one processor
-pub record CountsJoined (h : PlainMachine) (g : PlainMerged) (ds : List ℕ) (k : PlainMerged) : Type 0 where
+-- all counts so on this machine: pass by pass, and in a program for one processor
+pub record CountsJoined (h : PlainMachine) (g k all : PlainMerged) : Type 0 where
   pub costs : (weight : ℕ) →
-      map (pass_cost weight h.modulus) (all_passes (joined g ds k).phases)
+      map (pass_cost weight h.modulus) (all_passes all.phases)
       ≡ more_last (weight * h.size) (map (pass_cost weight h.modulus) (all_passes g.phases)) ++ map (pass_cost weight h.modulus) (all_passes k.phases)
-  pub loads : map pass_loads (all_passes (joined g ds k).phases) ≡ map pass_loads (all_passes g.phases) ++ map pass_loads (all_passes k.phases)
-  pub program : (p : PlainProgram) → h.procs ≡ 1 → Performs h (joined g ds k) p → CountsBoth h g k p
+  pub loads :
+      map pass_loads (all_passes all.phases)
+      ≡ map pass_loads (all_passes g.phases) ++ map pass_loads (all_passes k.phases)
+  pub program : (p : PlainProgram) → h.procs ≡ 1 → Performs h all p → CountsBoth h g k p
+
+-- so on each machine for which a program can be made of g
+abbrev pub CountBoth : PlainMerged → PlainMerged → PlainMerged → Type 0
+CountBoth g k all = (h : PlainMachine) → CanProgram h g → LastHas IsFree (all_passes g.phases) → CountsJoined h g k all
 
 abbrev pub JoinedCounts : Type 0
-JoinedCounts = (h : PlainMachine) (g k : PlainMerged) (ds : List ℕ) → CanProgram h g → LastHas IsFree (all_passes g.phases) → CountsJoined h g ds k
+JoinedCounts = (g k : PlainMerged) (ds : List ℕ) → CountBoth g k (joined g ds k)

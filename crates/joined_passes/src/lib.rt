@@ -3,7 +3,7 @@
 
 ghost use Rattle.std.specs.Prelude.{◌≡◌, IfOk};
 ghost use Rattle.joined_passes.specs.Joined.{joined};
-ghost use Rattle.joined_passes.specs.Laws.{AreInTurn, JoinedCanProgram, JoinedCounts, JoinedMeans};
+ghost use Rattle.joined_passes.specs.Laws.{AreInTurn, CountBoth, JoinedCanProgram, JoinedCounts, JoinedMeans};
 ghost use Rattle.multiplied_passes.specs.Views.{plain_passes, plain_phases};
 ghost use Rattle.pass_programs.specs.Contract.{all_passes};
 ghost use Rattle.passes.specs.Views.{plain_merged};
@@ -15,6 +15,7 @@ use std::alloc::Global;
 
 /// The passes of `first`, the diagonal after the last of them, and the passes of `second`: the value at a place multiplies
 /// the item that the last pass stores there. All are in one phase, for one processor, which needs no barrier between them.
+/// They count what both count, and a product for each word.
 pub fn join(
     alloc: Global,
     first: Merged,
@@ -25,6 +26,8 @@ pub fn join(
         plain_merged all ≡ joined (plain_merged first) diagonal.items (plain_merged second)) }
     ensures meaning { IfOk result (λ all.
         AreInTurn (plain_merged first) diagonal.items (plain_merged second) (plain_merged all)) }
+    ensures counts { IfOk result (λ all.
+        CountBoth (plain_merged first) (plain_merged second) (plain_merged all)) }
 {
     let Merged {
         size,
