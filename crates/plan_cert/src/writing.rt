@@ -1,9 +1,11 @@
 // The certificate of a request, as text.
 ghost use Rattle.std.specs.Prelude.{◌≡◌, ℕ, List, IfOk};
-ghost use Rattle.tree_model.specs.Admissible.{CanDivide};
+ghost use Rattle.tree_model.specs.Admissible.{CanDivide, IsLeastWhole};
 ghost use Rattle.serde_json.specs.Data.{array};
 ghost use Rattle.serde_json.specs.View.{view};
 ghost use Rattle.plan_cert.specs.declared.certificate.Row.{Row as SpecRow};
+ghost use Rattle.plan_cert.specs.declared.verdict.Verdict.TheVariants.{Least};
+ghost use Rattle.plan_cert.specs.Verdict.{IsVerdict};
 ghost use Rattle.plan_cert.specs.Table.{choice_name, row_data, rows_data, table_data, IsLineOf, IsPlain, IsTableText, IsTableValue};
 
 use crate::certificate::Row;
@@ -14,10 +16,13 @@ use std::alloc::Global;
 use tree_model::{Ctx, Rule};
 
 /// The certificate of a request, one line of JSON of version 2: the weight, and for each wanted size the first of the
-/// cheapest trees.
+/// cheapest trees. Its verdict is the request's least cost.
 pub fn certify(alloc: Global, c: &Ctx) -> Result<Vec<u8>, NoMemory>
     requires { CanDivide c.now }
-    ensures { IfOk result (λ text. (rows : List SpecRow) × IsTableText c.now text.items rows) }
+    ensures table { IfOk result (λ text.
+        (rows : List SpecRow) × IsTableText c.now text.items rows) }
+    ensures least { IfOk result (λ text.
+        (cost : ℕ) × IsVerdict c.now text.items (Least cost) × IsLeastWhole c.now cost) }
 {
     let _ = c.request();
     let value = certificate_value(alloc, c)?;

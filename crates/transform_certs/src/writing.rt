@@ -1,13 +1,15 @@
 // The certificate of a request, as text.
-ghost use Rattle.std.specs.Prelude.{◌≡◌, ◌∷◌, List, IfOk};
+ghost use Rattle.std.specs.Prelude.{◌≡◌, ◌∷◌, ℕ, List, IfOk};
 ghost use Rattle.dimension_plans.specs.Several.{part_of, AreValid, IsSeveralRequest};
 ghost use Rattle.dimensions.specs.Transform.{listed_others};
 ghost use Rattle.matrix_meaning.specs.Valid.{IsValid};
 ghost use Rattle.plan_cert.specs.Table.{IsTableValue};
 ghost use Rattle.plan_cert.specs.declared.certificate.Row.{Row};
+ghost use Rattle.plan_cert.specs.declared.verdict.Verdict.TheVariants.{Least};
 ghost use Rattle.serde_json.specs.View.{items_view, view};
 ghost use Rattle.transform_certs.specs.Certified.{AreCertificates, AreTablesText, IsCertificateText};
-ghost use Rattle.transform_certs.specs.Least.{AdmitsTrees};
+ghost use Rattle.transform_certs.specs.Judged.{IsVerdict};
+ghost use Rattle.transform_certs.specs.Least.{AdmitsTrees, IsLeastCost};
 ghost use Rattle.transform_requests.specs.Range.{IsRequestValid};
 
 use dimension_plans::SeveralRequest;
@@ -19,11 +21,14 @@ use std::alloc::Global;
 use transform_requests::TransformRequest;
 use tree_model::Ctx;
 
-/// The certificate of a request, one line of JSON: of several dimensions, a list of the certificates of each.
+/// The certificate of a request, one line of JSON: of several dimensions, a list of the certificates of each. Its
+/// verdict is the request's least cost.
 pub fn certify(alloc: Global, request: &TransformRequest) -> Result<Vec<u8>, NoMemory>
     requires valid { IsRequestValid request.now }
     requires trees { AdmitsTrees request.now }
-    ensures { IfOk result (λ text. IsCertificateText request.now text.items) }
+    ensures table { IfOk result (λ text. IsCertificateText request.now text.items) }
+    ensures least { IfOk result (λ text. (cost : ℕ)
+        × IsVerdict request.now text.items (Least cost) × IsLeastCost request.now cost) }
 {
     match request {
         TransformRequest::One(request) => {
