@@ -12,7 +12,7 @@ use Rattle.request_text.specs.Schedule.{Plan}
 use Rattle.spiral_words.specs.declared.Command.{Command}
 use Rattle.spiral_words.specs.declared.Command.TheVariants as command
 use Rattle.spiral_status.specs.declared.status.Status.{Status}
-use Rattle.spiral_status.specs.declared.status.Status.TheVariants.{Success, Usage, Syntax, Range, Shape, LanesLine, NotUnit, Turn, NotPrincipal, NoDivide, OverBudget, BadNumber, Truncated, ReadFault, WriteFault, NoMemory, TooLong, Unread, Wrong, FormulaShape, FormulaTooDeep, ListingSyntax, Address, Register, LineShared, OverSteps}
+use Rattle.spiral_status.specs.declared.status.Status.TheVariants.{Success, Usage, Syntax, Range, Shape, LanesLine, NotUnit, Turn, NotPrincipal, NoDivide, OverBudget, BadNumber, Truncated, ReadFault, WriteFault, NoMemory, TooLong, Unread, Wrong, FormulaShape, TooDeep, ListingSyntax, Address, Register, LineShared, OverSteps}
 use Rattle.spiral_status.specs.declared.status.Status.TheVariants as status
 use Rattle.request_commands.specs.Checked.{IsChecked, status_of_verdict}
 use Rattle.spiral_input.specs.Commands.{reads_certificate, takes_convolution}
@@ -155,7 +155,7 @@ memory_or (TooLong limit) = inr (λ e. cc)
 memory_or Unread = inr (λ e. cc)
 memory_or (Wrong size given found) = inr (λ e. cc)
 memory_or (FormulaShape at left right) = inr (λ e. cc)
-memory_or (FormulaTooDeep at) = inr (λ e. cc)
+memory_or (TooDeep at) = inr (λ e. cc)
 memory_or (ListingSyntax line) = inr (λ e. cc)
 memory_or (Address phase proc action) = inr (λ e. cc)
 memory_or (Register phase proc action) = inr (λ e. cc)

@@ -19,7 +19,7 @@ use Rattle.plan_faults.specs.declared.generating.GenerateFault.TheVariants as ge
 use Rattle.stream_run.specs.declared.stream.StreamFault.{StreamFault}
 use Rattle.stream_run.specs.declared.stream.StreamFault.TheVariants as stream
 use Rattle.spiral_status.specs.declared.status.Status.{Status}
-use Rattle.spiral_status.specs.declared.status.Status.TheVariants.{Success, Syntax, Range, Shape, LanesLine, NotUnit, Root, NotPrincipal, NoDivide, OverBudget, BadNumber, Truncated, ReadFault, WriteFault, NoMemory, TooLong, FormulaShape, FormulaTooDeep, ListingSyntax, Address, Register, LineShared, OverSteps}
+use Rattle.spiral_status.specs.declared.status.Status.TheVariants.{Success, Syntax, Range, Shape, LanesLine, NotUnit, Root, NotPrincipal, NoDivide, OverBudget, BadNumber, Truncated, ReadFault, WriteFault, NoMemory, TooLong, FormulaShape, TooDeep, ListingSyntax, Address, Register, LineShared, OverSteps}
 
 -- of the first line
 abbrev pub status_of_line : FeedFault → Status
@@ -60,7 +60,7 @@ status_of_fault stream.WriteFault = WriteFault
 
 abbrev pub status_of_spl : SplFault → Status
 status_of_spl (spl.Syntax at) = Syntax at
-status_of_spl (spl.TooDeep at) = FormulaTooDeep at
+status_of_spl (spl.TooDeep at) = TooDeep at
 status_of_spl (spl.Shape at left right) = FormulaShape at left right
 status_of_spl spl.NoMemory = NoMemory
 

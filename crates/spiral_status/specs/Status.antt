@@ -3,7 +3,7 @@ use Rattle.std.specs.Prelude.{◌≢◌, ℕ, List, [], ◌∷◌, codes, decima
 use Rattle.std.specs.List.{concat}
 use Rattle.request_text.specs.Fields.{field_word}
 use Rattle.spiral_status.specs.declared.status.Status.{Status}
-use Rattle.spiral_status.specs.declared.status.Status.TheVariants.{Success, Usage, Syntax, Range, Shape, LanesLine, NotUnit, Turn, Root, NotPrincipal, NoDivide, OverBudget, BadNumber, Truncated, ReadFault, WriteFault, NoMemory, TooLong, Unread, Wrong, FormulaShape, FormulaTooDeep, ListingSyntax, Address, Register, LineShared, OverSteps}
+use Rattle.spiral_status.specs.declared.status.Status.TheVariants.{Success, Usage, Syntax, Range, Shape, LanesLine, NotUnit, Turn, Root, NotPrincipal, NoDivide, OverBudget, BadNumber, Truncated, ReadFault, WriteFault, NoMemory, TooLong, Unread, Wrong, FormulaShape, TooDeep, ListingSyntax, Address, Register, LineShared, OverSteps}
 
 abbrev pub code_of : Status → ℕ
 code_of Success = 0
@@ -26,7 +26,7 @@ code_of Unread = 14
 code_of (Wrong size given found) = 14
 code_of (NotUnit gcd) = 15
 code_of (FormulaShape at left right) = 16
-code_of (FormulaTooDeep at) = 17
+code_of (TooDeep at) = 17
 code_of (ListingSyntax line) = 18
 code_of (Address phase proc action) = 19
 code_of (Register phase proc action) = 20
@@ -63,7 +63,7 @@ note_line (Wrong size given found) =
     concat (codes "spiral: certificate row " ∷ decimal size ∷ codes " gives " ∷ decimal given ∷ codes ", found " ∷ decimal found ∷ codes "\n" ∷ [])
 note_line (FormulaShape at left right) =
     concat (codes "spiral: formula shape at byte " ∷ decimal at ∷ codes ": " ∷ decimal left ∷ codes " and " ∷ decimal right ∷ codes "\n" ∷ [])
-note_line (FormulaTooDeep at) = concat (codes "spiral: formula too deep at byte " ∷ decimal at ∷ codes "\n" ∷ [])
+note_line (TooDeep at) = concat (codes "spiral: formula too deep at byte " ∷ decimal at ∷ codes "\n" ∷ [])
 note_line (ListingSyntax line) = concat (codes "spiral: listing syntax at line " ∷ decimal line ∷ codes "\n" ∷ [])
 note_line (Address phase proc action) = action_line (codes "spiral: bad place in phase ") phase proc action
 note_line (Register phase proc action) = action_line (codes "spiral: bad register in phase ") phase proc action

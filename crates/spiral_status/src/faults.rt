@@ -126,7 +126,7 @@ impl From<SplFault> for Status {
     fn from(fault: SplFault) -> Self {
         match fault {
             SplFault::Syntax { at } => Status::Syntax { at },
-            SplFault::TooDeep { at } => Status::FormulaTooDeep { at },
+            SplFault::TooDeep { at } => Status::TooDeep { at },
             SplFault::Shape { at, left, right } => Status::FormulaShape { at, left, right },
             SplFault::NoMemory => Status::NoMemory,
         }

@@ -288,7 +288,7 @@ fn note_misfit<E: Sink>(note: &mut E, at: u64, left: u64, right: u64) -> Result<
 // Writes where a formula is too deep.
 fn note_depth<E: Sink>(note: &mut E, at: u64) -> Result<(), WriteFault>
     ensures bytes { WritesAll (E.taken note.old) (E.taken note.new) result
-        (note_line (Status.FormulaTooDeep at)) }
+        (note_line (Status.TooDeep at)) }
     ensures cause { HasCause (E.faults note.old) (E.faults note.new) result }
 {
     note_number(note, b"spiral: formula too deep at byte ", at, b"\n")
@@ -333,7 +333,7 @@ pub fn write_note<E: Sink>(note: &mut E, status: Status) -> Result<(), WriteFaul
         Status::Unread => write_all(note, b"spiral: certificate unreadable\n"),
         Status::Wrong { size, given, found } => note_row(note, size, given, found),
         Status::FormulaShape { at, left, right } => note_misfit(note, at, left, right),
-        Status::FormulaTooDeep { at } => note_depth(note, at),
+        Status::TooDeep { at } => note_depth(note, at),
         Status::ListingSyntax { line } => note_listing(note, line),
         Status::Address {
             phase,

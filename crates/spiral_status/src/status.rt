@@ -85,7 +85,7 @@ pub enum Status {
         right: u64,
     },
     /// The parenthesis of a formula's text that is open beside too many.
-    FormulaTooDeep {
+    TooDeep {
         at: u64,
     },
     /// The first line of a listing after which no listing goes on.
@@ -139,7 +139,7 @@ impl Status {
             Status::Unread | Status::Wrong { .. } => 14,
             Status::NotUnit { .. } => 15,
             Status::FormulaShape { .. } => 16,
-            Status::FormulaTooDeep { .. } => 17,
+            Status::TooDeep { .. } => 17,
             Status::ListingSyntax { .. } => 18,
             Status::Address { .. } => 19,
             Status::Register { .. } => 20,
