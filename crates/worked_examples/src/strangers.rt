@@ -116,6 +116,22 @@ fn changed_listings(rt: HostRuntime) -> Result<(), Fail> {
     Ok(())
 }
 
+// A listing with a place of constants alone, and a vector: 65536 * 65536 leaves 4 by 7, so Y has word 4 of X.
+const CONSTANT_PLACE: &str = "\
+program size 8 mod 17 procs 1 line 1 lanes 1 regs 1
+phase
+ld r0 X[0+(0+(65536)/1*65536)%7*1]
+st Y[0] r0
+end
+
+1 2 3 4 5 6 7 8
+";
+
+#[test]
+fn places_of_constants(rt: HostRuntime) -> Result<(), Fail> {
+    tells(&rt, rt.alloc(), "exec", CONSTANT_PLACE, "0; 5 0 0 0 0 0 0 0\n; ")
+}
+
 fn is_lost(rt: &impl Abort, alloc: Global, input: &str, line: usize) -> Result<(), Fail> {
     let lost = format!(in alloc; "18; ; spiral: listing syntax at line {line}\n")?;
     tells(rt, alloc, "exec", input, &lost)
