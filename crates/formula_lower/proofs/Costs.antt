@@ -11,7 +11,7 @@ use Rattle.steps.specs.declared.target.Target.{Target}
 use Rattle.passes.specs.Counts.{term_cost}
 use Rattle.passes.specs.Sigma.{sigma_cost, terms_cost}
 use Rattle.passes.specs.Term.{PlainTerm}
-use Rattle.formula_lower.specs.Merged.{sigma_of, tree_sigma, SigmaCosts}
+use Rattle.formula_lower.specs.Merged.{sigma_of, layout_sigma, SigmaCosts}
 use Rattle.formula_lower.specs.Shared.{embed, phase_term}
 use Rattle.formula_lower.proofs.SharedTrees.{all-left, all-right}
 use Rattle.sigma_lower.specs.Good.{IsVecOf}
@@ -126,7 +126,7 @@ phases-cost weight c p v false first second all h k =
     let both = ap (λ n. p * n) (shares_in-append weight c.modulus p v first second) in
     let shared : p * (shares_in weight c.modulus p v first + shares_in weight c.modulus p v second) ≡ p * shares_in weight c.modulus p v first + p * shares_in weight c.modulus p v second = omega arith in omega (arith, h, k, both, shared)
 
-layout-costs : (weight : ℕ) (c : Target) (l : Layout) → CanShareLayout c l → sigma_cost weight (work_cost weight c.modulus) (tree_sigma c l) ≡ c.procs * vec_share weight c.modulus (vec_of (smp_of c l))
+layout-costs : (weight : ℕ) (c : Target) (l : Layout) → CanShareLayout c l → sigma_cost weight (work_cost weight c.modulus) (layout_sigma c l) ≡ c.procs * vec_share weight c.modulus (vec_of (smp_of c l))
 layout-costs weight c l shares =
     let g = vec_of (smp_of c l) in
     let p = c.procs in

@@ -18,3 +18,4 @@ pub mod Ordered
 pub mod HaveLoops
 pub mod TightPaths
 pub mod CanMerge
+pub mod TreeLayouts

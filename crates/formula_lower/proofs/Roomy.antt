@@ -7,9 +7,6 @@ use Rattle.steps.specs.declared.target.Target.{Target}
 use Rattle.formula_lower.specs.Room.{IsRoomyCore, IsRoomy}
 use Rattle.sigma_lower.specs.Good.{IsGoodCore, AreGood}
 use Rattle.sigma_lower.proofs.Sizes.{has_room, part-le, right_positive}
-use Rattle.matrix_meaning.specs.declared.Request.{Request}
-use Rattle.matrix_meaning.specs.Valid.{IsValid}
-use Rattle.steps.specs.Targets.{target_of}
 use Rattle.steps.specs.Meaning.{core_size}
 use Rattle.steps.specs.Step.{PlainCore, piece, turns, twiddles, thomas_in, thomas_out}
 use Rattle.tensor_paths.specs.Path.{Path, size_under, copies_of}
@@ -41,7 +38,3 @@ all_roomy c p v (f ∷ fs) valid h =
     All-cons (λ f. IsRoomy (factor_step p v (plain_vec_factor f))) f fs
     (is_roomy s.path s.core c.size h.0.core h.0.size (omega (arith, valid.size.0)) (omega (arith, valid.size.1)))
     (all_roomy c p v fs valid h.1)
-
--- the machine of a valid request
-pub machine_of : (c : Request) → IsValid c → IsMachine (target_of c)
-machine_of c valid = record { size = valid.in_range.size; modulus = valid.in_range.modulus; procs = valid.in_range.procs }

@@ -178,7 +178,7 @@ whole-part : (c : Request) (n q : ℕ) → 0 < n → q * n ≡ c.size → n * (c
 whole-part c n q some whole = ap (λ k. n * k) (div-product c.size n q some (mul_comm n q ∙ whole)) ∙ mul_comm n q ∙ whole
 
 -- in straight-line code
-kernel-priced : (c : Request) (t : Breakdown) (q : ℕ) → IsValid c → IsWellFormed c.kind t → q * size_of t ≡ c.size → is_kernel c (size_of t) ≡ true → work_cost c.weight c.modulus (node_work c t) ≡ cost_of c t
+pub kernel-priced : (c : Request) (t : Breakdown) (q : ℕ) → IsValid c → IsWellFormed c.kind t → q * size_of t ≡ c.size → is_kernel c (size_of t) ≡ true → work_cost c.weight c.modulus (node_work c t) ≡ cost_of c t
 kernel-priced c t q valid formed whole short =
     let n = size_of t in
     ap (λ b. work_cost c.weight c.modulus (if b then kernel (single c.kind (node_root c n) t) else long_work c.kind (node_root c n) t)) short
@@ -189,7 +189,7 @@ rows-cost : (weight m root d : ℕ) (kind : Kind) → AllowsLeaf kind d → 2 < 
 rows-cost weight m root d Dft h more = omega arith
 rows-cost weight m root d Wht h more = absurd (omega (arith, h.1, more))
 
-leaf-priced : (c : Request) (d q : ℕ) → IsValid c → AllowsLeaf c.kind d → q * d ≡ c.size → (d ≡ c.size → is_plain c ≡ false → ⊥) → work_cost c.weight c.modulus (node_work c (leaf d)) ≡ cost_of c (leaf d)
+pub leaf-priced : (c : Request) (d q : ℕ) → IsValid c → AllowsLeaf c.kind d → q * d ≡ c.size → (d ≡ c.size → is_plain c ≡ false → ⊥) → work_cost c.weight c.modulus (node_work c (leaf d)) ≡ cost_of c (leaf d)
 leaf-priced c d q valid formed whole root = pick (is_kernel c d) refl
   where
     pick : (b : Bool) → is_kernel c d ≡ b → work_cost c.weight c.modulus (node_work c (leaf d)) ≡ cost_of c (leaf d)
@@ -214,7 +214,7 @@ pub cost-pick : (b : Bool) (weight m n : ℕ) (l k : Layout) → (b ≡ true →
 cost-pick true weight m n l k h g = h refl
 cost-pick false weight m n l k h g = g refl
 
-part-le : (q n size : ℕ) → q * n ≡ size → 0 < size → n ≤ size
+pub part-le : (q n size : ℕ) → q * n ≡ size → 0 < size → n ≤ size
 part-le zero n size e some = absurd (omega arith)
 part-le (suc q) n size e some = omega arith
 

@@ -1,7 +1,8 @@
 use Rattle.std.proofs.Common.{◌≡◌, List, map, ap, ap₂, ◌∙◌, subst, sym}
 use Rattle.formula_lower.proofs.Costs.{vec_costs}
-use Rattle.formula_lower.proofs.Roomy.{all_roomy, machine_of}
+use Rattle.formula_lower.proofs.Roomy.{all_roomy}
 use Rattle.formula_lower.proofs.Sigmas.{vec_can_merge, vec_means}
+use Rattle.formula_lower.proofs.TreeLayouts.{machine_of}
 use Rattle.formula_lower.specs.Merged.{sigma_of}
 use Rattle.passes.specs.Sigma.{PlainSigma, IsGoodSigma, sigma_cost, sigma_on}
 use Rattle.passes.specs.Term.{PlainTerm}
