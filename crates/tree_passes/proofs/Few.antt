@@ -127,7 +127,7 @@ pub record AreFewMerged (ps : List PlainPass) : Type 0 where
   pub some : 1 ≤ length ps
   pub few : length ps ≤ 22
 
-count-length : (c : Request) (ps : List Counted) (qs : List Pass) → AllCount c ps qs → length ps ≡ length qs
+pub count-length : (c : Request) (ps : List Counted) (qs : List Pass) → AllCount c ps qs → length ps ≡ length qs
 count-length c [] [] h = refl
 count-length c [] (q ∷ qs) h = absurd h
 count-length c (p ∷ ps) [] h = absurd h
