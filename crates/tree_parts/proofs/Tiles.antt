@@ -74,7 +74,7 @@ counted-works c t valid h one =
 -- ---- as nests
 
 no-tile : (n : ℕ) (twiddled : Bool) (w : PlainWork) → IsOfWorks (counted_as n w twiddled) → (v : ℕ) → w ≡ tile v → ⊥
-no-tile n twiddled (kernel trees) h v is = absurd (cc)
+no-tile n twiddled (kernel ts) h v is = absurd (cc)
 no-tile n twiddled (rows root size) h v is = absurd (cc)
 no-tile n twiddled (horner root size) h v is = absurd (cc)
 no-tile n twiddled (tile k) h v is = absurd h
