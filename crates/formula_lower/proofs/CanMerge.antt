@@ -1,12 +1,11 @@
 -- The terms of a tree can be merged.
-use Rattle.std.proofs.Common.{◌≡◌, ℕ, ◌*◌, ◌<◌, ◌≤◌, ◌==◌, Bool, true, false, arith, refl, sym, List, [], ◌∷◌, ◌++◌, subst, inl, inr, if◌then◌else◌, mul-le-mul_left}
+use Rattle.std.proofs.Common.{◌≡◌, ℕ, ◌*◌, ◌<◌, ◌≤◌, ◌==◌, Bool, true, false, arith, refl, sym, List, [], ◌∷◌, ◌++◌, subst, if◌then◌else◌}
 use Rattle.std.specs.Prelude.{map}
-use Rattle.std.proofs.lemmas.Bool.{cases_lt}
 use Rattle.std.proofs.lemmas.Bool.Decides.{nat_tests}
 use Rattle.index_fn.specs.Mapping.{Mapping, Strided, ThomasIn, ThomasOut, ThomasBack}
 use Rattle.formula_lower.specs.Machine.{IsMachine}
 use Rattle.passes.specs.Good.{IsGoodTerm}
-use Rattle.passes.specs.Limits.{AreSeveral, HasRows, HasSeveral}
+use Rattle.passes.specs.Limits.{AreSeveral, HasSeveral}
 use Rattle.passes.specs.Merge.{back_of, unit_below}
 use Rattle.passes.specs.Sigma.{AllCanMerge}
 use Rattle.passes.specs.Term.{scat}

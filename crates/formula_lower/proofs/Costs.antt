@@ -1,10 +1,8 @@
 -- The terms of a formula for lanes have its operations: each processor has its share.
-use Rattle.std.proofs.Common.{◌≡◌, ℕ, ◌+◌, ◌*◌, ◌/◌, ◌%◌, ◌<◌, ◌≤◌, ◌==◌, Bool, true, false, arith, refl, sym, ap, ap₂, ◌∙◌, List, [], ◌∷◌, ◌++◌, subst, inl, inr, mul_comm, if◌then◌else◌}
-use Rattle.std.specs.Prelude.{All, map, nat_le, ◌-◌}
+use Rattle.std.proofs.Common.{◌≡◌, ℕ, ◌+◌, ◌*◌, ◌/◌, ◌%◌, ◌<◌, ◌==◌, Bool, true, false, arith, refl, sym, ap, ap₂, ◌∙◌, List, [], ◌∷◌, ◌++◌, subst, if◌then◌else◌}
+use Rattle.std.specs.Prelude.{All, map}
 use Rattle.std.proofs.Math.Nat.{mul-div_right}
-use Rattle.std.proofs.lemmas.Bool.{cases_lt}
-use Rattle.std.proofs.lemmas.Bool.Decides.{nat_tests}
-use Rattle.std.proofs.lemmas.List.Elements.{All-nil, All-cons, All-head, All-tail, All-append}
+use Rattle.std.proofs.lemmas.List.Elements.{All-head, All-tail}
 use Rattle.smp_rewrite.specs.Fits.{CanShareLayout}
 use Rattle.steps.specs.Layout.{Layout, work_cost}
 use Rattle.steps.specs.declared.target.Target.{Target}
@@ -22,7 +20,7 @@ use Rattle.smp_rewrite.specs.Smp.{within}
 use Rattle.smp_rewrite.proofs.Tensors.{copies-within}
 use Rattle.smp_rewrite.proofs.TreeLaws.{smp_costs}
 use Rattle.steps.specs.Meaning.{core_size}
-use Rattle.steps.specs.Step.{PlainCore, piece, turns, twiddles, thomas_in, thomas_out, PlainStep, step, core_cost, rule_steps, steps_of}
+use Rattle.steps.specs.Step.{PlainCore, piece, turns, twiddles, thomas_in, thomas_out, core_cost}
 use Rattle.tensor_paths.specs.declared.Tensor.TheVariants.{Blocks, Columns}
 use Rattle.tensor_paths.specs.Path.{Path, size_under, copies_of}
 use Rattle.tensor_paths.proofs.Under.{size_under-copies}

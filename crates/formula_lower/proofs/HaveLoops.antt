@@ -1,19 +1,17 @@
 -- Each phase of a tree has a loop.
-use Rattle.std.proofs.Common.{◌≡◌, ℕ, ◌*◌, ◌==◌, Bool, true, false, List, [], ◌∷◌, ◌++◌, refl, sym, subst, if◌then◌else◌}
+use Rattle.std.proofs.Common.{◌≡◌, ℕ, ◌==◌, Bool, true, false, List, [], ◌∷◌, ◌++◌, refl, sym, subst, if◌then◌else◌}
 use Rattle.std.specs.Prelude.{map}
 use Rattle.passes.specs.Nest as nests
-use Rattle.passes.specs.Nest.{PlainFactors}
 use Rattle.passes.specs.Loops.{PlainLoop, Looping, begun, looped, HasLoop, stored_last, scaled_last}
 use Rattle.formula_lower.specs.Merged.{AllHaveLoops, PhasesHaveLoops}
 use Rattle.formula_lower.specs.Shared.{embed, phase_term}
 use Rattle.sigma_lower.specs.Root.{left_core, left_terms, right_path, turned_in, tiled_before, right_terms, root_terms}
 use Rattle.sigma_lower.specs.Term.{PlainTerm, gath, scat, diag, nest, lowered, lowered_core, lowered_of}
-use Rattle.passes.specs.Work.{PlainWork, tile}
 use Rattle.sigma_lower.proofs.Both.{plain_terms}
 use Rattle.sigma_lower.proofs.RootTerms.{shared_terms}
 use Rattle.steps.specs.Step.{PlainCore, piece, turns, twiddles, thomas_in, thomas_out, PlainStep, rule_steps, steps_of}
-use Rattle.smp_rewrite.specs.Fits.{CanShareLayout, RootHasParts}
-use Rattle.steps.specs.Layout.{Layout, work, by, layout_size, IsGoodLayout}
+use Rattle.smp_rewrite.specs.Fits.{RootHasParts}
+use Rattle.steps.specs.Layout.{Layout, work, by, layout_size}
 use Rattle.steps.specs.Targets.{is_alone}
 use Rattle.steps.specs.declared.target.Target.{Target}
 use Rattle.tensor_paths.specs.declared.Tensor.TheVariants.{Blocks}

@@ -7,7 +7,7 @@ use Rattle.steps.specs.declared.target.Target.{Target}
 use Rattle.formula_lower.specs.Machine.{IsMachine}
 use Rattle.passes.specs.Good.{IsVector}
 use Rattle.passes.specs.Merge.{unbounded, passes_within}
-use Rattle.passes.specs.Sigma.{PlainSigma, IsGoodSigma, sigma_on, terms_on}
+use Rattle.passes.specs.Sigma.{IsGoodSigma, sigma_on, terms_on}
 use Rattle.passes.specs.Term.{PlainTerm, same, product, term_on}
 use Rattle.passes.proofs.Keeps.{merge_keeps}
 use Rattle.passes.proofs.Walk.{passes-vector}

@@ -1,17 +1,16 @@
 -- The terms of the steps of a tree do what the steps do.
-use Rattle.std.proofs.Common.{◌≡◌, ℕ, ◌*◌, ◌<◌, ◌≤◌, Bool, true, false, arith, refl, sym, ap, ◌∙◌, List, subst, if◌then◌else◌}
+use Rattle.std.proofs.Common.{◌≡◌, ℕ, ◌*◌, ◌<◌, ◌≤◌, arith, sym, ap, ◌∙◌, List, subst}
 use Rattle.index_fn.specs.Mapping.{Strided, ThomasIn, ThomasOut, ThomasBack, at}
-use Rattle.matrix_meaning.specs.declared.Kind.{Kind}
 use Rattle.matrix_meaning.specs.declared.Kind.TheVariants.{Dft}
 use Rattle.steps.specs.declared.target.Target.{Target}
 use Rattle.matrix_meaning.specs.Kind.{transform}
 use Rattle.formula_lower.specs.Machine.{IsMachine}
 use Rattle.operators.specs.Loop.{IsPermutationBelow}
-use Rattle.operators.specs.Operator.{Operator, gather, on_columns, on_blocks, column}
+use Rattle.operators.specs.Operator.{gather, on_columns, on_blocks, column}
 use Rattle.passes.specs.Good.{CanNest, IsMove, IsVector}
 use Rattle.passes.specs.Merge.{unit_below, back_of}
 use Rattle.passes.specs.Nest as nests
-use Rattle.passes.specs.Term.{scat, nest}
+use Rattle.passes.specs.Term.{scat}
 use Rattle.passes.specs.Work.{PlainWork, kernel, rows, horner, tile, copy, work_size, work_on}
 use Rattle.passes.proofs.Nests.{moves-no-words}
 use Rattle.passes.proofs.Keeps.{scatter-same}
@@ -26,7 +25,7 @@ use Rattle.sigma_lower.specs.Good.{AreCoprime, IsGoodPiece, IsGoodCore, IsGood}
 use Rattle.sigma_lower.specs.Wrapped.{wrapped}
 use Rattle.sigma_lower.proofs.Lowering.{part-le}
 use Rattle.steps.specs.Meaning.{core_size, core_on, step_on}
-use Rattle.steps.specs.Step.{PlainCore, piece, turns, thomas_in, thomas_out, PlainStep, steps_of}
+use Rattle.steps.specs.Step.{PlainCore, piece, turns, thomas_in, thomas_out, PlainStep}
 use Rattle.steps.specs.Step as steps
 use Rattle.tensor_paths.specs.Path.{Path, copies_of, size_under, under}
 use Rattle.tensor_paths.proofs.Under.{size_under-copies}

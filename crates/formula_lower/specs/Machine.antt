@@ -1,5 +1,5 @@
 -- A machine within the limits of requests.
-use Rattle.std.specs.Prelude.{ℕ, ◌-◌, ◌^◌}
+use Rattle.std.specs.Prelude.{◌-◌, ◌^◌}
 use Rattle.matrix_meaning.specs.Valid.{IsBetween}
 use Rattle.operators.specs.Sizes.{max_size}
 use Rattle.steps.specs.declared.target.Target.{Target}

@@ -21,25 +21,25 @@ use Rattle.vec_rewrite.specs.Vectors.{PlainVec}
 
 -- the passes of a phase, the first of them first
 abbrev pub phase_passes : Target → List PlainTerm → List (List PlainNest)
-phase_passes c ts = reverse (passes_within unbounded c.size (phase_term ts))
+phase_passes h ts = reverse (passes_within unbounded h.size (phase_term ts))
 
 -- the terms of a formula for processors and lanes, and those of a layout
 abbrev pub sigma_of : PlainVec → PlainSigma
 sigma_of g = record { size = g.target.size; procs = g.target.procs; lanes = g.target.lanes; phases = map phase_term (terms_in g) }
 
 abbrev pub layout_sigma : Target → Layout → PlainSigma
-layout_sigma c l = sigma_of (vec_of (smp_of c l))
+layout_sigma h l = sigma_of (vec_of (smp_of h l))
 
 -- they can be merged
 abbrev pub TreesCanMerge : Type 0
-TreesCanMerge = (c : Target) (l : Layout) → IsMachine c → CanShareLayout c l → IsGoodLayout c.modulus l → IsGoodSigma (layout_sigma c l)
+TreesCanMerge = (h : Target) (l : Layout) → IsMachine h → CanShareLayout h l → IsGoodLayout h.modulus l → IsGoodSigma (layout_sigma h l)
 
 -- their operations are the layout's cost
 abbrev pub SigmaCosts : Type 0
-SigmaCosts = (weight : ℕ) (c : Target) (l : Layout) → IsMachine c → CanShareLayout c l → IsGoodLayout c.modulus l → sigma_cost weight (work_cost weight c.modulus) (layout_sigma c l) ≡ layout_cost weight c.modulus l
+SigmaCosts = (weight : ℕ) (h : Target) (l : Layout) → IsMachine h → CanShareLayout h l → IsGoodLayout h.modulus l → sigma_cost weight (work_cost weight h.modulus) (layout_sigma h l) ≡ layout_cost weight h.modulus l
 
 abbrev pub layout_merged : Target → Layout → PlainMerged
-layout_merged c l = record { size = c.size; procs = c.procs; lanes = c.lanes; phases = map (phase_passes c) (lowered_of c l) }
+layout_merged h l = record { size = h.size; procs = h.procs; lanes = h.lanes; phases = map (phase_passes h) (lowered_of h l) }
 
 -- those of a request's tree
 abbrev pub tree_merged : Request → Breakdown → PlainMerged
@@ -47,12 +47,12 @@ tree_merged c t = layout_merged (target_of c) (layout_of c t)
 
 -- the merged passes of a layout do what it does
 abbrev pub TreesKeep : Type 0
-TreesKeep = (c : Target) (l : Layout) (x : List ℕ) → IsMachine c → CanShareLayout c l → IsGoodLayout c.modulus l → IsVector c.modulus c.size x → merged_on c.modulus (layout_merged c l) x ≡ layout_on c.modulus l x
+TreesKeep = (h : Target) (l : Layout) (x : List ℕ) → IsMachine h → CanShareLayout h l → IsGoodLayout h.modulus l → IsVector h.modulus h.size x → merged_on h.modulus (layout_merged h l) x ≡ layout_on h.modulus l x
 
 -- each phase has a loop
 abbrev pub AllHaveLoops : Target → List (List PlainTerm) → Type 0
-AllHaveLoops c [] = Unit {0}
-AllHaveLoops c (ts ∷ more) = HasLoop (loops_in (phase_term ts)) × AllHaveLoops c more
+AllHaveLoops h [] = Unit {0}
+AllHaveLoops h (ts ∷ more) = HasLoop (loops_in (phase_term ts)) × AllHaveLoops h more
 
 abbrev pub PhasesHaveLoops : Type 0
-PhasesHaveLoops = (c : Target) (l : Layout) → IsMachine c → CanShareLayout c l → IsGoodLayout c.modulus l → AllHaveLoops c (lowered_of c l)
+PhasesHaveLoops = (h : Target) (l : Layout) → IsMachine h → CanShareLayout h l → IsGoodLayout h.modulus l → AllHaveLoops h (lowered_of h l)

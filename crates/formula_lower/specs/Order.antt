@@ -11,21 +11,21 @@ use Rattle.smp_rewrite.specs.Fits.{CanShareLayout}
 use Rattle.steps.specs.Layout.{Layout, IsGoodLayout}
 
 -- the terms of a phase are in order, and at its end none waits
-pub record IsOrderedPhase (c : Target) (ts : List PlainTerm) : Type 0 where
+pub record IsOrderedPhase (h : Target) (ts : List PlainTerm) : Type 0 where
   pub in_order : InOrder begun (phase_term ts)
   pub none_waits : (looped begun (phase_term ts)).waiting ≡ []
 
 abbrev pub AllOrdered : Target → List (List PlainTerm) → Type 0
-AllOrdered c [] = Unit {0}
-AllOrdered c (ts ∷ more) = IsOrderedPhase c ts × AllOrdered c more
+AllOrdered h [] = Unit {0}
+AllOrdered h (ts ∷ more) = IsOrderedPhase h ts × AllOrdered h more
 
 abbrev pub TreesOrdered : Type 0
-TreesOrdered = (c : Target) (l : Layout) → IsMachine c → CanShareLayout c l → IsGoodLayout c.modulus l → AllOrdered c (lowered_of c l)
+TreesOrdered = (h : Target) (l : Layout) → IsMachine h → CanShareLayout h l → IsGoodLayout h.modulus l → AllOrdered h (lowered_of h l)
 
 -- the passes of each phase that has a loop are its loops, one by one: none is copies alone
 abbrev pub AllLoops : Target → List (List PlainTerm) → Type 0
-AllLoops c [] = Unit {0}
-AllLoops c (ts ∷ more) = (HasLoop (loops_in (phase_term ts)) → passes_within unbounded c.size (phase_term ts) ≡ map one_nest (loops_in (phase_term ts))) × AllLoops c more
+AllLoops h [] = Unit {0}
+AllLoops h (ts ∷ more) = (HasLoop (loops_in (phase_term ts)) → passes_within unbounded h.size (phase_term ts) ≡ map one_nest (loops_in (phase_term ts))) × AllLoops h more
 
 abbrev pub TreesAreLoops : Type 0
-TreesAreLoops = (c : Target) (l : Layout) → IsMachine c → CanShareLayout c l → IsGoodLayout c.modulus l → AllLoops c (lowered_of c l)
+TreesAreLoops = (h : Target) (l : Layout) → IsMachine h → CanShareLayout h l → IsGoodLayout h.modulus l → AllLoops h (lowered_of h l)

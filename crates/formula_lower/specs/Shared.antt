@@ -1,5 +1,5 @@
 -- The terms of trees for any processors and lanes, as terms that any formula has.
-use Rattle.std.specs.Prelude.{◌≡◌, ℕ, ◌*◌, List, [], ◌∷◌, map}
+use Rattle.std.specs.Prelude.{◌≡◌, ℕ, List, [], ◌∷◌, map}
 use Rattle.steps.specs.declared.target.Target.{Target}
 use Rattle.formula_lower.specs.Machine.{IsMachine}
 use Rattle.operators.specs.Operator.{Operator}
@@ -23,7 +23,7 @@ embed (lowered.nest path w) = nest path w
 
 -- the terms of a phase
 abbrev pub phase_term : List lowered.PlainTerm → PlainTerm
-phase_term ts = in_turn (map (embed) ts)
+phase_term ts = in_turn (map embed ts)
 
 -- the terms of factors, one after the other, and then this one
 abbrev pub factors_before : ℕ → ℕ → List PlainFactor → PlainTerm → PlainTerm
@@ -36,41 +36,41 @@ HasBlocks (tiles path) = AreBlocks path
 HasBlocks f = Unit {0}
 
 -- The term of a factor is good, and does what it did
-pub record Embeds (c : Target) (p v : ℕ) (f : PlainFactor) : Type 0 where
-  pub good : IsGoodTerm v c.size (embed (lowered.factor_term p v f))
-  pub on : (x : List ℕ) → IsVector c.modulus c.size x → term_on c.modulus c.size (embed (lowered.factor_term p v f)) x ≡ lowered.term_on c (lowered.factor_term p v f) x
+pub record Embeds (h : Target) (p v : ℕ) (f : PlainFactor) : Type 0 where
+  pub good : IsGoodTerm v h.size (embed (lowered.factor_term p v f))
+  pub on : (x : List ℕ) → IsVector h.modulus h.size x → term_on h.modulus h.size (embed (lowered.factor_term p v f)) x ≡ lowered.term_on h (lowered.factor_term p v f) x
 
 abbrev pub FactorsEmbed : Type 0
-FactorsEmbed = (c : Target) (p v : ℕ) (f : PlainFactor) → IsMachine c → HasLanes c.size p v f → HasBlocks f → IsGood c.size (factor_step p v f) → Embeds c p v f
+FactorsEmbed = (h : Target) (p v : ℕ) (f : PlainFactor) → IsMachine h → HasLanes h.size p v f → HasBlocks f → IsGood h.size (factor_step p v f) → Embeds h p v f
 
 -- ---- whole trees
 
 -- The term of a phase is good, and does what its terms did
-pub record PhaseEmbeds (c : Target) (v : ℕ) (ts : List lowered.PlainTerm) : Type 0 where
-  pub good : IsGoodTerm v c.size (phase_term ts)
-  pub on : (x : List ℕ) → IsVector c.modulus c.size x → term_on c.modulus c.size (phase_term ts) x ≡ lowered.terms_on c ts x
+pub record PhaseEmbeds (h : Target) (v : ℕ) (ts : List lowered.PlainTerm) : Type 0 where
+  pub good : IsGoodTerm v h.size (phase_term ts)
+  pub on : (x : List ℕ) → IsVector h.modulus h.size x → term_on h.modulus h.size (phase_term ts) x ≡ lowered.terms_on h ts x
 
 abbrev pub AllEmbed : Target → ℕ → List (List lowered.PlainTerm) → Type 0
-AllEmbed c v [] = Unit {0}
-AllEmbed c v (ts ∷ more) = PhaseEmbeds c v ts × AllEmbed c v more
+AllEmbed h v [] = Unit {0}
+AllEmbed h v (ts ∷ more) = PhaseEmbeds h v ts × AllEmbed h v more
 
 abbrev pub TreesEmbed : Type 0
-TreesEmbed = (c : Target) (l : Layout) → IsMachine c → CanShareLayout c l → IsGoodLayout c.modulus l → AllEmbed c c.lanes (lowered.lowered_of c l)
+TreesEmbed = (h : Target) (l : Layout) → IsMachine h → CanShareLayout h l → IsGoodLayout h.modulus l → AllEmbed h h.lanes (lowered.lowered_of h l)
 
 -- the passes of all phases, one after the other
 abbrev pub phases_passes_on : Room → Target → List (List lowered.PlainTerm) → Operator
-phases_passes_on room c [] x = x
-phases_passes_on room c (ts ∷ more) x = phases_passes_on room c more (passes_on c.modulus c.size (passes_within room c.size (phase_term ts)) x)
+phases_passes_on room h [] x = x
+phases_passes_on room h (ts ∷ more) x = phases_passes_on room h more (passes_on h.modulus h.size (passes_within room h.size (phase_term ts)) x)
 
 -- they are good, and do what the phases did
 abbrev pub AllMerge : Room → Target → List (List lowered.PlainTerm) → Type 0
-AllMerge room c [] = Unit {0}
-AllMerge room c (ts ∷ more) = AreGoodPasses c.lanes c.modulus c.size (passes_within room c.size (phase_term ts)) × AllMerge room c more
+AllMerge room h [] = Unit {0}
+AllMerge room h (ts ∷ more) = AreGoodPasses h.lanes h.modulus h.size (passes_within room h.size (phase_term ts)) × AllMerge room h more
 
 -- The passes of a layout, for any processors and lanes, are good, and do what it does
-pub record TreePasses (room : Room) (c : Target) (l : Layout) : Type 0 where
-  pub good : AllMerge room c (lowered.lowered_of c l)
-  pub on : (x : List ℕ) → IsVector c.modulus c.size x → phases_passes_on room c (lowered.lowered_of c l) x ≡ layout_on c.modulus l x
+pub record TreePasses (room : Room) (h : Target) (l : Layout) : Type 0 where
+  pub good : AllMerge room h (lowered.lowered_of h l)
+  pub on : (x : List ℕ) → IsVector h.modulus h.size x → phases_passes_on room h (lowered.lowered_of h l) x ≡ layout_on h.modulus l x
 
 abbrev pub SharedTreesMerge : Type 0
-SharedTreesMerge = (room : Room) (c : Target) (l : Layout) → IsMachine c → CanShareLayout c l → IsGoodLayout c.modulus l → TreePasses room c l
+SharedTreesMerge = (room : Room) (h : Target) (l : Layout) → IsMachine h → CanShareLayout h l → IsGoodLayout h.modulus l → TreePasses room h l

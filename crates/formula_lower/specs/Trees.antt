@@ -1,13 +1,12 @@
 -- The terms of the steps of trees.
-use Rattle.std.specs.Prelude.{ℕ, ◌*◌, if◌then◌else◌, List, [], ◌∷◌}
+use Rattle.std.specs.Prelude.{◌*◌, List, [], ◌∷◌}
 use Rattle.index_fn.specs.Mapping.{Strided, ThomasIn, ThomasBack}
 use Rattle.passes.specs.Merge.{unit_below}
-use Rattle.passes.specs.Nest.{passes_on, twiddles}
+use Rattle.passes.specs.Nest.{twiddles}
 use Rattle.passes.specs.Nest as nests
 use Rattle.passes.specs.Term.{PlainTerm, same, gath, scat, diag, nest, product}
-use Rattle.passes.specs.Work.{PlainWork, kernel, rows}
 use Rattle.sigma_lower.specs.Wrapped.{wrapped}
-use Rattle.steps.specs.Step.{PlainCore, piece, turns, thomas_in, thomas_out, PlainStep, steps_of}
+use Rattle.steps.specs.Step.{PlainCore, piece, turns, thomas_in, thomas_out}
 use Rattle.steps.specs.Step as steps
 use Rattle.tensor_paths.specs.Path.{Path}
 

@@ -6,7 +6,6 @@ use Rattle.std.proofs.Math.Nat.{mul_assoc}
 use Rattle.std.proofs.lemmas.Bool.Decides.{nat_tests}
 use Rattle.std.proofs.lemmas.List.{map-append, append-nil}
 use Rattle.steps.specs.declared.target.Target.{Target}
-use Rattle.formula_lower.specs.Machine.{IsMachine}
 use Rattle.loop_merge.specs.Laws.{Counted, works, tiles, with_twiddles, twiddle_last, twiddle_by, passes_of, tiled_passes, whole_passes, has_diagonal, counted_as, counted, MergeCounts}
 use Rattle.loop_merge.specs.Merge.{PlainDiagonal, PlainPass, in_order, merged_of}
 use Rattle.loop_merge.proofs.RootDealt.{IsDealt, dealt_parts}

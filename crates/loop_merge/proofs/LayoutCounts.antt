@@ -1,10 +1,10 @@
 -- The passes of an admissible tree's layout count as those of the tree in the cost model.
-use Rattle.std.proofs.Common.{◌≡◌, ℕ, ◌+◌, ◌*◌, ◌<◌, ◌≤◌, ◌==◌, ◌&&◌, Bool, true, false, arith, refl, sym, ap, ap₂, ◌∙◌, List, [], ◌∷◌, ◌++◌, if◌then◌else◌, inl, inr, subst}
+use Rattle.std.proofs.Common.{◌≡◌, ℕ, ◌+◌, ◌*◌, ◌<◌, ◌≤◌, Bool, true, false, arith, refl, sym, ap, ap₂, ◌∙◌, List, [], ◌∷◌, ◌++◌, if◌then◌else◌, inl, inr, subst}
 use Rattle.std.specs.Prelude.{nat_le}
 use Rattle.std.proofs.lemmas.Bool.{cases_lt}
 use Rattle.std.proofs.lemmas.Bool.Decides.{nat_tests}
 use Rattle.kernel_gen.proofs.NodeCosts.{kernel-short}
-use Rattle.loop_merge.specs.Laws.{Counted, works, tiles, with_twiddles, twiddle_last, twiddle_by, passes_of, tiled_passes, whole_passes, counted_cost, loads_by, CountsAs, AllCount, LayoutsCount}
+use Rattle.loop_merge.specs.Laws.{Counted, works, tiles, with_twiddles, twiddle_last, twiddle_by, passes_of, tiled_passes, loads_by, CountsAs, AllCount, LayoutsCount}
 use Rattle.matrix_meaning.specs.Valid.{IsValid}
 use Rattle.matrix_meaning.specs.declared.Kind.{Kind}
 use Rattle.matrix_meaning.specs.declared.Kind.TheVariants.{Dft, Wht}

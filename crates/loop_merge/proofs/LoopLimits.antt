@@ -1,5 +1,5 @@
 -- No place of a layout's loops is over a limit.
-use Rattle.std.proofs.Common.{◌≡◌, ℕ, ◌*◌, ◌<◌, ◌≤◌, Bool, true, false, arith, refl, sym, ap, ap₂, ◌∙◌, List, [], ◌∷◌, ◌++◌, length, subst, Some}
+use Rattle.std.proofs.Common.{◌≡◌, ℕ, ◌*◌, ◌<◌, ◌≤◌, Bool, true, arith, refl, sym, ap, ap₂, ◌∙◌, List, [], ◌∷◌, ◌++◌, length, subst, Some}
 use Rattle.std.specs.Prelude.{map, reverse}
 use Rattle.std.specs.List.{list_all}
 use Rattle.std.proofs.lemmas.List.{reverse-append}
@@ -12,7 +12,7 @@ use Rattle.index_fn.specs.Mapping.{Mapping}
 use Rattle.loop_merge.specs.Limits.{AreLimitedPhases, LoopsAreLimited, TreesMerge}
 use Rattle.loop_merge.specs.Merge.{PlainDiagonal, PlainPass, passes_of_terms, in_order, merged_of}
 use Rattle.loop_merge.specs.Nests.{loop_of, taken_of}
-use Rattle.loop_merge.specs.Placed.{Fits, IsCarried, IsLimitedPass, AllLimited, AreCounts, diagonal_places, place_sum}
+use Rattle.loop_merge.specs.Placed.{IsCarried, IsLimitedPass, AllLimited, AreCounts, diagonal_places, place_sum}
 use Rattle.loop_merge.proofs.LeftPlaces.{mapped-some}
 use Rattle.loop_merge.proofs.LoopItems.{Names, AllName, HaveNames, diagonal-size, counts-from, names-of}
 use Rattle.loop_merge.proofs.LoopNests.{loops_listed}

@@ -1,5 +1,5 @@
 -- The loops of a phase's term are its passes, the latest first, so each pass of a layout is one nest.
-use Rattle.std.proofs.Common.{◌≡◌, ◌*◌, refl, sym, ap, ap₂, ◌∙◌, List, [], ◌∷◌, ◌++◌, Some}
+use Rattle.std.proofs.Common.{◌≡◌, refl, sym, ap, ap₂, ◌∙◌, List, [], ◌∷◌, ◌++◌, Some}
 use Rattle.std.specs.Prelude.{map, reverse}
 use Rattle.std.proofs.lemmas.List.{map-append, reverse-append, reverse-reverse}
 use Rattle.formula_lower.specs.Merged.{AllHaveLoops, phase_passes}
@@ -15,7 +15,6 @@ use Rattle.passes.specs.Loops.{PlainLoop, Looping, stored_last, scaled_last, loo
 use Rattle.passes.specs.Merged.{PlainMerged}
 use Rattle.passes.specs.Nest.{PlainFactors, PlainNest, factor_count, twiddles, inner_of}
 use Rattle.sigma_lower.specs.Term.{PlainTerm, gath, scat, diag, nest, lowered_of}
-use Rattle.steps.specs.Layout.{Layout}
 use Rattle.tensor_paths.specs.Path.{Path}
 
 -- ---- the first of a list from its end

@@ -1,5 +1,5 @@
 -- In which order terms may be merged: a scatter or a diagonal comes right after a pass, and a diagonal after one that has none.
-use Rattle.std.proofs.Common.{◌≡◌, ℕ, ◌*◌, List, [], ◌∷◌, ◌++◌, refl, subst, sym}
+use Rattle.std.proofs.Common.{◌≡◌, ℕ, List, [], ◌∷◌, ◌++◌, refl, subst, sym}
 use Rattle.std.specs.Prelude.{map}
 use Rattle.sigma_lower.specs.Term.{PlainTerm, gath, scat, diag, nest, lowered}
 use Rattle.steps.specs.Step.{PlainStep, step, thomas_out, twiddles, rule_steps, steps_of}

@@ -3,12 +3,12 @@ use Rattle.std.proofs.Common.{◌≡◌, ℕ, ◌*◌, Bool, true, false, List, 
 use Rattle.std.specs.Prelude.{map}
 use Rattle.index_fn.specs.Mapping.{Mapping, Strided, ThomasIn, ThomasBack}
 use Rattle.loop_merge.specs.Merge.{PlainPass, Merging, new_pass, scattered, multiplied, at_last, merge_term, merged, passes_of_terms}
-use Rattle.loop_merge.specs.Laws.{Counted, has_diagonal, counted_as, counted, with_twiddles, twiddle_last, twiddle_by, passes_of}
+use Rattle.loop_merge.specs.Laws.{has_diagonal, counted_as, counted, with_twiddles, twiddle_last, twiddle_by, passes_of}
 use Rattle.sigma_lower.specs.Term.{lowered}
 use Rattle.passes.specs.Work.{PlainWork, kernel, rows, horner, tile, copy}
 use Rattle.steps.specs.Layout.{Layout, work, by, layout_size, IsGoodLayout, IsGoodWork}
 use Rattle.sigma_lower.specs.Wrapped.{wrapped, unit_of}
-use Rattle.steps.specs.Step.{PlainStep, step, piece, turns, twiddles, thomas_in, thomas_out, rule_steps, steps_of}
+use Rattle.steps.specs.Step.{PlainStep, step, turns, twiddles, thomas_in, thomas_out, rule_steps, steps_of}
 use Rattle.tensor_paths.specs.declared.Tensor.TheVariants.{Blocks, Columns}
 use Rattle.tensor_paths.specs.Path.{Path, copies_of}
 use Rattle.tensor_paths.proofs.Under.{copies_of-push}

@@ -1,7 +1,6 @@
 -- Each term does what its step does.
-use Rattle.std.proofs.Common.{◌≡◌, ◌≢◌, ℕ, zero, suc, ◌*◌, ◌%◌, ◌<◌, ◌≤◌, ◌+◌, ◌/◌, Bool, true, false, arith, refl, sym, ap, ap₂, ◌∙◌, List, [], ◌∷◌, ◌++◌, inl, inr, mod-lt, if◌then◌else◌, subst, mul_comm, div-lt_iff_lt-mul, mul-le-mul_left, mul-le-mul_right}
+use Rattle.std.proofs.Common.{◌≡◌, ◌≢◌, ℕ, zero, suc, ◌*◌, ◌%◌, ◌<◌, ◌≤◌, ◌+◌, ◌/◌, arith, refl, sym, ap, ap₂, ◌∙◌, List, [], ◌∷◌, ◌++◌, inl, inr, mod-lt, subst, mul_comm, div-lt_iff_lt-mul, mul-le-mul_left, mul-le-mul_right}
 use Rattle.std.specs.Prelude.{map}
-use Rattle.std.specs.Int.{IsGcd}
 use Rattle.std.proofs.Math.Nat.{zero-mod, mod-eq_of_lt, div-add-mod'}
 use Rattle.std.proofs.lemmas.Bool.{cases_eq}
 use Rattle.std.proofs.lemmas.Bool.Decides.{nat_tests}
@@ -10,7 +9,6 @@ use Rattle.std.proofs.lemmas.Nat.{mul-lt, mul-mod_second}
 use Rattle.index_fn.specs.Mapping.{Strided, ThomasIn, ThomasOut, ThomasBack, at, IsUnit}
 use Rattle.index_fn.proofs.Thomas.{thomas_out_undoes, unit_found}
 use Rattle.operators.specs.Loop.{scatter, IsPermutationBelow}
-use Rattle.operators.specs.Identities.{HasSize}
 use Rattle.operators.specs.Operator.{gather, scale, stride}
 use Rattle.operators.proofs.Lists.{at-list_below, place_below, row-of, column-of, factor_positive}
 use Rattle.operators.proofs.Places.{stride_below}
@@ -27,8 +25,8 @@ use Rattle.steps.specs.Step.{PlainCore, piece, turns, twiddles, thomas_in, thoma
 use Rattle.steps.proofs.WordSizes.{word_sizes}
 use Rattle.tensor_paths.specs.declared.Tensor.TheVariants.{Blocks, Columns}
 use Rattle.tensor_paths.specs.Loop.{loop_on}
-use Rattle.tensor_paths.specs.Path.{Path, size_under, copies_of, under, place, Reads}
-use Rattle.tensor_paths.proofs.Under.{size_under-push, size_under-copies, under-size}
+use Rattle.tensor_paths.specs.Path.{Path, size_under, under, place}
+use Rattle.tensor_paths.proofs.Under.{size_under-push, under-size}
 use Rattle.tensor_paths.proofs.PathLoops.{loop_is_under}
 use Rattle.tree_model.specs.declared.tree.Rule.{Rule}
 use Rattle.tree_model.specs.declared.tree.Rule.TheVariants.{Gt, Ct, Split}

@@ -13,7 +13,7 @@ use Rattle.smp_rewrite.specs.Cut.{factors_of, is_left, right_count, first_count,
 use Rattle.smp_rewrite.specs.Smp as smp
 use Rattle.smp_rewrite.proofs.Dealt.{IsDealt, is_dealt}
 use Rattle.smp_rewrite.proofs.Factors.{rows_of}
-use Rattle.steps.specs.Step.{piece, turns, twiddles, PlainStep, step, rule_steps, steps_of}
+use Rattle.steps.specs.Step.{turns, twiddles, PlainStep, step, rule_steps, steps_of}
 use Rattle.tensor_paths.specs.declared.Tensor.TheVariants.{Blocks, Columns}
 use Rattle.tree_model.specs.declared.tree.Rule.{Rule}
 use Rattle.tree_model.specs.declared.tree.Rule.TheVariants.{Gt, Ct, Split}

@@ -1,10 +1,9 @@
 -- The formula of a layout: what it does, its operations in equal shares, and the shapes of its factors. Layouts of admissible trees can be shared.
-use Rattle.std.proofs.Common.{◌≡◌, ◌≢◌, ◌*◌, ◌/◌, ◌%◌, ◌<◌, ◌≤◌, Bool, true, false, ℕ, arith, refl, sym, ap, ap₂, subst, ◌∙◌, [], if◌then◌else◌}
+use Rattle.std.proofs.Common.{◌≡◌, ◌≢◌, ◌*◌, ◌/◌, ◌%◌, ◌<◌, ◌≤◌, Bool, true, false, ℕ, arith, refl, sym, ap, subst, ◌∙◌, [], if◌then◌else◌}
 use Rattle.std.proofs.Math.Nat.{mul-mod_right}
 use Rattle.std.proofs.lemmas.Bool.Decides.{nat_tests}
 use Rattle.matrix_meaning.specs.declared.Kind.{Kind}
 use Rattle.matrix_meaning.specs.declared.Request.{Request}
-use Rattle.matrix_meaning.specs.Valid.{IsValid}
 use Rattle.steps.specs.Layout.{Layout, work, by, layout_size, layout_of, node_work}
 use Rattle.steps.specs.Step.{steps_of}
 use Rattle.steps.specs.Targets.{target_of}
@@ -16,7 +15,7 @@ use Rattle.steps.proofs.Dims.{dims_have_size, dims_do, dims_are_priced}
 use Rattle.steps.proofs.Layouts.{layouts_have_size}
 use Rattle.steps.proofs.StepCosts.{steps_cost}
 use Rattle.steps.proofs.StepMeanings.{steps_do}
-use Rattle.tree_model.specs.Admissible.{RuleFits, RootFits, IsAdmissible}
+use Rattle.tree_model.specs.Admissible.{RuleFits, RootFits}
 use Rattle.tree_model.specs.Breakdown.{Breakdown, leaf, node, size_of}
 use Rattle.tree_model.specs.Cost.{is_plain, is_kernel, node_root}
 use Rattle.tree_model.specs.declared.tree.Rule.{Rule}

@@ -1,6 +1,6 @@
 -- The layout of several dimensions: its size, what it does, what it costs, and that it can be made.
 use Rattle.std.proofs.Common.{◌≡◌, ℕ, ◌+◌, ◌*◌, ◌/◌, ◌%◌, ◌<◌, ◌≤◌, Bool, true, false, List, refl, sym, ap, ap₂, ◌∙◌, arith, if◌then◌else◌, subst, pow-suc, mul-le-mul_left, mul-le-mul_right}
-use Rattle.std.specs.Prelude.{nat_le, ◌==◌, ◌^◌}
+use Rattle.std.specs.Prelude.{nat_le, ◌==◌}
 use Rattle.std.proofs.Math.Nat.{mod-eq_of_lt, mul-mod_right, div_self, one-mul, pow-zero}
 use Rattle.std.proofs.lemmas.Bool.Decides.{nat_tests}
 use Rattle.kernel_gen.specs.Kernel.{AllowsRoot, CanMake, kernel_cost, trees_cost}
@@ -10,16 +10,13 @@ use Rattle.matrix_meaning.specs.Kind.{transform}
 use Rattle.matrix_meaning.specs.Valid.{IsValid}
 use Rattle.matrix_meaning.specs.declared.Kind.{Kind}
 use Rattle.matrix_meaning.specs.declared.Request.{Request}
-use Rattle.operators.specs.Operator.{Operator, on_columns, on_blocks}
-use Rattle.operators.specs.Sizes.{max_size}
-use Rattle.passes.specs.Work.{kernel}
 use Rattle.ring_mod.specs.Residue.{power_mod}
 use Rattle.rooted_trees.specs.Trees.{PlainTrees, single, tensor, trees_size, trees_on}
 use Rattle.steps.specs.Dims.{part_of, together, dims_layout, dims_cost, IsDimension, AreDimensions, DimsHaveSize, DimsDo, DimsCost, DimsAreGood}
-use Rattle.steps.specs.Layout.{Layout, work, by, layout_size, layout_on, layout_cost, layout_of, rule_on, IsGoodRule, IsGoodLayout}
+use Rattle.steps.specs.Layout.{by, layout_size, layout_on, layout_cost, layout_of, rule_on, IsGoodRule}
 use Rattle.steps.proofs.Layouts.{layouts_have_size, layouts_do, layouts_cost, layouts_are_good, rule_on-same, size-pick, do-pick, cost-pick, layout-pick}
-use Rattle.tree_model.specs.Breakdown.{Breakdown, size_of, IsWellFormed}
-use Rattle.tree_model.specs.Cost.{is_kernel, is_plain, node_root, cost_of}
+use Rattle.tree_model.specs.Breakdown.{Breakdown, size_of}
+use Rattle.tree_model.specs.Cost.{is_kernel, node_root, cost_of}
 use Rattle.tree_model.specs.declared.tree.Rule.TheVariants.{Split}
 
 -- ---- requests for parts

@@ -1,8 +1,7 @@
 -- The layout of a tree: its size, what it does, what it costs, and that it can be made.
 use Rattle.std.proofs.Common.{◌≡◌, ℕ, zero, suc, ◌+◌, ◌*◌, ◌-◌, ◌/◌, ◌%◌, ◌<◌, ◌≤◌, Bool, true, false, List, [], ◌∷◌, ◌++◌, refl, sym, ap, ap₂, subst, ◌∙◌, arith, if◌then◌else◌, inl, inr, mul_comm, pow-add}
-use Rattle.std.specs.Int.{IsGcd}
 use Rattle.std.specs.Prelude.{nat_le}
-use Rattle.std.proofs.Math.Nat.{mul-div_right, mul-mod_right, mod-eq_of_lt, mul-le-mul_right}
+use Rattle.std.proofs.Math.Nat.{mul-div_right, mul-mod_right, mod-eq_of_lt}
 use Rattle.std.proofs.lemmas.Bool.{cases_eq, cases_lt}
 use Rattle.std.proofs.lemmas.Bool.Decides.{nat_tests}
 use Rattle.std.proofs.lemmas.Nat.{mul-lt}
@@ -17,20 +16,18 @@ use Rattle.matrix_meaning.specs.declared.Request.{Request}
 use Rattle.matrix_meaning.proofs.CooleyTukey.{cooley_tukey}
 use Rattle.matrix_meaning.proofs.GoodThomas.{good_thomas}
 use Rattle.matrix_meaning.proofs.WalshHadamard.{split}
-use Rattle.operators.specs.Operator.{Operator, on_columns, on_blocks}
+use Rattle.operators.specs.Operator.{Operator}
 use Rattle.operators.specs.Sizes.{max_size}
-use Rattle.passes.specs.Work.{PlainWork, kernel, rows, work_size, work_on}
+use Rattle.passes.specs.Work.{kernel, work_size, work_on}
 use Rattle.ring_mod.specs.Residue.{power_mod}
 use Rattle.ring_mod.proofs.Powers.{power_mod_of_power}
 use Rattle.rooted_trees.specs.Trees.{single}
 use Rattle.steps.specs.Layout.{Layout, work, by, layout_size, layout_on, layout_cost, layout_of, node_work, long_work, rule_on, work_cost, IsGoodWork, CanPart, IsGoodRule, IsGoodLayout}
 use Rattle.steps.specs.Layout as layouts
 use Rattle.steps.specs.Meaning.{transform_of, LayoutsHaveSize, LayoutsDo, LayoutsCost, LayoutsAreGood, TreesHaveSteps}
-use Rattle.steps.specs.Step.{PlainStep, step, piece, rule_steps, steps_of, tree_steps}
+use Rattle.steps.specs.Step.{PlainStep, rule_steps, steps_of}
 use Rattle.tensor_paths.specs.Path.{Path}
 use Rattle.tensor_paths.specs.declared.Tensor.TheVariants.{Blocks, Columns}
-use Rattle.tensor_paths.proofs.Equal.{on_columns-same, on_blocks-same}
-use Rattle.tree_model.specs.Admissible.{RootFits}
 use Rattle.tree_model.specs.Breakdown.{Breakdown, leaf, node, size_of, AllowsLeaf, AllowsRule, IsWellFormed}
 use Rattle.tree_model.specs.Cost.{is_kernel, is_plain, node_root, cost_of, products_cost}
 use Rattle.tree_model.specs.Cost as trees

@@ -1,5 +1,5 @@
 -- The machine that a request names.
-use Rattle.std.specs.Prelude.{ℕ, ◌==◌, ◌&&◌, Bool}
+use Rattle.std.specs.Prelude.{◌==◌, ◌&&◌, Bool}
 use Rattle.matrix_meaning.specs.declared.Request.{Request}
 use Rattle.steps.specs.declared.target.Target.{Target}
 

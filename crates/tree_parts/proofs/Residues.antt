@@ -6,7 +6,6 @@ use Rattle.loop_merge.specs.Laws.{counted, counted_as, has_diagonal}
 use Rattle.loop_merge.specs.Merge.{PlainPass}
 use Rattle.loop_merge.specs.Nests.{loop_of}
 use Rattle.matrix_meaning.specs.declared.Request.{Request}
-use Rattle.matrix_meaning.specs.Kind.{entry_of}
 use Rattle.matrix_meaning.specs.Valid.{IsValid}
 use Rattle.operators.specs.Operator.{matrix_times}
 use Rattle.operators.specs.Sum.{list_below, sum_below}

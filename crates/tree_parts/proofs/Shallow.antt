@@ -1,5 +1,5 @@
 -- The passes of a tree have few loops, whose variables their places name, and their diagonals few factors.
-use Rattle.std.proofs.Common.{◌≡◌, ℕ, ◌+◌, ◌≤◌, arith, sym, ap, ◌∙◌, subst, List, [], ◌∷◌, All, length, map, Option, Some, None}
+use Rattle.std.proofs.Common.{◌≡◌, ℕ, ◌+◌, ◌≤◌, arith, sym, subst, List, [], ◌∷◌, All, length, map, Option, Some, None}
 use Rattle.std.specs.Option.{option_map}
 use Rattle.std.proofs.lemmas.List.{length-map}
 use Rattle.std.proofs.lemmas.List.Elements.{All-nil, All-cons}
@@ -19,7 +19,7 @@ use Rattle.perm_algebra.specs.Affine.{Sum, simplified}
 use Rattle.perm_algebra.specs.Room.{HasCounts}
 use Rattle.perm_algebra.proofs.Counted.{counts-simplified}
 use Rattle.shared_tensors.specs.Laws.{AreCounted, HavePlacesCounts, IsShallow}
-use Rattle.tensor_paths.specs.Path.{count_of, size_under}
+use Rattle.tensor_paths.specs.Path.{count_of}
 use Rattle.loop_nests.specs.Ready.{AreReady}
 use Rattle.loop_nests.proofs.Readies.{ready-in, ready-out, ready-places}
 use Rattle.tree_passes.proofs.Known.{AllKnown}

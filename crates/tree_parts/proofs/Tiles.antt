@@ -1,5 +1,5 @@
 -- The passes of a tree for one lane are none of tiles.
-use Rattle.std.proofs.Common.{◌≡◌, ℕ, ◌*◌, true, refl, sym, ap, ◌∙◌, subst, arith, if◌then◌else◌, Bool, List, [], ◌∷◌, ◌++◌, All}
+use Rattle.std.proofs.Common.{◌≡◌, ℕ, ◌*◌, true, sym, ap, ◌∙◌, subst, arith, if◌then◌else◌, Bool, List, [], ◌∷◌, ◌++◌, All}
 use Rattle.std.specs.Prelude.{map, nat_le}
 use Rattle.std.proofs.lemmas.Bool.Decides.{nat_tests}
 use Rattle.std.proofs.lemmas.List.Elements.{All-nil, All-cons}

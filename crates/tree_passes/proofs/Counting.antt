@@ -6,10 +6,9 @@ use Rattle.index_fn.specs.Mapping.{Mapping}
 use Rattle.loop_merge.specs.Laws as laws
 use Rattle.loop_merge.specs.Laws.{counted, counted_as, counted_cost, counted_loads, has_diagonal}
 use Rattle.loop_merge.specs.Merge.{PlainDiagonal, PlainPass, merged_of, merged_phases}
-use Rattle.loop_merge.specs.Nests.{loop_of, nests_of, taken_of}
+use Rattle.loop_merge.specs.Nests.{loop_of, taken_of}
 use Rattle.loop_merge.proofs.LoopNests.{tree_nests}
 use Rattle.matrix_meaning.specs.declared.Request.{Request}
-use Rattle.matrix_meaning.specs.Valid.{IsValid}
 use Rattle.pass_actions.specs.Costs.{pass_cost, pass_loads, work_cost}
 use Rattle.pass_programs.specs.Contract.{all_passes}
 use Rattle.passes.specs.Counts.{copies_in, multiplier_cost}

@@ -1,5 +1,5 @@
 -- The work of a layout's loops can be done, and a kernel of a tree is small.
-use Rattle.std.proofs.Common.{◌≡◌, ℕ, ◌*◌, ◌≤◌, ◌∷◌, Bool, true, false, arith, refl, if◌then◌else◌}
+use Rattle.std.proofs.Common.{◌≡◌, ℕ, ◌*◌, ◌≤◌, Bool, true, false, arith, refl, if◌then◌else◌}
 use Rattle.std.specs.Prelude.{nat_le}
 use Rattle.std.proofs.lemmas.Bool.Decides.{nat_tests}
 use Rattle.kernel_gen.proofs.NodeCosts.{kernel-short}
@@ -12,7 +12,7 @@ use Rattle.pass_actions.specs.Laws.{CanWork}
 use Rattle.passes.specs.Work.{PlainWork, kernel, rows, horner, tile, copy}
 use Rattle.rooted_trees.specs.Trees.{single, trees_size}
 use Rattle.shared_passes.specs.Shared.{HasLanes}
-use Rattle.steps.specs.Layout.{Layout, work, by, layout_of, long_work, node_work}
+use Rattle.steps.specs.Layout.{Layout, work, by, layout_of, long_work}
 use Rattle.steps.specs.Targets.{target_of}
 use Rattle.tree_model.specs.Breakdown.{Breakdown, leaf, node, size_of, AllowsLeaf, IsWellFormed}
 use Rattle.tree_model.specs.Cost.{is_kernel, node_root}

@@ -1,10 +1,9 @@
 -- The formula of a tree for lanes: what it does, and each processor's operations.
-use Rattle.std.proofs.Common.{◌≡◌, ◌≢◌, ℕ, ◌+◌, ◌/◌, ◌<◌, ◌≤◌, arith, refl, sym, ap, subst, ◌∙◌, List, [], ◌∷◌, ◌++◌, inl, inr, if◌then◌else◌}
+use Rattle.std.proofs.Common.{◌≡◌, ◌≢◌, ℕ, ◌+◌, ◌<◌, ◌≤◌, arith, refl, sym, ap, subst, ◌∙◌, List, [], ◌∷◌, ◌++◌, inl, inr, if◌then◌else◌}
 use Rattle.std.specs.Prelude.{map, None}
 use Rattle.std.proofs.lemmas.Bool.{cases_eq}
 use Rattle.std.proofs.lemmas.List.{map-append}
 use Rattle.smp_rewrite.specs.Smp as smp
-use Rattle.smp_rewrite.specs.Smp.{PlainSmp, smp_on, smp_share}
 use Rattle.smp_rewrite.specs.Cut.{smp_of}
 use Rattle.steps.specs.Meaning.{all_on}
 use Rattle.steps.proofs.StepMeanings.{all_on-append}

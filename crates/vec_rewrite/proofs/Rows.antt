@@ -1,5 +1,5 @@
 -- The factors of a formula for processors have rows.
-use Rattle.std.proofs.Common.{◌≡◌, ℕ, ◌*◌, ◌<◌, ◌≤◌, arith, sym, subst, List, [], ◌∷◌, ◌++◌, mul_comm}
+use Rattle.std.proofs.Common.{◌≡◌, ℕ, ◌*◌, ◌<◌, arith, sym, subst, List, [], ◌∷◌, ◌++◌, mul_comm}
 use Rattle.std.specs.Prelude.{All, map}
 use Rattle.std.proofs.lemmas.List.Elements.{All-nil, All-cons, All-head, All-tail}
 use Rattle.operators.proofs.Lists.{factor_positive}

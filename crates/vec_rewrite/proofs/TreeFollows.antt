@@ -1,5 +1,5 @@
 -- The formula of a layout for processors can be cut into the machine's lanes.
-use Rattle.std.proofs.Common.{◌≡◌, ◌≢◌, ℕ, suc, ◌*◌, ◌/◌, ◌%◌, ◌<◌, ◌≤◌, Bool, true, false, arith, refl, sym, ap, ap₂, ◌∙◌, List, [], ◌∷◌, ◌++◌, inl, inr, if◌then◌else◌, subst, mul_comm, append-nil, append_assoc}
+use Rattle.std.proofs.Common.{◌≡◌, ◌≢◌, ℕ, suc, ◌*◌, ◌/◌, ◌%◌, ◌<◌, ◌≤◌, true, false, arith, refl, sym, ap, ap₂, ◌∙◌, List, [], ◌∷◌, ◌++◌, inl, inr, if◌then◌else◌, subst, mul_comm, append-nil, append_assoc}
 use Rattle.std.specs.Prelude.{take, drop, length, None}
 use Rattle.std.specs.List.{flat_map}
 use Rattle.std.proofs.Math.Nat.{mul-div_right}
@@ -11,7 +11,7 @@ use Rattle.smp_rewrite.specs.Smp.{PlainSmp}
 use Rattle.smp_rewrite.proofs.Dealt.{IsDealt, is_dealt}
 use Rattle.smp_rewrite.proofs.Sized.{AreOfSize, of_size}
 use Rattle.operators.proofs.Lists.{factor_positive}
-use Rattle.steps.specs.Step.{piece, turns, twiddles, PlainStep, step, rule_steps, steps_of}
+use Rattle.steps.specs.Step.{turns, twiddles, PlainStep, step, rule_steps, steps_of}
 use Rattle.tensor_paths.specs.declared.Tensor.{Tensor}
 use Rattle.tensor_paths.specs.declared.Tensor.TheVariants.{Blocks, Columns}
 use Rattle.tensor_paths.specs.Path.{Path}

@@ -1,4 +1,4 @@
-use Rattle.std.proofs.Common.{◌≡◌, ◌*◌, ap, ◌∙◌}
+use Rattle.std.proofs.Common.{◌*◌, ap, ◌∙◌}
 use Rattle.smp_rewrite.proofs.TreeLaws.{layouts_fit}
 use Rattle.steps.specs.Layout.{layout_of}
 use Rattle.tree_model.specs.Breakdown.{breakdown_of}

@@ -1,12 +1,10 @@
-use Rattle.std.proofs.Common.{◌≡◌, List, map, ap, ap₂, ◌∙◌, subst, sym}
+use Rattle.std.proofs.Common.{List, ap, ◌∙◌, subst, sym}
 use Rattle.formula_lower.proofs.Costs.{vec_costs}
 use Rattle.formula_lower.proofs.Roomy.{all_roomy}
 use Rattle.formula_lower.proofs.Sigmas.{vec_can_merge, vec_means}
 use Rattle.formula_lower.proofs.TreeLayouts.{machine_of}
-use Rattle.formula_lower.specs.Merged.{sigma_of}
-use Rattle.passes.specs.Sigma.{PlainSigma, IsGoodSigma, sigma_cost, sigma_on}
+use Rattle.passes.specs.Sigma.{IsGoodSigma, sigma_cost, sigma_on}
 use Rattle.passes.specs.Term.{PlainTerm}
-use Rattle.passes.specs.Views.{plain_sigma}
 use Rattle.sigma_lower.proofs.Goods.{phases_good}
 use Rattle.steps.specs.Layout.{work_cost}
 use Rattle.steps.specs.Targets.{target_of}

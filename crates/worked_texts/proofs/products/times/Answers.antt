@@ -1,4 +1,4 @@
-use Rattle.std.proofs.Common.{◌≡◌, ap, ◌∙◌, subst, sym, ℕ}
+use Rattle.std.proofs.Common.{◌≡◌, ap, ◌∙◌, subst, sym}
 use Rattle.formula_lower.proofs.TreeLayouts.{tree_layout}
 use Rattle.matrix_meaning.specs.declared.Request.{Request}
 use Rattle.passes.specs.Sigma.{PlainSigma, sigma_on}
