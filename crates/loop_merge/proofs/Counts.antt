@@ -9,7 +9,6 @@ use Rattle.steps.specs.declared.target.Target.{Target}
 use Rattle.loop_merge.specs.Laws.{Counted, works, tiles, with_twiddles, twiddle_last, twiddle_by, passes_of, tiled_passes, whole_passes, has_diagonal, counted_as, counted, MergeCounts}
 use Rattle.loop_merge.specs.Merge.{PlainDiagonal, PlainPass, in_order, merged_of}
 use Rattle.loop_merge.proofs.RootDealt.{IsDealt, dealt_parts}
-use Rattle.loop_merge.proofs.RootShares.{is-shared}
 use Rattle.loop_merge.proofs.RootMerging.{root_merged}
 use Rattle.loop_merge.proofs.RootPasses.{tile_before, tile_after, if_lanes, turned_waiting, right_passes, left_diagonal, left_pass, left_passes, root_passes}
 use Rattle.loop_merge.proofs.TreePasses.{layout_passes, counted_passes, counted-multiplied}
@@ -195,7 +194,7 @@ shared_counts : (c : Target) (l : Layout) → CanShareLayout c l → IsGoodLayou
 shared_counts c (work w) shares good shared = absurd (shares.root shared)
 shared_counts c (by rule root a b) shares good shared =
     let both = root_rule c rule (layout_size a) (layout_size b) (shares.root shared) in
-    let dealt = dealt_parts c (layout_size a) (layout_size b) (is-shared c (by rule root a b) shares) both.1 in
+    let dealt = dealt_parts c (by rule root a b) (layout_size a) (layout_size b) shares both.1 in
     let one : 1 ≤ c.lanes = shares.lanes in
     counted-root c rule root a b both.0 good (grind (arith, nat_tests)) dealt.0 dealt.1
 

@@ -4,13 +4,14 @@ use Rattle.std.specs.Prelude.{nat_le}
 use Rattle.std.proofs.lemmas.Bool.{cases_lt}
 use Rattle.std.proofs.lemmas.Bool.Decides.{nat_tests}
 use Rattle.kernel_gen.proofs.NodeCosts.{kernel-short}
-use Rattle.loop_merge.specs.Laws.{Counted, works, tiles, with_twiddles, twiddle_last, twiddle_by, passes_of, tiled_passes, loads_by, CountsAs, AllCount, LayoutsCount}
+use Rattle.loop_merge.specs.Laws.{Counted, works, tiles, with_twiddles, twiddle_last, twiddle_by, passes_of, tiled_passes, whole_passes, loads_by, CountsAs, AllCount, LayoutsCount}
 use Rattle.matrix_meaning.specs.Valid.{IsValid}
 use Rattle.matrix_meaning.specs.declared.Kind.{Kind}
 use Rattle.matrix_meaning.specs.declared.Kind.TheVariants.{Dft, Wht}
 use Rattle.matrix_meaning.specs.declared.Request.{Request}
 use Rattle.passes.specs.Work.{PlainWork, kernel}
 use Rattle.rooted_trees.specs.Trees.{single}
+use Rattle.smp_rewrite.proofs.TreeLaws.{root_kernel}
 use Rattle.steps.specs.Layout.{Layout, work, by, layout_size, layout_of, long_work, node_work, work_cost}
 use Rattle.steps.proofs.Layouts.{kernel-priced, layouts_have_size, leaf-priced, part-le}
 use Rattle.tree_model.specs.Admissible.{IsAdmissible, RootFits, RuleFits}
@@ -118,54 +119,37 @@ by-sizes c rule n r s x y left right ls rs is_r is_s h k =
     passes-append c (twiddle_by rule (right (n * x))) (left (n * y)) (trees.twiddle_by rule rs) ls
     (passes-by c rule (right (n * x)) rs (subst (λ z. ArePasses c (right (n * z)) rs) (sym is_r) h)) (subst (λ z. ArePasses c (left (n * z)) ls) (sym is_s) k)
 
+node-pick : (c : Request) (n : ℕ) (rule : Rule) (a b : Breakdown) (q : ℕ) → IsValid c → IsWellFormed c.kind (node rule a b) → q * (size_of a * size_of b) ≡ c.size →
+    ((k : ℕ) → ArePasses c (passes_of k (layout_of c a)) (trees.passes_of c k a)) → ((k : ℕ) → ArePasses c (passes_of k (layout_of c b)) (trees.passes_of c k b)) →
+    (z : Bool) → is_kernel c (size_of a * size_of b) ≡ z →
+    ArePasses c (passes_of n (if z then work (node_work c (node rule a b)) else by rule (node_root c (size_of a * size_of b)) (layout_of c a) (layout_of c b)))
+    (if z then trees.nodes n (node rule a b) false ∷ [] else trees.twiddle_by rule (trees.passes_of c (n * size_of a) b) ++ trees.passes_of c (n * size_of b) a)
+node-pick c n rule a b q valid h e left right true short =
+    ((record { copies = refl; operations = kernel-priced c (node rule a b) q valid h e short; loads = kernel-loads c rule a b short }, refl), tt)
+node-pick c n rule a b q valid h e left right false outer =
+    by-sizes c rule n (size_of a) (size_of b) (layout_size (layout_of c a)) (layout_size (layout_of c b)) (λ k. passes_of k (layout_of c a)) (λ k. passes_of k (layout_of c b))
+    (trees.passes_of c (n * size_of b) a) (trees.passes_of c (n * size_of a) b) (layouts_have_size c a) (layouts_have_size c b) (right (n * size_of a)) (left (n * size_of b))
+
 node_passes : (c : Request) (n : ℕ) (t : Breakdown) (q : ℕ) → IsValid c → IsWellFormed c.kind t → q * size_of t ≡ c.size → (size_of t ≡ c.size → is_plain c ≡ false → RootFits c t) →
     ArePasses c (passes_of n (layout_of c t)) (trees.passes_of c n t)
 node_passes c n (leaf d) q valid h e root = ((record { copies = refl; operations = leaf-priced c d q valid h e root; loads = leaf-loads c d valid h root }, refl), tt)
-node_passes c n (node rule a b) q valid h e root = pick (is_kernel c (size_of a * size_of b)) refl
-  where
-    r : ℕ
-    r = size_of a
-
-    s : ℕ
-    s = size_of b
-
-    two_r : 2 ≤ r
-    two_r = h.0.left
-
-    two_s : 2 ≤ s
-    two_s = h.0.right
-
-    high : r * s ≤ c.size
-    high = part-le q (r * s) c.size e valid.in_range.size.0
-
-    r_less : r < r * s
-    r_less = below_product (r * s) r s two_s refl (omega (arith, two_r))
-
-    s_less : s < r * s
-    s_less = other_below (r * s) r s two_r refl (omega (arith, two_s))
-
-    left : (k : ℕ) → ArePasses c (passes_of k (layout_of c a)) (trees.passes_of c k a)
-    left k = node_passes c k a (q * s) valid h.1 (omega (arith, e)) (λ is shared. absurd (omega (arith, is, r_less, high)))
-
-    right : (k : ℕ) → ArePasses c (passes_of k (layout_of c b)) (trees.passes_of c k b)
-    right k = node_passes c k b (q * r) valid h.2 (omega (arith, e)) (λ is shared. absurd (omega (arith, is, s_less, high)))
-
-    pick : (z : Bool) → is_kernel c (r * s) ≡ z →
-        ArePasses c (passes_of n (if z then work (node_work c (node rule a b)) else by rule (node_root c (r * s)) (layout_of c a) (layout_of c b)))
-        (if z then trees.nodes n (node rule a b) false ∷ [] else trees.twiddle_by rule (trees.passes_of c (n * r) b) ++ trees.passes_of c (n * s) a)
-    pick true short = ((record { copies = refl; operations = kernel-priced c (node rule a b) q valid h e short; loads = kernel-loads c rule a b short }, refl), tt)
-    pick false outer =
-        by-sizes c rule n r s (layout_size (layout_of c a)) (layout_size (layout_of c b)) (λ k. passes_of k (layout_of c a)) (λ k. passes_of k (layout_of c b)) _ _
-        (layouts_have_size c a) (layouts_have_size c b) (right (n * r)) (left (n * s))
+node_passes c n (node rule a b) q valid h e root =
+    let r = size_of a in
+    let s = size_of b in
+    let two_r : 2 ≤ r = h.0.left in
+    let two_s : 2 ≤ s = h.0.right in
+    let high : r * s ≤ c.size = part-le q (r * s) c.size e valid.in_range.size.0 in
+    let r_less : r < r * s = below_product (r * s) r s two_s refl (omega (arith, two_r)) in
+    let s_less : s < r * s = other_below (r * s) r s two_r refl (omega (arith, two_s)) in
+    node-pick c n rule a b q valid h e
+    (λ k. node_passes c k a (q * s) valid h.1 (omega (arith, e)) (λ is shared. absurd (omega (arith, is, r_less, high))))
+    (λ k. node_passes c k b (q * r) valid h.2 (omega (arith, e)) (λ is shared. absurd (omega (arith, is, s_less, high)))) (is_kernel c (r * s)) refl
 
 -- ---- the whole
 
 part_passes : (c : Request) (n : ℕ) (t : Breakdown) (q : ℕ) → IsValid c → IsWellFormed c.kind t → q * size_of t ≡ c.size → size_of t < c.size →
     ArePasses c (passes_of n (layout_of c t)) (trees.passes_of c n t)
 part_passes c n t q valid h e less = node_passes c n t q valid h e (λ is shared. absurd (omega (arith, is, less)))
-
-root_kernel : (c : Request) → is_plain c ≡ false → is_kernel c c.size ≡ false
-root_kernel c e = grind (arith, nat_tests)
 
 several_lanes : (c : Request) → nat_le c.lanes 1 ≡ false → is_plain c ≡ false
 several_lanes c many = grind (arith, nat_tests)
@@ -175,11 +159,19 @@ tiled : (c : Request) (rule : Rule) (a b : Breakdown) → RuleFits c rule (size_
     ArePasses c (tiled_passes (by rule (node_root c (size_of a * size_of b)) (layout_of c a) (layout_of c b))) (trees.tiled_passes c (node rule a b))
 tiled c Gt a b fits left right size_a size_b = absurd fits
 tiled c Ct a b fits left right size_a size_b =
-    passes-append c _ _ _ _ (subst (λ k. ArePasses c (passes_of k (layout_of c b)) (trees.passes_of c (size_of a) b)) (sym size_a) (right (size_of a)))
-    (refl, subst (λ k. ArePasses c (passes_of k (layout_of c a)) (trees.passes_of c (size_of b) a)) (sym size_b) (left (size_of b)))
+    let la = layout_of c a in
+    let lb = layout_of c b in
+    passes-append c (passes_of (layout_size la) lb) (tiles true ∷ passes_of (layout_size lb) la) (trees.passes_of c (size_of a) b) (trees.tiles true ∷ trees.passes_of c (size_of b) a)
+    (subst (λ k. ArePasses c (passes_of k lb) (trees.passes_of c (size_of a) b)) (sym size_a) (right (size_of a)))
+    (refl, subst (λ k. ArePasses c (passes_of k la) (trees.passes_of c (size_of b) a)) (sym size_b) (left (size_of b)))
 tiled c Split a b fits left right size_a size_b =
-    (refl, passes-append c _ _ _ _ (subst (λ k. ArePasses c (passes_of k (layout_of c b)) (trees.passes_of c (size_of a) b)) (sym size_a) (right (size_of a)))
-    (refl, subst (λ k. ArePasses c (passes_of k (layout_of c a)) (trees.passes_of c (size_of b) a)) (sym size_b) (left (size_of b))))
+    let la = layout_of c a in
+    let lb = layout_of c b in (
+      refl,
+      passes-append c (passes_of (layout_size la) lb) (tiles false ∷ passes_of (layout_size lb) la) (trees.passes_of c (size_of a) b) (trees.tiles false ∷ trees.passes_of c (size_of b) a)
+          (subst (λ k. ArePasses c (passes_of k lb) (trees.passes_of c (size_of a) b)) (sym size_a) (right (size_of a)))
+          (refl, subst (λ k. ArePasses c (passes_of k la) (trees.passes_of c (size_of b) a)) (sym size_b) (left (size_of b))),
+    )
 
 root-pick : (c : Request) (z : Bool) (w : PlainWork) (l : Layout) (qs : List trees.Pass) → z ≡ false → ArePasses c (tiled_passes l) qs → ArePasses c (tiled_passes (if z then work w else l)) qs
 root-pick c true w l qs e h = absurd (cc)
@@ -207,4 +199,4 @@ whole c t valid h true is = node_passes c 1 t 1 valid h.well_formed (let one : 1
 whole c t valid h false is = tiled_whole c t valid h (several_lanes c is)
 
 pub layouts_count : LayoutsCount
-layouts_count c t valid h = all-count c _ _ (whole c t valid h (nat_le c.lanes 1) refl)
+layouts_count c t valid h = all-count c (whole_passes c.lanes (layout_of c t)) (trees.whole_passes c t) (whole c t valid h (nat_le c.lanes 1) refl)

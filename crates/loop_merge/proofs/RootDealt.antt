@@ -2,7 +2,8 @@
 use Rattle.std.proofs.Common.{◌≡◌, ℕ, ◌*◌, ◌/◌, ◌%◌, ◌<◌, ◌≤◌, arith, sym, ap, ◌∙◌, inl, inr, mul_comm, subst}
 use Rattle.std.proofs.lemmas.Bool.{cases_eq}
 use Rattle.steps.specs.declared.target.Target.{Target}
-use Rattle.smp_rewrite.specs.Fits.{HasParts}
+use Rattle.smp_rewrite.specs.Fits.{CanShareLayout, HasParts}
+use Rattle.steps.specs.Layout.{Layout}
 use Rattle.smp_rewrite.proofs.Dealt as smp
 use Rattle.vec_rewrite.proofs.Following.{IsWide}
 use Rattle.vec_rewrite.proofs.StepFollows.{wide_from, wide_part}
@@ -23,16 +24,9 @@ lanes-wide v u low wide =
 in_parts : (p v k : ℕ) → p * (k / p) ≡ k → IsWide v (k / p) → IsDealt p v k
 in_parts p v k parts wide = ap (λ n. p * n) (mul_comm v (k / p / v) ∙ sym wide) ∙ parts
 
--- some processors, lanes and words of a line
-pub record IsShared (c : Target) : Type 0 where
-  pub procs : 1 ≤ c.procs
-  pub lanes : 1 ≤ c.lanes
-  pub line : 1 ≤ c.line
-  pub in_line : 1 < c.procs → c.line % c.lanes ≡ 0
-
 -- a size that the processors' lines divide, and the vectors
-pub dealt_part : (c : Target) (k : ℕ) → IsShared c → (1 < c.procs → k % (c.procs * c.line) ≡ 0) → (1 < c.lanes → k % c.lanes ≡ 0) → IsDealt c.procs c.lanes k
-dealt_part c k h on_procs on_lanes =
+pub dealt_part : (c : Target) (l : Layout) (k : ℕ) → CanShareLayout c l → (1 < c.procs → k % (c.procs * c.line) ≡ 0) → (1 < c.lanes → k % c.lanes ≡ 0) → IsDealt c.procs c.lanes k
+dealt_part c l k h on_procs on_lanes =
     let p = c.procs in
     let v = c.lanes in
     let low : 1 ≤ p = h.procs in
@@ -49,6 +43,6 @@ dealt_part c k h on_procs on_lanes =
           in_parts p v k (sym dealt.parts) (lanes-wide v (k / p) lanes_low (λ lanes. wide_part v c.line (k / p) dealt.lines (h.in_line several)))
     ]
 
-pub dealt_parts : (c : Target) (r s : ℕ) → IsShared c → HasParts c r s → IsDealt c.procs c.lanes r × IsDealt c.procs c.lanes s
-dealt_parts c r s h fits =
-    (dealt_part c r h (λ several. (fits.procs several).0) (λ several. (fits.lanes several).0), dealt_part c s h (λ several. (fits.procs several).1) (λ several. (fits.lanes several).1))
+pub dealt_parts : (c : Target) (l : Layout) (r s : ℕ) → CanShareLayout c l → HasParts c r s → IsDealt c.procs c.lanes r × IsDealt c.procs c.lanes s
+dealt_parts c l r s h fits =
+    (dealt_part c l r h (λ several. (fits.procs several).0) (λ several. (fits.lanes several).0), dealt_part c l s h (λ several. (fits.procs several).1) (λ several. (fits.lanes several).1))

@@ -6,7 +6,7 @@ use Rattle.smp_rewrite.specs.Fits.{CanShareLayout, HasParts}
 use Rattle.steps.specs.Layout.{Layout}
 use Rattle.perm_algebra.proofs.Sizes.{positive-product}
 use Rattle.loop_merge.proofs.PartRules.{IsSize}
-use Rattle.loop_merge.proofs.RootDealt.{IsShared, dealt_parts}
+use Rattle.loop_merge.proofs.RootDealt.{dealt_parts}
 use Rattle.loop_merge.proofs.PlaceValues.{right_positive}
 
 -- each processor and each lane has as many rows, and as many columns
@@ -22,12 +22,9 @@ pub record AreShares (size p v r s : ℕ) : Type 0 where
 
 -- ---- from a layout that can be shared
 
-pub is-shared : (c : Target) (l : Layout) → CanShareLayout c l → IsShared c
-is-shared c l h = record { procs = h.procs; lanes = h.lanes; line = h.line; in_line = h.in_line }
-
 pub shares_of : (c : Target) (l : Layout) (r s : ℕ) → CanShareLayout c l → HasParts c r s → 2 ≤ r → 2 ≤ s → r * s ≡ c.size → AreShares c.size c.procs c.lanes r s
 shares_of c l r s h parts two_r two_s product =
-    let dealt = dealt_parts c r s (is-shared c l h) parts in
+    let dealt = dealt_parts c l r s h parts in
     record {
       procs = h.procs;
       lanes = h.lanes;

@@ -62,7 +62,7 @@ shaped-last P size f (p ∷ []) step h = (step p h.0, tt)
 shaped-last P size f (p ∷ q ∷ ps) step h = (h.0, shaped-last P size f (q ∷ ps) step h.1)
 
 pub new-shaped : (P : PlainWork → Type 0) (size : ℕ) (path : Path) (waiting : List Mapping) (w : PlainWork) → AreSeveral path → size_under path (work_size w) ≡ size → P w → IsShaped P size (new_pass path w waiting)
-new-shaped P size path waiting w wide fills work = record { wide = wide; fills = fills; work = work; multiplies = λ d e. absurd (none_is_some d e) }
+new-shaped P size path waiting w wide fills does = record { wide = wide; fills = fills; work = does; multiplies = λ d e. absurd (none_is_some d e) }
 
 pub scattered-shaped : (P : PlainWork → Type 0) (size : ℕ) (f : Mapping) (p : PlainPass) → IsShaped P size p → IsShaped P size (scattered f p)
 scattered-shaped P size f p h = record { wide = h.wide; fills = h.fills; work = h.work; multiplies = h.multiplies }

@@ -54,7 +54,7 @@ smp_shaped h l k =
 
 -- ---- the layouts of trees
 
-root_kernel : (c : Request) → is_plain c ≡ false → is_kernel c c.size ≡ false
+pub root_kernel : (c : Request) → is_plain c ≡ false → is_kernel c c.size ≡ false
 root_kernel c e = grind (arith, nat_tests)
 
 rule-parts : (c : Request) (rule : Rule) (r s : ℕ) → RuleFits c rule r s → RuleHasParts (target_of c) rule r s

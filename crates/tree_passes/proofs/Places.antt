@@ -118,7 +118,7 @@ module _ (c : Request) (p : PlainPass) (good : IsGoodLoop c.lanes (loop_of p)) w
           factors = λ m is.
               let t = taken-is p m is in
               factor-at m t lane on
-              ∙ frame.factors t.diagonal t.is vs (named c q) lane k share.inner share.proc on register
+              ∙ frame.factors t.diagonal t.is vs (named c q) lane k share.inner share.proc on below
               ∙ ap₂ (λ x y. x + y * lane) (sym (factor-at m t 0 first)) (sym (loop-step p.work));
         }
 
