@@ -9,14 +9,15 @@ pub mod Trees
 pub mod Vectors
 pub mod Embedded
 pub mod SharedTrees
-pub mod Ordered
-pub mod HaveLoops
 pub mod TreesKeep
 pub mod Numbers
-pub mod TightPaths
-pub mod CanMerge
-pub mod FormulaWords
-pub mod Formulas
 mod Roomy
 pub mod Sigmas
 pub mod Costs
+pub mod Ordered
+pub mod HaveLoops
+pub mod TightPaths
+pub mod CanMerge
+pub mod TreeLayouts
+pub mod FormulaWords
+pub mod Formulas

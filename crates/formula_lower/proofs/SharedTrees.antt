@@ -2,8 +2,8 @@
 use Rattle.std.proofs.Common.{◌≡◌, ℕ, ◌<◌, ◌/◌, ◌==◌, Bool, true, false, arith, refl, sym, ap, ◌∙◌, List, [], ◌∷◌, ◌++◌, subst, Option, Some, None, if◌then◌else◌}
 use Rattle.std.specs.Prelude.{All, map}
 use Rattle.std.proofs.lemmas.List.Elements.{All-nil, All-cons, All-head, All-tail, All-append}
-use Rattle.matrix_meaning.specs.declared.Request.{Request}
-use Rattle.matrix_meaning.specs.Valid.{IsValid}
+use Rattle.steps.specs.declared.target.Target.{Target}
+use Rattle.formula_lower.specs.Machine.{IsMachine}
 use Rattle.passes.specs.Good.{AreBlocks, IsVector}
 use Rattle.passes.specs.Merge.{Room, passes_within}
 use Rattle.passes.specs.Nest.{passes_on}
@@ -13,7 +13,7 @@ use Rattle.passes.proofs.Walk.{passes-vector}
 use Rattle.formula_lower.specs.Shared.{phase_term, HasBlocks, PhaseEmbeds, AllEmbed, TreesEmbed, phases_passes_on, AllMerge, SharedTreesMerge}
 use Rattle.formula_lower.proofs.Embedded.{factors_embed}
 use Rattle.formula_lower.proofs.Trees.{step-keeps}
-use Rattle.sigma_lower.specs.Good.{AreGood}
+use Rattle.sigma_lower.specs.Good.{AreGood, IsVecOf}
 use Rattle.sigma_lower.specs.Term as lowered
 use Rattle.sigma_lower.specs.Term.{factor_term, lowered_of}
 use Rattle.sigma_lower.proofs.Both.{lowered_transforms}
@@ -28,7 +28,7 @@ use Rattle.tensor_paths.specs.Path.{Path}
 use Rattle.vec_rewrite.specs.declared.Deal.{Deal}
 use Rattle.vec_rewrite.specs.declared.Grid.{Grid}
 use Rattle.vec_rewrite.specs.Laws.{HasLanes}
-use Rattle.vec_rewrite.specs.Turning.{kept, settled, grouped, order_after, narrowed, block_factors, laned, laned_from, phase_of, vec_of}
+use Rattle.vec_rewrite.specs.Turning.{kept, settled, grouped, order_after, narrowed, block_factors, laned, laned_from, phase_of, deal_of, vec_of}
 use Rattle.vec_rewrite.specs.Vectors.{PlainFactor, lanes, diagonals, move_before, move_after, tiles, factor_step}
 use Rattle.vec_rewrite.proofs.LaneShapes.{vec_shaped}
 
@@ -62,7 +62,7 @@ then-blocks d o f h = All-append HasBlocks (settled d o) (f ∷ []) (settled-blo
 block-blocks : (d : Deal) (o : Option Grid) (path : Path) (k : PlainCore) → All HasBlocks (block_factors d o path k)
 block-blocks d o [] (piece t) = then-blocks d o (lanes (step [] (piece t))) tt
 block-blocks d o [] (turns r s) = then-blocks d o (lanes (step [] (turns (r / d.lanes) s))) tt
-block-blocks d o [] (twiddles r s) = then-blocks d o (diagonals (step (within (Blocks d.procs) []) (twiddles r s))) tt
+block-blocks d o [] (twiddles r s w) = then-blocks d o (diagonals (step (within (Blocks d.procs) []) (twiddles r s w))) tt
 block-blocks d o [] (thomas_in r s) = then-blocks d o (lanes (step [] (thomas_in r s))) tt
 block-blocks d o [] (thomas_out r s) = then-blocks d o (lanes (step [] (thomas_out r s))) tt
 block-blocks d o (Blocks r ∷ path) k =
@@ -70,7 +70,7 @@ block-blocks d o (Blocks r ∷ path) k =
     let lane = lanes (step (within (Blocks (r / d.lanes)) path) k) in All-append HasBlocks (grouped d o g) (lane ∷ []) (grouped-blocks d o g) (one-blocks lane tt)
 block-blocks d o (Columns s ∷ path) (piece t) = then-blocks d o (lanes (narrowed d.lanes (Columns s ∷ path) (piece t))) tt
 block-blocks d o (Columns s ∷ path) (turns a b) = then-blocks d o (lanes (narrowed d.lanes (Columns s ∷ path) (turns a b))) tt
-block-blocks d o (Columns s ∷ path) (twiddles a b) = then-blocks d o (diagonals (step (within (Blocks d.procs) (Columns s ∷ path)) (twiddles a b))) tt
+block-blocks d o (Columns s ∷ path) (twiddles a b w) = then-blocks d o (diagonals (step (within (Blocks d.procs) (Columns s ∷ path)) (twiddles a b w))) tt
 block-blocks d o (Columns s ∷ path) (thomas_in a b) = then-blocks d o (lanes (narrowed d.lanes (Columns s ∷ path) (thomas_in a b))) tt
 block-blocks d o (Columns s ∷ path) (thomas_out a b) = then-blocks d o (lanes (narrowed d.lanes (Columns s ∷ path) (thomas_out a b))) tt
 
@@ -111,7 +111,7 @@ pub all-right : (P : PlainFactor → Type 0) (fs gs : List PlainFactor) → All 
 all-right P [] gs h = h
 all-right P (f ∷ fs) gs h = all-right P fs gs (All-tail P f (fs ++ gs) h)
 
-phase-embeds : (c : Request) (p v : ℕ) (fs : List PlainFactor) → IsValid c → All (HasLanes c.size p v) fs → All HasBlocks fs → AreGood c (map (factor_step p v) fs) → PhaseEmbeds c v (map (factor_term p v) fs)
+phase-embeds : (c : Target) (p v : ℕ) (fs : List PlainFactor) → IsMachine c → All (HasLanes c.size p v) fs → All HasBlocks fs → AreGood c.size (map (factor_step p v) fs) → PhaseEmbeds c v (map (factor_term p v) fs)
 phase-embeds c p v [] valid laned blocks h = record { good = tt; on = λ x w. refl }
 phase-embeds c p v (f ∷ fs) valid laned blocks h =
     let first = factors_embed c p v f valid (All-head (HasLanes c.size p v) f fs laned) (All-head HasBlocks f fs blocks) h.0 in
@@ -119,46 +119,47 @@ phase-embeds c p v (f ∷ fs) valid laned blocks h =
     record {
       good = (first.good, rest.good);
       on = λ x w.
-          ap (term_on c.modulus c.size (phase_term c (map (factor_term p v) fs))) (first.on x w)
+          ap (term_on c.modulus c.size (phase_term (map (factor_term p v) fs))) (first.on x w)
           ∙ rest.on (lowered.term_on c (factor_term p v f) x) (subst (IsVector c.modulus c.size) (sym (factor_on c p v f x h.0)) (step-keeps c (factor_step p v f) x valid h.0 w));
     }
 
-pick-phases : (c : Request) (p v : ℕ) (b : Bool) (first second : List PlainFactor) → PhaseEmbeds c v (map (factor_term p v) (first ++ second)) → PhaseEmbeds c v (map (factor_term p v) first) → PhaseEmbeds c v (map (factor_term p v) second) →
+pick-phases : (c : Target) (p v : ℕ) (b : Bool) (first second : List PlainFactor) → PhaseEmbeds c v (map (factor_term p v) (first ++ second)) → PhaseEmbeds c v (map (factor_term p v) first) → PhaseEmbeds c v (map (factor_term p v) second) →
     AllEmbed c v (map (map (factor_term p v)) (if b then (first ++ second) ∷ [] else first ∷ second ∷ []))
 pick-phases c p v true first second all h k = (all, tt)
 pick-phases c p v false first second all h k = (h, (k, tt))
 
 pub trees_embed : TreesEmbed
-trees_embed c t valid h =
-    let g = vec_of c (smp_of c t) in
-    let d : Deal = record { procs = c.procs; block = c.size / c.procs; lanes = c.lanes } in
+trees_embed c l valid shares good =
+    let g = vec_of (smp_of c l) in
+    let d = deal_of c in
     let P = HasLanes c.size c.procs c.lanes in
-    let shaped : All P (g.first ++ g.second) = vec_shaped c (smp_of c t) valid (record { tree = t; admissible = h; form = refl }) in
-    let first = phase-blocks d (smp_of c t).first in
-    let second = phase-blocks d (smp_of c t).second in
-    let both = phases_good c g valid (record { tree = t; admissible = h; form = refl }) in
-    let all = vec_good c g valid (record { tree = t; admissible = h; form = refl }) in
+    let is : IsVecOf c g = record { layout = l; shares = shares; good = good; form = refl } in
+    let shaped : All P (g.first ++ g.second) = vec_shaped c (smp_of c l) (record { layout = l; shares = shares; form = refl }) in
+    let first = phase-blocks d (smp_of c l).first in
+    let second = phase-blocks d (smp_of c l).second in
+    let both = phases_good c g is in
+    let all = vec_good c g is in
     pick-phases c c.procs c.lanes (c.procs == 1) g.first g.second (phase-embeds c c.procs c.lanes (g.first ++ g.second) valid shaped (All-append HasBlocks g.first g.second first second) all)
     (phase-embeds c c.procs c.lanes g.first valid (all-left P g.first g.second shaped) first both.0)
     (phase-embeds c c.procs c.lanes g.second valid (all-right P g.first g.second shaped) second both.1)
 
 -- ---- passes
 
-all-merge : (room : Room) (c : Request) (phases : List (List lowered.PlainTerm)) → IsValid c → AllEmbed c c.lanes phases → AllMerge room c phases
+all-merge : (room : Room) (c : Target) (phases : List (List lowered.PlainTerm)) → IsMachine c → AllEmbed c c.lanes phases → AllMerge room c phases
 all-merge room c [] valid h = tt
 all-merge room c (ts ∷ more) valid h =
-    ((merge_keeps c.lanes c.modulus c.size room (phase_term c ts) (omega (arith, valid.in_range.modulus)) (omega (arith, valid.in_range.size.0)) h.0.good).good, all-merge room c more valid h.1)
+    ((merge_keeps c.lanes c.modulus c.size room (phase_term ts) (omega (arith, valid.modulus)) (omega (arith, valid.size.0)) h.0.good).good, all-merge room c more valid h.1)
 
-all-on : (room : Room) (c : Request) (phases : List (List lowered.PlainTerm)) (x : List ℕ) → IsValid c → AllEmbed c c.lanes phases → IsVector c.modulus c.size x → phases_passes_on room c phases x ≡ lowered.phases_on c phases x
+all-on : (room : Room) (c : Target) (phases : List (List lowered.PlainTerm)) (x : List ℕ) → IsMachine c → AllEmbed c c.lanes phases → IsVector c.modulus c.size x → phases_passes_on room c phases x ≡ lowered.phases_on c phases x
 all-on room c [] x valid h v = refl
 all-on room c (ts ∷ more) x valid h v =
-    let positive : 0 < c.modulus = omega (arith, valid.in_range.modulus) in
-    let passes = passes_within room c.size (phase_term c ts) in
-    let merged = merge_keeps c.lanes c.modulus c.size room (phase_term c ts) positive (omega (arith, valid.in_range.size.0)) h.0.good in
+    let positive : 0 < c.modulus = omega (arith, valid.modulus) in
+    let passes = passes_within room c.size (phase_term ts) in
+    let merged = merge_keeps c.lanes c.modulus c.size room (phase_term ts) positive (omega (arith, valid.size.0)) h.0.good in
     all-on room c more (passes_on c.modulus c.size passes x) valid h.1 (passes-vector c.modulus c.size passes x positive v)
     ∙ ap (lowered.phases_on c more) (merged.on x v ∙ h.0.on x v)
 
 pub shared_trees_merge : SharedTreesMerge
-shared_trees_merge room c t valid h =
-    let all = trees_embed c t valid h in
-    record { good = all-merge room c (lowered_of c t) valid all; on = λ x v. all-on room c (lowered_of c t) x valid all v ∙ lowered_transforms c t x valid h }
+shared_trees_merge room c l valid shares good =
+    let all = trees_embed c l valid shares good in
+    record { good = all-merge room c (lowered_of c l) valid all; on = λ x v. all-on room c (lowered_of c l) x valid all v ∙ lowered_transforms c l x shares good }

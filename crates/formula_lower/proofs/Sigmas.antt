@@ -3,11 +3,11 @@ use Rattle.std.proofs.Common.{◌≡◌, ◌≢◌, ℕ, ◌<◌, arith, refl, s
 use Rattle.std.specs.Prelude.{map, reverse}
 use Rattle.std.proofs.lemmas.Bool.Decides.{nat_tests}
 use Rattle.std.proofs.lemmas.List.{reverse-append}
-use Rattle.matrix_meaning.specs.declared.Request.{Request}
-use Rattle.matrix_meaning.specs.Valid.{IsValid}
+use Rattle.steps.specs.declared.target.Target.{Target}
+use Rattle.formula_lower.specs.Machine.{IsMachine}
 use Rattle.passes.specs.Good.{IsVector}
 use Rattle.passes.specs.Merge.{unbounded, passes_within}
-use Rattle.passes.specs.Sigma.{PlainSigma, IsGoodSigma, sigma_on, terms_on}
+use Rattle.passes.specs.Sigma.{IsGoodSigma, sigma_on, terms_on}
 use Rattle.passes.specs.Term.{PlainTerm, same, product, term_on}
 use Rattle.passes.proofs.Keeps.{merge_keeps}
 use Rattle.passes.proofs.Walk.{passes-vector}
@@ -25,64 +25,61 @@ use Rattle.vec_rewrite.specs.Views.{plain_vec_factor}
 
 -- ---- phases
 
-before-same : (c : Request) (p v : ℕ) (fs : List PlainFactor) → factors_before c p v fs same ≡ phase_term c (map (factor_term p v) fs)
-before-same c p v [] = refl
-before-same c p v (f ∷ fs) = ap (product (embed c (factor_term p v f))) (before-same c p v fs)
+before-same : (p v : ℕ) (fs : List PlainFactor) → factors_before p v fs same ≡ phase_term (map (factor_term p v) fs)
+before-same p v [] = refl
+before-same p v (f ∷ fs) = ap (product (embed (factor_term p v f))) (before-same p v fs)
 
-before-both : (c : Request) (p v : ℕ) (fs gs : List PlainFactor) → factors_before c p v fs (factors_before c p v gs same) ≡ phase_term c (map (factor_term p v) (fs ++ gs))
-before-both c p v [] gs = before-same c p v gs
-before-both c p v (f ∷ fs) gs = ap (product (embed c (factor_term p v f))) (before-both c p v fs gs)
+before-both : (p v : ℕ) (fs gs : List PlainFactor) → factors_before p v fs (factors_before p v gs same) ≡ phase_term (map (factor_term p v) (fs ++ gs))
+before-both p v [] gs = before-same p v gs
+before-both p v (f ∷ fs) gs = ap (product (embed (factor_term p v f))) (before-both p v fs gs)
 
 -- one more factor before those that stand there, the last of which was taken first
-pub before-more : (c : Request) (p v : ℕ) (fs : List VecFactor) (f : VecFactor) (after t u w : PlainTerm) → t ≡ factors_before c p v (map plain_vec_factor (reverse fs)) after → u ≡ embed c (factor_term p v (plain_vec_factor f)) → w ≡ product u t →
-    w ≡ factors_before c p v (map plain_vec_factor (reverse (fs ++ f ∷ []))) after
-before-more c p v fs f after t u w so_far one made =
-    made ∙ ap₂ product one so_far ∙ ap (λ gs. factors_before c p v (map plain_vec_factor gs) after) (sym (reverse-append fs (f ∷ [])))
+pub before-more : (p v : ℕ) (fs : List VecFactor) (f : VecFactor) (after t u w : PlainTerm) → t ≡ factors_before p v (map plain_vec_factor (reverse fs)) after → u ≡ embed (factor_term p v (plain_vec_factor f)) → w ≡ product u t →
+    w ≡ factors_before p v (map plain_vec_factor (reverse (fs ++ f ∷ []))) after
+before-more p v fs f after t u w so_far one made =
+    made ∙ ap₂ product one so_far ∙ ap (λ gs. factors_before p v (map plain_vec_factor gs) after) (sym (reverse-append fs (f ∷ [])))
 
 -- one processor has one phase
-pub one-phase : (c : Request) (g : PlainVec) (left all : PlainTerm) → g.procs ≡ 1 → left ≡ factors_before c g.procs g.lanes g.second same → all ≡ factors_before c g.procs g.lanes g.first left → all ∷ [] ≡ map (phase_term c) (terms_in g)
-one-phase c g left all alone second first =
+pub one-phase : (g : PlainVec) (left all : PlainTerm) → g.target.procs ≡ 1 → left ≡ factors_before g.target.procs g.target.lanes g.second same → all ≡ factors_before g.target.procs g.target.lanes g.first left → all ∷ [] ≡ map phase_term (terms_in g)
+one-phase g left all alone second first =
     let is : phases_of g ≡ (g.first ++ g.second) ∷ [] = grind (arith, nat_tests) in
-    ap (λ t. t ∷ []) (first ∙ ap (factors_before c g.procs g.lanes g.first) second ∙ before-both c g.procs g.lanes g.first g.second)
-    ∙ ap (λ fs. map (phase_term c) (map (map (factor_term g.procs g.lanes)) fs)) (sym is)
+    ap (λ t. t ∷ []) (first ∙ ap (factors_before g.target.procs g.target.lanes g.first) second ∙ before-both g.target.procs g.target.lanes g.first g.second)
+    ∙ ap (λ fs. map phase_term (map (map (factor_term g.target.procs g.target.lanes)) fs)) (sym is)
 
 -- and several have two
-pub two-phases : (c : Request) (g : PlainVec) (left right : PlainTerm) → g.procs ≢ 1 → left ≡ factors_before c g.procs g.lanes g.second same → right ≡ factors_before c g.procs g.lanes g.first same →
-    right ∷ left ∷ [] ≡ map (phase_term c) (terms_in g)
-two-phases c g left right several second first =
+pub two-phases : (g : PlainVec) (left right : PlainTerm) → g.target.procs ≢ 1 → left ≡ factors_before g.target.procs g.target.lanes g.second same → right ≡ factors_before g.target.procs g.target.lanes g.first same →
+    right ∷ left ∷ [] ≡ map phase_term (terms_in g)
+two-phases g left right several second first =
     let is : phases_of g ≡ g.first ∷ g.second ∷ [] = grind (arith, nat_tests) in
-    ap₂ (λ t u. t ∷ u ∷ []) (first ∙ before-same c g.procs g.lanes g.first) (second ∙ before-same c g.procs g.lanes g.second)
-    ∙ ap (λ fs. map (phase_term c) (map (map (factor_term g.procs g.lanes)) fs)) (sym is)
-
--- what code makes of the sizes of the request that it reads
-abbrev sigma_with : Request → List PlainTerm → PlainSigma
-sigma_with r ts = record { size = r.size; procs = r.procs; lanes = r.lanes; phases = ts }
-
-pub lowered-is : (c : Request) (g : PlainVec) (r : Request) (ts : List PlainTerm) → r ≡ c → ts ≡ map (phase_term c) (terms_in g) → sigma_with r ts ≡ sigma_of c g
-lowered-is c g r ts read is =
-    ap₂ sigma_with read is
+    ap₂ (λ t u. t ∷ u ∷ []) (first ∙ before-same g.target.procs g.target.lanes g.first) (second ∙ before-same g.target.procs g.target.lanes g.second)
+    ∙ ap (λ fs. map phase_term (map (map (factor_term g.target.procs g.target.lanes)) fs)) (sym is)
 
 -- ---- what they do
 
 -- what the term of a phase leaves is a vector
-phase-vector : (c : Request) (ts : List lowered.PlainTerm) (x : List ℕ) → IsValid c → PhaseEmbeds c c.lanes ts → IsVector c.modulus c.size x → IsVector c.modulus c.size (term_on c.modulus c.size (phase_term c ts) x)
+phase-vector : (c : Target) (ts : List lowered.PlainTerm) (x : List ℕ) → IsMachine c → PhaseEmbeds c c.lanes ts → IsVector c.modulus c.size x → IsVector c.modulus c.size (term_on c.modulus c.size (phase_term ts) x)
 phase-vector c ts x valid h v =
-    let positive : 0 < c.modulus = omega (arith, valid.in_range.modulus) in
-    let merged = merge_keeps c.lanes c.modulus c.size unbounded (phase_term c ts) positive (omega (arith, valid.in_range.size.0)) h.good in
-    subst (IsVector c.modulus c.size) (merged.on x v) (passes-vector c.modulus c.size (passes_within unbounded c.size (phase_term c ts)) x positive v)
+    let positive : 0 < c.modulus = omega (arith, valid.modulus) in
+    let merged = merge_keeps c.lanes c.modulus c.size unbounded (phase_term ts) positive (omega (arith, valid.size.0)) h.good in
+    subst (IsVector c.modulus c.size) (merged.on x v) (passes-vector c.modulus c.size (passes_within unbounded c.size (phase_term ts)) x positive v)
 
-phases-mean : (c : Request) (phases : List (List lowered.PlainTerm)) (x : List ℕ) → IsValid c → AllEmbed c c.lanes phases → IsVector c.modulus c.size x → terms_on c.modulus c.size (map (phase_term c) phases) x ≡ lowered.phases_on c phases x
+phases-mean : (c : Target) (phases : List (List lowered.PlainTerm)) (x : List ℕ) → IsMachine c → AllEmbed c c.lanes phases → IsVector c.modulus c.size x → terms_on c.modulus c.size (map phase_term phases) x ≡ lowered.phases_on c phases x
 phases-mean c [] x valid h v = refl
 phases-mean c (ts ∷ more) x valid h v =
-    phases-mean c more (term_on c.modulus c.size (phase_term c ts) x) valid h.1 (phase-vector c ts x valid h.0 v) ∙ ap (lowered.phases_on c more) (h.0.on x v)
+    phases-mean c more (term_on c.modulus c.size (phase_term ts) x) valid h.1 (phase-vector c ts x valid h.0 v) ∙ ap (lowered.phases_on c more) (h.0.on x v)
 
-vec-embeds : (c : Request) (g : PlainVec) → IsValid c → IsVecOf c g → AllEmbed c c.lanes (terms_in g)
-vec-embeds c g valid h = subst (λ z. AllEmbed c c.lanes (terms_in z)) (sym h.form) (trees_embed c h.tree valid h.admissible)
+vec-embeds : (c : Target) (g : PlainVec) → IsMachine c → IsVecOf c g → AllEmbed c c.lanes (terms_in g)
+vec-embeds c g valid h = subst (λ z. AllEmbed c c.lanes (terms_in z)) (sym h.form) (trees_embed c h.layout valid h.shares h.good)
+
+target-is : (c : Target) (g : PlainVec) → IsVecOf c g → g.target ≡ c
+target-is c g h = ap (λ (z : PlainVec). z.target) h.form
 
 -- they do what the formula for lanes does
-pub vec_means : (c : Request) (g : PlainVec) (x : List ℕ) → IsValid c → IsVecOf c g → IsVector c.modulus c.size x → sigma_on c.modulus (sigma_of c g) x ≡ vec_on c g x
-vec_means c g x valid h v = phases-mean c (terms_in g) x valid (vec-embeds c g valid h) v ∙ terms_mean c g x valid h
+pub vec_means : (c : Target) (g : PlainVec) (x : List ℕ) → IsMachine c → IsVecOf c g → IsVector c.modulus c.size x → sigma_on c.modulus (sigma_of g) x ≡ vec_on c.modulus g x
+vec_means c g x valid h v =
+    ap (λ (z : Target). terms_on c.modulus z.size (map phase_term (terms_in g)) x) (target-is c g h)
+    ∙ phases-mean c (terms_in g) x valid (vec-embeds c g valid h) v ∙ terms_mean c g x h
 
 -- and can be merged
-pub vec_can_merge : (c : Request) (g : PlainVec) → IsValid c → IsVecOf c g → IsGoodSigma (sigma_of c g)
-vec_can_merge c g valid h = subst (λ z. IsGoodSigma (sigma_of c z)) (sym h.form) (trees_can_merge c h.tree valid h.admissible)
+pub vec_can_merge : (c : Target) (g : PlainVec) → IsMachine c → IsVecOf c g → IsGoodSigma (sigma_of g)
+vec_can_merge c g valid h = subst (λ z. IsGoodSigma (sigma_of z)) (sym h.form) (trees_can_merge c h.layout valid h.shares h.good)

@@ -1,23 +1,24 @@
 -- The paths of a tree's loops have no tensor of one copy.
-use Rattle.std.proofs.Common.{◌≡◌, ℕ, ◌*◌, ◌/◌, ◌≤◌, ◌==◌, Bool, true, false, arith, refl, sym, List, [], ◌∷◌, ◌++◌, subst, if◌then◌else◌}
+use Rattle.std.proofs.Common.{◌≡◌, ℕ, ◌/◌, ◌≤◌, ◌==◌, Bool, true, false, arith, refl, sym, List, [], ◌∷◌, ◌++◌, subst, if◌then◌else◌}
 use Rattle.std.specs.Prelude.{map}
 use Rattle.std.proofs.lemmas.Bool.Decides.{nat_tests}
-use Rattle.matrix_meaning.specs.declared.Request.{Request}
-use Rattle.matrix_meaning.specs.Valid.{IsValid}
 use Rattle.sigma_lower.specs.Root.{right_path, left_path, left_core, left_terms, turned_in, tiled_before, tiled_after, tile_path, right_terms, root_terms}
 use Rattle.sigma_lower.specs.Term.{PlainTerm, gath, scat, diag, nest, lowered, lowered_core, lowered_of}
 use Rattle.sigma_lower.proofs.Both.{plain_terms}
 use Rattle.sigma_lower.proofs.RootTerms.{shared_terms}
 use Rattle.smp_rewrite.specs.Smp.{within}
 use Rattle.steps.specs.Step.{PlainCore, piece, turns, twiddles, thomas_in, thomas_out, PlainStep, step, rule_steps, steps_of}
+use Rattle.passes.specs.Limits.{HasRows}
+use Rattle.passes.specs.Work.{PlainWork, kernel, rows, horner, tile, copy}
+use Rattle.smp_rewrite.specs.Fits.{CanShareLayout}
+use Rattle.steps.specs.Layout.{Layout, work, by, layout_size, IsGoodWork, IsGoodLayout}
+use Rattle.steps.specs.Targets.{is_alone}
+use Rattle.steps.specs.declared.target.Target.{Target}
 use Rattle.tensor_paths.specs.declared.Tensor.{Tensor}
 use Rattle.tensor_paths.specs.declared.Tensor.TheVariants.{Blocks, Columns}
 use Rattle.tensor_paths.specs.Path.{Path, count_of}
 use Rattle.tree_model.specs.declared.tree.Rule.{Rule}
 use Rattle.tree_model.specs.declared.tree.Rule.TheVariants.{Gt, Ct, Split}
-use Rattle.tree_model.specs.Admissible.{IsAdmissible}
-use Rattle.tree_model.specs.Breakdown.{Breakdown, leaf, node, size_of, IsWellFormed}
-use Rattle.tree_model.specs.Cost.{is_kernel, is_plain}
 
 -- ---- paths
 
@@ -47,8 +48,8 @@ three-tight t u v = tight-within t _ (tight-within u _ (tight-within v [] tt))
 abbrev IsTightTerm : PlainTerm → Type 0
 IsTightTerm (gath f) = Unit {0}
 IsTightTerm (scat f) = Unit {0}
-IsTightTerm (diag path r s) = Unit {0}
-IsTightTerm (nest path w) = IsTight path
+IsTightTerm (diag path r s w) = Unit {0}
+IsTightTerm (nest path w) = IsTight path × HasRows w
 
 abbrev pub AreTightTerms : List PlainTerm → Type 0
 AreTightTerms [] = Unit {0}
@@ -64,9 +65,23 @@ pick-terms false ts us h k = k
 
 -- ---- the steps of a tree
 
+abbrev HasRowsAt : PlainCore → Type 0
+HasRowsAt (piece w) = HasRows w
+HasRowsAt (turns r s) = Unit {0}
+HasRowsAt (twiddles r s w) = Unit {0}
+HasRowsAt (thomas_in r s) = Unit {0}
+HasRowsAt (thomas_out r s) = Unit {0}
+
 abbrev AreTightSteps : List PlainStep → Type 0
 AreTightSteps [] = Unit {0}
-AreTightSteps (s ∷ ss) = IsTight s.path × AreTightSteps ss
+AreTightSteps (s ∷ ss) = (IsTight s.path × HasRowsAt s.core) × AreTightSteps ss
+
+good-rows : (m : ℕ) (w : PlainWork) → IsGoodWork m w → HasRows w
+good-rows m (kernel trees) h = tt
+good-rows m (rows root size) h = h.0
+good-rows m (horner root size) h = absurd h
+good-rows m (tile v) h = absurd h
+good-rows m (copy size) h = absurd h
 
 steps-append : (ss es : List PlainStep) → AreTightSteps ss → AreTightSteps es → AreTightSteps (ss ++ es)
 steps-append [] es h k = k
@@ -76,23 +91,22 @@ pick-steps : (b : Bool) (ss es : List PlainStep) → AreTightSteps ss → AreTig
 pick-steps true ss es h k = h
 pick-steps false ss es h k = k
 
-rule-tight : (rule : Rule) (path : Path) (r s : ℕ) (left right : List PlainStep) → IsTight path → AreTightSteps left → AreTightSteps right → AreTightSteps (rule_steps rule path r s left right)
-rule-tight Gt path r s left right h l k = (h, steps-append right _ k (steps-append left (step path (thomas_out r s) ∷ []) l (h, tt)))
-rule-tight Ct path r s left right h l k = (h, steps-append right (step path (twiddles r s) ∷ left) k (h, l))
-rule-tight Split path r s left right h l k = steps-append right left k l
+rule-tight : (rule : Rule) (path : Path) (r s w : ℕ) (left right : List PlainStep) → IsTight path → AreTightSteps left → AreTightSteps right → AreTightSteps (rule_steps rule path r s w left right)
+rule-tight Gt path r s w left right h l k = ((h, tt), steps-append right _ k (steps-append left (step path (thomas_out r s) ∷ []) l ((h, tt), tt)))
+rule-tight Ct path r s w left right h l k = ((h, tt), steps-append right (step path (twiddles r s w) ∷ left) k ((h, tt), l))
+rule-tight Split path r s w left right h l k = steps-append right left k l
 
-steps-tight : (c : Request) (path : Path) (t : Breakdown) → IsTight path → IsWellFormed c.kind t → AreTightSteps (steps_of c path t)
-steps-tight c path (leaf d) h formed = (h, tt)
-steps-tight c path (node rule a b) h formed =
-    pick-steps (is_kernel c (size_of a * size_of b)) _ _ (h, tt)
-    (rule-tight rule path (size_of a) (size_of b) _ _ h
-    (steps-tight c (path ++ Columns (size_of b) ∷ []) a (tight-push path (Columns (size_of b)) h formed.0.right) formed.1)
-    (steps-tight c (path ++ Blocks (size_of a) ∷ []) b (tight-push path (Blocks (size_of a)) h formed.0.left) formed.2))
+steps-tight : (m : ℕ) (path : Path) (l : Layout) → IsTight path → IsGoodLayout m l → AreTightSteps (steps_of path l)
+steps-tight m path (work w) h good = ((h, good-rows m w good.1), tt)
+steps-tight m path (by rule root a b) h good =
+    rule-tight rule path (layout_size a) (layout_size b) root _ _ h
+    (steps-tight m (path ++ Columns (layout_size b) ∷ []) a (tight-push path (Columns (layout_size b)) h good.0.right) good.1)
+    (steps-tight m (path ++ Blocks (layout_size a) ∷ []) b (tight-push path (Blocks (layout_size a)) h good.0.left) good.2)
 
-core-tight : (path : Path) (k : PlainCore) → IsTight path → IsTightTerm (lowered_core path k)
+core-tight : (path : Path) (k : PlainCore) → IsTight path × HasRowsAt k → IsTightTerm (lowered_core path k)
 core-tight path (piece t) h = h
 core-tight path (turns r s) h = tt
-core-tight path (twiddles r s) h = tt
+core-tight path (twiddles r s w) h = tt
 core-tight path (thomas_in r s) h = tt
 core-tight path (thomas_out r s) h = tt
 
@@ -102,12 +116,12 @@ lowered-tight (s ∷ ss) h = (core-tight s.path s.core h.0, lowered-tight ss h.1
 
 -- ---- the root
 
-left-core-tight : (p v m s : ℕ) (path : Path) (k : PlainCore) → IsTight path → AreTightTerms (left_core p v m s path k)
+left-core-tight : (p v m s : ℕ) (path : Path) (k : PlainCore) → IsTight path × HasRowsAt k → AreTightTerms (left_core p v m s path k)
 left-core-tight p v m s path (piece t) h =
-    let all : IsTight (left_path p v s ++ path) = tight-append (left_path p v s) path (three-tight (Blocks p) (Columns v) (Columns (s / p / v))) h in
-    pick-terms (p == 1) _ _ (all, tt) (tt, (all, (tt, tt)))
+    let all : IsTight (left_path p v s ++ path) = tight-append (left_path p v s) path (three-tight (Blocks p) (Columns v) (Columns (s / p / v))) h.0 in
+    pick-terms (p == 1) _ _ ((all, h.1), tt) (tt, ((all, h.1), (tt, tt)))
 left-core-tight p v m s path (turns a b) h = (tt, tt)
-left-core-tight p v m s path (twiddles a b) h = (tt, tt)
+left-core-tight p v m s path (twiddles a b w) h = (tt, tt)
 left-core-tight p v m s path (thomas_in a b) h = (tt, tt)
 left-core-tight p v m s path (thomas_out a b) h = (tt, tt)
 
@@ -122,26 +136,26 @@ tile-tight : (p v r s : ℕ) → IsTight (tile_path p v r s)
 tile-tight p v r s = three-tight (Blocks p) (Blocks (r / p / v)) (Blocks (s / v))
 
 before-tight : (p v r s : ℕ) → AreTightTerms (tiled_before p v r s)
-before-tight p v r s = pick-terms (v == 1) [] _ tt (tt, (tile-tight p v r s, tt))
+before-tight p v r s = pick-terms (v == 1) [] _ tt (tt, ((tile-tight p v r s, tt), tt))
 
 after-tight : (p v r s : ℕ) → AreTightTerms (tiled_after p v r s)
-after-tight p v r s = pick-terms (v == 1) [] _ tt (tile-tight p v r s, (tt, tt))
+after-tight p v r s = pick-terms (v == 1) [] _ tt ((tile-tight p v r s, tt), (tt, tt))
 
-right-steps-tight : (c : Request) (p v r : ℕ) (b : Breakdown) → IsWellFormed c.kind b → AreTightTerms (map lowered (steps_of c (right_path p v r) b))
-right-steps-tight c p v r b formed = lowered-tight (steps_of c (right_path p v r) b) (steps-tight c (right_path p v r) b (three-tight (Blocks p) (Columns v) (Blocks (r / p / v))) formed)
+right-steps-tight : (m p v r : ℕ) (b : Layout) → IsGoodLayout m b → AreTightTerms (map lowered (steps_of (right_path p v r) b))
+right-steps-tight m p v r b formed = lowered-tight (steps_of (right_path p v r) b) (steps-tight m (right_path p v r) b (three-tight (Blocks p) (Columns v) (Blocks (r / p / v))) formed)
 
-right-tight : (c : Request) (p v : ℕ) (rule : Rule) (a b : Breakdown) → IsWellFormed c.kind b → AreTightTerms (right_terms c p v rule a b)
-right-tight c p v Gt a b formed = tt
-right-tight c p v Ct a b formed =
-    let r = size_of a in
-    let s = size_of b in
+right-tight : (m p v : ℕ) (rule : Rule) (w : ℕ) (a b : Layout) → IsGoodLayout m b → AreTightTerms (right_terms p v rule w a b)
+right-tight m p v Gt w a b formed = tt
+right-tight m p v Ct w a b formed =
+    let r = layout_size a in
+    let s = layout_size b in
     terms-append (turned_in p v r s) _ (turned-tight p v r s)
-    (terms-append (map lowered (steps_of c (right_path p v r) b)) _ (right-steps-tight c p v r b formed) (terms-append (tiled_after p v r s) (diag [] r s ∷ []) (after-tight p v r s) (tt, tt)))
-right-tight c p v Split a b formed =
-    let r = size_of a in
-    let s = size_of b in
+    (terms-append (map lowered (steps_of (right_path p v r) b)) _ (right-steps-tight m p v r b formed) (terms-append (tiled_after p v r s) (diag [] r s w ∷ []) (after-tight p v r s) (tt, tt)))
+right-tight m p v Split w a b formed =
+    let r = layout_size a in
+    let s = layout_size b in
     terms-append (tiled_before p v r s) _ (before-tight p v r s)
-    (terms-append (map lowered (steps_of c (right_path p v r) b)) (tiled_after p v r s) (right-steps-tight c p v r b formed) (after-tight p v r s))
+    (terms-append (map lowered (steps_of (right_path p v r) b)) (tiled_after p v r s) (right-steps-tight m p v r b formed) (after-tight p v r s))
 
 -- ---- phases
 
@@ -153,15 +167,15 @@ phases-tight : (b : Bool) (first second : List PlainTerm) → AreTightTerms firs
 phases-tight true first second h k = (terms-append first second h k, tt)
 phases-tight false first second h k = (h, (k, tt))
 
-root-tight : (c : Request) (t : Breakdown) → IsWellFormed c.kind t → AreTightPhases (root_terms c t)
-root-tight c (leaf d) formed = tt
-root-tight c (node rule a b) formed =
-    phases-tight (c.procs == 1) _ _ (right-tight c c.procs c.lanes rule a b formed.2)
-    (left-tight c.procs c.lanes (size_of a) (size_of b) (steps_of c [] a) (steps-tight c [] a tt formed.1))
+root-tight : (c : Target) (l : Layout) → IsGoodLayout c.modulus l → AreTightPhases (root_terms c l)
+root-tight c (work w) good = tt
+root-tight c (by rule root a b) good =
+    phases-tight (c.procs == 1) _ _ (right-tight c.modulus c.procs c.lanes rule root a b good.2)
+    (left-tight c.procs c.lanes (layout_size a) (layout_size b) (steps_of [] a) (steps-tight c.modulus [] a tt good.1))
 
-pub tree-tight : (c : Request) (t : Breakdown) → IsValid c → IsAdmissible c t → AreTightPhases (lowered_of c t)
-tree-tight c t valid h = pick (is_plain c) refl
+pub tree-tight : (c : Target) (l : Layout) → CanShareLayout c l → IsGoodLayout c.modulus l → AreTightPhases (lowered_of c l)
+tree-tight c l shares good = pick (is_alone c) refl
   where
-    pick : (b : Bool) → is_plain c ≡ b → AreTightPhases (lowered_of c t)
-    pick true is = subst AreTightPhases (sym (plain_terms c t is)) (lowered-tight (steps_of c [] t) (steps-tight c [] t tt h.well_formed), tt)
-    pick false is = subst AreTightPhases (sym (shared_terms c t valid h is)) (root-tight c t h.well_formed)
+    pick : (b : Bool) → is_alone c ≡ b → AreTightPhases (lowered_of c l)
+    pick true is = subst AreTightPhases (sym (plain_terms c l is)) (lowered-tight (steps_of [] l) (steps-tight c.modulus [] l tt good), tt)
+    pick false is = subst AreTightPhases (sym (shared_terms c l shares good is)) (root-tight c l good)

@@ -1,67 +1,79 @@
 -- The terms of the steps of a tree do what the steps do.
-use Rattle.std.proofs.Common.{◌≡◌, ℕ, ◌*◌, ◌<◌, ◌≤◌, Bool, true, false, arith, refl, sym, ap, ◌∙◌, List, subst, if◌then◌else◌}
+use Rattle.std.proofs.Common.{◌≡◌, ℕ, ◌*◌, ◌<◌, ◌≤◌, arith, sym, ap, ◌∙◌, List, subst}
 use Rattle.index_fn.specs.Mapping.{Strided, ThomasIn, ThomasOut, ThomasBack, at}
-use Rattle.matrix_meaning.specs.declared.Kind.{Kind}
-use Rattle.matrix_meaning.specs.declared.Kind.TheVariants.{Dft, Wht}
-use Rattle.matrix_meaning.specs.declared.Request.{Request}
+use Rattle.matrix_meaning.specs.declared.Kind.TheVariants.{Dft}
+use Rattle.steps.specs.declared.target.Target.{Target}
 use Rattle.matrix_meaning.specs.Kind.{transform}
-use Rattle.matrix_meaning.specs.Valid.{IsValid}
+use Rattle.formula_lower.specs.Machine.{IsMachine}
 use Rattle.operators.specs.Loop.{IsPermutationBelow}
-use Rattle.operators.specs.Operator.{Operator, gather}
+use Rattle.operators.specs.Operator.{gather, on_columns, on_blocks, column}
 use Rattle.passes.specs.Good.{CanNest, IsMove, IsVector}
 use Rattle.passes.specs.Merge.{unit_below, back_of}
 use Rattle.passes.specs.Nest as nests
-use Rattle.passes.specs.Term.{scat, nest}
-use Rattle.passes.specs.Work.{PlainWork, kernel, work_size, work_on}
+use Rattle.passes.specs.Term.{scat}
+use Rattle.passes.specs.Work.{PlainWork, kernel, rows, horner, tile, copy, work_size, work_on}
 use Rattle.passes.proofs.Nests.{moves-no-words}
 use Rattle.passes.proofs.Keeps.{scatter-same}
 use Rattle.passes.proofs.Walk.{vector-below}
-use Rattle.rooted_trees.specs.Trees.{single}
+use Rattle.rooted_trees.specs.Trees.{PlainTrees, single, tensor, trees_size, trees_on}
 use Rattle.formula_lower.specs.Terms.{Lowers}
-use Rattle.formula_lower.specs.Trees.{long_work, node_work, core_term}
+use Rattle.formula_lower.specs.Trees.{core_term}
 use Rattle.formula_lower.proofs.Lowers.{gath-lowers}
 use Rattle.formula_lower.proofs.Moves.{back-wrapped, move-wrapped, strided-move, in-move, out-move}
 use Rattle.formula_lower.proofs.Parts.{IsWork, transform-work, nest-lowers, diag-lowers, under-keeps}
-use Rattle.sigma_lower.specs.Good.{AreCoprime, IsGoodCore, IsGood}
+use Rattle.sigma_lower.specs.Good.{AreCoprime, IsGoodPiece, IsGoodCore, IsGood}
 use Rattle.sigma_lower.specs.Wrapped.{wrapped}
 use Rattle.sigma_lower.proofs.Lowering.{part-le}
 use Rattle.steps.specs.Meaning.{core_size, core_on, step_on}
-use Rattle.steps.specs.Step.{PlainCore, piece, turns, thomas_in, thomas_out, PlainStep, steps_of}
+use Rattle.steps.specs.Step.{PlainCore, piece, turns, thomas_in, thomas_out, PlainStep}
 use Rattle.steps.specs.Step as steps
 use Rattle.tensor_paths.specs.Path.{Path, copies_of, size_under, under}
 use Rattle.tensor_paths.proofs.Under.{size_under-copies}
-use Rattle.tree_model.specs.Breakdown.{Breakdown, size_of}
-use Rattle.tree_model.specs.Cost.{is_kernel, node_root}
-use Rattle.std.proofs.Common.{mod-lt}
+use Rattle.tree_model.specs.Breakdown.{size_of}
+use Rattle.std.proofs.Common.{mod-lt, div-lt_iff_lt-mul, ◌/◌, ◌%◌}
+use Rattle.std.specs.Prelude.{slice_index}
+use Rattle.operators.proofs.Lists.{at-list_below, length-list_below, factor_positive}
+use Rattle.smp_rewrite.proofs.Tensors.{reads-one_under}
+use Rattle.tensor_paths.specs.declared.Tensor.TheVariants.{Blocks}
 use Rattle.sigma_lower.proofs.Permuted.{gather-under}
 
--- ---- nodes
+-- ---- works
 
--- a node's work is its transform
-pub record IsNodeWork (m : ℕ) (kind : Kind) (d root : ℕ) (w : PlainWork) : Type 0 where
-  pub nested : (lanes : ℕ) (path : Path) → CanNest lanes path w
-  pub size : work_size w ≡ d
-  pub on : (x : List ℕ) → work_on m w x ≡ transform kind m d root x
+trees-work : (m : ℕ) (trees : PlainTrees) → IsWork m (trees_size trees) (trees_on m trees)
+trees-work m (single kind root t) = transform-work kind m (size_of t) root
+trees-work m (tensor kind root t others) =
+    let r = size_of t in
+    let s = trees_size others in
+    let a = transform kind m r root in
+    let inner = λ (y : List ℕ). on_blocks r s (trees_on m others) y in
+    record {
+      reads = λ x. ap (on_columns r s a) (reads-one_under (Blocks r) s (trees_on m others) x);
+      residue = λ y k below.
+          let positive : 0 < s = factor_positive r s k below in
+          let row : k / s < r = (div-lt_iff_lt-mul positive).1 below in
+          let item = at-list_below (r * s) (λ p. slice_index (a (column r s (p % s) (inner y))) (p / s)) k below in
+          ap (λ v. v % m) item ∙ (transform-work kind m r root).residue (column r s (k % s) (inner y)) (k / s) row ∙ sym item;
+      size = λ y. length-list_below _ _;
+    }
 
-long-work : (m : ℕ) (kind : Kind) (root : ℕ) (t : Breakdown) → IsNodeWork m kind (size_of t) root (long_work kind root t)
-long-work m Dft root t = record { nested = λ lanes path. tt; size = refl; on = λ x. refl }
-long-work m Wht root t = record { nested = λ lanes path. tt; size = refl; on = λ x. refl }
+pub piece-work : (m : ℕ) (w : PlainWork) → IsGoodPiece w → IsWork m (work_size w) (work_on m w)
+piece-work m (kernel trees) h = trees-work m trees
+piece-work m (rows root size) h = transform-work Dft m size root
+piece-work m (horner root size) h = transform-work Dft m size root
+piece-work m (tile v) h = absurd h
+piece-work m (copy size) h = absurd h
 
-pub pick-work : (m : ℕ) (kind : Kind) (root : ℕ) (t : Breakdown) (b : Bool) → IsNodeWork m kind (size_of t) root (if b then kernel (single kind root t) else long_work kind root t)
-pick-work m kind root t true = record { nested = λ lanes path. tt; size = refl; on = λ x. refl }
-pick-work m kind root t false = long-work m kind root t
+pub piece-nests : (v : ℕ) (path : Path) (w : PlainWork) → IsGoodPiece w → CanNest v path w
+piece-nests v path (kernel trees) h = tt
+piece-nests v path (rows root size) h = tt
+piece-nests v path (horner root size) h = tt
+piece-nests v path (tile n) h = absurd h
+piece-nests v path (copy size) h = absurd h
 
--- operators that are equal are one
-one-operator : (m : ℕ) (w : PlainWork) (a : Operator) → ((x : List ℕ) → work_on m w x ≡ a x) → work_on m w ≡ a
-one-operator m w a h = λ i x. h x i
-
-work-lowers : (m : ℕ) (path : Path) (kind : Kind) (d root : ℕ) (w : PlainWork) → IsNodeWork m kind d root w → Lowers m (size_under path d) (nest path w) (under path d (transform kind m d root))
-work-lowers m path kind d root w h =
-    let same = one-operator m w (transform kind m d root) h.on in
-    let work : IsWork m (work_size w) (work_on m w) = subst (λ a. IsWork m (work_size w) a) (sym same) (subst (λ k. IsWork m k (transform kind m d root)) (sym h.size) (transform-work kind m d root)) in
-    let base : Lowers m (size_under path (work_size w)) (nest path w) (under path (work_size w) (work_on m w)) = nest-lowers m path w (h.nested 0 path) work in
-    let named : Lowers m (size_under path (work_size w)) (nest path w) (under path (work_size w) (transform kind m d root)) = subst (λ a. Lowers m (size_under path (work_size w)) (nest path w) (under path (work_size w) a)) same base in
-    subst (λ k. Lowers m (size_under path k) (nest path w) (under path k (transform kind m d root))) h.size named
+piece-vector : (m : ℕ) (w : PlainWork) (y : List ℕ) → 0 < m → IsGoodPiece w → IsVector m (work_size w) (work_on m w y)
+piece-vector m w y positive h =
+    let work = piece-work m w h in
+    record { size = work.size y; residues = λ i below. subst (λ v. v < m) (work.residue y i below) (mod-lt _ positive) }
 
 -- ---- back from a Good-Thomas step
 
@@ -92,28 +104,28 @@ back-lowers m path r s some h =
 
 -- ---- steps
 
-pub core-lowers : (c : Request) (path : Path) (k : PlainCore) → 0 < size_under path (core_size k) → IsGoodCore k → size_under path (core_size k) ≤ 1048576 → core_size k ≤ 1048576 →
-    Lowers c.modulus (size_under path (core_size k)) (core_term c path k) (under path (core_size k) (core_on c k))
-core-lowers c path (piece t) some h high low = work-lowers c.modulus path c.kind (size_of t) (node_root c (size_of t)) (node_work c t) (pick-work c.modulus c.kind (node_root c (size_of t)) t (is_kernel c (size_of t)))
+pub core-lowers : (c : Target) (path : Path) (k : PlainCore) → 0 < size_under path (core_size k) → IsGoodCore k → size_under path (core_size k) ≤ 1048576 → core_size k ≤ 1048576 →
+    Lowers c.modulus (size_under path (core_size k)) (core_term path k) (under path (core_size k) (core_on c.modulus k))
+core-lowers c path (piece w) some h high low = nest-lowers c.modulus path w (piece-nests 0 path w h) (piece-work c.modulus w h)
 core-lowers c path (turns r s) some h high low = gath-lowers c.modulus path (r * s) (Strided r s) some (strided-move r s (omega (arith, h.0)) (omega (arith, h.1)) low)
-core-lowers c path (steps.twiddles r s) some h high low = diag-lowers c.modulus path (nests.twiddles r s (node_root c (r * s)))
+core-lowers c path (steps.twiddles r s w) some h high low = diag-lowers c.modulus path (nests.twiddles r s w)
 core-lowers c path (thomas_in r s) some h high low = gath-lowers c.modulus path (r * s) (ThomasIn r s) some (in-move r s h)
 core-lowers c path (thomas_out r s) some h high low = back-lowers c.modulus path r s some h
 
 gather-keeps : (m n : ℕ) (f : ℕ → ℕ) (y : List ℕ) → ((i : ℕ) → i < n → f i < n) → IsVector m n y → IsVector m n (gather n f y)
 gather-keeps m n f y stay v = vector-below m n _ (λ i below. v.residues (f i) (stay i below))
 
-core-keeps : (c : Request) (k : PlainCore) (y : List ℕ) → 0 < c.modulus → IsGoodCore k → core_size k ≤ 1048576 → IsVector c.modulus (core_size k) y → IsVector c.modulus (core_size k) (core_on c k y)
-core-keeps c (piece t) y positive h low v = vector-below c.modulus (size_of t) _ (λ i below. mod-lt _ positive)
+core-keeps : (c : Target) (k : PlainCore) (y : List ℕ) → 0 < c.modulus → IsGoodCore k → core_size k ≤ 1048576 → IsVector c.modulus (core_size k) y → IsVector c.modulus (core_size k) (core_on c.modulus k y)
+core-keeps c (piece w) y positive h low v = piece-vector c.modulus w y positive h
 core-keeps c (turns r s) y positive h low v = gather-keeps c.modulus (r * s) _ y (strided-move r s (omega (arith, h.0)) (omega (arith, h.1)) low).permutes.there_below v
-core-keeps c (steps.twiddles r s) y positive h low v = vector-below c.modulus (r * s) _ (λ i below. mod-lt _ positive)
+core-keeps c (steps.twiddles r s w) y positive h low v = vector-below c.modulus (r * s) _ (λ i below. mod-lt _ positive)
 core-keeps c (thomas_in r s) y positive h low v = gather-keeps c.modulus (r * s) _ y (in-move r s h).permutes.there_below v
 core-keeps c (thomas_out r s) y positive h low v = gather-keeps c.modulus (r * s) _ y (out-move r s h).permutes.there_below v
 
-pub step-keeps : (c : Request) (s : PlainStep) (x : List ℕ) → IsValid c → IsGood c s → IsVector c.modulus c.size x → IsVector c.modulus c.size (step_on c s x)
+pub step-keeps : (c : Target) (s : PlainStep) (x : List ℕ) → IsMachine c → IsGood c.size s → IsVector c.modulus c.size x → IsVector c.modulus c.size (step_on c.modulus s x)
 step-keeps c s x valid h v =
     let size = h.size in
     let d = core_size s.core in
-    let low : d ≤ c.size = part-le (copies_of s.path) d c.size (sym (size_under-copies s.path d) ∙ size) valid.in_range.size.0 in
-    subst (λ n. IsVector c.modulus n (step_on c s x)) size
-    (under-keeps c.modulus s.path d (core_on c s.core) x (λ y w. core-keeps c s.core y (omega (arith, valid.in_range.modulus)) h.core (omega (arith, low, valid.in_range.size.1)) w) (subst (λ n. IsVector c.modulus n x) (sym size) v))
+    let low : d ≤ c.size = part-le (copies_of s.path) d c.size (sym (size_under-copies s.path d) ∙ size) valid.size.0 in
+    subst (λ n. IsVector c.modulus n (step_on c.modulus s x)) size
+    (under-keeps c.modulus s.path d (core_on c.modulus s.core) x (λ y w. core-keeps c s.core y (omega (arith, valid.modulus)) h.core (omega (arith, low, valid.size.1)) w) (subst (λ n. IsVector c.modulus n x) (sym size) v))

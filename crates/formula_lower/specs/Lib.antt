@@ -1,3 +1,4 @@
+pub mod Machine
 pub mod Room
 pub mod Terms
 pub mod Operations

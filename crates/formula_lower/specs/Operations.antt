@@ -1,22 +1,14 @@
 -- The operations of a formula.
 use Rattle.std.specs.Prelude.{◌≡◌, ℕ, ◌+◌, ◌-◌, ◌*◌, ◌<◌, nat_le, if◌then◌else◌, length}
-use Rattle.kernel_gen.specs.Kernel.{products_cost, trees_cost}
+use Rattle.kernel_gen.specs.Kernel.{products_cost}
 use Rattle.matrix_meaning.specs.declared.Kind.TheVariants.{Dft}
 use Rattle.matrix_meaning.specs.Kind.{entry_of}
 use Rattle.passes.specs.Counts.{term_cost}
-use Rattle.passes.specs.Work.{PlainWork, kernel, rows, horner, tile, copy}
 use Rattle.formula_lower.specs.Terms.{halvings, term_of}
 use Rattle.spl_ast.specs.Formula.{Formula, Identity, Fourier, Hadamard, Twiddles, Diagonal, Stride, Permutation, GoodThomasIn, GoodThomasOut, Product, TensorLeft, TensorRight, DirectSum, Pending, size_of}
 use Rattle.spl_ast.specs.Shape.{IsShaped}
+pub use Rattle.steps.specs.Layout.{work_cost}
 use Rattle.tensor_paths.specs.Path.{Path, copies_of, size_under}
-
--- the operations of the code of some work, where a product counts as several
-abbrev pub work_cost : ℕ → ℕ → PlainWork → ℕ
-work_cost weight m (kernel trees) = trees_cost weight m trees
-work_cost weight m (rows root size) = (1 + weight) * size * size
-work_cost weight m (horner root size) = (1 + weight) * size * size
-work_cost weight m (tile lanes) = 0
-work_cost weight m (copy size) = 0
 
 -- A permutation has none, a diagonal a product for each item. A short DFT has an addition or subtraction for each entry but those of a column, and a product for each entry that is neither 1 nor -1; a longer one has a product and an addition for each entry
 abbrev pub operations : ℕ → ℕ → Formula → ℕ

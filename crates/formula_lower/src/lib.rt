@@ -44,7 +44,17 @@ pub fn shared_trees_merge()
     ensures { SharedTreesMerge }
 {}
 
-/// The terms of trees are in order, so their passes are their loops, one by one: a law of the definitions.
+/// The merged passes of a tree do its transform: a law of the definitions.
+pub fn trees_keep()
+    ensures { TreesKeep }
+{}
+
+/// The terms of a tree have as many operations as the tree costs: a law of the definitions.
+pub fn sigma_costs()
+    ensures { SigmaCosts }
+{}
+
+/// The terms of layouts are in order, so their passes are their loops, one by one: a law of the definitions.
 pub fn trees_ordered()
     ensures { TreesOrdered }
 {}
@@ -54,22 +64,12 @@ pub fn trees_are_loops()
     ensures { TreesAreLoops }
 {}
 
-/// Each phase of a tree has a loop: a law of the definitions.
+/// Each phase of a layout has a loop: a law of the definitions.
 pub fn phases_have_loops()
     ensures { PhasesHaveLoops }
 {}
 
-/// The merged passes of a tree do its transform: a law of the definitions.
-pub fn trees_keep()
-    ensures { TreesKeep }
-{}
-
-/// The terms of a tree can be merged: a law of the definitions.
+/// The terms of a layout can be merged: a law of the definitions.
 pub fn trees_can_merge()
     ensures { TreesCanMerge }
-{}
-
-/// The terms of a tree have as many operations as the tree costs: a law of the definitions.
-pub fn sigma_costs()
-    ensures { SigmaCosts }
 {}

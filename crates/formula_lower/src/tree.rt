@@ -1,84 +1,83 @@
 // The terms of a tree's formula for processors and lanes.
 ghost use Rattle.std.specs.Prelude.{◌≡◌, ◌*◌, ◌^◌, ◌<◌, All, IfOk, List, map, ℕ};
 ghost use Rattle.formula_lower.specs.Merged.{sigma_of};
-ghost use Rattle.formula_lower.specs.Operations.{work_cost};
 ghost use Rattle.formula_lower.specs.Room.{IsRoomy, IsRoomyCore};
 ghost use Rattle.formula_lower.specs.Shared.{embed, factors_before, phase_term};
-ghost use Rattle.formula_lower.specs.Trees.{node_work};
 ghost use Rattle.index_fn.specs.Index.{mapping_of};
 ghost use Rattle.passes.specs.Good.{IsVector};
 ghost use Rattle.passes.specs.Room.{HasRoom};
 ghost use Rattle.passes.specs.Sigma.{IsGoodSigma, sigma_cost, sigma_on};
 ghost use Rattle.passes.specs.Term.{gath, scat};
-ghost use Rattle.passes.specs.Views.{plain_sigma, plain_term, plain_work};
+ghost use Rattle.passes.specs.Views.{plain_sigma, plain_term};
 ghost use Rattle.sigma_lower.specs.Good.{IsVecOf};
 ghost use Rattle.sigma_lower.specs.Term.{after_core, factor_term, lowered_core, terms_in};
 ghost use Rattle.sigma_lower.specs.Wrapped.{wrapped};
+ghost use Rattle.steps.specs.Layout.{work_cost};
+ghost use Rattle.steps.specs.Targets.{target_of};
 ghost use Rattle.steps.specs.Views.{plain_core};
-ghost use Rattle.tree_model.specs.Breakdown.{breakdown_of, size_of, HasWordSizes};
 ghost use Rattle.vec_rewrite.specs.Vectors.{factor_step, vec_on, vec_share};
 ghost use Rattle.vec_rewrite.specs.Views.{plain_vec, plain_vec_factor};
 
 use crate::formula::{gather, in_turn};
 use index_fn::Index;
-use matrix_meaning::Kind;
 use memory::NoMemory;
 use passes::{Factors, Sigma, Term, Work};
-use rooted_trees::{RootedTree, RootedTrees};
 use sigma_lower::{under, unit};
 use smp_rewrite::within;
 use std::alloc::Global;
 use steps::Core;
 use tensor_paths::Tensor;
-use tree_model::{Ctx, Tree, is_kernel, node_root};
+use tree_model::Ctx;
 use vec_rewrite::{VecFactor, VecSpl};
 
 /// The terms of each phase of a formula for processors and lanes.
 pub fn lower(alloc: Global, c: &Ctx, vectors: VecSpl) -> Result<Sigma, NoMemory>
-    requires { IsVecOf c.now (plain_vec vectors) }
-    ensures form { IfOk result (λ g. plain_sigma g ≡ sigma_of c.now (plain_vec vectors)) }
+    requires { IsVecOf (target_of c.now) (plain_vec vectors) }
+    ensures form { IfOk result (λ g. plain_sigma g ≡ sigma_of (plain_vec vectors)) }
     ensures meaning { IfOk result (λ g. (x : List ℕ) → IsVector c.now.modulus c.now.size x →
-        sigma_on c.now.modulus (plain_sigma g) x ≡ vec_on c.now (plain_vec vectors) x) }
+        sigma_on c.now.modulus (plain_sigma g) x
+        ≡ vec_on c.now.modulus (plain_vec vectors) x) }
     ensures good { IfOk result (λ g. IsGoodSigma (plain_sigma g)) }
     ensures operations { IfOk result (λ g.
         sigma_cost c.now.weight (work_cost c.now.weight c.now.modulus) (plain_sigma g)
-        ≡ c.now.procs * vec_share c.now (plain_vec vectors)) }
+        ≡ c.now.procs * vec_share c.now.weight c.now.modulus (plain_vec vectors)) }
 {
-    let request = c.request();
-    let phases = phases(alloc, c, vectors)?;
+    let _request = c.request();
+    let target = vectors.target;
+    let phases = phases(alloc, vectors)?;
     Ok(Sigma {
-        size: request.size,
-        procs: request.procs,
-        lanes: request.lanes,
+        size: target.size,
+        procs: target.procs,
+        lanes: target.lanes,
         phases,
     })
 }
 
 // One processor has one phase, several have one for each part of the root.
-fn phases(alloc: Global, c: &Ctx, vectors: VecSpl) -> Result<Vec<Term>, NoMemory>
+fn phases(alloc: Global, vectors: VecSpl) -> Result<Vec<Term>, NoMemory>
     requires first { All (λ f.
-        IsRoomy (factor_step vectors.procs vectors.lanes (plain_vec_factor f)))
+        IsRoomy (factor_step vectors.target.procs vectors.target.lanes (plain_vec_factor f)))
         vectors.first.items }
     requires second { All (λ f.
-        IsRoomy (factor_step vectors.procs vectors.lanes (plain_vec_factor f)))
+        IsRoomy (factor_step vectors.target.procs vectors.target.lanes (plain_vec_factor f)))
         vectors.second.items }
     ensures { IfOk result (λ ts.
-        map plain_term ts.items ≡ map (phase_term c.now) (terms_in (plain_vec vectors))) }
+        map plain_term ts.items ≡ map phase_term (terms_in (plain_vec vectors))) }
 {
     let VecSpl {
-        procs,
-        lanes,
+        target,
         first,
         second,
     } = vectors;
+    let (procs, lanes) = (target.procs, target.lanes);
     let mut phases = Vec::new(alloc);
-    let left = factors_before(alloc, c, procs, lanes, second, Term::Same)?;
+    let left = factors_before(alloc, procs, lanes, second, Term::Same)?;
     if procs == 1 {
-        let all = factors_before(alloc, c, procs, lanes, first, left)?;
+        let all = factors_before(alloc, procs, lanes, first, left)?;
         phases.push(all)?;
         return Ok(phases);
     }
-    let right = factors_before(alloc, c, procs, lanes, first, Term::Same)?;
+    let right = factors_before(alloc, procs, lanes, first, Term::Same)?;
     phases.push(right)?;
     phases.push(left)?;
     Ok(phases)
@@ -87,7 +86,6 @@ fn phases(alloc: Global, c: &Ctx, vectors: VecSpl) -> Result<Vec<Term>, NoMemory
 // The product of the terms of factors, the first of which is applied first, and then of this term.
 fn factors_before(
     alloc: Global,
-    c: &Ctx,
     procs: u64,
     lanes: u64,
     factors: Vec<VecFactor>,
@@ -96,45 +94,39 @@ fn factors_before(
     requires { All (λ f. IsRoomy (factor_step procs lanes (plain_vec_factor f))) factors.items }
     ensures { IfOk result (λ t.
         plain_term t
-        ≡ factors_before c.now procs lanes (map plain_vec_factor factors.items)
+        ≡ factors_before procs lanes (map plain_vec_factor factors.items)
         (plain_term after)) }
 {
     let mut factors = factors;
     factors.reverse();
     let mut product = after;
     for factor in factors {
-        let term = factor_term(alloc, c, procs, lanes, factor)?;
+        let term = factor_term(alloc, procs, lanes, factor)?;
         product = in_turn(alloc, term, product)?;
     }
     Ok(product)
 }
 
 // The term of a factor.
-fn factor_term(
-    alloc: Global,
-    c: &Ctx,
-    procs: u64,
-    lanes: u64,
-    factor: VecFactor,
-) -> Result<Term, NoMemory>
+fn factor_term(alloc: Global, procs: u64, lanes: u64, factor: VecFactor) -> Result<Term, NoMemory>
     requires { IsRoomy (factor_step procs lanes (plain_vec_factor factor)) }
     ensures { IfOk result (λ t.
-        plain_term t ≡ embed c.now (factor_term procs lanes (plain_vec_factor factor))) }
+        plain_term t ≡ embed (factor_term procs lanes (plain_vec_factor factor))) }
 {
     match factor {
         VecFactor::Lanes(step) => {
             let block = within(Tensor::Columns(lanes), step.path)?;
             let path = within(Tensor::Blocks(procs), block)?;
-            core_term(alloc, c, path, step.core)
+            core_term(alloc, path, step.core)
         }
-        VecFactor::Diagonals(step) => core_term(alloc, c, step.path, step.core),
+        VecFactor::Diagonals(step) => core_term(alloc, step.path, step.core),
         VecFactor::MoveBefore(step) => {
             let path = within(Tensor::Columns(lanes), step.path)?;
-            core_term(alloc, c, path, step.core)
+            core_term(alloc, path, step.core)
         }
         VecFactor::MoveAfter(step) => {
             let path = within(Tensor::Columns(lanes), step.path)?;
-            after_term(alloc, c, path, step.core)
+            after_term(alloc, path, step.core)
         }
         VecFactor::Tiles(path) => {
             let path = within(Tensor::Blocks(procs), path)?;
@@ -145,37 +137,33 @@ fn factor_term(
 }
 
 // The term of a step, where a stride permutation goes into what comes before it.
-fn after_term(alloc: Global, c: &Ctx, path: Vec<Tensor>, core: Core) -> Result<Term, NoMemory>
+fn after_term(alloc: Global, path: Vec<Tensor>, core: Core) -> Result<Term, NoMemory>
     requires { IsRoomyCore path.items (plain_core core) }
     ensures { IfOk result (λ t.
-        plain_term t ≡ embed c.now (after_core path.items (plain_core core))) }
+        plain_term t ≡ embed (after_core path.items (plain_core core))) }
 {
     match core {
         Core::Turns { rows, cols } => {
             let back = Index::StridePermutation(cols, rows);
             scatter(alloc, &path, rows * cols, back)
         }
-        _ => core_term(alloc, c, path, core),
+        _ => core_term(alloc, path, core),
     }
 }
 
 // The term of a step.
-fn core_term(alloc: Global, c: &Ctx, path: Vec<Tensor>, core: Core) -> Result<Term, NoMemory>
+fn core_term(alloc: Global, path: Vec<Tensor>, core: Core) -> Result<Term, NoMemory>
     requires { IsRoomyCore path.items (plain_core core) }
     ensures { IfOk result (λ t.
-        plain_term t ≡ embed c.now (lowered_core path.items (plain_core core))) }
+        plain_term t ≡ embed (lowered_core path.items (plain_core core))) }
 {
     match core {
-        Core::Piece(tree) => {
-            let work = node_work(c, tree);
-            Ok(Term::Copies { path, work })
-        }
+        Core::Piece(work) => Ok(Term::Copies { path, work }),
         Core::Turns { rows, cols } => {
             let turns = Index::StridePermutation(rows, cols);
             gather(alloc, &path, rows * cols, turns)
         }
-        Core::Twiddles { rows, cols } => {
-            let root = node_root(c, rows * cols);
+        Core::Twiddles { rows, cols, root } => {
             let factors = Factors::Twiddles { rows, cols, root };
             Ok(Term::Diagonal { path, factors })
         }
@@ -189,21 +177,6 @@ fn core_term(alloc: Global, c: &Ctx, path: Vec<Tensor>, core: Core) -> Result<Te
             scatter(alloc, &path, rows * cols, back)
         }
     }
-}
-
-// The transform of a node, with its kind and root: a longer leaf goes row by row.
-fn node_work(c: &Ctx, tree: Tree) -> Work
-    requires words { HasWordSizes (breakdown_of tree) }
-    requires some { 0 < size_of (breakdown_of tree) }
-    ensures { plain_work result ≡ node_work c.now (breakdown_of tree) }
-{
-    let kind = c.request().kind;
-    let size = tree.size();
-    let root = node_root(c, size);
-    if !is_kernel(c, size) && kind == Kind::Dft {
-        return Work::Rows { root, size };
-    }
-    Work::Kernel(RootedTrees::Single(RootedTree { kind, root, tree }))
 }
 
 // The permutation of size `n` under the tensors of the path, by where it takes each item.

@@ -2,6 +2,7 @@
 use Rattle.std.proofs.Common.{◌≡◌, ℕ, ap, ap₂, ◌∙◌, refl, subst, sym}
 use Rattle.std.specs.Int.{IsGcd}
 use Rattle.formula_lower.specs.Merged.{sigma_of, tree_merged}
+use Rattle.formula_lower.proofs.TreeLayouts.{tree_layout}
 use Rattle.icode.specs.Plain.{PlainProgram}
 use Rattle.inverse_requests.specs.Inverted.{inverted}
 use Rattle.loop_merge.proofs.LoopLimits.{trees_merge}
@@ -23,6 +24,8 @@ use Rattle.request_passes.proofs.Requests.{requests_can_program}
 use Rattle.ring_mod.specs.Inverse.{inverse_mod}
 use Rattle.smp_rewrite.specs.Cut.{smp_of}
 use Rattle.smp_rewrite.specs.Smp.{PlainSmp}
+use Rattle.steps.specs.Layout.{layout_of}
+use Rattle.steps.specs.Targets.{target_of}
 use Rattle.tree_model.specs.Admissible.{IsAdmissible}
 use Rattle.tree_model.specs.Breakdown.{Breakdown}
 use Rattle.tree_passes.specs.Laws.{machine_of}
@@ -33,14 +36,17 @@ use Rattle.vec_rewrite.specs.Vectors.{PlainVec}
 use Rattle.generate.specs.Letters.{program_for}
 
 -- the formula for lanes is the tree's
-pub vectors_are : (c : Request) (t : Breakdown) (blocks : PlainSmp) (vectors : PlainVec) → blocks ≡ smp_of c t → vectors ≡ vec_of c blocks → vectors ≡ vec_of c (smp_of c t)
-vectors_are c t blocks vectors dealt turned = turned ∙ ap (vec_of c) dealt
+pub vectors_are : (c : Request) (t : Breakdown) (blocks : PlainSmp) (vectors : PlainVec) → blocks ≡ smp_of (target_of c) (layout_of c t) → vectors ≡ vec_of blocks → vectors ≡ vec_of (smp_of (target_of c) (layout_of c t))
+vectors_are c t blocks vectors dealt turned = turned ∙ ap vec_of dealt
 
 -- and so are its terms, which are merged into its passes
 pub tree-merges : (c : Request) (t : Breakdown) (blocks : PlainSmp) (vectors : PlainVec) (sigma : PlainSigma) (merged : PlainMerged) → IsValid c → IsAdmissible c t →
-    blocks ≡ smp_of c t → vectors ≡ vec_of c blocks → sigma ≡ sigma_of c vectors → merged ≡ merged_of sigma → merged ≡ tree_merged c t
+    blocks ≡ smp_of (target_of c) (layout_of c t) → vectors ≡ vec_of blocks → sigma ≡ sigma_of vectors → merged ≡ merged_of sigma → merged ≡ tree_merged c t
 tree-merges c t blocks vectors sigma merged valid h dealt turned lowered made =
-    made ∙ ap merged_of (lowered ∙ ap (sigma_of c) (vectors_are c t blocks vectors dealt turned)) ∙ trees_merge c t valid h
+    let is = tree_layout c t valid h in
+    made
+    ∙ ap merged_of (lowered ∙ ap sigma_of (vectors_are c t blocks vectors dealt turned))
+    ∙ trees_merge (target_of c) (layout_of c t) is.machine is.shares is.good
 
 -- so all that holds of a tree's passes holds of them
 pub tree-holds : (c : Request) (t : Breakdown) (merged : PlainMerged) → IsValid c → IsAdmissible c t → merged ≡ tree_merged c t → IsMergedTree c t merged

@@ -1,15 +1,15 @@
--- The functions of a tree's passes take the places of the whole to places of it, and every number on the way fits 64 bits.
-use Rattle.std.proofs.Common.{◌≡◌, ℕ, ◌*◌, ◌/◌, ◌%◌, ◌<◌, ◌≤◌, Bool, true, false, arith, List, [], ◌∷◌, ◌++◌, if◌then◌else◌, subst, ◌∙◌, mod-lt, div-lt_iff_lt-mul}
+-- The functions of a layout's passes take the places of the whole to places of it, and every number on the way fits 64 bits.
+use Rattle.std.proofs.Common.{◌≡◌, ℕ, ◌*◌, ◌/◌, ◌%◌, ◌<◌, ◌≤◌, arith, List, [], ◌∷◌, ◌++◌, subst, ◌∙◌, mod-lt, div-lt_iff_lt-mul}
 use Rattle.std.specs.Prelude.{Some}
 use Rattle.index_fn.specs.Mapping.{Mapping, Strided, ThomasIn, ThomasBack, at, IsDefinedAt}
-use Rattle.matrix_meaning.specs.declared.Request.{Request}
 use Rattle.operators.proofs.Lists.{factor_positive}
 use Rattle.loop_merge.specs.Merge.{PlainDiagonal, PlainPass, new_pass, scattered, multiplied, at_last}
 use Rattle.loop_merge.specs.Placed.{diagonal_places}
 use Rattle.loop_merge.proofs.PlaceLimits.{none_is_some, multiplied-is}
 use Rattle.loop_merge.proofs.PartRules.{IsSize, IsRuleIn, rule_in, coprime_in}
-use Rattle.loop_merge.proofs.TreePasses.{rule_waiting, rule_passes, tree_passes}
-use Rattle.sigma_lower.specs.Work.{transforming}
+use Rattle.loop_merge.proofs.TreePasses.{rule_waiting, rule_passes, layout_passes}
+use Rattle.passes.specs.Work.{PlainWork}
+use Rattle.steps.specs.Layout.{Layout, work, by, layout_size, IsGoodLayout}
 use Rattle.sigma_lower.specs.Wrapped.{wrapped, inner_of, unit_of}
 pub use Rattle.sigma_lower.proofs.Closed.{IsClosed, closed-wrapped, thomas_in-closed, thomas_back-closed}
 use Rattle.sigma_lower.proofs.Lowering.{turns_below, unit_small}
@@ -18,8 +18,6 @@ use Rattle.tensor_paths.specs.Path.{Path, size_under}
 use Rattle.tensor_paths.proofs.Under.{size_under-push}
 use Rattle.tree_model.specs.declared.tree.Rule.{Rule}
 use Rattle.tree_model.specs.declared.tree.Rule.TheVariants.{Gt, Ct, Split}
-use Rattle.tree_model.specs.Breakdown.{Breakdown, leaf, node, size_of, IsWellFormed}
-use Rattle.tree_model.specs.Cost.{is_kernel}
 
 abbrev pub AreClosed : ℕ → List Mapping → Type 0
 AreClosed n [] = Unit {0}
@@ -52,24 +50,24 @@ closed-inner size path n high e within =
     subst (λ m. IsClosed m (inner_of path n)) e (record { defined = inner-defined path n (omega arith); below = λ i below. omega (arith, inner-below path n i below) })
 
 -- a function of n words under tensors that make so many
-pub closed-under : (c : Request) (size : ℕ) (path : Path) (n : ℕ) (f : Mapping) → size ≤ 1048576 → size_under path n ≡ size → IsClosed n f → IsClosed size (wrapped path n f)
-closed-under c size path n f high e h = closed-wrapped (record c { size = size }) path n f high e h
+pub closed-under : (size : ℕ) (path : Path) (n : ℕ) (f : Mapping) → size ≤ 1048576 → size_under path n ≡ size → IsClosed n f → IsClosed size (wrapped path n f)
+closed-under size path n f high e h = closed-wrapped size path n f high e h
 
 pub strided-closed : (r s : ℕ) → IsClosed (r * s) (Strided r s)
 strided-closed r s = record { defined = λ i below. below; below = turns_below r s }
 
 -- ---- the permutations of a rule
 
-waiting_closed : (c : Request) (size : ℕ) (rule : Rule) (path : Path) (r s : ℕ) (waiting : List Mapping) → IsRuleIn c.kind size rule path r s → AreClosed size waiting → AreClosed size (rule_waiting rule path r s waiting)
-waiting_closed c size Gt path r s waiting h w =
-    (closed-under c size path (r * s) (ThomasIn r s) h.whole.high h.fills (thomas_in-closed r s (omega (arith, h.left)) (omega (arith, h.right)) h.small), w)
-waiting_closed c size Ct path r s waiting h w = (closed-under c size path (r * s) (Strided r s) h.whole.high h.fills (strided-closed r s), w)
-waiting_closed c size Split path r s waiting h w = w
+waiting_closed : (size : ℕ) (rule : Rule) (path : Path) (r s : ℕ) (waiting : List Mapping) → IsRuleIn size rule path r s → AreClosed size waiting → AreClosed size (rule_waiting rule path r s waiting)
+waiting_closed size Gt path r s waiting h w =
+    (closed-under size path (r * s) (ThomasIn r s) h.whole.high h.fills (thomas_in-closed r s (omega (arith, h.left)) (omega (arith, h.right)) h.small), w)
+waiting_closed size Ct path r s waiting h w = (closed-under size path (r * s) (Strided r s) h.whole.high h.fills (strided-closed r s), w)
+waiting_closed size Split path r s waiting h w = w
 
-back_closed : (c : Request) (size : ℕ) (path : Path) (r s : ℕ) → IsRuleIn c.kind size Gt path r s → IsClosed size (wrapped path (r * s) (ThomasBack r s (unit_of r s) (unit_of s r)))
-back_closed c size path r s h =
-    let small = unit_small r s (coprime_in c.kind size path r s h) in
-    closed-under c size path (r * s) (ThomasBack r s (unit_of r s) (unit_of s r)) h.whole.high h.fills
+back_closed : (size : ℕ) (path : Path) (r s : ℕ) → IsRuleIn size Gt path r s → IsClosed size (wrapped path (r * s) (ThomasBack r s (unit_of r s) (unit_of s r)))
+back_closed size path r s h =
+    let small = unit_small r s (coprime_in size path r s h) in
+    closed-under size path (r * s) (ThomasBack r s (unit_of r s) (unit_of s r)) h.whole.high h.fills
     (thomas_back-closed r s (unit_of r s) (unit_of s r) (omega (arith, h.left)) (omega (arith, h.right)) h.small small.0 small.1)
 
 -- ---- the passes of a tree
@@ -95,37 +93,32 @@ passes-last size f (p ∷ q ∷ ps) step h = (h.0, passes-last size f (q ∷ ps)
 pub scattered-closed : (size : ℕ) (f : Mapping) (p : PlainPass) → IsClosed size f → IsClosedPass size p → IsClosedPass size (scattered f p)
 scattered-closed size f p h k = record { befores = k.befores; afters = closed-append size p.afters f k.afters h; multiplies = k.multiplies }
 
-pub multiplied-closed : (size : ℕ) (path : Path) (r s : ℕ) (p : PlainPass) → IsClosed size (inner_of path (r * s)) → IsClosedPass size p → IsClosedPass size (multiplied path r s p)
-multiplied-closed size path r s p h k =
+pub multiplied-closed : (size : ℕ) (path : Path) (r s w : ℕ) (p : PlainPass) → IsClosed size (inner_of path (r * s)) → IsClosedPass size p → IsClosedPass size (multiplied path r s w p)
+multiplied-closed size path r s w p h k =
     record {
       befores = k.befores;
       afters = k.afters;
-      multiplies = λ d e. subst (λ (z : PlainDiagonal). AreClosed size (diagonal_places z)) (multiplied-is path r s p.afters d e) (closed-append size p.afters (inner_of path (r * s)) k.afters h);
+      multiplies = λ d e. subst (λ (z : PlainDiagonal). AreClosed size (diagonal_places z)) (multiplied-is path r s w p.afters d e) (closed-append size p.afters (inner_of path (r * s)) k.afters h);
     }
 
-passes_rule : (c : Request) (size : ℕ) (rule : Rule) (path : Path) (r s : ℕ) (left right : List PlainPass) → IsRuleIn c.kind size rule path r s → AreClosedPasses size left → AreClosedPasses size right →
-    AreClosedPasses size (rule_passes rule path r s left right)
-passes_rule c size Gt path r s left right h l k =
-    passes-append size right _ k (passes-last size _ left (λ p q. scattered-closed size (wrapped path (r * s) (ThomasBack r s (unit_of r s) (unit_of s r))) p (back_closed c size path r s h) q) l)
-passes_rule c size Ct path r s left right h l k =
-    passes-append size _ left (passes-last size (multiplied path r s) right (λ p q. multiplied-closed size path r s p (closed-inner size path (r * s) h.whole.high h.fills h.within) q) k) l
-passes_rule c size Split path r s left right h l k = passes-append size right left k l
+passes_rule : (size : ℕ) (rule : Rule) (path : Path) (r s w : ℕ) (left right : List PlainPass) → IsRuleIn size rule path r s → AreClosedPasses size left → AreClosedPasses size right →
+    AreClosedPasses size (rule_passes rule path r s w left right)
+passes_rule size Gt path r s w left right h l k =
+    passes-append size right _ k (passes-last size _ left (λ p q. scattered-closed size (wrapped path (r * s) (ThomasBack r s (unit_of r s) (unit_of s r))) p (back_closed size path r s h) q) l)
+passes_rule size Ct path r s w left right h l k =
+    passes-append size _ left (passes-last size (multiplied path r s w) right (λ p q. multiplied-closed size path r s w p (closed-inner size path (r * s) h.whole.high h.fills h.within) q) k) l
+passes_rule size Split path r s w left right h l k = passes-append size right left k l
 
-passes_pick : (size : ℕ) (b : Bool) (ps qs : List PlainPass) → AreClosedPasses size ps → AreClosedPasses size qs → AreClosedPasses size (if b then ps else qs)
-passes_pick size true ps qs h k = h
-passes_pick size false ps qs h k = k
+new-closed : (size : ℕ) (path : Path) (waiting : List Mapping) (w : PlainWork) → AreClosed size waiting → IsClosedPass size (new_pass path w waiting)
+new-closed size path waiting w h = record { befores = h; afters = tt; multiplies = λ d e. absurd (none_is_some d e) }
 
-new-closed : (size : ℕ) (path : Path) (waiting : List Mapping) (t : Breakdown) → AreClosed size waiting → IsClosedPass size (new_pass path (transforming t) waiting)
-new-closed size path waiting t h = record { befores = h; afters = tt; multiplies = λ d e. absurd (none_is_some d e) }
-
-pub closed_passes : (c : Request) (size : ℕ) (path : Path) (waiting : List Mapping) (t : Breakdown) → IsSize size → IsWellFormed c.kind t → size_under path (size_of t) ≡ size → AreClosed size waiting →
-    AreClosedPasses size (tree_passes c path waiting t)
-closed_passes c size path waiting (leaf d) whole h e w = (new-closed size path waiting (leaf d) w, tt)
-closed_passes c size path waiting (node rule a b) whole h e w =
-    let r = size_of a in
-    let s = size_of b in
-    let here = rule_in c.kind size rule path a b whole h e in
-    passes_pick size (is_kernel c (r * s)) _ _ (new-closed size path waiting (node rule a b) w, tt)
-    (passes_rule c size rule path r s _ _ here
-    (closed_passes c size (path ++ Columns s ∷ []) [] a whole h.1 (size_under-push path (Columns s) r ∙ e) tt)
-    (closed_passes c size (path ++ Blocks r ∷ []) (rule_waiting rule path r s waiting) b whole h.2 (size_under-push path (Blocks r) s ∙ e) (waiting_closed c size rule path r s waiting here w)))
+pub closed_passes : (m size : ℕ) (path : Path) (waiting : List Mapping) (l : Layout) → IsSize size → IsGoodLayout m l → size_under path (layout_size l) ≡ size → AreClosed size waiting →
+    AreClosedPasses size (layout_passes path waiting l)
+closed_passes m size path waiting (work w) whole h e ws = (new-closed size path waiting w ws, tt)
+closed_passes m size path waiting (by rule root a b) whole h e ws =
+    let r = layout_size a in
+    let s = layout_size b in
+    let here = rule_in m size rule root path a b whole h e in
+    passes_rule size rule path r s root _ _ here
+    (closed_passes m size (path ++ Columns s ∷ []) [] a whole h.1 (size_under-push path (Columns s) r ∙ e) tt)
+    (closed_passes m size (path ++ Blocks r ∷ []) (rule_waiting rule path r s waiting) b whole h.2 (size_under-push path (Blocks r) s ∙ e) (waiting_closed size rule path r s waiting here ws))

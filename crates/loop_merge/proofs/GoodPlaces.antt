@@ -1,36 +1,37 @@
--- What holds of the places of a tree's passes: they are within the limits, of functions that are well formed and permute the whole, and their copies fill it.
+-- What holds of the places of a layout's passes: they are within the limits, of functions that are well formed and permute the whole, and their copies fill it.
 use Rattle.std.proofs.Common.{◌≡◌, true, List, [], sym, subst}
-use Rattle.matrix_meaning.specs.declared.Request.{Request}
-use Rattle.matrix_meaning.specs.Valid.{IsValid}
 use Rattle.loop_merge.specs.Merge.{PlainPass, merged_of}
 use Rattle.loop_merge.specs.Placed.{AllLimited}
 use Rattle.loop_merge.proofs.Closed.{AreClosedPasses, closed_passes}
 use Rattle.loop_merge.proofs.PartRules.{IsSize}
 use Rattle.loop_merge.proofs.PlaceLimits.{size_in, tree_limited}
 use Rattle.loop_merge.proofs.PlaceValues.{AreFormedPasses, formed_passes}
-use Rattle.loop_merge.proofs.Shaped.{AreShaped, shaped_passes}
-use Rattle.loop_merge.proofs.TreePasses.{tree_passes}
+use Rattle.loop_merge.proofs.Shaped.{AreShaped, HasWorks, shaped_passes}
+use Rattle.loop_merge.proofs.TreePasses.{layout_passes}
 use Rattle.loop_merge.proofs.Wholes.{plain_passes}
-use Rattle.tree_model.specs.Admissible.{IsAdmissible}
-use Rattle.tree_model.specs.Breakdown.{Breakdown}
-use Rattle.tree_model.specs.Cost.{is_plain}
+use Rattle.passes.specs.Work.{PlainWork}
+use Rattle.smp_rewrite.specs.Fits.{CanShareLayout}
+use Rattle.steps.specs.Layout.{Layout, IsGoodLayout}
+use Rattle.steps.specs.Targets.{is_alone}
+use Rattle.steps.specs.declared.target.Target.{Target}
 
-pub record HaveGoodPlaces (c : Request) (ps : List PlainPass) : Type 0 where
+-- P holds of each pass's work
+pub record HaveGoodPlaces (c : Target) (P : PlainWork → Type 0) (ps : List PlainPass) : Type 0 where
   pub limited : AllLimited c ps
   pub formed : AreFormedPasses ps
   pub closed : AreClosedPasses c.size ps
-  pub shaped : AreShaped c c.size ps
+  pub shaped : AreShaped P c.size ps
 
 -- on one processor and one lane
-pub tree_good : (c : Request) (t : Breakdown) → IsValid c → IsAdmissible c t → HaveGoodPlaces c (tree_passes c [] [] t)
-tree_good c t valid h =
-    let whole : IsSize c.size = size_in c valid in
+pub tree_good : (c : Target) (P : PlainWork → Type 0) (l : Layout) → CanShareLayout c l → IsGoodLayout c.modulus l → HasWorks P l → HaveGoodPlaces c P (layout_passes [] [] l)
+tree_good c P l shares good all =
+    let whole : IsSize c.size = size_in c l shares in
     record {
-      limited = tree_limited c t valid h;
-      formed = formed_passes c c.size [] [] t whole h.well_formed h.size tt;
-      closed = closed_passes c c.size [] [] t whole h.well_formed h.size tt;
-      shaped = shaped_passes c c.size [] [] t tt h.well_formed h.size;
+      limited = tree_limited c l shares good;
+      formed = formed_passes c.modulus c.size [] [] l whole good shares.size tt;
+      closed = closed_passes c.modulus c.size [] [] l whole good shares.size tt;
+      shaped = shaped_passes P c.modulus c.size [] [] l tt good all shares.size;
     }
 
-pub plain_good : (c : Request) (t : Breakdown) → IsValid c → IsAdmissible c t → is_plain c ≡ true → HaveGoodPlaces c (merged_of c t)
-plain_good c t valid h plain = subst (HaveGoodPlaces c) (sym (plain_passes c t plain)) (tree_good c t valid h)
+pub plain_good : (c : Target) (P : PlainWork → Type 0) (l : Layout) → CanShareLayout c l → IsGoodLayout c.modulus l → HasWorks P l → is_alone c ≡ true → HaveGoodPlaces c P (merged_of c l)
+plain_good c P l shares good all plain = subst (HaveGoodPlaces c P) (sym (plain_passes c l plain)) (tree_good c P l shares good all)

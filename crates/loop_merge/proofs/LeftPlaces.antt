@@ -3,7 +3,7 @@ use Rattle.std.proofs.Common.{◌≡◌, ℕ, ◌+◌, ◌*◌, ◌/◌, ◌<◌
 use Rattle.std.specs.Prelude.{◌==◌, map, Option, None, Some}
 use Rattle.std.specs.Option.{option_map}
 use Rattle.index_fn.specs.Mapping.{Mapping}
-use Rattle.matrix_meaning.specs.declared.Request.{Request}
+use Rattle.steps.specs.declared.target.Target.{Target}
 use Rattle.passes.specs.Limits.{AreSeveral}
 use Rattle.perm_algebra.specs.Affine.{Sum, constant, variable, scaled, joined, Divided, simplified}
 use Rattle.perm_algebra.specs.Room.{CanScale, CanJoin, HasRoomFor}
@@ -24,7 +24,7 @@ use Rattle.loop_merge.proofs.RootShares.{AreShares, columns_some, tiles_are, til
 use Rattle.loop_merge.proofs.Staying.{StaysIn, stays-begin, carried-end, carried-push}
 use Rattle.loop_merge.proofs.WithinPlaces.{size-all, simplified-within, room-within, natural-placed, natural-copies}
 use Rattle.sigma_lower.specs.Root.{left_path}
-use Rattle.sigma_lower.specs.Work.{work_size}
+use Rattle.passes.specs.Work.{work_size}
 use Rattle.sigma_lower.specs.Wrapped.{inner_of}
 use Rattle.tensor_paths.specs.declared.Tensor.TheVariants.{Blocks, Columns}
 use Rattle.tensor_paths.specs.Path.{Path, grown, size_under}
@@ -175,7 +175,7 @@ module _ (size p v m s : ℕ) (h : AreShares size p v m s) where
       carried-push cs size rc places item from lead.stays (subst (HasRoomFor cs item) (sym lead.is) at_item.1) (subst (λ g. Fits rc g cs) (sym (ap (simplified cs item) lead.is ∙ at_item.0)) part.fits)
 
   -- a pass of the part alone within the limits is so in all copies
-  pub left_limited : (c : Request) (q : PlainPass) → c.size ≡ size → size_under q.path (work_size q.work) ≡ m → IsPlacedPass m [] m q → IsLimitedPass c (left_pass p v m s q)
+  pub left_limited : (c : Target) (q : PlainPass) → c.size ≡ size → size_under q.path (work_size q.work) ≡ m → IsPlacedPass m [] m q → IsLimitedPass c (left_pass p v m s q)
   left_limited c q sized fills placed_part cs e counts fits name =
       let n : ℕ = work_size q.work in
       let d : ℕ = 0 + length (left_path p v s) in

@@ -1,5 +1,5 @@
--- The loops of a phase's term are its passes, the latest first, so each pass of a tree is one nest.
-use Rattle.std.proofs.Common.{◌≡◌, ◌*◌, refl, sym, ap, ap₂, ◌∙◌, List, [], ◌∷◌, ◌++◌, Some}
+-- The loops of a phase's term are its passes, the latest first, so each pass of a layout is one nest.
+use Rattle.std.proofs.Common.{◌≡◌, refl, sym, ap, ap₂, ◌∙◌, List, [], ◌∷◌, ◌++◌, Some}
 use Rattle.std.specs.Prelude.{map, reverse}
 use Rattle.std.proofs.lemmas.List.{map-append, reverse-append, reverse-reverse}
 use Rattle.formula_lower.specs.Merged.{AllHaveLoops, phase_passes}
@@ -10,14 +10,12 @@ use Rattle.formula_lower.proofs.Ordered.{trees_are_loops}
 use Rattle.index_fn.specs.Mapping.{Mapping}
 use Rattle.loop_merge.specs.Merge.{PlainPass, Merging, new_pass, scattered, multiplied, at_last, merge_term, merged, passes_of_terms}
 use Rattle.loop_merge.specs.Nests.{loop_of, LoopsListed, TreeNests}
-use Rattle.matrix_meaning.specs.declared.Request.{Request}
+use Rattle.steps.specs.declared.target.Target.{Target}
 use Rattle.passes.specs.Loops.{PlainLoop, Looping, stored_last, scaled_last, looped, loops_in, one_nest}
 use Rattle.passes.specs.Merged.{PlainMerged}
 use Rattle.passes.specs.Nest.{PlainFactors, PlainNest, factor_count, twiddles, inner_of}
 use Rattle.sigma_lower.specs.Term.{PlainTerm, gath, scat, diag, nest, lowered_of}
-use Rattle.sigma_lower.specs.Work.{transforming, tiling}
 use Rattle.tensor_paths.specs.Path.{Path}
-use Rattle.tree_model.specs.Cost.{node_root}
 
 -- ---- the first of a list from its end
 
@@ -37,21 +35,21 @@ first-more g p ps q =
     ap (λ xs. at_first g (xs ++ q ∷ [])) (reverse-first p ps) ∙ first-of g (reverse ps) p q ∙ ap (λ xs. at_first g xs ++ q ∷ []) (sym (reverse-first p ps))
 
 -- a change of the last pass is one of the first loop
-at_last-first : (c : Request) (f : PlainPass → PlainPass) (g : PlainLoop → PlainLoop) → ((p : PlainPass) → g (loop_of c p) ≡ loop_of c (f p)) → (ps : List PlainPass) →
-    at_first g (reverse (map (loop_of c) ps)) ≡ reverse (map (loop_of c) (at_last f ps))
-at_last-first c f g same [] = refl
-at_last-first c f g same (p ∷ []) = ap (λ q. q ∷ []) (same p)
-at_last-first c f g same (p ∷ q ∷ ps) =
-    let rest = map (loop_of c) ps in
-    ap (at_first g) (reverse-first (loop_of c p) (loop_of c q ∷ rest))
-    ∙ first-more g (loop_of c q) rest (loop_of c p)
-    ∙ ap (λ xs. xs ++ loop_of c p ∷ []) (at_last-first c f g same (q ∷ ps))
-    ∙ sym (reverse-first (loop_of c p) (map (loop_of c) (at_last f (q ∷ ps))))
+at_last-first : (f : PlainPass → PlainPass) (g : PlainLoop → PlainLoop) → ((p : PlainPass) → g (loop_of p) ≡ loop_of (f p)) → (ps : List PlainPass) →
+    at_first g (reverse (map loop_of ps)) ≡ reverse (map loop_of (at_last f ps))
+at_last-first f g same [] = refl
+at_last-first f g same (p ∷ []) = ap (λ q. q ∷ []) (same p)
+at_last-first f g same (p ∷ q ∷ ps) =
+    let rest = map loop_of ps in
+    ap (at_first g) (reverse-first (loop_of p) (loop_of q ∷ rest))
+    ∙ first-more g (loop_of q) rest (loop_of p)
+    ∙ ap (λ xs. xs ++ loop_of p ∷ []) (at_last-first f g same (q ∷ ps))
+    ∙ sym (reverse-first (loop_of p) (map loop_of (at_last f (q ∷ ps))))
 
 -- ---- each term
 
-abbrev looping_of : Request → Merging → Looping
-looping_of c st = record { waiting = st.waiting; loops = reverse (map (loop_of c) st.passes) }
+abbrev looping_of : Merging → Looping
+looping_of st = record { waiting = st.waiting; loops = reverse (map loop_of st.passes) }
 
 abbrev stored_by : Mapping → PlainLoop → PlainLoop
 stored_by f p = record { path = p.path; work = p.work; befores = p.befores; taken = p.taken; afters = p.afters ++ f ∷ [] }
@@ -68,28 +66,27 @@ scaled-first : (path : Path) (factors : PlainFactors) (ps : List PlainLoop) → 
 scaled-first path factors [] = refl
 scaled-first path factors (p ∷ ps) = refl
 
-new-first : (c : Request) (ps : List PlainPass) (p : PlainPass) → loop_of c p ∷ reverse (map (loop_of c) ps) ≡ reverse (map (loop_of c) (ps ++ p ∷ []))
-new-first c ps p = sym (ap reverse (map-append (loop_of c) ps (p ∷ [])) ∙ reverse-append (map (loop_of c) ps) (loop_of c p ∷ []))
+new-first : (ps : List PlainPass) (p : PlainPass) → loop_of p ∷ reverse (map loop_of ps) ≡ reverse (map loop_of (ps ++ p ∷ []))
+new-first ps p = sym (ap reverse (map-append loop_of ps (p ∷ [])) ∙ reverse-append (map loop_of ps) (loop_of p ∷ []))
 
 abbrev with_loops : List Mapping → List PlainLoop → Looping
 with_loops waiting loops = record { waiting = waiting; loops = loops }
 
-one-term : (c : Request) (st : Merging) (t : PlainTerm) → looped (looping_of c st) (embed c t) ≡ looping_of c (merge_term st t)
-one-term c st (gath f) = refl
-one-term c st (scat f) =
-    ap (with_loops st.waiting) (stored-first f (reverse (map (loop_of c) st.passes)) ∙ at_last-first c (scattered f) (stored_by f) (λ p. refl) st.passes)
-one-term c st (diag path r s) =
-    let factors = twiddles r s (node_root c (r * s)) in
-    ap (with_loops st.waiting) (scaled-first path factors (reverse (map (loop_of c) st.passes)) ∙ at_last-first c (multiplied path r s) (scaled_by path factors) (λ p. refl) st.passes)
-one-term c st (nest path (transforming t)) = ap (with_loops []) (new-first c st.passes (new_pass path (transforming t) st.waiting))
-one-term c st (nest path (tiling v)) = ap (with_loops []) (new-first c st.passes (new_pass path (tiling v) st.waiting))
+one-term : (st : Merging) (t : PlainTerm) → looped (looping_of st) (embed t) ≡ looping_of (merge_term st t)
+one-term st (gath f) = refl
+one-term st (scat f) =
+    ap (with_loops st.waiting) (stored-first f (reverse (map loop_of st.passes)) ∙ at_last-first (scattered f) (stored_by f) (λ p. refl) st.passes)
+one-term st (diag path r s w) =
+    let factors = twiddles r s w in
+    ap (with_loops st.waiting) (scaled-first path factors (reverse (map loop_of st.passes)) ∙ at_last-first (multiplied path r s w) (scaled_by path factors) (λ p. refl) st.passes)
+one-term st (nest path w) = ap (with_loops []) (new-first st.passes (new_pass path w st.waiting))
 
-all-terms : (c : Request) (st : Merging) (ts : List PlainTerm) → looped (looping_of c st) (phase_term c ts) ≡ looping_of c (merged st ts)
-all-terms c st [] = refl
-all-terms c st (t ∷ ts) = ap (λ l. looped l (phase_term c ts)) (one-term c st t) ∙ all-terms c (merge_term st t) ts
+all-terms : (st : Merging) (ts : List PlainTerm) → looped (looping_of st) (phase_term ts) ≡ looping_of (merged st ts)
+all-terms st [] = refl
+all-terms st (t ∷ ts) = ap (λ l. looped l (phase_term ts)) (one-term st t) ∙ all-terms (merge_term st t) ts
 
 pub loops_listed : LoopsListed
-loops_listed c ts = ap (λ (l : Looping). l.loops) (all-terms c (record { waiting = []; passes = [] }) ts)
+loops_listed ts = ap (λ (l : Looping). l.loops) (all-terms (record { waiting = []; passes = [] }) ts)
 
 -- ---- the passes of a phase
 
@@ -101,24 +98,24 @@ map-reverse (p ∷ ps) =
     ∙ ap (λ qs. qs ++ one_nest p ∷ []) (map-reverse ps)
     ∙ sym (reverse-append (one_nest p ∷ []) (map one_nest ps))
 
-maps : (c : Request) (ps : List PlainPass) → map one_nest (map (loop_of c) ps) ≡ map (λ p. one_nest (loop_of c p)) ps
-maps c [] = refl
-maps c (p ∷ ps) = ap (λ qs. one_nest (loop_of c p) ∷ qs) (maps c ps)
+maps : (ps : List PlainPass) → map one_nest (map loop_of ps) ≡ map (λ p. one_nest (loop_of p)) ps
+maps [] = refl
+maps (p ∷ ps) = ap (λ qs. one_nest (loop_of p) ∷ qs) (maps ps)
 
 -- the nests of a phase's loops, the earliest first
-pub phase-nests : (c : Request) (ts : List PlainTerm) → reverse (map one_nest (loops_in (phase_term c ts))) ≡ map (λ p. one_nest (loop_of c p)) (passes_of_terms ts)
-phase-nests c ts =
-    let loops = map (loop_of c) (passes_of_terms ts) in
-    ap (λ ps. reverse (map one_nest ps)) (loops_listed c ts)
+pub phase-nests : (ts : List PlainTerm) → reverse (map one_nest (loops_in (phase_term ts))) ≡ map (λ p. one_nest (loop_of p)) (passes_of_terms ts)
+phase-nests ts =
+    let loops = map loop_of (passes_of_terms ts) in
+    ap (λ ps. reverse (map one_nest ps)) (loops_listed ts)
     ∙ ap reverse (map-reverse loops)
     ∙ reverse-reverse (map one_nest loops)
-    ∙ maps c (passes_of_terms ts)
+    ∙ maps (passes_of_terms ts)
 
-phases-nests : (c : Request) (phases : List (List PlainTerm)) → AllHaveLoops c phases → AllLoops c phases → map (phase_passes c) phases ≡ map (map (λ p. one_nest (loop_of c p))) (map passes_of_terms phases)
+phases-nests : (c : Target) (phases : List (List PlainTerm)) → AllHaveLoops c phases → AllLoops c phases → map (phase_passes c) phases ≡ map (map (λ p. one_nest (loop_of p))) (map passes_of_terms phases)
 phases-nests c [] have loops = refl
-phases-nests c (ts ∷ more) have loops = ap₂ (λ ps rest. ps ∷ rest) (ap reverse (loops.0 have.0) ∙ phase-nests c ts) (phases-nests c more have.1 loops.1)
+phases-nests c (ts ∷ more) have loops = ap₂ (λ ps rest. ps ∷ rest) (ap reverse (loops.0 have.0) ∙ phase-nests ts) (phases-nests c more have.1 loops.1)
 
 pub tree_nests : TreeNests
-tree_nests c t valid h =
+tree_nests c l machine shares good =
     ap (λ (phases : List (List (List PlainNest))). let g : PlainMerged = record { size = c.size; procs = c.procs; lanes = c.lanes; phases = phases } in g)
-    (phases-nests c (lowered_of c t) (phases_have_loops c t valid h) (trees_are_loops c t valid h))
+    (phases-nests c (lowered_of c l) (phases_have_loops c l machine shares good) (trees_are_loops c l machine shares good))

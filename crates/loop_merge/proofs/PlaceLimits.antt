@@ -1,12 +1,10 @@
--- No place of a tree's passes is over a limit, nor is any on the way there.
-use Rattle.std.proofs.Common.{◌≡◌, ℕ, ◌+◌, ◌*◌, ◌<◌, ◌≤◌, Bool, true, false, arith, refl, sym, ap, ◌∙◌, List, [], ◌∷◌, ◌++◌, length, if◌then◌else◌, subst, mul_comm}
+-- No place of a layout's passes is over a limit, nor is any on the way there.
+use Rattle.std.proofs.Common.{◌≡◌, ℕ, ◌+◌, ◌*◌, ◌<◌, ◌≤◌, arith, refl, sym, ap, ◌∙◌, List, [], ◌∷◌, ◌++◌, length, subst, mul_comm}
 use Rattle.std.specs.Prelude.{Option, Some, None}
 use Rattle.std.proofs.Math.Nat.{mul-le-mul_right}
 use Rattle.std.proofs.lemmas.Nat.{mul-le}
 use Rattle.index_fn.specs.Mapping.{Mapping, Strided, ThomasIn, ThomasBack}
-use Rattle.matrix_meaning.specs.declared.Kind.{Kind}
-use Rattle.matrix_meaning.specs.declared.Request.{Request}
-use Rattle.matrix_meaning.specs.Valid.{IsValid}
+use Rattle.steps.specs.declared.target.Target.{Target}
 use Rattle.perm_algebra.specs.Affine.{IsProper, Sum, constant, variable, top, parts, scaled, joined, Divided, reduced, simplified}
 use Rattle.perm_algebra.proofs.AffineLaws.{top-scaled, top-joined}
 use Rattle.perm_algebra.proofs.Shape.{divided-joined, turned-joined}
@@ -21,8 +19,9 @@ use Rattle.loop_merge.proofs.PlaceSums.{tensor_sum, place_sum-push, counts-push,
 use Rattle.loop_merge.proofs.PartRules.{IsSize, IsRuleIn, rule_in, coprime_in}
 use Rattle.loop_merge.proofs.Staying.{StaysIn, carried-push}
 use Rattle.loop_merge.proofs.TameSums.{tame-scaled, tame-joined, reduced-fits}
-use Rattle.loop_merge.proofs.TreePasses.{rule_waiting, rule_passes, tree_passes}
-use Rattle.sigma_lower.specs.Work.{transforming, work_size}
+use Rattle.loop_merge.proofs.TreePasses.{rule_waiting, rule_passes, layout_passes}
+use Rattle.passes.specs.Work.{PlainWork, work_size}
+use Rattle.steps.specs.Layout.{Layout, work, by, layout_size, IsGoodLayout}
 use Rattle.sigma_lower.specs.Wrapped.{wrapped, inner_of, unit_of}
 use Rattle.sigma_lower.proofs.Lowering.{AreCoprime, unit_positive, unit_small}
 use Rattle.tensor_paths.specs.declared.Tensor.{Tensor}
@@ -31,9 +30,7 @@ use Rattle.tensor_paths.specs.Path.{Path, grown, size_under}
 use Rattle.tensor_paths.proofs.Under.{size_under-push}
 use Rattle.tree_model.specs.declared.tree.Rule.{Rule}
 use Rattle.tree_model.specs.declared.tree.Rule.TheVariants.{Gt, Ct, Split}
-use Rattle.tree_model.specs.Admissible.{IsAdmissible}
-use Rattle.tree_model.specs.Breakdown.{Breakdown, leaf, node, size_of, IsWellFormed}
-use Rattle.tree_model.specs.Cost.{is_kernel}
+use Rattle.smp_rewrite.specs.Fits.{CanShareLayout}
 
 -- ---- a tensor at a place, and the permutation of a rule
 
@@ -145,15 +142,15 @@ gathering-mapped size path waiting f r s step room whole high g cs d e counts fi
       subst (StaysIn cs size waiting) (sym (simplified-wrapped path (r * s) d f at_tensor cs p.before inside)) (g cs d (simplified cs f at_tensor) p.before one),
     )
 
-gathering_rule : (kind : Kind) (size : ℕ) (rule : Rule) (path : Path) (r s : ℕ) (waiting : List Mapping) → IsRuleIn kind size rule path r s → Gathering size path waiting (r * s) →
+gathering_rule : (size : ℕ) (rule : Rule) (path : Path) (r s : ℕ) (waiting : List Mapping) → IsRuleIn size rule path r s → Gathering size path waiting (r * s) →
     Gathering size (path ++ Blocks r ∷ []) (rule_waiting rule path r s waiting) s
-gathering_rule kind size Gt path r s waiting h g =
+gathering_rule size Gt path r s waiting h g =
     gathering-mapped size path waiting (ThomasIn r s) r s (λ d e cs count fits. thomas_in-one r s d e cs count h.left h.right h.small fits)
     (λ d e cs count fits. thomas_in-room r s d e cs count h.left h.right h.small fits) h.fills h.whole.high g
-gathering_rule kind size Ct path r s waiting h g =
+gathering_rule size Ct path r s waiting h g =
     gathering-mapped size path waiting (Strided r s) r s (λ d e cs count fits. turns-one r s d e cs count h.left h.right fits)
     (λ d e cs count fits. turns-room r s d e cs count h.left h.right h.small fits) h.fills h.whole.high g
-gathering_rule kind size Split path r s waiting h g = gathering-push size path waiting (Blocks r) s g
+gathering_rule size Split path r s waiting h g = gathering-push size path waiting (Blocks r) s g
 
 -- ---- scatters: from the pass inwards out to a node
 
@@ -171,11 +168,11 @@ pub record Scattering (size : ℕ) (path : Path) (n : ℕ) (p : PlainPass) : Typ
   pub placed : (cs : ℕ → ℕ) (d : ℕ) (e : Sum) → AreCounts p.path (work_size p.work) d cs → Fits (work_size p.work) e cs → IsPlacedAt cs path n d (scatter_from cs p d e)
   pub stays : (cs : ℕ → ℕ) (d : ℕ) (e : Sum) → AreCounts p.path (work_size p.work) d cs → Fits (work_size p.work) e cs → StaysIn cs size p.afters (place_sum p.path (work_size p.work) d e)
 
-scattering-new : (size : ℕ) (path : Path) (waiting : List Mapping) (t : Breakdown) → size_under path (size_of t) ≡ size → Scattering size path (size_of t) (new_pass path (transforming t) waiting)
-scattering-new size path waiting t whole =
+scattering-new : (size : ℕ) (path : Path) (waiting : List Mapping) (w : PlainWork) → size_under path (work_size w) ≡ size → Scattering size path (work_size w) (new_pass path w waiting)
+scattering-new size path waiting w whole =
     record {
       placed = λ cs d e counts fits. record { inner = e; is = refl; counts = counts; fits = fits };
-      stays = λ cs d e counts fits. natural-fits size path (size_of t) d e cs whole counts fits;
+      stays = λ cs d e counts fits. natural-fits size path (work_size w) d e cs whole counts fits;
     }
 
 scattering-lift : (size : ℕ) (path : Path) (t : Tensor) (n : ℕ) (p : PlainPass) → Scattering size (path ++ t ∷ []) n p → Scattering size path (grown t n) p
@@ -198,10 +195,10 @@ record IsTakenBack (cs : ℕ → ℕ) (size : ℕ) (path : Path) (r s d : ℕ) (
   room : HasRoomFor cs (wrapped path (r * s) (ThomasBack r s (unit_of r s) (unit_of s r))) place
   fits : Fits size (simplified cs (wrapped path (r * s) (ThomasBack r s (unit_of r s) (unit_of s r))) place) cs
 
-taken_back : (kind : Kind) (size : ℕ) (path : Path) (r s d : ℕ) (cs : ℕ → ℕ) (place : Sum) → IsRuleIn kind size Gt path r s → IsPlacedAt cs (path ++ Columns s ∷ []) r d place → IsTakenBack cs size path r s d place
-taken_back kind size path r s d cs place h there =
+taken_back : (size : ℕ) (path : Path) (r s d : ℕ) (cs : ℕ → ℕ) (place : Sum) → IsRuleIn size Gt path r s → IsPlacedAt cs (path ++ Columns s ∷ []) r d place → IsTakenBack cs size path r s d place
+taken_back size path r s d cs place h there =
     let f = ThomasBack r s (unit_of r s) (unit_of s r) in
-    let both : AreCoprime r s = coprime_in kind size path r s h in
+    let both : AreCoprime r s = coprime_in size path r s h in
     let q = counts-push path (Columns s) r d cs there.counts in
     let at_tensor = tensor_sum (Columns s) r (d + length path) there.inner in
     let inside = at-tensor path (Columns s) r d there.inner cs there.counts there.fits in
@@ -219,13 +216,13 @@ taken_back kind size path r s d cs place h there =
       fits = subst (λ g. Fits size g cs) (sym after) (natural-fits size path (r * s) d (simplified cs f at_tensor) cs h.fills q.before made);
     }
 
-scattering-back : (kind : Kind) (size : ℕ) (path : Path) (r s : ℕ) (p : PlainPass) → IsRuleIn kind size Gt path r s → Scattering size (path ++ Columns s ∷ []) r p →
+scattering-back : (size : ℕ) (path : Path) (r s : ℕ) (p : PlainPass) → IsRuleIn size Gt path r s → Scattering size (path ++ Columns s ∷ []) r p →
     Scattering size path (r * s) (scattered (wrapped path (r * s) (ThomasBack r s (unit_of r s) (unit_of s r))) p)
-scattering-back kind size path r s p rule h =
+scattering-back size path r s p rule h =
     let f = wrapped path (r * s) (ThomasBack r s (unit_of r s) (unit_of s r)) in
     record {
       placed = λ cs d e counts fits.
-          let back = (taken_back kind size path r s d cs (scatter_from cs p d e) rule (h.placed cs d e counts fits)).at_whole in
+          let back = (taken_back size path r s d cs (scatter_from cs p d e) rule (h.placed cs d e counts fits)).at_whole in
           record {
             inner = back.inner;
             is = all_simplified-append cs p.afters f (place_sum p.path (work_size p.work) d e) ∙ back.is;
@@ -233,11 +230,11 @@ scattering-back kind size path r s p rule h =
             fits = back.fits;
           };
       stays = λ cs d e counts fits.
-          let back = taken_back kind size path r s d cs (scatter_from cs p d e) rule (h.placed cs d e counts fits) in
+          let back = taken_back size path r s d cs (scatter_from cs p d e) rule (h.placed cs d e counts fits) in
           carried-push cs size size p.afters f (place_sum p.path (work_size p.work) d e) (h.stays cs d e counts fits) back.room back.fits;
     }
 
--- ---- all passes of a tree
+-- ---- all passes of a layout
 
 -- the places in a ct's diagonal, past the functions before its own
 pub record IsMultiplied (cs : ℕ → ℕ) (size : ℕ) (p : PlainPass) (d : PlainDiagonal) (v : ℕ) (e : Sum) : Type 0 where
@@ -256,13 +253,13 @@ pub record IsPlacedPass (size : ℕ) (path : Path) (n : ℕ) (p : PlainPass) : T
 pub none_is_some : (d : PlainDiagonal) → ◌≡◌ {A = Option PlainDiagonal} None (Some d) → ⊥
 none_is_some d e = absurd (cc)
 
-pub multiplied-is : (path : Path) (r s : ℕ) (places : List Mapping) (d : PlainDiagonal) → ◌≡◌ {A = Option PlainDiagonal} (Some (record { path = path; rows = r; cols = s; places = places })) (Some d) →
-    ◌≡◌ {A = PlainDiagonal} (record { path = path; rows = r; cols = s; places = places }) d
-multiplied-is path r s places d e = cc
+pub multiplied-is : (path : Path) (r s w : ℕ) (places : List Mapping) (d : PlainDiagonal) → ◌≡◌ {A = Option PlainDiagonal} (Some (record { path = path; rows = r; cols = s; root = w; places = places })) (Some d) →
+    ◌≡◌ {A = PlainDiagonal} (record { path = path; rows = r; cols = s; root = w; places = places }) d
+multiplied-is path r s w places d e = cc
 
-scattering-multiplies : (size : ℕ) (path : Path) (r s : ℕ) (p : PlainPass) → r * s ≤ 1048576 → size_under path (r * s) ≤ 1048576 → Scattering size path (r * s) p →
-    Multiplying size (multiplied path r s p) (record { path = path; rows = r; cols = s; places = p.afters })
-scattering-multiplies size path r s p low high h cs d e counts fits =
+scattering-multiplies : (size : ℕ) (path : Path) (r s w : ℕ) (p : PlainPass) → r * s ≤ 1048576 → size_under path (r * s) ≤ 1048576 → Scattering size path (r * s) p →
+    Multiplying size (multiplied path r s w p) (record { path = path; rows = r; cols = s; root = w; places = p.afters })
+scattering-multiplies size path r s w p low high h cs d e counts fits =
     let there = h.placed cs d e counts fits in
     let inner = inner_of path (r * s) in
     let is : simplified cs inner (scatter_from cs p d e) ≡ there.inner = ap (simplified cs inner) there.is ∙ inner-place path (r * s) d there.inner cs there.counts there.fits in
@@ -287,70 +284,65 @@ pub placed-lift : (size : ℕ) (path : Path) (t : Tensor) (n : ℕ) (ps : List P
 placed-lift size path t n [] h = tt
 placed-lift size path t n (p ∷ ps) h = (lift-one size path t n p h.0, placed-lift size path t n ps h.1)
 
-back-one : (kind : Kind) (size : ℕ) (path : Path) (r s : ℕ) (p : PlainPass) → IsRuleIn kind size Gt path r s → IsPlacedPass size (path ++ Columns s ∷ []) r p →
+back-one : (size : ℕ) (path : Path) (r s : ℕ) (p : PlainPass) → IsRuleIn size Gt path r s → IsPlacedPass size (path ++ Columns s ∷ []) r p →
     IsPlacedPass size path (r * s) (scattered (wrapped path (r * s) (ThomasBack r s (unit_of r s) (unit_of s r))) p)
-back-one kind size path r s p rule h =
+back-one size path r s p rule h =
     record {
       gathers = h.gathers;
-      scatters = scattering-back kind size path r s p rule h.scatters;
+      scatters = scattering-back size path r s p rule h.scatters;
       multiplies = λ d e.
           let m = h.multiplies d e in (λ cs v g counts fits. let at = m.0 cs v g counts fits in record { stays = at.stays; room = at.room; fits = at.fits }, m.1);
     }
 
-placed-back : (kind : Kind) (size : ℕ) (path : Path) (r s : ℕ) (ps : List PlainPass) → IsRuleIn kind size Gt path r s → ArePlaced size (path ++ Columns s ∷ []) r ps →
+placed-back : (size : ℕ) (path : Path) (r s : ℕ) (ps : List PlainPass) → IsRuleIn size Gt path r s → ArePlaced size (path ++ Columns s ∷ []) r ps →
     ArePlaced size path (r * s) (at_last (scattered (wrapped path (r * s) (ThomasBack r s (unit_of r s) (unit_of s r)))) ps)
-placed-back kind size path r s [] rule h = tt
-placed-back kind size path r s (p ∷ []) rule h = (back-one kind size path r s p rule h.0, tt)
-placed-back kind size path r s (p ∷ q ∷ ps) rule h = (lift-one size path (Columns s) r p h.0, placed-back kind size path r s (q ∷ ps) rule h.1)
+placed-back size path r s [] rule h = tt
+placed-back size path r s (p ∷ []) rule h = (back-one size path r s p rule h.0, tt)
+placed-back size path r s (p ∷ q ∷ ps) rule h = (lift-one size path (Columns s) r p h.0, placed-back size path r s (q ∷ ps) rule h.1)
 
-pub placed-multiplied : (size : ℕ) (path : Path) (r s : ℕ) (ps : List PlainPass) → r * s ≤ 1048576 → size_under path (r * s) ≤ 1048576 → r * s ≤ size → ArePlaced size path (r * s) ps → ArePlaced size path (r * s) (at_last (multiplied path r s) ps)
-placed-multiplied size path r s [] low under within h = tt
-placed-multiplied size path r s (p ∷ []) low under within h = (
+pub placed-multiplied : (size : ℕ) (path : Path) (r s w : ℕ) (ps : List PlainPass) → r * s ≤ 1048576 → size_under path (r * s) ≤ 1048576 → r * s ≤ size → ArePlaced size path (r * s) ps → ArePlaced size path (r * s) (at_last (multiplied path r s w) ps)
+placed-multiplied size path r s w [] low under within h = tt
+placed-multiplied size path r s w (p ∷ []) low under within h = (
   record {
     gathers = h.0.gathers;
     scatters = record { placed = h.0.scatters.placed; stays = h.0.scatters.stays };
     multiplies = λ d e.
-        subst (λ (z : PlainDiagonal). Multiplying size (multiplied path r s p) z × (z.rows * z.cols ≤ size)) (multiplied-is path r s p.afters d e) (scattering-multiplies size path r s p low under h.0.scatters, within);
+        subst (λ (z : PlainDiagonal). Multiplying size (multiplied path r s w p) z × (z.rows * z.cols ≤ size)) (multiplied-is path r s w p.afters d e) (scattering-multiplies size path r s w p low under h.0.scatters, within);
   },
   tt,
 )
-placed-multiplied size path r s (p ∷ q ∷ ps) low under within h = (h.0, placed-multiplied size path r s (q ∷ ps) low under within h.1)
+placed-multiplied size path r s w (p ∷ q ∷ ps) low under within h = (h.0, placed-multiplied size path r s w (q ∷ ps) low under within h.1)
 
-placed_rule : (kind : Kind) (size : ℕ) (rule : Rule) (path : Path) (r s : ℕ) (left right : List PlainPass) → IsRuleIn kind size rule path r s →
-    ArePlaced size (path ++ Columns s ∷ []) r left → ArePlaced size (path ++ Blocks r ∷ []) s right → ArePlaced size path (r * s) (rule_passes rule path r s left right)
-placed_rule kind size Gt path r s left right h l k =
-    placed-append size path (r * s) right _ (placed-lift size path (Blocks r) s right k) (placed-back kind size path r s left h l)
-placed_rule kind size Ct path r s left right h l k =
-    placed-append size path (r * s) _ left (placed-multiplied size path r s right h.small (omega (arith, h.fills, h.whole.high)) h.within (placed-lift size path (Blocks r) s right k)) (placed-lift size path (Columns s) r left l)
-placed_rule kind size Split path r s left right h l k =
+placed_rule : (size : ℕ) (rule : Rule) (path : Path) (r s w : ℕ) (left right : List PlainPass) → IsRuleIn size rule path r s →
+    ArePlaced size (path ++ Columns s ∷ []) r left → ArePlaced size (path ++ Blocks r ∷ []) s right → ArePlaced size path (r * s) (rule_passes rule path r s w left right)
+placed_rule size Gt path r s w left right h l k =
+    placed-append size path (r * s) right _ (placed-lift size path (Blocks r) s right k) (placed-back size path r s left h l)
+placed_rule size Ct path r s w left right h l k =
+    placed-append size path (r * s) _ left (placed-multiplied size path r s w right h.small (omega (arith, h.fills, h.whole.high)) h.within (placed-lift size path (Blocks r) s right k)) (placed-lift size path (Columns s) r left l)
+placed_rule size Split path r s w left right h l k =
     placed-append size path (r * s) right left (placed-lift size path (Blocks r) s right k) (placed-lift size path (Columns s) r left l)
 
-placed_pick : (size : ℕ) (path : Path) (n : ℕ) (b : Bool) (ps qs : List PlainPass) → ArePlaced size path n ps → ArePlaced size path n qs → ArePlaced size path n (if b then ps else qs)
-placed_pick size path n true ps qs h k = h
-placed_pick size path n false ps qs h k = k
+new-placed : (size : ℕ) (path : Path) (waiting : List Mapping) (w : PlainWork) → size_under path (work_size w) ≡ size → Gathering size path waiting (work_size w) → IsPlacedPass size path (work_size w) (new_pass path w waiting)
+new-placed size path waiting w e g = record { gathers = g; scatters = scattering-new size path waiting w e; multiplies = λ d e. absurd (none_is_some d e) }
 
-new-placed : (size : ℕ) (path : Path) (waiting : List Mapping) (t : Breakdown) → size_under path (size_of t) ≡ size → Gathering size path waiting (size_of t) → IsPlacedPass size path (size_of t) (new_pass path (transforming t) waiting)
-new-placed size path waiting t e g = record { gathers = g; scatters = scattering-new size path waiting t e; multiplies = λ d e. absurd (none_is_some d e) }
-
-pub placed_passes : (c : Request) (size : ℕ) (path : Path) (waiting : List Mapping) (t : Breakdown) → IsSize size → IsWellFormed c.kind t → size_under path (size_of t) ≡ size → Gathering size path waiting (size_of t) →
-    ArePlaced size path (size_of t) (tree_passes c path waiting t)
-placed_passes c size path waiting (leaf d) whole h e g = (new-placed size path waiting (leaf d) e g, tt)
-placed_passes c size path waiting (node rule a b) whole h e g =
-    let r = size_of a in
-    let s = size_of b in
-    let here = rule_in c.kind size rule path a b whole h e in
+pub placed_passes : (m size : ℕ) (path : Path) (waiting : List Mapping) (l : Layout) → IsSize size → IsGoodLayout m l → size_under path (layout_size l) ≡ size → Gathering size path waiting (layout_size l) →
+    ArePlaced size path (layout_size l) (layout_passes path waiting l)
+placed_passes m size path waiting (work w) whole h e g = (new-placed size path waiting w e g, tt)
+placed_passes m size path waiting (by rule root a b) whole h e g =
+    let r = layout_size a in
+    let s = layout_size b in
+    let here = rule_in m size rule root path a b whole h e in
     let left : size_under (path ++ Columns s ∷ []) r ≡ size = size_under-push path (Columns s) r ∙ e in
-    placed_pick size path (r * s) (is_kernel c (r * s)) _ _ (new-placed size path waiting (node rule a b) e g, tt)
-    (placed_rule c.kind size rule path r s _ _ here (placed_passes c size (path ++ Columns s ∷ []) [] a whole h.1 left (gathering-natural size (path ++ Columns s ∷ []) r left))
-    (placed_passes c size (path ++ Blocks r ∷ []) (rule_waiting rule path r s waiting) b whole h.2 (size_under-push path (Blocks r) s ∙ e) (gathering_rule c.kind size rule path r s waiting here g)))
+    placed_rule size rule path r s root _ _ here (placed_passes m size (path ++ Columns s ∷ []) [] a whole h.1 left (gathering-natural size (path ++ Columns s ∷ []) r left))
+    (placed_passes m size (path ++ Blocks r ∷ []) (rule_waiting rule path r s waiting) b whole h.2 (size_under-push path (Blocks r) s ∙ e) (gathering_rule size rule path r s waiting here g))
 
--- ---- the whole tree
+-- ---- the whole layout
 
--- the passes of a tree that stands for the whole
-pub whole_placed : (c : Request) (t : Breakdown) → IsSize (size_of t) → IsWellFormed c.kind t → ArePlaced (size_of t) [] (size_of t) (tree_passes c [] [] t)
-whole_placed c t whole h = placed_passes c (size_of t) [] [] t whole h refl (gathering-natural (size_of t) [] (size_of t) refl)
+-- the passes of a layout that stands for the whole
+pub whole_placed : (m : ℕ) (l : Layout) → IsSize (layout_size l) → IsGoodLayout m l → ArePlaced (layout_size l) [] (layout_size l) (layout_passes [] [] l)
+whole_placed m l whole h = placed_passes m (layout_size l) [] [] l whole h refl (gathering-natural (layout_size l) [] (layout_size l) refl)
 
-limited_pass : (c : Request) (p : PlainPass) → IsPlacedPass c.size [] c.size p → IsLimitedPass c p
+limited_pass : (c : Target) (p : PlainPass) → IsPlacedPass c.size [] c.size p → IsLimitedPass c p
 limited_pass c p h cs e counts fits name =
     record {
       loads = h.gathers cs 0 e counts fits;
@@ -360,15 +352,15 @@ limited_pass c p h cs e counts fits name =
           carried-push cs c.size (d.rows * d.cols) d.places (inner_of d.path (d.rows * d.cols)) (place_sum p.path (work_size p.work) 0 e) m.stays m.room m.fits;
     }
 
-pub all_limited : (c : Request) (ps : List PlainPass) → ArePlaced c.size [] c.size ps → AllLimited c ps
+pub all_limited : (c : Target) (ps : List PlainPass) → ArePlaced c.size [] c.size ps → AllLimited c ps
 all_limited c [] h = tt
 all_limited c (p ∷ ps) h = (limited_pass c p h.0, all_limited c ps h.1)
 
-pub size_in : (c : Request) → IsValid c → IsSize c.size
-size_in c valid = record { low = valid.in_range.size.0; high = valid.in_range.size.1 }
+pub size_in : (c : Target) (l : Layout) → CanShareLayout c l → IsSize c.size
+size_in c l h = record { low = h.some; high = h.small }
 
--- the passes of a tree on one processor and one lane
-pub tree_limited : (c : Request) (t : Breakdown) → IsValid c → IsAdmissible c t → AllLimited c (tree_passes c [] [] t)
-tree_limited c t valid h =
-    all_limited c (tree_passes c [] [] t)
-    (subst (λ n. ArePlaced n [] n (tree_passes c [] [] t)) h.size (whole_placed c t (subst IsSize (sym h.size) (size_in c valid)) h.well_formed))
+-- the passes of a layout on one processor and one lane
+pub tree_limited : (c : Target) (l : Layout) → CanShareLayout c l → IsGoodLayout c.modulus l → AllLimited c (layout_passes [] [] l)
+tree_limited c l shares good =
+    all_limited c (layout_passes [] [] l)
+    (subst (λ n. ArePlaced n [] n (layout_passes [] [] l)) shares.size (whole_placed c.modulus l (subst IsSize (sym shares.size) (size_in c l shares)) good))

@@ -1,9 +1,7 @@
 -- The sums of a pass have the values of its places.
-use Rattle.std.proofs.Common.{◌≡◌, ℕ, zero, suc, ◌*◌, ◌<◌, Bool, true, false, ◌≤◌, arith, refl, ap, ◌∙◌, List, [], ◌∷◌, ◌++◌, if◌then◌else◌, zero-mul, mul-zero, inl, inr, subst, eq-zero-or-pos}
+use Rattle.std.proofs.Common.{◌≡◌, ℕ, zero, suc, ◌*◌, ◌<◌, ◌≤◌, arith, refl, ap, ◌∙◌, List, [], ◌∷◌, ◌++◌, zero-mul, mul-zero, inl, inr, subst, eq-zero-or-pos}
 use Rattle.std.specs.Prelude.{Some}
 use Rattle.index_fn.specs.Mapping.{Mapping, Strided, ThomasIn, ThomasBack, at}
-use Rattle.matrix_meaning.specs.declared.Kind.{Kind}
-use Rattle.matrix_meaning.specs.declared.Request.{Request}
 use Rattle.perm_algebra.specs.Affine.{Sum, value, IsSound, simplified, AreBelowCounts}
 use Rattle.perm_algebra.proofs.Values.{simplifies}
 use Rattle.loop_merge.specs.Merge.{PlainDiagonal, PlainPass, through, new_pass, scattered, multiplied, at_last}
@@ -13,9 +11,10 @@ use Rattle.passes.specs.Loops.{AreFormed}
 use Rattle.passes.proofs.Natural.{loop_values, sound-place_sum, value-place_sum}
 use Rattle.loop_merge.proofs.PlaceLimits.{none_is_some, multiplied-is}
 use Rattle.loop_merge.proofs.PartRules.{IsSize, IsRuleIn, rule_in, coprime_in}
-use Rattle.loop_merge.proofs.TreePasses.{rule_waiting, rule_passes, tree_passes}
+use Rattle.loop_merge.proofs.TreePasses.{rule_waiting, rule_passes, layout_passes}
 use Rattle.ring_mod.proofs.Inverses.{AreInverses, inverse_of_s, inverse_of_r, inverses_of}
-use Rattle.sigma_lower.specs.Work.{transforming}
+use Rattle.passes.specs.Work.{PlainWork}
+use Rattle.steps.specs.Layout.{Layout, work, by, layout_size, IsGoodLayout}
 use Rattle.sigma_lower.specs.Wrapped.{wrapped, inner_of, unit_of}
 use Rattle.sigma_lower.proofs.Lowering.{AreCoprime, units_of}
 use Rattle.tensor_paths.specs.declared.Tensor.TheVariants.{Blocks, Columns}
@@ -23,8 +22,6 @@ use Rattle.tensor_paths.specs.Path.{Path, size_under, place}
 use Rattle.tensor_paths.proofs.Under.{size_under-push}
 use Rattle.tree_model.specs.declared.tree.Rule.{Rule}
 use Rattle.tree_model.specs.declared.tree.Rule.TheVariants.{Gt, Ct, Split}
-use Rattle.tree_model.specs.Breakdown.{Breakdown, leaf, node, size_of, IsWellFormed as IsWellFormedTree}
-use Rattle.tree_model.specs.Cost.{is_kernel}
 
 -- ---- one pass
 
@@ -79,23 +76,23 @@ inner-formed (Columns c ∷ path) n positive =
     let count : 0 < c = right_positive (size_under path n) c positive in
     let inner = inner-formed path n (left_positive (size_under path n) c positive) in record { formed = (omega (arith, count), inner.formed, tt); no_list = (inner.no_list, tt) }
 
-whole_positive : (kind : Kind) (size : ℕ) (rule : Rule) (path : Path) (r s : ℕ) → IsRuleIn kind size rule path r s → 0 < size_under path (r * s)
-whole_positive kind size rule path r s h = omega (arith, h.fills, h.whole.low)
+whole_positive : (size : ℕ) (rule : Rule) (path : Path) (r s : ℕ) → IsRuleIn size rule path r s → 0 < size_under path (r * s)
+whole_positive size rule path r s h = omega (arith, h.fills, h.whole.low)
 
 pub strided-formed : (r s : ℕ) → 0 < r → 0 < s → r * s ≤ 1048576 → IsFormed (Strided r s)
 strided-formed r s h g small = record { formed = (h, g, omega arith); no_list = tt }
 
-waiting_formed : (kind : Kind) (size : ℕ) (rule : Rule) (path : Path) (r s : ℕ) (waiting : List Mapping) → IsRuleIn kind size rule path r s → AreFormed waiting → AreFormed (rule_waiting rule path r s waiting)
-waiting_formed kind size Gt path r s waiting h w =
-    (wrapped-formed path (r * s) (ThomasIn r s) (whole_positive kind size Gt path r s h) (record { formed = (omega (arith, h.left), omega (arith, h.right), omega (arith, h.small)); no_list = tt }), w)
-waiting_formed kind size Ct path r s waiting h w =
-    (wrapped-formed path (r * s) (Strided r s) (whole_positive kind size Ct path r s h) (strided-formed r s (omega (arith, h.left)) (omega (arith, h.right)) h.small), w)
-waiting_formed kind size Split path r s waiting h w = w
+waiting_formed : (size : ℕ) (rule : Rule) (path : Path) (r s : ℕ) (waiting : List Mapping) → IsRuleIn size rule path r s → AreFormed waiting → AreFormed (rule_waiting rule path r s waiting)
+waiting_formed size Gt path r s waiting h w =
+    (wrapped-formed path (r * s) (ThomasIn r s) (whole_positive size Gt path r s h) (record { formed = (omega (arith, h.left), omega (arith, h.right), omega (arith, h.small)); no_list = tt }), w)
+waiting_formed size Ct path r s waiting h w =
+    (wrapped-formed path (r * s) (Strided r s) (whole_positive size Ct path r s h) (strided-formed r s (omega (arith, h.left)) (omega (arith, h.right)) h.small), w)
+waiting_formed size Split path r s waiting h w = w
 
-back_formed : (kind : Kind) (size : ℕ) (path : Path) (r s : ℕ) → IsRuleIn kind size Gt path r s → IsFormed (wrapped path (r * s) (ThomasBack r s (unit_of r s) (unit_of s r)))
-back_formed kind size path r s h =
-    let both : AreCoprime r s = coprime_in kind size path r s h in
-    wrapped-formed path (r * s) (ThomasBack r s (unit_of r s) (unit_of s r)) (whole_positive kind size Gt path r s h) (from_inverses (inverses_of r s both.left both.gcd))
+back_formed : (size : ℕ) (path : Path) (r s : ℕ) → IsRuleIn size Gt path r s → IsFormed (wrapped path (r * s) (ThomasBack r s (unit_of r s) (unit_of s r)))
+back_formed size path r s h =
+    let both : AreCoprime r s = coprime_in size path r s h in
+    wrapped-formed path (r * s) (ThomasBack r s (unit_of r s) (unit_of s r)) (whole_positive size Gt path r s h) (from_inverses (inverses_of r s both.left both.gcd))
   where
     from_inverses : (u : ℕ) × (v : ℕ) × AreInverses r s u v → IsFormed (ThomasBack r s (unit_of r s) (unit_of s r))
     from_inverses (u, v, both) =
@@ -103,7 +100,7 @@ back_formed kind size path r s h =
         let right : 0 < s = omega (arith, h.right) in
         record { formed = (left, right, omega (arith, h.small), units_of r s u left right (inverse_of_s r s u v both), units_of s r v right left (inverse_of_r r s u v both)); no_list = tt }
 
--- ---- all passes of a tree
+-- ---- all passes of a layout
 
 abbrev pub AreFormedPasses : List PlainPass → Type 0
 AreFormedPasses [] = Unit {0}
@@ -121,37 +118,32 @@ passes-last f (p ∷ q ∷ ps) step h = (h.0, passes-last f (q ∷ ps) step h.1)
 pub scattered-formed : (f : Mapping) (p : PlainPass) → IsFormed f → IsFormedPass p → IsFormedPass (scattered f p)
 scattered-formed f p h k = record { befores = k.befores; afters = formed-append p.afters f k.afters h; multiplies = k.multiplies }
 
-pub multiplied-formed : (path : Path) (r s : ℕ) (p : PlainPass) → 0 < size_under path (r * s) → IsFormedPass p → IsFormedPass (multiplied path r s p)
-multiplied-formed path r s p positive k =
+pub multiplied-formed : (path : Path) (r s w : ℕ) (p : PlainPass) → 0 < size_under path (r * s) → IsFormedPass p → IsFormedPass (multiplied path r s w p)
+multiplied-formed path r s w p positive k =
     record {
       befores = k.befores;
       afters = k.afters;
-      multiplies = λ d e. subst (λ (z : PlainDiagonal). AreFormed z.places × IsFormed (inner_of z.path (z.rows * z.cols))) (multiplied-is path r s p.afters d e) (k.afters, inner-formed path (r * s) positive);
+      multiplies = λ d e. subst (λ (z : PlainDiagonal). AreFormed z.places × IsFormed (inner_of z.path (z.rows * z.cols))) (multiplied-is path r s w p.afters d e) (k.afters, inner-formed path (r * s) positive);
     }
 
-passes_rule : (kind : Kind) (size : ℕ) (rule : Rule) (path : Path) (r s : ℕ) (left right : List PlainPass) → IsRuleIn kind size rule path r s → AreFormedPasses left → AreFormedPasses right →
-    AreFormedPasses (rule_passes rule path r s left right)
-passes_rule kind size Gt path r s left right h l k =
-    passes-append right _ k (passes-last _ left (λ p q. scattered-formed (wrapped path (r * s) (ThomasBack r s (unit_of r s) (unit_of s r))) p (back_formed kind size path r s h) q) l)
-passes_rule kind size Ct path r s left right h l k =
-    passes-append _ left (passes-last (multiplied path r s) right (λ p q. multiplied-formed path r s p (whole_positive kind size Ct path r s h) q) k) l
-passes_rule kind size Split path r s left right h l k = passes-append right left k l
+passes_rule : (size : ℕ) (rule : Rule) (path : Path) (r s w : ℕ) (left right : List PlainPass) → IsRuleIn size rule path r s → AreFormedPasses left → AreFormedPasses right →
+    AreFormedPasses (rule_passes rule path r s w left right)
+passes_rule size Gt path r s w left right h l k =
+    passes-append right _ k (passes-last _ left (λ p q. scattered-formed (wrapped path (r * s) (ThomasBack r s (unit_of r s) (unit_of s r))) p (back_formed size path r s h) q) l)
+passes_rule size Ct path r s w left right h l k =
+    passes-append _ left (passes-last (multiplied path r s w) right (λ p q. multiplied-formed path r s w p (whole_positive size Ct path r s h) q) k) l
+passes_rule size Split path r s w left right h l k = passes-append right left k l
 
-passes_pick : (b : Bool) (ps qs : List PlainPass) → AreFormedPasses ps → AreFormedPasses qs → AreFormedPasses (if b then ps else qs)
-passes_pick true ps qs h k = h
-passes_pick false ps qs h k = k
+new-formed : (path : Path) (waiting : List Mapping) (w : PlainWork) → AreFormed waiting → IsFormedPass (new_pass path w waiting)
+new-formed path waiting w h = record { befores = h; afters = tt; multiplies = λ d e. absurd (none_is_some d e) }
 
-new-formed : (path : Path) (waiting : List Mapping) (t : Breakdown) → AreFormed waiting → IsFormedPass (new_pass path (transforming t) waiting)
-new-formed path waiting t h = record { befores = h; afters = tt; multiplies = λ d e. absurd (none_is_some d e) }
-
-pub formed_passes : (c : Request) (size : ℕ) (path : Path) (waiting : List Mapping) (t : Breakdown) → IsSize size → IsWellFormedTree c.kind t → size_under path (size_of t) ≡ size → AreFormed waiting →
-    AreFormedPasses (tree_passes c path waiting t)
-formed_passes c size path waiting (leaf d) whole h e w = (new-formed path waiting (leaf d) w, tt)
-formed_passes c size path waiting (node rule a b) whole h e w =
-    let r = size_of a in
-    let s = size_of b in
-    let here = rule_in c.kind size rule path a b whole h e in
-    passes_pick (is_kernel c (r * s)) _ _ (new-formed path waiting (node rule a b) w, tt)
-    (passes_rule c.kind size rule path r s _ _ here
-    (formed_passes c size (path ++ Columns s ∷ []) [] a whole h.1 (size_under-push path (Columns s) r ∙ e) tt)
-    (formed_passes c size (path ++ Blocks r ∷ []) (rule_waiting rule path r s waiting) b whole h.2 (size_under-push path (Blocks r) s ∙ e) (waiting_formed c.kind size rule path r s waiting here w)))
+pub formed_passes : (m size : ℕ) (path : Path) (waiting : List Mapping) (l : Layout) → IsSize size → IsGoodLayout m l → size_under path (layout_size l) ≡ size → AreFormed waiting →
+    AreFormedPasses (layout_passes path waiting l)
+formed_passes m size path waiting (work w) whole h e ws = (new-formed path waiting w ws, tt)
+formed_passes m size path waiting (by rule root a b) whole h e ws =
+    let r = layout_size a in
+    let s = layout_size b in
+    let here = rule_in m size rule root path a b whole h e in
+    passes_rule size rule path r s root _ _ here
+    (formed_passes m size (path ++ Columns s ∷ []) [] a whole h.1 (size_under-push path (Columns s) r ∙ e) tt)
+    (formed_passes m size (path ++ Blocks r ∷ []) (rule_waiting rule path r s waiting) b whole h.2 (size_under-push path (Blocks r) s ∙ e) (waiting_formed size rule path r s waiting here ws))

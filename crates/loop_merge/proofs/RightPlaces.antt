@@ -3,7 +3,6 @@ use Rattle.std.proofs.Common.{◌≡◌, ℕ, ◌+◌, ◌*◌, ◌/◌, ◌<◌
 use Rattle.std.specs.Prelude.{◌==◌}
 use Rattle.formula_lower.proofs.CanMerge.{several-of}
 use Rattle.index_fn.specs.Mapping.{Mapping}
-use Rattle.matrix_meaning.specs.declared.Request.{Request}
 use Rattle.passes.specs.Limits.{AreSeveral}
 use Rattle.perm_algebra.specs.Affine.{Sum, constant, variable}
 use Rattle.loop_merge.specs.Merge.{PlainPass}
@@ -14,14 +13,14 @@ use Rattle.loop_merge.proofs.PartRules.{IsSize}
 use Rattle.loop_merge.proofs.PlaceLimits.{Gathering, ArePlaced, placed-lift, placed_passes}
 use Rattle.loop_merge.proofs.RootPasses.{turned_waiting}
 use Rattle.loop_merge.proofs.RootShares.{AreShares, rows_some, lines_small, vectors_small}
-use Rattle.loop_merge.proofs.TreePasses.{tree_passes}
+use Rattle.loop_merge.proofs.TreePasses.{layout_passes}
 use Rattle.loop_merge.proofs.WithinPlaces.{size-all, natural-placed, natural-copies}
 use Rattle.sigma_lower.specs.Root.{right_path}
 use Rattle.smp_rewrite.proofs.Tensors.{within_all}
 use Rattle.tensor_paths.specs.declared.Tensor.{Tensor}
 use Rattle.tensor_paths.specs.declared.Tensor.TheVariants.{Blocks, Columns}
 use Rattle.tensor_paths.specs.Path.{Path, count_of, size_under}
-use Rattle.tree_model.specs.Breakdown.{Breakdown, size_of, IsWellFormed}
+use Rattle.steps.specs.Layout.{Layout, layout_size, IsGoodLayout}
 
 -- ---- tensors of more than one copy
 
@@ -75,7 +74,7 @@ lift-all size front (t ∷ back) n ps h =
     placed-lift size front t (size_under back n) ps (lift-all size (front ++ t ∷ []) back n ps (subst (λ path. ArePlaced size path n ps) (sym (append_assoc front (t ∷ []) back)) h))
 
 -- the right part's passes, where these gathers wait
-pub right_placed : (c : Request) (size : ℕ) (path : Path) (waiting : List Mapping) (b : Breakdown) → IsSize size → IsWellFormed c.kind b → size_under path (size_of b) ≡ size → Gathering size path waiting (size_of b) →
-    ArePlaced size [] size (tree_passes c path waiting b)
-right_placed c size path waiting b whole formed fills g =
-    subst (λ n. ArePlaced size [] n (tree_passes c path waiting b)) fills (lift-all size [] path (size_of b) _ (placed_passes c size path waiting b whole formed fills g))
+pub right_placed : (m size : ℕ) (path : Path) (waiting : List Mapping) (b : Layout) → IsSize size → IsGoodLayout m b → size_under path (layout_size b) ≡ size → Gathering size path waiting (layout_size b) →
+    ArePlaced size [] size (layout_passes path waiting b)
+right_placed m size path waiting b whole formed fills g =
+    subst (λ n. ArePlaced size [] n (layout_passes path waiting b)) fills (lift-all size [] path (layout_size b) _ (placed_passes m size path waiting b whole formed fills g))

@@ -1,17 +1,17 @@
--- Merging the terms of a shared tree makes its passes.
+-- Merging the terms of a shared layout makes its passes.
 use Rattle.std.proofs.Common.{◌≡◌, ℕ, ◌*◌, ◌/◌, ◌==◌, Bool, true, false, List, [], ◌∷◌, ◌++◌, refl, sym, ap, ap₂, ◌∙◌, if◌then◌else◌, append_assoc, subst}
 use Rattle.std.specs.Prelude.{map, None}
 use Rattle.std.specs.Option.{option_map}
 use Rattle.std.proofs.lemmas.List.{map-append, append-nil}
 use Rattle.index_fn.specs.Mapping.{Mapping, Same, Paired, Strided, ThomasIn, ThomasBack}
-use Rattle.matrix_meaning.specs.declared.Request.{Request}
+use Rattle.steps.specs.declared.target.Target.{Target}
 use Rattle.loop_merge.specs.Merge.{PlainPass, Merging, new_pass, scattered, multiplied, at_last, merge_term, merged, passes_of_terms}
 use Rattle.loop_merge.proofs.RootPasses.{turned_waiting, tile_before, tile_after, if_lanes, right_passes, on_all, if_dealt, left_diagonal, left_pass, left_passes, root_passes, RootPasses}
 use Rattle.loop_merge.proofs.TermOrder.{Ending, waits, settled, fresh, ending, CanFollow, Leads, AreInOrder, leads-append, steps_in_order}
-use Rattle.loop_merge.proofs.TreePasses.{tree_passes, IsFull, full-append, full-at_last, at_last-append, done, merged_tree}
+use Rattle.loop_merge.proofs.TreePasses.{layout_passes, IsFull, full-append, full-at_last, at_last-append, done, merged_tree}
 use Rattle.sigma_lower.specs.Root.{left_path, whole_path, right_path, tile_path, turned_in, tiled_before, tiled_after, lines_dealt, lines_moved, vectors_turned, vectors_grouped, left_core, left_terms, right_terms, root_terms}
 use Rattle.sigma_lower.specs.Term.{PlainTerm, gath, scat, diag, nest, lowered_core, lowered}
-use Rattle.sigma_lower.specs.Work.{PlainWork, transforming, tiling}
+use Rattle.passes.specs.Work.{PlainWork, tile}
 use Rattle.sigma_lower.proofs.RootTerms.{shared_terms}
 use Rattle.sigma_lower.specs.Wrapped.{wrapped, unit_of}
 use Rattle.steps.specs.Meaning.{core_size}
@@ -21,8 +21,7 @@ use Rattle.tensor_paths.specs.Path.{Path, grown, size_under}
 use Rattle.tensor_paths.proofs.Under.{size_under-push}
 use Rattle.tree_model.specs.declared.tree.Rule.{Rule}
 use Rattle.tree_model.specs.declared.tree.Rule.TheVariants.{Gt, Ct, Split}
-use Rattle.tree_model.specs.Breakdown.{Breakdown, leaf, node, size_of}
-use Rattle.tree_model.specs.Cost.{is_kernel}
+use Rattle.steps.specs.Layout.{Layout, work, by, layout_size}
 
 -- ---- merging behind passes that are there
 
@@ -45,14 +44,14 @@ behind-term ps e (gath f) st follows full = refl
 behind-term ps e (nest path w) st follows full = ap (λ qs. record { waiting = []; passes = qs }) (append_assoc ps st.passes (new_pass path w st.waiting ∷ []))
 behind-term ps e (scat f) st follows full =
     ap (λ qs. record { waiting = st.waiting; passes = qs }) (at_last-append (scattered f) ps st.passes (subst (λ z. HasLast z st) follows full))
-behind-term ps e (diag path r s) st follows full =
-    ap (λ qs. record { waiting = st.waiting; passes = qs }) (at_last-append (multiplied path r s) ps st.passes (subst (λ z. HasLast z st) follows full))
+behind-term ps e (diag path r s w) st follows full =
+    ap (λ qs. record { waiting = st.waiting; passes = qs }) (at_last-append (multiplied path r s w) ps st.passes (subst (λ z. HasLast z st) follows full))
 
 last-term : (e : Ending) (t : PlainTerm) (st : Merging) → CanFollow e t → HasLast e st → HasLast (ending t) (merge_term st t)
 last-term e (gath f) st follows full = tt
 last-term e (nest path w) st follows full = full-append st.passes (new_pass path w st.waiting ∷ []) tt
 last-term e (scat f) st follows full = full-at_last (scattered f) st.passes (subst (λ z. HasLast z st) follows full)
-last-term e (diag path r s) st follows full = tt
+last-term e (diag path r s w) st follows full = tt
 
 merged-behind : (ps : List PlainPass) (e f : Ending) (ts : List PlainTerm) (st : Merging) → Leads e ts f → HasLast e st → merged (behind ps st) ts ≡ behind ps (merged st ts)
 merged-behind ps e f [] st leads full = refl
@@ -70,22 +69,18 @@ sized-append : (m : ℕ) (ss ts : List PlainStep) → AreSized m ss → AreSized
 sized-append m [] ts h k = k
 sized-append m (s ∷ ss) ts h k = (h.0, sized-append m ss ts h.1 k)
 
-sized_rule : (m : ℕ) (rule : Rule) (path : Path) (r s : ℕ) (left right : List PlainStep) → size_under path (r * s) ≡ m → AreSized m left → AreSized m right → AreSized m (rule_steps rule path r s left right)
-sized_rule m Gt path r s left right e h k = (e, sized-append m right (left ++ step path (thomas_out r s) ∷ []) k (sized-append m left (step path (thomas_out r s) ∷ []) h (e, tt)))
-sized_rule m Ct path r s left right e h k = (e, sized-append m right (step path (twiddles r s) ∷ left) k (e, h))
-sized_rule m Split path r s left right e h k = sized-append m right left k h
+sized_rule : (m : ℕ) (rule : Rule) (path : Path) (r s w : ℕ) (left right : List PlainStep) → size_under path (r * s) ≡ m → AreSized m left → AreSized m right → AreSized m (rule_steps rule path r s w left right)
+sized_rule m Gt path r s w left right e h k = (e, sized-append m right (left ++ step path (thomas_out r s) ∷ []) k (sized-append m left (step path (thomas_out r s) ∷ []) h (e, tt)))
+sized_rule m Ct path r s w left right e h k = (e, sized-append m right (step path (twiddles r s w) ∷ left) k (e, h))
+sized_rule m Split path r s w left right e h k = sized-append m right left k h
 
-sized_pick : (m : ℕ) (b : Bool) (ss ts : List PlainStep) → AreSized m ss → AreSized m ts → AreSized m (if b then ss else ts)
-sized_pick m true ss ts h k = h
-sized_pick m false ss ts h k = k
-
-sized_steps : (c : Request) (m : ℕ) (path : Path) (t : Breakdown) → size_under path (size_of t) ≡ m → AreSized m (steps_of c path t)
-sized_steps c m path (leaf d) e = (e, tt)
-sized_steps c m path (node rule a b) e =
-    let r = size_of a in
-    let s = size_of b in
-    sized_pick m (is_kernel c (r * s)) _ _ (e, tt)
-    (sized_rule m rule path r s _ _ e (sized_steps c m (path ++ Columns s ∷ []) a (size_under-push path (Columns s) r ∙ e)) (sized_steps c m (path ++ Blocks r ∷ []) b (size_under-push path (Blocks r) s ∙ e)))
+sized_steps : (m : ℕ) (path : Path) (l : Layout) → size_under path (layout_size l) ≡ m → AreSized m (steps_of path l)
+sized_steps m path (work w) e = (e, tt)
+sized_steps m path (by rule root a b) e =
+    let r = layout_size a in
+    let s = layout_size b in
+    sized_rule m rule path r s root _ _ e (sized_steps m (path ++ Columns s ∷ []) a (size_under-push path (Columns s) r ∙ e))
+    (sized_steps m (path ++ Blocks r ∷ []) b (size_under-push path (Blocks r) s ∙ e))
 
 size_under-append : (outer inner : Path) (n : ℕ) → size_under (outer ++ inner) n ≡ size_under outer (size_under inner n)
 size_under-append [] inner n = refl
@@ -123,13 +118,13 @@ merged-piece true into out path w waiting ps = refl
 merged-piece false into out path w waiting ps = ap done (at_last-append (scattered out) ps (new_pass path w (into ∷ waiting) ∷ []) tt)
 
 merged-left_core : (p v m s : ℕ) (path : Path) (k : PlainCore) (st : Merging) → size_under path (core_size k) ≡ m → merged (lifted p v m s st) (left_core p v m s path k) ≡ lifted p v m s (merge_term st (lowered_core path k))
-merged-left_core p v m s path (piece t) st e =
-    merged-piece (p == 1) (lines_dealt (p * m) p v m s) (lines_dealt (m * p) p v m s) (left_path p v s ++ path) (transforming t) (map (on_all v m s) st.waiting) (map (left_pass p v m s) st.passes)
-    ∙ ap done (sym (map-append (left_pass p v m s) st.passes (new_pass path (transforming t) st.waiting ∷ [])))
+merged-left_core p v m s path (piece w) st e =
+    merged-piece (p == 1) (lines_dealt (p * m) p v m s) (lines_dealt (m * p) p v m s) (left_path p v s ++ path) w (map (on_all v m s) st.waiting) (map (left_pass p v m s) st.passes)
+    ∙ ap done (sym (map-append (left_pass p v m s) st.passes (new_pass path w st.waiting ∷ [])))
 merged-left_core p v m s path (turns a b) st e =
     ap (λ f. record { waiting = f ∷ map (on_all v m s) st.waiting; passes = map (left_pass p v m s) st.passes }) (under-all v m s path (a * b) (Strided a b) e)
-merged-left_core p v m s path (twiddles a b) st e =
-    ap (λ qs. record { waiting = map (on_all v m s) st.waiting; passes = qs }) (map-last (left_pass p v m s) (multiplied path a b) (multiplied (Columns s ∷ path) a b) st.passes (λ q. refl))
+merged-left_core p v m s path (twiddles a b w) st e =
+    ap (λ qs. record { waiting = map (on_all v m s) st.waiting; passes = qs }) (map-last (left_pass p v m s) (multiplied path a b w) (multiplied (Columns s ∷ path) a b w) st.passes (λ q. refl))
 merged-left_core p v m s path (thomas_in a b) st e =
     ap (λ f. record { waiting = f ∷ map (on_all v m s) st.waiting; passes = map (left_pass p v m s) st.passes }) (under-all v m s path (a * b) (ThomasIn a b) e)
 merged-left_core p v m s path (thomas_out a b) st e =
@@ -145,9 +140,9 @@ merged-left p v m s (e ∷ ss) st h =
     ∙ ap (λ z. merged z (left_terms p v m s ss)) (merged-left_core p v m s e.path e.core st h.0)
     ∙ merged-left p v m s ss (merge_term st (lowered e)) h.1
 
-merged-left_part : (c : Request) (p v s : ℕ) (a : Breakdown) → merged (done []) (left_terms p v (size_of a) s (steps_of c [] a)) ≡ done (left_passes c p v s a)
-merged-left_part c p v s a =
-    merged-left p v (size_of a) s (steps_of c [] a) (done []) (sized_steps c (size_of a) [] a refl) ∙ ap (lifted p v (size_of a) s) (merged_tree c [] a (done []))
+merged-left_part : (p v s : ℕ) (a : Layout) → merged (done []) (left_terms p v (layout_size a) s (steps_of [] a)) ≡ done (left_passes p v s a)
+merged-left_part p v s a =
+    merged-left p v (layout_size a) s (steps_of [] a) (done []) (sized_steps (layout_size a) [] a refl) ∙ ap (lifted p v (layout_size a) s) (merged_tree [] a (done []))
 
 -- ---- the right part
 
@@ -164,33 +159,33 @@ merged-first_tile : (b : Bool) (path : Path) (w : PlainWork) (f : Mapping) → m
 merged-first_tile true path w f = refl
 merged-first_tile false path w f = refl
 
-merged-right : (c : Request) (p v : ℕ) (rule : Rule) (a b : Breakdown) → merged (done []) (right_terms c p v rule a b) ≡ done (right_passes c p v rule a b)
-merged-right c p v Gt a b = refl
-merged-right c p v Ct a b =
-    let r = size_of a in
-    let s = size_of b in
-    let tile = tiled_after p v r s in
-    let steps = map lowered (steps_of c (right_path p v r) b) in
-    let last = diag [] r s ∷ [] in
-    let inner = tree_passes c (right_path p v r) (turned_waiting p v r s) b in
-    terms-append (done []) (turned_in p v r s) (steps ++ (tile ++ last))
-    ∙ ap (λ z. merged z (steps ++ (tile ++ last))) (merged-turned (p == 1) (lines_moved p v r s) (vectors_turned p v r s))
-    ∙ terms-append (record { waiting = turned_waiting p v r s; passes = [] }) steps (tile ++ last)
-    ∙ ap (λ z. merged z (tile ++ last)) (merged_tree c (right_path p v r) b (record { waiting = turned_waiting p v r s; passes = [] }))
-    ∙ terms-append (done inner) tile last
-    ∙ ap (λ z. merged z last) (merged-tile (v == 1) (tile_path p v r s) (tiling v) (vectors_grouped (v * (s / v)) p v r s) inner)
-merged-right c p v Split a b =
-    let r = size_of a in
-    let s = size_of b in
-    let tile = tiled_after p v r s in
-    let steps = map lowered (steps_of c (right_path p v r) b) in
+merged-right : (p v : ℕ) (rule : Rule) (w : ℕ) (a b : Layout) → merged (done []) (right_terms p v rule w a b) ≡ done (right_passes p v rule w a b)
+merged-right p v Gt w a b = refl
+merged-right p v Ct w a b =
+    let r = layout_size a in
+    let s = layout_size b in
+    let after = tiled_after p v r s in
+    let steps = map lowered (steps_of (right_path p v r) b) in
+    let last = diag [] r s w ∷ [] in
+    let inner = layout_passes (right_path p v r) (turned_waiting p v r s) b in
+    terms-append (done []) (turned_in p v r s) (steps ++ (after ++ last))
+    ∙ ap (λ z. merged z (steps ++ (after ++ last))) (merged-turned (p == 1) (lines_moved p v r s) (vectors_turned p v r s))
+    ∙ terms-append (record { waiting = turned_waiting p v r s; passes = [] }) steps (after ++ last)
+    ∙ ap (λ z. merged z (after ++ last)) (merged_tree (right_path p v r) b (record { waiting = turned_waiting p v r s; passes = [] }))
+    ∙ terms-append (done inner) after last
+    ∙ ap (λ z. merged z last) (merged-tile (v == 1) (tile_path p v r s) (tile v) (vectors_grouped (v * (s / v)) p v r s) inner)
+merged-right p v Split w a b =
+    let r = layout_size a in
+    let s = layout_size b in
+    let after = tiled_after p v r s in
+    let steps = map lowered (steps_of (right_path p v r) b) in
     let before = if_lanes v (tile_before p v r s) in
-    let inner = tree_passes c (right_path p v r) [] b in
-    terms-append (done []) (tiled_before p v r s) (steps ++ tile)
-    ∙ ap (λ z. merged z (steps ++ tile)) (merged-first_tile (v == 1) (tile_path p v r s) (tiling v) (vectors_grouped (s / v * v) p v r s))
-    ∙ terms-append (done before) steps tile
-    ∙ ap (λ z. merged z tile) (merged_tree c (right_path p v r) b (done before))
-    ∙ merged-tile (v == 1) (tile_path p v r s) (tiling v) (vectors_grouped (v * (s / v)) p v r s) (before ++ inner)
+    let inner = layout_passes (right_path p v r) [] b in
+    terms-append (done []) (tiled_before p v r s) (steps ++ after)
+    ∙ ap (λ z. merged z (steps ++ after)) (merged-first_tile (v == 1) (tile_path p v r s) (tile v) (vectors_grouped (s / v * v) p v r s))
+    ∙ terms-append (done before) steps after
+    ∙ ap (λ z. merged z after) (merged_tree (right_path p v r) b (done before))
+    ∙ merged-tile (v == 1) (tile_path p v r s) (tile v) (vectors_grouped (v * (s / v)) p v r s) (before ++ inner)
     ∙ ap done (append_assoc before inner (if_lanes v (tile_after p v r s)))
 
 -- ---- the order of the terms
@@ -200,9 +195,9 @@ leads_piece true e into out path w = (tt, refl)
 leads_piece false e into out path w = (tt, (tt, (refl, refl)))
 
 leads_core : (p v m s : ℕ) (e : Ending) (path : Path) (k : PlainCore) → CanFollow e (lowered_core path k) → Leads e (left_core p v m s path k) (ending (lowered_core path k))
-leads_core p v m s e path (piece t) h = leads_piece (p == 1) e _ _ _ _
+leads_core p v m s e path (piece w) h = leads_piece (p == 1) e _ _ _ _
 leads_core p v m s e path (turns a b) h = (h, refl)
-leads_core p v m s e path (twiddles a b) h = (h, refl)
+leads_core p v m s e path (twiddles a b w) h = (h, refl)
 leads_core p v m s e path (thomas_in a b) h = (h, refl)
 leads_core p v m s e path (thomas_out a b) h = (h, refl)
 
@@ -211,33 +206,33 @@ leads_left p v m s e f [] h = h
 leads_left p v m s e f (t ∷ ss) h =
     leads-append e (ending (lowered t)) f (left_core p v m s t.path t.core) (left_terms p v m s ss) (leads_core p v m s e t.path t.core h.0) (leads_left p v m s (ending (lowered t)) f ss h.1)
 
-pub left_leads : (c : Request) (p v s : ℕ) (a : Breakdown) → AreInOrder (left_terms p v (size_of a) s (steps_of c [] a))
-left_leads c p v s a e = leads_left p v (size_of a) s e fresh (steps_of c [] a) (steps_in_order c [] a e)
+pub left_leads : (p v s : ℕ) (a : Layout) → AreInOrder (left_terms p v (layout_size a) s (steps_of [] a))
+left_leads p v s a e = leads_left p v (layout_size a) s e fresh (steps_of [] a) (steps_in_order [] a e)
 
 -- ---- the root
 
-merged-both : (c : Request) (p v : ℕ) (rule : Rule) (a b : Breakdown) →
-    merged (done []) (right_terms c p v rule a b ++ left_terms p v (size_of a) (size_of b) (steps_of c [] a)) ≡ done (right_passes c p v rule a b ++ left_passes c p v (size_of b) a)
-merged-both c p v rule a b =
-    let first = right_passes c p v rule a b in
-    let second = left_terms p v (size_of a) (size_of b) (steps_of c [] a) in
-    terms-append (done []) (right_terms c p v rule a b) second
-    ∙ ap (λ z. merged z second) (merged-right c p v rule a b ∙ ap done (sym (append-nil first)))
-    ∙ merged-behind first settled fresh second (done []) (left_leads c p v (size_of b) a settled) tt
-    ∙ ap (behind first) (merged-left_part c p v (size_of b) a)
+merged-both : (p v : ℕ) (rule : Rule) (w : ℕ) (a b : Layout) →
+    merged (done []) (right_terms p v rule w a b ++ left_terms p v (layout_size a) (layout_size b) (steps_of [] a)) ≡ done (right_passes p v rule w a b ++ left_passes p v (layout_size b) a)
+merged-both p v rule w a b =
+    let first = right_passes p v rule w a b in
+    let second = left_terms p v (layout_size a) (layout_size b) (steps_of [] a) in
+    terms-append (done []) (right_terms p v rule w a b) second
+    ∙ ap (λ z. merged z second) (merged-right p v rule w a b ∙ ap done (sym (append-nil first)))
+    ∙ merged-behind first settled fresh second (done []) (left_leads p v (layout_size b) a settled) tt
+    ∙ ap (behind first) (merged-left_part p v (layout_size b) a)
 
 passes-phases : (b : Bool) (first second : List PlainTerm) (right left : List PlainPass) → merged (done []) first ≡ done right → merged (done []) second ≡ done left → merged (done []) (first ++ second) ≡ done (right ++ left) →
     map passes_of_terms (if b then (first ++ second) ∷ [] else first ∷ second ∷ []) ≡ (if b then (right ++ left) ∷ [] else right ∷ left ∷ [])
 passes-phases true first second right left h k both = ap (λ (z : Merging). z.passes ∷ []) both
 passes-phases false first second right left h k both = ap₂ (λ (y z : Merging). y.passes ∷ z.passes ∷ []) h k
 
-pub passes-root : (c : Request) (t : Breakdown) → map passes_of_terms (root_terms c t) ≡ root_passes c t
-passes-root c (leaf d) = refl
-passes-root c (node rule a b) =
+pub passes-root : (c : Target) (l : Layout) → map passes_of_terms (root_terms c l) ≡ root_passes c l
+passes-root c (work w) = refl
+passes-root c (by rule w a b) =
     let p = c.procs in
     let v = c.lanes in
-    passes-phases (p == 1) (right_terms c p v rule a b) (left_terms p v (size_of a) (size_of b) (steps_of c [] a)) (right_passes c p v rule a b) (left_passes c p v (size_of b) a)
-    (merged-right c p v rule a b) (merged-left_part c p v (size_of b) a) (merged-both c p v rule a b)
+    passes-phases (p == 1) (right_terms p v rule w a b) (left_terms p v (layout_size a) (layout_size b) (steps_of [] a)) (right_passes p v rule w a b) (left_passes p v (layout_size b) a)
+    (merged-right p v rule w a b) (merged-left_part p v (layout_size b) a) (merged-both p v rule w a b)
 
 pub root_merged : RootPasses
-root_merged c t valid h shared = ap (map passes_of_terms) (shared_terms c t valid h shared) ∙ passes-root c t
+root_merged c l shares good shared = ap (map passes_of_terms) (shared_terms c l shares good shared) ∙ passes-root c l

@@ -1,21 +1,20 @@
--- The passes of a tree that several processors or lanes share, written out from its root: those of the right part and of the left part, and the tiles beside them.
+-- The passes of a layout that several processors or lanes share, written out from its root: those of the right part and of the left part, and the tiles beside them.
 use Rattle.std.proofs.Common.{◌≡◌, ℕ, ◌*◌, ◌/◌, ◌==◌, false, List, [], ◌∷◌, ◌++◌, if◌then◌else◌}
 use Rattle.std.specs.Prelude.{map}
 use Rattle.std.specs.Option.{option_map}
 use Rattle.index_fn.specs.Mapping.{Mapping}
-use Rattle.matrix_meaning.specs.declared.Request.{Request}
-use Rattle.matrix_meaning.specs.Valid.{IsValid}
+use Rattle.steps.specs.declared.target.Target.{Target}
 use Rattle.loop_merge.specs.Merge.{PlainDiagonal, PlainPass, new_pass, scattered, multiplied, at_last, merged_phases}
-use Rattle.loop_merge.proofs.TreePasses.{tree_passes}
+use Rattle.loop_merge.proofs.TreePasses.{layout_passes}
 use Rattle.sigma_lower.specs.Root.{right_path, left_path, whole_path, tile_path, lines_moved, vectors_turned, vectors_grouped, lines_dealt}
-use Rattle.sigma_lower.specs.Work.{tiling}
+use Rattle.passes.specs.Work.{tile}
 use Rattle.sigma_lower.specs.Wrapped.{wrapped}
 use Rattle.tensor_paths.specs.declared.Tensor.TheVariants.{Columns}
 use Rattle.tree_model.specs.declared.tree.Rule.{Rule}
 use Rattle.tree_model.specs.declared.tree.Rule.TheVariants.{Gt, Ct, Split}
-use Rattle.tree_model.specs.Admissible.{IsAdmissible}
-use Rattle.tree_model.specs.Breakdown.{Breakdown, leaf, node, size_of}
-use Rattle.tree_model.specs.Cost.{is_plain}
+use Rattle.smp_rewrite.specs.Fits.{CanShareLayout}
+use Rattle.steps.specs.Layout.{Layout, work, by, layout_size, IsGoodLayout}
+use Rattle.steps.specs.Targets.{is_alone}
 
 -- ---- the right part, for p processors and v lanes, of a root of r * s
 
@@ -25,22 +24,22 @@ turned_waiting p v r s = vectors_turned p v r s ∷ (if p == 1 then [] else line
 
 -- the passes over tiles: one before the right part of a split, and one after that of a ct or a split
 abbrev pub tile_before : ℕ → ℕ → ℕ → ℕ → PlainPass
-tile_before p v r s = new_pass (tile_path p v r s) (tiling v) (vectors_grouped (s / v * v) p v r s ∷ [])
+tile_before p v r s = new_pass (tile_path p v r s) (tile v) (vectors_grouped (s / v * v) p v r s ∷ [])
 
 abbrev pub tile_after : ℕ → ℕ → ℕ → ℕ → PlainPass
-tile_after p v r s = scattered (vectors_grouped (v * (s / v)) p v r s) (new_pass (tile_path p v r s) (tiling v) [])
+tile_after p v r s = scattered (vectors_grouped (v * (s / v)) p v r s) (new_pass (tile_path p v r s) (tile v) [])
 
 -- none on one lane
 abbrev pub if_lanes : ℕ → PlainPass → List PlainPass
-if_lanes v tile = if v == 1 then [] else tile ∷ []
+if_lanes v p = if v == 1 then [] else p ∷ []
 
-abbrev pub right_passes : Request → ℕ → ℕ → Rule → Breakdown → Breakdown → List PlainPass
-right_passes c p v Gt a b = []
-right_passes c p v Ct a b =
-    at_last (multiplied [] (size_of a) (size_of b))
-    (tree_passes c (right_path p v (size_of a)) (turned_waiting p v (size_of a) (size_of b)) b ++ if_lanes v (tile_after p v (size_of a) (size_of b)))
-right_passes c p v Split a b =
-    if_lanes v (tile_before p v (size_of a) (size_of b)) ++ (tree_passes c (right_path p v (size_of a)) [] b ++ if_lanes v (tile_after p v (size_of a) (size_of b)))
+abbrev pub right_passes : ℕ → ℕ → Rule → ℕ → Layout → Layout → List PlainPass
+right_passes p v Gt w a b = []
+right_passes p v Ct w a b =
+    at_last (multiplied [] (layout_size a) (layout_size b) w)
+    (layout_passes (right_path p v (layout_size a)) (turned_waiting p v (layout_size a) (layout_size b)) b ++ if_lanes v (tile_after p v (layout_size a) (layout_size b)))
+right_passes p v Split w a b =
+    if_lanes v (tile_before p v (layout_size a) (layout_size b)) ++ (layout_passes (right_path p v (layout_size a)) [] b ++ if_lanes v (tile_after p v (layout_size a) (layout_size b)))
 
 -- ---- the left part, of m * s words: s copies of a matrix of m words
 
@@ -53,7 +52,7 @@ abbrev pub if_dealt : ℕ → ℕ → ℕ → ℕ → ℕ → List Mapping
 if_dealt size p v m s = if p == 1 then [] else lines_dealt size p v m s ∷ []
 
 abbrev pub left_diagonal : ℕ → ℕ → ℕ → ℕ → PlainDiagonal → PlainDiagonal
-left_diagonal p v m s d = record { path = Columns s ∷ d.path; rows = d.rows; cols = d.cols; places = if_dealt (m * p) p v m s ++ map (on_all v m s) d.places }
+left_diagonal p v m s d = record { path = Columns s ∷ d.path; rows = d.rows; cols = d.cols; root = d.root; places = if_dealt (m * p) p v m s ++ map (on_all v m s) d.places }
 
 -- a pass of the left part alone, as the root's pass over all s copies
 abbrev pub left_pass : ℕ → ℕ → ℕ → ℕ → PlainPass → PlainPass
@@ -66,8 +65,8 @@ left_pass p v m s q =
       afters = if_dealt (m * p) p v m s ++ map (on_all v m s) q.afters;
     }
 
-abbrev pub left_passes : Request → ℕ → ℕ → ℕ → Breakdown → List PlainPass
-left_passes c p v s a = map (left_pass p v (size_of a) s) (tree_passes c [] [] a)
+abbrev pub left_passes : ℕ → ℕ → ℕ → Layout → List PlainPass
+left_passes p v s a = map (left_pass p v (layout_size a) s) (layout_passes [] [] a)
 
 -- ---- the root
 
@@ -75,10 +74,10 @@ left_passes c p v s a = map (left_pass p v (size_of a) s) (tree_passes c [] [] a
 abbrev pub pass_phases : ℕ → List PlainPass → List PlainPass → List (List PlainPass)
 pass_phases p right left = if p == 1 then (right ++ left) ∷ [] else right ∷ left ∷ []
 
-abbrev pub root_passes : Request → Breakdown → List (List PlainPass)
-root_passes c (leaf d) = []
-root_passes c (node rule a b) = pass_phases c.procs (right_passes c c.procs c.lanes rule a b) (left_passes c c.procs c.lanes (size_of b) a)
+abbrev pub root_passes : Target → Layout → List (List PlainPass)
+root_passes c (work w) = []
+root_passes c (by rule root a b) = pass_phases c.procs (right_passes c.procs c.lanes rule root a b) (left_passes c.procs c.lanes (layout_size b) a)
 
--- the passes of a tree that is shared are these
+-- the passes of a layout that is shared are these
 abbrev pub RootPasses : Type 0
-RootPasses = (c : Request) (t : Breakdown) → IsValid c → IsAdmissible c t → is_plain c ≡ false → merged_phases c t ≡ root_passes c t
+RootPasses = (c : Target) (l : Layout) → CanShareLayout c l → IsGoodLayout c.modulus l → is_alone c ≡ false → merged_phases c l ≡ root_passes c l

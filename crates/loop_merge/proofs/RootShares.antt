@@ -1,13 +1,13 @@
 -- The numbers of a root of r * s that p processors and v lanes share.
 use Rattle.std.proofs.Common.{◌≡◌, ℕ, ◌*◌, ◌/◌, ◌<◌, ◌≤◌, arith, sym, ap, ◌∙◌, mul_comm, le-mul_of_pos_right}
 use Rattle.std.proofs.Math.Nat.{mul-div_cancel_left, mul-le-mul_left, mul-le-mul_right}
-use Rattle.matrix_meaning.specs.declared.Request.{Request}
-use Rattle.matrix_meaning.specs.Valid.{IsValid}
+use Rattle.steps.specs.declared.target.Target.{Target}
+use Rattle.smp_rewrite.specs.Fits.{CanShareLayout, HasParts}
+use Rattle.steps.specs.Layout.{Layout}
 use Rattle.perm_algebra.proofs.Sizes.{positive-product}
 use Rattle.loop_merge.proofs.PartRules.{IsSize}
 use Rattle.loop_merge.proofs.RootDealt.{dealt_parts}
 use Rattle.loop_merge.proofs.PlaceValues.{right_positive}
-use Rattle.tree_model.specs.Admissible.{Fits}
 
 -- each processor and each lane has as many rows, and as many columns
 pub record AreShares (size p v r s : ℕ) : Type 0 where
@@ -20,20 +20,20 @@ pub record AreShares (size p v r s : ℕ) : Type 0 where
   pub product : r * s ≡ size
   pub whole : IsSize size
 
--- ---- from a valid request
+-- ---- from a layout that can be shared
 
-pub shares_of : (c : Request) (r s : ℕ) → IsValid c → Fits c r s → AreShares c.size c.procs c.lanes r s
-shares_of c r s valid h =
-    let dealt = dealt_parts c r s valid h in
+pub shares_of : (c : Target) (l : Layout) (r s : ℕ) → CanShareLayout c l → HasParts c r s → 2 ≤ r → 2 ≤ s → r * s ≡ c.size → AreShares c.size c.procs c.lanes r s
+shares_of c l r s h parts two_r two_s product =
+    let dealt = dealt_parts c l r s h parts in
     record {
-      procs = valid.in_range.procs.0;
-      lanes = valid.in_range.lanes.0;
+      procs = h.procs;
+      lanes = h.lanes;
       rows = sym dealt.0;
       columns = sym dealt.1;
-      left = h.left;
-      right = h.right;
-      product = h.product;
-      whole = record { low = valid.in_range.size.0; high = valid.in_range.size.1 };
+      left = two_r;
+      right = two_s;
+      product = product;
+      whole = record { low = h.some; high = h.small };
     }
 
 -- ---- what follows

@@ -2,7 +2,7 @@
 use Rattle.std.proofs.Common.{◌≡◌, ℕ, ◌+◌, ◌*◌, ◌/◌, ◌<◌, arith, sym, ap, ◌∙◌, List, [], ◌∷◌, ◌++◌, if◌then◌else◌, subst}
 use Rattle.std.specs.Prelude.{◌==◌, Option, Some}
 use Rattle.index_fn.specs.Mapping.{Mapping, Same}
-use Rattle.matrix_meaning.specs.declared.Request.{Request}
+use Rattle.steps.specs.declared.target.Target.{Target}
 use Rattle.passes.specs.Limits.{AreSeveral}
 use Rattle.perm_algebra.specs.Affine.{Sum, constant, variable}
 use Rattle.loop_merge.specs.Merge.{PlainDiagonal, PlainPass}
@@ -14,7 +14,7 @@ use Rattle.loop_merge.proofs.RootShares.{AreShares, rows_some, tiles_fill, tiles
 use Rattle.loop_merge.proofs.Staying.{StaysIn, carried-end, carried-push}
 use Rattle.loop_merge.proofs.WithinPlaces.{size-all, natural-placed, natural-copies}
 use Rattle.sigma_lower.specs.Root.{tile_path, vectors_grouped}
-use Rattle.sigma_lower.specs.Work.{tiling}
+use Rattle.passes.specs.Work.{tile}
 use Rattle.tensor_paths.specs.declared.Tensor.TheVariants.{Blocks}
 use Rattle.tensor_paths.specs.Path.{Path, size_under}
 
@@ -56,10 +56,10 @@ module _ (size p v r s : ℕ) (h : AreShares size p v r s) where
 
   -- a pass over tiles with such functions, and with the diagonal of the root after it or none
   abbrev pub tile_with : List Mapping → Option PlainDiagonal → List Mapping → PlainPass
-  tile_with befores diagonal afters = record { path = tile_path p v r s; work = tiling v; befores = befores; diagonal = diagonal; afters = afters }
+  tile_with befores diagonal afters = record { path = tile_path p v r s; work = tile v; befores = befores; diagonal = diagonal; afters = afters }
 
-  pub tile_limited : (c : Request) (befores afters : List Mapping) (diagonal : Option PlainDiagonal) → c.size ≡ size → KeepWithin befores → KeepWithin afters →
-      ((d : PlainDiagonal) → diagonal ≡ Some d → record { path = []; rows = r; cols = s; places = afters } ≡ d) → IsLimitedPass c (tile_with befores diagonal afters)
+  pub tile_limited : (c : Target) (befores afters : List Mapping) (diagonal : Option PlainDiagonal) → c.size ≡ size → KeepWithin befores → KeepWithin afters →
+      ((d : PlainDiagonal) → diagonal ≡ Some d → (w : ℕ) × (record { path = []; rows = r; cols = s; root = w; places = afters } ≡ d)) → IsLimitedPass c (tile_with befores diagonal afters)
   tile_limited c befores afters diagonal sized before after root cs e counts fits (k, is) =
       let n : ℕ = v * v in
       let below : k < n = omega (arith, (subst (λ z. Fits n z cs) is fits).small) in
@@ -71,7 +71,7 @@ module _ (size p v r s : ℕ) (h : AreShares size p v r s) where
         loads = subst (λ m. IsCarried cs m m befores from) (sym sized) one;
         stores = subst (λ m. IsCarried cs m m afters from) (sym sized) other;
         factors = λ d e.
-            subst (λ x. IsCarried cs c.size (x.rows * x.cols) (diagonal_places x) from) (root d e)
+            subst (λ x. IsCarried cs c.size (x.rows * x.cols) (diagonal_places x) from) (root d e).1
             (subst (λ m. IsCarried cs m (r * s) (afters ++ Same ∷ []) from) (sym sized)
             (carried-push cs size (r * s) afters Same from other tt (subst (λ m. Fits m (all_simplified cs afters from) cs) (sym h.product) (carried-end cs size size afters from other))));
       })

@@ -1,22 +1,29 @@
--- The places of all passes of a tree.
+-- The places of all passes of a layout.
 use Rattle.std.proofs.Common.{◌≡◌, Bool, true, false, refl, sym, subst}
-use Rattle.matrix_meaning.specs.declared.Request.{Request}
-use Rattle.matrix_meaning.specs.Valid.{IsValid}
 use Rattle.loop_merge.specs.Merge.{in_order, merged_of}
 use Rattle.loop_merge.specs.Placed.{PlacesAreLimited}
 use Rattle.loop_merge.proofs.GoodPlaces.{HaveGoodPlaces, plain_good}
 use Rattle.loop_merge.proofs.RootMerging.{root_merged}
 use Rattle.loop_merge.proofs.RootPlaces.{root_good}
-use Rattle.tree_model.specs.Admissible.{IsAdmissible}
-use Rattle.tree_model.specs.Breakdown.{Breakdown}
-use Rattle.tree_model.specs.Cost.{is_plain}
+use Rattle.loop_merge.proofs.Shaped.{HasWorks, IsShapedWork, shaped_works}
+use Rattle.passes.specs.Work.{PlainWork, tile}
+use Rattle.smp_rewrite.specs.Fits.{CanShareLayout}
+use Rattle.steps.specs.Layout.{Layout, IsGoodLayout}
+use Rattle.steps.specs.Targets.{is_alone}
+use Rattle.steps.specs.declared.target.Target.{Target}
 
-good_either : (c : Request) (t : Breakdown) → IsValid c → IsAdmissible c t → (b : Bool) → is_plain c ≡ b → HaveGoodPlaces c (merged_of c t)
-good_either c t valid h true plain = plain_good c t valid h plain
-good_either c t valid h false shared = subst (λ phases. HaveGoodPlaces c (in_order phases)) (sym (root_merged c t valid h shared)) (root_good c t valid h shared)
+good_either : (c : Target) (P : PlainWork → Type 0) (l : Layout) → CanShareLayout c l → IsGoodLayout c.modulus l → HasWorks P l → P (tile c.lanes) → (b : Bool) → is_alone c ≡ b →
+    HaveGoodPlaces c P (merged_of c l)
+good_either c P l shares good all over true plain = plain_good c P l shares good all plain
+good_either c P l shares good all over false shared =
+    subst (λ phases. HaveGoodPlaces c P (in_order phases)) (sym (root_merged c l shares good shared)) (root_good c P l shares good all over shared)
 
-pub tree_good_places : (c : Request) (t : Breakdown) → IsValid c → IsAdmissible c t → HaveGoodPlaces c (merged_of c t)
-tree_good_places c t valid h = good_either c t valid h (is_plain c) refl
+-- where P holds of the works of the layout, and of tiles
+pub good_places : (c : Target) (P : PlainWork → Type 0) (l : Layout) → CanShareLayout c l → IsGoodLayout c.modulus l → HasWorks P l → P (tile c.lanes) → HaveGoodPlaces c P (merged_of c l)
+good_places c P l shares good all over = good_either c P l shares good all over (is_alone c) refl
+
+pub tree_good_places : (c : Target) (l : Layout) → CanShareLayout c l → IsGoodLayout c.modulus l → HaveGoodPlaces c (IsShapedWork c.modulus) (merged_of c l)
+tree_good_places c l shares good = good_places c (IsShapedWork c.modulus) l shares good (shaped_works c.modulus l good) tt
 
 pub places_are_limited : PlacesAreLimited
-places_are_limited c t valid h = (tree_good_places c t valid h).limited
+places_are_limited c l machine shares good = (tree_good_places c l shares good).limited

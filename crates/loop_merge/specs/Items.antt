@@ -1,20 +1,17 @@
 -- The items of a pass and its variables.
 use Rattle.std.specs.Prelude.{ℕ, ◌+◌, ◌*◌, ◌==◌, List, [], ◌∷◌, ◌++◌, if◌then◌else◌}
-use Rattle.matrix_meaning.specs.declared.Request.{Request}
-use Rattle.sigma_lower.specs.Work.{PlainWork, transforming, tiling}
-use Rattle.tree_model.specs.Breakdown.{size_of}
+use Rattle.passes.specs.Work.{PlainWork, kernel, rows, horner, tile, copy}
+use Rattle.steps.specs.declared.target.Target.{Target}
 
 -- ---- the items of a copy
 
--- how many registers the items of a copy fill: a transform has one for each item, on each lane another copy's, and a tile has its items themselves on the lanes
-abbrev pub vectors_of : PlainWork → ℕ
-vectors_of (transforming t) = size_of t
-vectors_of (tiling v) = v
-
--- which item of its copy stands on a lane of the register number k
+-- which item of its copy stands on a lane of the register number k: a tile has its items themselves on the lanes, and other work has another copy's item on each
 abbrev pub item_of : PlainWork → ℕ → ℕ → ℕ
-item_of (transforming t) k lane = k
-item_of (tiling v) k lane = k * v + lane
+item_of (kernel trees) k lane = k
+item_of (rows root size) k lane = k
+item_of (horner root size) k lane = k
+item_of (tile v) k lane = k * v + lane
+item_of (copy size) k lane = k
 
 -- ---- variables
 
@@ -22,7 +19,14 @@ item_of (tiling v) k lane = k * v + lane
 abbrev pub if_several : ℕ → ℕ → List ℕ
 if_several n v = if n == 1 then [] else v ∷ []
 
+-- the value of the lane, where several have copies of their own
+abbrev pub lane_value : Target → PlainWork → ℕ → List ℕ
+lane_value h (kernel trees) lane = if_several h.lanes lane
+lane_value h (rows root size) lane = if_several h.lanes lane
+lane_value h (horner root size) lane = if_several h.lanes lane
+lane_value h (tile v) lane = []
+lane_value h (copy size) lane = if_several h.lanes lane
+
 -- the values of all variables: on a processor and a lane, and of the loops
-abbrev pub values_of : Request → PlainWork → ℕ → ℕ → List ℕ → List ℕ
-values_of c (transforming t) q lane vs = if_several c.procs q ++ (if_several c.lanes lane ++ vs)
-values_of c (tiling v) q lane vs = if_several c.procs q ++ vs
+abbrev pub values_of : Target → PlainWork → ℕ → ℕ → List ℕ → List ℕ
+values_of h w q lane vs = if_several h.procs q ++ (lane_value h w lane ++ vs)

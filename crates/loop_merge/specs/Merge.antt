@@ -1,19 +1,20 @@
 -- Passes: loops that gather, compute and scatter, into which the permutations and diagonals beside them have gone.
 use Rattle.std.specs.Prelude.{ℕ, ◌*◌, List, [], ◌∷◌, ◌++◌, map, Option, Some, None}
 use Rattle.index_fn.specs.Mapping.{Mapping, at}
-use Rattle.matrix_meaning.specs.declared.Request.{Request}
 pub use Rattle.passes.specs.Loops.{through}
+use Rattle.passes.specs.Work.{PlainWork, work_size}
 use Rattle.sigma_lower.specs.Wrapped.{inner_of}
 use Rattle.sigma_lower.specs.Term.{PlainTerm, gath, scat, diag, nest, lowered_of}
-use Rattle.sigma_lower.specs.Work.{PlainWork, work_size}
+use Rattle.steps.specs.Layout.{Layout}
+use Rattle.steps.specs.declared.target.Target.{Target}
 use Rattle.tensor_paths.specs.Path.{Path, place}
-use Rattle.tree_model.specs.Breakdown.{Breakdown}
 
--- the diagonal of a ct, taken at what these functions make of a place of the pass
+-- the diagonal of a ct with its root, taken at what these functions make of a place of the pass
 pub record PlainDiagonal : Type 0 where
   pub path : Path
   pub rows : ℕ
   pub cols : ℕ
+  pub root : ℕ
   pub places : List Mapping
 
 -- a loop over the copies of a kernel, a leaf or a tile, with the functions that make the places of its loads and stores
@@ -37,9 +38,15 @@ new_pass path w waiting = record { path = path; work = w; befores = waiting; dia
 abbrev pub scattered : Mapping → PlainPass → PlainPass
 scattered f p = record { path = p.path; work = p.work; befores = p.befores; diagonal = p.diagonal; afters = p.afters ++ f ∷ [] }
 
-abbrev pub multiplied : Path → ℕ → ℕ → PlainPass → PlainPass
-multiplied path r s p =
-    record { path = p.path; work = p.work; befores = p.befores; diagonal = Some (record { path = path; rows = r; cols = s; places = p.afters }); afters = p.afters }
+abbrev pub multiplied : Path → ℕ → ℕ → ℕ → PlainPass → PlainPass
+multiplied path r s w p =
+    record {
+      path = p.path;
+      work = p.work;
+      befores = p.befores;
+      diagonal = Some (record { path = path; rows = r; cols = s; root = w; places = p.afters });
+      afters = p.afters;
+    }
 
 -- the last pass changed
 abbrev pub at_last : (PlainPass → PlainPass) → List PlainPass → List PlainPass
@@ -51,27 +58,27 @@ at_last f (p ∷ q ∷ ps) = p ∷ at_last f (q ∷ ps)
 abbrev pub merge_term : Merging → PlainTerm → Merging
 merge_term st (gath f) = record { waiting = f ∷ st.waiting; passes = st.passes }
 merge_term st (scat f) = record { waiting = st.waiting; passes = at_last (scattered f) st.passes }
-merge_term st (diag path r s) = record { waiting = st.waiting; passes = at_last (multiplied path r s) st.passes }
+merge_term st (diag path r s w) = record { waiting = st.waiting; passes = at_last (multiplied path r s w) st.passes }
 merge_term st (nest path w) = record { waiting = []; passes = st.passes ++ new_pass path w st.waiting ∷ [] }
 
 abbrev pub merged : Merging → List PlainTerm → Merging
 merged st [] = st
 merged st (t ∷ ts) = merged (merge_term st t) ts
 
--- the passes of a phase, and those of each phase of a tree
+-- the passes of a phase, and those of each phase of a layout
 abbrev pub passes_of_terms : List PlainTerm → List PlainPass
 passes_of_terms ts = (merged (record { waiting = []; passes = [] }) ts).passes
 
-abbrev pub merged_phases : Request → Breakdown → List (List PlainPass)
-merged_phases c t = map passes_of_terms (lowered_of c t)
+abbrev pub merged_phases : Target → Layout → List (List PlainPass)
+merged_phases h l = map passes_of_terms (lowered_of h l)
 
 -- the passes of all phases
 abbrev pub in_order : List (List PlainPass) → List PlainPass
 in_order [] = []
 in_order (ps ∷ more) = ps ++ in_order more
 
-abbrev pub merged_of : Request → Breakdown → List PlainPass
-merged_of c t = in_order (merged_phases c t)
+abbrev pub merged_of : Target → Layout → List PlainPass
+merged_of h l = in_order (merged_phases h l)
 
 -- ---- places
 

@@ -1,19 +1,19 @@
 -- The places of passes as sums of the loops' variables.
 use Rattle.std.specs.Prelude.{◌≡◌, ℕ, ◌+◌, ◌*◌, ◌^◌, ◌<◌, ◌≤◌, true, List, [], ◌∷◌, ◌++◌, Some}
 use Rattle.index_fn.specs.Mapping.{Mapping}
-use Rattle.matrix_meaning.specs.declared.Request.{Request}
-use Rattle.matrix_meaning.specs.Valid.{IsValid}
+use Rattle.formula_lower.specs.Machine.{IsMachine}
 use Rattle.passes.specs.Merge.{total, are_small}
 use Rattle.perm_algebra.specs.Affine.{Sum, constant, variable, remainder, quotient, top, parts, HasNoQuotient, IsProper, simplified}
 use Rattle.perm_algebra.specs.Room.{HasRoomFor}
-use Rattle.sigma_lower.specs.Work.{PlainWork, transforming, tiling, work_size}
+use Rattle.passes.specs.Work.{PlainWork, kernel, rows, horner, tile, copy, work_size}
 use Rattle.sigma_lower.specs.Wrapped.{inner_of}
 use Rattle.loop_merge.specs.Merge.{PlainDiagonal, PlainPass, merged_of}
 pub use Rattle.passes.specs.Merge.{place_sum, all_simplified}
+use Rattle.smp_rewrite.specs.Fits.{CanShareLayout}
+use Rattle.steps.specs.Layout.{Layout, IsGoodLayout}
+use Rattle.steps.specs.declared.target.Target.{Target}
 use Rattle.tensor_paths.specs.declared.Tensor.TheVariants.{Blocks, Columns}
 use Rattle.tensor_paths.specs.Path.{Path}
-use Rattle.tree_model.specs.Admissible.{IsAdmissible}
-use Rattle.tree_model.specs.Breakdown.{Breakdown}
 
 -- the variables from d on run below the path's factors, each at least 2, and no size is 0
 abbrev pub AreCounts : Path → ℕ → ℕ → (ℕ → ℕ) → Type 0
@@ -53,22 +53,26 @@ abbrev pub diagonal_places : PlainDiagonal → List Mapping
 diagonal_places d = d.places ++ inner_of d.path (d.rows * d.cols) ∷ []
 
 -- no place of the item that e names in its copy is over a limit, nor is any on the way there: where it is loaded from, where it is stored, and its place in its ct's diagonal
-pub record ArePlacesLimited (c : Request) (p : PlainPass) (cs : ℕ → ℕ) (e : Sum) : Type 0 where
-  pub loads : IsCarried cs c.size c.size p.befores (place_sum p.path (work_size p.work) 0 e)
-  pub stores : IsCarried cs c.size c.size p.afters (place_sum p.path (work_size p.work) 0 e)
-  pub factors : (d : PlainDiagonal) → p.diagonal ≡ Some d → IsCarried cs c.size (d.rows * d.cols) (diagonal_places d) (place_sum p.path (work_size p.work) 0 e)
+pub record ArePlacesLimited (h : Target) (p : PlainPass) (cs : ℕ → ℕ) (e : Sum) : Type 0 where
+  pub loads : IsCarried cs h.size h.size p.befores (place_sum p.path (work_size p.work) 0 e)
+  pub stores : IsCarried cs h.size h.size p.afters (place_sum p.path (work_size p.work) 0 e)
+  pub factors : (d : PlainDiagonal) → p.diagonal ≡ Some d → IsCarried cs h.size (d.rows * d.cols) (diagonal_places d) (place_sum p.path (work_size p.work) 0 e)
 
--- a sum that may name an item: any for a transform, and a number for a tile, whose items are written out one by one
+-- a sum that may name an item: a number for a tile, whose items are written out one by one, and any for other work
 abbrev pub IsName : PlainWork → Sum → Type 0
-IsName (transforming t) e = Unit {0}
-IsName (tiling v) e = (k : ℕ) × (e ≡ constant k)
+IsName (kernel trees) e = Unit {0}
+IsName (rows root size) e = Unit {0}
+IsName (horner root size) e = Unit {0}
+IsName (tile v) e = (k : ℕ) × (e ≡ constant k)
+IsName (copy size) e = Unit {0}
 
-abbrev pub IsLimitedPass : Request → PlainPass → Type 0
-IsLimitedPass c p = (cs : ℕ → ℕ) (e : Sum) → AreCounts p.path (work_size p.work) 0 cs → Fits (work_size p.work) e cs → IsName p.work e → ArePlacesLimited c p cs e
+abbrev pub IsLimitedPass : Target → PlainPass → Type 0
+IsLimitedPass h p = (cs : ℕ → ℕ) (e : Sum) → AreCounts p.path (work_size p.work) 0 cs → Fits (work_size p.work) e cs → IsName p.work e → ArePlacesLimited h p cs e
 
-abbrev pub AllLimited : Request → List PlainPass → Type 0
-AllLimited c [] = Unit {0}
-AllLimited c (p ∷ ps) = IsLimitedPass c p × AllLimited c ps
+abbrev pub AllLimited : Target → List PlainPass → Type 0
+AllLimited h [] = Unit {0}
+AllLimited h (p ∷ ps) = IsLimitedPass h p × AllLimited h ps
 
 abbrev pub PlacesAreLimited : Type 0
-PlacesAreLimited = (c : Request) (t : Breakdown) → IsValid c → IsAdmissible c t → AllLimited c (merged_of c t)
+PlacesAreLimited =
+    (h : Target) (l : Layout) → IsMachine h → CanShareLayout h l → IsGoodLayout h.modulus l → AllLimited h (merged_of h l)

@@ -1,14 +1,19 @@
-//! Laws of a tree's passes: which permutations and diagonals go into each, their counts, and that each place is within the
+//! Laws of a layout's passes: which permutations and diagonals go into each, their counts, and that each place is within the
 //! limits of programs (Franchetti et al., 2005).
 #![tactic(auto)]
 
-ghost use Rattle.loop_merge.specs.Laws.{MergeCounts};
+ghost use Rattle.loop_merge.specs.Laws.{LayoutsCount, MergeCounts};
 ghost use Rattle.loop_merge.specs.Limits.{LoopsAreLimited, TreesMerge};
 ghost use Rattle.loop_merge.specs.Nests.{LoopsListed, TreeNests};
 
-/// Merging makes the passes of the cost model: a law of the definitions.
+/// Merging makes the passes of the layout: a law of the definitions.
 pub fn merge_counts()
     ensures { MergeCounts }
+{}
+
+/// Those of a tree's layout count as the passes of the cost model: a law of the definitions.
+pub fn layouts_count()
+    ensures { LayoutsCount }
 {}
 
 /// The loops of a phase's term are its passes: a law of the definitions.
@@ -16,17 +21,17 @@ pub fn loops_listed()
     ensures { LoopsListed }
 {}
 
-/// Each merged pass of a tree is one of its passes, as one nest: a law of the definitions.
+/// Each merged pass of a layout is one of its passes, as one nest: a law of the definitions.
 pub fn tree_nests()
     ensures { TreeNests }
 {}
 
-/// No place of a tree's loops is over a limit of programs: a law of the definitions.
+/// No place of a layout's loops is over a limit of programs: a law of the definitions.
 pub fn loops_are_limited()
     ensures { LoopsAreLimited }
 {}
 
-/// So the terms of a tree, merged within these limits, are its passes: a law of the definitions.
+/// So the terms of a layout, merged within these limits, are its passes: a law of the definitions.
 pub fn trees_merge()
     ensures { TreesMerge }
 {}

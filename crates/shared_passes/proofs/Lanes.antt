@@ -3,11 +3,11 @@ use Rattle.std.proofs.Common.{◌≡◌, ℕ, ◌+◌, ◌*◌, ◌<◌, arith, 
 use Rattle.std.specs.Prelude.{Option, Some, None}
 use Rattle.std.proofs.Math.Nat.{zero-mul}
 use Rattle.index_fn.specs.Mapping.{Mapping, at}
-use Rattle.matrix_meaning.specs.declared.Request.{Request}
+use Rattle.steps.specs.declared.target.Target.{Target}
 use Rattle.loop_merge.specs.Items.{item_of, values_of}
 use Rattle.loop_merge.specs.Merge.{PlainDiagonal, PlainPass, Merging, through, new_pass, scattered, multiplied, merge_term}
 use Rattle.sigma_lower.specs.Term.{gath, scat, diag, nest}
-use Rattle.sigma_lower.specs.Work.{PlainWork, work_size}
+use Rattle.passes.specs.Work.{PlainWork, work_size}
 use Rattle.sigma_lower.specs.Wrapped.{inner_of}
 use Rattle.tensor_paths.specs.Path.{Path, place}
 use Rattle.shared_passes.specs.Shared.{step_of, IsFramed, AllFramed}
@@ -25,7 +25,7 @@ pub record IsLanedDiagonal (v k : ℕ) (d : PlainDiagonal) : Type 0 where
   pub factors : HasStep v k d.path (d.rows * d.cols)
 
 -- a pass over registers whose functions keep vectors
-pub record IsLanedPass (c : Request) (p : PlainPass) : Type 0 where
+pub record IsLanedPass (c : Target) (p : PlainPass) : Type 0 where
   pub loop : IsLoop c p.path p.work
   pub befores : AllKeepVectors c.lanes p.befores
   pub afters : AllKeepVectors c.lanes p.afters
@@ -43,7 +43,7 @@ beside : (v t l : ℕ) (natural : ℕ → ℕ) → l < v → ((j : ℕ) → j < 
 beside v t l natural below e =
     let first : natural 0 ≡ t * v + 0 = e 0 (omega (arith, below)) in omega (arith, e l below, first)
 
-pub laned-framed : (c : Request) (p : PlainPass) → IsLanedPass c p → IsFramed c p
+pub laned-framed : (c : Target) (p : PlainPass) → IsLanedPass c p → IsFramed c p
 laned-framed c p h =
     let n = work_size p.work in
     let natural = λ (vs : List ℕ) (q k lane : ℕ). place p.path n (values_of c p.work q lane vs) (item_of p.work k lane) in
@@ -68,7 +68,7 @@ laned-framed c p h =
           ∙ ap (λ y. y + step_of p.work * lane) (sym (ap inner (to.1 0 (omega (arith, below)))));
     }
 
-pub all-framed : (c : Request) (R : PlainPass → Type 0) (ps : List PlainPass) → Ends (IsLanedPass c) R ps → AllFramed c ps
+pub all-framed : (c : Target) (R : PlainPass → Type 0) (ps : List PlainPass) → Ends (IsLanedPass c) R ps → AllFramed c ps
 all-framed c R [] h = tt
 all-framed c R (p ∷ []) h = (laned-framed c p h.0, tt)
 all-framed c R (p ∷ q ∷ ps) h = (laned-framed c p h.0, all-framed c R (q ∷ ps) h.1)
@@ -79,13 +79,13 @@ none-some : (d : PlainDiagonal) → ◌≡◌ {A = Option PlainDiagonal} None (S
 none-some d e = absurd (cc)
 
 -- such passes, of which the last one has this work, and functions that keep vectors
-abbrev pub Laned : Request → (PlainWork → Type 0) → Merging → Type 0
+abbrev pub Laned : Target → (PlainWork → Type 0) → Merging → Type 0
 Laned c R st = Ends (IsLanedPass c) (λ p. R p.work) st.passes × AllKeepVectors c.lanes st.waiting
 
-pub laned-gath : (c : Request) (R : PlainWork → Type 0) (st : Merging) (f : Mapping) → KeepsVectors c.lanes f → Laned c R st → Laned c R (merge_term st (gath f))
+pub laned-gath : (c : Target) (R : PlainWork → Type 0) (st : Merging) (f : Mapping) → KeepsVectors c.lanes f → Laned c R st → Laned c R (merge_term st (gath f))
 laned-gath c R st f k h = (h.0, (k, h.1))
 
-pub laned-scat : (c : Request) (R : PlainWork → Type 0) (st : Merging) (f : Mapping) → KeepsVectors c.lanes f → Laned c R st → Laned c R (merge_term st (scat f))
+pub laned-scat : (c : Target) (R : PlainWork → Type 0) (st : Merging) (f : Mapping) → KeepsVectors c.lanes f → Laned c R st → Laned c R (merge_term st (scat f))
 laned-scat c R st f k h = (
   ends-last (IsLanedPass c) (λ p. R p.work) (λ p. R p.work) (scattered f) st.passes h.0 (λ p g r.
       (record { loop = g.loop; befores = g.befores; afters = keep-append c.lanes p.afters f g.afters k; diagonals = g.diagonals }, r)),
@@ -95,30 +95,30 @@ laned-scat c R st f k h = (
 some-same : (d e : PlainDiagonal) → ◌≡◌ {A = Option PlainDiagonal} (Some d) (Some e) → d ≡ e
 some-same d e h = cc
 
-multiplied-laned : (c : Request) (path : Path) (r s : ℕ) (p : PlainPass) → HasStep c.lanes (step_of p.work) path (r * s) → IsLanedPass c p → IsLanedPass c (multiplied path r s p)
-multiplied-laned c path r s p k h = record {
+multiplied-laned : (c : Target) (path : Path) (r s w : ℕ) (p : PlainPass) → HasStep c.lanes (step_of p.work) path (r * s) → IsLanedPass c p → IsLanedPass c (multiplied path r s w p)
+multiplied-laned c path r s w p k h = record {
   loop = h.loop;
   befores = h.befores;
   afters = h.afters;
   diagonals = λ d e.
-      subst (IsLanedDiagonal c.lanes (step_of p.work)) (some-same (record { path = path; rows = r; cols = s; places = p.afters }) d e) (record { places = h.afters; factors = k });
+      subst (IsLanedDiagonal c.lanes (step_of p.work)) (some-same (record { path = path; rows = r; cols = s; root = w; places = p.afters }) d e) (record { places = h.afters; factors = k });
 }
 
-pub laned-diag : (c : Request) (R : PlainWork → Type 0) (st : Merging) (path : Path) (r s : ℕ) → ((w : PlainWork) → R w → HasStep c.lanes (step_of w) path (r * s)) →
-    Laned c R st → Laned c R (merge_term st (diag path r s))
-laned-diag c R st path r s k h = (
-  ends-last (IsLanedPass c) (λ p. R p.work) (λ p. R p.work) (multiplied path r s) st.passes h.0 (λ p g l. (multiplied-laned c path r s p (k p.work l) g, l)),
+pub laned-diag : (c : Target) (R : PlainWork → Type 0) (st : Merging) (path : Path) (r s w : ℕ) → ((does : PlainWork) → R does → HasStep c.lanes (step_of does) path (r * s)) →
+    Laned c R st → Laned c R (merge_term st (diag path r s w))
+laned-diag c R st path r s w k h = (
+  ends-last (IsLanedPass c) (λ p. R p.work) (λ p. R p.work) (multiplied path r s w) st.passes h.0 (λ p g l. (multiplied-laned c path r s w p (k p.work l) g, l)),
   h.1,
 )
 
-pub laned-nest : (c : Request) (R S : PlainWork → Type 0) (st : Merging) (path : Path) (w : PlainWork) → IsLoop c path w → S w → Laned c R st → Laned c S (merge_term st (nest path w))
+pub laned-nest : (c : Target) (R S : PlainWork → Type 0) (st : Merging) (path : Path) (w : PlainWork) → IsLoop c path w → S w → Laned c R st → Laned c S (merge_term st (nest path w))
 laned-nest c R S st path w k l h = (
   ends-push (IsLanedPass c) (λ p. R p.work) (λ p. S p.work) st.passes (new_pass path w st.waiting) h.0
       (record { loop = k; befores = h.1; afters = tt; diagonals = λ d e. absurd (none-some d e) }) l,
   tt,
 )
 
-pub laned-weaken : (c : Request) (R S : PlainWork → Type 0) (st : Merging) → ((w : PlainWork) → R w → S w) → Laned c R st → Laned c S st
+pub laned-weaken : (c : Target) (R S : PlainWork → Type 0) (st : Merging) → ((w : PlainWork) → R w → S w) → Laned c R st → Laned c S st
 laned-weaken c R S st k h = (ends-weaken (IsLanedPass c) (λ p. R p.work) (λ p. S p.work) st.passes h.0 (λ p g r. k p.work r), h.1)
 
 -- ---- diagonals

@@ -1,8 +1,7 @@
 -- What the terms of a part's steps keep of the passes that they are merged into.
-use Rattle.std.proofs.Common.{◌≡◌, ℕ, ◌*◌, Bool, true, false, refl, sym, ap, subst, ◌∙◌, List, [], ◌∷◌, ◌++◌, if◌then◌else◌, append_assoc}
+use Rattle.std.proofs.Common.{◌≡◌, ℕ, ◌*◌, refl, sym, ap, subst, ◌∙◌, List, [], ◌∷◌, ◌++◌, append_assoc}
 use Rattle.std.specs.Prelude.{map}
 use Rattle.std.specs.List.{flat_map}
-use Rattle.matrix_meaning.specs.declared.Request.{Request}
 use Rattle.loop_merge.specs.Merge.{PlainPass, Merging, at_last, merge_term, merged}
 use Rattle.sigma_lower.specs.Term.{PlainTerm, lowered, lowered_core}
 use Rattle.steps.specs.Step.{PlainCore, piece, turns, twiddles, thomas_in, thomas_out, PlainStep, step, rule_steps, steps_of}
@@ -12,8 +11,8 @@ use Rattle.tensor_paths.specs.Path.{Path, size_under}
 use Rattle.tensor_paths.proofs.Under.{size_under-push}
 use Rattle.tree_model.specs.declared.tree.Rule.{Rule}
 use Rattle.tree_model.specs.declared.tree.Rule.TheVariants.{Gt, Ct, Split}
-use Rattle.tree_model.specs.Breakdown.{Breakdown, leaf, node, size_of}
-use Rattle.tree_model.specs.Cost.{is_kernel}
+use Rattle.passes.specs.Work.{PlainWork, work_size}
+use Rattle.steps.specs.Layout.{Layout, work, by, layout_size, IsGoodLayout, IsGoodWork}
 
 -- nothing is merged yet
 abbrev pub nothing : Merging
@@ -50,26 +49,22 @@ merged-emitted emit st (s ∷ ss) =
     merged-append st (emit s.path s.core) (flat_map (λ (e : PlainStep). emit e.path e.core) ss)
     ∙ merged-emitted emit (merged st (emit s.path s.core)) ss
 
--- The terms of each core of m words, under paths that begin with this one, keep what holds of a state: a piece makes it done, a diagonal needs that it is.
-pub record Keeps (pre : Path) (m : ℕ) (emit : Emission) (Ready Done : Merging → Type 0) : Type 0 where
+-- The terms of each core of n words, under paths that begin with this one, keep what holds of a state: a piece makes it done, a diagonal needs that it is.
+pub record Keeps (m : ℕ) (pre : Path) (n : ℕ) (emit : Emission) (Ready Done : Merging → Type 0) : Type 0 where
   pub ready : (st : Merging) → Done st → Ready st
-  pub pieces : (path : Path) (t : Breakdown) (st : Merging) → size_under (pre ++ path) (size_of t) ≡ m → Ready st → Done (merged st (emit (pre ++ path) (piece t)))
-  pub turned : (path : Path) (r s : ℕ) (st : Merging) → size_under (pre ++ path) (r * s) ≡ m → Ready st → Ready (merged st (emit (pre ++ path) (turns r s)))
-  pub twiddled : (path : Path) (r s : ℕ) (st : Merging) → size_under (pre ++ path) (r * s) ≡ m → Done st → Done (merged st (emit (pre ++ path) (twiddles r s)))
-  pub gathered : (path : Path) (r s : ℕ) (st : Merging) → size_under (pre ++ path) (r * s) ≡ m → Ready st → Ready (merged st (emit (pre ++ path) (thomas_in r s)))
-  pub scattered : (path : Path) (r s : ℕ) (st : Merging) → size_under (pre ++ path) (r * s) ≡ m → Done st → Done (merged st (emit (pre ++ path) (thomas_out r s)))
+  pub pieces : (path : Path) (w : PlainWork) (st : Merging) → IsGoodWork m w → size_under (pre ++ path) (work_size w) ≡ n → Ready st → Done (merged st (emit (pre ++ path) (piece w)))
+  pub turned : (path : Path) (r s : ℕ) (st : Merging) → size_under (pre ++ path) (r * s) ≡ n → Ready st → Ready (merged st (emit (pre ++ path) (turns r s)))
+  pub twiddled : (path : Path) (r s w : ℕ) (st : Merging) → size_under (pre ++ path) (r * s) ≡ n → Done st → Done (merged st (emit (pre ++ path) (twiddles r s w)))
+  pub gathered : (path : Path) (r s : ℕ) (st : Merging) → size_under (pre ++ path) (r * s) ≡ n → Ready st → Ready (merged st (emit (pre ++ path) (thomas_in r s)))
+  pub scattered : (path : Path) (r s : ℕ) (st : Merging) → size_under (pre ++ path) (r * s) ≡ n → Done st → Done (merged st (emit (pre ++ path) (thomas_out r s)))
 
 -- steps that make a state done
 abbrev pub Finish : Emission → (Merging → Type 0) → (Merging → Type 0) → List PlainStep → Type 0
 Finish emit Ready Done ss = (st : Merging) → Ready st → Done (after emit st ss)
 
-finish-pick : (emit : Emission) (Ready Done : Merging → Type 0) (b : Bool) (ss es : List PlainStep) → Finish emit Ready Done ss → Finish emit Ready Done es → Finish emit Ready Done (if b then ss else es)
-finish-pick emit Ready Done true ss es h k = h
-finish-pick emit Ready Done false ss es h k = k
-
-finish-rule : (pre : Path) (m : ℕ) (emit : Emission) (Ready Done : Merging → Type 0) (rule : Rule) (path : Path) (r s : ℕ) (left right : List PlainStep) → Keeps pre m emit Ready Done →
-    size_under (pre ++ path) (r * s) ≡ m → Finish emit Ready Done left → Finish emit Ready Done right → Finish emit Ready Done (rule_steps rule (pre ++ path) r s left right)
-finish-rule pre m emit Ready Done Gt path r s left right k e on_left on_right =
+finish-rule : (m : ℕ) (pre : Path) (n : ℕ) (emit : Emission) (Ready Done : Merging → Type 0) (rule : Rule) (path : Path) (r s w : ℕ) (left right : List PlainStep) → Keeps m pre n emit Ready Done →
+    size_under (pre ++ path) (r * s) ≡ n → Finish emit Ready Done left → Finish emit Ready Done right → Finish emit Ready Done (rule_steps rule (pre ++ path) r s w left right)
+finish-rule m pre n emit Ready Done Gt path r s w left right k e on_left on_right =
     λ st h.
     let last = step (pre ++ path) (thomas_out r s) in
     let first = merged st (emit (pre ++ path) (thomas_in r s)) in
@@ -77,31 +72,32 @@ finish-rule pre m emit Ready Done Gt path r s left right k e on_left on_right =
     let third = after emit second left in
     let done : Done third = on_left second (k.ready second (on_right first (k.gathered path r s st e h))) in
     subst Done (sym (after-append emit first right (left ++ last ∷ []) ∙ after-append emit second left (last ∷ []))) (k.scattered path r s third e done)
-finish-rule pre m emit Ready Done Ct path r s left right k e on_left on_right =
+finish-rule m pre n emit Ready Done Ct path r s w left right k e on_left on_right =
     λ st h.
     let first = merged st (emit (pre ++ path) (turns r s)) in
     let second = after emit first right in
-    let third = merged second (emit (pre ++ path) (twiddles r s)) in
-    let done : Done third = k.twiddled path r s second e (on_right first (k.turned path r s st e h)) in
-    subst Done (sym (after-append emit first right (step (pre ++ path) (twiddles r s) ∷ left))) (on_left third (k.ready third done))
-finish-rule pre m emit Ready Done Split path r s left right k e on_left on_right =
+    let third = merged second (emit (pre ++ path) (twiddles r s w)) in
+    let done : Done third = k.twiddled path r s w second e (on_right first (k.turned path r s st e h)) in
+    subst Done (sym (after-append emit first right (step (pre ++ path) (twiddles r s w) ∷ left))) (on_left third (k.ready third done))
+finish-rule m pre n emit Ready Done Split path r s w left right k e on_left on_right =
     λ st h.
     let second = after emit st right in
     subst Done (sym (after-append emit st right left)) (on_left second (k.ready second (on_right st h)))
 
 -- the steps of a part make a state done
-pub steps-finish : (c : Request) (pre : Path) (m : ℕ) (emit : Emission) (Ready Done : Merging → Type 0) (path : Path) (t : Breakdown) → Keeps pre m emit Ready Done →
-    size_under (pre ++ path) (size_of t) ≡ m → Finish emit Ready Done (steps_of c (pre ++ path) t)
-steps-finish c pre m emit Ready Done path (leaf d) k e = λ st h. k.pieces path (leaf d) st e h
-steps-finish c pre m emit Ready Done path (node rule a b) k e =
-    let r = size_of a in
-    let s = size_of b in
+pub steps-finish : (m : ℕ) (pre : Path) (n : ℕ) (emit : Emission) (Ready Done : Merging → Type 0) (path : Path) (l : Layout) → Keeps m pre n emit Ready Done → IsGoodLayout m l →
+    size_under (pre ++ path) (layout_size l) ≡ n → Finish emit Ready Done (steps_of (pre ++ path) l)
+steps-finish m pre n emit Ready Done path (work w) k good e = λ st h. k.pieces path w st good.1 e h
+steps-finish m pre n emit Ready Done path (by rule root a b) k good e =
+    let r = layout_size a in
+    let s = layout_size b in
     let inner : (u : Tensor) → pre ++ (path ++ u ∷ []) ≡ (pre ++ path) ++ u ∷ [] = λ u. sym (append_assoc pre path (u ∷ [])) in
-    let sized : (u : Tensor) (n : ℕ) → size_under (pre ++ (path ++ u ∷ [])) n ≡ size_under ((pre ++ path) ++ u ∷ []) n = λ u n. ap (λ p. size_under p n) (inner u) in
-    finish-pick emit Ready Done (is_kernel c (r * s)) (step (pre ++ path) (piece (node rule a b)) ∷ []) _ (λ st h. k.pieces path (node rule a b) st e h)
-    (finish-rule pre m emit Ready Done rule path r s (steps_of c ((pre ++ path) ++ Columns s ∷ []) a) (steps_of c ((pre ++ path) ++ Blocks r ∷ []) b) k e
-    (subst (λ p. Finish emit Ready Done (steps_of c p a)) (inner (Columns s)) (steps-finish c pre m emit Ready Done (path ++ Columns s ∷ []) a k (sized (Columns s) r ∙ size_under-push (pre ++ path) (Columns s) r ∙ e)))
-    (subst (λ p. Finish emit Ready Done (steps_of c p b)) (inner (Blocks r)) (steps-finish c pre m emit Ready Done (path ++ Blocks r ∷ []) b k (sized (Blocks r) s ∙ size_under-push (pre ++ path) (Blocks r) s ∙ e))))
+    let sized : (u : Tensor) (x : ℕ) → size_under (pre ++ (path ++ u ∷ [])) x ≡ size_under ((pre ++ path) ++ u ∷ []) x = λ u x. ap (λ p. size_under p x) (inner u) in
+    finish-rule m pre n emit Ready Done rule path r s root (steps_of ((pre ++ path) ++ Columns s ∷ []) a) (steps_of ((pre ++ path) ++ Blocks r ∷ []) b) k e
+    (subst (λ p. Finish emit Ready Done (steps_of p a)) (inner (Columns s))
+    (steps-finish m pre n emit Ready Done (path ++ Columns s ∷ []) a k good.1 (sized (Columns s) r ∙ size_under-push (pre ++ path) (Columns s) r ∙ e)))
+    (subst (λ p. Finish emit Ready Done (steps_of p b)) (inner (Blocks r))
+    (steps-finish m pre n emit Ready Done (path ++ Blocks r ∷ []) b k good.2 (sized (Blocks r) s ∙ size_under-push (pre ++ path) (Blocks r) s ∙ e)))
 
 -- ---- all passes have a property, and the last one another besides
 

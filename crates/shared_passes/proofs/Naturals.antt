@@ -1,18 +1,18 @@
 -- The natural places of framed passes: the lanes of each register are a vector.
 use Rattle.std.proofs.Common.{◌≡◌, ℕ, ◌+◌, ◌*◌, ◌<◌, Bool, true, false, arith, refl, sym, ap, ap₂, ◌∙◌, List, [], ◌∷◌, ◌++◌, if◌then◌else◌, subst}
 use Rattle.std.specs.Prelude.{◌==◌}
-use Rattle.matrix_meaning.specs.declared.Request.{Request}
+use Rattle.steps.specs.declared.target.Target.{Target}
 use Rattle.loop_merge.specs.Items.{if_several, item_of, values_of}
-use Rattle.shared_passes.specs.Shared.{framed, HasLanes}
+use Rattle.shared_passes.specs.Shared.{framed, HasLanes, step_of}
 use Rattle.sigma_lower.proofs.Vectors.{is-one}
-use Rattle.sigma_lower.specs.Work.{PlainWork, transforming, tiling, work_size}
+use Rattle.passes.specs.Work.{PlainWork, kernel, rows, horner, tile, copy, work_size}
+use Rattle.steps.specs.Layout.{IsGoodWork}
 use Rattle.smp_rewrite.specs.Smp.{within}
 use Rattle.smp_rewrite.proofs.Tensors.{size-within}
 use Rattle.tensor_paths.specs.declared.Tensor.{Tensor}
 use Rattle.tensor_paths.specs.declared.Tensor.TheVariants.{Blocks, Columns}
 use Rattle.tensor_paths.specs.Path.{Path, count_of, size_under, copies_of, place}
 use Rattle.tensor_paths.proofs.Under.{size_under-copies}
-use Rattle.tree_model.specs.Breakdown.{Breakdown}
 
 -- ---- a tensor that may be left out
 
@@ -40,16 +40,15 @@ place-within t path n x vs k below = place-pick (count_of t == 1) t path n x vs 
 -- ---- loops over registers
 
 -- a loop in the tensors of processors and lanes, where the lanes of each register are a vector
-pub record IsLoop (c : Request) (path : Path) (w : PlainWork) : Type 0 where
+pub record IsLoop (c : Target) (path : Path) (w : PlainWork) : Type 0 where
   pub loops : Path
   pub form : path ≡ framed c w loops
   pub lanes : HasLanes c w
   pub vectors : (vs : List ℕ) (q k : ℕ) → q < c.procs → (b : ℕ) × ((lane : ℕ) → lane < c.lanes → place path (work_size w) (values_of c w q lane vs) (item_of w k lane) ≡ b * c.lanes + lane)
 
-transform-vectors : (c : Request) (t : Breakdown) (loops : Path) (vs : List ℕ) (q k : ℕ) → q < c.procs →
-    (b : ℕ) × ((lane : ℕ) → lane < c.lanes → place (framed c (transforming t) loops) (work_size (transforming t)) (values_of c (transforming t) q lane vs) k ≡ b * c.lanes + lane)
-transform-vectors c t loops vs q k below =
-    let n = work_size (transforming t) in
+lane-vectors : (c : Target) (n : ℕ) (loops : Path) (vs : List ℕ) (q k : ℕ) → q < c.procs →
+    (b : ℕ) × ((lane : ℕ) → lane < c.lanes → place (within (Blocks c.procs) (within (Columns c.lanes) loops)) n (if_several c.procs q ++ (if_several c.lanes lane ++ vs)) k ≡ b * c.lanes + lane)
+lane-vectors c n loops vs q k below =
     let inner = within (Columns c.lanes) loops in (
       q * size_under loops n + place loops n vs k,
       λ lane within.
@@ -58,10 +57,24 @@ transform-vectors c t loops vs q k below =
           ∙ omega arith,
     )
 
-pub transform-loop : (c : Request) (t : Breakdown) (path loops : Path) → path ≡ framed c (transforming t) loops → IsLoop c path (transforming t)
-transform-loop c t path loops e =
-    subst (λ p. IsLoop c p (transforming t)) (sym e)
-    (record { loops = loops; form = refl; lanes = tt; vectors = λ vs q k below. transform-vectors c t loops vs q k below })
+-- a work of a good layout has a copy on each lane
+framed-loop : (m : ℕ) (c : Target) (w : PlainWork) (loops : Path) → IsGoodWork m w → IsLoop c (within (Blocks c.procs) (within (Columns c.lanes) loops)) w
+framed-loop m c (kernel trees) loops good = record { loops = loops; form = refl; lanes = tt; vectors = λ vs q k below. lane-vectors c (work_size (kernel trees)) loops vs q k below }
+framed-loop m c (rows root size) loops good = record { loops = loops; form = refl; lanes = tt; vectors = λ vs q k below. lane-vectors c size loops vs q k below }
+framed-loop m c (horner root size) loops good = absurd good
+framed-loop m c (tile v) loops good = absurd good
+framed-loop m c (copy size) loops good = absurd good
+
+pub transform-loop : (m : ℕ) (c : Target) (w : PlainWork) (path loops : Path) → IsGoodWork m w → path ≡ within (Blocks c.procs) (within (Columns c.lanes) loops) → IsLoop c path w
+transform-loop m c w path loops good e = subst (λ p. IsLoop c p w) (sym e) (framed-loop m c w loops good)
+
+-- and its factors are one on all lanes
+pub one-step : (m : ℕ) (w : PlainWork) → IsGoodWork m w → step_of w ≡ 0
+one-step m (kernel trees) good = refl
+one-step m (rows root size) good = refl
+one-step m (horner root size) good = refl
+one-step m (tile v) good = absurd good
+one-step m (copy size) good = refl
 
 -- ---- tiles
 
@@ -87,8 +100,8 @@ blocks-place v m (Blocks c ∷ path) (x ∷ vs) k h =
       λ l. ap₂ (λ s y. x * s + y) (size_under-copies path (m * v)) (inner.1 l) ∙ omega arith,
     )
 
-tile-vectors : (c : Request) (loops : Path) (vs : List ℕ) (q k : ℕ) → AreBlocks loops → q < c.procs →
-    (b : ℕ) × ((lane : ℕ) → lane < c.lanes → place (framed c (tiling c.lanes) loops) (c.lanes * c.lanes) (values_of c (tiling c.lanes) q lane vs) (k * c.lanes + lane) ≡ b * c.lanes + lane)
+tile-vectors : (c : Target) (loops : Path) (vs : List ℕ) (q k : ℕ) → AreBlocks loops → q < c.procs →
+    (b : ℕ) × ((lane : ℕ) → lane < c.lanes → place (framed c (tile c.lanes) loops) (c.lanes * c.lanes) (values_of c (tile c.lanes) q lane vs) (k * c.lanes + lane) ≡ b * c.lanes + lane)
 tile-vectors c loops vs q k h below =
     let n = c.lanes * c.lanes in
     let inner = blocks-place c.lanes c.lanes loops vs k h in (
@@ -99,5 +112,5 @@ tile-vectors c loops vs q k h below =
           ∙ omega arith,
     )
 
-pub tile-loop : (c : Request) (loops : Path) → AreBlocks loops → IsLoop c (framed c (tiling c.lanes) loops) (tiling c.lanes)
+pub tile-loop : (c : Target) (loops : Path) → AreBlocks loops → IsLoop c (framed c (tile c.lanes) loops) (tile c.lanes)
 tile-loop c loops h = record { loops = loops; form = refl; lanes = refl; vectors = λ vs q k below. tile-vectors c loops vs q k h below }

@@ -3,8 +3,7 @@ use Rattle.std.proofs.Common.{◌≡◌, ◌≢◌, ℕ, ◌+◌, ◌*◌, ◌/�
 use Rattle.std.specs.Prelude.{◌==◌, slice_index}
 use Rattle.std.proofs.Math.Nat.{div-add-mod', div-div-eq-div-mul, div-one, mod-one, mul-div_right, mul-mod_right}
 use Rattle.index_fn.specs.Mapping.{Mapping, at}
-use Rattle.matrix_meaning.specs.declared.Request.{Request}
-use Rattle.matrix_meaning.specs.Valid.{IsValid}
+use Rattle.steps.specs.declared.target.Target.{Target}
 use Rattle.operators.specs.Operator.{stride}
 use Rattle.operators.proofs.Lists.{row-of, column-of, place_below, factor_positive}
 use Rattle.sigma_lower.specs.Wrapped.{wrapped}
@@ -18,18 +17,19 @@ use Rattle.tensor_paths.specs.Path.{Path, size_under, place, AreInRange}
 use Rattle.tensor_paths.proofs.PathPlaces.{place-below}
 use Rattle.tree_model.specs.declared.tree.Rule.{Rule}
 use Rattle.tree_model.specs.declared.tree.Rule.TheVariants.{Gt, Ct, Split}
-use Rattle.tree_model.specs.Admissible.{Fits, RuleFits}
+use Rattle.smp_rewrite.specs.Fits.{HasParts, RuleHasParts, CanShareLayout}
+use Rattle.steps.specs.Layout.{Layout}
 use Rattle.vec_rewrite.proofs.Following.{IsWide}
 use Rattle.vec_rewrite.proofs.StepFollows.{wide_from, wide_part}
 
 -- the sizes that a rule takes the root apart into fit
-pub fits-of : (c : Request) (rule : Rule) (r s : ℕ) → RuleFits c rule r s → Fits c r s
+pub fits-of : (c : Target) (rule : Rule) (r s : ℕ) → RuleHasParts c rule r s → HasParts c r s
 fits-of c Gt r s h = absurd h
 fits-of c Ct r s h = h
 fits-of c Split r s h = h
 
 -- several processors have equal shares of the rows and columns, each of whole lines and vectors
-pub record AreShares (c : Request) (r s : ℕ) : Type 0 where
+pub record AreShares (c : Target) (r s : ℕ) : Type 0 where
   pub several : 1 < c.procs
   pub size : r * s ≡ c.size
   pub low : 1 ≤ c.size
@@ -40,21 +40,21 @@ pub record AreShares (c : Request) (r s : ℕ) : Type 0 where
   pub column_vectors : IsWide c.lanes (s / c.procs)
   pub vectors : IsWide c.lanes s
 
-pub shares : (c : Request) (r s : ℕ) → IsValid c → 1 < c.procs → Fits c r s → AreShares c r s
-shares c r s valid several fits =
-    let line_low : 1 ≤ c.line = valid.in_range.line.0 in
+pub shares : (c : Target) (l : Layout) (r s : ℕ) → CanShareLayout c l → 1 < c.procs → HasParts c r s → r * s ≡ c.size → AreShares c r s
+shares c l r s can several fits product =
+    let line_low : 1 ≤ c.line = can.line in
     let positive : 0 < c.procs = omega (arith, several) in
     let both = fits.procs several in
     let left : IsDealt c.procs c.line r = is_dealt c.procs c.line r positive (omega (arith, line_low)) both.0 in
     let right : IsDealt c.procs c.line s = is_dealt c.procs c.line s positive (omega (arith, line_low)) both.1 in
-    let in_line : c.line % c.lanes ≡ 0 = valid.in_range.lanes_in_line several in
+    let in_line : c.line % c.lanes ≡ 0 = can.in_line several in
     let part : IsWide c.lanes (s / c.procs) = wide_part c.lanes c.line (s / c.procs) right.lines in_line in
     let whole : s ≡ c.lanes * (c.procs * (s / c.procs / c.lanes)) = right.parts ∙ ap (λ n. c.procs * n) part ∙ omega arith in
     record {
       several = several;
-      size = fits.product;
-      low = valid.in_range.size.0;
-      lanes = valid.in_range.lanes.0;
+      size = product;
+      low = can.some;
+      lanes = can.lanes;
       rows = left;
       columns = right;
       row_vectors = wide_part c.lanes c.line (r / c.procs) left.lines in_line;
@@ -63,29 +63,29 @@ shares c r s valid several fits =
     }
 
 -- what p times it is the whole is a processor's block
-pub block-of : (c : Request) (b : ℕ) → 1 < c.procs → c.procs * b ≡ c.size → c.size / c.procs ≡ b
+pub block-of : (c : Target) (b : ℕ) → 1 < c.procs → c.procs * b ≡ c.size → c.size / c.procs ≡ b
 block-of c b several e = let positive : 0 < c.procs = omega (arith, several) in ap (λ n. n / c.procs) (sym e) ∙ mul-div_right b positive
 
-pub row-block : (c : Request) (r s : ℕ) → AreShares c r s → c.procs * (r / c.procs * s) ≡ c.size
+pub row-block : (c : Target) (r s : ℕ) → AreShares c r s → c.procs * (r / c.procs * s) ≡ c.size
 row-block c r s h = sym (sym h.size ∙ ap (λ n. n * s) h.rows.parts ∙ omega arith)
 
-pub column-block : (c : Request) (r s : ℕ) → AreShares c r s → c.procs * (s / c.procs * r) ≡ c.size
+pub column-block : (c : Target) (r s : ℕ) → AreShares c r s → c.procs * (s / c.procs * r) ≡ c.size
 column-block c r s h = sym (sym h.size ∙ ap (λ n. r * n) h.columns.parts ∙ omega arith)
 
 -- ---- owners
 
 -- the block of n / p words that a word stands in
-abbrev pub block_owner : Request → ℕ → ℕ
+abbrev pub block_owner : Target → ℕ → ℕ
 block_owner c a = a / (c.size / c.procs)
 
 -- the share of the s columns that a word stands in
-abbrev pub column_owner : Request → ℕ → ℕ → ℕ
+abbrev pub column_owner : Target → ℕ → ℕ → ℕ
 column_owner c s a = a % s / (s / c.procs)
 
 same-lines : (a b line w : ℕ) → a / line ≡ b / line → a / (line * w) ≡ b / (line * w)
 same-lines a b line w e = sym (div-div-eq-div-mul a line w) ∙ ap (λ x. x / w) e ∙ div-div-eq-div-mul b line w
 
-pub block-owner : (c : Request) (r s : ℕ) → AreShares c r s → IsOwner c (block_owner c)
+pub block-owner : (c : Target) (r s : ℕ) → AreShares c r s → IsOwner c (block_owner c)
 block-owner c r s h =
     let p = c.procs in
     let w = r / p / c.line * s in
@@ -110,7 +110,7 @@ column-line p line w s u a positive eu es =
     ∙ ap (λ n. n / (w * line)) (apart x (p * w) line l below).column
     ∙ (apart (x % (p * w)) w line l below).row
 
-pub column-owner : (c : Request) (r s : ℕ) → 1 ≤ c.line → AreShares c r s → IsOwner c (column_owner c s)
+pub column-owner : (c : Target) (r s : ℕ) → 1 ≤ c.line → AreShares c r s → IsOwner c (column_owner c s)
 column-owner c r s line_low h =
     let p = c.procs in
     let u = s / p in
@@ -130,10 +130,10 @@ column-owner c r s line_low h =
 -- ---- natural places
 
 -- the items of each processor's copies stand at places that it owns
-abbrev pub OwnsNatural : Request → Path → ℕ → (ℕ → ℕ) → Type 0
+abbrev pub OwnsNatural : Target → Path → ℕ → (ℕ → ℕ) → Type 0
 OwnsNatural c path n owner = (q : ℕ) (vs : List ℕ) (k : ℕ) → q < c.procs → AreInRange path vs → (c.procs ≢ 1 → slice_index vs 0 ≡ q) → k < n → owner (place path n vs k) ≡ q
 
-pub block-natural : (c : Request) (rest : Path) (n : ℕ) → 1 < c.procs → c.procs * size_under rest n ≡ c.size → OwnsNatural c (Blocks c.procs ∷ rest) n (block_owner c)
+pub block-natural : (c : Target) (rest : Path) (n : ℕ) → 1 < c.procs → c.procs * size_under rest n ≡ c.size → OwnsNatural c (Blocks c.procs ∷ rest) n (block_owner c)
 block-natural c rest n several e q [] k below range head inside = absurd range
 block-natural c rest n several e q (x ∷ vs) k below range head inside =
     let size = size_under rest n in
@@ -207,7 +207,7 @@ both-columns v w k path n g hv hw e =
     subst (λ m. IsOnColumns m f (at (wrapped (within (Columns v) (within (Columns w) path)) n g))) same (columns-within (1 * w) v (within (Columns w) path) n f g hv inner)
 
 -- such a function stays in its column
-pub stays-in_column : (c : Request) (s : ℕ) (f g : ℕ → ℕ) → 0 < s → IsOnColumns s f g → (i : ℕ) → column_owner c s (g i) ≡ column_owner c s i
+pub stays-in_column : (c : Target) (s : ℕ) (f g : ℕ → ℕ) → 0 < s → IsOnColumns s f g → (i : ℕ) → column_owner c s (g i) ≡ column_owner c s i
 stays-in_column c s f g positive h i = ap (λ x. x / (s / c.procs)) (ap (λ x. x % s) (h i) ∙ column-of (f (i / s)) (i % s) s (mod-lt i positive))
 
 -- lines that are dealt go from the block of a processor to its columns

@@ -1,4 +1,4 @@
-//! How processors and lanes share the passes of a tree: each lane stands beside the one before it, and each line belongs
+//! How processors and lanes share the passes of a layout: each lane stands beside the one before it, and each line belongs
 //! to one processor.
 #![tactic(auto)]
 

@@ -1,9 +1,8 @@
--- Steps of a tree behind more tensors, and paths of tensors that may have one copy.
-use Rattle.std.proofs.Common.{◌≡◌, ◌≢◌, ℕ, ◌*◌, ◌/◌, Bool, true, false, arith, refl, sym, ap, ap₂, ◌∙◌, List, [], ◌∷◌, ◌++◌, if◌then◌else◌, append-nil, append_assoc}
+-- Steps of a layout behind more tensors, and paths of tensors that may have one copy.
+use Rattle.std.proofs.Common.{◌≡◌, ◌≢◌, ℕ, ◌/◌, Bool, true, false, arith, refl, sym, ap, ap₂, ◌∙◌, List, [], ◌∷◌, ◌++◌, if◌then◌else◌, append-nil, append_assoc}
 use Rattle.std.specs.Prelude.{map, ◌==◌}
 use Rattle.std.proofs.lemmas.Bool.Decides.{nat_tests}
 use Rattle.std.proofs.lemmas.List.{map-append}
-use Rattle.matrix_meaning.specs.declared.Request.{Request}
 use Rattle.smp_rewrite.specs.Smp.{within}
 use Rattle.steps.specs.Step.{turns, twiddles, thomas_in, thomas_out, PlainStep, step, rule_steps, steps_of}
 use Rattle.tensor_paths.specs.declared.Tensor.{Tensor}
@@ -11,8 +10,7 @@ use Rattle.tensor_paths.specs.declared.Tensor.TheVariants.{Blocks, Columns}
 use Rattle.tensor_paths.specs.Path.{Path, count_of}
 use Rattle.tree_model.specs.declared.tree.Rule.{Rule}
 use Rattle.tree_model.specs.declared.tree.Rule.TheVariants.{Gt, Ct, Split}
-use Rattle.tree_model.specs.Breakdown.{Breakdown, leaf, node, size_of}
-use Rattle.tree_model.specs.Cost.{is_kernel}
+use Rattle.steps.specs.Layout.{Layout, work, by, layout_size}
 use Rattle.sigma_lower.specs.Root.{right_path, left_path, whole_path}
 
 -- ---- steps
@@ -21,34 +19,30 @@ use Rattle.sigma_lower.specs.Root.{right_path, left_path, whole_path}
 abbrev pub behind : Path → PlainStep → PlainStep
 behind front e = step (front ++ e.path) e.core
 
-rule-behind : (front : Path) (rule : Rule) (path : Path) (r s : ℕ) (left right : List PlainStep) →
-    rule_steps rule (front ++ path) r s (map (behind front) left) (map (behind front) right) ≡ map (behind front) (rule_steps rule path r s left right)
-rule-behind front Gt path r s left right =
+rule-behind : (front : Path) (rule : Rule) (path : Path) (r s w : ℕ) (left right : List PlainStep) →
+    rule_steps rule (front ++ path) r s w (map (behind front) left) (map (behind front) right) ≡ map (behind front) (rule_steps rule path r s w left right)
+rule-behind front Gt path r s w left right =
     let last = step path (thomas_out r s) ∷ [] in
     ap (λ ss. step (front ++ path) (thomas_in r s) ∷ ss) (ap (λ ss. map (behind front) right ++ ss) (sym (map-append (behind front) left last)) ∙ sym (map-append (behind front) right (left ++ last)))
-rule-behind front Ct path r s left right = ap (λ ss. step (front ++ path) (turns r s) ∷ ss) (sym (map-append (behind front) right (step path (twiddles r s) ∷ left)))
-rule-behind front Split path r s left right = sym (map-append (behind front) right left)
-
-pick-behind : (front : Path) (b : Bool) (ss ts us vs : List PlainStep) → ss ≡ map (behind front) us → ts ≡ map (behind front) vs → (if b then ss else ts) ≡ map (behind front) (if b then us else vs)
-pick-behind front true ss ts us vs h k = h
-pick-behind front false ss ts us vs h k = k
+rule-behind front Ct path r s w left right = ap (λ ss. step (front ++ path) (turns r s) ∷ ss) (sym (map-append (behind front) right (step path (twiddles r s w) ∷ left)))
+rule-behind front Split path r s w left right = sym (map-append (behind front) right left)
 
 -- more tensors round a part are more tensors round its steps
-steps-append : (c : Request) (front path : Path) (t : Breakdown) → steps_of c (front ++ path) t ≡ map (behind front) (steps_of c path t)
-steps-append c front path (leaf d) = refl
-steps-append c front path (node rule a b) =
-    let r = size_of a in
-    let s = size_of b in
-    let left = steps_of c (path ++ Columns s ∷ []) a in
-    let right = steps_of c (path ++ Blocks r ∷ []) b in
-    let on_left : steps_of c ((front ++ path) ++ Columns s ∷ []) a ≡ map (behind front) left = ap (λ p. steps_of c p a) (append_assoc front path (Columns s ∷ [])) ∙ steps-append c front (path ++ Columns s ∷ []) a in
-    let on_right : steps_of c ((front ++ path) ++ Blocks r ∷ []) b ≡ map (behind front) right = ap (λ p. steps_of c p b) (append_assoc front path (Blocks r ∷ [])) ∙ steps-append c front (path ++ Blocks r ∷ []) b in
-    pick-behind front (is_kernel c (r * s)) _ _ _ _ refl (ap₂ (rule_steps rule (front ++ path) r s) on_left on_right ∙ rule-behind front rule path r s left right)
+steps-append : (front path : Path) (l : Layout) → steps_of (front ++ path) l ≡ map (behind front) (steps_of path l)
+steps-append front path (work w) = refl
+steps-append front path (by rule root a b) =
+    let r = layout_size a in
+    let s = layout_size b in
+    let left = steps_of (path ++ Columns s ∷ []) a in
+    let right = steps_of (path ++ Blocks r ∷ []) b in
+    let on_left : steps_of ((front ++ path) ++ Columns s ∷ []) a ≡ map (behind front) left = ap (λ p. steps_of p a) (append_assoc front path (Columns s ∷ [])) ∙ steps-append front (path ++ Columns s ∷ []) a in
+    let on_right : steps_of ((front ++ path) ++ Blocks r ∷ []) b ≡ map (behind front) right = ap (λ p. steps_of p b) (append_assoc front path (Blocks r ∷ [])) ∙ steps-append front (path ++ Blocks r ∷ []) b in
+    ap₂ (rule_steps rule (front ++ path) r s root) on_left on_right ∙ rule-behind front rule path r s root left right
 
-pub steps-behind : (c : Request) (front : Path) (t : Breakdown) → steps_of c front t ≡ map (behind front) (steps_of c [] t)
-steps-behind c front t = ap (λ p. steps_of c p t) (sym (append-nil front)) ∙ steps-append c front [] t
+pub steps-behind : (front : Path) (l : Layout) → steps_of front l ≡ map (behind front) (steps_of [] l)
+steps-behind front l = ap (λ p. steps_of p l) (sym (append-nil front)) ∙ steps-append front [] l
 
--- a tree has a step
+-- a layout has a step
 abbrev pub HasStep : List PlainStep → Type 0
 HasStep [] = ⊥
 HasStep (s ∷ ss) = Unit {0}
@@ -57,19 +51,14 @@ append-step : (ss ts : List PlainStep) → HasStep ss → HasStep (ss ++ ts)
 append-step [] ts h = absurd h
 append-step (s ∷ ss) ts h = tt
 
-rule-step : (rule : Rule) (path : Path) (r s : ℕ) (left right : List PlainStep) → HasStep right → HasStep (rule_steps rule path r s left right)
-rule-step Gt path r s left right h = tt
-rule-step Ct path r s left right h = tt
-rule-step Split path r s left right h = append-step right left h
+rule-step : (rule : Rule) (path : Path) (r s w : ℕ) (left right : List PlainStep) → HasStep right → HasStep (rule_steps rule path r s w left right)
+rule-step Gt path r s w left right h = tt
+rule-step Ct path r s w left right h = tt
+rule-step Split path r s w left right h = append-step right left h
 
-pick-step : (b : Bool) (ss ts : List PlainStep) → HasStep ss → HasStep ts → HasStep (if b then ss else ts)
-pick-step true ss ts h k = h
-pick-step false ss ts h k = k
-
-pub has_step : (c : Request) (path : Path) (t : Breakdown) → HasStep (steps_of c path t)
-has_step c path (leaf d) = tt
-has_step c path (node rule a b) =
-    pick-step (is_kernel c (size_of a * size_of b)) _ _ tt (rule-step rule path (size_of a) (size_of b) _ _ (has_step c (path ++ Blocks (size_of a) ∷ []) b))
+pub has_step : (path : Path) (l : Layout) → HasStep (steps_of path l)
+has_step path (work w) = tt
+has_step path (by rule root a b) = rule-step rule path (layout_size a) (layout_size b) root _ _ (has_step (path ++ Blocks (layout_size a) ∷ []) b)
 
 -- ---- paths
 

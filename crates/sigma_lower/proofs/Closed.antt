@@ -3,7 +3,6 @@ use Rattle.std.proofs.Common.{◌≡◌, ℕ, ◌*◌, ◌/◌, ◌%◌, ◌<◌
 use Rattle.std.proofs.Math.Nat.{div-add-mod'}
 use Rattle.std.proofs.lemmas.Nat.{mul-le, mul-lt}
 use Rattle.index_fn.specs.Mapping.{Mapping, ThomasIn, ThomasBack, at, IsDefinedAt, IsWellFormed}
-use Rattle.matrix_meaning.specs.declared.Request.{Request}
 use Rattle.operators.proofs.Lists.{factor_positive}
 use Rattle.sigma_lower.specs.Wrapped.{wrapped}
 use Rattle.sigma_lower.proofs.Permuted.{StaysBelow, wrapped-below}
@@ -35,8 +34,8 @@ wrapped-defined (Columns c ∷ path) n f h high i below =
     let within : size ≤ size * c = le-mul_of_pos_right {m = c} size positive in
     (wrapped-defined path n f h (omega arith) (i / c) ((div-lt_iff_lt-mul positive).1 below), tt, omega (arith, wrapped-below (Columns c ∷ path) n f h.below i below))
 
-pub closed-wrapped : (c : Request) (path : Path) (n : ℕ) (f : Mapping) → c.size ≤ 1048576 → size_under path n ≡ c.size → IsClosed n f → IsClosed c.size (wrapped path n f)
-closed-wrapped c path n f high e h =
+pub closed-wrapped : (whole : ℕ) (path : Path) (n : ℕ) (f : Mapping) → whole ≤ 1048576 → size_under path n ≡ whole → IsClosed n f → IsClosed whole (wrapped path n f)
+closed-wrapped whole path n f high e h =
     subst (λ m. IsClosed m (wrapped path n f)) e (record { defined = wrapped-defined path n f h (omega arith); below = wrapped-below path n f h.below })
 
 -- and its factors and divisors are as they must be

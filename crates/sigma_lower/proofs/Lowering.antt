@@ -1,7 +1,6 @@
 -- Each term does what its step does.
-use Rattle.std.proofs.Common.{◌≡◌, ◌≢◌, ℕ, zero, suc, ◌*◌, ◌%◌, ◌<◌, ◌≤◌, ◌+◌, ◌/◌, Bool, true, false, arith, refl, sym, ap, ap₂, ◌∙◌, List, [], ◌∷◌, ◌++◌, inl, inr, mod-lt, if◌then◌else◌, subst, mul_comm, div-lt_iff_lt-mul}
+use Rattle.std.proofs.Common.{◌≡◌, ◌≢◌, ℕ, zero, suc, ◌*◌, ◌%◌, ◌<◌, ◌≤◌, ◌+◌, ◌/◌, arith, refl, sym, ap, ap₂, ◌∙◌, List, [], ◌∷◌, ◌++◌, inl, inr, mod-lt, subst, mul_comm, div-lt_iff_lt-mul, mul-le-mul_left, mul-le-mul_right}
 use Rattle.std.specs.Prelude.{map}
-use Rattle.std.specs.Int.{IsGcd}
 use Rattle.std.proofs.Math.Nat.{zero-mod, mod-eq_of_lt, div-add-mod'}
 use Rattle.std.proofs.lemmas.Bool.{cases_eq}
 use Rattle.std.proofs.lemmas.Bool.Decides.{nat_tests}
@@ -9,77 +8,89 @@ use Rattle.std.proofs.lemmas.List.FromFn.{fill_by_all}
 use Rattle.std.proofs.lemmas.Nat.{mul-lt, mul-mod_second}
 use Rattle.index_fn.specs.Mapping.{Strided, ThomasIn, ThomasOut, ThomasBack, at, IsUnit}
 use Rattle.index_fn.proofs.Thomas.{thomas_out_undoes, unit_found}
-use Rattle.matrix_meaning.specs.declared.Kind.{Kind}
-use Rattle.matrix_meaning.specs.declared.Kind.TheVariants.{Dft, Wht}
-use Rattle.matrix_meaning.specs.declared.Request.{Request}
 use Rattle.operators.specs.Loop.{scatter, IsPermutationBelow}
-use Rattle.operators.specs.Identities.{HasSize}
 use Rattle.operators.specs.Operator.{gather, scale, stride}
 use Rattle.operators.proofs.Lists.{at-list_below, place_below, row-of, column-of, factor_positive}
 use Rattle.operators.proofs.Places.{stride_below}
 use Rattle.operators.proofs.Scatters.{gather_as_scatter}
 use Rattle.ring_mod.proofs.Inverses.{AreInverses, inverse_of_s, inverse_of_r, inverses_of}
-use Rattle.matrix_meaning.specs.Valid.{IsValid}
+use Rattle.kernel_gen.specs.Kernel.{CanMake}
+use Rattle.passes.specs.Work.{PlainWork, kernel, rows, horner, tile, copy, work_size, work_on}
+use Rattle.rooted_trees.specs.Trees.{PlainTrees, single, tensor, trees_size, AreWords}
+use Rattle.steps.specs.Layout.{Layout, work, by, layout_size, IsGoodWork, IsGoodRule, IsGoodLayout}
+use Rattle.steps.specs.declared.target.Target.{Target}
 use Rattle.smp_rewrite.proofs.Cores.{core-reads, core-gives}
 use Rattle.steps.specs.Meaning.{core_size, core_on, step_on, all_on}
 use Rattle.steps.specs.Step.{PlainCore, piece, turns, twiddles, thomas_in, thomas_out, PlainStep, rule_steps, steps_of}
 use Rattle.steps.proofs.WordSizes.{word_sizes}
 use Rattle.tensor_paths.specs.declared.Tensor.TheVariants.{Blocks, Columns}
 use Rattle.tensor_paths.specs.Loop.{loop_on}
-use Rattle.tensor_paths.specs.Path.{Path, size_under, copies_of, under, place, Reads}
-use Rattle.tensor_paths.proofs.Under.{size_under-push, size_under-copies, under-size}
+use Rattle.tensor_paths.specs.Path.{Path, size_under, under, place}
+use Rattle.tensor_paths.proofs.Under.{size_under-push, under-size}
 use Rattle.tensor_paths.proofs.PathLoops.{loop_is_under}
 use Rattle.tree_model.specs.declared.tree.Rule.{Rule}
 use Rattle.tree_model.specs.declared.tree.Rule.TheVariants.{Gt, Ct, Split}
-use Rattle.tree_model.specs.Breakdown.{Breakdown, leaf, node, size_of, AllowsRule, IsWellFormed, HasWordSizes}
-use Rattle.tree_model.specs.Cost.{is_kernel}
+use Rattle.tree_model.specs.Breakdown.{size_of}
+use Rattle.tree_model.proofs.Sizes.{one_le_size_of}
 use Rattle.vec_rewrite.specs.Vectors.{PlainFactor, lanes, diagonals, move_before, move_after, tiles, factor_step}
 use Rattle.sigma_lower.specs.Term.{nest, lowered_core, after_core, factor_term, term_on, terms_on, diagonal_at}
-use Rattle.sigma_lower.specs.Work.{PlainWork, transforming, tiling, work_size, work_on}
 use Rattle.sigma_lower.specs.Wrapped.{wrapped, unit_below, unit_of}
 use Rattle.sigma_lower.proofs.Permuted.{StaysBelow, gather-under, scale-under, wrapped-permutes}
 use Rattle.sigma_lower.proofs.Sizes.{within_whole}
--- ---- the steps of a tree are good: of the request's size, and with the factors that their permutations need
+-- ---- the steps of a layout are good: of the size of the whole, and with the factors that their permutations need
 
-pub use Rattle.sigma_lower.specs.Good.{AreCoprime, IsGoodCore, IsGood, AreGood}
+pub use Rattle.sigma_lower.specs.Good.{AreCoprime, IsGoodPiece, IsGoodCore, IsGood, AreGood}
 pub use Rattle.sigma_lower.proofs.Sizes.{part-le}
 
-pub good-append : (c : Request) (ss ts : List PlainStep) → AreGood c ss → AreGood c ts → AreGood c (ss ++ ts)
-good-append c [] ts h k = k
-good-append c (s ∷ ss) ts h k = (h.0, good-append c ss ts h.1 k)
+pub good-append : (n : ℕ) (ss ts : List PlainStep) → AreGood n ss → AreGood n ts → AreGood n (ss ++ ts)
+good-append n [] ts h k = k
+good-append n (s ∷ ss) ts h k = (h.0, good-append n ss ts h.1 k)
 
-pub coprime_sizes : (kind : Kind) (r s : ℕ) → AllowsRule kind Gt r s → IsGcd r s 1
-coprime_sizes Dft r s h = h
-coprime_sizes Wht r s h = absurd h
+good_rule : (n : ℕ) (rule : Rule) (path : Path) (r s w : ℕ) (left right : List PlainStep) → size_under path (r * s) ≡ n → IsGoodRule rule r s →
+    AreGood n left → AreGood n right → AreGood n (rule_steps rule path r s w left right)
+good_rule n Gt path r s w left right e good on_left on_right =
+    let h : 2 ≤ r = good.left in
+    let g : 2 ≤ s = good.right in
+    let both : AreCoprime r s = record { left = omega (arith, h); right = omega (arith, g); gcd = good.parts; small = good.small } in
+    (record { size = e; core = both }, good-append n right _ on_right (good-append n left _ on_left (record { size = e; core = both }, tt)))
+good_rule n Ct path r s w left right e good on_left on_right =
+    let h : 2 ≤ r = good.left in
+    let g : 2 ≤ s = good.right in
+    (record { size = e; core = (omega (arith, h), omega (arith, g)) }, good-append n right _ on_right (record { size = e; core = tt }, on_left))
+good_rule n Split path r s w left right e good on_left on_right = good-append n right left on_right on_left
 
-good_rule : (c : Request) (rule : Rule) (path : Path) (r s : ℕ) (left right : List PlainStep) → size_under path (r * s) ≡ c.size → 0 < r → 0 < s → (AllowsRule c.kind rule r s) → r * s ≤ 1048576 →
-    AreGood c left → AreGood c right → AreGood c (rule_steps rule path r s left right)
-good_rule c Gt path r s left right e h g allowed small on_left on_right =
-    let both : AreCoprime r s = record { left = h; right = g; gcd = coprime_sizes c.kind r s allowed; small = small } in
-    (record { size = e; core = both }, good-append c right _ on_right (good-append c left _ on_left (record { size = e; core = both }, tt)))
-good_rule c Ct path r s left right e h g allowed small on_left on_right =
-    (record { size = e; core = (h, g) }, good-append c right _ on_right (record { size = e; core = tt }, on_left))
-good_rule c Split path r s left right e h g allowed small on_left on_right = good-append c right left on_right on_left
+-- trees that can be made, of few items, have words for sizes
+trees-some : (m : ℕ) (trees : PlainTrees) → CanMake m trees → 1 ≤ trees_size trees
+trees-some m (single kind root t) h = one_le_size_of kind t h.0
+trees-some m (tensor kind root t others) h =
+    let left : 1 ≤ size_of t = one_le_size_of kind t h.0.0 in
+    let right : 1 ≤ trees_size others = trees-some m others h.1 in
+    let more : size_of t * 1 ≤ size_of t * trees_size others = mul-le-mul_left (size_of t) right in omega (arith, left, more)
 
-good_pick : (c : Request) (b : Bool) (ss ts : List PlainStep) → AreGood c ss → AreGood c ts → AreGood c (if b then ss else ts)
-good_pick c true ss ts h k = h
-good_pick c false ss ts h k = k
+trees-words : (m : ℕ) (trees : PlainTrees) → CanMake m trees → trees_size trees ≤ 1048576 → AreWords trees
+trees-words m (single kind root t) h small = word_sizes kind t h.0 (omega (arith, small))
+trees-words m (tensor kind root t others) h small =
+    let left : 1 ≤ size_of t = one_le_size_of kind t h.0.0 in
+    let right : 1 ≤ trees_size others = trees-some m others h.1 in
+    let one : size_of t * 1 ≤ size_of t * trees_size others = mul-le-mul_left (size_of t) right in
+    let two : 1 * trees_size others ≤ size_of t * trees_size others = mul-le-mul_right (trees_size others) left in
+    (word_sizes kind t h.0.0 (omega (arith, small, one)), trees-words m others h.1 (omega (arith, small, two)), omega (arith, small))
 
-words_of : (c : Request) (path : Path) (t : Breakdown) → IsValid c → IsWellFormed c.kind t → size_under path (size_of t) ≡ c.size → HasWordSizes t
-words_of c path t valid h e = word_sizes c.kind t h (omega (arith, within_whole c path (size_of t) valid e, valid.in_range.size.1))
+work-words : (m : ℕ) (w : PlainWork) → IsGoodWork m w → work_size w ≤ 1048576 → IsGoodPiece w
+work-words m (kernel trees) h small = trees-words m trees h small
+work-words m (rows root size) h small = tt
+work-words m (horner root size) h small = absurd h
+work-words m (tile v) h small = absurd h
+work-words m (copy size) h small = absurd h
 
-pub good_steps : (c : Request) (path : Path) (t : Breakdown) → IsValid c → IsWellFormed c.kind t → size_under path (size_of t) ≡ c.size → AreGood c (steps_of c path t)
-good_steps c path (leaf d) valid h e = (record { size = e; core = words_of c path (leaf d) valid h e }, tt)
-good_steps c path (node rule a b) valid h e =
-    let r = size_of a in
-    let s = size_of b in
-    let low : 1 ≤ c.size = valid.in_range.size.0 in
-    let high : c.size ≤ 1048576 = valid.in_range.size.1 in
-    let within : r * s ≤ c.size = part-le (copies_of path) (r * s) c.size (sym (size_under-copies path (r * s)) ∙ e) low in
-    good_pick c (is_kernel c (r * s)) _ _ (record { size = e; core = words_of c path (node rule a b) valid h e }, tt)
-    (good_rule c rule path r s _ _ e (omega (arith, h.0.left)) (omega (arith, h.0.right)) h.0.allowed (omega arith)
-    (good_steps c (path ++ Columns s ∷ []) a valid h.1 (size_under-push path (Columns s) r ∙ e))
-    (good_steps c (path ++ Blocks r ∷ []) b valid h.2 (size_under-push path (Blocks r) s ∙ e)))
+pub good_steps : (m n : ℕ) (path : Path) (l : Layout) → 1 ≤ n → n ≤ 1048576 → IsGoodLayout m l → size_under path (layout_size l) ≡ n → AreGood n (steps_of path l)
+good_steps m n path (work w) some high h e = (record { size = e; core = work-words m w h.1 (omega (arith, high, within_whole path (work_size w) n some e)) }, tt)
+good_steps m n path (by rule root a b) some high h e =
+    let r = layout_size a in
+    let s = layout_size b in
+    good_rule n rule path r s root _ _ e h.0
+    (good_steps m n (path ++ Columns s ∷ []) a some high h.1 (size_under-push path (Columns s) r ∙ e))
+    (good_steps m n (path ++ Blocks r ∷ []) b some high h.2 (size_under-push path (Blocks r) s ∙ e))
 
 -- ---- the numbers of the inverse of a Good-Thomas step
 
@@ -142,23 +153,14 @@ unit_small r s h = from_inverses (inverses_of r s h.left h.gcd)
 
 -- ---- each term
 
--- a transform and a tile read as many items as they give
-pub work-reads : (c : Request) (w : PlainWork) → Reads (work_size w) (work_on c w)
-work-reads c (transforming t) = core-reads c (piece t)
-work-reads c (tiling v) = core-reads c (turns v v)
-
-work-gives : (c : Request) (w : PlainWork) → HasSize (work_size w) (work_on c w)
-work-gives c (transforming t) = core-gives c (piece t)
-work-gives c (tiling v) = core-gives c (turns v v)
-
 -- the loops over the copies
-pub nest_on : (c : Request) (path : Path) (w : PlainWork) (x : List ℕ) → size_under path (work_size w) ≡ c.size → term_on c (nest path w) x ≡ under path (work_size w) (work_on c w) x
-nest_on c path w x e =
+pub nest_on : (h : Target) (path : Path) (w : PlainWork) (x : List ℕ) → size_under path (work_size w) ≡ h.size → term_on h (nest path w) x ≡ under path (work_size w) (work_on h.modulus w) x
+nest_on h path w x e =
     let d = work_size w in
-    let a = work_on c w in
+    let a = work_on h.modulus w in
     ap (λ n. loop_on n path d (place path d) (λ vs. a) (place path d) x) (sym e)
-    ∙ sym (fill_by_all _ (under path d a x) (size_under path d) 0 (under-size path d a (work-gives c w) x)
-    (λ k below. sym (loop_is_under path d a x (work-reads c w) k below) ∙ at-list_below (size_under path d) _ k below))
+    ∙ sym (fill_by_all _ (under path d a x) (size_under path d) 0 (under-size path d a (core-gives h.modulus (piece w)) x)
+    (λ k below. sym (loop_is_under path d a x (core-reads h.modulus (piece w)) k below) ∙ at-list_below (size_under path d) _ k below))
 
 pub turns_below : (r s : ℕ) → StaysBelow (r * s) (at (Strided r s))
 turns_below r s i below = (stride_below r s i below).1
@@ -180,44 +182,44 @@ turns-permute r s =
       there-back = turn-undone r s;
     }
 
-pub lowered_core_on : (c : Request) (path : Path) (k : PlainCore) (x : List ℕ) → size_under path (core_size k) ≡ c.size → IsGoodCore k →
-    term_on c (lowered_core path k) x ≡ under path (core_size k) (core_on c k) x
-lowered_core_on c path (piece t) x e h = nest_on c path (transforming t) x e
-lowered_core_on c path (turns r s) x e h =
+pub lowered_core_on : (h : Target) (path : Path) (k : PlainCore) (x : List ℕ) → size_under path (core_size k) ≡ h.size → IsGoodCore k →
+    term_on h (lowered_core path k) x ≡ under path (core_size k) (core_on h.modulus k) x
+lowered_core_on h path (piece w) x e g = nest_on h path w x e
+lowered_core_on h path (turns r s) x e g =
     ap (λ n. gather n (at (wrapped path (r * s) (Strided r s))) x) (sym e)
     ∙ sym (gather-under path (r * s) (Strided r s) x (turns_below r s))
-lowered_core_on c path (twiddles r s) x e h =
-    ap (λ n. scale c.modulus n (diagonal_at c path r s) x) (sym e) ∙ sym (scale-under path c.modulus (r * s) _ x)
-lowered_core_on c path (thomas_in r s) x e h =
-    let positive : 0 < r * s = mul-lt 0 0 r s h.left h.right in
+lowered_core_on h path (twiddles r s w) x e g =
+    ap (λ n. scale h.modulus n (diagonal_at h.modulus path r s w) x) (sym e) ∙ sym (scale-under path h.modulus (r * s) _ x)
+lowered_core_on h path (thomas_in r s) x e g =
+    let positive : 0 < r * s = mul-lt 0 0 r s g.left g.right in
     ap (λ n. gather n (at (wrapped path (r * s) (ThomasIn r s))) x) (sym e)
     ∙ sym (gather-under path (r * s) (ThomasIn r s) x (λ i below. mod-lt _ positive))
-lowered_core_on c path (thomas_out r s) x e h =
-    let both = thomas_permutes r s h in
+lowered_core_on h path (thomas_out r s) x e g =
+    let both = thomas_permutes r s g in
     ap (λ n. scatter n n (at (wrapped path (r * s) (ThomasBack r s (unit_of r s) (unit_of s r)))) x) (sym e)
     ∙ sym (gather_as_scatter (size_under path (r * s)) _ _ x (wrapped-permutes path (r * s) (ThomasOut r s) (ThomasBack r s (unit_of r s) (unit_of s r)) both))
     ∙ sym (gather-under path (r * s) (ThomasOut r s) x both.there_below)
 
-after_core_on : (c : Request) (path : Path) (k : PlainCore) (x : List ℕ) → size_under path (core_size k) ≡ c.size → IsGoodCore k →
-    term_on c (after_core path k) x ≡ under path (core_size k) (core_on c k) x
-after_core_on c path (piece t) x e h = lowered_core_on c path (piece t) x e h
-after_core_on c path (turns r s) x e h =
+after_core_on : (h : Target) (path : Path) (k : PlainCore) (x : List ℕ) → size_under path (core_size k) ≡ h.size → IsGoodCore k →
+    term_on h (after_core path k) x ≡ under path (core_size k) (core_on h.modulus k) x
+after_core_on h path (piece w) x e g = lowered_core_on h path (piece w) x e g
+after_core_on h path (turns r s) x e g =
     ap (λ n. scatter n n (at (wrapped path (r * s) (Strided s r))) x) (sym e)
     ∙ sym (gather_as_scatter (size_under path (r * s)) _ _ x (wrapped-permutes path (r * s) (Strided r s) (Strided s r) (turns-permute r s)))
     ∙ sym (gather-under path (r * s) (Strided r s) x (turns_below r s))
-after_core_on c path (twiddles r s) x e h = lowered_core_on c path (twiddles r s) x e h
-after_core_on c path (thomas_in r s) x e h = lowered_core_on c path (thomas_in r s) x e h
-after_core_on c path (thomas_out r s) x e h = lowered_core_on c path (thomas_out r s) x e h
+after_core_on h path (twiddles r s w) x e g = lowered_core_on h path (twiddles r s w) x e g
+after_core_on h path (thomas_in r s) x e g = lowered_core_on h path (thomas_in r s) x e g
+after_core_on h path (thomas_out r s) x e g = lowered_core_on h path (thomas_out r s) x e g
 
 -- the term of a factor does what its step does
-pub factor_on : (c : Request) (p v : ℕ) (f : PlainFactor) (x : List ℕ) → IsGood c (factor_step p v f) → term_on c (factor_term p v f) x ≡ step_on c (factor_step p v f) x
-factor_on c p v (lanes s) x h = lowered_core_on c (factor_step p v (lanes s)).path s.core x h.size h.core
-factor_on c p v (diagonals s) x h = lowered_core_on c s.path s.core x h.size h.core
-factor_on c p v (move_before s) x h = lowered_core_on c (factor_step p v (move_before s)).path s.core x h.size h.core
-factor_on c p v (move_after s) x h = after_core_on c (factor_step p v (move_after s)).path s.core x h.size h.core
-factor_on c p v (tiles path) x h = nest_on c (factor_step p v (tiles path)).path (tiling v) x h.size
+pub factor_on : (h : Target) (p v : ℕ) (f : PlainFactor) (x : List ℕ) → IsGood h.size (factor_step p v f) → term_on h (factor_term p v f) x ≡ step_on h.modulus (factor_step p v f) x
+factor_on h p v (lanes s) x g = lowered_core_on h (factor_step p v (lanes s)).path s.core x g.size g.core
+factor_on h p v (diagonals s) x g = lowered_core_on h s.path s.core x g.size g.core
+factor_on h p v (move_before s) x g = lowered_core_on h (factor_step p v (move_before s)).path s.core x g.size g.core
+factor_on h p v (move_after s) x g = after_core_on h (factor_step p v (move_after s)).path s.core x g.size g.core
+factor_on h p v (tiles path) x g = nest_on h (factor_step p v (tiles path)).path (tile v) x g.size
 
-pub factors_on : (c : Request) (p v : ℕ) (fs : List PlainFactor) (x : List ℕ) → AreGood c (map (factor_step p v) fs) → terms_on c (map (factor_term p v) fs) x ≡ all_on c (map (factor_step p v) fs) x
-factors_on c p v [] x h = refl
-factors_on c p v (f ∷ fs) x h =
-    ap (terms_on c (map (factor_term p v) fs)) (factor_on c p v f x h.0) ∙ factors_on c p v fs (step_on c (factor_step p v f) x) h.1
+pub factors_on : (h : Target) (p v : ℕ) (fs : List PlainFactor) (x : List ℕ) → AreGood h.size (map (factor_step p v) fs) → terms_on h (map (factor_term p v) fs) x ≡ all_on h.modulus (map (factor_step p v) fs) x
+factors_on h p v [] x g = refl
+factors_on h p v (f ∷ fs) x g =
+    ap (terms_on h (map (factor_term p v) fs)) (factor_on h p v f x g.0) ∙ factors_on h p v fs (step_on h.modulus (factor_step p v f) x) g.1

@@ -8,13 +8,12 @@ use Rattle.smp_rewrite.specs.Smp.{within}
 use Rattle.steps.specs.Step.{PlainCore, piece, turns, twiddles, thomas_in, thomas_out, PlainStep, step}
 use Rattle.tensor_paths.specs.declared.Tensor.TheVariants.{Blocks, Columns}
 use Rattle.tensor_paths.specs.Path.{Path}
-use Rattle.tree_model.specs.Breakdown.{Breakdown}
+use Rattle.passes.specs.Work.{PlainWork, tile}
 use Rattle.vec_rewrite.specs.declared.Deal.{Deal}
 use Rattle.vec_rewrite.specs.declared.Grid.{Grid}
 use Rattle.vec_rewrite.specs.Turning.{kept, settled, order_after, laned, laned_from}
 use Rattle.sigma_lower.specs.Root.{right_path, left_path, whole_path, lines_moved, vectors_turned, turned_in, tiled_before, tiled_after, left_piece, left_core}
 use Rattle.sigma_lower.specs.Term.{PlainTerm, gath, scat, diag, nest, lowered_core, factor_term}
-use Rattle.sigma_lower.specs.Work.{transforming, tiling}
 use Rattle.sigma_lower.specs.Wrapped.{wrapped, unit_of}
 use Rattle.sigma_lower.proofs.Behind.{right-behind, left-behind, whole-behind, within-several, not-one, by-one}
 
@@ -25,7 +24,7 @@ pub record Cuts (cut : PlainStep → List smp.PlainFactor) (from : Option Grid �
       from None (cut (step (Blocks r ∷ path) core) ++ fs) ≡ tiled_before p v r s ++ (lowered_core (right_path p v r ++ path) core ∷ from (Some grid) fs)
   pub right_next : (path : Path) (core : PlainCore) (fs : List smp.PlainFactor) →
       from (Some grid) (cut (step (Blocks r ∷ path) core) ++ fs) ≡ lowered_core (right_path p v r ++ path) core ∷ from (Some grid) fs
-  pub diagonal : (fs : List smp.PlainFactor) → from (Some grid) (cut (step [] (twiddles r s)) ++ fs) ≡ tiled_after p v r s ++ (diag [] r s ∷ from None fs)
+  pub diagonal : (w : ℕ) (fs : List smp.PlainFactor) → from (Some grid) (cut (step [] (twiddles r s w)) ++ fs) ≡ tiled_after p v r s ++ (diag [] r s w ∷ from None fs)
   pub left_first : (path : Path) (core : PlainCore) (fs : List smp.PlainFactor) →
       from (Some grid) (cut (step (Columns s ∷ path) core) ++ fs) ≡ tiled_after p v r s ++ (left_core p v r s path core ++ from None fs)
   pub left_next : (path : Path) (core : PlainCore) (fs : List smp.PlainFactor) → from None (cut (step (Columns s ∷ path) core) ++ fs) ≡ left_core p v r s path core ++ from None fs
@@ -41,14 +40,14 @@ turned-several : (p v r s : ℕ) → p ≢ 1 → turned_in p v r s ≡ gath (lin
 turned-several p v r s h = ap (λ b. (if b then [] else gath (lines_moved p v r s) ∷ []) ++ gath (vectors_turned p v r s) ∷ []) (not-one p h)
 
 -- a matrix of k rows, whose lines come and go under the one path, on copies under the other
-abbrev dealt_terms : ℕ → ℕ → Path → Path → Breakdown → List PlainTerm
-dealt_terms p k lines copies t = gath (wrapped lines (p * k) (Strided p k)) ∷ nest copies (transforming t) ∷ scat (wrapped lines (k * p) (Strided p k)) ∷ []
+abbrev dealt_terms : ℕ → ℕ → Path → Path → PlainWork → List PlainTerm
+dealt_terms p k lines copies t = gath (wrapped lines (p * k) (Strided p k)) ∷ nest copies t ∷ scat (wrapped lines (k * p) (Strided p k)) ∷ []
 
-piece-several : (p v m s : ℕ) (path : Path) (t : Breakdown) → p ≢ 1 →
+piece-several : (p v m s : ℕ) (path : Path) (t : PlainWork) → p ≢ 1 →
     left_piece p v m s path t ≡ dealt_terms p m (within (Columns v) (within (Columns (s / p / v)) [])) (within (Blocks p) (within (Columns v) (within (Columns (s / p / v)) path))) t
 piece-several p v m s path t h =
     let lines = within (Columns v) (within (Columns (s / p / v)) []) in
-    ap (λ b. if b then nest (left_path p v s ++ path) (transforming t) ∷ [] else dealt_terms p m lines (left_path p v s ++ path) t) (not-one p h)
+    ap (λ b. if b then nest (left_path p v s ++ path) t ∷ [] else dealt_terms p m lines (left_path p v s ++ path) t) (not-one p h)
     ∙ ap (λ copies. dealt_terms p m lines copies t) (left-behind p v s path)
 
 -- ---- one lane
@@ -78,7 +77,7 @@ kept-cut n p r s path (piece t) fs h columns rows =
     ap₂ (λ m k. dealt_terms p m (within (Columns k) []) (within (Blocks p) (within (Columns k) path)) t ++ kept_from p None fs) rows (sym (by-one (s / p)))
     ∙ ap (λ ts. ts ++ kept_from p None fs) (sym (piece-several p 1 r s path t h))
 kept-cut n p r s path (turns a b) fs h columns rows = ap (λ q. gath (wrapped q (a * b) (Strided a b)) ∷ kept_from p None fs) (one-whole s path columns)
-kept-cut n p r s path (twiddles a b) fs h columns rows = refl
+kept-cut n p r s path (twiddles a b w) fs h columns rows = refl
 kept-cut n p r s path (thomas_in a b) fs h columns rows = ap (λ q. gath (wrapped q (a * b) (ThomasIn a b)) ∷ kept_from p None fs) (one-whole s path columns)
 kept-cut n p r s path (thomas_out a b) fs h columns rows =
     ap (λ q. scat (wrapped q (a * b) (ThomasBack a b (unit_of a b) (unit_of b a))) ∷ kept_from p None fs) (one-whole s path columns)
@@ -93,7 +92,7 @@ kept_cuts n p r s g h columns rows = record {
   root = λ fs. kept-root n p r s fs h;
   right_first = λ path core fs. kept-right n p r path core fs h;
   right_next = λ path core fs. kept-right n p r path core fs h;
-  diagonal = λ fs. ap (λ gs. kept_from p None (gs ++ fs)) (cut-several n p [] (twiddles r s) h);
+  diagonal = λ w fs. ap (λ gs. kept_from p None (gs ++ fs)) (cut-several n p [] (twiddles r s w) h);
   left_first = λ path core fs. kept-left n p r s path core fs h columns rows;
   left_next = λ path core fs. kept-left n p r s path core fs h columns rows;
   ends = refl;
@@ -115,11 +114,11 @@ laned_terms p b v o fs = map (factor_term p v) (laned_from (deal p b v) o fs)
 -- rows side by side, in a groups that t tiles reach across, and one behind the other again
 abbrev joined_terms : ℕ → ℕ → ℕ → ℕ → List PlainTerm
 joined_terms p v a t =
-    gath (wrapped (within (Columns v) (within (Blocks p) (within (Blocks a) []))) (t * v) (Strided t v)) ∷ nest (within (Blocks p) (within (Blocks a) (within (Blocks t) []))) (tiling v) ∷ []
+    gath (wrapped (within (Columns v) (within (Blocks p) (within (Blocks a) []))) (t * v) (Strided t v)) ∷ nest (within (Blocks p) (within (Blocks a) (within (Blocks t) []))) (tile v) ∷ []
 
 abbrev parted_terms : ℕ → ℕ → ℕ → ℕ → List PlainTerm
 parted_terms p v a t =
-    nest (within (Blocks p) (within (Blocks a) (within (Blocks t) []))) (tiling v) ∷ scat (wrapped (within (Columns v) (within (Blocks p) (within (Blocks a) []))) (v * t) (Strided t v)) ∷ []
+    nest (within (Blocks p) (within (Blocks a) (within (Blocks t) []))) (tile v) ∷ scat (wrapped (within (Columns v) (within (Blocks p) (within (Blocks a) []))) (v * t) (Strided t v)) ∷ []
 
 before-several : (p v r s : ℕ) → v ≢ 1 → tiled_before p v r s ≡ joined_terms p v (r / p / v) (s / v)
 before-several p v r s h = ap (λ b. if b then [] else joined_terms p v (r / p / v) (s / v)) (not-one v h)
@@ -168,15 +167,15 @@ settle-first p b v r s u f fs h e =
 column-settles : (d : Deal) (o : Option Grid) (s : ℕ) (path : Path) (core : PlainCore) → laned d o (smp.blocks (step (Columns s ∷ path) core)) ≡ settled d o ++ laned d None (smp.blocks (step (Columns s ∷ path) core))
 column-settles d o s path (piece t) = refl
 column-settles d o s path (turns a b) = refl
-column-settles d o s path (twiddles a b) = refl
+column-settles d o s path (twiddles a b w) = refl
 column-settles d o s path (thomas_in a b) = refl
 column-settles d o s path (thomas_out a b) = refl
 
 alone-left : (b v r s : ℕ) (path : Path) (core : PlainCore) (fs : List smp.PlainFactor) → laned_terms 1 b v None (smp.blocks (step (Columns s ∷ path) core) ∷ fs) ≡ left_core 1 v r s path core ++ laned_terms 1 b v None fs
 alone-left b v r s path (piece t) fs =
-    ap (λ q. nest q (transforming t) ∷ laned_terms 1 b v None fs) (sym (left-behind 1 v s path ∙ ap (λ k. within (Columns v) (within (Columns (k / v)) path)) (by-one s)))
+    ap (λ q. nest q t ∷ laned_terms 1 b v None fs) (sym (left-behind 1 v s path ∙ ap (λ k. within (Columns v) (within (Columns (k / v)) path)) (by-one s)))
 alone-left b v r s path (turns q k) fs = ap (λ w. gath (wrapped w (q * k) (Strided q k)) ∷ laned_terms 1 b v None fs) (sym (whole-behind v s path))
-alone-left b v r s path (twiddles q k) fs = refl
+alone-left b v r s path (twiddles q k w) fs = refl
 alone-left b v r s path (thomas_in q k) fs = ap (λ w. gath (wrapped w (q * k) (ThomasIn q k)) ∷ laned_terms 1 b v None fs) (sym (whole-behind v s path))
 alone-left b v r s path (thomas_out q k) fs =
     ap (λ w. scat (wrapped w (q * k) (ThomasBack q k (unit_of q k) (unit_of k q))) ∷ laned_terms 1 b v None fs) (sym (whole-behind v s path))
@@ -190,7 +189,7 @@ alone_cuts n b v r s h = record {
   root = λ fs. alone-root b v r s fs h;
   right_first = λ path core fs. rows-first 1 b v r s r path core fs h;
   right_next = λ path core fs. rows-next 1 b v r s r path core fs h;
-  diagonal = λ fs. settle-first 1 b v r s r (smp.blocks (step [] (twiddles r s))) fs h refl;
+  diagonal = λ w fs. settle-first 1 b v r s r (smp.blocks (step [] (twiddles r s w))) fs h refl;
   left_first = λ path core fs.
       settle-first 1 b v r s r (smp.blocks (step (Columns s ∷ path) core)) fs h (column-settles (deal 1 b v) (Some (grid_of b v r)) s path core)
       ∙ ap (λ ts. tiled_after 1 v r s ++ ts) (alone-left b v r s path core fs);
@@ -223,7 +222,7 @@ among-root n p b v r s fs h =
 abbrev column_factors : ℕ → ℕ → ℕ → Path → PlainCore → List smp.PlainFactor
 column_factors n p s path core = cut_factors n p (Columns s ∷ path) core
 
-among-piece : (n p b v r s : ℕ) (o : Option Grid) (path : Path) (t : Breakdown) (fs : List smp.PlainFactor) → Dealt p b v r s →
+among-piece : (n p b v r s : ℕ) (o : Option Grid) (path : Path) (t : PlainWork) (fs : List smp.PlainFactor) → Dealt p b v r s →
     laned_terms p b v o (column_factors n p s path (piece t) ++ fs)
     ≡ laned_terms p b v o (smp.move_before (step (Columns (s / p) ∷ []) (turns p (n / s))) ∷ smp.blocks (step (Columns (s / p) ∷ path) (piece t)) ∷ smp.move_after (step (Columns (s / p) ∷ []) (turns (n / s) p)) ∷ fs)
 among-piece n p b v r s o path t fs h =
@@ -237,7 +236,7 @@ among-cut n p b v r s path (piece t) fs h rows =
     ∙ ap (λ m. dealt_terms p m (within (Columns v) (within (Columns (s / p / v)) [])) (within (Blocks p) (within (Columns v) (within (Columns (s / p / v)) path))) t ++ laned_terms p b v None fs) rows
     ∙ ap (λ ts. ts ++ laned_terms p b v None fs) (sym (piece-several p v r s path t h.procs))
 among-cut n p b v r s path (turns q k) fs h rows = ap (λ w. gath (wrapped w (q * k) (Strided q k)) ∷ laned_terms p b v None fs) (sym (whole-behind v s path))
-among-cut n p b v r s path (twiddles q k) fs h rows = refl
+among-cut n p b v r s path (twiddles q k w) fs h rows = refl
 among-cut n p b v r s path (thomas_in q k) fs h rows = ap (λ w. gath (wrapped w (q * k) (ThomasIn q k)) ∷ laned_terms p b v None fs) (sym (whole-behind v s path))
 among-cut n p b v r s path (thomas_out q k) fs h rows =
     ap (λ w. scat (wrapped w (q * k) (ThomasBack q k (unit_of q k) (unit_of k q))) ∷ laned_terms p b v None fs) (sym (whole-behind v s path))
@@ -248,7 +247,7 @@ among-settles n p b v r s path (piece t) fs h =
     let rest = smp.blocks (step (within (Columns (s / p)) path) (piece t)) ∷ smp.move_after (step (within (Columns (s / p)) []) (turns (n / s) p)) ∷ fs in
     settle-first p b v r s (r / p) (smp.move_before (step (within (Columns (s / p)) []) (turns p (n / s)))) rest h.dealt refl
 among-settles n p b v r s path (turns q k) fs h = settle-first p b v r s (r / p) (smp.move_before (step (Columns s ∷ path) (turns q k))) fs h.dealt refl
-among-settles n p b v r s path (twiddles q k) fs h = settle-first p b v r s (r / p) (smp.diagonals (step (Columns s ∷ path) (twiddles q k))) fs h.dealt refl
+among-settles n p b v r s path (twiddles q k w) fs h = settle-first p b v r s (r / p) (smp.diagonals (step (Columns s ∷ path) (twiddles q k w))) fs h.dealt refl
 among-settles n p b v r s path (thomas_in q k) fs h = settle-first p b v r s (r / p) (smp.move_before (step (Columns s ∷ path) (thomas_in q k))) fs h.dealt refl
 among-settles n p b v r s path (thomas_out q k) fs h = settle-first p b v r s (r / p) (smp.move_after (step (Columns s ∷ path) (thomas_out q k))) fs h.dealt refl
 
@@ -265,9 +264,9 @@ among_cuts n p b v r s h rows =
       root = λ fs. among-root n p b v r s fs h;
       right_first = λ path core fs. ap (λ gs. laned_terms p b v None (gs ++ fs)) (among-right n p b v r s path core h) ∙ rows-first p b v r s u path core fs h.dealt;
       right_next = λ path core fs. ap (λ gs. laned_terms p b v (Some g) (gs ++ fs)) (among-right n p b v r s path core h) ∙ rows-next p b v r s u path core fs h.dealt;
-      diagonal = λ fs.
-          ap (λ gs. laned_terms p b v (Some g) (gs ++ fs)) (cut-several n p [] (twiddles r s) h.procs)
-          ∙ settle-first p b v r s u (smp.diagonals (step [] (twiddles r s))) fs h.dealt refl;
+      diagonal = λ w fs.
+          ap (λ gs. laned_terms p b v (Some g) (gs ++ fs)) (cut-several n p [] (twiddles r s w) h.procs)
+          ∙ settle-first p b v r s u (smp.diagonals (step [] (twiddles r s w))) fs h.dealt refl;
       left_first = λ path core fs.
           ap (λ gs. laned_terms p b v (Some g) (gs ++ fs)) (cut-several n p (Columns s ∷ path) core h.procs)
           ∙ among-settles n p b v r s path core fs h

@@ -1,8 +1,6 @@
 -- Sizes of matrices under the tensors of a path, and the room that they need.
 use Rattle.std.proofs.Common.{◌≡◌, ℕ, zero, suc, ◌*◌, ◌<◌, ◌≤◌, arith, sym, ap, ◌∙◌, [], ◌∷◌, inl, inr, mul-zero, eq-zero-or-pos, mul_comm}
 use Rattle.std.proofs.Math.Nat.{suc-mul, zero-mul}
-use Rattle.matrix_meaning.specs.declared.Request.{Request}
-use Rattle.matrix_meaning.specs.Valid.{IsValid}
 use Rattle.passes.specs.Room.{HasRoom}
 use Rattle.tensor_paths.specs.declared.Tensor.TheVariants.{Blocks, Columns}
 use Rattle.tensor_paths.specs.Path.{Path, size_under, copies_of}
@@ -28,6 +26,6 @@ has_room (Columns c ∷ path) n positive high =
     let within : size ≤ c * size = part-le c size (c * size) (ap (λ x. c * x) (omega arith)) (omega arith) in
     (omega arith, has_room path n (right_positive c size (omega arith)) (omega arith))
 
--- what is under a path whose whole is of the request's size has at most that size
-pub within_whole : (c : Request) (path : Path) (n : ℕ) → IsValid c → size_under path n ≡ c.size → n ≤ c.size
-within_whole c path n valid e = part-le (copies_of path) n c.size (sym (size_under-copies path n) ∙ e) valid.in_range.size.0
+-- what is under a path has at most the size of the whole
+pub within_whole : (path : Path) (k n : ℕ) → 1 ≤ n → size_under path k ≡ n → k ≤ n
+within_whole path k n some e = part-le (copies_of path) k n (sym (size_under-copies path k) ∙ e) some

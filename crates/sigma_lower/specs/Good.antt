@@ -1,14 +1,15 @@
--- Steps of the request's size, with the factors that their permutations need; and formulas for lanes of trees.
+-- Steps of one size, with the factors that their permutations need; and formulas for lanes of layouts.
 use Rattle.std.specs.Prelude.{◌≡◌, ℕ, ◌*◌, ◌<◌, ◌≤◌, List, [], ◌∷◌}
 use Rattle.std.specs.Int.{IsGcd}
-use Rattle.matrix_meaning.specs.declared.Request.{Request}
 use Rattle.operators.specs.Sizes.{max_size}
+use Rattle.passes.specs.Work.{PlainWork, tile, copy, HasWords}
 use Rattle.smp_rewrite.specs.Cut.{smp_of}
+use Rattle.smp_rewrite.specs.Fits.{CanShareLayout}
+use Rattle.steps.specs.Layout.{Layout, IsGoodLayout}
+use Rattle.steps.specs.declared.target.Target.{Target}
 use Rattle.steps.specs.Meaning.{core_size}
 use Rattle.steps.specs.Step.{PlainCore, piece, turns, twiddles, thomas_in, thomas_out, PlainStep}
 use Rattle.tensor_paths.specs.Path.{size_under}
-use Rattle.tree_model.specs.Admissible.{IsAdmissible}
-use Rattle.tree_model.specs.Breakdown.{Breakdown, HasWordSizes}
 use Rattle.vec_rewrite.specs.Turning.{vec_of}
 use Rattle.vec_rewrite.specs.Vectors.{PlainVec}
 
@@ -18,23 +19,30 @@ pub record AreCoprime (r s : ℕ) : Type 0 where
   pub gcd : IsGcd r s 1
   pub small : r * s ≤ max_size
 
+-- a work that does a transform, with words for its numbers
+abbrev pub IsGoodPiece : PlainWork → Type 0
+IsGoodPiece (tile lanes) = ⊥
+IsGoodPiece (copy size) = ⊥
+IsGoodPiece w = HasWords w
+
 abbrev pub IsGoodCore : PlainCore → Type 0
-IsGoodCore (piece t) = HasWordSizes t
+IsGoodCore (piece w) = IsGoodPiece w
 IsGoodCore (turns r s) = (0 < r) × (0 < s)
-IsGoodCore (twiddles r s) = Unit {0}
+IsGoodCore (twiddles r s w) = Unit {0}
 IsGoodCore (thomas_in r s) = AreCoprime r s
 IsGoodCore (thomas_out r s) = AreCoprime r s
 
-pub record IsGood (c : Request) (s : PlainStep) : Type 0 where
-  pub size : size_under s.path (core_size s.core) ≡ c.size
+pub record IsGood (n : ℕ) (s : PlainStep) : Type 0 where
+  pub size : size_under s.path (core_size s.core) ≡ n
   pub core : IsGoodCore s.core
 
-abbrev pub AreGood : Request → List PlainStep → Type 0
-AreGood c [] = Unit {0}
-AreGood c (s ∷ ss) = IsGood c s × AreGood c ss
+abbrev pub AreGood : ℕ → List PlainStep → Type 0
+AreGood n [] = Unit {0}
+AreGood n (s ∷ ss) = IsGood n s × AreGood n ss
 
--- the formula for lanes of some admissible tree
-pub record IsVecOf (c : Request) (g : PlainVec) : Type 0 where
-  pub tree : Breakdown
-  pub admissible : IsAdmissible c tree
-  pub form : g ≡ vec_of c (smp_of c tree)
+-- the formula for lanes of some good layout that the machine can share
+pub record IsVecOf (h : Target) (g : PlainVec) : Type 0 where
+  pub layout : Layout
+  pub shares : CanShareLayout h layout
+  pub good : IsGoodLayout h.modulus layout
+  pub form : g ≡ vec_of (smp_of h layout)

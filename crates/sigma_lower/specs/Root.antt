@@ -2,19 +2,18 @@
 use Rattle.std.specs.Prelude.{◌≡◌, ℕ, ◌*◌, ◌/◌, ◌==◌, false, if◌then◌else◌, List, [], ◌∷◌, ◌++◌, map}
 use Rattle.std.specs.List.{flat_map}
 use Rattle.index_fn.specs.Mapping.{Mapping, Strided, ThomasIn, ThomasBack}
-use Rattle.matrix_meaning.specs.declared.Request.{Request}
-use Rattle.matrix_meaning.specs.Valid.{IsValid}
+use Rattle.passes.specs.Work.{PlainWork, tile}
+use Rattle.smp_rewrite.specs.Fits.{CanShareLayout}
 use Rattle.smp_rewrite.specs.Smp.{within}
+use Rattle.steps.specs.Layout.{Layout, work, by, layout_size, IsGoodLayout}
+use Rattle.steps.specs.Targets.{is_alone}
+use Rattle.steps.specs.declared.target.Target.{Target}
 use Rattle.steps.specs.Step.{PlainCore, piece, turns, twiddles, thomas_in, thomas_out, PlainStep, steps_of}
 use Rattle.tensor_paths.specs.declared.Tensor.TheVariants.{Blocks, Columns}
 use Rattle.tensor_paths.specs.Path.{Path}
 use Rattle.tree_model.specs.declared.tree.Rule.{Rule}
 use Rattle.tree_model.specs.declared.tree.Rule.TheVariants.{Gt, Ct, Split}
-use Rattle.tree_model.specs.Admissible.{IsAdmissible}
-use Rattle.tree_model.specs.Breakdown.{Breakdown, leaf, node, size_of}
-use Rattle.tree_model.specs.Cost.{is_plain}
 use Rattle.sigma_lower.specs.Term.{PlainTerm, gath, scat, diag, nest, lowered, lowered_of}
-use Rattle.sigma_lower.specs.Work.{transforming, tiling}
 use Rattle.sigma_lower.specs.Wrapped.{wrapped, unit_of}
 
 -- ---- the tensors round the parts of a root of r * s, for p processors and v lanes
@@ -52,10 +51,10 @@ vectors_grouped size p v r s = wrapped (within (Columns v) (within (Blocks p) (w
 
 -- rows side by side, and one behind the other again
 abbrev pub tiled_before : ℕ → ℕ → ℕ → ℕ → List PlainTerm
-tiled_before p v r s = if v == 1 then [] else gath (vectors_grouped (s / v * v) p v r s) ∷ nest (tile_path p v r s) (tiling v) ∷ []
+tiled_before p v r s = if v == 1 then [] else gath (vectors_grouped (s / v * v) p v r s) ∷ nest (tile_path p v r s) (tile v) ∷ []
 
 abbrev pub tiled_after : ℕ → ℕ → ℕ → ℕ → List PlainTerm
-tiled_after p v r s = if v == 1 then [] else nest (tile_path p v r s) (tiling v) ∷ scat (vectors_grouped (v * (s / v)) p v r s) ∷ []
+tiled_after p v r s = if v == 1 then [] else nest (tile_path p v r s) (tile v) ∷ scat (vectors_grouped (v * (s / v)) p v r s) ∷ []
 
 -- ---- the left part, of m * s words
 
@@ -63,16 +62,16 @@ tiled_after p v r s = if v == 1 then [] else nest (tile_path p v r s) (tiling v)
 abbrev pub lines_dealt : ℕ → ℕ → ℕ → ℕ → ℕ → Mapping
 lines_dealt size p v m s = wrapped (within (Columns v) (within (Columns (s / p / v)) [])) size (Strided p m)
 
-abbrev pub left_piece : ℕ → ℕ → ℕ → ℕ → Path → Breakdown → List PlainTerm
-left_piece p v m s path t =
-    if p == 1 then nest (left_path p v s ++ path) (transforming t) ∷ []
-    else gath (lines_dealt (p * m) p v m s) ∷ nest (left_path p v s ++ path) (transforming t) ∷ scat (lines_dealt (m * p) p v m s) ∷ []
+abbrev pub left_piece : ℕ → ℕ → ℕ → ℕ → Path → PlainWork → List PlainTerm
+left_piece p v m s path w =
+    if p == 1 then nest (left_path p v s ++ path) w ∷ []
+    else gath (lines_dealt (p * m) p v m s) ∷ nest (left_path p v s ++ path) w ∷ scat (lines_dealt (m * p) p v m s) ∷ []
 
 -- the terms of a step of the left part, whose path is that inside of it
 abbrev pub left_core : ℕ → ℕ → ℕ → ℕ → Path → PlainCore → List PlainTerm
-left_core p v m s path (piece t) = left_piece p v m s path t
+left_core p v m s path (piece w) = left_piece p v m s path w
 left_core p v m s path (turns a b) = gath (wrapped (whole_path v s ++ path) (a * b) (Strided a b)) ∷ []
-left_core p v m s path (twiddles a b) = diag (Columns s ∷ path) a b ∷ []
+left_core p v m s path (twiddles a b w) = diag (Columns s ∷ path) a b w ∷ []
 left_core p v m s path (thomas_in a b) = gath (wrapped (whole_path v s ++ path) (a * b) (ThomasIn a b)) ∷ []
 left_core p v m s path (thomas_out a b) = scat (wrapped (whole_path v s ++ path) (a * b) (ThomasBack a b (unit_of a b) (unit_of b a))) ∷ []
 
@@ -81,24 +80,24 @@ left_terms p v m s steps = flat_map (λ (e : PlainStep). left_core p v m s e.pat
 
 -- ---- the root
 
--- the terms of the root's right part with what stands round it
-abbrev pub right_terms : Request → ℕ → ℕ → Rule → Breakdown → Breakdown → List PlainTerm
-right_terms c p v Gt a b = []
-right_terms c p v Ct a b =
-    turned_in p v (size_of a) (size_of b)
-    ++ (map lowered (steps_of c (right_path p v (size_of a)) b) ++ (tiled_after p v (size_of a) (size_of b) ++ diag [] (size_of a) (size_of b) ∷ []))
-right_terms c p v Split a b =
-    tiled_before p v (size_of a) (size_of b) ++ (map lowered (steps_of c (right_path p v (size_of a)) b) ++ tiled_after p v (size_of a) (size_of b))
+-- the terms of the right part of a root w with what stands round it
+abbrev pub right_terms : ℕ → ℕ → Rule → ℕ → Layout → Layout → List PlainTerm
+right_terms p v Gt w a b = []
+right_terms p v Ct w a b =
+    turned_in p v (layout_size a) (layout_size b)
+    ++ (map lowered (steps_of (right_path p v (layout_size a)) b) ++ (tiled_after p v (layout_size a) (layout_size b) ++ diag [] (layout_size a) (layout_size b) w ∷ []))
+right_terms p v Split w a b =
+    tiled_before p v (layout_size a) (layout_size b) ++ (map lowered (steps_of (right_path p v (layout_size a)) b) ++ tiled_after p v (layout_size a) (layout_size b))
 
 -- in phases: one processor has one, several have one for each part
 abbrev pub in_phases : ℕ → List PlainTerm → List PlainTerm → List (List PlainTerm)
 in_phases p first second = if p == 1 then (first ++ second) ∷ [] else first ∷ second ∷ []
 
-abbrev pub root_terms : Request → Breakdown → List (List PlainTerm)
-root_terms c (leaf d) = []
-root_terms c (node rule a b) =
-    in_phases c.procs (right_terms c c.procs c.lanes rule a b) (left_terms c.procs c.lanes (size_of a) (size_of b) (steps_of c [] a))
+abbrev pub root_terms : Target → Layout → List (List PlainTerm)
+root_terms h (work w) = []
+root_terms h (by rule root a b) =
+    in_phases h.procs (right_terms h.procs h.lanes rule root a b) (left_terms h.procs h.lanes (layout_size a) (layout_size b) (steps_of [] a))
 
--- the terms of a tree that is shared are these
+-- the terms of a layout that is shared are these; its parts have two words or more
 abbrev pub SharedTerms : Type 0
-SharedTerms = (c : Request) (t : Breakdown) → IsValid c → IsAdmissible c t → is_plain c ≡ false → lowered_of c t ≡ root_terms c t
+SharedTerms = (h : Target) (l : Layout) → CanShareLayout h l → IsGoodLayout h.modulus l → is_alone h ≡ false → lowered_of h l ≡ root_terms h l

@@ -1,4 +1,4 @@
-//! Laws of the terms that a tree's formula for processors and lanes stands for, and index functions of permutations under tensors.
+//! Laws of the terms that a layout's formula for processors and lanes stands for, and index functions of permutations under tensors.
 #![tactic(auto)]
 
 ghost use Rattle.std.specs.Prelude.{◌≡◌, ◌*◌, ◌^◌, ◌<◌, IfOk};
@@ -47,17 +47,17 @@ pub fn unit(r: u64, s: u64) -> u64
     found
 }
 
-/// The terms of a tree do its transform: a law of the definitions.
+/// The terms of a layout do what it does: a law of the definitions.
 pub fn lowered_transforms()
     ensures { LoweredTransforms }
 {}
 
-/// On one processor and one lane the terms of a tree are those of its steps: a law of the definitions.
+/// On one processor and one lane the terms of a layout are those of its steps: a law of the definitions.
 pub fn plain_terms()
     ensures { PlainTerms }
 {}
 
-/// On several processors or lanes the terms of a tree are these: a law of the definitions.
+/// On several processors or lanes the terms of a layout are these: a law of the definitions.
 pub fn shared_terms()
     ensures { SharedTerms }
 {}

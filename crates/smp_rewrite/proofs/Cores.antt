@@ -2,17 +2,22 @@
 use Rattle.std.proofs.Common.{◌≡◌, ℕ, ◌*◌, ◌%◌, ◌<◌, arith, refl, ap, List, mod-lt, mul_comm, subst}
 use Rattle.std.specs.Prelude.{slice_index}
 use Rattle.matrix_meaning.specs.declared.Kind.{Kind}
-use Rattle.matrix_meaning.specs.declared.Request.{Request}
+use Rattle.matrix_meaning.specs.declared.Kind.TheVariants.{Dft}
 use Rattle.matrix_meaning.specs.Kind.{transform, entry_of}
 use Rattle.operators.specs.Identities.{HasSize}
-use Rattle.operators.specs.Operator.{Operator, gather, scale, stride, good_thomas_in, good_thomas_out}
+use Rattle.operators.specs.Operator.{Operator, gather, on_columns, scale, stride, good_thomas_in, good_thomas_out}
 use Rattle.operators.proofs.Lists.{at-list_below, list_below-same, length-list_below, place_below, factor_positive}
 use Rattle.operators.proofs.Places.{stride_below}
 use Rattle.operators.proofs.Sums.{sum_below-same}
+use Rattle.passes.specs.Work.{PlainWork, kernel, rows, horner, tile, copy, work_size, work_on}
+use Rattle.rooted_trees.specs.Trees.{PlainTrees, single, tensor, trees_size, trees_on}
 use Rattle.steps.specs.Meaning.{core_size, core_on}
 use Rattle.steps.specs.Step.{PlainCore, piece, turns, twiddles, thomas_in, thomas_out}
 use Rattle.smp_rewrite.specs.Laws.{IsPermutation}
+use Rattle.smp_rewrite.proofs.Tensors.{reads-one_under}
 use Rattle.tensor_paths.specs.Path.{Reads}
+use Rattle.tensor_paths.specs.declared.Tensor.TheVariants.{Blocks}
+use Rattle.tree_model.specs.Breakdown.{size_of}
 
 reads-transform : (kind : Kind) (m n w : ℕ) → Reads n (transform kind m n w)
 reads-transform kind m n w x =
@@ -32,12 +37,35 @@ thomas_out_below r s i below =
     let turned : i < s * r = subst (λ n. i < n) (mul_comm r s) below in
     place_below (i % r) (i % s) r s (mod-lt i (factor_positive s r i turned)) (mod-lt i (factor_positive r s i below))
 
-pub core-reads : (c : Request) (k : PlainCore) → Reads (core_size k) (core_on c k)
-core-reads c (piece t) = reads-transform c.kind c.modulus _ _
-core-reads c (turns r s) = reads-gather (r * s) _ (λ i below. (stride_below r s i below).1)
-core-reads c (twiddles r s) = reads-scale c.modulus (r * s) _
-core-reads c (thomas_in r s) = reads-gather (r * s) _ (thomas_in_below r s)
-core-reads c (thomas_out r s) = reads-gather (r * s) _ (thomas_out_below r s)
+trees-read : (m : ℕ) (trees : PlainTrees) → Reads (trees_size trees) (trees_on m trees)
+trees-read m (single kind root tree) x = reads-transform kind m (size_of tree) root x
+trees-read m (tensor kind root tree others) x =
+    ap (on_columns (size_of tree) (trees_size others) (transform kind m (size_of tree) root)) (reads-one_under (Blocks (size_of tree)) (trees_size others) (trees_on m others) x)
+
+work-reads : (m : ℕ) (w : PlainWork) → Reads (work_size w) (work_on m w)
+work-reads m (kernel trees) x = trees-read m trees x
+work-reads m (rows root size) x = reads-transform Dft m size root x
+work-reads m (horner root size) x = reads-transform Dft m size root x
+work-reads m (tile lanes) x = reads-gather (lanes * lanes) _ (λ i below. (stride_below lanes lanes i below).1) x
+work-reads m (copy size) x = list_below-same size _ _ (λ i below. at-list_below size (slice_index x) i below)
+
+trees-give : (m : ℕ) (trees : PlainTrees) → HasSize (trees_size trees) (trees_on m trees)
+trees-give m (single kind root tree) x = length-list_below _ _
+trees-give m (tensor kind root tree others) x = length-list_below _ _
+
+work-gives : (m : ℕ) (w : PlainWork) → HasSize (work_size w) (work_on m w)
+work-gives m (kernel trees) x = trees-give m trees x
+work-gives m (rows root size) x = length-list_below _ _
+work-gives m (horner root size) x = length-list_below _ _
+work-gives m (tile lanes) x = length-list_below _ _
+work-gives m (copy size) x = length-list_below _ _
+
+pub core-reads : (m : ℕ) (k : PlainCore) → Reads (core_size k) (core_on m k)
+core-reads m (piece w) = work-reads m w
+core-reads m (turns r s) = reads-gather (r * s) _ (λ i below. (stride_below r s i below).1)
+core-reads m (twiddles r s w) = reads-scale m (r * s) _
+core-reads m (thomas_in r s) = reads-gather (r * s) _ (thomas_in_below r s)
+core-reads m (thomas_out r s) = reads-gather (r * s) _ (thomas_out_below r s)
 
 -- a matrix that takes the item for each of n places from one of them
 pub record IsGather (n : ℕ) (a : Operator) : Type 0 where
@@ -45,16 +73,16 @@ pub record IsGather (n : ℕ) (a : Operator) : Type 0 where
   pub below : (i : ℕ) → i < n → from i < n
   pub gathers : (x : List ℕ) → a x ≡ gather n from x
 
-pub core-gathers : (c : Request) (k : PlainCore) → IsPermutation k → IsGather (core_size k) (core_on c k)
-core-gathers c (piece t) h = absurd h
-core-gathers c (turns r s) h = record { from = stride r s; below = λ i below. (stride_below r s i below).1; gathers = λ x. refl }
-core-gathers c (twiddles r s) h = absurd h
-core-gathers c (thomas_in r s) h = record { from = good_thomas_in r s; below = thomas_in_below r s; gathers = λ x. refl }
-core-gathers c (thomas_out r s) h = record { from = good_thomas_out r s; below = thomas_out_below r s; gathers = λ x. refl }
+pub core-gathers : (m : ℕ) (k : PlainCore) → IsPermutation k → IsGather (core_size k) (core_on m k)
+core-gathers m (piece w) h = absurd h
+core-gathers m (turns r s) h = record { from = stride r s; below = λ i below. (stride_below r s i below).1; gathers = λ x. refl }
+core-gathers m (twiddles r s w) h = absurd h
+core-gathers m (thomas_in r s) h = record { from = good_thomas_in r s; below = thomas_in_below r s; gathers = λ x. refl }
+core-gathers m (thomas_out r s) h = record { from = good_thomas_out r s; below = thomas_out_below r s; gathers = λ x. refl }
 
-pub core-gives : (c : Request) (k : PlainCore) → HasSize (core_size k) (core_on c k)
-core-gives c (piece t) x = length-list_below _ _
-core-gives c (turns r s) x = length-list_below _ _
-core-gives c (twiddles r s) x = length-list_below _ _
-core-gives c (thomas_in r s) x = length-list_below _ _
-core-gives c (thomas_out r s) x = length-list_below _ _
+pub core-gives : (m : ℕ) (k : PlainCore) → HasSize (core_size k) (core_on m k)
+core-gives m (piece w) x = work-gives m w x
+core-gives m (turns r s) x = length-list_below _ _
+core-gives m (twiddles r s w) x = length-list_below _ _
+core-gives m (thomas_in r s) x = length-list_below _ _
+core-gives m (thomas_out r s) x = length-list_below _ _

@@ -1,18 +1,18 @@
--- The steps of an admissible tree can be dealt to the request's processors.
-use Rattle.std.proofs.Common.{◌≡◌, ℕ, ◌*◌, ◌/◌, ◌%◌, ◌<◌, Bool, true, false, arith, refl, sym, ap, ◌∙◌, List, [], ◌∷◌, ◌++◌, if◌then◌else◌}
+-- The steps of a layout that can be shared can be dealt to the processors.
+use Rattle.std.proofs.Common.{◌≡◌, ℕ, ◌*◌, ◌/◌, ◌%◌, ◌<◌, false, arith, sym, ap, ◌∙◌, List, [], ◌∷◌, ◌++◌}
 use Rattle.std.proofs.Math.Nat.{div-add-mod', mul-div_right, mul-mod_right}
 use Rattle.std.proofs.lemmas.Bool.Decides.{nat_tests}
-use Rattle.matrix_meaning.specs.declared.Request.{Request}
-use Rattle.matrix_meaning.specs.Valid.{IsValid}
 use Rattle.steps.specs.Step.{PlainCore, piece, turns, twiddles, thomas_in, thomas_out, PlainStep, rule_steps, steps_of}
 use Rattle.tensor_paths.specs.declared.Tensor.{Tensor}
 use Rattle.tensor_paths.specs.declared.Tensor.TheVariants.{Blocks, Columns}
 use Rattle.tensor_paths.specs.Path.{Path}
 use Rattle.tree_model.specs.declared.tree.Rule.{Rule}
 use Rattle.tree_model.specs.declared.tree.Rule.TheVariants.{Gt, Ct, Split}
-use Rattle.tree_model.specs.Admissible.{DividesBoth, Fits, RuleFits, RootFits, IsAdmissible}
-use Rattle.tree_model.specs.Breakdown.{Breakdown, leaf, node, size_of}
-use Rattle.tree_model.specs.Cost.{is_plain, is_kernel}
+use Rattle.tree_model.specs.Admissible.{DividesBoth}
+use Rattle.smp_rewrite.specs.Fits.{HasParts, RuleHasParts, RootHasParts, CanShareLayout}
+use Rattle.steps.specs.Layout.{Layout, work, by, layout_size}
+use Rattle.steps.specs.Targets.{is_alone}
+use Rattle.steps.specs.declared.target.Target.{Target}
 
 -- p processors have an equal part of k, which is a number of whole lines
 pub record IsDealt (p line k : ℕ) : Type 0 where
@@ -25,9 +25,9 @@ IsDealtTensor p line (Blocks r) = IsDealt p line r
 IsDealtTensor p line (Columns s) = IsDealt p line s
 
 abbrev pub IsDealtCore : ℕ → ℕ → PlainCore → Type 0
-IsDealtCore p line (piece t) = ⊥
+IsDealtCore p line (piece w) = ⊥
 IsDealtCore p line (turns r s) = IsDealt p line r
-IsDealtCore p line (twiddles r s) = Unit {0}
+IsDealtCore p line (twiddles r s w) = Unit {0}
 IsDealtCore p line (thomas_in r s) = ⊥
 IsDealtCore p line (thomas_out r s) = ⊥
 
@@ -43,25 +43,20 @@ dealt-append : (p line : ℕ) (ss ts : List PlainStep) → AreDealt p line ss �
 dealt-append p line [] ts h k = k
 dealt-append p line (s ∷ ss) ts h k = (h.0, dealt-append p line ss ts h.1 k)
 
-dealt-pick : (p line : ℕ) (b : Bool) (ss ts : List PlainStep) → AreDealt p line ss → AreDealt p line ts → AreDealt p line (if b then ss else ts)
-dealt-pick p line true ss ts h k = h
-dealt-pick p line false ss ts h k = k
-
 -- ---- the steps of a part of the root
 
-dealt-rule : (p line : ℕ) (rule : Rule) (t : Tensor) (path : Path) (r s : ℕ) (left right : List PlainStep) → IsDealtTensor p line t →
-    AreDealt p line left → AreDealt p line right → AreDealt p line (rule_steps rule (t ∷ path) r s left right)
-dealt-rule p line Gt t path r s left right e h k = (e, dealt-append p line right _ k (dealt-append p line left _ h (e, tt)))
-dealt-rule p line Ct t path r s left right e h k = (e, dealt-append p line right _ k (e, h))
-dealt-rule p line Split t path r s left right e h k = dealt-append p line right left k h
+dealt-rule : (p line : ℕ) (rule : Rule) (t : Tensor) (path : Path) (r s w : ℕ) (left right : List PlainStep) → IsDealtTensor p line t →
+    AreDealt p line left → AreDealt p line right → AreDealt p line (rule_steps rule (t ∷ path) r s w left right)
+dealt-rule p line Gt t path r s w left right e h k = (e, dealt-append p line right _ k (dealt-append p line left _ h (e, tt)))
+dealt-rule p line Ct t path r s w left right e h k = (e, dealt-append p line right _ k (e, h))
+dealt-rule p line Split t path r s w left right e h k = dealt-append p line right left k h
 
-dealt-part : (c : Request) (p line : ℕ) (t : Tensor) (path : Path) (b : Breakdown) → IsDealtTensor p line t → AreDealt p line (steps_of c (t ∷ path) b)
-dealt-part c p line t path (leaf d) h = (h, tt)
-dealt-part c p line t path (node rule a b) h =
-    dealt-pick p line (is_kernel c (size_of a * size_of b)) _ _ (h, tt)
-    (dealt-rule p line rule t path (size_of a) (size_of b) _ _ h
-    (dealt-part c p line t (path ++ Columns (size_of b) ∷ []) a h)
-    (dealt-part c p line t (path ++ Blocks (size_of a) ∷ []) b h))
+dealt-part : (p line : ℕ) (t : Tensor) (path : Path) (l : Layout) → IsDealtTensor p line t → AreDealt p line (steps_of (t ∷ path) l)
+dealt-part p line t path (work w) h = (h, tt)
+dealt-part p line t path (by rule root a b) h =
+    dealt-rule p line rule t path (layout_size a) (layout_size b) root _ _ h
+    (dealt-part p line t (path ++ Columns (layout_size b) ∷ []) a h)
+    (dealt-part p line t (path ++ Blocks (layout_size a) ∷ []) b h)
 
 -- ---- the root
 
@@ -75,55 +70,49 @@ is_dealt p line k h g e =
       lines = ap (λ n. n % line) part ∙ mul-mod_right line lines;
     }
 
-pub root_kernel : (c : Request) → is_plain c ≡ false → is_kernel c c.size ≡ false
-root_kernel c e = grind (arith, nat_tests)
+pub not_alone : (h : Target) → 1 < h.procs → is_alone h ≡ false
+not_alone h g = grind (arith, nat_tests)
 
-pub not_plain : (c : Request) → 1 < c.procs → is_plain c ≡ false
-not_plain c h = grind (arith, nat_tests)
-
-dealt-root : (c : Request) (rule : Rule) (a b : Breakdown) → IsValid c → 1 < c.procs → RuleFits c rule (size_of a) (size_of b) →
-    AreDealt c.procs c.line (rule_steps rule [] (size_of a) (size_of b) (steps_of c (Columns (size_of b) ∷ []) a) (steps_of c (Blocks (size_of a) ∷ []) b))
-dealt-root c Gt a b valid several fits = absurd fits
-dealt-root c Ct a b valid several fits =
-    let both : DividesBoth (c.procs * c.line) (size_of a) (size_of b) = fits.procs several in
-    let rows : IsDealt c.procs c.line (size_of a) = is_dealt c.procs c.line (size_of a) (omega (arith, several)) (omega (arith, valid.in_range.line.0)) both.0 in
-    let cols : IsDealt c.procs c.line (size_of b) = is_dealt c.procs c.line (size_of b) (omega (arith, several)) (omega (arith, valid.in_range.line.0)) both.1 in (
+dealt-root : (h : Target) (rule : Rule) (root : ℕ) (a b : Layout) → 0 < h.line → 1 < h.procs → RuleHasParts h rule (layout_size a) (layout_size b) → AreDealt h.procs h.line (steps_of [] (by rule root a b))
+dealt-root h Gt root a b low several fits = absurd fits
+dealt-root h Ct root a b low several fits =
+    let both : DividesBoth (h.procs * h.line) (layout_size a) (layout_size b) = fits.procs several in
+    let rows : IsDealt h.procs h.line (layout_size a) = is_dealt h.procs h.line (layout_size a) (omega (arith, several)) low both.0 in
+    let cols : IsDealt h.procs h.line (layout_size b) = is_dealt h.procs h.line (layout_size b) (omega (arith, several)) low both.1 in (
       rows,
-      dealt-append c.procs c.line (steps_of c (Blocks (size_of a) ∷ []) b) _ (dealt-part c c.procs c.line (Blocks (size_of a)) [] b rows)
-          (tt, dealt-part c c.procs c.line (Columns (size_of b)) [] a cols),
+      dealt-append h.procs h.line (steps_of (Blocks (layout_size a) ∷ []) b) _ (dealt-part h.procs h.line (Blocks (layout_size a)) [] b rows)
+          (tt, dealt-part h.procs h.line (Columns (layout_size b)) [] a cols),
     )
-dealt-root c Split a b valid several fits =
-    let both : DividesBoth (c.procs * c.line) (size_of a) (size_of b) = fits.procs several in
-    let rows : IsDealt c.procs c.line (size_of a) = is_dealt c.procs c.line (size_of a) (omega (arith, several)) (omega (arith, valid.in_range.line.0)) both.0 in
-    let cols : IsDealt c.procs c.line (size_of b) = is_dealt c.procs c.line (size_of b) (omega (arith, several)) (omega (arith, valid.in_range.line.0)) both.1 in
-    dealt-append c.procs c.line (steps_of c (Blocks (size_of a) ∷ []) b) _ (dealt-part c c.procs c.line (Blocks (size_of a)) [] b rows)
-    (dealt-part c c.procs c.line (Columns (size_of b)) [] a cols)
+dealt-root h Split root a b low several fits =
+    let both : DividesBoth (h.procs * h.line) (layout_size a) (layout_size b) = fits.procs several in
+    let rows : IsDealt h.procs h.line (layout_size a) = is_dealt h.procs h.line (layout_size a) (omega (arith, several)) low both.0 in
+    let cols : IsDealt h.procs h.line (layout_size b) = is_dealt h.procs h.line (layout_size b) (omega (arith, several)) low both.1 in
+    dealt-append h.procs h.line (steps_of (Blocks (layout_size a) ∷ []) b) _ (dealt-part h.procs h.line (Blocks (layout_size a)) [] b rows)
+    (dealt-part h.procs h.line (Columns (layout_size b)) [] a cols)
 
-dealt-tree : (c : Request) (t : Breakdown) → IsValid c → 1 < c.procs → size_of t ≡ c.size → RootFits c t → AreDealt c.procs c.line (steps_of c [] t)
-dealt-tree c (leaf d) valid several e fits = absurd fits
-dealt-tree c (node rule a b) valid several e fits =
-    let outer : is_kernel c (size_of a * size_of b) ≡ false = ap (is_kernel c) e ∙ root_kernel c (not_plain c several) in
-    rw outer (dealt-root c rule a b valid several fits)
+dealt-layout : (h : Target) (l : Layout) → 0 < h.line → 1 < h.procs → RootHasParts h l → AreDealt h.procs h.line (steps_of [] l)
+dealt-layout h (work w) low several fits = absurd fits
+dealt-layout h (by rule root a b) low several fits = dealt-root h rule root a b low several fits
 
-pub dealt_steps : (c : Request) (t : Breakdown) → IsValid c → 1 < c.procs → IsAdmissible c t → AreDealt c.procs c.line (steps_of c [] t)
-dealt_steps c t valid several h = dealt-tree c t valid several h.size (h.root refl (not_plain c several))
+pub dealt_steps : (h : Target) (l : Layout) → 1 < h.procs → CanShareLayout h l → AreDealt h.procs h.line (steps_of [] l)
+dealt_steps h l several k = dealt-layout h l (omega (arith, k.line)) several (k.root (not_alone h several))
 
--- ---- the request's size
+-- ---- the size of the whole
 
-size-dealt : (c : Request) (r s : ℕ) → IsValid c → 1 < c.procs → Fits c r s → c.size ≡ c.procs * (c.size / c.procs)
-size-dealt c r s valid several fits =
-    let rows : IsDealt c.procs c.line r = is_dealt c.procs c.line r (omega (arith, several)) (omega (arith, valid.in_range.line.0)) (fits.procs several).0 in
-    let whole : c.size ≡ c.procs * (r / c.procs * s) = sym fits.product ∙ ap (λ n. n * s) rows.parts ∙ omega arith in
-    whole ∙ ap (λ n. c.procs * n) (sym (ap (λ n. n / c.procs) whole ∙ mul-div_right (r / c.procs * s) (omega (arith, several))))
+size-dealt : (h : Target) (r s : ℕ) → 0 < h.line → 1 < h.procs → r * s ≡ h.size → HasParts h r s → h.size ≡ h.procs * (h.size / h.procs)
+size-dealt h r s low several e fits =
+    let rows : IsDealt h.procs h.line r = is_dealt h.procs h.line r (omega (arith, several)) low (fits.procs several).0 in
+    let whole : h.size ≡ h.procs * (r / h.procs * s) = sym e ∙ ap (λ n. n * s) rows.parts ∙ omega arith in
+    whole ∙ ap (λ n. h.procs * n) (sym (ap (λ n. n / h.procs) whole ∙ mul-div_right (r / h.procs * s) (omega (arith, several))))
 
-rule-dealt : (c : Request) (rule : Rule) (r s : ℕ) → IsValid c → 1 < c.procs → RuleFits c rule r s → c.size ≡ c.procs * (c.size / c.procs)
-rule-dealt c Gt r s valid several fits = absurd fits
-rule-dealt c Ct r s valid several fits = size-dealt c r s valid several fits
-rule-dealt c Split r s valid several fits = size-dealt c r s valid several fits
+rule-dealt : (h : Target) (rule : Rule) (r s : ℕ) → 0 < h.line → 1 < h.procs → r * s ≡ h.size → RuleHasParts h rule r s → h.size ≡ h.procs * (h.size / h.procs)
+rule-dealt h Gt r s low several e fits = absurd fits
+rule-dealt h Ct r s low several e fits = size-dealt h r s low several e fits
+rule-dealt h Split r s low several e fits = size-dealt h r s low several e fits
 
-tree-dealt : (c : Request) (t : Breakdown) → IsValid c → 1 < c.procs → RootFits c t → c.size ≡ c.procs * (c.size / c.procs)
-tree-dealt c (leaf d) valid several fits = absurd fits
-tree-dealt c (node rule a b) valid several fits = rule-dealt c rule (size_of a) (size_of b) valid several fits
+layout-dealt : (h : Target) (l : Layout) → 0 < h.line → 1 < h.procs → layout_size l ≡ h.size → RootHasParts h l → h.size ≡ h.procs * (h.size / h.procs)
+layout-dealt h (work w) low several e fits = absurd fits
+layout-dealt h (by rule root a b) low several e fits = rule-dealt h rule (layout_size a) (layout_size b) low several e fits
 
-pub dealt_size : (c : Request) (t : Breakdown) → IsValid c → 1 < c.procs → IsAdmissible c t → c.size ≡ c.procs * (c.size / c.procs)
-dealt_size c t valid several h = tree-dealt c t valid several (h.root refl (not_plain c several))
+pub dealt_size : (h : Target) (l : Layout) → 1 < h.procs → CanShareLayout h l → h.size ≡ h.procs * (h.size / h.procs)
+dealt_size h l several k = layout-dealt h l (omega (arith, k.line)) several k.size (k.root (not_alone h several))

@@ -2,7 +2,6 @@
 use Rattle.std.proofs.Common.{◌≡◌, ℕ, zero, suc, ◌+◌, ◌*◌, ◌/◌, ◌%◌, ◌<◌, arith, refl, sym, ap, ap₂, subst, ◌∙◌, List, [], ◌∷◌, mod-lt, div-lt_iff_lt-mul}
 use Rattle.std.specs.Prelude.{slice_index}
 use Rattle.std.proofs.Math.Nat.{div-add-mod', mod-eq_of_lt}
-use Rattle.matrix_meaning.specs.declared.Request.{Request}
 use Rattle.operators.specs.Identities.{widened, MovesWholeLines}
 use Rattle.operators.specs.Operator.{Operator, gather, on_columns, column, block}
 use Rattle.operators.proofs.Lists.{at-list_below, list_below-same_rows, row-of, column-of, place_below, factor_positive}
@@ -54,8 +53,8 @@ under_gathers (t ∷ path) n a h = one_gathers t (size_under path n) (under path
 -- ---- lines
 
 -- a move of n words, as the law has it
-abbrev Moved : Request → ℕ → ℕ → PlainStep → Type 0
-Moved c line n s = (f : ℕ → ℕ) × ((x : List ℕ) → step_on c s x ≡ gather n f x) × MovesWholeLines line n f
+abbrev Moved : ℕ → ℕ → ℕ → PlainStep → Type 0
+Moved m line n s = (f : ℕ → ℕ) × ((x : List ℕ) → step_on m s x ≡ gather n f x) × MovesWholeLines line n f
 
 one_line : (line : ℕ) → 0 < line → 1 % line ≡ 0 → line ≡ 1
 one_line zero h e = absurd (omega arith)
@@ -72,32 +71,32 @@ single_lines n f t l within below =
     let place : t * 1 + l ≡ t * 1 = omega (arith, first) in
     let item : f (t * 1 + l) ≡ f (t * 1) = ap f place in (mod-one (f (t * 1)), omega (arith, first, item))
 
-single_moved : (c : Request) (line n : ℕ) (s : PlainStep) → line ≡ 1 → step_size s ≡ n → IsPermutation s.core → Moved c line n s
-single_moved c line n s one size h =
-    let g = under_gathers s.path (core_size s.core) (core_on c s.core) (core-gathers c s.core h) in (
+single_moved : (m line n : ℕ) (s : PlainStep) → line ≡ 1 → step_size s ≡ n → IsPermutation s.core → Moved m line n s
+single_moved m line n s one size h =
+    let g = under_gathers s.path (core_size s.core) (core_on m s.core) (core-gathers m s.core h) in (
       g.from,
       λ x. g.gathers x ∙ ap (λ k. gather k g.from x) size,
       subst (λ v. MovesWholeLines v n g.from) (sym one) (single_lines n g.from),
     )
 
-columns_moved : (c : Request) (line k : ℕ) (path : Path) (core : PlainCore) → k % line ≡ 0 → IsPermutation core → Moved c line (size_under path (core_size core) * k) (step (Columns k ∷ path) core)
-columns_moved c line k path core e h =
-    let m = size_under path (core_size core) in
-    let g = under_gathers path (core_size core) (core_on c core) (core-gathers c core h) in
+columns_moved : (m line k : ℕ) (path : Path) (core : PlainCore) → k % line ≡ 0 → IsPermutation core → Moved m line (size_under path (core_size core) * k) (step (Columns k ∷ path) core)
+columns_moved m line k path core e h =
+    let rows = size_under path (core_size core) in
+    let g = under_gathers path (core_size core) (core_on m core) (core-gathers m core h) in
     let whole : k ≡ k / line * line = sym (div-add-mod' k line) ∙ omega (arith, e) in
-    let lines = λ (x : List ℕ). whole_lines m (k / line) line g.from x g.below in (
+    let lines = λ (x : List ℕ). whole_lines rows (k / line) line g.from x g.below in (
       widened (k / line * line) g.from,
-      λ x. on_columns-same m k (under path (core_size core) (core_on c core)) (gather m g.from) x g.gathers
-          ∙ ap (λ n. on_columns m n (gather m g.from) x) whole
+      λ x. on_columns-same rows k (under path (core_size core) (core_on m core)) (gather rows g.from) x g.gathers
+          ∙ ap (λ n. on_columns rows n (gather rows g.from) x) whole
           ∙ (lines x).0
-          ∙ ap (λ n. gather (m * n) (widened (k / line * line) g.from) x) (sym whole),
-      subst (λ n. MovesWholeLines line (m * n) (widened (k / line * line) g.from)) (sym whole) (lines []).1,
+          ∙ ap (λ n. gather (rows * n) (widened (k / line * line) g.from) x) (sym whole),
+      subst (λ n. MovesWholeLines line (rows * n) (widened (k / line * line) g.from)) (sym whole) (lines []).1,
     )
 
-moved : (c : Request) (n line : ℕ) (path : Path) (core : PlainCore) → 0 < line → IsMove n line (step path core) → Moved c line n (step path core)
-moved c n line [] core positive h = single_moved c line n (step [] core) (one_line line positive h.2) h.0 h.1
-moved c n line (Blocks k ∷ path) core positive h = single_moved c line n (step (Blocks k ∷ path) core) (one_line line positive h.2) h.0 h.1
-moved c n line (Columns k ∷ path) core positive h = subst (λ n. Moved c line n (step (Columns k ∷ path) core)) h.0 (columns_moved c line k path core h.2 h.1)
+moved : (m n line : ℕ) (path : Path) (core : PlainCore) → 0 < line → IsMove n line (step path core) → Moved m line n (step path core)
+moved m n line [] core positive h = single_moved m line n (step [] core) (one_line line positive h.2) h.0 h.1
+moved m n line (Blocks k ∷ path) core positive h = single_moved m line n (step (Blocks k ∷ path) core) (one_line line positive h.2) h.0 h.1
+moved m n line (Columns k ∷ path) core positive h = subst (λ n. Moved m line n (step (Columns k ∷ path) core)) h.0 (columns_moved m line k path core h.2 h.1)
 
 pub moves_lines : MovesLines
-moves_lines c n line s positive h = moved c n line s.path s.core positive h
+moves_lines m n line s positive h = moved m n line s.path s.core positive h

@@ -6,6 +6,7 @@ use Rattle.std.proofs.Math.Nat.{mul-mod_right, div-add-mod'}
 use Rattle.std.proofs.lemmas.List.Elements.{All-nil, All-cons}
 use Rattle.operators.proofs.Lists.{factor_positive}
 use Rattle.steps.specs.Meaning.{core_size}
+use Rattle.steps.specs.declared.target.Target.{Target}
 use Rattle.steps.specs.Step.{PlainCore, piece, turns, twiddles, thomas_in, thomas_out, PlainStep, step}
 use Rattle.tensor_paths.specs.declared.Tensor.TheVariants.{Blocks, Columns}
 use Rattle.tensor_paths.specs.Path.{Path, size_under}
@@ -58,22 +59,22 @@ column-shape n p line s path core h positive e =
     )
 
 pub cut-shape : (n p line : ℕ) (path : Path) (core : PlainCore) → 0 < n → n % p ≡ 0 → size_under path (core_size core) ≡ n → IsDealtStep p line path core → AreShaped n p line (cut_factors n p path core)
-cut-shape n p line [] (piece t) positive parts e h = absurd h
+cut-shape n p line [] (piece w) positive parts e h = absurd h
 cut-shape n p line [] (turns r s) positive parts e h =
     let u = r / p in
     let whole : p * u * s ≡ n = ap (λ k. k * s) (sym h.parts) ∙ e in (turn-shape n p line r p s h (omega (arith, whole)), (omega (arith, whole), tt))
-cut-shape n p line [] (twiddles r s) positive parts e h = ((e, tt, parts), tt)
+cut-shape n p line [] (twiddles r s w) positive parts e h = ((e, tt, parts), tt)
 cut-shape n p line [] (thomas_in r s) positive parts e h = absurd h
 cut-shape n p line [] (thomas_out r s) positive parts e h = absurd h
 cut-shape n p line (Blocks r ∷ path) core positive parts e h =
     let m = size_under path (core_size core) in
     let whole : p * (r / p) * m ≡ n = ap (λ k. k * m) (sym h.parts) ∙ e in
     (ap (λ k. p * k) (size-within (Blocks (r / p)) path (core_size core)) ∙ omega (arith, whole), tt)
-cut-shape n p line (Columns s ∷ path) (piece t) positive parts e h =
-    let size = column-shape n p line s path (piece t) h (factor_positive (size_under path (core_size (piece t))) s 0 (omega (arith, positive, e))) e in
+cut-shape n p line (Columns s ∷ path) (piece w) positive parts e h =
+    let size = column-shape n p line s path (piece w) h (factor_positive (size_under path (core_size (piece w))) s 0 (omega (arith, positive, e))) e in
     (turn-shape n p line s p (n / s) h size.0, (size.1, (turn-shape n p line s (n / s) p h size.2, tt)))
 cut-shape n p line (Columns s ∷ path) (turns r q) positive parts e h = ((e, tt, lines-of p line s h), tt)
-cut-shape n p line (Columns s ∷ path) (twiddles r q) positive parts e h = ((e, tt, parts), tt)
+cut-shape n p line (Columns s ∷ path) (twiddles r q w) positive parts e h = ((e, tt, parts), tt)
 cut-shape n p line (Columns s ∷ path) (thomas_in r q) positive parts e h = ((e, tt, lines-of p line s h), tt)
 cut-shape n p line (Columns s ∷ path) (thomas_out r q) positive parts e h = ((e, tt, lines-of p line s h), tt)
 
@@ -93,5 +94,7 @@ all-shaped : (n p line : ℕ) (fs : List PlainFactor) → AreShaped n p line fs 
 all-shaped n p line [] h = All-nil (HasShape n p line)
 all-shaped n p line (f ∷ fs) h = All-cons (HasShape n p line) f fs h.0 (all-shaped n p line fs h.1)
 
-pub cut_shape : (n p line : ℕ) (ss : List PlainStep) → 0 < n → (p ≢ 1 → n % p ≡ 0) → AreOfSize n ss → CanShare p line ss → All (HasShape n p line) ((cut n p line ss).first ++ (cut n p line ss).second)
-cut_shape n p line ss positive parts sized h = rw (cut-factors n p line ss) (all-shaped n p line (flat_map (factors_of n p) ss) (flat-shape n p line ss positive parts sized h))
+pub cut_shape : (h : Target) (ss : List PlainStep) → 0 < h.size → (h.procs ≢ 1 → h.size % h.procs ≡ 0) → AreOfSize h.size ss → CanShare h.procs h.line ss →
+    All (HasShape h.size h.procs h.line) ((cut h ss).first ++ (cut h ss).second)
+cut_shape h ss positive parts sized g =
+    rw (cut-factors h ss) (all-shaped h.size h.procs h.line (flat_map (factors_of h.size h.procs) ss) (flat-shape h.size h.procs h.line ss positive parts sized g))

@@ -1,18 +1,18 @@
--- How the steps of a tree are cut for p processors, on lists of n words (Franchetti et al., 2006).
+-- How the steps of a layout are cut for p processors, on lists of n words (Franchetti et al., 2006).
 use Rattle.std.specs.Prelude.{ℕ, suc, ◌/◌, ◌==◌, Bool, true, false, if◌then◌else◌, List, [], ◌∷◌, length, take, drop}
 use Rattle.std.specs.List.{flat_map}
-use Rattle.matrix_meaning.specs.declared.Request.{Request}
+use Rattle.steps.specs.Layout.{Layout}
+use Rattle.steps.specs.declared.target.Target.{Target}
 use Rattle.steps.specs.Step.{PlainCore, piece, turns, twiddles, thomas_in, thomas_out, PlainStep, step, steps_of}
 use Rattle.tensor_paths.specs.declared.Tensor.TheVariants.{Blocks, Columns}
 use Rattle.tensor_paths.specs.Path.{Path}
-use Rattle.tree_model.specs.Breakdown.{Breakdown}
 use Rattle.smp_rewrite.specs.Smp.{PlainFactor, blocks, diagonals, move_before, move_after, PlainSmp, within}
 
 -- a permutation of whole lines or a diagonal, as it is
 abbrev pub whole_factor : Path → PlainCore → PlainFactor
-whole_factor path (piece t) = blocks (step path (piece t))
+whole_factor path (piece w) = blocks (step path (piece w))
 whole_factor path (turns r s) = move_before (step path (turns r s))
-whole_factor path (twiddles r s) = diagonals (step path (twiddles r s))
+whole_factor path (twiddles r s w) = diagonals (step path (twiddles r s w))
 whole_factor path (thomas_in r s) = move_before (step path (thomas_in r s))
 whole_factor path (thomas_out r s) = move_after (step path (thomas_out r s))
 
@@ -23,9 +23,9 @@ abbrev pub cut_factors : ℕ → ℕ → Path → PlainCore → List PlainFactor
 cut_factors n p [] (turns r s) = move_before (step (within (Columns (r / p)) []) (turns p s)) ∷ blocks (step [] (turns (r / p) s)) ∷ []
 cut_factors n p [] core = whole_factor [] core ∷ []
 cut_factors n p (Blocks r ∷ path) core = blocks (step (within (Blocks (r / p)) path) core) ∷ []
-cut_factors n p (Columns s ∷ path) (piece t) =
+cut_factors n p (Columns s ∷ path) (piece w) =
     move_before (step (within (Columns (s / p)) []) (turns p (n / s)))
-    ∷ blocks (step (within (Columns (s / p)) path) (piece t))
+    ∷ blocks (step (within (Columns (s / p)) path) (piece w))
     ∷ move_after (step (within (Columns (s / p)) []) (turns (n / s) p)) ∷ []
 cut_factors n p (Columns s ∷ path) core = whole_factor (Columns s ∷ path) core ∷ []
 
@@ -48,15 +48,14 @@ right_count (s ∷ ss) = if is_left s.path then 0 else suc (right_count ss)
 abbrev pub first_count : ℕ → List PlainStep → ℕ
 first_count p ss = if p == 1 then length ss else right_count ss
 
--- the formula of steps on lists of n words
-abbrev pub cut : ℕ → ℕ → ℕ → List PlainStep → PlainSmp
-cut n p line ss = record {
-  procs = p;
-  line = line;
-  first = flat_map (factors_of n p) (take (first_count p ss) ss);
-  second = flat_map (factors_of n p) (drop (first_count p ss) ss);
+-- the formula of steps for a machine
+abbrev pub cut : Target → List PlainStep → PlainSmp
+cut h ss = record {
+  target = h;
+  first = flat_map (factors_of h.size h.procs) (take (first_count h.procs ss) ss);
+  second = flat_map (factors_of h.size h.procs) (drop (first_count h.procs ss) ss);
 }
 
--- the formula of a tree
-abbrev pub smp_of : Request → Breakdown → PlainSmp
-smp_of c t = cut c.size c.procs c.line (steps_of c [] t)
+-- the formula of a layout
+abbrev pub smp_of : Target → Layout → PlainSmp
+smp_of h l = cut h (steps_of [] l)

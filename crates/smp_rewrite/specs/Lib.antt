@@ -1,4 +1,5 @@
 pub mod Smp
 pub mod Cut
 pub mod Views
+pub mod Fits
 pub mod Laws

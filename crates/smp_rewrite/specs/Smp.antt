@@ -1,8 +1,8 @@
 -- Formulas for processors: a list of factors, each of which every processor has an equal part in.
 use Rattle.std.specs.Prelude.{ℕ, ◌+◌, ◌/◌, ◌==◌, if◌then◌else◌, List, [], ◌∷◌, ◌++◌, map}
-use Rattle.matrix_meaning.specs.declared.Request.{Request}
 use Rattle.operators.specs.Operator.{Operator}
 use Rattle.steps.specs.Meaning.{all_on}
+use Rattle.steps.specs.declared.target.Target.{Target}
 use Rattle.steps.specs.Step.{PlainStep, step, operations_of}
 use Rattle.tensor_paths.specs.declared.Tensor.{Tensor}
 use Rattle.tensor_paths.specs.declared.Tensor.TheVariants.{Blocks}
@@ -17,8 +17,7 @@ pub data PlainFactor : Type 0 where
 
 -- the factors of the root's right part, and then those of its left part
 pub record PlainSmp : Type 0 where
-  pub procs : ℕ
-  pub line : ℕ
+  pub target : Target
   pub first : List PlainFactor
   pub second : List PlainFactor
 
@@ -34,22 +33,22 @@ factor_step p (move_before s) = s
 factor_step p (move_after s) = s
 
 abbrev pub smp_steps : PlainSmp → List PlainStep
-smp_steps f = map (factor_step f.procs) (f.first ++ f.second)
+smp_steps f = map (factor_step f.target.procs) (f.first ++ f.second)
 
 -- what a formula for processors does to a list
-abbrev pub smp_on : Request → PlainSmp → Operator
-smp_on c f = all_on c (smp_steps f)
+abbrev pub smp_on : ℕ → PlainSmp → Operator
+smp_on m f = all_on m (smp_steps f)
 
 -- the operations of each of p processors: a block's own, and its share of a diagonal's
-abbrev pub share_of : Request → ℕ → PlainFactor → ℕ
-share_of c p (blocks s) = operations_of c s
-share_of c p (diagonals s) = operations_of c s / p
-share_of c p (move_before s) = 0
-share_of c p (move_after s) = 0
+abbrev pub share_of : ℕ → ℕ → ℕ → PlainFactor → ℕ
+share_of weight m p (blocks s) = operations_of weight m s
+share_of weight m p (diagonals s) = operations_of weight m s / p
+share_of weight m p (move_before s) = 0
+share_of weight m p (move_after s) = 0
 
-abbrev pub shares_in : Request → ℕ → List PlainFactor → ℕ
-shares_in c p [] = 0
-shares_in c p (f ∷ fs) = share_of c p f + shares_in c p fs
+abbrev pub shares_in : ℕ → ℕ → ℕ → List PlainFactor → ℕ
+shares_in weight m p [] = 0
+shares_in weight m p (f ∷ fs) = share_of weight m p f + shares_in weight m p fs
 
-abbrev pub smp_share : Request → PlainSmp → ℕ
-smp_share c f = shares_in c f.procs (f.first ++ f.second)
+abbrev pub smp_share : ℕ → ℕ → PlainSmp → ℕ
+smp_share weight m f = shares_in weight m f.target.procs (f.first ++ f.second)

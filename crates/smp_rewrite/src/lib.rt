@@ -3,7 +3,9 @@
 
 ghost use Rattle.std.specs.Prelude.{◌≡◌, ◌+◌, ◌*◌, ◌<◌, ◌≤◌, [], ◌∷◌, ◌++◌, All, IfOk, List, OnOk, drop, length, map, ℕ};
 ghost use Rattle.std.specs.List.{flat_map};
+ghost use Rattle.steps.specs.Layout.{layout_of};
 ghost use Rattle.steps.specs.Meaning.{transform_of};
+ghost use Rattle.steps.specs.Targets.{target_of};
 ghost use Rattle.steps.specs.Step.{step, turns};
 ghost use Rattle.steps.specs.Views.{plain_core, plain_step};
 ghost use Rattle.tensor_paths.specs.declared.Tensor.TheVariants.{Columns};
@@ -11,13 +13,13 @@ ghost use Rattle.tree_model.specs.Admissible.{IsAdmissible};
 ghost use Rattle.tree_model.specs.Breakdown.{breakdown_of};
 ghost use Rattle.tree_model.specs.Cost.{cost_of};
 ghost use Rattle.smp_rewrite.specs.Cut.{cut, cut_factors, factors_of, first_count, is_left, right_count, smp_of, whole_factor};
-ghost use Rattle.smp_rewrite.specs.Laws.{IsShaped, MovesLines, SmpCosts, SmpShaped, SmpTransforms, step_size};
+ghost use Rattle.smp_rewrite.specs.Laws.{DimsFit, IsShaped, LayoutsFit, MovesLines, SmpCosts, SmpOfDims, SmpShaped, SmpTransforms, step_size};
 ghost use Rattle.smp_rewrite.specs.Smp.{PlainFactor, smp_on, smp_share, within};
 ghost use Rattle.smp_rewrite.specs.Views.{plain_factor, plain_smp};
 
 use memory::NoMemory;
 use std::alloc::Global;
-use steps::{Core, Step, steps_of_tree};
+use steps::{Core, Step, Target, steps_of_tree, target_of};
 use tensor_paths::Tensor;
 use tree_model::{Ctx, Tree};
 
@@ -37,9 +39,7 @@ pub enum Factor {
 /// A formula for processors: factors in the order in which they are applied.
 #[derive(Drop)]
 pub struct SmpSpl {
-    pub procs: u64,
-    /// How many words a line has.
-    pub line: u64,
+    pub target: Target,
     /// The factors of the root's right part; with one processor all of them.
     pub first: Vec<Factor>,
     /// The factors of the root's left part.
@@ -49,12 +49,14 @@ pub struct SmpSpl {
 /// The formula of a tree for the request's processors.
 pub fn to_smp(alloc: Global, c: &Ctx, tree: &Tree) -> Result<SmpSpl, NoMemory>
     requires { IsAdmissible c.now (breakdown_of tree.now) }
-    ensures form { IfOk result (λ f. plain_smp f ≡ smp_of c.now (breakdown_of tree.now)) }
-    ensures meaning { IfOk result
-        (λ f. (x : List ℕ) → smp_on c.now (plain_smp f) x ≡ transform_of c.now c.now.size x) }
+    ensures form { IfOk result (λ f. plain_smp f
+        ≡ smp_of (target_of c.now) (layout_of c.now (breakdown_of tree.now))) }
+    ensures meaning { IfOk result (λ f. (x : List ℕ) →
+        smp_on c.now.modulus (plain_smp f) x ≡ transform_of c.now c.now.size x) }
     ensures operations { IfOk result
-        (λ f. f.procs * smp_share c.now (plain_smp f) ≡ cost_of c.now (breakdown_of tree.now)) }
-    ensures shape { IfOk result (λ f. IsShaped c.now (plain_smp f)) }
+        (λ f. c.now.procs * smp_share c.now.weight c.now.modulus (plain_smp f)
+        ≡ cost_of c.now (breakdown_of tree.now)) }
+    ensures shape { IfOk result (λ f. IsShaped (plain_smp f)) }
 {
     let _request = c.request();
     let steps = steps_of_tree(alloc, c, tree)?;
@@ -66,7 +68,7 @@ pub fn to_smp(alloc: Global, c: &Ctx, tree: &Tree) -> Result<SmpSpl, NoMemory>
 fn cut_steps(alloc: Global, c: &Ctx, steps: Vec<Step>) -> Result<SmpSpl, NoMemory>
     requires { All (λ s. step_size (plain_step s) ≡ c.now.size) steps.items }
     ensures { IfOk result
-        (λ f. plain_smp f ≡ cut c.now.size c.now.procs c.now.line (map plain_step steps.items)) }
+        (λ f. plain_smp f ≡ cut (target_of c.now) (map plain_step steps.items)) }
 {
     let request = c.request();
     let mut right = steps;
@@ -74,8 +76,7 @@ fn cut_steps(alloc: Global, c: &Ctx, steps: Vec<Step>) -> Result<SmpSpl, NoMemor
     let first = factors_in(alloc, c, right)?;
     let second = factors_in(alloc, c, left)?;
     Ok(SmpSpl {
-        procs: request.procs,
-        line: request.line,
+        target: target_of(c),
         first,
         second,
     })
@@ -233,19 +234,30 @@ pub fn within(tensor: Tensor, path: Vec<Tensor>) -> Result<Vec<Tensor>, NoMemory
     Ok(longer)
 }
 
-/// The formula of a tree does its transform: a law of the definitions.
+/// The formula of a layout does what the layout does: a law of the definitions.
 pub fn smp_transforms()
     ensures { SmpTransforms }
 {}
 
-/// The processors do a tree's cost in equal shares: a law of the definitions.
+/// The processors do a layout's operations in equal shares: a law of the definitions.
 pub fn smp_costs()
     ensures { SmpCosts }
 {}
 
-/// Each factor of a tree's formula is blocks of equal size, a diagonal of equal parts, or a move of whole lines: a law of the definitions.
+/// Each factor of a layout's formula is blocks of equal size, a diagonal of equal parts, or a move of whole lines: a law of the definitions.
 pub fn smp_shaped()
     ensures { SmpShaped }
+{}
+
+/// The layout of an admissible tree can be shared: a law of the definitions.
+pub fn layouts_fit()
+    ensures { LayoutsFit }
+{}
+
+/// The layout of several dimensions can be shared where its root can, and its formula does the tensor product of their transforms at their cost: a law of the definitions.
+pub fn dims_fit()
+    ensures fits { DimsFit }
+    ensures keeps { SmpOfDims }
 {}
 
 /// A move of a formula takes what goes to a line from a line: a law of the definitions.

@@ -1,12 +1,11 @@
 -- Work that transforms hangs on the residues of its items alone.
 use Rattle.std.proofs.Common.{◌≡◌, ℕ, ◌+◌, ◌*◌, ◌%◌, ◌<◌, refl, sym, ap, ◌∙◌, subst, List, mod-lt}
 use Rattle.std.proofs.Math.Nat.{mod-mod}
-use Rattle.std.specs.Prelude.{slice_index, Option, Some, None, ◌==◌, if◌then◌else◌}
+use Rattle.std.specs.Prelude.{Bool, slice_index, Option, Some, None, ◌==◌, if◌then◌else◌}
 use Rattle.loop_merge.specs.Laws.{counted, counted_as, has_diagonal}
 use Rattle.loop_merge.specs.Merge.{PlainPass}
-use Rattle.loop_merge.specs.Nests.{loop_of, loop_work}
+use Rattle.loop_merge.specs.Nests.{loop_of}
 use Rattle.matrix_meaning.specs.declared.Request.{Request}
-use Rattle.matrix_meaning.specs.Kind.{entry_of}
 use Rattle.matrix_meaning.specs.Valid.{IsValid}
 use Rattle.operators.specs.Operator.{matrix_times}
 use Rattle.operators.specs.Sum.{list_below, sum_below}
@@ -16,17 +15,15 @@ use Rattle.passes.specs.Copies.{loops_of, stored, taken}
 use Rattle.passes.specs.Good.{IsVector}
 use Rattle.passes.specs.Loops.{nest_of, one_nest}
 use Rattle.passes.specs.Nest.{PlainMultiplier, PlainNest, copies_of, factor_at, multiplied_on, nests_on, store_place}
-use Rattle.passes.specs.Work as works
-use Rattle.passes.specs.Work.{PlainWork, work_on}
+use Rattle.passes.specs.Work.{PlainWork, kernel, rows, horner, tile, copy, work_on, work_size}
+use Rattle.rooted_trees.proofs.Products.{trees-same}
 use Rattle.ring_mod.proofs.Congruence.{same-mul}
 use Rattle.tensor_paths.specs.Path as paths
 use Rattle.tensor_paths.specs.Path.{AreInRange}
 use Rattle.tensor_paths.proofs.PathLoops.{nest_sum-same}
-use Rattle.tree_model.specs.Cost.{node_root}
-use Rattle.tree_model.specs.Breakdown.{size_of}
-use Rattle.tree_passes.proofs.Works.{by-work}
+use Rattle.loop_merge.proofs.Shaped.{IsShapedWork}
 use Rattle.tree_passes.proofs.Writes.{IsKnown}
-use Rattle.tree_parts.proofs.Tiles.{IsOfNodes}
+use Rattle.tree_parts.proofs.Tiles.{IsOfWorks}
 
 -- the residues of n items
 abbrev pub residues : ℕ → ℕ → List ℕ → List ℕ
@@ -57,23 +54,26 @@ matrix_times-residues m n e x = matrix_times-mod m n e x (residues m n x) (resid
 -- ---- passes
 
 abbrev Transforms : ℕ → PlainWork → Type 0
-Transforms m w = (x y : List ℕ) → AreSame m (works.work_size w) x y → work_on m w x ≡ work_on m w y
+Transforms m w = (x y : List ℕ) → AreSame m (work_size w) x y → work_on m w x ≡ work_on m w y
 
 -- a multiplier takes what the work has made
 multiplied-mod : (m : ℕ) (z : PlainNest) (o : Option PlainMultiplier) (vs x y : List ℕ) → work_on m z.work x ≡ work_on m z.work y → multiplied_on m z o vs x ≡ multiplied_on m z o vs y
 multiplied-mod m z None vs x y h = h
-multiplied-mod m z (Some d) vs x y h = ap (λ made. list_below (works.work_size z.work) (λ k. (factor_at m d.factors (store_place z.work d.places vs k) * slice_index made k) % m)) h
+multiplied-mod m z (Some d) vs x y h = ap (λ made. list_below (work_size z.work) (λ k. (factor_at m d.factors (store_place z.work d.places vs k) * slice_index made k) % m)) h
 
-module _ (c : Request) (p : PlainPass) (valid : IsValid c) (known : IsKnown c p) (of_nodes : IsOfNodes (counted p)) where
+work-mod : (m n : ℕ) (b : Bool) (w : PlainWork) → IsShapedWork m w → IsOfWorks (counted_as n w b) → Transforms m w
+work-mod m n b (kernel trees) shaped of_works x y same = trees-same m trees x y same
+work-mod m n b (rows root size) shaped of_works x y same = matrix_times-mod m size _ x y same
+work-mod m n b (horner root size) shaped of_works x y same = absurd shaped
+work-mod m n b (tile v) shaped of_works x y same = absurd of_works
+work-mod m n b (copy size) shaped of_works x y same = absurd shaped
+
+module _ (c : Request) (p : PlainPass) (valid : IsValid c) (known : IsKnown c p) (of_works : IsOfWorks (counted p)) where
   abbrev z : PlainNest
-  z = nest_of (loop_of c p)
+  z = nest_of (loop_of p)
 
-  transforms : Transforms c.modulus (loop_work c p.work)
-  transforms =
-      by-work c p valid known.shaped known.framed (Transforms c.modulus)
-      (λ t is e. matrix_times-mod c.modulus (size_of t) (entry_of c.kind c.modulus (node_root c (size_of t))))
-      (λ t is e kind. matrix_times-mod c.modulus (size_of t) _)
-      (λ v is. absurd (subst (λ w. IsOfNodes (counted_as (paths.copies_of p.path) w (has_diagonal p.diagonal))) is of_nodes))
+  transforms : Transforms c.modulus p.work
+  transforms = work-mod c.modulus (paths.copies_of p.path) (has_diagonal p.diagonal) p.work known.shaped.work of_works
 
   does-mod : (x : List ℕ) (vs : List ℕ) → AreInRange (loops_of z.counts) vs →
       multiplied_on c.modulus z z.multiplier vs (taken (copies_of c.modulus z) vs x) ≡ multiplied_on c.modulus z z.multiplier vs (taken (copies_of c.modulus z) vs (residues c.modulus c.size x))
@@ -93,5 +93,5 @@ module _ (c : Request) (p : PlainPass) (valid : IsValid c) (known : IsKnown c p)
       nest_sum-same (loops_of z.counts) _ _ (λ vs range.
       ap (λ made. sum_below copies.size (λ k. if copies.to vs k == w then slice_index made k else 0)) (does-mod x vs range))
 
-  pub pass-mod : (x : List ℕ) → nests_on c.modulus c.size (one_nest (loop_of c p)) x ≡ nests_on c.modulus c.size (one_nest (loop_of c p)) (residues c.modulus c.size x)
+  pub pass-mod : (x : List ℕ) → nests_on c.modulus c.size (one_nest (loop_of p)) x ≡ nests_on c.modulus c.size (one_nest (loop_of p)) (residues c.modulus c.size x)
   pass-mod x = list_below-same c.size _ _ (λ w below. ap (λ v. (v + 0) % c.modulus) (stored-mod x w))

@@ -20,6 +20,6 @@ loop-within room n p h =
     (multiplier-within room n p p.taken h.factors))
     refl
 
-pub passes-within : (room : ℕ) (c : Request) (ps : List PlainPass) → AreLimitedLoops (most room) c.size (map (loop_of c) ps) → AreWithin room c.size (nests_in c ps)
+pub passes-within : (room : ℕ) (c : Request) (ps : List PlainPass) → AreLimitedLoops (most room) c.size (map loop_of ps) → AreWithin room c.size (nests_in c ps)
 passes-within room c [] h = tt
-passes-within room c (p ∷ ps) h = (loop-within room c.size (loop_of c p) h.0, passes-within room c ps h.1)
+passes-within room c (p ∷ ps) h = (loop-within room c.size (loop_of p) h.0, passes-within room c ps h.1)

@@ -2,8 +2,7 @@
 use Rattle.std.proofs.Common.{◌≡◌, ℕ, zero, suc, ◌+◌, ◌*◌, ◌^◌, ◌≤◌, Bool, true, false, List, [], ◌∷◌, length, map, refl, sym, ap, ◌∙◌, arith, Option, Some, None, if◌then◌else◌, mul-le-mul_left}
 use Rattle.std.proofs.Math.Nat.{mul-le-mul}
 use Rattle.loop_merge.specs.Merge.{PlainPass}
-use Rattle.loop_merge.specs.Nests.{loop_work, loop_of}
-use Rattle.loop_merge.proofs.LoopItems.{loop-size}
+use Rattle.loop_merge.specs.Nests.{loop_of}
 use Rattle.matrix_meaning.specs.declared.Request.{Request}
 use Rattle.matrix_meaning.specs.Valid.{IsValid}
 use Rattle.pass_actions.specs.Costs.{pass_cost, pass_loads, work_cost, work_loads}
@@ -13,18 +12,15 @@ use Rattle.pass_programs.specs.Statements.{diagonal_of, is_table, one_factor, po
 use Rattle.passes.specs.Counts.{copies_in, multiplier_cost}
 use Rattle.passes.specs.Loops.{nest_of, one_nest}
 use Rattle.passes.specs.Nest.{PlainMultiplier, PlainNest}
-use Rattle.passes.specs.Work as works
-use Rattle.passes.specs.Work.{PlainWork, kernel, rows, horner, tile, copy}
-use Rattle.sigma_lower.specs.Work.{work_size}
+use Rattle.passes.specs.Work.{PlainWork, kernel, rows, horner, tile, copy, work_size}
 use Rattle.tensor_paths.specs.Path.{Path, copies_of, count_of}
 use Rattle.tensor_paths.proofs.Under.{size_under-copies}
-use Rattle.tree_model.specs.Breakdown.{size_of}
-use Rattle.tree_model.specs.Cost.{node_root}
-use Rattle.kernel_gen.proofs.KernelSizes.{cost-le}
+use Rattle.kernel_gen.proofs.KernelSizes.{trees-few}
+use Rattle.loop_merge.proofs.Shaped.{IsShapedWork}
+use Rattle.rooted_trees.specs.Trees.{trees_size}
 use Rattle.tree_passes.specs.Laws.{machine_of}
 use Rattle.tree_passes.proofs.Known.{AllKnown}
 use Rattle.tree_passes.proofs.Owned.{nests_in}
-use Rattle.tree_passes.proofs.Works.{by-work, node-of}
 use Rattle.tree_passes.proofs.Writes.{IsKnown, n-small}
 
 -- ---- tables
@@ -62,8 +58,8 @@ module _ (c : Request) where
   through-grown : (ps : List PlainPass) (tables : List (List ℕ)) → length (tables_through c.modulus (nests_in c ps) tables) ≤ length tables + 2 * length ps
   through-grown [] tables = omega arith
   through-grown (p ∷ ps) tables =
-      let first = nest-grown c.modulus (nest_of (loop_of c p)) tables in
-      let rest = through-grown ps (tables_of_nest c.modulus (nest_of (loop_of c p)) tables) in
+      let first = nest-grown c.modulus (nest_of (loop_of p)) tables in
+      let rest = through-grown ps (tables_of_nest c.modulus (nest_of (loop_of p)) tables) in
       omega (arith, first, rest)
 
   abbrev pub total : List (List PlainPass) → ℕ
@@ -83,7 +79,7 @@ pub copies-are : (path : Path) → copies_in (map count_of path) ≡ copies_of p
 copies-are [] = refl
 copies-are (t ∷ path) = ap (λ n. count_of t * n) (copies-are path)
 
-pub multiplier-le : (weight : ℕ) (o : Option PlainMultiplier) (w : PlainWork) → multiplier_cost weight o w ≤ weight * works.work_size w
+pub multiplier-le : (weight : ℕ) (o : Option PlainMultiplier) (w : PlainWork) → multiplier_cost weight o w ≤ weight * work_size w
 multiplier-le weight None w = omega arith
 multiplier-le weight (Some d) w = omega arith
 
@@ -108,21 +104,22 @@ module _ (c : Request) (valid : IsValid c) where
   square-le zero = omega arith
   square-le (suc n) = omega arith
 
-  pub modest : (p : PlainPass) → IsKnown c p → IsModest (works.work_size (loop_work c p.work)) (loop_work c p.work)
-  modest p known = by-work c p valid known.shaped known.framed (λ w. IsModest (works.work_size w) w)
-      (λ t is e. let node = node-of c p valid known.shaped known.framed t is in let price = cost-le c.modulus c.kind t (node_root c (size_of t)) node.formed in record { operations = omega (arith, price); loads = square-le (size_of t) })
-      (λ t is e kind. record { operations = omega arith; loads = omega arith })
-      (λ v is. record { operations = omega arith; loads = square-le (v * v) })
+  pub modest : (w : PlainWork) → IsShapedWork c.modulus w → IsModest (work_size w) w
+  modest (kernel trees) shaped = let price = trees-few c.modulus trees shaped.1 in record { operations = omega (arith, price); loads = square-le (trees_size trees) }
+  modest (rows root size) shaped = record { operations = omega arith; loads = omega arith }
+  modest (horner root size) shaped = absurd shaped
+  modest (tile v) shaped = record { operations = omega arith; loads = square-le (v * v) }
+  modest (copy size) shaped = absurd shaped
 
-  pass-actions : (p : PlainPass) → IsKnown c p → pass_cost 1 c.modulus (one_nest (loop_of c p)) + pass_loads (one_nest (loop_of c p)) + 2 * c.size ≤ 2 ^ 44
+  pass-actions : (p : PlainPass) → IsKnown c p → pass_cost 1 c.modulus (one_nest (loop_of p)) + pass_loads (one_nest (loop_of p)) + 2 * c.size ≤ 2 ^ 44
   pass-actions p known =
-      let w = loop_work c p.work in
-      let n = works.work_size w in
-      let z = nest_of (loop_of c p) in
-      let m = modest p known in
+      let w = p.work in
+      let n = work_size w in
+      let z = nest_of (loop_of p) in
+      let m = modest p.work known.shaped.work in
       let high = valid.in_range.size.1 in
       let whole : copies_in (map count_of p.path) * n ≡ c.size =
-      ap (λ x. x * n) (copies-are p.path) ∙ ap (λ x. copies_of p.path * x) (loop-size c p.work) ∙ sym (size_under-copies p.path (work_size p.work)) ∙ known.shaped.fills in
+      ap (λ x. x * n) (copies-are p.path) ∙ sym (size_under-copies p.path (work_size p.work)) ∙ known.shaped.fills in
       spread (copies_in (map count_of p.path)) n c.size (work_cost 1 c.modulus w) (multiplier_cost 1 z.multiplier w) (work_loads w) whole high (n-small c p valid known) m.operations (multiplier-le 1 z.multiplier w) m.loads
 
   pub actions-few : (ps : List PlainPass) → AllKnown c ps → most_actions (machine_of c) (nests_in c ps) ≤ 2 ^ 44 * length ps

@@ -1,11 +1,11 @@
 -- A tree has at least one pass, and few.
-use Rattle.std.proofs.Common.{◌≡◌, ℕ, ◌+◌, ◌*◌, ◌^◌, ◌<◌, ◌≤◌, Bool, true, false, List, ◌∷◌, length, map, refl, sym, ap, inl, inr, arith, subst, if◌then◌else◌, nat_le, length-append}
+use Rattle.std.proofs.Common.{◌≡◌, ℕ, ◌+◌, ◌*◌, ◌^◌, ◌<◌, ◌≤◌, Bool, true, false, List, [], ◌∷◌, length, map, suc, refl, sym, ap, inl, inr, arith, subst, if◌then◌else◌, nat_le, length-append}
 use Rattle.std.proofs.lemmas.Nat.{mul-le, pow-add}
 use Rattle.std.proofs.Math.Pow.{pow_mono}
 use Rattle.std.proofs.lemmas.Bool.{cases_lt}
 use Rattle.std.proofs.lemmas.List.{length-map}
-use Rattle.loop_merge.specs.Laws.{counted}
-use Rattle.loop_merge.specs.Merge.{PlainPass, merged_of}
+use Rattle.loop_merge.specs.Laws.{Counted, counted, AllCount}
+use Rattle.loop_merge.specs.Merge.{PlainPass}
 use Rattle.matrix_meaning.specs.declared.Request.{Request}
 use Rattle.matrix_meaning.specs.Valid.{IsValid}
 use Rattle.tree_model.specs.Admissible.{IsAdmissible}
@@ -127,13 +127,19 @@ pub record AreFewMerged (ps : List PlainPass) : Type 0 where
   pub some : 1 ≤ length ps
   pub few : length ps ≤ 22
 
-pub few_merged : (c : Request) (t : Breakdown) → IsValid c → IsAdmissible c t → map counted (merged_of c t) ≡ whole_passes c t → AreFewMerged (merged_of c t)
-few_merged c t valid admissible counts =
+pub count-length : (c : Request) (ps : List Counted) (qs : List Pass) → AllCount c ps qs → length ps ≡ length qs
+count-length c [] [] h = refl
+count-length c [] (q ∷ qs) h = absurd h
+count-length c (p ∷ ps) [] h = absurd h
+count-length c (p ∷ ps) (q ∷ qs) h = ap suc (count-length c ps qs h.1)
+
+pub few_merged : (c : Request) (t : Breakdown) (ps : List PlainPass) → IsValid c → IsAdmissible c t → AllCount c (map counted ps) (whole_passes c t) → AreFewMerged ps
+few_merged c t ps valid admissible counts =
     let most = valid.in_range.size in
     let size = admissible.size in
     let h = few_whole c t admissible.well_formed (omega arith) in
     let some = h.some in
     let few = h.few in
-    let same : length (map counted (merged_of c t)) ≡ length (whole_passes c t) = ap length counts in
-    let long = length-map (merged_of c t) counted in
+    let same = count-length c (map counted ps) (whole_passes c t) counts in
+    let long = length-map ps counted in
     record { some = omega arith; few = omega arith }

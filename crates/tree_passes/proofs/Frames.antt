@@ -3,17 +3,16 @@ use Rattle.std.proofs.Common.{◌≡◌, ℕ, ◌<◌, Bool, true, false, List, 
 use Rattle.std.specs.Prelude.{◌==◌, if◌then◌else◌}
 use Rattle.loop_merge.specs.Items as shared
 use Rattle.loop_merge.specs.Merge.{PlainPass}
-use Rattle.loop_merge.specs.Nests.{loop_work, loop_of}
-use Rattle.loop_merge.proofs.LoopItems.{node-is}
+use Rattle.loop_merge.specs.Nests.{loop_of}
 use Rattle.matrix_meaning.specs.declared.Request.{Request}
 use Rattle.operators.proofs.Lists.{place_below}
 use Rattle.pass_actions.specs.Machine.{framed_lanes, if_several, item_of, lane_step, values_of}
 use Rattle.pass_actions.specs.Laws as actions
 use Rattle.passes.specs.Loops.{nest_of}
-use Rattle.passes.specs.Work.{vectors_of}
+use Rattle.passes.specs.Work.{PlainWork, kernel, rows, horner, tile, copy, vectors_of, work_size}
 use Rattle.shared_passes.specs.Shared.{framed, HasLanes, IsFramed, step_of}
-use Rattle.sigma_lower.specs.Work.{PlainWork, transforming, tiling, work_size}
 use Rattle.smp_rewrite.specs.Smp.{within}
+use Rattle.steps.specs.Targets.{target_of}
 use Rattle.tensor_paths.specs.declared.Tensor.{Tensor}
 use Rattle.tensor_paths.specs.declared.Tensor.TheVariants.{Blocks, Columns}
 use Rattle.tensor_paths.specs.Path.{Path, count_of, AreInRange}
@@ -21,21 +20,26 @@ use Rattle.tree_passes.specs.Laws.{machine_of}
 
 -- ---- work
 
-pub loop-values : (c : Request) (w : PlainWork) (q lane : ℕ) (vs : List ℕ) → values_of (machine_of c) (loop_work c w) q lane vs ≡ shared.values_of c w q lane vs
-loop-values c (transforming t) q lane vs = node-is (λ w. values_of (machine_of c) w q lane vs) (shared.values_of c (transforming t) q lane vs) c t (λ kind root. refl) (λ root. refl)
-loop-values c (tiling v) q lane vs = refl
+pub loop-values : (c : Request) (w : PlainWork) (q lane : ℕ) (vs : List ℕ) → values_of (machine_of c) w q lane vs ≡ shared.values_of (target_of c) w q lane vs
+loop-values c (kernel trees) q lane vs = refl
+loop-values c (rows root size) q lane vs = refl
+loop-values c (horner root size) q lane vs = refl
+loop-values c (tile v) q lane vs = refl
+loop-values c (copy size) q lane vs = refl
 
-pub loop-vectors : (c : Request) (w : PlainWork) → vectors_of (loop_work c w) ≡ shared.vectors_of w
-loop-vectors c (transforming t) = node-is vectors_of (shared.vectors_of (transforming t)) c t (λ kind root. refl) (λ root. refl)
-loop-vectors c (tiling v) = refl
+pub loop-item : (w : PlainWork) (k lane : ℕ) → item_of w k lane ≡ shared.item_of w k lane
+loop-item (kernel trees) k lane = refl
+loop-item (rows root size) k lane = refl
+loop-item (horner root size) k lane = refl
+loop-item (tile v) k lane = refl
+loop-item (copy size) k lane = refl
 
-pub loop-item : (c : Request) (w : PlainWork) (k lane : ℕ) → item_of (loop_work c w) k lane ≡ shared.item_of w k lane
-loop-item c (transforming t) k lane = node-is (λ w. item_of w k lane) k c t (λ kind root. refl) (λ root. refl)
-loop-item c (tiling v) k lane = refl
-
-pub loop-step : (c : Request) (w : PlainWork) → lane_step (loop_work c w) ≡ step_of w
-loop-step c (transforming t) = node-is lane_step 0 c t (λ kind root. refl) (λ root. refl)
-loop-step c (tiling v) = refl
+pub loop-step : (w : PlainWork) → lane_step w ≡ step_of w
+loop-step (kernel trees) = refl
+loop-step (rows root size) = refl
+loop-step (horner root size) = refl
+loop-step (tile v) = refl
+loop-step (copy size) = refl
 
 -- ---- counts
 
@@ -43,15 +47,18 @@ counts-pick : (b : Bool) (t : Tensor) (path : Path) → map count_of (if b then 
 counts-pick true t path = refl
 counts-pick false t path = refl
 
-counts-framed : (c : Request) (w : PlainWork) (loops : Path) → map count_of (framed c w loops) ≡ if_several c.procs c.procs ++ (framed_lanes (machine_of c) (loop_work c w) ++ map count_of loops)
-counts-framed c (transforming t) loops =
-    counts-pick (c.procs == 1) (Blocks c.procs) (within (Columns c.lanes) loops)
-    ∙ ap (λ xs. if_several c.procs c.procs ++ xs)
-    (counts-pick (c.lanes == 1) (Columns c.lanes) loops
-    ∙ ap (λ xs. xs ++ map count_of loops) (sym (node-is (framed_lanes (machine_of c)) (if_several c.lanes c.lanes) c t (λ kind root. refl) (λ root. refl))))
-counts-framed c (tiling v) loops = counts-pick (c.procs == 1) (Blocks c.procs) loops
+counts-lanes : (p v : ℕ) (loops : Path) → map count_of (within (Blocks p) (within (Columns v) loops)) ≡ if_several p p ++ (if_several v v ++ map count_of loops)
+counts-lanes p v loops =
+    counts-pick (p == 1) (Blocks p) (within (Columns v) loops) ∙ ap (λ xs. if_several p p ++ xs) (counts-pick (v == 1) (Columns v) loops)
 
-pub nest-framed : (c : Request) (p : PlainPass) → IsFramed c p → actions.IsFramed (machine_of c) (nest_of (loop_of c p))
+counts-framed : (c : Request) (w : PlainWork) (loops : Path) → map count_of (framed (target_of c) w loops) ≡ if_several c.procs c.procs ++ (framed_lanes (machine_of c) w ++ map count_of loops)
+counts-framed c (kernel trees) loops = counts-lanes c.procs c.lanes loops
+counts-framed c (rows root size) loops = counts-lanes c.procs c.lanes loops
+counts-framed c (horner root size) loops = counts-lanes c.procs c.lanes loops
+counts-framed c (tile v) loops = counts-pick (c.procs == 1) (Blocks c.procs) loops
+counts-framed c (copy size) loops = counts-lanes c.procs c.lanes loops
+
+pub nest-framed : (c : Request) (p : PlainPass) → IsFramed (target_of c) p → actions.IsFramed (machine_of c) (nest_of (loop_of p))
 nest-framed c p frame = record { loops = map count_of frame.loops; counts = ap (map count_of) frame.path ∙ counts-framed c p.work frame.loops }
 
 -- ---- the values of the variables
@@ -67,12 +74,16 @@ range-procs : (one_proc : Bool) (p q : ℕ) (loops : Path) (vs : List ℕ) → q
 range-procs true p q loops vs h range = range
 range-procs false p q loops vs h range = (h, range)
 
-range-framed : (c : Request) (w : PlainWork) (q lane : ℕ) (loops : Path) (vs : List ℕ) → q < c.procs → lane < c.lanes → AreInRange loops vs → AreInRange (framed c w loops) (shared.values_of c w q lane vs)
-range-framed c (transforming t) q lane loops vs h k range = range-both (c.procs == 1) (c.lanes == 1) c.procs c.lanes q lane loops vs h k range
-range-framed c (tiling v) q lane loops vs h k range = range-procs (c.procs == 1) c.procs q loops vs h range
+range-framed : (c : Request) (w : PlainWork) (q lane : ℕ) (loops : Path) (vs : List ℕ) → q < c.procs → lane < c.lanes → AreInRange loops vs →
+    AreInRange (framed (target_of c) w loops) (shared.values_of (target_of c) w q lane vs)
+range-framed c (kernel trees) q lane loops vs h k range = range-both (c.procs == 1) (c.lanes == 1) c.procs c.lanes q lane loops vs h k range
+range-framed c (rows root size) q lane loops vs h k range = range-both (c.procs == 1) (c.lanes == 1) c.procs c.lanes q lane loops vs h k range
+range-framed c (horner root size) q lane loops vs h k range = range-both (c.procs == 1) (c.lanes == 1) c.procs c.lanes q lane loops vs h k range
+range-framed c (tile v) q lane loops vs h k range = range-procs (c.procs == 1) c.procs q loops vs h range
+range-framed c (copy size) q lane loops vs h k range = range-both (c.procs == 1) (c.lanes == 1) c.procs c.lanes q lane loops vs h k range
 
-pub range-of : (c : Request) (p : PlainPass) (h : IsFramed c p) (q lane : ℕ) (vs : List ℕ) → q < c.procs → lane < c.lanes → AreInRange h.loops vs → AreInRange p.path (shared.values_of c p.work q lane vs)
-range-of c p h q lane vs below on range = subst (λ (path : Path). AreInRange path (shared.values_of c p.work q lane vs)) (sym h.path) (range-framed c p.work q lane h.loops vs below on range)
+pub range-of : (c : Request) (p : PlainPass) (h : IsFramed (target_of c) p) (q lane : ℕ) (vs : List ℕ) → q < c.procs → lane < c.lanes → AreInRange h.loops vs → AreInRange p.path (shared.values_of (target_of c) p.work q lane vs)
+range-of c p h q lane vs below on range = subst (λ (path : Path). AreInRange path (shared.values_of (target_of c) p.work q lane vs)) (sym h.path) (range-framed c p.work q lane h.loops vs below on range)
 
 -- values in range name loops' values in range, and a processor where there are several
 record AreParts (one_proc : Bool) (p q : ℕ) (loops : Path) (vs : List ℕ) : Type 0 where
@@ -91,9 +102,13 @@ parts-procs : (one_proc : Bool) (p q : ℕ) (loops : Path) (vs : List ℕ) → A
 parts-procs true p q loops vs h = record { inner = h; proc = λ e. absurd (cc) }
 parts-procs false p q loops vs h = record { inner = h.1; proc = λ e. h.0 }
 
-parts-of : (c : Request) (w : PlainWork) (q lane : ℕ) (loops : Path) (vs : List ℕ) → AreInRange (framed c w loops) (shared.values_of c w q lane vs) → AreParts (c.procs == 1) c.procs q loops vs
-parts-of c (transforming t) q lane loops vs h = parts-both (c.procs == 1) (c.lanes == 1) c.procs c.lanes q lane loops vs h
-parts-of c (tiling v) q lane loops vs h = parts-procs (c.procs == 1) c.procs q loops vs h
+parts-of : (c : Request) (w : PlainWork) (q lane : ℕ) (loops : Path) (vs : List ℕ) → AreInRange (framed (target_of c) w loops) (shared.values_of (target_of c) w q lane vs) →
+    AreParts (c.procs == 1) c.procs q loops vs
+parts-of c (kernel trees) q lane loops vs h = parts-both (c.procs == 1) (c.lanes == 1) c.procs c.lanes q lane loops vs h
+parts-of c (rows root size) q lane loops vs h = parts-both (c.procs == 1) (c.lanes == 1) c.procs c.lanes q lane loops vs h
+parts-of c (horner root size) q lane loops vs h = parts-both (c.procs == 1) (c.lanes == 1) c.procs c.lanes q lane loops vs h
+parts-of c (tile v) q lane loops vs h = parts-procs (c.procs == 1) c.procs q loops vs h
+parts-of c (copy size) q lane loops vs h = parts-both (c.procs == 1) (c.lanes == 1) c.procs c.lanes q lane loops vs h
 
 -- the processor that stands for q: any for the only one
 abbrev pub named : Request → ℕ → ℕ
@@ -103,9 +118,8 @@ same-proc : (b : Bool) (q : ℕ) (rest : List ℕ) → (if b then [] else q ∷ 
 same-proc true q rest = refl
 same-proc false q rest = refl
 
-pub values-named : (c : Request) (w : PlainWork) (q lane : ℕ) (vs : List ℕ) → shared.values_of c w q lane vs ≡ shared.values_of c w (named c q) lane vs
-values-named c (transforming t) q lane vs = same-proc (c.procs == 1) q (shared.if_several c.lanes lane ++ vs)
-values-named c (tiling v) q lane vs = same-proc (c.procs == 1) q vs
+pub values-named : (c : Request) (w : PlainWork) (q lane : ℕ) (vs : List ℕ) → shared.values_of (target_of c) w q lane vs ≡ shared.values_of (target_of c) w (named c q) lane vs
+values-named c w q lane vs = same-proc (c.procs == 1) q (shared.lane_value (target_of c) w lane ++ vs)
 
 -- the values of a copy on a processor and a lane
 pub record IsShare (c : Request) (loops : Path) (q : ℕ) (vs : List ℕ) : Type 0 where
@@ -116,12 +130,15 @@ proc-below : (b : Bool) (p q : ℕ) → 0 < p → (b ≡ false → q < p) → (i
 proc-below true p q some h = some
 proc-below false p q some h = h refl
 
-pub share-of : (c : Request) (p : PlainPass) (h : IsFramed c p) (q lane : ℕ) (vs : List ℕ) → 0 < c.procs → AreInRange p.path (shared.values_of c p.work q lane vs) → IsShare c h.loops q vs
+pub share-of : (c : Request) (p : PlainPass) (h : IsFramed (target_of c) p) (q lane : ℕ) (vs : List ℕ) → 0 < c.procs → AreInRange p.path (shared.values_of (target_of c) p.work q lane vs) → IsShare c h.loops q vs
 share-of c p h q lane vs some range =
-    let parts = parts-of c p.work q lane h.loops vs (subst (λ (path : Path). AreInRange path (shared.values_of c p.work q lane vs)) h.path range) in
+    let parts = parts-of c p.work q lane h.loops vs (subst (λ (path : Path). AreInRange path (shared.values_of (target_of c) p.work q lane vs)) h.path range) in
     record { inner = parts.inner; proc = proc-below (c.procs == 1) c.procs q some parts.proc }
 
 -- the items on the lanes of a register are items of the copy
-pub item-below : (c : Request) (w : PlainWork) (k lane : ℕ) → HasLanes c w → k < shared.vectors_of w → lane < c.lanes → shared.item_of w k lane < work_size w
-item-below c (transforming t) k lane has below on = below
-item-below c (tiling v) k lane has below on = place_below k lane v v below (omega (arith, has))
+pub item-below : (c : Request) (w : PlainWork) (k lane : ℕ) → HasLanes (target_of c) w → k < vectors_of w → lane < c.lanes → shared.item_of w k lane < work_size w
+item-below c (kernel trees) k lane has below on = below
+item-below c (rows root size) k lane has below on = below
+item-below c (horner root size) k lane has below on = below
+item-below c (tile v) k lane has below on = place_below k lane v v below (omega (arith, has))
+item-below c (copy size) k lane has below on = below

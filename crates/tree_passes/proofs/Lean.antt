@@ -2,6 +2,7 @@
 use Rattle.std.proofs.Common.{◌≡◌, ℕ, ◌+◌, ◌*◌, ◌/◌, ◌%◌, ◌^◌, ◌==◌, Bool, true, false, List, [], ◌∷◌, length, map, refl, ap, ◌∙◌, arith, subst, pow-suc, if◌then◌else◌}
 use Rattle.std.proofs.Math.Nat.{div_self, mod-eq_of_lt, one-mul, pow-zero}
 use Rattle.formula_lower.specs.Merged.{phase_passes, tree_merged}
+use Rattle.formula_lower.proofs.TreeLayouts.{tree_does, tree_layout}
 use Rattle.formula_lower.proofs.TreesKeep.{trees_keep}
 use Rattle.matrix_meaning.specs.declared.Request.{Request}
 use Rattle.matrix_meaning.specs.Kind.{transform}
@@ -10,6 +11,8 @@ use Rattle.passes.specs.Good.{IsVector}
 use Rattle.passes.specs.Merged.{merged_on}
 use Rattle.ring_mod.specs.Residue.{power_mod}
 use Rattle.sigma_lower.specs.Term.{factor_term}
+use Rattle.steps.specs.Layout.{layout_of}
+use Rattle.steps.specs.Targets.{target_of}
 use Rattle.tree_model.specs.Admissible.{IsAdmissible}
 use Rattle.tree_model.specs.Breakdown.{Breakdown}
 use Rattle.tree_model.specs.Cost.{cost_of, node_root}
@@ -23,7 +26,7 @@ use Rattle.tree_passes.proofs.Parts.{CountsLike, computes, lean-code}
 phases-count : (c : Request) (t : Breakdown) → length (tree_merged c t).phases ≡ (if c.procs == 1 then 1 else 2)
 phases-count c t = pick (c.procs == 1) _ _ _
   where
-    pick : (b : Bool) (one first second : List PlainFactor) → length (map (phase_passes c) (map (map (factor_term c.procs c.lanes)) (if b then one ∷ [] else first ∷ second ∷ []))) ≡ (if b then 1 else 2)
+    pick : (b : Bool) (one first second : List PlainFactor) → length (map (phase_passes (target_of c)) (map (map (factor_term c.procs c.lanes)) (if b then one ∷ [] else first ∷ second ∷ []))) ≡ (if b then 1 else 2)
     pick true one first second = refl
     pick false one first second = refl
 
@@ -43,7 +46,11 @@ root-whole c valid =
 -- the passes do the transform
 pub trees-transform : (c : Request) (t : Breakdown) (x : List ℕ) → IsValid c → IsAdmissible c t → IsVector c.modulus c.size x →
     merged_on c.modulus (tree_merged c t) x ≡ transform c.kind c.modulus c.size c.root x
-trees-transform c t x valid h vector = trees_keep c t x valid h vector ∙ ap (λ w. transform c.kind c.modulus c.size w x) (root-whole c valid)
+trees-transform c t x valid h vector =
+    let is = tree_layout c t valid h in
+    trees_keep (target_of c) (layout_of c t) x is.machine is.shares is.good vector
+    ∙ tree_does c t x valid h
+    ∙ ap (λ w. transform c.kind c.modulus c.size w x) (root-whole c valid)
 
 pub trees_are_lean : TreesAreLean
 trees_are_lean c t p valid h performs = lean-code c t 0 (tree_merged c t) p valid (trees-count-like c t valid h) performs

@@ -1,146 +1,62 @@
--- The work of a tree's loops: a kernel of a node, the rows of a longer leaf of a Fourier transform, or a tile.
-use Rattle.std.proofs.Common.{◌≡◌, ◌≢◌, ℕ, zero, suc, ◌*◌, ◌%◌, ◌<◌, ◌≤◌, ◌∷◌, Bool, true, false, inl, inr, refl, sym, ap, ◌∙◌, arith, subst, mul_comm}
-use Rattle.std.proofs.lemmas.Bool.{cases_lt}
+-- The work of a layout's loops can be done, and a kernel of a tree is small.
+use Rattle.std.proofs.Common.{◌≡◌, ℕ, ◌*◌, ◌≤◌, Bool, true, false, arith, refl, if◌then◌else◌}
+use Rattle.std.specs.Prelude.{nat_le}
 use Rattle.std.proofs.lemmas.Bool.Decides.{nat_tests}
-use Rattle.std.specs.Prelude.{◌==◌, ◌&&◌, if◌then◌else◌}
-use Rattle.formula_lower.proofs.CanMerge.{long-or-whole}
-use Rattle.formula_lower.specs.Trees.{long_work}
-use Rattle.kernel_gen.specs.Kernel.{IsRoot}
-use Rattle.kernel_gen.proofs.RequestNodes.{any-root, root-of}
-use Rattle.kernel_gen.proofs.Sizes.{node_below}
-use Rattle.loop_merge.specs.Merge.{PlainPass}
-use Rattle.loop_merge.specs.Nests.{loop_work}
-use Rattle.loop_merge.proofs.Shaped.{IsShaped, IsShapedWork}
+use Rattle.kernel_gen.proofs.NodeCosts.{kernel-short}
+use Rattle.loop_merge.proofs.Shaped.{HasWorks, IsShapedWork}
+use Rattle.matrix_meaning.specs.Valid.{IsValid}
 use Rattle.matrix_meaning.specs.declared.Kind.{Kind}
 use Rattle.matrix_meaning.specs.declared.Kind.TheVariants.{Dft, Wht}
 use Rattle.matrix_meaning.specs.declared.Request.{Request}
-use Rattle.matrix_meaning.specs.Valid.{IsValid}
 use Rattle.pass_actions.specs.Laws.{CanWork}
-use Rattle.passes.specs.Work.{PlainWork, kernel, rows, tile}
-use Rattle.rooted_trees.specs.Trees.{single}
-use Rattle.shared_passes.specs.Shared.{framed, HasLanes, IsFramed}
-use Rattle.sigma_lower.specs.Work as lowered
-use Rattle.sigma_lower.specs.Work.{transforming, tiling, work_size}
-use Rattle.tensor_paths.specs.declared.Tensor.TheVariants.{Blocks, Columns}
-use Rattle.tensor_paths.specs.Path.{Path, copies_of, size_under}
-use Rattle.tensor_paths.proofs.Under.{size_under-copies}
-use Rattle.tree_model.specs.Breakdown.{Breakdown, leaf, size_of, IsWellFormed}
-use Rattle.tree_model.specs.Cost.{is_kernel, is_plain, node_root}
-use Rattle.tree_model.proofs.Sizes.{one_le_size_of}
-use Rattle.tree_model.proofs.Splits.{mod-product}
+use Rattle.passes.specs.Work.{PlainWork, kernel, rows, horner, tile, copy}
+use Rattle.rooted_trees.specs.Trees.{single, trees_size}
+use Rattle.shared_passes.specs.Shared.{HasLanes}
+use Rattle.steps.specs.Layout.{Layout, work, by, layout_of, long_work}
+use Rattle.steps.specs.Targets.{target_of}
+use Rattle.tree_model.specs.Breakdown.{Breakdown, leaf, node, size_of, AllowsLeaf, IsWellFormed}
+use Rattle.tree_model.specs.Cost.{is_kernel, node_root}
 use Rattle.tree_passes.specs.Laws.{machine_of}
 
--- ---- a request that is not plain has several copies
+-- its code does what it stands for
+pub can-work : (c : Request) (w : PlainWork) → IsShapedWork c.modulus w → HasLanes (target_of c) w → CanWork (machine_of c) w
+can-work c (kernel trees) h lanes = h.1
+can-work c (rows root size) h lanes = (omega (arith, h.0), h.1)
+can-work c (horner root size) h lanes = absurd h
+can-work c (tile v) h lanes = lanes
+can-work c (copy size) h lanes = absurd h
 
-one-of : (a b : ℕ) → a * b ≡ 1 → a ≡ 1
-one-of zero b is = absurd (omega arith)
-one-of (suc zero) b is = refl
-one-of (suc (suc a)) zero is = absurd (omega arith)
-one-of (suc (suc a)) (suc b) is = absurd (omega arith)
+-- a kernel is of at most 64 items
+abbrev pub IsSmallWork : PlainWork → Type 0
+IsSmallWork (kernel trees) = trees_size trees ≤ 64
+IsSmallWork (rows root size) = Unit {0}
+IsSmallWork (horner root size) = Unit {0}
+IsSmallWork (tile v) = Unit {0}
+IsSmallWork (copy size) = Unit {0}
 
-one-copy-of : (k n : ℕ) → 0 < n → k * n ≡ n → k ≡ 1
-one-copy-of zero n some is = absurd (omega arith)
-one-copy-of (suc zero) n some is = refl
-one-copy-of (suc (suc k)) n some is = absurd (omega arith)
+short-size : (d unroll : ℕ) → nat_le d unroll ≡ true → unroll ≤ 64 → d ≤ 64
+short-size d unroll short low = grind (arith, nat_tests)
 
-other : (b : Bool) (n k : ℕ) → (n == k) ≡ b → b ≡ false → n ≢ k
-other b n k is unequal = grind (arith, nat_tests)
+small-long : (kind : Kind) (root d : ℕ) → AllowsLeaf kind d → IsSmallWork (long_work kind root (leaf d))
+small-long Dft root d h = tt
+small-long Wht root d h = omega (arith, h.1)
 
-several-both : (one_proc one_lane : Bool) (p v : ℕ) (loops : Path) → (p == 1) ≡ one_proc → (v == 1) ≡ one_lane → (one_proc && one_lane) ≡ false →
-    copies_of (if one_proc then (if one_lane then loops else Columns v ∷ loops) else Blocks p ∷ (if one_lane then loops else Columns v ∷ loops)) ≢ 1
-several-both true true p v loops h k shared one = absurd (cc)
-several-both true false p v loops h k shared one = other false v 1 k refl (one-of v (copies_of loops) one)
-several-both false one_lane p v loops h k shared one = other false p 1 h refl (one-of p (copies_of (if one_lane then loops else Columns v ∷ loops)) one)
+small-kernel : (c : Request) (t : Breakdown) → IsValid c → is_kernel c (size_of t) ≡ true → size_of t ≤ 64
+small-kernel c t valid short = short-size (size_of t) c.unroll (kernel-short c (size_of t) short) valid.in_range.unroll.1
 
-several-copies : (c : Request) (t : Breakdown) (loops : Path) → is_plain c ≡ false → copies_of (framed c (transforming t) loops) ≢ 1
-several-copies c t loops shared = several-both (c.procs == 1) (c.lanes == 1) c.procs c.lanes loops refl refl shared
+small-leaf : (c : Request) (d : ℕ) (b : Bool) → IsValid c → AllowsLeaf c.kind d → is_kernel c d ≡ b →
+    IsSmallWork (if b then kernel (single c.kind (node_root c d) (leaf d)) else long_work c.kind (node_root c d) (leaf d))
+small-leaf c d true valid h short = small-kernel c (leaf d) valid short
+small-leaf c d false valid h long = small-long c.kind (node_root c d) d h
 
--- ---- nodes and longer leaves
+small-node : (c : Request) (t : Breakdown) (b : Bool) (l : Layout) → IsValid c → is_kernel c (size_of t) ≡ b → HasWorks IsSmallWork l →
+    HasWorks IsSmallWork (if b then work (if b then kernel (single c.kind (node_root c (size_of t)) t) else long_work c.kind (node_root c (size_of t)) t) else l)
+small-node c t true l valid short h = small-kernel c t valid short
+small-node c t false l valid long h = h
 
--- a leaf of more than two items is one of a Fourier transform
-long-kind : (kind : Kind) (d : ℕ) → IsWellFormed kind (leaf d) → 2 < d → kind ≡ Dft
-long-kind Dft d formed long = refl
-long-kind Wht d formed long = absurd (let small = formed.1 in omega arith)
-
--- a node of the request's transform
-pub record IsNode (c : Request) (t : Breakdown) : Type 0 where
-  pub formed : IsWellFormed c.kind t
-  pub divides : c.size % size_of t ≡ 0
-  pub some : 0 < size_of t
-  pub small : size_of t ≤ 1048576
-
-module _ (c : Request) (p : PlainPass) (valid : IsValid c) (shape : IsShaped c c.size p) (frame : IsFramed c p) where
-  module _ (t : Breakdown) (is : p.work ≡ transforming t) where
-    node-size : size_of t * copies_of p.path ≡ c.size
-    node-size =
-        mul_comm (size_of t) (copies_of p.path) ∙ sym (size_under-copies p.path (size_of t)) ∙ ap (λ (w : lowered.PlainWork). size_under p.path (work_size w)) (sym is) ∙ shape.fills
-
-    pub node-of : IsNode c t
-    node-of =
-        let formed : IsWellFormed c.kind t = (subst (IsShapedWork c) is shape.work).0 in
-        let divides : c.size % size_of t ≡ 0 = mod-product c.size (size_of t) (copies_of p.path) node-size in
-        record { formed = formed; divides = divides; some = one_le_size_of c.kind t formed; small = node_below c t valid divides }
-
-    -- where the request is shared, no node is the whole
-    part-of : is_plain c ≡ false → size_of t ≢ c.size
-    part-of shared whole =
-        let n = size_of t in
-        let copies : copies_of p.path * n ≡ n = mul_comm (copies_of p.path) n ∙ node-size ∙ sym whole in
-        let one : copies_of p.path ≡ 1 = one-copy-of (copies_of p.path) n node-of.some copies in
-        let path : p.path ≡ framed c (transforming t) frame.loops = frame.path ∙ ap (λ (w : lowered.PlainWork). framed c w frame.loops) is in
-        several-copies c t frame.loops shared (ap copies_of (sym path) ∙ one)
-
-    long-over : is_kernel c (size_of t) ≡ false → c.unroll < size_of t
-    long-over e =
-        elim (cases_lt c.unroll (size_of t)) [
-          | inl longer ↦ longer
-          | inr short ↦ let whole = long-or-whole c (size_of t) e (omega (arith, short)) in absurd (part-of whole.1 whole.0)
-        ]
-
-    -- a longer leaf
-    pub record IsLong : Type 0 where
-      pub leaf_is : t ≡ leaf (size_of t)
-      pub kind_is : c.kind ≡ Dft
-      pub over : c.unroll < size_of t
-      pub more : 2 < size_of t
-
-    pub long-of : is_kernel c (size_of t) ≡ false → IsLong
-    long-of e =
-        let tree : t ≡ leaf (size_of t) = (subst (IsShapedWork c) is shape.work).1 e in
-        let over = long-over e in
-        let least = valid.in_range.unroll.0 in
-        let more : 2 < size_of t = omega (arith, over, least) in
-        record { leaf_is = tree; kind_is = long-kind c.kind (size_of t) (subst (IsWellFormed c.kind) tree node-of.formed) more; over = over; more = more }
-
-  -- what holds of kernels of nodes, of rows of longer leaves and of tiles holds of a pass's work
-  pub by-work : (P : PlainWork → Type 0) →
-      ((t : Breakdown) → p.work ≡ transforming t → is_kernel c (size_of t) ≡ true → P (kernel (single c.kind (node_root c (size_of t)) t))) →
-      ((t : Breakdown) → p.work ≡ transforming t → is_kernel c (size_of t) ≡ false → c.kind ≡ Dft → P (rows (node_root c (size_of t)) (size_of t))) →
-      ((v : ℕ) → p.work ≡ tiling v → P (tile v)) → P (loop_work c p.work)
-  by-work P on_kernel on_rows on_tile = pick p.work refl
-    where
-      node : (t : Breakdown) → p.work ≡ transforming t → (b : Bool) → is_kernel c (size_of t) ≡ b → P (if b then kernel (single c.kind (node_root c (size_of t)) t) else long_work c.kind (node_root c (size_of t)) t)
-      node t is true e = on_kernel t is e
-      node t is false e =
-          let long = long-of t is e in
-          subst (λ kind. P (long_work kind (node_root c (size_of t)) t)) (sym long.kind_is) (on_rows t is e long.kind_is)
-
-      pick : (w : lowered.PlainWork) → p.work ≡ w → P (loop_work c w)
-      pick (transforming t) is = node t is (is_kernel c (size_of t)) refl
-      pick (tiling v) is = on_tile v is
-
-  -- its code does what it stands for
-  pub can-work : CanWork (machine_of c) (loop_work c p.work)
-  can-work = by-work (CanWork (machine_of c)) kernels rows-work tiles
-    where
-      kernels : (t : Breakdown) → p.work ≡ transforming t → is_kernel c (size_of t) ≡ true → CanWork (machine_of c) (kernel (single c.kind (node_root c (size_of t)) t))
-      kernels t is e = ((node-of t is).formed, any-root c t valid (node-of t is).divides)
-
-      rows-work : (t : Breakdown) → p.work ≡ transforming t → is_kernel c (size_of t) ≡ false → c.kind ≡ Dft → CanWork (machine_of c) (rows (node_root c (size_of t)) (size_of t))
-      rows-work t is e kind = ((node-of t is).some, subst (λ k. IsRoot k c.modulus (size_of t) (node_root c (size_of t))) kind (root-of c t valid (node-of t is).divides))
-
-      tiles : (v : ℕ) → p.work ≡ tiling v → CanWork (machine_of c) (tile v)
-      tiles v is = lanes-of p.work is frame.lanes
-        where
-          lanes-of : (w : lowered.PlainWork) → w ≡ tiling v → HasLanes c w → v ≡ c.lanes
-          lanes-of w e h = subst (HasLanes c) e h
+-- the works of a tree's layout are small
+pub small_works : (c : Request) (t : Breakdown) → IsValid c → IsWellFormed c.kind t → HasWorks IsSmallWork (layout_of c t)
+small_works c (leaf d) valid h = small-leaf c d (is_kernel c d) valid h refl
+small_works c (node rule a b) valid h =
+    small-node c (node rule a b) (is_kernel c (size_of a * size_of b)) (by rule (node_root c (size_of a * size_of b)) (layout_of c a) (layout_of c b)) valid refl
+    (small_works c a valid h.1, small_works c b valid h.2)

@@ -1,22 +1,18 @@
 -- Each pass of a tree can be run and written.
-use Rattle.std.proofs.Common.{◌≡◌, ℕ, zero, suc, ◌+◌, ◌-◌, ◌*◌, ◌^◌, ◌<◌, ◌≤◌, true, false, List, [], ◌∷◌, ◌++◌, All, length, map, refl, sym, ap, ap₂, ◌∙◌, arith, subst, Option, Some, None}
-use Rattle.std.specs.Prelude.{max, nat_le, slice_index, slice_index_or}
-use Rattle.std.proofs.lemmas.Bool.Decides.{nat_tests}
+use Rattle.std.proofs.Common.{◌≡◌, ℕ, zero, suc, ◌+◌, ◌-◌, ◌*◌, ◌^◌, ◌<◌, ◌≤◌, true, List, [], ◌∷◌, ◌++◌, All, length, map, refl, sym, ap, ap₂, ◌∙◌, arith, subst, Option, Some, None}
+use Rattle.std.specs.Prelude.{max, slice_index, slice_index_or}
 use Rattle.std.proofs.lemmas.List.Elements.{All-nil, All-cons, All-weaker}
 use Rattle.std.specs.List.{list_all}
 use Rattle.std.specs.Option.{option_map}
 use Rattle.index_fn.specs.Mapping.{Mapping}
-use Rattle.kernel_gen.proofs.KernelSizes.{cost-le}
-use Rattle.kernel_gen.specs.Kernel.{kernel_cost, kernel_of}
-use Rattle.kernel_gen.proofs.NodeCosts.{kernel-short}
-use Rattle.kernel_gen.proofs.RequestNodes.{any-root}
+use Rattle.kernel_gen.proofs.KernelSizes.{trees-few}
+use Rattle.kernel_gen.specs.Kernel.{trees_cost, trees_kernel}
 use Rattle.loop_merge.specs.Merge.{PlainDiagonal, PlainPass, through}
-use Rattle.loop_merge.specs.Nests.{loop_work, loop_of, taken_of}
-use Rattle.loop_merge.proofs.LoopItems.{diagonal-size, loop-size}
+use Rattle.loop_merge.specs.Nests.{loop_of, taken_of}
+use Rattle.loop_merge.proofs.LoopItems.{diagonal-size}
 use Rattle.loop_merge.proofs.Closed.{IsClosedPass}
 use Rattle.loop_merge.proofs.PlaceValues.{IsFormedPass, value-at_place}
-use Rattle.loop_merge.proofs.Shaped.{IsShaped}
-use Rattle.matrix_meaning.specs.declared.Kind.TheVariants.{Dft}
+use Rattle.loop_merge.proofs.Shaped.{IsShaped, IsShapedWork}
 use Rattle.matrix_meaning.specs.declared.Request.{Request}
 use Rattle.matrix_meaning.specs.Valid.{IsValid}
 use Rattle.pass_actions.proofs.KernelActions.{trees-registers}
@@ -30,34 +26,32 @@ use Rattle.passes.specs.Good.{IsGoodPass, NamesItems}
 use Rattle.passes.specs.Loops.{IsGoodLoop, IsLimitedLoop, AreFormed, limits_in, nest_of, one_nest, places_by}
 use Rattle.passes.specs.Merge.{items_in, items_out, all_simplified, is_limited, limits_of, place_sum}
 use Rattle.passes.specs.Nest.{PlainMultiplier, PlainNest, factor_count}
-use Rattle.passes.specs.Work as works
-use Rattle.passes.specs.Work.{PlainWork, kernel, rows, tile}
+use Rattle.passes.specs.Work.{PlainWork, kernel, rows, horner, tile, copy, work_size}
 use Rattle.passes.proofs.Natural.{names-out, ranged, values-are}
 use Rattle.passes.proofs.Nests.{names-simplified}
 use Rattle.passes.proofs.Within.{carries-all}
 use Rattle.perm_algebra.specs.Affine.{Sum, constant, variable, value, simplified}
-use Rattle.rooted_trees.specs.Trees.{single}
+use Rattle.rooted_trees.specs.Trees.{PlainTrees, trees_size}
 use Rattle.shared_passes.specs.Shared.{HasLanes, IsFramed}
-use Rattle.sigma_lower.specs.Work.{transforming, tiling}
+use Rattle.steps.specs.Targets.{target_of}
 use Rattle.tensor_paths.specs.Path.{Path, AreInRange, count_of, place, size_under}
-use Rattle.tree_model.specs.Breakdown.{Breakdown, size_of}
-use Rattle.tree_model.specs.Cost.{is_kernel, node_root}
 use Rattle.tree_passes.specs.Laws.{machine_of}
 use Rattle.tree_passes.proofs.Frames.{nest-framed}
 use Rattle.tree_passes.proofs.KernelSizes.{small_kernel}
 use Rattle.tree_passes.proofs.Loops.{IsCount, counts-drop, length-drop, length-tensors, loop-counts, path-weight, under-least, weight-small}
 use Rattle.tree_passes.proofs.Places.{taken-is, moves-vectors, finds-factors, residues-of}
-use Rattle.tree_passes.proofs.Works.{by-work, can-work, node-of}
+use Rattle.tree_passes.proofs.Works.{IsSmallWork, can-work}
 
 -- what is known of a pass of a tree
 pub record IsKnown (c : Request) (p : PlainPass) : Type 0 where
-  pub framed : IsFramed c p
-  pub shaped : IsShaped c c.size p
-  pub limited : IsLimitedLoop 64 c.size (loop_of c p)
+  pub framed : IsFramed (target_of c) p
+  pub shaped : IsShaped (IsShapedWork c.modulus) c.size p
+  pub small : IsSmallWork p.work
+  pub limited : IsLimitedLoop 64 c.size (loop_of p)
   pub formed : IsFormedPass p
   pub closed : IsClosedPass c.size p
-  pub loop : IsGoodLoop c.lanes (loop_of c p)
-  pub good : IsGoodPass c.lanes c.modulus c.size (one_nest (loop_of c p))
+  pub loop : IsGoodLoop c.lanes (loop_of p)
+  pub good : IsGoodPass c.lanes c.modulus c.size (one_nest (loop_of p))
 
 -- ---- names
 
@@ -78,9 +72,6 @@ names-all w cs (f ∷ fs) sums formed h = subst (NamesItems w) (map-twice sums) 
 with-le : (o : Option PlainMultiplier) (used more : ℕ) → with_multiplier o used more ≤ used + more
 with-le None used more = omega arith
 with-le (Some d) used more = omega arith
-
-short-size : (d unroll : ℕ) → nat_le d unroll ≡ true → unroll ≤ 64 → d ≤ 64
-short-size d unroll short low = grind (arith, nat_tests)
 
 max-less : (a n : ℕ) → a < n → max a 0 < n
 max-less a n low = omega (arith, low)
@@ -111,10 +102,10 @@ module _ (c : Request) (p : PlainPass) (valid : IsValid c) (known : IsKnown c p)
   h = machine_of c
 
   abbrev w : PlainWork
-  w = loop_work c p.work
+  w = p.work
 
   abbrev z : PlainNest
-  z = nest_of (loop_of c p)
+  z = nest_of (loop_of p)
 
   some-procs : 0 < c.procs
   some-procs = let procs = valid.in_range.procs.0 in omega (arith, procs)
@@ -128,7 +119,7 @@ module _ (c : Request) (p : PlainPass) (valid : IsValid c) (known : IsKnown c p)
   run-nest : CanRunNest h z
   run-nest =
       record {
-        work = can-work c p valid known.shaped known.framed;
+        work = can-work c p.work known.shaped.work known.framed.lanes;
         inside = known.good.nests.0.inside;
         framed = nest-framed c p known.framed;
         vectors = λ q vs lane k range on below. moves-vectors c p known.loop valid known.framed q vs lane k range on below;
@@ -136,7 +127,7 @@ module _ (c : Request) (p : PlainPass) (valid : IsValid c) (known : IsKnown c p)
         residues = residues-of c p some-modulus;
       }
 
-  runs : CanRun h (one_nest (loop_of c p))
+  runs : CanRun h (one_nest (loop_of p))
   runs =
       record {
         lanes = some-lanes;
@@ -150,15 +141,15 @@ module _ (c : Request) (p : PlainPass) (valid : IsValid c) (known : IsKnown c p)
   high : c.size ≤ 1048576
   high = valid.in_range.size.1
 
-  fills : size_under p.path (works.work_size w) ≡ c.size
-  fills = ap (size_under p.path) (loop-size c p.work) ∙ known.shaped.fills
+  fills : size_under p.path (work_size w) ≡ c.size
+  fills = known.shaped.fills
 
   all-counts : All IsCount (map count_of p.path)
-  all-counts = loop-counts p.path (works.work_size w) known.shaped.wide known.loop.some (omega (arith, fills, high))
+  all-counts = loop-counts p.path (work_size w) known.shaped.wide known.loop.some (omega (arith, fills, high))
 
   few-loops : length p.path ≤ 20
   few-loops =
-      let weight = path-weight p.path (works.work_size w) known.shaped.wide known.loop.some in
+      let weight = path-weight p.path (work_size w) known.shaped.wide known.loop.some in
       weight-small (length p.path) (omega (arith, weight, fills, high))
 
   shallow : length (loop_counts h z) ≤ 20
@@ -168,28 +159,35 @@ module _ (c : Request) (p : PlainPass) (valid : IsValid c) (known : IsKnown c p)
       let few = few-loops in
       omega (arith, dropped, all, few)
 
-  pub n-small : works.work_size w ≤ 1048576
-  n-small = let least = under-least p.path (works.work_size w) known.shaped.wide known.loop.some in omega (arith, least, fills, high)
+  pub n-small : work_size w ≤ 1048576
+  n-small = let least = under-least p.path (work_size w) known.shaped.wide known.loop.some in omega (arith, least, fills, high)
 
   -- the nest with other work
   abbrev pub with_work : PlainWork → PlainNest
-  with_work v = nest_of (record { path = p.path; work = v; befores = p.befores; taken = option_map (taken_of c) p.diagonal; afters = p.afters })
+  with_work v = nest_of (record { path = p.path; work = v; befores = p.befores; taken = option_map taken_of p.diagonal; afters = p.afters })
+
+  at-row-of : (root n : ℕ) (vs : List ℕ) (row k : ℕ) → AreInRange (loops_of (map count_of p.path)) vs → row < n → k < n →
+      value (slice_index_or (with_work (rows root n)).gathers 0 (constant 0)) (slice_index (vs ++ row ∷ k ∷ [])) ≡ through p.befores (place p.path n vs k)
+  at-row-of root n vs row k range below under =
+      let us = slice_index (vs ++ row ∷ k ∷ []) in
+      let cs = slice_index (map count_of p.path ++ n ∷ n ∷ []) in
+      let item : Sum = variable 1 (length p.path + 1) (constant 0) in
+      value-at_place cs us p.path n p.befores item known.formed.befores (with_more (map count_of p.path) n vs (row ∷ k ∷ []) range (two_below n row k below under)) tt
+      ∙ ap₂ (λ ws j. through p.befores (place p.path n ws j)) (values-are p.path 0 us vs (row ∷ k ∷ []) (ranged p.path vs range) (λ i. ap us (omega arith)))
+      (let there : us (length p.path + 1) ≡ k = ap us (omega arith) ∙ at-second p.path vs row k (ranged p.path vs range) in omega (arith, there))
+
+  rows-alike : (root n : ℕ) → LoadsAlike (with_work (rows root n)) (rows root n)
+  rows-alike root n vs row k range below under = at-row-of root n vs row k range below under ∙ sym (at-row-of root n vs 0 k range (omega (arith, below)) under)
+
+  work-alike : (v : PlainWork) → IsShapedWork c.modulus v → LoadsAlike (with_work v) v
+  work-alike (kernel trees) shaped = tt
+  work-alike (rows root n) shaped = rows-alike root n
+  work-alike (horner root n) shaped = absurd shaped
+  work-alike (tile v) shaped = tt
+  work-alike (copy n) shaped = absurd shaped
 
   alike : LoadsAlike z w
-  alike = by-work c p valid known.shaped known.framed (λ v. LoadsAlike (with_work v) v) (λ t is e. tt) (λ t is e kind. each (node_root c (size_of t)) (size_of t)) (λ v is. tt)
-    where
-      at-row-of : (root n : ℕ) (vs : List ℕ) (row k : ℕ) → AreInRange (loops_of (map count_of p.path)) vs → row < n → k < n →
-          value (slice_index_or (with_work (rows root n)).gathers 0 (constant 0)) (slice_index (vs ++ row ∷ k ∷ [])) ≡ through p.befores (place p.path n vs k)
-      at-row-of root n vs row k range below under =
-          let us = slice_index (vs ++ row ∷ k ∷ []) in
-          let cs = slice_index (map count_of p.path ++ n ∷ n ∷ []) in
-          let item : Sum = variable 1 (length p.path + 1) (constant 0) in
-          value-at_place cs us p.path n p.befores item known.formed.befores (with_more (map count_of p.path) n vs (row ∷ k ∷ []) range (two_below n row k below under)) tt
-          ∙ ap₂ (λ ws j. through p.befores (place p.path n ws j)) (values-are p.path 0 us vs (row ∷ k ∷ []) (ranged p.path vs range) (λ i. ap us (omega arith)))
-          (let there : us (length p.path + 1) ≡ k = ap us (omega arith) ∙ at-second p.path vs row k (ranged p.path vs range) in omega (arith, there))
-
-      each : (root n : ℕ) → LoadsAlike (with_work (rows root n)) (rows root n)
-      each root n vs row k range below under = at-row-of root n vs row k range below under ∙ sym (at-row-of root n vs 0 k range (omega (arith, below)) under)
+  alike = work-alike p.work known.shaped.work
 
   open-loads : length (loop_counts h z) + loads_inside w ≤ 64
   open-loads = let few = shallow in let more = loads-le w in omega (arith, few, more)
@@ -199,14 +197,14 @@ module _ (c : Request) (p : PlainPass) (valid : IsValid c) (known : IsKnown c p)
 
   -- the sums pass merging's test
   gathers-tested : list_all (is_limited 64 c.size (limits_of z)) z.gathers ≡ true
-  gathers-tested = carries-all 64 c.size c.size (limits_of z) p.befores (map (place_sum p.path (works.work_size w) 0) (items_in w (length p.path))) known.limited.loads
+  gathers-tested = carries-all 64 c.size c.size (limits_of z) p.befores (map (place_sum p.path (work_size w) 0) (items_in w (length p.path))) known.limited.loads
 
   scatters-tested : list_all (is_limited 64 c.size (limits_of z)) z.scatters ≡ true
-  scatters-tested = carries-all 64 c.size c.size (limits_of z) p.afters (map (place_sum p.path (works.work_size w) 0) (items_out w (length p.path))) known.limited.stores
+  scatters-tested = carries-all 64 c.size c.size (limits_of z) p.afters (map (place_sum p.path (work_size w) 0) (items_out w (length p.path))) known.limited.stores
 
-  factors-tested : (d : PlainDiagonal) → p.diagonal ≡ Some d → list_all (is_limited 64 (d.rows * d.cols) (limits_of z)) (places_by (loop_of c p) (taken_of c d).places (items_out w (length p.path))) ≡ true
+  factors-tested : (d : PlainDiagonal) → p.diagonal ≡ Some d → list_all (is_limited 64 (d.rows * d.cols) (limits_of z)) (places_by (loop_of p) (taken_of d).places (items_out w (length p.path))) ≡ true
   factors-tested d is =
-      carries-all 64 c.size (d.rows * d.cols) (limits_of z) (taken_of c d).places (map (place_sum p.path (works.work_size w) 0) (items_out w (length p.path))) (known.limited.factors (taken_of c d) (ap (option_map (taken_of c)) is))
+      carries-all 64 c.size (d.rows * d.cols) (limits_of z) (taken_of d).places (map (place_sum p.path (work_size w) 0) (items_out w (length p.path))) (known.limited.factors (taken_of d) (ap (option_map taken_of) is))
 
   -- what is asked for of a multiplier
   abbrev CanMultiply : PlainMultiplier → Type 0
@@ -215,13 +213,13 @@ module _ (c : Request) (p : PlainPass) (valid : IsValid c) (known : IsKnown c p)
 
   can-multiply : (d : PlainMultiplier) → z.multiplier ≡ Some d → CanMultiply d
   can-multiply d is =
-      let t = taken-is c p d is in
-      let few = diagonal-size c p valid known.shaped t.diagonal t.is in
+      let t = taken-is p d is in
+      let few = diagonal-size (IsShapedWork c.modulus) c.size p valid.in_range.size.0 known.shaped t.diagonal t.is in
       let some = few.0 in
       let most = few.1 in
-      let formed = (known.loop.taken (taken_of c t.diagonal) (ap (option_map (taken_of c)) t.is)).formed in
+      let formed = (known.loop.taken (taken_of t.diagonal) (ap (option_map taken_of) t.is)).formed in
       subst CanMultiply (sym t.same) (
-        names-all w (limits_in (loop_of c p)) (taken_of c t.diagonal).places (map (place_sum p.path (works.work_size w) 0) (items_out w (length p.path))) formed (names-out c.lanes p.path w known.loop.nested),
+        names-all w (limits_in (loop_of p)) (taken_of t.diagonal).places (map (place_sum p.path (work_size w) 0) (items_out w (length p.path))) formed (names-out c.lanes p.path w known.loop.nested),
         sums-written 64 (t.diagonal.rows * t.diagonal.cols) (limits_of z) h w _ _ open-stores (omega arith) (omega (arith, most, high)) (factors-tested t.diagonal t.is),
         omega (arith, some),
         omega (arith, most, high),
@@ -241,33 +239,30 @@ module _ (c : Request) (p : PlainPass) (valid : IsValid c) (known : IsKnown c p)
 
   -- ---- registers
 
+  kernel-registers : (y : PlainNest) (trees : PlainTrees) → IsShapedWork c.modulus (kernel trees) → trees_size trees ≤ 64 → nest_registers h.modulus y (kernel trees) < 2 ^ 20
+  kernel-registers y trees shaped small =
+      let n = trees_size trees in
+      let made = trees_kernel c.modulus trees in
+      let price : trees_cost 1 c.modulus trees + n ≤ 8192 = small_kernel n (trees_cost 1 c.modulus trees) small (trees-few c.modulus trees shaped.1) in
+      let next = trees-registers c.modulus trees valid.in_range.modulus.0 shaped.1 in
+      let used = with-le y.multiplier made.next n in
+      omega (arith, used, next, price, small)
+
+  work-registers : (y : PlainNest) (v : PlainWork) → IsShapedWork c.modulus v → IsSmallWork v → HasLanes (target_of c) v → nest_registers h.modulus y v < 2 ^ 20
+  work-registers y (kernel trees) shaped small lanes = kernel-registers y trees shaped small
+  work-registers y (rows root n) shaped small lanes = let used = with-le y.multiplier 3 1 in omega (arith, used)
+  work-registers y (horner root n) shaped small lanes = absurd shaped
+  work-registers y (tile v) shaped small lanes =
+      let used = with-le y.multiplier (v + v) v in
+      let most = valid.in_range.lanes.1 in
+      omega (arith, used, lanes, most)
+  work-registers y (copy n) shaped small lanes = absurd shaped
+
   -- whatever multiplies its items
   pub few-registers : (y : PlainNest) → nest_registers h.modulus y w < 2 ^ 20
-  few-registers y = by-work c p valid known.shaped known.framed (λ v. nest_registers h.modulus y v < 2 ^ 20) kernels long tiles
-    where
-      kernels : (t : Breakdown) → p.work ≡ transforming t → is_kernel c (size_of t) ≡ true → nest_registers h.modulus y (kernel (single c.kind (node_root c (size_of t)) t)) < 2 ^ 20
-      kernels t is e =
-          let n = size_of t in
-          let root = node_root c n in
-          let node = node-of c p valid known.shaped known.framed t is in
-          let made = kernel_of c.modulus c.kind t root in
-          let small : n ≤ 64 = short-size n c.unroll (kernel-short c n e) valid.in_range.unroll.1 in
-          let price : kernel_cost 1 c.modulus c.kind t root + n ≤ 8192 = small_kernel n (kernel_cost 1 c.modulus c.kind t root) small (cost-le c.modulus c.kind t root node.formed) in
-          let next = trees-registers c.modulus (single c.kind root t) valid.in_range.modulus.0 (node.formed, any-root c t valid node.divides) in
-          let used = with-le y.multiplier made.next n in
-          omega (arith, used, next, price, small)
+  few-registers y = work-registers y p.work known.shaped.work known.small known.framed.lanes
 
-      long : (t : Breakdown) → p.work ≡ transforming t → is_kernel c (size_of t) ≡ false → c.kind ≡ Dft → nest_registers h.modulus y (rows (node_root c (size_of t)) (size_of t)) < 2 ^ 20
-      long t is e kind = let used = with-le y.multiplier 3 1 in omega (arith, used)
-
-      tiles : (v : ℕ) → p.work ≡ tiling v → nest_registers h.modulus y (tile v) < 2 ^ 20
-      tiles v is =
-          let used = with-le y.multiplier (v + v) v in
-          let lanes : v ≡ c.lanes = subst (HasLanes c) is known.framed.lanes in
-          let most = valid.in_range.lanes.1 in
-          omega (arith, used, lanes, most)
-
-  pub can-write-pass : CanWritePass h (one_nest (loop_of c p))
+  pub can-write-pass : CanWritePass h (one_nest (loop_of p))
   can-write-pass =
       record {
         line = let line = valid.in_range.line.0 in omega (arith, line);

@@ -2,7 +2,6 @@
 use Rattle.std.proofs.Common.{◌≡◌, ℕ, ◌*◌, ◌/◌, refl, sym, ap, ◌∙◌, List, [], ◌∷◌, ◌++◌}
 use Rattle.std.specs.Prelude.{map, Option, None, Some}
 use Rattle.std.proofs.lemmas.List.{map-append}
-use Rattle.matrix_meaning.specs.declared.Request.{Request}
 use Rattle.operators.specs.Identities.{turn}
 use Rattle.operators.specs.Operator.{Operator, on_columns, on_blocks}
 use Rattle.operators.proofs.Blocks.{columns_in_columns}
@@ -35,7 +34,7 @@ IsGridOf (Some h) g = h ≡ g
 abbrev pub BlockFollows : Deal → Option Grid → Path → PlainCore → Type 0
 BlockFollows d o [] (piece t) = ⊥
 BlockFollows d o [] (turns r s) = IsWide d.lanes r × IsWide d.lanes s
-BlockFollows d o [] (twiddles r s) = Unit {0}
+BlockFollows d o [] (twiddles r s w) = Unit {0}
 BlockFollows d o [] (thomas_in r s) = ⊥
 BlockFollows d o [] (thomas_out r s) = ⊥
 BlockFollows d o (Blocks r ∷ path) core =
@@ -63,128 +62,128 @@ abbrev pub settle : Deal → Option Grid → Operator
 settle d None x = x
 settle d (Some g) x = apart d.procs g.groups d.lanes (g.tiles * d.lanes) x
 
-abbrev all_of : Request → Deal → List PlainFactor → Operator
-all_of c d fs = all_on c (map (factor_step d.procs d.lanes) fs)
+abbrev all_of : ℕ → Deal → List PlainFactor → Operator
+all_of m d fs = all_on m (map (factor_step d.procs d.lanes) fs)
 
-all_of-append : (c : Request) (d : Deal) (fs gs : List PlainFactor) (x : List ℕ) → all_of c d (fs ++ gs) x ≡ all_of c d gs (all_of c d fs x)
-all_of-append c d fs gs x =
-    ap (λ ss. all_on c ss x) (map-append (factor_step d.procs d.lanes) fs gs) ∙ all_on-append c (map (factor_step d.procs d.lanes) fs) (map (factor_step d.procs d.lanes) gs) x
+all_of-append : (m : ℕ) (d : Deal) (fs gs : List PlainFactor) (x : List ℕ) → all_of m d (fs ++ gs) x ≡ all_of m d gs (all_of m d fs x)
+all_of-append m d fs gs x =
+    ap (λ ss. all_on m ss x) (map-append (factor_step d.procs d.lanes) fs gs) ∙ all_on-append m (map (factor_step d.procs d.lanes) fs) (map (factor_step d.procs d.lanes) gs) x
 
-settled-on : (c : Request) (d : Deal) (o : Option Grid) (x : List ℕ) → all_of c d (settled d o) x ≡ settle d o x
-settled-on c d None x = refl
-settled-on c d (Some g) x = parted-on c d g x
+settled-on : (m : ℕ) (d : Deal) (o : Option Grid) (x : List ℕ) → all_of m d (settled d o) x ≡ settle d o x
+settled-on m d None x = refl
+settled-on m d (Some g) x = parted-on m d g x
 
 -- a factor after words that are brought into their own order
-after-settled : (c : Request) (d : Deal) (o : Option Grid) (f : PlainFactor) (x : List ℕ) → all_of c d (settled d o ++ f ∷ []) x ≡ step_on c (factor_step d.procs d.lanes f) (settle d o x)
-after-settled c d o f x = all_of-append c d (settled d o) (f ∷ []) x ∙ ap (step_on c (factor_step d.procs d.lanes f)) (settled-on c d o x)
+after-settled : (m : ℕ) (d : Deal) (o : Option Grid) (f : PlainFactor) (x : List ℕ) → all_of m d (settled d o ++ f ∷ []) x ≡ step_on m (factor_step d.procs d.lanes f) (settle d o x)
+after-settled m d o f x = all_of-append m d (settled d o) (f ∷ []) x ∙ ap (step_on m (factor_step d.procs d.lanes f)) (settled-on m d o x)
 
 -- ---- each kind of factor
 
-column_on : (c : Request) (d : Deal) (w : ℕ) (path : Path) (core : PlainCore) (x : List ℕ) → IsWide d.lanes w →
-    step_on c (factor_step d.procs d.lanes (lanes (narrowed d.lanes (Columns w ∷ path) core))) x ≡ step_on c (smp.factor_step d.procs (smp.blocks (step (Columns w ∷ path) core))) x
-column_on c d w path core x h =
+column_on : (m : ℕ) (d : Deal) (w : ℕ) (path : Path) (core : PlainCore) (x : List ℕ) → IsWide d.lanes w →
+    step_on m (factor_step d.procs d.lanes (lanes (narrowed d.lanes (Columns w ∷ path) core))) x ≡ step_on m (smp.factor_step d.procs (smp.blocks (step (Columns w ∷ path) core))) x
+column_on m d w path core x h =
     let p = d.procs in
     let v = d.lanes in
-    let m = size_under path (core_size core) in
-    let a = under path (core_size core) (core_on c core) in
-    under-within_all (Blocks p ∷ Columns v ∷ Columns (w / v) ∷ []) path (core_size core) (core_on c core) x (core-gives c core) (core-reads c core)
-    ∙ sym (under-within (Blocks p) (Columns w ∷ path) (core_size core) (core_on c core) x (core-gives c core) (core-reads c core)
-    ∙ ap (λ k. on_blocks p (m * k) (on_columns m k a) x) h
-    ∙ columns-on_lanes p m (w / v) v a x)
+    let rows = size_under path (core_size core) in
+    let a = under path (core_size core) (core_on m core) in
+    under-within_all (Blocks p ∷ Columns v ∷ Columns (w / v) ∷ []) path (core_size core) (core_on m core) x (core-gives m core) (core-reads m core)
+    ∙ sym (under-within (Blocks p) (Columns w ∷ path) (core_size core) (core_on m core) x (core-gives m core) (core-reads m core)
+    ∙ ap (λ k. on_blocks p (rows * k) (on_columns rows k a) x) h
+    ∙ columns-on_lanes p rows (w / v) v a x)
 
-move_on : (c : Request) (d : Deal) (path : Path) (core : PlainCore) (x : List ℕ) → MoveFollows d path →
-    step_on c (step (within (Columns d.lanes) (narrowed d.lanes path core).path) (narrowed d.lanes path core).core) x ≡ step_on c (step path core) x
-move_on c d [] core x h = absurd h
-move_on c d (Blocks r ∷ path) core x h = absurd h
-move_on c d (Columns w ∷ path) core x h =
+move_on : (m : ℕ) (d : Deal) (path : Path) (core : PlainCore) (x : List ℕ) → MoveFollows d path →
+    step_on m (step (within (Columns d.lanes) (narrowed d.lanes path core).path) (narrowed d.lanes path core).core) x ≡ step_on m (step path core) x
+move_on m d [] core x h = absurd h
+move_on m d (Blocks r ∷ path) core x h = absurd h
+move_on m d (Columns w ∷ path) core x h =
     let v = d.lanes in
-    let m = size_under path (core_size core) in
-    let a = under path (core_size core) (core_on c core) in
-    under-within_all (Columns v ∷ Columns (w / v) ∷ []) path (core_size core) (core_on c core) x (core-gives c core) (core-reads c core)
-    ∙ sym (ap (λ k. on_columns m k a x) h ∙ columns_in_columns m (w / v) v a x)
+    let rows = size_under path (core_size core) in
+    let a = under path (core_size core) (core_on m core) in
+    under-within_all (Columns v ∷ Columns (w / v) ∷ []) path (core_size core) (core_on m core) x (core-gives m core) (core-reads m core)
+    ∙ sym (ap (λ k. on_columns rows k a x) h ∙ columns_in_columns rows (w / v) v a x)
 
-root-turn_on : (c : Request) (d : Deal) (r s : ℕ) (x : List ℕ) → IsWide d.lanes r → IsWide d.lanes s →
-    settle d (grid_after d [] (turns r s)) (step_on c (factor_step d.procs d.lanes (lanes (step [] (turns (r / d.lanes) s)))) x) ≡ step_on c (smp.factor_step d.procs (smp.blocks (step [] (turns r s)))) x
-root-turn_on c d r s x rows cols =
+root-turn_on : (m : ℕ) (d : Deal) (r s : ℕ) (x : List ℕ) → IsWide d.lanes r → IsWide d.lanes s →
+    settle d (grid_after d [] (turns r s)) (step_on m (factor_step d.procs d.lanes (lanes (step [] (turns (r / d.lanes) s)))) x) ≡ step_on m (smp.factor_step d.procs (smp.blocks (step [] (turns r s)))) x
+root-turn_on m d r s x rows cols =
     let p = d.procs in
     let v = d.lanes in
     let q = r / v in
-    ap (apart p q v (s / v * v)) (under-within_all (Blocks p ∷ Columns v ∷ []) [] (q * s) (turn q s) x (core-gives c (turns q s)) (core-reads c (turns q s)))
+    ap (apart p q v (s / v * v)) (under-within_all (Blocks p ∷ Columns v ∷ []) [] (q * s) (turn q s) x (core-gives m (turns q s)) (core-reads m (turns q s)))
     ∙ ap (λ k. apart p q v k (on_blocks p (q * s * v) (on_columns (q * s) v (turn q s)) x)) (sym cols)
-    ∙ sym (under-within (Blocks p) [] (r * s) (turn r s) x (core-gives c (turns r s)) (core-reads c (turns r s))
+    ∙ sym (under-within (Blocks p) [] (r * s) (turn r s) x (core-gives m (turns r s)) (core-reads m (turns r s))
     ∙ ap (λ k. on_blocks p (k * s) (turn k s) x) rows
     ∙ turn-on_lanes p q v s x)
 
 -- on rows that lie in groups, as a step on all lanes
-lane-on : (c : Request) (p v q : ℕ) (path : Path) (core : PlainCore) (x : List ℕ) →
-    step_on c (factor_step p v (lanes (step (within (Blocks q) path) core))) x ≡ on_lanes p q v (size_under path (core_size core)) (under path (core_size core) (core_on c core)) x
-lane-on c p v q path core x =
-    under-within_all (Blocks p ∷ Columns v ∷ Blocks q ∷ []) path (core_size core) (core_on c core) x (core-gives c core) (core-reads c core)
+lane-on : (m : ℕ) (p v q : ℕ) (path : Path) (core : PlainCore) (x : List ℕ) →
+    step_on m (factor_step p v (lanes (step (within (Blocks q) path) core))) x ≡ on_lanes p q v (size_under path (core_size core)) (under path (core_size core) (core_on m core)) x
+lane-on m p v q path core x =
+    under-within_all (Blocks p ∷ Columns v ∷ Blocks q ∷ []) path (core_size core) (core_on m core) x (core-gives m core) (core-reads m core)
 
-row-on : (c : Request) (p v r k : ℕ) (path : Path) (core : PlainCore) (x : List ℕ) → IsWide v r → size_under path (core_size core) ≡ k →
-    step_on c (smp.factor_step p (smp.blocks (step (Blocks r ∷ path) core))) x
-    ≡ apart p (r / v) v k (on_lanes p (r / v) v (size_under path (core_size core)) (under path (core_size core) (core_on c core)) (together p (r / v) v k x))
-row-on c p v r k path core x h e =
+row-on : (m : ℕ) (p v r k : ℕ) (path : Path) (core : PlainCore) (x : List ℕ) → IsWide v r → size_under path (core_size core) ≡ k →
+    step_on m (smp.factor_step p (smp.blocks (step (Blocks r ∷ path) core))) x
+    ≡ apart p (r / v) v k (on_lanes p (r / v) v (size_under path (core_size core)) (under path (core_size core) (core_on m core)) (together p (r / v) v k x))
+row-on m p v r k path core x h e =
     let s = size_under path (core_size core) in
-    let a = under path (core_size core) (core_on c core) in
-    under-within (Blocks p) (Blocks r ∷ path) (core_size core) (core_on c core) x (core-gives c core) (core-reads c core)
+    let a = under path (core_size core) (core_on m core) in
+    under-within (Blocks p) (Blocks r ∷ path) (core_size core) (core_on m core) x (core-gives m core) (core-reads m core)
     ∙ ap (λ n. on_blocks p (n * s) (on_blocks n s a) x) h
     ∙ rows-on_lanes p (r / v) v s a x
     ∙ ap (λ n. apart p (r / v) v n (on_lanes p (r / v) v s a (together p (r / v) v n x))) e
 
-rows_on : (c : Request) (d : Deal) (o : Option Grid) (r : ℕ) (path : Path) (core : PlainCore) (x : List ℕ) → BlockFollows d o (Blocks r ∷ path) core →
-    settle d (grid_after d (Blocks r ∷ path) core) (all_of c d (block_factors d o (Blocks r ∷ path) core) x) ≡ step_on c (smp.factor_step d.procs (smp.blocks (step (Blocks r ∷ path) core))) (settle d o x)
-rows_on c d None r path core x h =
+rows_on : (m : ℕ) (d : Deal) (o : Option Grid) (r : ℕ) (path : Path) (core : PlainCore) (x : List ℕ) → BlockFollows d o (Blocks r ∷ path) core →
+    settle d (grid_after d (Blocks r ∷ path) core) (all_of m d (block_factors d o (Blocks r ∷ path) core) x) ≡ step_on m (smp.factor_step d.procs (smp.blocks (step (Blocks r ∷ path) core))) (settle d o x)
+rows_on m d None r path core x h =
     let p = d.procs in
     let v = d.lanes in
     let q = r / v in
     let t = d.block / r / v in
     let g : Grid = record { groups = q; tiles = t } in
     ap (apart p q v (t * v))
-    (all_of-append c d (joined d g) (lanes (step (within (Blocks q) path) core) ∷ []) x
-    ∙ ap (step_on c (factor_step p v (lanes (step (within (Blocks q) path) core)))) (joined-on c d g x)
-    ∙ lane-on c p v q path core (together p q v (t * v) x))
-    ∙ sym (row-on c p v r (t * v) path core x h.0 h.1)
-rows_on c d (Some g) r path core x h =
+    (all_of-append m d (joined d g) (lanes (step (within (Blocks q) path) core) ∷ []) x
+    ∙ ap (step_on m (factor_step p v (lanes (step (within (Blocks q) path) core)))) (joined-on m d g x)
+    ∙ lane-on m p v q path core (together p q v (t * v) x))
+    ∙ sym (row-on m p v r (t * v) path core x h.0 h.1)
+rows_on m d (Some g) r path core x h =
     let p = d.procs in
     let v = d.lanes in
     let q = r / v in
     let t = d.block / r / v in
     let s = size_under path (core_size core) in
-    let a = under path (core_size core) (core_on c core) in
+    let a = under path (core_size core) (core_on m core) in
     ap (apart p q v (t * v))
-    (lane-on c p v q path core x
+    (lane-on m p v q path core x
     ∙ sym (joined-again p q v s a x)
     ∙ ap (λ k. on_lanes p q v s a (together p q v k (apart p q v k x))) h.1)
-    ∙ sym (row-on c p v r (t * v) path core (apart p q v (t * v) x) h.0 h.1)
-    ∙ ap (λ f. step_on c (smp.factor_step p (smp.blocks (step (Blocks r ∷ path) core))) (apart p f.groups v (f.tiles * v) x)) (sym h.2)
+    ∙ sym (row-on m p v r (t * v) path core (apart p q v (t * v) x) h.0 h.1)
+    ∙ ap (λ f. step_on m (smp.factor_step p (smp.blocks (step (Blocks r ∷ path) core))) (apart p f.groups v (f.tiles * v) x)) (sym h.2)
 
-block_on : (c : Request) (d : Deal) (o : Option Grid) (path : Path) (core : PlainCore) (x : List ℕ) → BlockFollows d o path core →
-    settle d (grid_after d path core) (all_of c d (block_factors d o path core) x) ≡ step_on c (smp.factor_step d.procs (smp.blocks (step path core))) (settle d o x)
-block_on c d o [] (piece t) x h = absurd h
-block_on c d o [] (turns r s) x h =
-    ap (settle d (grid_after d [] (turns r s))) (after-settled c d o (lanes (step [] (turns (r / d.lanes) s))) x) ∙ root-turn_on c d r s (settle d o x) h.0 h.1
-block_on c d o [] (twiddles r s) x h = after-settled c d o (diagonals (step (within (Blocks d.procs) []) (twiddles r s))) x
-block_on c d o [] (thomas_in r s) x h = absurd h
-block_on c d o [] (thomas_out r s) x h = absurd h
-block_on c d o (Blocks r ∷ path) core x h = rows_on c d o r path core x h
-block_on c d o (Columns w ∷ path) (piece t) x h = after-settled c d o (lanes (narrowed d.lanes (Columns w ∷ path) (piece t))) x ∙ column_on c d w path (piece t) (settle d o x) h
-block_on c d o (Columns w ∷ path) (turns r s) x h = after-settled c d o (lanes (narrowed d.lanes (Columns w ∷ path) (turns r s))) x ∙ column_on c d w path (turns r s) (settle d o x) h
-block_on c d o (Columns w ∷ path) (twiddles r s) x h = after-settled c d o (diagonals (step (within (Blocks d.procs) (Columns w ∷ path)) (twiddles r s))) x
-block_on c d o (Columns w ∷ path) (thomas_in r s) x h = after-settled c d o (lanes (narrowed d.lanes (Columns w ∷ path) (thomas_in r s))) x ∙ column_on c d w path (thomas_in r s) (settle d o x) h
-block_on c d o (Columns w ∷ path) (thomas_out r s) x h = after-settled c d o (lanes (narrowed d.lanes (Columns w ∷ path) (thomas_out r s))) x ∙ column_on c d w path (thomas_out r s) (settle d o x) h
+block_on : (m : ℕ) (d : Deal) (o : Option Grid) (path : Path) (core : PlainCore) (x : List ℕ) → BlockFollows d o path core →
+    settle d (grid_after d path core) (all_of m d (block_factors d o path core) x) ≡ step_on m (smp.factor_step d.procs (smp.blocks (step path core))) (settle d o x)
+block_on m d o [] (piece t) x h = absurd h
+block_on m d o [] (turns r s) x h =
+    ap (settle d (grid_after d [] (turns r s))) (after-settled m d o (lanes (step [] (turns (r / d.lanes) s))) x) ∙ root-turn_on m d r s (settle d o x) h.0 h.1
+block_on m d o [] (twiddles r s w) x h = after-settled m d o (diagonals (step (within (Blocks d.procs) []) (twiddles r s w))) x
+block_on m d o [] (thomas_in r s) x h = absurd h
+block_on m d o [] (thomas_out r s) x h = absurd h
+block_on m d o (Blocks r ∷ path) core x h = rows_on m d o r path core x h
+block_on m d o (Columns w ∷ path) (piece t) x h = after-settled m d o (lanes (narrowed d.lanes (Columns w ∷ path) (piece t))) x ∙ column_on m d w path (piece t) (settle d o x) h
+block_on m d o (Columns w ∷ path) (turns r s) x h = after-settled m d o (lanes (narrowed d.lanes (Columns w ∷ path) (turns r s))) x ∙ column_on m d w path (turns r s) (settle d o x) h
+block_on m d o (Columns w ∷ path) (twiddles r s k) x h = after-settled m d o (diagonals (step (within (Blocks d.procs) (Columns w ∷ path)) (twiddles r s k))) x
+block_on m d o (Columns w ∷ path) (thomas_in r s) x h = after-settled m d o (lanes (narrowed d.lanes (Columns w ∷ path) (thomas_in r s))) x ∙ column_on m d w path (thomas_in r s) (settle d o x) h
+block_on m d o (Columns w ∷ path) (thomas_out r s) x h = after-settled m d o (lanes (narrowed d.lanes (Columns w ∷ path) (thomas_out r s))) x ∙ column_on m d w path (thomas_out r s) (settle d o x) h
 
-one_on : (c : Request) (d : Deal) (o : Option Grid) (f : smp.PlainFactor) (x : List ℕ) → Follows d o f →
-    settle d (order_after d f) (all_of c d (laned d o f) x) ≡ step_on c (smp.factor_step d.procs f) (settle d o x)
-one_on c d o (smp.blocks s) x h = block_on c d o s.path s.core x h
-one_on c d o (smp.diagonals s) x h = after-settled c d o (diagonals s) x
-one_on c d o (smp.move_before s) x h = after-settled c d o (move_before (narrowed d.lanes s.path s.core)) x ∙ move_on c d s.path s.core (settle d o x) h
-one_on c d o (smp.move_after s) x h = after-settled c d o (move_after (narrowed d.lanes s.path s.core)) x ∙ move_on c d s.path s.core (settle d o x) h
+one_on : (m : ℕ) (d : Deal) (o : Option Grid) (f : smp.PlainFactor) (x : List ℕ) → Follows d o f →
+    settle d (order_after d f) (all_of m d (laned d o f) x) ≡ step_on m (smp.factor_step d.procs f) (settle d o x)
+one_on m d o (smp.blocks s) x h = block_on m d o s.path s.core x h
+one_on m d o (smp.diagonals s) x h = after-settled m d o (diagonals s) x
+one_on m d o (smp.move_before s) x h = after-settled m d o (move_before (narrowed d.lanes s.path s.core)) x ∙ move_on m d s.path s.core (settle d o x) h
+one_on m d o (smp.move_after s) x h = after-settled m d o (move_after (narrowed d.lanes s.path s.core)) x ∙ move_on m d s.path s.core (settle d o x) h
 
-pub laned_on : (c : Request) (d : Deal) (o : Option Grid) (fs : List smp.PlainFactor) (x : List ℕ) → AllFollow d o fs →
-    all_on c (map (factor_step d.procs d.lanes) (laned_from d o fs)) x ≡ all_on c (map (smp.factor_step d.procs) fs) (settle d o x)
-laned_on c d o [] x h = settled-on c d o x
-laned_on c d o (f ∷ fs) x h =
-    all_of-append c d (laned d o f) (laned_from d (order_after d f) fs) x
-    ∙ laned_on c d (order_after d f) fs (all_of c d (laned d o f) x) h.1
-    ∙ ap (all_on c (map (smp.factor_step d.procs) fs)) (one_on c d o f x h.0)
+pub laned_on : (m : ℕ) (d : Deal) (o : Option Grid) (fs : List smp.PlainFactor) (x : List ℕ) → AllFollow d o fs →
+    all_on m (map (factor_step d.procs d.lanes) (laned_from d o fs)) x ≡ all_on m (map (smp.factor_step d.procs) fs) (settle d o x)
+laned_on m d o [] x h = settled-on m d o x
+laned_on m d o (f ∷ fs) x h =
+    all_of-append m d (laned d o f) (laned_from d (order_after d f) fs) x
+    ∙ laned_on m d (order_after d f) fs (all_of m d (laned d o f) x) h.1
+    ∙ ap (all_on m (map (smp.factor_step d.procs) fs)) (one_on m d o f x h.0)

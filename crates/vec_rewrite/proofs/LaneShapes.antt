@@ -4,8 +4,6 @@ use Rattle.std.specs.Prelude.{All, map, Option, None, Some}
 use Rattle.std.proofs.Math.Nat.{mul-mod_right}
 use Rattle.std.proofs.lemmas.Bool.{cases_eq}
 use Rattle.std.proofs.lemmas.List.Elements.{All-nil, All-cons, All-head, All-tail, All-append}
-use Rattle.matrix_meaning.specs.declared.Request.{Request}
-use Rattle.matrix_meaning.specs.Valid.{IsValid}
 use Rattle.smp_rewrite.specs.Smp as smp
 use Rattle.smp_rewrite.specs.Smp.{within}
 use Rattle.smp_rewrite.specs.Cut.{smp_of}
@@ -16,12 +14,13 @@ use Rattle.steps.specs.Meaning.{core_size}
 use Rattle.steps.specs.Step.{PlainCore, piece, turns, twiddles, thomas_in, thomas_out, step}
 use Rattle.tensor_paths.specs.declared.Tensor.TheVariants.{Blocks, Columns}
 use Rattle.tensor_paths.specs.Path.{Path, size_under}
-use Rattle.tree_model.specs.Admissible.{IsAdmissible}
-use Rattle.tree_model.specs.Breakdown.{Breakdown}
+use Rattle.smp_rewrite.specs.Fits.{CanShareLayout}
+use Rattle.steps.specs.Layout.{Layout}
+use Rattle.steps.specs.declared.target.Target.{Target}
 use Rattle.vec_rewrite.specs.declared.Deal.{Deal}
 use Rattle.vec_rewrite.specs.declared.Grid.{Grid}
 use Rattle.vec_rewrite.specs.Laws.{HasLanes, IsLaned, VecShaped}
-use Rattle.vec_rewrite.specs.Turning.{kept, settled, grouped, grid_after, order_after, narrowed, block_factors, laned, laned_from, phase_of, vec_of}
+use Rattle.vec_rewrite.specs.Turning.{kept, settled, grouped, grid_after, order_after, narrowed, block_factors, laned, laned_from, phase_of, deal_of, vec_of}
 use Rattle.vec_rewrite.specs.Vectors.{PlainFactor, lanes, diagonals, move_before, move_after, tiles}
 use Rattle.vec_rewrite.proofs.Following.{IsWide, BlockFollows, MoveFollows, Follows, AllFollow}
 use Rattle.vec_rewrite.proofs.Rows.{front, back}
@@ -82,15 +81,15 @@ row-fills n d r m t rows e h =
 filled-after : (n : ℕ) (d : Deal) (o : Option Grid) (path : Path) (core : PlainCore) → BlockFollows d o path core → d.procs * size_under path (core_size core) ≡ n → IsFilled n d (grid_after d path core)
 filled-after n d o [] (piece t) h e = tt
 filled-after n d o [] (turns r s) h e = row-fills n d r s (s / d.lanes) h.0 h.1 e
-filled-after n d o [] (twiddles r s) h e = tt
+filled-after n d o [] (twiddles r s w) h e = tt
 filled-after n d o [] (thomas_in r s) h e = tt
 filled-after n d o [] (thomas_out r s) h e = tt
 filled-after n d o (Blocks r ∷ path) core h e = row-fills n d r (size_under path (core_size core)) (d.block / r / d.lanes) h.0 h.1 e
 filled-after n d o (Columns w ∷ path) core h e = tt
 
 -- a diagonal in each block
-whole-shaped : (n : ℕ) (d : Deal) (path : Path) (r s : ℕ) → d.procs * size_under path (r * s) ≡ n → HasLanes n d.procs d.lanes (diagonals (step (within (Blocks d.procs) path) (twiddles r s)))
-whole-shaped n d path r s e = (size-within (Blocks d.procs) path (r * s) ∙ e, tt, ap (λ k. k % d.procs) (sym e) ∙ mul-mod_right d.procs (size_under path (r * s)))
+whole-shaped : (n : ℕ) (d : Deal) (path : Path) (r s w : ℕ) → d.procs * size_under path (r * s) ≡ n → HasLanes n d.procs d.lanes (diagonals (step (within (Blocks d.procs) path) (twiddles r s w)))
+whole-shaped n d path r s w e = (size-within (Blocks d.procs) path (r * s) ∙ e, tt, ap (λ k. k % d.procs) (sym e) ∙ mul-mod_right d.procs (size_under path (r * s)))
 
 narrow-size : (d : Deal) (w : ℕ) (path : Path) (core : PlainCore) → IsWide d.lanes w → d.lanes * step_size (narrowed d.lanes (Columns w ∷ path) core) ≡ size_under (Columns w ∷ path) (core_size core)
 narrow-size d w path core h =
@@ -106,7 +105,7 @@ block-shaped : (n : ℕ) (d : Deal) (o : Option Grid) (path : Path) (core : Plai
 block-shaped n d o [] (piece t) h filled e = absurd h
 block-shaped n d o [] (turns r s) h filled e =
     let whole : d.procs * (r / d.lanes * d.lanes * s) ≡ n = ap (λ k. d.procs * (k * s)) (sym h.0) ∙ e in after-shaped n d o (lanes (step [] (turns (r / d.lanes) s))) filled (omega (arith, whole))
-block-shaped n d o [] (twiddles r s) h filled e = after-shaped n d o (diagonals (step (within (Blocks d.procs) []) (twiddles r s))) filled (whole-shaped n d [] r s e)
+block-shaped n d o [] (twiddles r s w) h filled e = after-shaped n d o (diagonals (step (within (Blocks d.procs) []) (twiddles r s w))) filled (whole-shaped n d [] r s w e)
 block-shaped n d o [] (thomas_in r s) h filled e = absurd h
 block-shaped n d o [] (thomas_out r s) h filled e = absurd h
 block-shaped n d o (Blocks r ∷ path) core h filled e =
@@ -119,8 +118,8 @@ block-shaped n d o (Blocks r ∷ path) core h filled e =
     (one-shaped n d (lanes (step (within (Blocks q) path) core)) (ap (λ k. d.procs * (d.lanes * k)) (size-within (Blocks q) path (core_size core)) ∙ omega (arith, whole)))
 block-shaped n d o (Columns w ∷ path) (piece t) h filled e = after-shaped n d o (lanes (narrowed d.lanes (Columns w ∷ path) (piece t))) filled (lane-shaped n d w path (piece t) h e)
 block-shaped n d o (Columns w ∷ path) (turns r s) h filled e = after-shaped n d o (lanes (narrowed d.lanes (Columns w ∷ path) (turns r s))) filled (lane-shaped n d w path (turns r s) h e)
-block-shaped n d o (Columns w ∷ path) (twiddles r s) h filled e =
-    after-shaped n d o (diagonals (step (within (Blocks d.procs) (Columns w ∷ path)) (twiddles r s))) filled (whole-shaped n d (Columns w ∷ path) r s e)
+block-shaped n d o (Columns w ∷ path) (twiddles r s k) h filled e =
+    after-shaped n d o (diagonals (step (within (Blocks d.procs) (Columns w ∷ path)) (twiddles r s k))) filled (whole-shaped n d (Columns w ∷ path) r s k e)
 block-shaped n d o (Columns w ∷ path) (thomas_in r s) h filled e = after-shaped n d o (lanes (narrowed d.lanes (Columns w ∷ path) (thomas_in r s))) filled (lane-shaped n d w path (thomas_in r s) h e)
 block-shaped n d o (Columns w ∷ path) (thomas_out r s) h filled e = after-shaped n d o (lanes (narrowed d.lanes (Columns w ∷ path) (thomas_out r s))) filled (lane-shaped n d w path (thomas_out r s) h e)
 
@@ -173,23 +172,23 @@ laned-phase n line d fs many h e =
     let cut : phase_of d fs ≡ laned_from d None fs = ap (λ b. if b then map kept fs else laned_from d None fs) (unequal d.lanes many) in
     subst (AreShaped n d) (sym cut) (from-shaped n line d None fs h tt e)
 
-tree-shaped : (c : Request) (t : Breakdown) → IsValid c → IsAdmissible c t → IsLaned c (vec_of c (smp_of c t))
-tree-shaped c t valid h =
-    let f = smp_of c t in
-    let d : Deal = record { procs = c.procs; block = c.size / c.procs; lanes = c.lanes } in
-    let shapes = smp_shaped c t valid h in
-    let first = front (HasShape c.size c.procs c.line) f.first f.second shapes in
-    let second = back (HasShape c.size c.procs c.line) f.first f.second shapes in
-    let low : 1 ≤ c.lanes = valid.in_range.lanes.0 in
-    All-append (HasLanes c.size c.procs c.lanes) (phase_of d f.first) (phase_of d f.second)
-    (elim (cases_eq c.lanes 1) [
-      | inl one ↦ alone-phase c.size c.procs d.block c.lanes c.line f.first one first
-      | inr many ↦ laned-phase c.size c.line d f.first many (both_follow c t valid (omega (arith, low, many)) h).0 first
+layout-shaped : (h : Target) (l : Layout) → CanShareLayout h l → IsLaned (vec_of (smp_of h l))
+layout-shaped h l k =
+    let f = smp_of h l in
+    let d = deal_of h in
+    let shapes = smp_shaped h l k in
+    let first = front (HasShape h.size h.procs h.line) f.first f.second shapes in
+    let second = back (HasShape h.size h.procs h.line) f.first f.second shapes in
+    let low : 1 ≤ h.lanes = k.lanes in
+    All-append (HasLanes h.size h.procs h.lanes) (phase_of d f.first) (phase_of d f.second)
+    (elim (cases_eq h.lanes 1) [
+      | inl one ↦ alone-phase h.size h.procs d.block h.lanes h.line f.first one first
+      | inr many ↦ laned-phase h.size h.line d f.first many (both_follow h l (omega (arith, low, many)) k).0 first
     ])
-    (elim (cases_eq c.lanes 1) [
-      | inl one ↦ alone-phase c.size c.procs d.block c.lanes c.line f.second one second
-      | inr many ↦ laned-phase c.size c.line d f.second many (both_follow c t valid (omega (arith, low, many)) h).1 second
+    (elim (cases_eq h.lanes 1) [
+      | inl one ↦ alone-phase h.size h.procs d.block h.lanes h.line f.second one second
+      | inr many ↦ laned-phase h.size h.line d f.second many (both_follow h l (omega (arith, low, many)) k).1 second
     ])
 
 pub vec_shaped : VecShaped
-vec_shaped c f valid h = subst (λ f. IsLaned c (vec_of c f)) (sym h.form) (tree-shaped c h.tree valid h.admissible)
+vec_shaped h f k = subst (λ f. IsLaned (vec_of f)) (sym k.form) (layout-shaped h k.layout k.shares)

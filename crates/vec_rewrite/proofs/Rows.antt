@@ -1,9 +1,7 @@
 -- The factors of a formula for processors have rows.
-use Rattle.std.proofs.Common.{◌≡◌, ℕ, ◌*◌, ◌<◌, ◌≤◌, arith, sym, subst, List, [], ◌∷◌, ◌++◌, mul_comm}
+use Rattle.std.proofs.Common.{◌≡◌, ℕ, ◌*◌, ◌<◌, arith, sym, subst, List, [], ◌∷◌, ◌++◌, mul_comm}
 use Rattle.std.specs.Prelude.{All, map}
 use Rattle.std.proofs.lemmas.List.Elements.{All-nil, All-cons, All-head, All-tail}
-use Rattle.matrix_meaning.specs.declared.Request.{Request}
-use Rattle.matrix_meaning.specs.Valid.{IsValid}
 use Rattle.operators.proofs.Lists.{factor_positive}
 use Rattle.smp_rewrite.specs.declared.Factor.{Factor}
 use Rattle.smp_rewrite.specs.Laws.{HasShape, IsShaped}
@@ -12,6 +10,7 @@ use Rattle.smp_rewrite.specs.Views.{plain_factor, plain_smp}
 use Rattle.smp_rewrite.specs.declared.SmpSpl.{SmpSpl}
 use Rattle.smp_rewrite.proofs.TreeLaws.{smp_shaped}
 use Rattle.tensor_paths.specs.declared.Tensor.TheVariants.{Blocks, Columns}
+use Rattle.steps.specs.declared.target.Target.{Target}
 use Rattle.tensor_paths.specs.Path.{Path, size_under}
 use Rattle.vec_rewrite.specs.Laws.{IsSmpOf, HasRowsUnder, HasRows}
 
@@ -44,17 +43,24 @@ pub back : (P : PlainFactor → Type 0) (fs gs : List PlainFactor) → All P (fs
 back P [] gs h = h
 back P (f ∷ fs) gs h = back P fs gs (All-tail P f (fs ++ gs) h)
 
-shaped : (c : Request) (f : PlainSmp) → IsValid c → IsSmpOf c f → IsShaped c f
-shaped c f valid h = subst (IsShaped c) (sym h.form) (smp_shaped c h.tree valid h.admissible)
+shaped : (h : Target) (f : PlainSmp) → IsSmpOf h f → IsShaped f
+shaped h f k = subst IsShaped (sym k.form) (smp_shaped h k.layout k.shares)
 
-pub first_rows : (c : Request) (f : SmpSpl) → IsValid c → IsSmpOf c (plain_smp f) → All (λ g. HasRows (plain_factor g)) f.first.items
-first_rows c f valid h =
-    let low : 1 ≤ c.size = valid.in_range.size.0 in
-    all-rows c.size f.procs f.line f.first.items (omega (arith, low))
-    (front (HasShape c.size f.procs f.line) (plain_smp f).first (plain_smp f).second (shaped c (plain_smp f) valid h))
+some-words : (h : Target) (f : PlainSmp) → IsSmpOf h f → 0 < f.target.size
+some-words h f k = subst (λ g. 0 < g.target.size) (sym k.form) (omega (arith, k.shares.some))
 
-pub second_rows : (c : Request) (f : SmpSpl) → IsValid c → IsSmpOf c (plain_smp f) → All (λ g. HasRows (plain_factor g)) f.second.items
-second_rows c f valid h =
-    let low : 1 ≤ c.size = valid.in_range.size.0 in
-    all-rows c.size f.procs f.line f.second.items (omega (arith, low))
-    (back (HasShape c.size f.procs f.line) (plain_smp f).first (plain_smp f).second (shaped c (plain_smp f) valid h))
+pub first_rows : (h : Target) (f : SmpSpl) → IsSmpOf h (plain_smp f) → All (λ g. HasRows (plain_factor g)) f.first.items
+first_rows h f k =
+    all-rows f.target.size f.target.procs f.target.line f.first.items (some-words h (plain_smp f) k)
+    (front (HasShape f.target.size f.target.procs f.target.line) (plain_smp f).first (plain_smp f).second (shaped h (plain_smp f) k))
+
+pub second_rows : (h : Target) (f : SmpSpl) → IsSmpOf h (plain_smp f) → All (λ g. HasRows (plain_factor g)) f.second.items
+second_rows h f k =
+    all-rows f.target.size f.target.procs f.target.line f.second.items (some-words h (plain_smp f) k)
+    (back (HasShape f.target.size f.target.procs f.target.line) (plain_smp f).first (plain_smp f).second (shaped h (plain_smp f) k))
+
+pub some_procs : (h : Target) (f : SmpSpl) → IsSmpOf h (plain_smp f) → 0 < f.target.procs
+some_procs h f k = subst (λ g. 0 < g.target.procs) (sym k.form) (omega (arith, k.shares.procs))
+
+pub some_lanes : (h : Target) (f : SmpSpl) → IsSmpOf h (plain_smp f) → 0 < f.target.lanes
+some_lanes h f k = subst (λ g. 0 < g.target.lanes) (sym k.form) (omega (arith, k.shares.lanes))

@@ -70,7 +70,7 @@ pub record AreLaned (d : Deal) (n r s u : ℕ) : Type 0 where
   pub right : (path : Path) (core : PlainCore) → factors_of n d.procs (step (Blocks r ∷ path) core) ≡ smp.blocks (step (Blocks u ∷ path) core) ∷ []
   pub left : (path : Path) (core : PlainCore) (o : Option Grid) → AllFollow d o (factors_of n d.procs (step (Columns s ∷ path) core))
   pub root : (o : Option Grid) (fs : List smp.PlainFactor) → AllFollow d (Some (record { groups = u / d.lanes; tiles = s / d.lanes })) fs → AllFollow d o (factors_of n d.procs (step [] (turns r s)) ++ fs)
-  pub diagonal : (o : Option Grid) → AllFollow d o (factors_of n d.procs (step [] (twiddles r s)))
+  pub diagonal : (w : ℕ) (o : Option Grid) → AllFollow d o (factors_of n d.procs (step [] (twiddles r s w)))
 
 -- the groups of the root's right part
 abbrev pub grid : Deal → ℕ → Grid
@@ -105,12 +105,12 @@ left-all d n r s u (x ∷ ss) h heads o =
     follow-append d o (factors_of n d.procs x) (flat_map (factors_of n d.procs) ss) (left-one d n r s u o x.path x.core h heads.0) (left-all d n r s u ss h heads.1)
 
 -- the root of a ct, and of a split, with the steps of its left part or without
-pub ct-follows : (d : Deal) (n r s u : ℕ) (right rest : List PlainStep) → AreLaned d n r s u → HaveHead (Blocks r) right → AreOfSize n right → HaveHead (Columns s) rest →
-    AllFollow d None (flat_map (factors_of n d.procs) (step [] (turns r s) ∷ (right ++ (step [] (twiddles r s) ∷ rest))))
-ct-follows d n r s u right rest h heads sized others =
-    let tail = step [] (twiddles r s) ∷ rest in
+pub ct-follows : (d : Deal) (n r s u w : ℕ) (right rest : List PlainStep) → AreLaned d n r s u → HaveHead (Blocks r) right → AreOfSize n right → HaveHead (Columns s) rest →
+    AllFollow d None (flat_map (factors_of n d.procs) (step [] (turns r s) ∷ (right ++ (step [] (twiddles r s w) ∷ rest))))
+ct-follows d n r s u w right rest h heads sized others =
+    let tail = step [] (twiddles r s w) ∷ rest in
     let after : (q : Option Grid) → AllFollow d q (flat_map (factors_of n d.procs) tail) =
-    λ q. follow-append d q (factors_of n d.procs (step [] (twiddles r s))) (flat_map (factors_of n d.procs) rest) (h.diagonal q) (left-all d n r s u rest h others) in
+    λ q. follow-append d q (factors_of n d.procs (step [] (twiddles r s w))) (flat_map (factors_of n d.procs) rest) (h.diagonal w q) (left-all d n r s u rest h others) in
     let same : record { groups = u / d.lanes; tiles = s / d.lanes } ≡ grid d u = ap (λ k. record { groups = u / d.lanes; tiles = k / d.lanes }) (sym h.block) in
     h.root None (flat_map (factors_of n d.procs) (right ++ tail))
     (subst (AllFollow d (Some (record { groups = u / d.lanes; tiles = s / d.lanes }))) (sym (flat_map-append (factors_of n d.procs) right tail))
@@ -140,7 +140,7 @@ laned_alone d n r s one size positive rows columns block = record {
   right = λ path core. picked n d.procs (step (Blocks r ∷ path) core) one;
   left = λ path core o. subst (AllFollow d o) (sym (picked n d.procs (step (Columns s ∷ path) core) one)) (columns, tt);
   root = λ o fs h. subst (λ gs. AllFollow d o (gs ++ fs)) (sym (picked n d.procs (step [] (turns r s)) one)) ((rows, columns), h);
-  diagonal = λ o. subst (AllFollow d o) (sym (picked n d.procs (step [] (twiddles r s)) one)) (tt, tt);
+  diagonal = λ w o. subst (AllFollow d o) (sym (picked n d.procs (step [] (twiddles r s w)) one)) (tt, tt);
 }
 
 move-wide : (d : Deal) (w : ℕ) → 1 < d.lanes → IsWide d.lanes w → MoveFollows d (within (Columns w) [])
@@ -153,7 +153,7 @@ left-cut : (d : Deal) (n s : ℕ) (o : Option Grid) (path : Path) (core : PlainC
 left-cut d n s o path (piece t) several wide part =
     (move-wide d (s / d.procs) several part, (block-wide d (s / d.procs) None path (piece t) several part, (move-wide d (s / d.procs) several part, tt)))
 left-cut d n s o path (turns q r) several wide part = (wide, tt)
-left-cut d n s o path (twiddles q r) several wide part = (tt, tt)
+left-cut d n s o path (twiddles q r w) several wide part = (tt, tt)
 left-cut d n s o path (thomas_in q r) several wide part = (wide, tt)
 left-cut d n s o path (thomas_out q r) several wide part = (wide, tt)
 
@@ -168,5 +168,5 @@ laned_among d n r s many several size positive rows columns part block = record 
   right = λ path core. cut-picked n d.procs (step (Blocks r ∷ path) core) many ∙ ap (λ path. smp.blocks (step path core) ∷ []) (within-wide (Blocks (r / d.procs)) path (not_one d.lanes (r / d.procs) several rows));
   left = λ path core o. subst (AllFollow d o) (sym (cut-picked n d.procs (step (Columns s ∷ path) core) many)) (left-cut d n s o path core several columns part);
   root = λ o fs h. subst (λ gs. AllFollow d o (gs ++ fs)) (sym (cut-picked n d.procs (step [] (turns r s)) many)) (move-wide d (r / d.procs) several rows, ((rows, columns), h));
-  diagonal = λ o. subst (AllFollow d o) (sym (cut-picked n d.procs (step [] (twiddles r s)) many)) (tt, tt);
+  diagonal = λ w o. subst (AllFollow d o) (sym (cut-picked n d.procs (step [] (twiddles r s w)) many)) (tt, tt);
 }

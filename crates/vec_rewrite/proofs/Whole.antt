@@ -1,7 +1,6 @@
 -- The identities of lanes and tiles in the blocks of all processors, as the factors of a formula for lanes.
 use Rattle.std.proofs.Common.{◌≡◌, ℕ, ◌*◌, arith, refl, sym, ap, ◌∙◌, List, [], ◌∷◌}
 use Rattle.std.specs.Prelude.{map, slice_index}
-use Rattle.matrix_meaning.specs.declared.Request.{Request}
 use Rattle.operators.specs.Identities.{HasSize, turn}
 use Rattle.operators.specs.Operator.{Operator, on_columns, on_blocks}
 use Rattle.operators.specs.Sum.{list_below}
@@ -34,9 +33,9 @@ together p q v s = on_blocks p (q * (v * s)) (on_blocks q (v * s) (turn s v))
 
 -- ---- what the factors do
 
-pub parted-on : (c : Request) (d : Deal) (g : Grid) (x : List ℕ) →
-    all_on c (map (factor_step d.procs d.lanes) (parted d g)) x ≡ apart d.procs g.groups d.lanes (g.tiles * d.lanes) x
-parted-on c d g x =
+pub parted-on : (m : ℕ) (d : Deal) (g : Grid) (x : List ℕ) →
+    all_on m (map (factor_step d.procs d.lanes) (parted d g)) x ≡ apart d.procs g.groups d.lanes (g.tiles * d.lanes) x
+parted-on m d g x =
     let p = d.procs in
     let v = d.lanes in
     let q = g.groups in
@@ -46,17 +45,17 @@ parted-on c d g x =
     let vectors = on_blocks q (v * t) (turn v t) in
     let between = on_blocks p (q * (t * (v * v))) tiled x in
     let wide : n ≡ q * (v * t) * v = omega arith in
-    ap (step_on c (step (within (Columns v) (within (Blocks p) (within (Blocks q) []))) (turns v t)))
-    (under-within_all (Blocks p ∷ Blocks q ∷ Blocks t ∷ []) [] (v * v) (turn v v) x (core-gives c (turns v v)) (core-reads c (turns v v)))
-    ∙ under-within_all (Columns v ∷ Blocks p ∷ Blocks q ∷ []) [] (v * t) (turn v t) between (core-gives c (turns v t)) (core-reads c (turns v t))
+    ap (step_on m (step (within (Columns v) (within (Blocks p) (within (Blocks q) []))) (turns v t)))
+    (under-within_all (Blocks p ∷ Blocks q ∷ Blocks t ∷ []) [] (v * v) (turn v v) x (core-gives m (turns v v)) (core-reads m (turns v v)))
+    ∙ under-within_all (Columns v ∷ Blocks p ∷ Blocks q ∷ []) [] (v * t) (turn v t) between (core-gives m (turns v t)) (core-reads m (turns v t))
     ∙ sym (on_blocks-same p n _ _ x (λ y. tiles_then_vectors q v t y)
     ∙ blocks_of_product p n (q * (t * (v * v))) (on_columns (q * (v * t)) v vectors) tiled x (omega arith) (λ y. length-list_below _ _)
     ∙ resized p n (q * (v * t) * v) (on_columns (q * (v * t)) v vectors) between wide
     ∙ blocks_of_columns p (q * (v * t)) v vectors between)
 
-pub joined-on : (c : Request) (d : Deal) (g : Grid) (x : List ℕ) →
-    all_on c (map (factor_step d.procs d.lanes) (joined d g)) x ≡ together d.procs g.groups d.lanes (g.tiles * d.lanes) x
-joined-on c d g x =
+pub joined-on : (m : ℕ) (d : Deal) (g : Grid) (x : List ℕ) →
+    all_on m (map (factor_step d.procs d.lanes) (joined d g)) x ≡ together d.procs g.groups d.lanes (g.tiles * d.lanes) x
+joined-on m d g x =
     let p = d.procs in
     let v = d.lanes in
     let q = g.groups in
@@ -67,9 +66,9 @@ joined-on c d g x =
     let between = on_columns (p * (q * (t * v))) v (on_blocks p (q * (t * v)) vectors) x in
     let wide : q * (t * v) * v ≡ n = omega arith in
     let tall : n ≡ q * (t * (v * v)) = omega arith in
-    ap (step_on c (step (within (Blocks p) (within (Blocks q) (within (Blocks t) []))) (turns v v)))
-    (under-within_all (Columns v ∷ Blocks p ∷ Blocks q ∷ []) [] (t * v) (turn t v) x (core-gives c (turns t v)) (core-reads c (turns t v)))
-    ∙ under-within_all (Blocks p ∷ Blocks q ∷ Blocks t ∷ []) [] (v * v) (turn v v) between (core-gives c (turns v v)) (core-reads c (turns v v))
+    ap (step_on m (step (within (Blocks p) (within (Blocks q) (within (Blocks t) []))) (turns v v)))
+    (under-within_all (Columns v ∷ Blocks p ∷ Blocks q ∷ []) [] (t * v) (turn t v) x (core-gives m (turns t v)) (core-reads m (turns t v)))
+    ∙ under-within_all (Blocks p ∷ Blocks q ∷ Blocks t ∷ []) [] (v * v) (turn v v) between (core-gives m (turns v v)) (core-reads m (turns v v))
     ∙ sym (on_blocks-same p n _ _ x (λ y. vectors_then_tiles q v t y)
     ∙ blocks_of_product p n (q * (t * v) * v) tiled (on_columns (q * (t * v)) v vectors) x wide (λ y. length-list_below _ _)
     ∙ resized p n (q * (t * (v * v))) tiled (on_blocks p (q * (t * v) * v) (on_columns (q * (t * v)) v vectors) x) tall

@@ -1,25 +1,24 @@
 -- The laws of formulas for lanes.
 use Rattle.std.specs.Prelude.{◌≡◌, ℕ, ◌*◌, ◌%◌, ◌<◌, true, List, [], ◌∷◌, ◌++◌, All}
-use Rattle.matrix_meaning.specs.declared.Request.{Request}
-use Rattle.matrix_meaning.specs.Valid.{IsValid}
 use Rattle.smp_rewrite.specs.Smp.{PlainFactor, blocks, diagonals, move_before, move_after, PlainSmp, smp_on, smp_share}
 use Rattle.smp_rewrite.specs.Cut.{smp_of}
 use Rattle.smp_rewrite.specs.Laws.{step_size, IsPermutation, IsDiagonal}
+use Rattle.smp_rewrite.specs.Fits.{CanShareLayout}
+use Rattle.steps.specs.Layout.{Layout}
 use Rattle.steps.specs.Step.{steps_of}
+use Rattle.steps.specs.Targets.{is_alone}
+use Rattle.steps.specs.declared.target.Target.{Target}
 use Rattle.tensor_paths.specs.declared.Tensor.TheVariants.{Blocks, Columns}
 use Rattle.tensor_paths.specs.Path.{Path, size_under}
-use Rattle.tree_model.specs.Admissible.{IsAdmissible}
-use Rattle.tree_model.specs.Breakdown.{Breakdown}
-use Rattle.tree_model.specs.Cost.{is_plain}
 use Rattle.vec_rewrite.specs.Vectors as vec
 use Rattle.vec_rewrite.specs.Vectors.{PlainVec, vec_steps, vec_on, vec_share}
 use Rattle.vec_rewrite.specs.Turning.{vec_of}
 
--- the formula of some admissible tree for the request's processors
-pub record IsSmpOf (c : Request) (f : PlainSmp) : Type 0 where
-  pub tree : Breakdown
-  pub admissible : IsAdmissible c tree
-  pub form : f ≡ smp_of c tree
+-- the formula of some layout that the machine can share
+pub record IsSmpOf (h : Target) (f : PlainSmp) : Type 0 where
+  pub layout : Layout
+  pub shares : CanShareLayout h layout
+  pub form : f ≡ smp_of h layout
 
 -- a step under blocks has some
 abbrev pub HasRowsUnder : Path → Type 0
@@ -34,11 +33,11 @@ HasRows (move_before s) = Unit {0}
 HasRows (move_after s) = Unit {0}
 
 -- the lanes of a formula do what it does, in as many operations of each processor
-abbrev pub Keeps : Request → PlainSmp → Type 0
-Keeps c f = ((x : List ℕ) → vec_on c (vec_of c f) x ≡ smp_on c f x) × (vec_share c (vec_of c f) ≡ smp_share c f)
+abbrev pub Keeps : ℕ → ℕ → PlainSmp → Type 0
+Keeps weight m f = ((x : List ℕ) → vec_on m (vec_of f) x ≡ smp_on m f x) × (vec_share weight m (vec_of f) ≡ smp_share weight m f)
 
 abbrev pub VecKeeps : Type 0
-VecKeeps = (c : Request) (f : PlainSmp) → IsValid c → IsSmpOf c f → Keeps c f
+VecKeeps = (weight m : ℕ) (h : Target) (f : PlainSmp) → IsSmpOf h f → Keeps weight m f
 
 -- On n words, for p processors and v lanes: in blocks of n / p words `A tensor I_v` or tiles, a diagonal that p processors share, or a permutation of n / v vectors
 abbrev pub HasLanes : ℕ → ℕ → ℕ → vec.PlainFactor → Type 0
@@ -48,12 +47,12 @@ HasLanes n p v (vec.move_before s) = (v * step_size s ≡ n) × IsPermutation s.
 HasLanes n p v (vec.move_after s) = (v * step_size s ≡ n) × IsPermutation s.core
 HasLanes n p v (vec.tiles path) = p * size_under path (v * v) ≡ n
 
-abbrev pub IsLaned : Request → PlainVec → Type 0
-IsLaned c g = All (HasLanes c.size g.procs g.lanes) (g.first ++ g.second)
+abbrev pub IsLaned : PlainVec → Type 0
+IsLaned g = All (HasLanes g.target.size g.target.procs g.target.lanes) (g.first ++ g.second)
 
 abbrev pub VecShaped : Type 0
-VecShaped = (c : Request) (f : PlainSmp) → IsValid c → IsSmpOf c f → IsLaned c (vec_of c f)
+VecShaped = (h : Target) (f : PlainSmp) → IsSmpOf h f → IsLaned (vec_of f)
 
--- for one processor and one lane the steps of a tree stay as they are
+-- for one processor and one lane the steps of a layout stay as they are
 abbrev pub PlainSteps : Type 0
-PlainSteps = (c : Request) (t : Breakdown) → is_plain c ≡ true → vec_steps (vec_of c (smp_of c t)) ≡ steps_of c [] t
+PlainSteps = (h : Target) (l : Layout) → is_alone h ≡ true → vec_steps (vec_of (smp_of h l)) ≡ steps_of [] l

@@ -1,8 +1,8 @@
 -- How the factors of a formula for processors are cut into lanes.
 use Rattle.std.specs.Prelude.{ℕ, ◌/◌, ◌==◌, if◌then◌else◌, List, [], ◌∷◌, ◌++◌, map, Option, None, Some}
-use Rattle.matrix_meaning.specs.declared.Request.{Request}
 use Rattle.smp_rewrite.specs.Smp as smp
 use Rattle.smp_rewrite.specs.Smp.{PlainSmp, within}
+use Rattle.steps.specs.declared.target.Target.{Target}
 use Rattle.steps.specs.Step.{PlainCore, turns, twiddles, PlainStep, step}
 use Rattle.tensor_paths.specs.declared.Tensor.TheVariants.{Blocks, Columns}
 use Rattle.tensor_paths.specs.Path.{Path}
@@ -65,11 +65,11 @@ narrowed v (Columns s ∷ path) core = step (within (Columns (s / v)) path) core
 -- and on rows `I_r tensor A` is `I_(r / v) tensor (L(s * v, v) (A tensor I_v) L(s * v, s))`.
 abbrev pub block_factors : Deal → Option Grid → Path → PlainCore → List PlainFactor
 block_factors d o [] (turns r s) = settled d o ++ lanes (step [] (turns (r / d.lanes) s)) ∷ []
-block_factors d o [] (twiddles r s) = settled d o ++ diagonals (step (within (Blocks d.procs) []) (twiddles r s)) ∷ []
+block_factors d o [] (twiddles r s w) = settled d o ++ diagonals (step (within (Blocks d.procs) []) (twiddles r s w)) ∷ []
 block_factors d o [] core = settled d o ++ lanes (step [] core) ∷ []
 block_factors d o (Blocks r ∷ path) core =
     grouped d o (record { groups = r / d.lanes; tiles = d.block / r / d.lanes }) ++ lanes (step (within (Blocks (r / d.lanes)) path) core) ∷ []
-block_factors d o (Columns s ∷ path) (twiddles q t) = settled d o ++ diagonals (step (within (Blocks d.procs) (Columns s ∷ path)) (twiddles q t)) ∷ []
+block_factors d o (Columns s ∷ path) (twiddles q t w) = settled d o ++ diagonals (step (within (Blocks d.procs) (Columns s ∷ path)) (twiddles q t w)) ∷ []
 block_factors d o (Columns s ∷ path) core = settled d o ++ lanes (narrowed d.lanes (Columns s ∷ path) core) ∷ []
 
 -- the factors of a factor, where the words may lie in groups
@@ -86,11 +86,10 @@ laned_from d o (f ∷ fs) = laned d o f ++ laned_from d (order_after d f) fs
 abbrev pub phase_of : Deal → List smp.PlainFactor → List PlainFactor
 phase_of d fs = if d.lanes == 1 then map kept fs else laned_from d None fs
 
--- the formula for the request's lanes
-abbrev pub vec_of : Request → PlainSmp → PlainVec
-vec_of c f = record {
-  procs = f.procs;
-  lanes = c.lanes;
-  first = phase_of (record { procs = f.procs; block = c.size / f.procs; lanes = c.lanes }) f.first;
-  second = phase_of (record { procs = f.procs; block = c.size / f.procs; lanes = c.lanes }) f.second;
-}
+-- the block of each processor
+abbrev pub deal_of : Target → Deal
+deal_of h = record { procs = h.procs; block = h.size / h.procs; lanes = h.lanes }
+
+-- the formula for the machine's lanes
+abbrev pub vec_of : PlainSmp → PlainVec
+vec_of f = record { target = f.target; first = phase_of (deal_of f.target) f.first; second = phase_of (deal_of f.target) f.second }

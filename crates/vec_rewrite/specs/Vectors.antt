@@ -1,9 +1,9 @@
 -- Formulas for lanes: factors that are `A tensor I_v` or tiles L(v * v, v) in each processor's block, diagonals, or moves of whole vectors of v words.
 use Rattle.std.specs.Prelude.{ℕ, ◌+◌, ◌*◌, ◌/◌, List, [], ◌∷◌, ◌++◌, map}
-use Rattle.matrix_meaning.specs.declared.Request.{Request}
 use Rattle.operators.specs.Operator.{Operator}
 use Rattle.smp_rewrite.specs.Smp.{within}
 use Rattle.steps.specs.Meaning.{all_on}
+use Rattle.steps.specs.declared.target.Target.{Target}
 use Rattle.steps.specs.Step.{PlainStep, step, turns, operations_of}
 use Rattle.tensor_paths.specs.declared.Tensor.TheVariants.{Blocks, Columns}
 use Rattle.tensor_paths.specs.Path.{Path}
@@ -17,8 +17,7 @@ pub data PlainFactor : Type 0 where
   tiles : (path : Path) → PlainFactor
 
 pub record PlainVec : Type 0 where
-  pub procs : ℕ
-  pub lanes : ℕ
+  pub target : Target
   pub first : List PlainFactor
   pub second : List PlainFactor
 
@@ -31,23 +30,23 @@ factor_step p v (move_after s) = step (within (Columns v) s.path) s.core
 factor_step p v (tiles path) = step (within (Blocks p) path) (turns v v)
 
 abbrev pub vec_steps : PlainVec → List PlainStep
-vec_steps g = map (factor_step g.procs g.lanes) (g.first ++ g.second)
+vec_steps g = map (factor_step g.target.procs g.target.lanes) (g.first ++ g.second)
 
 -- what a formula for lanes does to a list
-abbrev pub vec_on : Request → PlainVec → Operator
-vec_on c g = all_on c (vec_steps g)
+abbrev pub vec_on : ℕ → PlainVec → Operator
+vec_on m g = all_on m (vec_steps g)
 
 -- the operations of each of p processors: a step's own, once for each lane, and its share of a diagonal's
-abbrev pub share_of : Request → ℕ → ℕ → PlainFactor → ℕ
-share_of c p v (lanes s) = v * operations_of c s
-share_of c p v (diagonals s) = operations_of c s / p
-share_of c p v (move_before s) = 0
-share_of c p v (move_after s) = 0
-share_of c p v (tiles path) = 0
+abbrev pub share_of : ℕ → ℕ → ℕ → ℕ → PlainFactor → ℕ
+share_of weight m p v (lanes s) = v * operations_of weight m s
+share_of weight m p v (diagonals s) = operations_of weight m s / p
+share_of weight m p v (move_before s) = 0
+share_of weight m p v (move_after s) = 0
+share_of weight m p v (tiles path) = 0
 
-abbrev pub shares_in : Request → ℕ → ℕ → List PlainFactor → ℕ
-shares_in c p v [] = 0
-shares_in c p v (f ∷ fs) = share_of c p v f + shares_in c p v fs
+abbrev pub shares_in : ℕ → ℕ → ℕ → ℕ → List PlainFactor → ℕ
+shares_in weight m p v [] = 0
+shares_in weight m p v (f ∷ fs) = share_of weight m p v f + shares_in weight m p v fs
 
-abbrev pub vec_share : Request → PlainVec → ℕ
-vec_share c g = shares_in c g.procs g.lanes (g.first ++ g.second)
+abbrev pub vec_share : ℕ → ℕ → PlainVec → ℕ
+vec_share weight m g = shares_in weight m g.target.procs g.target.lanes (g.first ++ g.second)

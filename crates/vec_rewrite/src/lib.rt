@@ -4,7 +4,9 @@
 ghost use Rattle.std.specs.Prelude.{◌≡◌, ◌+◌, ◌*◌, ◌<◌, [], ◌∷◌, ◌++◌, All, IfOk, List, None, OnOk, map, ℕ};
 ghost use Rattle.tensor_paths.specs.declared.Tensor.TheVariants.{Blocks};
 ghost use Rattle.smp_rewrite.specs.Cut.{smp_of};
+ghost use Rattle.steps.specs.Layout.{layout_of};
 ghost use Rattle.steps.specs.Meaning.{transform_of};
+ghost use Rattle.steps.specs.Targets.{target_of};
 ghost use Rattle.tree_model.specs.Admissible.{IsAdmissible};
 ghost use Rattle.tree_model.specs.Breakdown.{breakdown_of};
 ghost use Rattle.tree_model.specs.Cost.{cost_of};
@@ -20,7 +22,7 @@ ghost use Rattle.vec_rewrite.specs.Views.{plain_vec, plain_vec_factor};
 use memory::NoMemory;
 use smp_rewrite::{Factor, SmpSpl, step_within, to_smp, within};
 use std::alloc::Global;
-use steps::{Core, Step};
+use steps::{Core, Step, Target};
 use tensor_paths::Tensor;
 use tree_model::{Ctx, Tree};
 
@@ -42,8 +44,7 @@ pub enum VecFactor {
 /// A formula for processors and lanes: factors in the order in which they are applied.
 #[derive(Drop)]
 pub struct VecSpl {
-    pub procs: u64,
-    pub lanes: u64,
+    pub target: Target,
     /// The factors of the root's right part; with one processor all of them.
     pub first: Vec<VecFactor>,
     /// The factors of the root's left part.
@@ -68,14 +69,16 @@ pub struct Grid {
 /// The formula of a tree for the request's processors and lanes.
 pub fn vec_of_tree(alloc: Global, c: &Ctx, tree: &Tree) -> Result<VecSpl, NoMemory>
     requires { IsAdmissible c.now (breakdown_of tree.now) }
-    ensures form { IfOk result
-        (λ g. plain_vec g ≡ vec_of c.now (smp_of c.now (breakdown_of tree.now))) }
-    ensures meaning { IfOk result
-        (λ g. (x : List ℕ) → vec_on c.now (plain_vec g) x ≡ transform_of c.now c.now.size x) }
+    ensures form { IfOk result (λ g. plain_vec g
+        ≡ vec_of (smp_of (target_of c.now) (layout_of c.now (breakdown_of tree.now)))) }
+    ensures meaning { IfOk result (λ g. (x : List ℕ) →
+        vec_on c.now.modulus (plain_vec g) x ≡ transform_of c.now c.now.size x) }
     ensures operations { IfOk result
-        (λ g. g.procs * vec_share c.now (plain_vec g) ≡ cost_of c.now (breakdown_of tree.now)) }
-    ensures shape { IfOk result (λ g. IsLaned c.now (plain_vec g)) }
+        (λ g. c.now.procs * vec_share c.now.weight c.now.modulus (plain_vec g)
+        ≡ cost_of c.now (breakdown_of tree.now)) }
+    ensures shape { IfOk result (λ g. IsLaned (plain_vec g)) }
 {
+    let _request = c.request();
     let f = to_smp(alloc, c, tree)?;
     let g = to_vec(alloc, c, f)?;
     Ok(g)
@@ -83,36 +86,34 @@ pub fn vec_of_tree(alloc: Global, c: &Ctx, tree: &Tree) -> Result<VecSpl, NoMemo
 
 /// The formula for the request's lanes.
 pub fn to_vec(alloc: Global, c: &Ctx, f: SmpSpl) -> Result<VecSpl, NoMemory>
-    requires { IsSmpOf c.now (plain_smp f) }
-    ensures form { IfOk result (λ g. plain_vec g ≡ vec_of c.now (plain_smp f)) }
-    ensures meaning { IfOk result
-        (λ g. (x : List ℕ) → vec_on c.now (plain_vec g) x ≡ smp_on c.now (plain_smp f) x) }
-    ensures operations { IfOk result
-        (λ g. vec_share c.now (plain_vec g) ≡ smp_share c.now (plain_smp f)) }
-    ensures shape { IfOk result (λ g. IsLaned c.now (plain_vec g)) }
+    requires { IsSmpOf (target_of c.now) (plain_smp f) }
+    ensures form { IfOk result (λ g. plain_vec g ≡ vec_of (plain_smp f)) }
+    ensures meaning { IfOk result (λ g. (x : List ℕ) →
+        vec_on c.now.modulus (plain_vec g) x ≡ smp_on c.now.modulus (plain_smp f) x) }
+    ensures operations { IfOk result (λ g. vec_share c.now.weight c.now.modulus (plain_vec g)
+        ≡ smp_share c.now.weight c.now.modulus (plain_smp f)) }
+    ensures shape { IfOk result (λ g. IsLaned (plain_vec g)) }
 {
-    let _request = c.request();
     let formula = lanes_of(alloc, c, f)?;
     Ok(formula)
 }
 
 // Both phases.
-#[tactic(auto, using(crate::proofs::Rows::first_rows, crate::proofs::Rows::second_rows))]
+#[tactic(auto, using(crate::proofs::Rows::first_rows, crate::proofs::Rows::second_rows, crate::proofs::Rows::some_procs, crate::proofs::Rows::some_lanes))]
 fn lanes_of(alloc: Global, c: &Ctx, f: SmpSpl) -> Result<VecSpl, NoMemory>
-    requires { IsSmpOf c.now (plain_smp f) }
-    ensures { IfOk result (λ g. plain_vec g ≡ vec_of c.now (plain_smp f)) }
+    requires { IsSmpOf (target_of c.now) (plain_smp f) }
+    ensures { IfOk result (λ g. plain_vec g ≡ vec_of (plain_smp f)) }
 {
-    let request = c.request();
+    let target = f.target;
     let deal = Deal {
-        procs: f.procs,
-        block: request.size / f.procs,
-        lanes: request.lanes,
+        procs: target.procs,
+        block: target.size / target.procs,
+        lanes: target.lanes,
     };
     let first = phase(alloc, deal, f.first)?;
     let second = phase(alloc, deal, f.second)?;
     Ok(VecSpl {
-        procs: f.procs,
-        lanes: request.lanes,
+        target,
         first,
         second,
     })
@@ -356,17 +357,17 @@ fn group_turn(alloc: Global, d: Deal, grid: Grid, rows: u64, cols: u64) -> Resul
     step_within(Tensor::Blocks(d.procs), groups, Core::Turns { rows, cols })
 }
 
-/// For one processor and one lane the steps of a tree stay as they are: a law of the definitions.
+/// For one processor and one lane the steps of a layout stay as they are: a law of the definitions.
 pub fn plain_steps()
     ensures { PlainSteps }
 {}
 
-/// The lanes of a tree's formula do what it does, in as many operations: a law of the definitions.
+/// The lanes of a layout's formula do what it does, in as many operations: a law of the definitions.
 pub fn vec_keeps()
     ensures { VecKeeps }
 {}
 
-/// Each factor of a tree's formula is `A tensor I_v` or tiles in blocks of equal size, a diagonal of equal parts, or a permutation of vectors: a law of the definitions.
+/// Each factor of a layout's formula is `A tensor I_v` or tiles in blocks of equal size, a diagonal of equal parts, or a permutation of vectors: a law of the definitions.
 pub fn vec_shaped()
     ensures { VecShaped }
 {}

@@ -1,6 +1,9 @@
-// The factors of a transform of size 16, by hand from the identities: a step by four rows of four words.
+// The factors of a transform of size 16, by hand from the identities: a step by four rows of four words. Behind `^` stands the root
+// of a transform or a diagonal: 3 for the whole, and 3^4 modulo 17, which is 13, for its parts.
 
 use crate::contexts::{context, tree_of};
+use passes::Work;
+use rooted_trees::RootedTrees;
 use smp_rewrite::{Factor, SmpSpl, to_smp};
 use std::alloc::{AllocError, Global};
 use std::fmt::Write;
@@ -13,17 +16,17 @@ use worked_rows::check;
 
 // A request, and the factors of both phases of `ct 4 4` for processors.
 const BLOCKS: &str = "\
-dft 16 mod 17 root 3|blocks L(4,4); blocks b4 leaf(4); blocks T(4,4); blocks c4 leaf(4); / 
-dft 16 mod 17 root 3 procs 2 line 2|before c2 L(2,4); blocks L(2,4); blocks b2 leaf(4); diagonals T(4,4); / before c2 L(2,4); blocks c2 leaf(4); after c2 L(4,2); 
-dft 16 mod 17 root 3 procs 4 line 1|before L(4,4); blocks L(1,4); blocks leaf(4); diagonals T(4,4); / before L(4,4); blocks leaf(4); after L(4,4); 
+dft 16 mod 17 root 3|blocks L(4,4); blocks b4 leaf(4)^13; blocks T(4,4)^3; blocks c4 leaf(4)^13; / 
+dft 16 mod 17 root 3 procs 2 line 2|before c2 L(2,4); blocks L(2,4); blocks b2 leaf(4)^13; diagonals T(4,4)^3; / before c2 L(2,4); blocks c2 leaf(4)^13; after c2 L(4,2); 
+dft 16 mod 17 root 3 procs 4 line 1|before L(4,4); blocks L(1,4); blocks leaf(4)^13; diagonals T(4,4)^3; / before L(4,4); blocks leaf(4)^13; after L(4,4); 
 dft 16 mod 17 root 3 procs 4 line 2|not admissible
 ";
 
 // The same for lanes.
 const LANES: &str = "\
-dft 16 mod 17 root 3|lanes L(4,4); lanes b4 leaf(4); lanes T(4,4); lanes c4 leaf(4); / 
-dft 16 mod 17 root 3 line 2 lanes 2|lanes L(2,4); lanes b2 leaf(4); tiles b2 b2 ; after b2 L(2,2); diagonals T(4,4); lanes c2 leaf(4); / 
-dft 16 mod 17 root 3 procs 2 line 2 lanes 2|before L(2,4); lanes L(1,4); lanes leaf(4); tiles b2 ; after b2 L(2,2); diagonals T(4,4); / before L(2,4); lanes leaf(4); after L(4,2); 
+dft 16 mod 17 root 3|lanes L(4,4); lanes b4 leaf(4)^13; lanes T(4,4)^3; lanes c4 leaf(4)^13; / 
+dft 16 mod 17 root 3 line 2 lanes 2|lanes L(2,4); lanes b2 leaf(4)^13; tiles b2 b2 ; after b2 L(2,2); diagonals T(4,4)^3; lanes c2 leaf(4)^13; / 
+dft 16 mod 17 root 3 procs 2 line 2 lanes 2|before L(2,4); lanes L(1,4); lanes leaf(4)^13; tiles b2 ; after b2 L(2,2); diagonals T(4,4)^3; / before L(2,4); lanes leaf(4)^13; after L(4,2); 
 dft 16 mod 17 root 3 line 3 lanes 3|not admissible
 ";
 
@@ -37,11 +40,19 @@ fn write_path(text: &mut String, path: &[Tensor]) -> Result<(), AllocError> {
     Ok(())
 }
 
+// The tree of a kernel, with its root; no longer leaf, tile or copy stands in these rows.
+fn write_work(text: &mut String, work: &Work) -> Result<(), AllocError> {
+    match work {
+        Work::Kernel(RootedTrees::Single(only)) => write!(text, "{}^{}", only.tree, only.root),
+        _ => write!(text, "other work"),
+    }
+}
+
 fn write_core(text: &mut String, core: &Core) -> Result<(), AllocError> {
     match core {
-        Core::Piece(tree) => write!(text, "{tree}"),
+        Core::Piece(work) => write_work(text, work),
         Core::Turns { rows, cols } => write!(text, "L({rows},{cols})"),
-        Core::Twiddles { rows, cols } => write!(text, "T({rows},{cols})"),
+        Core::Twiddles { rows, cols, root } => write!(text, "T({rows},{cols})^{root}"),
         Core::ThomasIn { rows, cols } => write!(text, "GTIN({rows},{cols})"),
         Core::ThomasOut { rows, cols } => write!(text, "GTOUT({rows},{cols})"),
     }

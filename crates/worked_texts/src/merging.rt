@@ -32,6 +32,7 @@ dft 6 mod 7 root 3 unroll 2; gt 2 3|1 ld 0+(0+v0*3+v2*2)%6*1 st 0+v0*3+v1*1 ld 0
 fn merged_tree(alloc: Global, c: &Ctx, tree: &Tree) -> Result<Merged, NoMemory>
     requires { IsAdmissible c.now (breakdown_of tree.now) }
 {
+    let _request = c.request();
     let vectors = vec_of_tree(alloc, c, tree)?;
     let sigma = lower(alloc, c, vectors)?;
     merge(alloc, sigma)

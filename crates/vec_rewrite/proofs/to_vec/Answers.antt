@@ -1,6 +1,6 @@
 use Rattle.std.proofs.Common.{◌≡◌, ap, sym, subst, ◌∙◌}
-use Rattle.matrix_meaning.specs.Valid.{IsValid}
 use Rattle.smp_rewrite.specs.Views.{plain_smp}
+use Rattle.steps.specs.Targets.{target_of}
 use Rattle.vec_rewrite.specs.Laws.{IsLaned, Keeps}
 use Rattle.vec_rewrite.specs.Turning.{vec_of}
 use Rattle.vec_rewrite.specs.Vectors.{vec_on, vec_share}
@@ -12,13 +12,13 @@ use Rattle.vec_rewrite.proofs.to_vec.Goals as goal
 pub returns : goal.returns
 returns c =
     let request = c.args.c.now in
+    let h = target_of request in
     let f = plain_smp c.args.f in
-    let valid : IsValid request = c.request-request.ensures.valid in
-    let form : plain_vec c.in_ok-formula.formula ≡ vec_of request f = c.in_ok-formula.ensures in
-    let keeps : Keeps request f = vec_keeps request f valid c.requires in
+    let form : plain_vec c.in_ok-formula.formula ≡ vec_of f = c.in_ok-formula.ensures in
+    let keeps : Keeps request.weight request.modulus f = vec_keeps request.weight request.modulus h f c.requires in
     record {
       form = form;
-      meaning = λ x. ap (λ g. vec_on request g x) form ∙ keeps.0 x;
-      operations = ap (vec_share request) form ∙ keeps.1;
-      shape = subst (IsLaned request) (sym form) (vec_shaped request f valid c.requires);
+      meaning = λ x. ap (λ g. vec_on request.modulus g x) form ∙ keeps.0 x;
+      operations = ap (vec_share request.weight request.modulus) form ∙ keeps.1;
+      shape = subst IsLaned (sym form) (vec_shaped h f c.requires);
     }

@@ -8,5 +8,5 @@ use Rattle.formula_lower.proofs.tree.factors_before.Given as goal
 
 abbrev pub invariant-loop-factor : goal.invariant-loop-factor
 invariant-loop-factor l =
-    (plain_term l.product ≡ factors_before l.c l.procs l.lanes (map plain_vec_factor (reverse l.yielded)) (plain_term l.fn.after))
+    (plain_term l.product ≡ factors_before l.procs l.lanes (map plain_vec_factor (reverse l.yielded)) (plain_term l.fn.after))
     × All (λ f. IsRoomy (factor_step l.procs l.lanes (plain_vec_factor f))) l.factor-iterator.rest.items

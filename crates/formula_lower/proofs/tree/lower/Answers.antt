@@ -1,41 +1,49 @@
-use Rattle.std.proofs.Common.{ap, ◌∙◌, subst, sym}
-use Rattle.passes.specs.Sigma.{IsGoodSigma, sigma_cost, sigma_on}
-use Rattle.formula_lower.specs.Operations.{work_cost}
+use Rattle.std.proofs.Common.{List, ap, ◌∙◌, subst, sym}
 use Rattle.formula_lower.proofs.Costs.{vec_costs}
 use Rattle.formula_lower.proofs.Roomy.{all_roomy}
-use Rattle.formula_lower.proofs.Sigmas.{lowered-is, vec_can_merge, vec_means}
+use Rattle.formula_lower.proofs.Sigmas.{vec_can_merge, vec_means}
+use Rattle.formula_lower.proofs.TreeLayouts.{machine_of}
+use Rattle.passes.specs.Sigma.{IsGoodSigma, sigma_cost, sigma_on}
+use Rattle.passes.specs.Term.{PlainTerm}
 use Rattle.sigma_lower.proofs.Goods.{phases_good}
+use Rattle.steps.specs.Layout.{work_cost}
+use Rattle.steps.specs.Targets.{target_of}
 use Rattle.vec_rewrite.specs.Views.{plain_vec}
 use Rattle.formula_lower.proofs.tree.lower.Goals as goal
 
 pub phases-requires-clause-first : goal.phases-requires-clause-first
 phases-requires-clause-first c =
-    let request = c.args.c.now in
+    let h = target_of c.args.c.now in
     let vectors = c.args.vectors in
-    let valid = c.request-request.ensures.valid in
-    all_roomy request vectors.procs vectors.lanes vectors.first.items valid (phases_good request (plain_vec vectors) valid c.requires).0
+    all_roomy h vectors.target.procs vectors.target.lanes vectors.first.items (machine_of c.args.c.now c.request-request.ensures.valid) (phases_good h (plain_vec vectors) c.requires).0
 
 pub phases-requires-clause-second : goal.phases-requires-clause-second
 phases-requires-clause-second c =
-    let request = c.args.c.now in
+    let h = target_of c.args.c.now in
     let vectors = c.args.vectors in
-    let valid = c.request-request.ensures.valid in
-    all_roomy request vectors.procs vectors.lanes vectors.second.items valid (phases_good request (plain_vec vectors) valid c.requires).1
+    all_roomy h vectors.target.procs vectors.target.lanes vectors.second.items (machine_of c.args.c.now c.request-request.ensures.valid) (phases_good h (plain_vec vectors) c.requires).1
 
 pub returns-clause-meaning : goal.returns-clause-meaning
 returns-clause-meaning c =
     let request = c.args.c.now in
     let vectors = plain_vec c.args.vectors in
-    λ x v. ap (λ g. sigma_on request.modulus g x) (lowered-is request vectors c.request-request.result _ c.request-request.ensures.value c.in_ok-phases.ensures) ∙ vec_means request vectors x c.request-request.ensures.valid c.requires v
-
-pub returns-clause-good : goal.returns-clause-good
-returns-clause-good c =
-    let request = c.args.c.now in
-    let vectors = plain_vec c.args.vectors in
-    subst IsGoodSigma (sym (lowered-is request vectors c.request-request.result _ c.request-request.ensures.value c.in_ok-phases.ensures)) (vec_can_merge request vectors c.request-request.ensures.valid c.requires)
+    let h = vectors.target in
+    λ x v.
+    ap (λ (ts : List PlainTerm). sigma_on request.modulus (record { size = h.size; procs = h.procs; lanes = h.lanes; phases = ts }) x) c.in_ok-phases.ensures
+    ∙ vec_means (target_of request) vectors x (machine_of request c.request-request.ensures.valid) c.requires v
 
 pub returns-clause-operations : goal.returns-clause-operations
 returns-clause-operations c =
     let request = c.args.c.now in
     let vectors = plain_vec c.args.vectors in
-    ap (sigma_cost request.weight (work_cost request.weight request.modulus)) (lowered-is request vectors c.request-request.result _ c.request-request.ensures.value c.in_ok-phases.ensures) ∙ vec_costs request vectors c.request-request.ensures.valid c.requires
+    let h = vectors.target in
+    ap (λ (ts : List PlainTerm). sigma_cost request.weight (work_cost request.weight request.modulus) (record { size = h.size; procs = h.procs; lanes = h.lanes; phases = ts })) c.in_ok-phases.ensures
+    ∙ vec_costs request.weight (target_of request) vectors c.requires
+
+pub returns-clause-good : goal.returns-clause-good
+returns-clause-good c =
+    let request = c.args.c.now in
+    let vectors = plain_vec c.args.vectors in
+    let h = vectors.target in
+    subst (λ (ts : List PlainTerm). IsGoodSigma (record { size = h.size; procs = h.procs; lanes = h.lanes; phases = ts })) (sym c.in_ok-phases.ensures)
+    (vec_can_merge (target_of request) vectors (machine_of request c.request-request.ensures.valid) c.requires)
