@@ -13,11 +13,14 @@ ghost use Rattle.spiral_words.specs.Asked.{IsAsked};
 ghost use Rattle.spiral_words.specs.declared.Command.{Command as SpecCommand};
 ghost use Rattle.spiral_status.specs.declared.status.Status.{Status as SpecStatus};
 ghost use Rattle.spiral_status.specs.declared.status.Status.TheVariants.{ReadFault, WriteFault, NoMemory};
+ghost use Rattle.spiral_main.specs.Families as families;
 ghost use Rattle.spiral_main.specs.Always.{is_by_equation};
 ghost use Rattle.spiral_main.specs.Outcome.{Accounts, IsOutcome};
 ghost use Rattle.spiral_main.specs.Programs.{IsCodeListed};
 ghost use Rattle.spiral_main.specs.Right.{IsRightCall, Succeeds};
 
+pub mod answers;
+pub mod rights;
 mod run;
 
 pub use run::spiral_run;
@@ -62,4 +65,19 @@ pub fn calls_have_an_outcome()
     ensures { (words : List (List ℕ)) (bytes : List ℕ)
         → ((wanted : SpecCommand) → IsAsked words wanted → is_by_equation wanted ≡ true)
         → (status : SpecStatus) × (text : List ℕ) × IsOutcome words bytes status text }
+{}
+
+/// The families of commands say of a call what the equations of the commands say of it: what is answered, and what accounts
+/// for status and output.
+pub fn families_agree()
+    ensures outcomes { (words : List (List ℕ)) (bytes : List ℕ) (status : SpecStatus) (text : List ℕ) →
+        IsOutcome words bytes status text → families.IsOutcome words bytes status text }
+    ensures equations { (words : List (List ℕ)) (bytes : List ℕ) (status : SpecStatus) (text : List ℕ) →
+        families.IsOutcome words bytes status text → IsOutcome words bytes status text }
+    ensures accounts { (words : List (List ℕ)) (bytes : List ℕ) (left before after : Option (List ℕ))
+        (status : SpecStatus) → Accounts words bytes left before after status
+        → families.Accounts words bytes left before after status }
+    ensures calls { (words : List (List ℕ)) (bytes : List ℕ) (left before after : Option (List ℕ))
+        (status : SpecStatus) → families.Accounts words bytes left before after status
+        → Accounts words bytes left before after status }
 {}
