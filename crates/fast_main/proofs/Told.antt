@@ -80,20 +80,20 @@ module _ (given : List (List ℕ)) (wanted : Asked) (out : Option (List ℕ)) (i
   pub judged : (status : Status) → status ≢ Usage → AreJudged given status
   judged status other = record { usage = λ e. absurd (other e); nothing = λ e. absurd (is_asked e) }
 
-  pub told_unread : (told : Option (List ℕ)) (feed : Fed) (left : Option (List ℕ)) (read : List ℕ) (fault : RestFault) (ended : Type 0) (taken : ℕ) → Consumes told (to_come feed left) read
-      → GivesPart listing_limit read ended 0 taken (Err fault) → (fault ≡ rest.ReadFault → feed.held ≡ []) → ToldAccounts given told left out out (status_of_rest fault)
-  told_unread None feed left read fault ended taken c gives empty = tt
-  told_unread (Some bytes) feed left read rest.ReadFault ended taken c gives empty = record {
+  pub told_unread : (told : Option (List ℕ)) (feed : Fed) (left : Option (List ℕ)) (read : List ℕ) (fault : RestFault) (ended : Type 0) (before taken : ℕ) → Consumes told (to_come feed left) read
+      → GivesPart listing_limit read ended before taken (Err fault) → (fault ≡ rest.ReadFault → feed.held ≡ []) → ToldAccounts given told left out out (status_of_rest fault)
+  told_unread None feed left read fault ended before taken c gives empty = tt
+  told_unread (Some bytes) feed left read rest.ReadFault ended before taken c gives empty = record {
     answer = λ d. absurd (d.read refl);
     read_fault = λ e. (is_asked, (read, subst (λ (o : Option (List ℕ)). Consumes (Some bytes) o read) (nothing_held feed left (empty refl)) c, gives), Appends-nil out);
     write_fault = λ e. absurd (cc);
   }
-  told_unread (Some bytes) feed left read rest.TooLong ended taken c gives empty = record {
+  told_unread (Some bytes) feed left read rest.TooLong ended before taken c gives empty = record {
     answer = λ d. ([], inr (wanted, is, inl (too_long bytes read (to_come feed left) c gives, refl, refl)), Appends-nil out);
     read_fault = λ e. absurd (cc);
     write_fault = λ e. absurd (cc);
   }
-  told_unread (Some bytes) feed left read rest.NoMemory ended taken c gives empty = record {
+  told_unread (Some bytes) feed left read rest.NoMemory ended before taken c gives empty = record {
     answer = λ d. absurd (d.memory refl);
     read_fault = λ e. absurd (cc);
     write_fault = λ e. absurd (cc);
