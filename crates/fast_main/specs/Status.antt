@@ -34,7 +34,7 @@ action_line front phase q i =
 
 abbrev pub note_line : Status → List ℕ
 note_line Success = []
-note_line Usage = 
+note_line Usage =
     codes "spiral_fast: usage: spiral_fast [--words 32|52|64] [--name NAME [--header]] < LISTING > TEXT (reads a listing, writes C)\n"
 note_line ReadFault = codes "spiral_fast: read failed\n"
 note_line WriteFault = codes "spiral_fast: write failed\n"

@@ -32,11 +32,7 @@ use word_print::print_words;
 pub const LISTING_LIMIT: u64 = 1 << 26;
 
 // The C text of a program that is asked for.
-fn fast_text_of(
-    alloc: Global,
-    options: Options<'_>,
-    program: Program,
-) -> Result<Vec<u8>, NoMemory>
+fn fast_text_of(alloc: Global, options: Options<'_>, program: Program) -> Result<Vec<u8>, NoMemory>
     requires fits { Fits program }
     requires apart { (phase : ℕ) → IsApart (code_of program) phase }
     requires allowed { IsTrue (allows options.entry.size program.modulus) }

@@ -18,12 +18,7 @@ pub(crate) fn static_phase(alloc: Global, name: &[u8]) -> Result<Vec<u8>, NoMemo
     Ok(text)
 }
 
-fn put_phase_call(
-    out: &mut Vec<u8>,
-    name: &[u8],
-    words: u64,
-    number: u64,
-) -> Result<(), AllocError>
+fn put_phase_call(out: &mut Vec<u8>, name: &[u8], words: u64, number: u64) -> Result<(), AllocError>
     ensures { OnOk result (out.new.items ≡ out.old.items ++ phase_call_text name.now words number) }
 {
     put_word(out, name)?;

@@ -127,12 +127,7 @@ fn put_registers(out: &mut Vec<u8>, count: u64) -> Result<(), AllocError>
 }
 
 // What a phase does.
-fn put_phase(
-    out: &mut Vec<u8>,
-    lanes: u64,
-    regs: u64,
-    body: &[WordStmt],
-) -> Result<(), AllocError>
+fn put_phase(out: &mut Vec<u8>, lanes: u64, regs: u64, body: &[WordStmt]) -> Result<(), AllocError>
     requires lanes { lanes ≤ 16 }
     requires nests { IsTrue (are_word_nests_within (plain_word_body body.now) 0) }
     ensures { OnOk result (out.new.items ≡ out.old.items
@@ -166,7 +161,8 @@ fn put_phases(
 fn array_words(size: u64, line: u64) -> u64
     requires size { size ≤ 1048576 }
     requires line { (1 ≤ line) × (line ≤ 64) }
-    ensures { result ≡ whole_lines size line }
+    ensures words { result ≡ whole_lines size line }
+    ensures few { result < 2 ^ 32 }
 {
     (size + (line - 1)) / line * line
 }
@@ -200,16 +196,17 @@ fn print_arrays(alloc: Global, program: &WordProgram) -> Result<Vec<u8>, NoMemor
     let mut out = Vec::new(alloc);
     put_front(&mut out, program)?;
     put_arrays(&mut out, array_words(program.size, program.line))?;
-    put_phases(&mut out, b"void phase", b"(uint64_t q) {\n(void)q;\n", program)?;
+    put_phases(
+        &mut out,
+        b"void phase",
+        b"(uint64_t q) {\n(void)q;\n",
+        program,
+    )?;
     Ok(out)
 }
 
 // A function to link.
-fn print_function(
-    alloc: Global,
-    name: &[u8],
-    program: &WordProgram,
-) -> Result<Vec<u8>, NoMemory>
+fn print_function(alloc: Global, name: &[u8], program: &WordProgram) -> Result<Vec<u8>, NoMemory>
     requires header { IsHeaderWithin program.now.size program.now.modulus program.now.procs
         program.now.line program.now.lanes program.now.regs }
     requires nests { IsTrue (are_word_phases_within (plain_word_phases program.now.phases.items)) }
@@ -234,11 +231,7 @@ fn print_function(
 }
 
 // The header of a function to link.
-fn print_header(
-    alloc: Global,
-    name: &[u8],
-    program: &WordProgram,
-) -> Result<Vec<u8>, NoMemory>
+fn print_header(alloc: Global, name: &[u8], program: &WordProgram) -> Result<Vec<u8>, NoMemory>
     requires header { IsHeaderWithin program.now.size program.now.modulus program.now.procs
         program.now.line program.now.lanes program.now.regs }
     ensures { IfOk result
