@@ -18,9 +18,13 @@ NATIVE = ["-O3", "-march=native"]
 # How Clang orders instructions: first by how many can go side by side.
 SCHEDULED = ["-mllvm", "-pre-RA-sched=list-ilp", "-mllvm", "-misched-topdown"]
 
+# Below this modulus there are words of 52 bits.
+NARROW = 1 << 51
+
 # Each with its primes, or none where it has no peers, and with the lanes and unroll of its fast text.
 MODULI = [
     ("60-bit prime", (958938426232078337,), 8, 16),
+    ("50-bit prime", (1125899865948161,), 8, 16),
     ("31-bit prime", (1570570241,), 16, 16),
     ("composite", (65537, 786433), 8, 16),
 ]
@@ -38,6 +42,10 @@ def root_of_prime(size, prime):
             return root
 
 
+def has_roots(size, primes):
+    return all((prime - 1) % size == 0 for prime in primes)
+
+
 def modulus_and_root(size, primes):
     """Roots of several primes are joined by the Chinese remainder theorem."""
     modulus, root = primes[0], root_of_prime(size, primes[0])
@@ -53,6 +61,13 @@ def output(words, text=""):
     if done.returncode != 0:
         raise SystemExit(f"{' '.join(words)}: {done.stderr.strip()}")
     return done.stdout
+
+
+def flint_flags():
+    """Where FLINT is: by pkg-config, or else where compilers look."""
+    found = shutil.which("pkg-config") and subprocess.run(["pkg-config", "--cflags", "--libs", "flint"],
+                                                          capture_output=True, text=True)
+    return found.stdout.split() if found and found.returncode == 0 else ["-lflint"]
 
 
 class Race:
@@ -104,8 +119,8 @@ class Race:
         self.entries = []
 
 
-def fast_text(request):
-    return output([FAST], output([SPIRAL, "code"], request + "\n"))
+def fast_text(request, *words):
+    return output([FAST, *words], output([SPIRAL, "code"], request + "\n"))
 
 
 def by_clang(race, name, text):
@@ -123,13 +138,17 @@ def raced(race, size, title, primes, lanes, unroll):
     words = [str(size), str(modulus), str(root)]
     if len(primes) == 1:
         race.peer("NTL", "g++", "race_ntl.cpp", ["-O2", "-lntl", "-lgmp", "-pthread"], words)
-        race.peer("FLINT fft_small", "gcc", "race_flint.c", ["-O2", "-march=native", "-lflint"], words)
+        race.peer("FLINT fft_small", "gcc", "race_flint.c", ["-O2", "-march=native", *flint_flags()], words)
     race.peer("textbook", "gcc", "race_textbook.c", ["-O3", "-march=native"], words)
     most = min(lanes, int(size**0.5))
     with_lanes = fast_text(f"{request} lanes {most} unroll {unroll}")
     by_clang(race, "lanes", with_lanes)
     race.text("fast, lanes, gcc", "gcc", with_lanes, *NATIVE)
     by_clang(race, "half the lanes", fast_text(f"{request} lanes {min(lanes // 2, most)} unroll {unroll}"))
+    if modulus < NARROW:
+        narrow = fast_text(f"{request} lanes {most} unroll {unroll}", "--words", "52")
+        race.text("fast, words of 52 bits, clang", "clang", narrow, *NATIVE)
+        race.text("fast, words of 52 bits, gcc", "gcc", narrow, *NATIVE)
     if size >= 4 * most * most:
         by_clang(race, "two in turn", fast_text(f"{request} procs 2 line {most} lanes {most} unroll {unroll}"))
     one = fast_text(f"{request} unroll {unroll}")
@@ -144,7 +163,10 @@ def main():
         race = Race(folder)
         for size in SIZES:
             for title, primes, lanes, unroll in MODULI:
-                raced(race, size, title, primes, lanes, unroll)
+                if has_roots(size, primes):
+                    raced(race, size, title, primes, lanes, unroll)
+                else:
+                    race.skip(f"{size} points of the {title} have no root")
 
 
 if __name__ == "__main__":

@@ -46,6 +46,9 @@ of_request() {
   if [ -x "$fast" ]; then
     echo "$request" | "$program" code >"$work/input"
     refused_in_turn "$request" "$fast"
+    refused_in_turn "$request" "$fast" --words 52
+    refused_in_turn "$request" "$fast" --name transform
+    refused_in_turn "$request" "$fast" --name transform --header
   fi
 }
 

@@ -1,7 +1,8 @@
 #!/usr/bin/env bash
 # Compiles the C text and the fast C text of each request of the tables with each compiler that is there, and compares
 # what they make of some vectors with what `spiral run` writes. The table of fast texts has its own requests, for moduli
-# and lanes at the limits of words. Some also with ThreadSanitizer, and with AddressSanitizer and UBSan.
+# and lanes at the limits of words, and there each is also written as two functions to link, which run at once. Some also
+# with ThreadSanitizer, and with AddressSanitizer and UBSan.
 set -euo pipefail
 top=$(cd "$(dirname "$0")/.." && pwd)
 program="$top/crates/spiral/out/spiral"
@@ -31,16 +32,22 @@ extremes() {
     printf "%s%s", (great ? most : "0"), (k + 1 < size ? " " : "\n") } }'
 }
 
-# compared NAME COMPILER [FLAG ..]: the text in $work/text.c, the data and results beside it
-compared() {
-  local name=$1
+# judged NAME COMPILE_SCRIPT WORD .. -- COMPILER [FLAG ..]: what the script makes of the words and of $work/program, by
+# the compiler; the data and results stand beside it
+judged() {
+  local name=$1 script=$2 words=()
+  shift 2
+  while [ "$1" != -- ]; do
+    words+=("$1")
+    shift
+  done
   shift
   if ! command -v "$1" >/dev/null; then
     echo "skipped: $1 is not here"
     return
   fi
   : >"$work/got"
-  if "$top/examples/compile.sh" "$work/text.c" "$work/program" "$@" 2>"$work/errors" &&
+  if "$top/examples/$script" "${words[@]}" "$work/program" "$@" 2>"$work/errors" &&
     "$work/program" <"$work/data" >"$work/got" 2>>"$work/errors" && cmp -s "$work/got" "$work/wanted"; then
     passed=$((passed + 1))
   else
@@ -49,6 +56,20 @@ compared() {
     head -n 5 "$work/errors"
     diff "$work/wanted" "$work/got" | head -n 4 || true
   fi
+}
+
+# compared NAME COMPILER [FLAG ..]: the text in $work/text.c
+compared() {
+  local name=$1
+  shift
+  judged "$name" compile.sh "$work/text.c" -- "$@"
+}
+
+# linked NAME COMPILER [FLAG ..]: the functions `first` and `second` in $work
+linked() {
+  local name=$1
+  shift
+  judged "$name" compile_named.sh "$work" first second -- "$@"
 }
 
 # prepared REQUEST: the results that are wanted for the data
@@ -61,6 +82,17 @@ fast_text() {
   local request=$1
   shift
   echo "$request" | "$program" code | "$fast" "$@" >"$work/text.c"
+}
+
+# functions REQUEST [WORD ..]: as a function, and as another one with these words, each with its header
+functions() {
+  local request=$1
+  shift
+  echo "$request" | "$program" code >"$work/listing"
+  "$fast" --name first <"$work/listing" >"$work/first.c"
+  "$fast" --name first --header <"$work/listing" >"$work/first.h"
+  "$fast" --name second "$@" <"$work/listing" >"$work/second.c"
+  "$fast" --header "$@" --name second <"$work/listing" >"$work/second.h"
 }
 
 while read -r request; do
@@ -93,6 +125,17 @@ while read -r request; do
     compared "fast text of $request" gcc -O1 -g -fsanitize=address,undefined
   elif [[ $request == *procs* ]]; then
     compared "fast text of $request" gcc -O1 -g -fsanitize=thread
+  fi
+  wide=64
+  [ "$modulus" -ge $((1 << 51)) ] || wide=52
+  functions "$request" --words "$wide"
+  linked "functions of $request" gcc -O2
+  linked "functions of $request" clang -O3 -march=native
+  if [ "$size" -le 256 ]; then
+    linked "functions of $request" gcc -O1 -g -fsanitize=address,undefined
+    linked "functions of $request" gcc -O1 -g -fsanitize=thread
+  elif [[ $request == *procs* ]]; then
+    linked "functions of $request" gcc -O1 -g -fsanitize=thread
   fi
   # words of 52 bits, with the operation for their products and without it
   if [ "$modulus" -lt $((1 << 51)) ]; then

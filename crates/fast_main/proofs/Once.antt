@@ -10,10 +10,11 @@ use Rattle.listing_text.specs.Texts.{is_listing}
 use Rattle.listing_text.proofs.DraftReads.{listing_judges}
 use Rattle.fast_main.specs.declared.status.Status.{Status}
 use Rattle.fast_main.specs.declared.status.Status.TheVariants.{ListingSyntax}
-use Rattle.fast_main.specs.Outcome.{action_limit, IsUnsound, IsTranslated, IsRefused, IsAnswer, IsOutcomeOfInput, IsOutcome}
+use Rattle.fast_main.specs.Outcome.{action_limit, IsUnsound, IsTranslated, IsRefused, IsAnswer, IsOutcomeOfListing, IsOutcome}
 use Rattle.fast_main.specs.Status.{status_of_check}
 use Rattle.fast_main.specs.Translation.{fast_text}
-use Rattle.fast_main.specs.Words.{size_asked}
+use Rattle.fast_words.specs.Asked.{Asked, asked}
+use Rattle.input_rest.specs.Part.{first_part}
 use Rattle.word_code.specs.declared.choose.WordSize.{WordSize}
 use Rattle.word_code.specs.Choice.{allows}
 
@@ -87,35 +88,35 @@ refused_once size bytes a b (inr (inr p)) (inl q) = absurd (q.lost.nothing p.pro
 refused_once size bytes a b (inr (inr p)) (inr (inl q)) = absurd (passes_or_not bytes b p.program q p.listing p.passes)
 refused_once size bytes a b (inr (inr p)) (inr (inr q)) = p.says ∙ sym q.says
 
-refused_or_translated : (size : WordSize) (bytes text : List ℕ) (a : Status) → IsRefused size bytes a → IsTranslated size bytes text → ⊥
-refused_or_translated size bytes text a (inl p) q = p.lost.nothing q.program q.listing
-refused_or_translated size bytes text a (inr (inl p)) q = passes_or_not bytes a q.program p q.listing q.passes
-refused_or_translated size bytes text a (inr (inr p)) q =
+refused_or_translated : (wanted : Asked) (bytes text : List ℕ) (a : Status) → IsRefused wanted.size bytes a → IsTranslated wanted bytes text → ⊥
+refused_or_translated wanted bytes text a (inl p) q = p.lost.nothing q.program q.listing
+refused_or_translated wanted bytes text a (inr (inl p)) q = passes_or_not bytes a q.program p q.listing q.passes
+refused_or_translated wanted bytes text a (inr (inr p)) q =
     let same = one_program bytes q.program p.program q.listing p.listing in
-    let yes = ap (λ (x : PlainProgram). allows size x.modulus) same in
+    let yes = ap (λ (x : PlainProgram). allows wanted.size x.modulus) same in
     let no = p.wide in
     let allowed = q.allowed in
     absurd (cc)
 
-translated_once : (size : WordSize) (bytes s t : List ℕ) → IsTranslated size bytes s → IsTranslated size bytes t → s ≡ t
-translated_once size bytes s t p q = p.says ∙ ap (fast_text size) (one_program bytes p.program q.program p.listing q.listing) ∙ sym q.says
+translated_once : (wanted : Asked) (bytes s t : List ℕ) → IsTranslated wanted bytes s → IsTranslated wanted bytes t → s ≡ t
+translated_once wanted bytes s t p q = p.says ∙ ap (fast_text wanted) (one_program bytes p.program q.program p.listing q.listing) ∙ sym q.says
 
 abbrev Same : Status → Status → List ℕ → List ℕ → Type 0
 Same a b s t = (a ≡ b) × (s ≡ t)
 
-answer_once : (size : WordSize) (bytes : List ℕ) (a b : Status) (s t : List ℕ) → IsAnswer size bytes a s → IsAnswer size bytes b t → Same a b s t
-answer_once size bytes a b s t (inl p) (inl q) = (refused_once size bytes a b p.0 q.0, p.1 ∙ sym q.1)
-answer_once size bytes a b s t (inl p) (inr q) = absurd (refused_or_translated size bytes t a p.0 q.1)
-answer_once size bytes a b s t (inr p) (inl q) = absurd (refused_or_translated size bytes s b q.0 p.1)
-answer_once size bytes a b s t (inr p) (inr q) = (p.0 ∙ sym q.0, translated_once size bytes s t p.1 q.1)
+answer_once : (wanted : Asked) (bytes : List ℕ) (a b : Status) (s t : List ℕ) → IsAnswer wanted bytes a s → IsAnswer wanted bytes b t → Same a b s t
+answer_once wanted bytes a b s t (inl p) (inl q) = (refused_once wanted.size bytes a b p.0 q.0, p.1 ∙ sym q.1)
+answer_once wanted bytes a b s t (inl p) (inr q) = absurd (refused_or_translated wanted bytes t a p.0 q.1)
+answer_once wanted bytes a b s t (inr p) (inl q) = absurd (refused_or_translated wanted bytes s b q.0 p.1)
+answer_once wanted bytes a b s t (inr p) (inr q) = (p.0 ∙ sym q.0, translated_once wanted bytes s t p.1 q.1)
 
-input_once : (size : WordSize) (bytes : List ℕ) (a b : Status) (s t : List ℕ) → IsOutcomeOfInput size bytes a s → IsOutcomeOfInput size bytes b t → Same a b s t
-input_once size bytes a b s t (inl p) (inl q) = (p.1 ∙ sym q.1, p.2 ∙ sym q.2)
-input_once size bytes a b s t (inl p) (inr q) = let x = p.0 in let y = q.0 in absurd (omega (arith, x, y))
-input_once size bytes a b s t (inr p) (inl q) = let x = p.0 in let y = q.0 in absurd (omega (arith, x, y))
-input_once size bytes a b s t (inr p) (inr q) = answer_once size bytes a b s t p.1 q.1
+listing_once : (wanted : Asked) (bytes : List ℕ) (a b : Status) (s t : List ℕ) → IsOutcomeOfListing wanted bytes a s → IsOutcomeOfListing wanted bytes b t → Same a b s t
+listing_once wanted bytes a b s t (inl p) (inl q) = (p.1 ∙ sym q.1, p.2 ∙ sym q.2)
+listing_once wanted bytes a b s t (inl p) (inr q) = let x = p.0 in let y = q.0 in absurd (omega (arith, x, y))
+listing_once wanted bytes a b s t (inr p) (inl q) = let x = p.0 in let y = q.0 in absurd (omega (arith, x, y))
+listing_once wanted bytes a b s t (inr p) (inr q) = answer_once wanted bytes a b s t p.1 q.1
 
-asked_once : (words : List (List ℕ)) (a b : WordSize) → size_asked words ≡ Some a → size_asked words ≡ Some b → a ≡ b
+asked_once : (words : List (List ℕ)) (a b : Asked) → asked words ≡ Some a → asked words ≡ Some b → a ≡ b
 asked_once words a b p q = let e = sym p ∙ q in cc
 
 pub outcome_once : (words : List (List ℕ)) (bytes : List ℕ) (a b : Status) (s t : List ℕ) → IsOutcome words bytes a s → IsOutcome words bytes b t → (a ≡ b) × (s ≡ t)
@@ -123,4 +124,4 @@ outcome_once words bytes a b s t (inl p) (inl q) = (p.1 ∙ sym q.1, p.2 ∙ sym
 outcome_once words bytes a b s t (inl p) (inr q) = let e = sym p.0 ∙ q.1 in absurd (cc)
 outcome_once words bytes a b s t (inr p) (inl q) = let e = sym p.1 ∙ q.0 in absurd (cc)
 outcome_once words bytes a b s t (inr p) (inr q) =
-    input_once p.0 bytes a b s t p.2 (subst (λ size. IsOutcomeOfInput size bytes b t) (asked_once words q.0 p.0 q.1 p.1) q.2)
+    listing_once p.0 (first_part bytes) a b s t p.2 (subst (λ wanted. IsOutcomeOfListing wanted (first_part bytes) b t) (asked_once words q.0 p.0 q.1 p.1) q.2)

@@ -1,25 +1,26 @@
 -- What the bytes of the input account for.
-use Rattle.std.proofs.Common.{◌≡◌, ◌≢◌, ℕ, ◌≤◌, true, List, [], ◌∷◌, ◌++◌, length, None, Some, Err, inl, inr, refl, sym, ap, subst, ◌∙◌, append-nil, length-append, arith}
+use Rattle.std.proofs.Common.{◌≡◌, ◌≢◌, ◌⊎◌, ℕ, ◌<◌, ◌≤◌, true, List, [], ◌∷◌, ◌++◌, length, None, Some, Err, inl, inr, refl, sym, ap, subst, ◌∙◌, append_assoc, arith}
 use Rattle.std.specs.declared.option.Option.{Option}
 use Rattle.std.specs.Io.KnownBytes.{Appends, Consumes, IsAtEnd, prepend_known}
 use Rattle.std.proofs.KnownBytes.{Appends-nil}
 use Rattle.icode.specs.declared.program.Program.{Program}
 use Rattle.icode.specs.Program.{plain_program}
+use Rattle.fast_words.specs.Asked.{Asked, asked}
+use Rattle.fast_words.specs.declared.options.Refusal.{Refusal}
+use Rattle.fast_words.specs.declared.options.Refusal.TheVariants as words
 use Rattle.input_rest.specs.declared.RestFault.{RestFault}
 use Rattle.input_rest.specs.declared.RestFault.TheVariants as rest
-use Rattle.input_rest.specs.Rest.{GivesRest}
+use Rattle.input_rest.specs.Part.{first_part, HasPartEnded, IsWholePart, GivesPart}
+use Rattle.input_rest.proofs.PartLemmas.{still_ended}
 use Rattle.io_edge.specs.Feed.{Fed, to_come}
 use Rattle.io_edge.specs.Taken.{AppendsPrefix}
 use Rattle.listing_text.specs.Texts.{is_listing}
 use Rattle.code_check.specs.Refusals.{PassesCheck}
 use Rattle.fast_main.specs.declared.status.Status.{Status}
-use Rattle.fast_main.specs.declared.status.Status.TheVariants.{Success, Usage, WriteFault}
-use Rattle.fast_main.specs.Outcome.{action_limit, IsRefused, IsTranslated, IsDefined, IsInside, IsOutcome, ToldAccounts}
-use Rattle.fast_main.specs.Status.{listing_limit, status_of_rest}
-use Rattle.fast_main.specs.Translation.{fast_text, AreSoundWords}
-use Rattle.fast_main.specs.Words.{size_asked}
+use Rattle.fast_main.specs.declared.status.Status.TheVariants.{Success, Usage, WriteFault, NoMemory}
+use Rattle.fast_main.specs.Outcome.{action_limit, IsRefused, IsTranslated, IsDefined, IsInside, IsOutcome, AreJudged, HasReadListing, ToldAccounts}
+use Rattle.fast_main.specs.Status.{listing_limit, status_of_rest, status_of_words}
 use Rattle.word_code.specs.declared.choose.WordSize.{WordSize}
-use Rattle.word_code.specs.Choice.{allows}
 
 pub prepend_nothing : (left : Option (List ℕ)) → prepend_known [] left ≡ left
 prepend_nothing None = refl
@@ -29,67 +30,96 @@ nothing_held : (feed : Fed) (left : Option (List ℕ)) → feed.held ≡ [] → 
 nothing_held feed left e = ap (λ h. prepend_known h left) e ∙ prepend_nothing left
 
 -- where nothing is to come, nothing is left
-pub left_ended : (held : List ℕ) (left : Option (List ℕ)) → IsAtEnd (prepend_known held left) → IsAtEnd left
+left_ended : (held : List ℕ) (left : Option (List ℕ)) → IsAtEnd (prepend_known held left) → IsAtEnd left
 left_ended held None h = tt
 left_ended [] (Some bytes) h = h
 left_ended (x ∷ xs) (Some bytes) h = absurd (cc)
 
-all_read : (bytes read : List ℕ) (reached : Option (List ℕ)) → Consumes (Some bytes) reached read → IsAtEnd reached → bytes ≡ read
-all_read bytes read None c e = absurd c
-all_read bytes read (Some ys) c e = c ∙ ap (λ l. read ++ l) e ∙ append-nil read
+-- what was read of a listing that has ended is the first part of the input
+is_first_part : (bytes read listing : List ℕ) (reached : Option (List ℕ)) → Consumes (Some bytes) reached read → IsWholePart read (IsAtEnd reached) listing → first_part bytes ≡ listing
+is_first_part bytes read listing None c whole = absurd c
+is_first_part bytes read listing (Some more) c whole = ap first_part c ∙ (whole.parts more (λ e. e)).0
 
-read_longer : (bytes read : List ℕ) (reached : Option (List ℕ)) → Consumes (Some bytes) reached read → length read ≤ length bytes
-read_longer bytes read None c = absurd c
-read_longer bytes read (Some ys) c = let n = ap length c ∙ length-append read ys in omega (arith, n)
+too_long : (bytes read : List ℕ) (reached : Option (List ℕ)) → Consumes (Some bytes) reached read → ((more : List ℕ) → listing_limit < length (first_part (read ++ more))) → listing_limit < length (first_part bytes)
+too_long bytes read None c long = absurd c
+too_long bytes read (Some more) c long = subst (λ (l : List ℕ). listing_limit < length (first_part l)) (sym c) (long more)
+
+-- the bytes that the feed holds have been read too
+pub listing_ended : (told left : Option (List ℕ)) (held read : List ℕ) → Consumes told (prepend_known held left) read → HasPartEnded read (IsAtEnd (prepend_known held left)) → HasReadListing told left
+listing_ended None left held read c end = (10 ∷ [], tt, inl refl)
+listing_ended (Some bytes) None held read c end = absurd c
+listing_ended (Some bytes) (Some rest) held read c end =
+    (read ++ held, c ∙ sym (append_assoc read held rest), still_ended read held _ _ end (left_ended held (Some rest)))
+
+-- The words ask for nothing, or memory ran out
+
+pub told_no_words : (given : List (List ℕ)) (told left out : Option (List ℕ)) (refusal : Refusal) → (refusal ≡ words.Usage → asked given ≡ None) → ToldAccounts given told left out out (status_of_words refusal)
+told_no_words given None left out refusal nothing = tt
+told_no_words given (Some bytes) left out words.Usage nothing = record {
+  answer = λ d. ([], inl (nothing refl, refl, refl), Appends-nil out);
+  read_fault = λ e. absurd (cc);
+  write_fault = λ e. absurd (cc);
+}
+told_no_words given (Some bytes) left out words.NoMemory nothing = record {
+  answer = λ d. absurd (d.memory refl);
+  read_fault = λ e. absurd (cc);
+  write_fault = λ e. absurd (cc);
+}
+
+pub judged_refused : (given : List (List ℕ)) (refusal : Refusal) → (refusal ≡ words.Usage → asked given ≡ None) → AreJudged given (status_of_words refusal)
+judged_refused given words.Usage nothing = record { usage = λ e. nothing refl; nothing = λ e. inl refl }
+judged_refused given words.NoMemory nothing = record { usage = λ e. absurd (cc); nothing = λ e. inr refl }
 
 -- The input is not read
 
-module _ (words : List (List ℕ)) (size : WordSize) (out : Option (List ℕ)) (asked : size_asked words ≡ Some size) where
-  is_asked : size_asked words ≢ None
-  is_asked e = let wrong = sym asked ∙ e in absurd (cc)
+module _ (given : List (List ℕ)) (wanted : Asked) (out : Option (List ℕ)) (is : asked given ≡ Some wanted) where
+  is_asked : asked given ≢ None
+  is_asked e = let wrong = sym is ∙ e in absurd (cc)
 
-  pub told_unread : (told : Option (List ℕ)) (feed : Fed) (left : Option (List ℕ)) (read : List ℕ) (fault : RestFault) (ended : Type 0) → Consumes told (to_come feed left) read
-      → GivesRest listing_limit read ended (Err fault) → (fault ≡ rest.ReadFault → feed.held ≡ []) → ToldAccounts words told left out out (status_of_rest fault)
-  told_unread None feed left read fault ended c gives empty = tt
-  told_unread (Some bytes) feed left read rest.ReadFault ended c gives empty = record {
+  -- the words are a call's
+  pub judged : (status : Status) → status ≢ Usage → AreJudged given status
+  judged status other = record { usage = λ e. absurd (other e); nothing = λ e. absurd (is_asked e) }
+
+  pub told_unread : (told : Option (List ℕ)) (feed : Fed) (left : Option (List ℕ)) (read : List ℕ) (fault : RestFault) (ended : Type 0) (before taken : ℕ) → Consumes told (to_come feed left) read
+      → GivesPart listing_limit read ended before taken (Err fault) → (fault ≡ rest.ReadFault → feed.held ≡ []) → ToldAccounts given told left out out (status_of_rest fault)
+  told_unread None feed left read fault ended before taken c gives empty = tt
+  told_unread (Some bytes) feed left read rest.ReadFault ended before taken c gives empty = record {
     answer = λ d. absurd (d.read refl);
     read_fault = λ e. (is_asked, (read, subst (λ (o : Option (List ℕ)). Consumes (Some bytes) o read) (nothing_held feed left (empty refl)) c, gives), Appends-nil out);
     write_fault = λ e. absurd (cc);
   }
-  told_unread (Some bytes) feed left read rest.TooLong ended c gives empty =
-      let longer = read_longer bytes read (to_come feed left) c in
-      record {
-        answer = λ d. ([], inr (size, asked, inl (omega (arith, gives, longer), refl, refl)), Appends-nil out);
-        read_fault = λ e. absurd (cc);
-        write_fault = λ e. absurd (cc);
-      }
-  told_unread (Some bytes) feed left read rest.NoMemory ended c gives empty = record {
+  told_unread (Some bytes) feed left read rest.TooLong ended before taken c gives empty = record {
+    answer = λ d. ([], inr (wanted, is, inl (too_long bytes read (to_come feed left) c gives, refl, refl)), Appends-nil out);
+    read_fault = λ e. absurd (cc);
+    write_fault = λ e. absurd (cc);
+  }
+  told_unread (Some bytes) feed left read rest.NoMemory ended before taken c gives empty = record {
     answer = λ d. absurd (d.memory refl);
     read_fault = λ e. absurd (cc);
     write_fault = λ e. absurd (cc);
   }
 
-  -- The input is read
+  -- The listing is read
 
-  module _ (feed : Fed) (left : Option (List ℕ)) (read listing : List ℕ) (same : listing ≡ read) (ended : IsAtEnd (to_come feed left)) (short : length read ≤ listing_limit) where
-    pub told_refused : (told : Option (List ℕ)) (status : Status) → Consumes told (to_come feed left) read → (IsDefined status → IsRefused size listing status) → IsInside status
-        → ToldAccounts words told left out out status
+  module _ (feed : Fed) (left : Option (List ℕ)) (read listing : List ℕ) (whole : IsWholePart read (IsAtEnd (to_come feed left)) listing) (short : length listing ≤ listing_limit) where
+    pub told_refused : (told : Option (List ℕ)) (status : Status) → Consumes told (to_come feed left) read → (IsDefined status → IsRefused wanted.size listing status) → IsInside status
+        → ToldAccounts given told left out out status
     told_refused None status c refused inside = tt
     told_refused (Some bytes) status c refused inside =
-        let whole = all_read bytes read (to_come feed left) c ended in
+        let same = sym (is_first_part bytes read listing (to_come feed left) c whole) in
         record {
-          answer = λ d. ([], inr (size, asked, inr (subst (λ (l : List ℕ). length l ≤ listing_limit) (sym whole) short, inl (subst (λ l. IsRefused size l status) (same ∙ sym whole) (refused d), refl))), Appends-nil out);
+          answer = λ d. ([], inr (wanted, is, inr (subst (λ (l : List ℕ). length l ≤ listing_limit) same short, inl (subst (λ l. IsRefused wanted.size l status) same (refused d), refl))), Appends-nil out);
           read_fault = λ e. absurd (inside.read e);
           write_fault = λ e. absurd (inside.write e);
         }
 
-    outcome : (bytes text : List ℕ) → Consumes (Some bytes) (to_come feed left) read → IsTranslated size listing text → IsOutcome words bytes Success text
+    outcome : (bytes text : List ℕ) → Consumes (Some bytes) (to_come feed left) read → IsTranslated wanted listing text → IsOutcome given bytes Success text
     outcome bytes text c translated =
-        let whole = all_read bytes read (to_come feed left) c ended in
-        inr (size, asked, inr (subst (λ (l : List ℕ). length l ≤ listing_limit) (sym whole) short, inr (refl, subst (λ l. IsTranslated size l text) (same ∙ sym whole) translated)))
+        let same = sym (is_first_part bytes read listing (to_come feed left) c whole) in
+        inr (wanted, is, inr (subst (λ (l : List ℕ). length l ≤ listing_limit) same short, inr (refl, subst (λ l. IsTranslated wanted l text) same translated)))
 
-    pub told_cut : (told out' : Option (List ℕ)) (text : List ℕ) → Consumes told (to_come feed left) read → IsTranslated size listing text → AppendsPrefix out out' text
-        → ToldAccounts words told left out out' WriteFault
+    pub told_cut : (told out' : Option (List ℕ)) (text : List ℕ) → Consumes told (to_come feed left) read → IsTranslated wanted listing text → AppendsPrefix out out' text
+        → ToldAccounts given told left out out' WriteFault
     told_cut None out' text c translated wrote = tt
     told_cut (Some bytes) out' text c translated wrote = record {
       answer = λ d. absurd (d.write refl);
@@ -97,8 +127,8 @@ module _ (words : List (List ℕ)) (size : WordSize) (out : Option (List ℕ)) (
       write_fault = λ e. (text, outcome bytes text c translated, wrote);
     }
 
-    pub told_whole : (told out' : Option (List ℕ)) (text : List ℕ) → Consumes told (to_come feed left) read → IsTranslated size listing text → Appends out out' text
-        → ToldAccounts words told left out out' Success
+    pub told_whole : (told out' : Option (List ℕ)) (text : List ℕ) → Consumes told (to_come feed left) read → IsTranslated wanted listing text → Appends out out' text
+        → ToldAccounts given told left out out' Success
     told_whole None out' text c translated wrote = tt
     told_whole (Some bytes) out' text c translated wrote = record {
       answer = λ d. (text, outcome bytes text c translated, wrote);
@@ -116,3 +146,8 @@ pub rest_fails : (fault : RestFault) → status_of_rest fault ≢ Success
 rest_fails rest.ReadFault e = absurd (cc)
 rest_fails rest.TooLong e = absurd (cc)
 rest_fails rest.NoMemory e = absurd (cc)
+
+-- nor does a refusal of words succeed
+pub refusal_fails : (refusal : Refusal) → status_of_words refusal ≢ Success
+refusal_fails words.Usage e = absurd (cc)
+refusal_fails words.NoMemory e = absurd (cc)

@@ -1,7 +1,7 @@
 -- What a call answers for its words and the bytes of its input, and what it writes.
 use Rattle.std.specs.Prelude.{◌≡◌, ◌≢◌, ◌⊎◌, ℕ, ◌<◌, ◌≤◌, List, [], length, Some, None, IfSome, true, false}
 use Rattle.std.specs.declared.option.Option.{Option}
-use Rattle.std.specs.Io.KnownBytes.{Appends, Consumes}
+use Rattle.std.specs.Io.KnownBytes.{Appends, Consumes, IsAtEnd}
 use Rattle.icode.specs.Plain.{PlainProgram}
 use Rattle.grammar.specs.Grammar.{IsLost}
 use Rattle.listing_text.specs.Texts.{is_listing}
@@ -16,7 +16,9 @@ use Rattle.fast_main.specs.declared.status.Status.{Status}
 use Rattle.fast_main.specs.declared.status.Status.TheVariants.{Success, Usage, ListingSyntax, WideModulus, ReadFault, WriteFault, NoMemory, TooLong}
 use Rattle.fast_main.specs.Status.{listing_limit, status_of_check}
 use Rattle.fast_main.specs.Translation.{fast_text, AreSoundWords}
-use Rattle.fast_main.specs.Words.{size_asked, bits_of}
+use Rattle.fast_main.specs.Words.{bits_of}
+use Rattle.fast_words.specs.Asked.{Asked, asked}
+use Rattle.input_rest.specs.Part.{first_part, HasPartEnded, IsInPart}
 
 -- how many actions a program has at most
 abbrev pub action_limit : ℕ
@@ -45,33 +47,34 @@ pub record IsTooWide (size : WordSize) (bytes : List ℕ) (status : Status) : Ty
   pub wide : allows size program.modulus ≡ false
   pub says : status ≡ WideModulus (bits_of size)
 
--- they are that of a program that passes the check, and the text is its own, of words of the size, which fit, are apart and leave
--- what it leaves
-pub record IsTranslated (size : WordSize) (bytes text : List ℕ) : Type 0 where
+-- they are that of a program that passes the check, and the text is the one of it that is asked for; it spells words of the size,
+-- which fit, are apart and leave what the program leaves
+pub record IsTranslated (wanted : Asked) (bytes text : List ℕ) : Type 0 where
   pub program : PlainProgram
   pub listing : is_listing bytes program
   pub passes : PassesCheck action_limit program
-  pub allowed : allows size program.modulus ≡ true
-  pub sound : AreSoundWords size program
-  pub says : text ≡ fast_text size program
+  pub allowed : allows wanted.size program.modulus ≡ true
+  pub sound : AreSoundWords wanted.size program
+  pub says : text ≡ fast_text wanted program
 
 -- why the bytes of a listing have no text
 abbrev pub IsRefused : WordSize → List ℕ → Status → Type 0
 IsRefused size bytes status = IsUnread bytes status ⊎ (IsUnsound bytes status ⊎ IsTooWide size bytes status)
 
--- status and text for bytes that are no more than may be
-abbrev pub IsAnswer : WordSize → List ℕ → Status → List ℕ → Type 0
-IsAnswer size bytes status text = (IsRefused size bytes status × (text ≡ [])) ⊎ ((status ≡ Success) × IsTranslated size bytes text)
+-- status and text for a listing of no more bytes than may be
+abbrev pub IsAnswer : Asked → List ℕ → Status → List ℕ → Type 0
+IsAnswer wanted bytes status text = (IsRefused wanted.size bytes status × (text ≡ [])) ⊎ ((status ≡ Success) × IsTranslated wanted bytes text)
 
--- for all bytes
-abbrev pub IsOutcomeOfInput : WordSize → List ℕ → Status → List ℕ → Type 0
-IsOutcomeOfInput size bytes status text =
-    ((listing_limit < length bytes) × (status ≡ TooLong listing_limit) × (text ≡ [])) ⊎ ((length bytes ≤ listing_limit) × IsAnswer size bytes status text)
+-- for the bytes of any listing
+abbrev pub IsOutcomeOfListing : Asked → List ℕ → Status → List ℕ → Type 0
+IsOutcomeOfListing wanted bytes status text =
+    ((listing_limit < length bytes) × (status ≡ TooLong listing_limit) × (text ≡ [])) ⊎ ((length bytes ≤ listing_limit) × IsAnswer wanted bytes status text)
 
--- The words ask for words of a size, or nothing is read
+-- The words ask for a text, and the listing stands before the first empty line of the input; or nothing is read
 abbrev pub IsOutcome : List (List ℕ) → List ℕ → Status → List ℕ → Type 0
 IsOutcome words bytes status text =
-    ((size_asked words ≡ None) × (status ≡ Usage) × (text ≡ [])) ⊎ ((size : WordSize) × (size_asked words ≡ Some size) × IsOutcomeOfInput size bytes status text)
+    ((asked words ≡ None) × (status ≡ Usage) × (text ≡ []))
+    ⊎ ((wanted : Asked) × (asked words ≡ Some wanted) × IsOutcomeOfListing wanted (first_part bytes) status text)
 
 -- the words and the bytes call for the status: it is neither a fault of the outside nor want of memory
 pub record IsDefined (status : Status) : Type 0 where
@@ -86,12 +89,21 @@ pub record IsInside (status : Status) : Type 0 where
   pub write : status ≢ WriteFault
   pub usage : status ≢ Usage
 
+-- The words alone tell whether they are a call's, where there is memory to read them
+pub record AreJudged (words : List (List ℕ)) (status : Status) : Type 0 where
+  pub usage : status ≡ Usage → asked words ≡ None
+  pub nothing : asked words ≡ None → (status ≡ Usage) ⊎ (status ≡ NoMemory)
+
+-- the listing has been read to its end: to an empty line, or to the end of the input
+abbrev pub HasReadListing : Option (List ℕ) → Option (List ℕ) → Type 0
+HasReadListing told left = (read : List ℕ) × Consumes told left read × HasPartEnded read (IsAtEnd left)
+
 -- Status and output of a call, by all the bytes of its input and by what the source has left of them
 pub record Accounts (words : List (List ℕ)) (bytes : List ℕ) (left before after : Option (List ℕ)) (status : Status) : Type 0 where
   -- where nothing failed, they are the outcome
   pub answer : IsDefined status → (text : List ℕ) × IsOutcome words bytes status text × Appends before after text
   -- a read failed, behind bytes that may be the front of a listing's, and nothing was written
-  pub read_fault : status ≡ ReadFault → (size_asked words ≢ None) × ((read : List ℕ) × Consumes (Some bytes) left read × (length read ≤ listing_limit)) × Appends before after []
+  pub read_fault : status ≡ ReadFault → (asked words ≢ None) × ((read : List ℕ) × Consumes (Some bytes) left read × IsInPart listing_limit read) × Appends before after []
   -- a write failed at the text that the bytes call for, of which the output took a front
   pub write_fault : status ≡ WriteFault → (text : List ℕ) × IsOutcome words bytes Success text × AppendsPrefix before after text
 

@@ -3,6 +3,8 @@ use Rattle.std.specs.Prelude.{ℕ, ◌^◌, List, [], ◌∷◌, codes, decimal,
 use Rattle.std.specs.List.{concat}
 use Rattle.code_check.specs.declared.CheckFault.{CheckFault}
 use Rattle.code_check.specs.declared.CheckFault.TheVariants as check
+use Rattle.fast_words.specs.declared.options.Refusal.{Refusal}
+use Rattle.fast_words.specs.declared.options.Refusal.TheVariants as words
 use Rattle.input_rest.specs.declared.RestFault.{RestFault}
 use Rattle.input_rest.specs.declared.RestFault.TheVariants as rest
 use Rattle.listing_text.specs.declared.listing.ListingFault.{ListingFault}
@@ -32,7 +34,8 @@ action_line front phase q i =
 
 abbrev pub note_line : Status → List ℕ
 note_line Success = []
-note_line Usage = codes "spiral_fast: usage: spiral_fast [--words 32|52|64]\n"
+note_line Usage =
+    codes "spiral_fast: usage: spiral_fast [--words 32|52|64] [--name NAME [--header]] < LISTING > TEXT (reads a listing, writes C)\n"
 note_line ReadFault = codes "spiral_fast: read failed\n"
 note_line WriteFault = codes "spiral_fast: write failed\n"
 note_line NoMemory = codes "spiral_fast: out of memory\n"
@@ -54,6 +57,11 @@ abbrev pub status_of_rest : RestFault → Status
 status_of_rest rest.ReadFault = ReadFault
 status_of_rest rest.TooLong = TooLong listing_limit
 status_of_rest rest.NoMemory = NoMemory
+
+-- of the words
+abbrev pub status_of_words : Refusal → Status
+status_of_words words.Usage = Usage
+status_of_words words.NoMemory = NoMemory
 
 abbrev pub status_of_listing : ListingFault → Status
 status_of_listing (listing.Syntax line) = ListingSyntax line

@@ -3,6 +3,7 @@ use Rattle.std.specs.Prelude.{◌≡◌, ℕ, ◌<◌, ◌≤◌, List, length, 
 use Rattle.icode.specs.Actions.{plain_code}
 use Rattle.icode.specs.Machine.{IsApart, results}
 use Rattle.icode.specs.Plain.{PlainProgram}
+use Rattle.fast_words.specs.Asked.{Asked}
 use Rattle.in_place.specs.InPlace.{in_place}
 use Rattle.loop_interchange.specs.Interchange.{interchanged}
 use Rattle.word_code.specs.Bare.{WordsFit}
@@ -16,9 +17,9 @@ use Rattle.word_print.specs.WordText.{words_text}
 abbrev pub words_for : WordSize → PlainProgram → PlainWordProgram
 words_for size p = let q = interchanged p in in_place q (fast_words size q)
 
--- and its text
-abbrev pub fast_text : WordSize → PlainProgram → List ℕ
-fast_text size p = words_text (words_for size p)
+-- and the text of it that is asked for
+abbrev pub fast_text : Asked → PlainProgram → List ℕ
+fast_text asked p = words_text asked.form (words_for asked.size p)
 
 -- for every vector of at least as many residues as its size, and every order of turns, the program on words leaves in Y the words
 -- that the program leaves

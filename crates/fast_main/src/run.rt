@@ -1,65 +1,68 @@
 // The top call.
-ghost use Rattle.std.specs.Prelude.{◌≡◌, ◌≢◌, ◌↔◌, ℕ, List, [], length, map, string_bytes};
-ghost use Rattle.std.specs.Prelude.{None, IsTrue, IfOk, IfErr};
+ghost use Rattle.std.specs.Prelude.{◌≡◌, ◌≢◌, ℕ, List, [], map, string_bytes, IsTrue, IfOk, IfErr};
 ghost use Rattle.std.specs.declared.option.Option.{Option};
-ghost use Rattle.std.specs.Io.KnownBytes.{Appends, IsAtEnd};
+ghost use Rattle.std.specs.Io.KnownBytes.{Appends};
 ghost use Rattle.icode.specs.Machine.{IsApart};
 ghost use Rattle.icode.specs.Program.{plain_program, code_of, Fits};
 ghost use Rattle.io_edge.specs.Faults.{Reports};
 ghost use Rattle.word_code.specs.Choice.{allows};
+ghost use Rattle.fast_words.specs.View.{plain_options};
 ghost use Rattle.fast_main.specs.Outcome.{IsRefused, IsTranslated, IsInside, IsDefined};
+ghost use Rattle.fast_main.specs.Outcome.{AreJudged, HasReadListing};
 ghost use Rattle.fast_main.specs.Outcome.{ToldAccounts, Notes};
 ghost use Rattle.fast_main.specs.Status.{note_line, status_of};
-ghost use Rattle.fast_main.specs.Words.{size_asked};
 ghost use Rattle.fast_main.specs.Translation.{fast_text, AreSoundWords};
 
 use crate::status::{Status, write_note};
-use crate::words::{bits_of, size_asked};
+use crate::words::bits_of;
 use code_check::verify;
+use fast_words::{Options, options_of};
 use icode::program::Program;
 use in_place::work_in_place;
-use input_rest::read_rest;
+use input_rest::read_part;
 use io_edge::{Feed, Sink, Source, write_all};
 use listing_text::read_listing;
 use loop_interchange::interchange;
 use memory::NoMemory;
 use std::alloc::Global;
-use word_code::choose::{WordSize, make_fast};
+use word_code::choose::make_fast;
 use word_print::print_words;
 
 /// How many bytes a listing has at most.
 pub const LISTING_LIMIT: u64 = 1 << 26;
 
-// The C text of a program, of words of this size.
-fn fast_text_of(alloc: Global, size: WordSize, program: Program) -> Result<Vec<u8>, NoMemory>
+// The C text of a program that is asked for.
+fn fast_text_of(alloc: Global, options: Options<'_>, program: Program) -> Result<Vec<u8>, NoMemory>
     requires fits { Fits program }
     requires apart { (phase : ℕ) → IsApart (code_of program) phase }
-    requires allowed { IsTrue (allows size program.modulus) }
-    ensures text { IfOk result (λ text. text.items ≡ fast_text size (plain_program program)) }
-    ensures sound { IfOk result (λ _. AreSoundWords size (plain_program program)) }
+    requires allowed { IsTrue (allows options.entry.size program.modulus) }
+    ensures text { IfOk result
+        (λ text. text.items ≡ fast_text (plain_options options.entry) (plain_program program)) }
+    ensures sound { IfOk result (λ _. AreSoundWords options.entry.size (plain_program program)) }
 {
     let program = interchange(program);
-    let words = make_fast(alloc, size, &program)?;
+    let words = make_fast(alloc, options.size, &program)?;
     let words = work_in_place(alloc, &program, words)?;
-    let text = print_words(alloc, &words)?;
+    let text = print_words(alloc, options.form, &words)?;
     Ok(text)
 }
 
-// The C text that the bytes of a listing call for, of words of this size.
-fn text_of(alloc: Global, size: WordSize, listing: &[u8]) -> Result<Vec<u8>, Status>
-    ensures text { IfOk result (λ text. IsTranslated size listing.now text.items) }
+// The C text that is asked for, of the bytes of a listing.
+fn text_of(alloc: Global, options: Options<'_>, listing: &[u8]) -> Result<Vec<u8>, Status>
+    ensures text { IfOk result
+        (λ text. IsTranslated (plain_options options.entry) listing.now text.items) }
     ensures refused { IfErr result
-        (λ status. IsDefined status → IsRefused size listing.now status) }
+        (λ status. IsDefined status → IsRefused options.entry.size listing.now status) }
     ensures inside { IfErr result (λ status. IsInside status) }
 {
     let program = read_listing(alloc, listing)?;
     verify(alloc, &program)?;
-    if !size.allows(program.modulus) {
+    if !options.size.allows(program.modulus) {
         return Err(Status::WideModulus {
-            bits: bits_of(size),
+            bits: bits_of(options.size),
         });
     }
-    let text = fast_text_of(alloc, size, program)?;
+    let text = fast_text_of(alloc, options, program)?;
     Ok(text)
 }
 
@@ -72,9 +75,9 @@ fn work<I: Source, O: Sink>(
 ) -> Result<(), Status>
     ensures told { ToldAccounts (map string_bytes words.now.items) (I.left input.old)
         (I.left input.new) (O.taken output.old) (O.taken output.new) (status_of result) }
-    ensures words { (status_of result ≡ Status.Usage)
-        ↔ (size_asked (map string_bytes words.now.items) ≡ None) }
-    ensures end { status_of result ≡ Status.Success → IsAtEnd (I.left input.new) }
+    ensures words { AreJudged (map string_bytes words.now.items) (status_of result) }
+    ensures end { status_of result ≡ Status.Success
+        → HasReadListing (I.left input.old) (I.left input.new) }
     ensures read { Reports (I.faults input.old) (I.faults input.new)
         (status_of result ≡ Status.ReadFault) }
     ensures write { Reports (O.faults output.old) (O.faults output.new)
@@ -82,12 +85,10 @@ fn work<I: Source, O: Sink>(
     ensures nothing { status_of result ≢ Status.Success → status_of result ≢ Status.WriteFault
         → Appends (O.taken output.old) (O.taken output.new) [] }
 {
-    let Some(size) = size_asked(words) else {
-        return Err(Status::Usage);
-    };
+    let options = options_of(alloc, words)?;
     let mut feed = Feed::new(alloc)?;
-    let listing = read_rest(alloc, &mut feed, input, LISTING_LIMIT)?;
-    let text = text_of(alloc, size, &listing)?;
+    let listing = read_part(alloc, &mut feed, input, LISTING_LIMIT)?;
+    let text = text_of(alloc, options, &listing)?;
     write_all(output, &text)?;
     Ok(())
 }
@@ -104,8 +105,8 @@ fn ending(ended: Result<(), Status>) -> Status
 
 /// Writes the fast C text of the listing on the input, and says in the note why not if it doesn't.
 ///
-/// The words are the program's name, with `--words` and 32, 52 or 64 behind it or with nothing. The input
-/// is a listing, as `spiral code` writes it, of at most [`LISTING_LIMIT`] bytes, and is verified first.
+/// The words are the program's name and options. The lines before the first empty line of the input are a listing, as
+/// `spiral code` writes it, of at most [`LISTING_LIMIT`] bytes, and are verified first.
 pub fn fast_run<I: Source, O: Sink, E: Sink>(
     alloc: Global,
     words: &Vec<String>,
@@ -118,9 +119,9 @@ pub fn fast_run<I: Source, O: Sink, E: Sink>(
     ensures told { ToldAccounts (map string_bytes words.now.items) (I.left input.old)
         (I.left input.new) (O.taken output.old) (O.taken output.new) result }
     // The words alone tell whether they are a call's.
-    ensures words { (result ≡ Status.Usage) ↔ (size_asked (map string_bytes words.now.items) ≡ None) }
-    // A call that succeeds has read its input to its end.
-    ensures end { result ≡ Status.Success → IsAtEnd (I.left input.new) }
+    ensures words { AreJudged (map string_bytes words.now.items) result }
+    // A call that succeeds has read its listing to its end.
+    ensures end { result ≡ Status.Success → HasReadListing (I.left input.old) (I.left input.new) }
 
     // A fault has its cause and is not swallowed, also where nothing is told.
     ensures read { Reports (I.faults input.old) (I.faults input.new) (result ≡ Status.ReadFault) }

@@ -7,6 +7,7 @@ ghost use Rattle.fast_main.specs.Status.{code_of, action_line, note_line};
 
 use crate::run::LISTING_LIMIT;
 use code_check::CheckFault;
+use fast_words::Refusal;
 use input_rest::RestFault;
 use io_edge::{Sink, WriteFault, write_all, write_parts};
 use itoa::Buffer;
@@ -17,7 +18,7 @@ use memory::NoMemory;
 #[derive(Clone, Copy, Debug, PartialEq, Eq)]
 pub enum Status {
     Success,
-    /// There are words behind the program's name.
+    /// The words are no call's.
     Usage,
     /// The input is no listing: some listing begins with the lines before this one, and none with this line too.
     ListingSyntax {
@@ -79,6 +80,20 @@ impl Status {
             Status::LineShared { .. } => 21,
             Status::OverSteps { .. } => 22,
             Status::WideModulus { .. } => 24,
+        }
+    }
+}
+
+impl From<Refusal> for Status {
+    ghost use Rattle.std.specs.Prelude.{◌≡◌};
+    ghost use Rattle.fast_main.specs.Status.{status_of_words};
+
+    ghost from_gives = { λ refusal status. status ≡ status_of_words refusal };
+
+    fn from(refusal: Refusal) -> Self {
+        match refusal {
+            Refusal::Usage => Status::Usage,
+            Refusal::NoMemory => Status::NoMemory,
         }
     }
 }
@@ -260,7 +275,7 @@ pub(crate) fn write_note<E: Sink>(note: &mut E, status: Status) -> Result<(), Wr
         Status::Success => Ok(()),
         Status::Usage => write_all(
             note,
-            b"spiral_fast: usage: spiral_fast [--words 32|52|64]\n",
+            b"spiral_fast: usage: spiral_fast [--words 32|52|64] [--name NAME [--header]] < LISTING > TEXT (reads a listing, writes C)\n",
         ),
         Status::ReadFault => write_all(note, b"spiral_fast: read failed\n"),
         Status::WriteFault => write_all(note, b"spiral_fast: write failed\n"),

@@ -1,7 +1,8 @@
 -- How pieces of text are put together, one behind the other.
 use Rattle.std.proofs.Common.{◌≡◌, ℕ, suc, ◌+◌, ◌-◌, ◌<◌, ◌≢◌, List, ◌++◌, append_assoc, codes, ap, sym, ◌∙◌, arith}
 use Rattle.word_print.specs.WordFront.{numbered_text}
-use Rattle.word_print.specs.WordText.{becomes_text, sources_text, targets_text, declared_text, registers_text}
+use Rattle.word_print.specs.FunctionText.{each_from}
+use Rattle.word_print.specs.WordText.{becomes_text, sources_text, targets_text}
 
 pub two_pieces : (old a b : List ℕ) → (old ++ a) ++ b ≡ old ++ (a ++ b)
 two_pieces old a b = append_assoc old a b
@@ -15,17 +16,17 @@ four_pieces old a b c d = simp append_assoc
 pub five_pieces : (old a b c d e : List ℕ) → ((((old ++ a) ++ b) ++ c) ++ d) ++ e ≡ old ++ (a ++ b ++ c ++ d ++ e)
 five_pieces old a b c d e = simp append_assoc
 
-next_register : (count register : ℕ) → register < count → registers_text (count - register) register ≡ declared_text register ++ registers_text (count - (register + 1)) (register + 1)
-next_register count register lt =
-    let k : count - register ≡ suc (count - (register + 1)) = omega (arith, lt) in
-    ap (λ n. registers_text n register) k
+next_one : (text : ℕ → List ℕ) (count number : ℕ) → number < count → each_from text (count - number) number ≡ text number ++ each_from text (count - (number + 1)) (number + 1)
+next_one text count number lt =
+    let k : count - number ≡ suc (count - (number + 1)) = omega (arith, lt) in
+    ap (λ n. each_from text n number) k
 
--- one register more
-pub registers_on : (out out' start : List ℕ) (count register : ℕ) → register < count → out ++ registers_text (count - register) register ≡ start
-    → out' ≡ out ++ declared_text register → out' ++ registers_text (count - (register + 1)) (register + 1) ≡ start
-registers_on out out' start count register lt so_far more =
-    let rest = registers_text (count - (register + 1)) (register + 1) in
-    ap (λ o. o ++ rest) more ∙ append_assoc out (declared_text register) rest ∙ ap (λ l. out ++ l) (sym (next_register count register lt)) ∙ so_far
+-- the text of one number more
+pub one_more : (text : ℕ → List ℕ) (out out' start : List ℕ) (count number : ℕ) → number < count → out ++ each_from text (count - number) number ≡ start
+    → out' ≡ out ++ text number → out' ++ each_from text (count - (number + 1)) (number + 1) ≡ start
+one_more text out out' start count number lt so_far more =
+    let rest = each_from text (count - (number + 1)) (number + 1) in
+    ap (λ o. o ++ rest) more ∙ append_assoc out (text number) rest ∙ ap (λ l. out ++ l) (sym (next_one text count number lt)) ∙ so_far
 
 counted : (count : ℕ) → count ≢ 0 → count ≡ suc (count - 1)
 counted count some = omega (arith, some)

@@ -1,3 +1,5 @@
 pub mod WordFront
+pub mod TextForm
+pub mod FunctionText
 pub mod WordText
 pub mod WordNests

@@ -1,6 +1,6 @@
 -- The C text of a program on words. Its functions and vectors are those of the first lines, its registers variables, which
 -- are 0 where a phase begins. It is meant for words of 32, 52 and 64 bits.
-use Rattle.std.specs.Prelude.{ℕ, zero, suc, ◌+◌, ◌==◌, List, [], ◌∷◌, ◌++◌, codes, decimal, flat_map, if◌then◌else◌}
+use Rattle.std.specs.Prelude.{ℕ, zero, suc, ◌+◌, ◌==◌, List, [], ◌∷◌, ◌++◌, codes, decimal, flat_map, length, map, if◌then◌else◌}
 use Rattle.icode.specs.declared.program.Array.{Array}
 use Rattle.icode.specs.Machine.{whole_lines}
 use Rattle.icode.specs.Plain.{PlainExpr, PlainParts, PlainPart, PlainOp, Sum, NoParts, AndParts, Proc, Var, Product, Rem, Quot, Load, Store, Zero, Add, Sub, Neg, MulConst, MulTable, Tile}
@@ -8,6 +8,8 @@ use Rattle.listing_text.specs.Listing.{array_text, header_text}
 use Rattle.word_code.specs.declared.program.Reduction.{Reduction}
 use Rattle.word_code.specs.WordProgram.{Note, WordStmt, WordBody, PlainWordProgram, Loop, Do, NoStmts, AndStmts}
 use Rattle.word_print.specs.WordFront.{functions_text, numbered_text, sizes_text, arrays_text}
+use Rattle.word_print.specs.TextForm.{TextForm, arrays, function, header}
+use Rattle.word_print.specs.FunctionText.{each_from, static_phase_text, parameters_text, functions_to_link_text, capital, guard_text, lengths_text, counts_text, asked_text, declared_functions_text, word_type_text, linkage_text}
 
 -- a place: its constant and its parts. The constant is unsigned, of 64 bits, and each sum has one, so sums and what is made of
 -- them wrap at the same base as in programs
@@ -150,22 +152,49 @@ word_tables_text name number (entries ∷ tables) = word_table_text name number 
 abbrev pub declared_text : ℕ → List ℕ
 declared_text register = numbered_text (codes "vec r") register (codes " = splat(0); ") ++ numbered_text (codes "(void)r") register (codes ";\n")
 
--- so many registers from this one on
-abbrev pub registers_text : ℕ → ℕ → List ℕ
-registers_text zero register = []
-registers_text (suc n) register = declared_text register ++ registers_text n (register + 1)
+-- what a phase does, in a program with so many lanes and registers
+abbrev pub word_phase_text : ℕ → ℕ → WordBody → List ℕ
+word_phase_text lanes regs body = each_from declared_text regs 0 ++ word_body_text lanes 0 body ++ codes "}\n"
 
--- a phase, of a program with so many lanes and registers
-abbrev pub word_phase_text : ℕ → ℕ → ℕ → WordBody → List ℕ
-word_phase_text lanes regs number body =
-    numbered_text (codes "void phase") number (codes "(uint64_t q) {\n(void)q;\n") ++ registers_text regs 0 ++ word_body_text lanes 0 body ++ codes "}\n"
+-- the phases from this number on, each with a text before its number and one behind it
+abbrev pub word_phases_text : List ℕ → List ℕ → ℕ → ℕ → ℕ → List WordBody → List ℕ
+word_phases_text before behind lanes regs number [] = []
+word_phases_text before behind lanes regs number (body ∷ phases) =
+    numbered_text before number behind ++ word_phase_text lanes regs body ++ word_phases_text before behind lanes regs (number + 1) phases
 
--- the phases from this number on
-abbrev pub word_phases_text : ℕ → ℕ → ℕ → List WordBody → List ℕ
-word_phases_text lanes regs number [] = []
-word_phases_text lanes regs number (body ∷ phases) = word_phase_text lanes regs number body ++ word_phases_text lanes regs (number + 1) phases
+-- how many words an array has
+abbrev pub words_of_array : PlainWordProgram → ℕ
+words_of_array p = whole_lines p.frame.size p.frame.line
 
-abbrev pub words_text : PlainWordProgram → List ℕ
-words_text p =
+-- what stands before the arrays and the phases
+abbrev pub front_text : PlainWordProgram → List ℕ
+front_text p =
     word_header_text p ++ sizes_text p.width p.frame.modulus p.frame.lanes ++ functions_text ++ word_tables_text (codes "t") 0 p.frame.tables
-    ++ word_tables_text (codes "u") 0 p.quotients ++ arrays_text (whole_lines p.frame.size p.frame.line) ++ word_phases_text p.frame.lanes p.frame.regs 0 p.phases
+    ++ word_tables_text (codes "u") 0 p.quotients
+
+abbrev pub all_phases_text : List ℕ → List ℕ → PlainWordProgram → List ℕ
+all_phases_text before behind p = word_phases_text before behind p.frame.lanes p.frame.regs 0 p.phases
+
+-- arrays, and a function for each phase
+abbrev pub arrays_and_phases_text : PlainWordProgram → List ℕ
+arrays_and_phases_text p =
+    front_text p ++ arrays_text (words_of_array p) ++ all_phases_text (codes "void phase") (codes "(uint64_t q) {\n(void)q;\n") p
+
+-- a function to link
+abbrev pub named_function_text : List ℕ → PlainWordProgram → List ℕ
+named_function_text name p =
+    front_text p ++ all_phases_text (static_phase_text name) parameters_text p
+    ++ functions_to_link_text name (words_of_array p) p.frame.procs (length p.phases)
+
+-- and its header
+abbrev pub named_header_text : List ℕ → PlainWordProgram → List ℕ
+named_header_text name p =
+    let capitals = map capital name in
+    word_header_text p ++ guard_text capitals ++ lengths_text capitals p.frame.size (words_of_array p)
+    ++ counts_text capitals p.frame.modulus p.frame.procs (length p.phases)
+    ++ linkage_text (asked_text capitals ++ declared_functions_text name (word_type_text p.width.half))
+
+abbrev pub words_text : TextForm → PlainWordProgram → List ℕ
+words_text arrays p = arrays_and_phases_text p
+words_text (function name) p = named_function_text name p
+words_text (header name) p = named_header_text name p

@@ -6,10 +6,15 @@ ghost use Rattle.icode.specs.Machine.{whole_lines};
 ghost use Rattle.icode.specs.Plain.{plain_tables};
 ghost use Rattle.listing_text.specs.Listing.{header_text};
 ghost use Rattle.word_code.specs.View.{plain_word_stmt, plain_word_body, plain_word_phases, plain_word_program};
-ghost use Rattle.word_print.specs.WordText.{loop_text, word_stmt_text, word_body_text, word_header_text, word_table_text, word_tables_text, declared_text, registers_text, word_phase_text, word_phases_text, words_text};
+ghost use Rattle.word_print.specs.WordText.{loop_text, word_stmt_text, word_body_text, word_header_text, word_table_text, word_tables_text, declared_text, word_phase_text, all_phases_text, front_text, arrays_and_phases_text, named_function_text, named_header_text, words_text};
+ghost use Rattle.word_print.specs.FunctionText.{each_from};
+ghost use Rattle.word_print.specs.TextForm.{text_form};
 ghost use Rattle.word_print.specs.WordNests.{is_word_nest_within, are_word_nests_within, are_word_phases_within};
 
+use crate::form::Form;
 use crate::front::{put_arrays, put_functions, put_numbered, put_sizes, put_word};
+use crate::function::{put_functions_to_link, static_phase};
+use crate::header::{in_capitals, put_counts, put_guard, put_lengths, put_linked};
 use crate::operations::{put_op, put_reductions};
 use listing_text::put;
 use memory::NoMemory;
@@ -113,7 +118,7 @@ fn put_register(out: &mut Vec<u8>, register: u64) -> Result<(), AllocError>
 }
 
 fn put_registers(out: &mut Vec<u8>, count: u64) -> Result<(), AllocError>
-    ensures { OnOk result (out.new.items ≡ out.old.items ++ registers_text count 0) }
+    ensures { OnOk result (out.new.items ≡ out.old.items ++ each_from declared_text count 0) }
 {
     for register in 0..count {
         put_register(out, register)?;
@@ -121,37 +126,33 @@ fn put_registers(out: &mut Vec<u8>, count: u64) -> Result<(), AllocError>
     Ok(())
 }
 
-fn put_phase(
-    out: &mut Vec<u8>,
-    lanes: u64,
-    regs: u64,
-    number: u64,
-    body: &[WordStmt],
-) -> Result<(), AllocError>
+// What a phase does.
+fn put_phase(out: &mut Vec<u8>, lanes: u64, regs: u64, body: &[WordStmt]) -> Result<(), AllocError>
     requires lanes { lanes ≤ 16 }
     requires nests { IsTrue (are_word_nests_within (plain_word_body body.now) 0) }
     ensures { OnOk result (out.new.items ≡ out.old.items
-        ++ word_phase_text lanes regs number (plain_word_body body.now)) }
+        ++ word_phase_text lanes regs (plain_word_body body.now)) }
 {
-    put_numbered(out, b"void phase", number, b"(uint64_t q) {\n(void)q;\n")?;
     put_registers(out, regs)?;
     put_body(out, lanes, body)?;
     put_word(out, b"}\n")
 }
 
+// The phases, each with a text before its number and one behind it.
 fn put_phases(
     out: &mut Vec<u8>,
-    lanes: u64,
-    regs: u64,
-    phases: &[Vec<WordStmt>],
+    before: &[u8],
+    behind: &[u8],
+    program: &WordProgram,
 ) -> Result<(), AllocError>
-    requires lanes { lanes ≤ 16 }
-    requires nests { IsTrue (are_word_phases_within (plain_word_phases phases.now)) }
+    requires lanes { program.now.lanes ≤ 16 }
+    requires nests { IsTrue (are_word_phases_within (plain_word_phases program.now.phases.items)) }
     ensures { OnOk result (out.new.items ≡ out.old.items
-        ++ word_phases_text lanes regs 0 (plain_word_phases phases.now)) }
+        ++ all_phases_text before.now behind.now (plain_word_program program.now)) }
 {
-    for (number, body) in phases.iter().enumerate() {
-        put_phase(out, lanes, regs, number as u64, body)?;
+    for (number, body) in program.phases.iter().enumerate() {
+        put_numbered(out, before, number as u64, behind)?;
+        put_phase(out, program.lanes, program.regs, body)?;
     }
     Ok(())
 }
@@ -160,31 +161,109 @@ fn put_phases(
 fn array_words(size: u64, line: u64) -> u64
     requires size { size ≤ 1048576 }
     requires line { (1 ≤ line) × (line ≤ 64) }
-    ensures { result ≡ whole_lines size line }
+    ensures words { result ≡ whole_lines size line }
+    ensures few { result < 2 ^ 32 }
 {
     (size + (line - 1)) / line * line
 }
 
-/// The C text of a program on words, within the limits of programs on residues.
-pub fn print_words(alloc: Global, program: &WordProgram) -> Result<Vec<u8>, NoMemory>
-    requires header { IsHeaderWithin program.now.size program.now.modulus program.now.procs
-        program.now.line program.now.lanes program.now.regs }
-    requires nests { IsTrue (are_word_phases_within (plain_word_phases program.now.phases.items)) }
-    ensures { IfOk result (λ text. text.items ≡ words_text (plain_word_program program.now)) }
+// What stands before the arrays and the phases.
+fn put_front(out: &mut Vec<u8>, program: &WordProgram) -> Result<(), AllocError>
+    ensures { OnOk result (out.new.items ≡ out.old.items
+        ++ front_text (plain_word_program program.now)) }
 {
-    let mut out = Vec::new(alloc);
-    put_header(&mut out, program)?;
+    put_header(out, program)?;
     put_sizes(
-        &mut out,
+        out,
         program.half,
         program.rough,
         program.modulus,
         program.lanes,
     )?;
-    put_functions(&mut out)?;
-    put_tables(&mut out, b"t", &program.tables)?;
-    put_tables(&mut out, b"u", &program.quotients)?;
+    put_functions(out)?;
+    put_tables(out, b"t", &program.tables)?;
+    put_tables(out, b"u", &program.quotients)
+}
+
+// Arrays, and a function for each phase.
+fn print_arrays(alloc: Global, program: &WordProgram) -> Result<Vec<u8>, NoMemory>
+    requires header { IsHeaderWithin program.now.size program.now.modulus program.now.procs
+        program.now.line program.now.lanes program.now.regs }
+    requires nests { IsTrue (are_word_phases_within (plain_word_phases program.now.phases.items)) }
+    ensures { IfOk result
+        (λ text. text.items ≡ arrays_and_phases_text (plain_word_program program.now)) }
+{
+    let mut out = Vec::new(alloc);
+    put_front(&mut out, program)?;
     put_arrays(&mut out, array_words(program.size, program.line))?;
-    put_phases(&mut out, program.lanes, program.regs, &program.phases)?;
+    put_phases(
+        &mut out,
+        b"void phase",
+        b"(uint64_t q) {\n(void)q;\n",
+        program,
+    )?;
     Ok(out)
+}
+
+// A function to link.
+fn print_function(alloc: Global, name: &[u8], program: &WordProgram) -> Result<Vec<u8>, NoMemory>
+    requires header { IsHeaderWithin program.now.size program.now.modulus program.now.procs
+        program.now.line program.now.lanes program.now.regs }
+    requires nests { IsTrue (are_word_phases_within (plain_word_phases program.now.phases.items)) }
+    ensures { IfOk result
+        (λ text. text.items ≡ named_function_text name.now (plain_word_program program.now)) }
+{
+    let mut out = Vec::new(alloc);
+    put_front(&mut out, program)?;
+    let static_phase = static_phase(alloc, name)?;
+    put_phases(
+        &mut out,
+        &static_phase,
+        b"(uint64_t q, const word *restrict X, word *restrict Y, word *restrict A, word *restrict B) {
+(void)q; (void)X; (void)Y; (void)A; (void)B;
+",
+        program,
+    )?;
+    let words = array_words(program.size, program.line);
+    let phases = program.phases.len() as u64;
+    put_functions_to_link(&mut out, name, words, program.procs, phases)?;
+    Ok(out)
+}
+
+// The header of a function to link.
+fn print_header(alloc: Global, name: &[u8], program: &WordProgram) -> Result<Vec<u8>, NoMemory>
+    requires header { IsHeaderWithin program.now.size program.now.modulus program.now.procs
+        program.now.line program.now.lanes program.now.regs }
+    ensures { IfOk result
+        (λ text. text.items ≡ named_header_text name.now (plain_word_program program.now)) }
+{
+    let mut out = Vec::new(alloc);
+    let capitals = in_capitals(alloc, name)?;
+    let words = array_words(program.size, program.line);
+    let phases = program.phases.len() as u64;
+    put_header(&mut out, program)?;
+    put_guard(&mut out, &capitals)?;
+    put_lengths(&mut out, &capitals, program.size, words)?;
+    put_counts(&mut out, &capitals, program.modulus, program.procs, phases)?;
+    put_linked(&mut out, &capitals, name, program.half)?;
+    Ok(out)
+}
+
+/// The C text of a program on words, within the limits of programs on residues.
+pub fn print_words(
+    alloc: Global,
+    form: Form<'_>,
+    program: &WordProgram,
+) -> Result<Vec<u8>, NoMemory>
+    requires header { IsHeaderWithin program.now.size program.now.modulus program.now.procs
+        program.now.line program.now.lanes program.now.regs }
+    requires nests { IsTrue (are_word_phases_within (plain_word_phases program.now.phases.items)) }
+    ensures { IfOk result
+        (λ text. text.items ≡ words_text (text_form form.entry) (plain_word_program program.now)) }
+{
+    match form {
+        Form::Arrays => print_arrays(alloc, program),
+        Form::Function { name } => print_function(alloc, name.as_bytes(), program),
+        Form::Header { name } => print_header(alloc, name.as_bytes(), program),
+    }
 }

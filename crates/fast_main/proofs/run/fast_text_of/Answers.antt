@@ -3,6 +3,7 @@ use Rattle.icode.specs.Program.{plain_program}
 use Rattle.word_code.specs.WordProgram.{PlainWordProgram}
 use Rattle.word_code.specs.Choice.{laziness_for}
 use Rattle.word_code.specs.View.{plain_word_program}
+use Rattle.word_print.specs.TextForm.{text_form}
 use Rattle.word_print.specs.WordText.{words_text}
 use Rattle.word_print.specs.WordNests.{are_word_phases_within}
 use Rattle.word_print.proofs.Nests.{quickened_nests}
@@ -20,17 +21,17 @@ print_words-requires-clause-nests c =
     ap (λ (w : PlainWordProgram). are_word_phases_within w.phases) c.in_ok-words-2.ensures.made
     ∙ in_place_nests (plain_program program) (plain_word_program c.in_ok-words.words)
     ∙ ap (λ (w : PlainWordProgram). are_word_phases_within w.phases) c.in_ok-words.ensures.made
-    ∙ quickened_nests (laziness_for c.args.size program.modulus program.lanes) (plain_program program) program.statements
+    ∙ quickened_nests (laziness_for c.args.options.size program.modulus program.lanes) (plain_program program) program.statements
 
 pub returns-clause-text : goal.returns-clause-text
 returns-clause-text c =
     c.in_ok-text.ensures
-    ∙ ap words_text (words_from c.args.size c.in_ok-words.words c.in_ok-words-2.words c.args.program c.interchange-program.result c.interchange-program.ensures c.in_ok-words.ensures.made c.in_ok-words-2.ensures.made)
+    ∙ ap (words_text (text_form c.args.options.form)) (words_from c.args.options.size c.in_ok-words.words c.in_ok-words-2.words c.args.program c.interchange-program.result c.interchange-program.ensures c.in_ok-words.ensures.made c.in_ok-words-2.ensures.made)
 
 pub returns-clause-sound : goal.returns-clause-sound
 returns-clause-sound c =
-    sound_from c.args.size c.in_ok-words.words c.in_ok-words-2.words c.args.program c.interchange-program.result c.interchange-program.ensures c.in_ok-words.ensures.made c.in_ok-words-2.ensures.made
+    sound_from c.args.options.size c.in_ok-words.words c.in_ok-words-2.words c.args.program c.interchange-program.result c.interchange-program.ensures c.in_ok-words.ensures.made c.in_ok-words-2.ensures.made
     c.in_ok-words.ensures.fits c.in_ok-words.ensures.same c.in_ok-words-2.ensures.same c.requires.fits c.requires.apart
 
 pub make_fast-requires : goal.make_fast-requires
-make_fast-requires c = record { allowed = allowed_from c.args.size c.args.program c.interchange-program.result c.interchange-program.ensures c.requires.allowed }
+make_fast-requires c = record { allowed = allowed_from c.args.options.size c.args.program c.interchange-program.result c.interchange-program.ensures c.requires.allowed }

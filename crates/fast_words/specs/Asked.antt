@@ -1,0 +1,78 @@
+-- What the words of a command line ask for.
+use Rattle.std.specs.Prelude.{ℕ, ◌==◌, ◌&&◌, ◌||◌, nat_le, not, Bool, true, false, List, [], ◌∷◌, length, Option, Some, None, codes, if◌then◌else◌}
+use Rattle.std.specs.List.{list_all}
+use Rattle.std.specs.Option.{option_map_or}
+use Rattle.std.specs.Str.{bytes_eq}
+use Rattle.clap.specs.Words.{Row, Text, fault_of, first_of, matches_of}
+use Rattle.clap.specs.Walk.{is_empty}
+use Rattle.word_code.specs.declared.choose.WordSize.{WordSize}
+use Rattle.word_code.specs.declared.choose.WordSize.TheVariants.{Any, Of32, Of52, Of64}
+use Rattle.word_print.specs.TextForm.{TextForm, arrays, function, header}
+use Rattle.fast_words.specs.CommandLine.{fast_app}
+
+-- ---- words of a size
+
+abbrev pub size_named : Text → Option WordSize
+size_named word =
+    if bytes_eq word (codes "32") then Some Of32
+    else (if bytes_eq word (codes "52") then Some Of52
+    else (if bytes_eq word (codes "64") then Some Of64 else None))
+
+-- without the option any will do
+abbrev pub size_in : List Row → Option WordSize
+size_in rows = option_map_or size_named (first_of (codes "words") rows) (Some Any)
+
+-- ---- names
+
+abbrev pub is_digit : ℕ → Bool
+is_digit byte = nat_le 48 byte && nat_le byte 57
+
+abbrev pub is_letter : ℕ → Bool
+is_letter byte = (nat_le 97 byte && nat_le byte 122) || (nat_le 65 byte && nat_le byte 90)
+
+abbrev pub is_name_byte : ℕ → Bool
+is_name_byte byte = is_letter byte || (is_digit byte || byte == 95)
+
+abbrev pub begins_with_digit : Text → Bool
+begins_with_digit [] = false
+begins_with_digit (byte ∷ name) = is_digit byte
+
+-- an identifier of C, of at most 64 bytes
+abbrev pub is_name : Text → Bool
+is_name name =
+    not (length name == 0) && (nat_le (length name) 64 && (not (begins_with_digit name) && list_all is_name_byte name))
+
+-- ---- which text
+
+-- the option without a value is given
+abbrev pub is_given : Text → List Row → Bool
+is_given name rows = option_map_or (λ word. bytes_eq word (codes "true")) (first_of name rows) false
+
+-- a function of this name, or its header
+abbrev pub named_form : Bool → Text → TextForm
+named_form false name = function name
+named_form true name = header name
+
+-- without a name there are arrays, and no header
+abbrev pub form_by : Bool → Option Text → Option TextForm
+form_by wants_header (Some name) = if is_name name then Some (named_form wants_header name) else None
+form_by wants_header None = if wants_header then None else Some arrays
+
+abbrev pub form_in : List Row → Option TextForm
+form_in rows = form_by (is_given (codes "header") rows) (first_of (codes "name") rows)
+
+-- ---- both
+
+pub record Asked : Type 0 where
+  pub size : WordSize
+  pub form : TextForm
+
+abbrev pub both : Option WordSize → Option TextForm → Option Asked
+both (Some size) (Some form) = Some (record { size = size; form = form })
+both (Some size) None = None
+both None form = None
+
+-- What the words ask for, the program's name first: what clap finds in them. They ask for nothing where clap refuses them.
+abbrev pub asked : List Text → Option Asked
+asked words =
+    if is_empty (fault_of fast_app words) then (let rows = matches_of fast_app words in both (size_in rows) (form_in rows)) else None

@@ -1,0 +1,90 @@
+// The options of a call.
+ghost use Rattle.std.specs.Prelude.{◌≡◌, Err, IfOk, None, Some, option_map, map, string_bytes};
+ghost use Rattle.clap.specs.Words.{found_of, rows_of};
+ghost use Rattle.word_print.specs.TextForm.{text_form};
+ghost use Rattle.fast_words.specs.declared.options.Refusal.TheVariants.{NoMemory};
+ghost use Rattle.fast_words.specs.Asked.{asked, both, size_named, size_in, form_in};
+ghost use Rattle.fast_words.specs.View.{plain_options};
+
+use crate::form::form_by;
+use crate::line::{is_given, option_in, parsed};
+use clap::ArgMatches;
+use std::alloc::{AllocError, Global};
+use thiserror::Error;
+use word_code::choose::WordSize;
+use word_print::Form;
+
+/// What the words ask for: words of a size, and which text.
+#[derive(Clone, Copy)]
+pub struct Options<'a> {
+    pub size: WordSize,
+    pub form: Form<'a>,
+}
+
+/// Why the words ask for nothing.
+#[derive(Clone, Copy, Debug, PartialEq, Eq, Error)]
+pub enum Refusal {
+    /// They are no command line.
+    #[error("usage")]
+    Usage,
+    /// Memory ran out.
+    #[error("out of memory")]
+    NoMemory,
+}
+
+impl From<AllocError> for Refusal {
+    ghost from_gives = { λ _ e. e ≡ NoMemory };
+
+    fn from(_: AllocError) -> Self {
+        Refusal::NoMemory
+    }
+}
+
+// The size of words that a word names.
+fn size_named(word: &str) -> Option<WordSize>
+    ensures { result ≡ size_named word.now }
+{
+    match word {
+        "32" => Some(WordSize::Of32),
+        "52" => Some(WordSize::Of52),
+        "64" => Some(WordSize::Of64),
+        _ => None,
+    }
+}
+
+fn size_in(matches: &ArgMatches<'_>) -> Option<WordSize>
+    ensures { result ≡ size_in (rows_of (found_of matches.now)) }
+{
+    match option_in(matches, "words") {
+        Some(word) => size_named(word),
+        None => Some(WordSize::Any),
+    }
+}
+
+fn form_in<'a>(matches: &ArgMatches<'a>) -> Option<Form<'a>>
+    ensures { option_map text_form result ≡ form_in (rows_of (found_of matches.now)) }
+{
+    form_by(is_given(matches, "header"), option_in(matches, "name"))
+}
+
+fn both<'a>(size: Option<WordSize>, form: Option<Form<'a>>) -> Option<Options<'a>>
+    ensures { option_map plain_options result ≡ both size (option_map text_form form.entry) }
+{
+    match (size, form) {
+        (Some(size), Some(form)) => Some(Options { size, form }),
+        _ => None,
+    }
+}
+
+/// What the words ask for, the program's name first.
+pub fn options_of<'a>(alloc: Global, words: &'a Vec<String>) -> Result<Options<'a>, Refusal>
+    ensures ok { IfOk result
+        (λ options. asked (map string_bytes words.now.items) ≡ Some (plain_options options)) }
+    ensures usage { result ≡ Err Refusal.Usage → asked (map string_bytes words.now.items) ≡ None }
+{
+    let matches = parsed(alloc, words)?;
+    match both(size_in(&matches), form_in(&matches)) {
+        Some(options) => Ok(options),
+        None => Err(Refusal::Usage),
+    }
+}

@@ -1,0 +1,26 @@
+#!/usr/bin/env bash
+# Compiles two functions of `spiral-fast --name` for one transform into one program, with examples/named.c. Of each there
+# are NAME.c and NAME.h in the folder.
+# usage: compile_named.sh FOLDER NAME OTHER_NAME PROGRAM [COMPILER [FLAG ..]]
+set -euo pipefail
+here=$(cd "$(dirname "$0")" && pwd)
+folder=$(readlink -f "$1")
+first=$2
+second=$3
+program=$4
+compiler=${5:-cc}
+shift 4
+[ $# -eq 0 ] || shift
+
+# word_of NAME: the type of its words
+word_of() {
+  sed -n 's/^void .*(\(uint[0-9]*_t\) \*out.*/\1/p' "$folder/$1.h" | head -n 1
+}
+
+capitals=$(echo "$first" | tr a-z A-Z)
+exec "$compiler" -std=gnu11 -Wall -Wextra -Werror -pthread "$@" \
+  -DFIRST="$first" -DFIRST_PHASE="${first}_phase" -DFIRST_HEADER="\"$folder/$first.h\"" -DFIRST_WORD="$(word_of "$first")" \
+  -DSECOND="$second" -DSECOND_HEADER="\"$folder/$second.h\"" -DSECOND_WORD="$(word_of "$second")" \
+  -DSIZE="${capitals}_SIZE" -DWORDS="${capitals}_WORDS" -DWORK="${capitals}_WORK" -DMODULUS="${capitals}_MODULUS" \
+  -DPROCS="${capitals}_PROCS" -DPHASES="${capitals}_PHASES" \
+  "$here/named.c" "$folder/$first.c" "$folder/$second.c" -o "$program"
