@@ -129,7 +129,13 @@ end
 
 #[test]
 fn places_of_constants(rt: HostRuntime) -> Result<(), Fail> {
-    tells(&rt, rt.alloc(), "exec", CONSTANT_PLACE, "0; 5 0 0 0 0 0 0 0\n; ")
+    tells(
+        &rt,
+        rt.alloc(),
+        "exec",
+        CONSTANT_PLACE,
+        "0; 5 0 0 0 0 0 0 0\n; ",
+    )
 }
 
 fn is_lost(rt: &impl Abort, alloc: Global, input: &str, line: usize) -> Result<(), Fail> {
