@@ -30,6 +30,16 @@ pub fn certify(alloc: Global, request: &TransformRequest) -> Result<Vec<u8>, NoM
     ensures least { IfOk result (λ text. (cost : ℕ)
         × IsVerdict request.now text.items (Least cost) × IsLeastCost request.now cost) }
 {
+    let text = certificate_text(alloc, request)?;
+    Ok(text)
+}
+
+// The text of the certificate.
+fn certificate_text(alloc: Global, request: &TransformRequest) -> Result<Vec<u8>, NoMemory>
+    requires valid { IsRequestValid request.now }
+    requires trees { AdmitsTrees request.now }
+    ensures { IfOk result (λ text. IsCertificateText request.now text.items) }
+{
     match request {
         TransformRequest::One(request) => {
             let text = plan_cert::certify(alloc, &Ctx::new(request))?;
