@@ -127,7 +127,7 @@ pub performs_cut : (wanted : Command) (request : TransformRequest) (room : ℕ) 
 performs_cut wanted request room bytes left out out' text p l w = record {
   answer = λ d. absurd (d.write refl);
   read_fault = λ e. absurd (cc);
-  write_fault = λ _. ([], bytes, text, refl, (p, inr (inl l)), w);
+  write_fault = λ _. ([], bytes, text, refl, (p, inr (inl (refl, l))), w);
 }
 
 -- The lines of a run

@@ -133,10 +133,10 @@ BreaksOff wanted request bytes text =
     ((list_all is_good (tokens bytes) ≡ true) × IsTextOfData wanted request (vectors_of (size_of request) (modulus_of request) (tokens (closed_part bytes))) text)
     ⊎ ((reads_certificate wanted ≡ true) × (length bytes ≤ certificate_limit) × (text ≡ []))
 
--- The text to which a command has come by the bytes that it read behind the first line, where this is left. Of data no token counts that what is left may go on
+-- The text to which a command has come by the bytes that it read behind the first line, where this is left. Of data no token counts that what is left may go on. For a text none are read
 abbrev pub ComesTo : Command → TransformRequest → List ℕ → List ℕ → List ℕ → Type 0
 ComesTo wanted request bytes left text =
     ((list_all is_good (tokens bytes) ≡ true) × ((closed_part bytes ≡ bytes) ⊎ (left ≡ []))
     × IsTextOfData wanted request (vectors_of (size_of request) (modulus_of request) (tokens bytes)) text)
-    ⊎ (IsTextOf wanted request text
+    ⊎ (((bytes ≡ []) × IsTextOf wanted request text)
     ⊎ ((reads_certificate wanted ≡ true) × (left ≡ []) × (length bytes ≤ certificate_limit) × IsJudged request bytes Success text))
