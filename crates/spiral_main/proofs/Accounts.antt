@@ -18,7 +18,7 @@ use Rattle.spiral_input.specs.Line.{data_of, HasEnded, room_behind}
 use Rattle.spiral_status.specs.Status.{IsDefined}
 use Rattle.request_commands.specs.Settled.{IsAccepted, Settles, BreaksOff, ComesTo}
 use Rattle.spiral_input.specs.Asking.{requested, spelt, AsksBy, Asks}
-use Rattle.spiral_main.specs.Outcome.{Job, ordered, call_outcomes}
+use Rattle.spiral_main.specs.Families.{Job, ordered, call_outcomes}
 use Rattle.spiral_input.specs.Refusals.{IsEarly}
 use Rattle.spiral_input.specs.Stage.{HasGiven}
 use Rattle.request_commands.specs.Performed.{request_outcomes}

@@ -1,6 +1,14 @@
 pub mod Accounts
+pub mod Calls
+pub mod Good
+pub mod Landed
+pub mod Nested
 pub mod OneOutcome
 pub mod OnePlan
 pub mod OneText
+pub mod Others
+pub mod Requests
 pub mod RightCalls
+pub mod RightRun
 pub mod SomeOutcome
+pub mod Within

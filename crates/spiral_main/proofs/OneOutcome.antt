@@ -19,7 +19,7 @@ use Rattle.spiral_status.specs.Fault.{status_of_request, status_of_generate}
 use Rattle.spiral_input.specs.Line.{line_of, room_behind, data_of}
 use Rattle.spiral_input.specs.Asking.{spelt, requested}
 use Rattle.request_commands.specs.Settled.{IsRefused, IsShutOut, IsAccepted, IsDeclined, IsTextOf, IsTextOfData, Settles}
-use Rattle.spiral_main.specs.Outcome.{Job, accepted, ordered, IsAnswerToRequest, IsOutcome}
+use Rattle.spiral_main.specs.Families.{Job, accepted, ordered, IsAnswerToRequest, IsOutcome}
 use Rattle.listing_commands.specs.Listed.{IsExecution}
 use Rattle.spiral_input.specs.Stage.{given}
 use Rattle.convolution_commands.proofs.OneConvolution.{conv_status_once}

@@ -28,7 +28,7 @@ use Rattle.formula_commands.specs.Compiled.{IsFormulaAnswer}
 use Rattle.convolution_commands.specs.Convolved.{IsConvAnswer}
 use Rattle.spiral_input.specs.Line.{data_of, room_behind}
 use Rattle.listing_commands.specs.Listed.{IsExecution}
-use Rattle.spiral_main.specs.Outcome.{Job, ordered, IsAnswerToRequest, IsOutcome}
+use Rattle.spiral_main.specs.Families.{Job, ordered, IsAnswerToRequest, IsOutcome}
 use Rattle.request_commands.specs.Performed.{IsGoodCode}
 use Rattle.request_commands.specs.Settled.{product, IsListing, IsProgramFor, IsTextOf, IsTextOfData, Settles}
 use Rattle.request_commands.specs.Traced.{traced_text}

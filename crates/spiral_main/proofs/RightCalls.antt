@@ -22,14 +22,17 @@ use Rattle.formula_commands.specs.Compiled.{formula_in, SettlesFormula, IsFormul
 use Rattle.spiral_status.specs.Fault.{status_of_stream}
 use Rattle.spiral_input.specs.Line.{data_of, room_behind}
 use Rattle.listing_commands.specs.Listed.{runnable, room_behind_listing, IsAnswerOfProgram, IsExecution}
-use Rattle.spiral_main.specs.Outcome.{Job, ordered, IsAnswerToRequest, IsOutcome, Accounts}
+use Rattle.spiral_main.specs.Families.{Job, ordered, IsAnswerToRequest, IsOutcome}
+use Rattle.spiral_main.specs.Outcome as calls
 use Rattle.request_commands.specs.Settled.{IsTextOfData, Settles}
-use Rattle.spiral_main.specs.Right.{AreRightData, AreRightVectors, BeginWithList, AreWholeVectors, IsRightRest, IsRightRequest, IsRightCall, Succeeds}
+use Rattle.spiral_main.specs.Right.{AreRightData, AreRightVectors, BeginWithList, IsRightRest, IsRightRequest, IsRightCall, Succeeds}
+use Rattle.spiral_main.specs.RightRun.{AreWholeVectors}
 use Rattle.stream_run.specs.Stream.{data_answer}
 use Rattle.spiral_words.proofs.OneCommand.{asked_once}
 use Rattle.convolution_commands.proofs.OneConvolution.{conv_decided}
 use Rattle.listing_commands.proofs.OneExecution.{runnable_decided}
 use Rattle.formula_commands.proofs.OneFormula.{formula_decided}
+use Rattle.spiral_main.proofs.Landed.{answer_from}
 use Rattle.spiral_main.proofs.OneOutcome.{ordered_decided, no_order, no_answer, no_formula, no_request, no_plain_request, no_convolution, no_both, listing_alone, schedule_asked_once}
 use Rattle.spiral_input.proofs.Stages.{answer_for}
 use Rattle.stream_run.proofs.StreamLemmas.{right_answer}
@@ -162,13 +165,13 @@ memory_or (Register phase proc action) = inr (λ e. cc)
 memory_or (LineShared phase line a b) = inr (λ e. cc)
 memory_or (OverSteps limit) = inr (λ e. cc)
 
-pub right_calls : (words : List (List ℕ)) (bytes : List ℕ) (left before after : Option (List ℕ)) (s : Status) → IsRightCall words bytes → Accounts words bytes left before after s
+pub right_calls : (words : List (List ℕ)) (bytes : List ℕ) (left before after : Option (List ℕ)) (s : Status) → IsRightCall words bytes → calls.Accounts words bytes left before after s
     → s ≢ ReadFault → s ≢ WriteFault → (s ≡ NoMemory) ⊎ Succeeds words bytes before after s
 right_calls words bytes left before after s right accounts read write =
     elim (memory_or s) [
       | inl none ↦ inl none
       | inr memory ↦
           let found = accounts.answer (record { read = read; write = write; memory = memory }) in
-          let success = right_success words bytes s found.0 right found.1 in
-          inr (record { success = success; text = found.0; outcome = subst (λ (t : Status). IsOutcome words bytes t found.0) success found.1; took = found.2 })
+          let success = right_success words bytes s found.0 right (answer_from words bytes s found.0 found.1) in
+          inr (record { success = success; text = found.0; outcome = subst (λ (t : Status). calls.IsOutcome words bytes t found.0) success found.1; took = found.2 })
     ]

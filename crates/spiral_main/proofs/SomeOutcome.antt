@@ -41,7 +41,9 @@ use Rattle.spiral_input.proofs.Stages.{done, done_ended, done_same}
 use Rattle.request_commands.specs.Sample.{sample_vector, weighted_sum, sample_text}
 use Rattle.request_commands.specs.Settled.{IsAccepted, IsAffordable, IsDeclined, IsRefused, Settles, product}
 use Rattle.spiral_main.specs.Always.{is_by_equation}
-use Rattle.spiral_main.specs.Outcome.{Job, accepted, ordered, IsOutcome}
+use Rattle.spiral_main.specs.Families.{Job, accepted, ordered, IsOutcome}
+use Rattle.spiral_main.specs.Outcome as calls
+use Rattle.spiral_main.proofs.Landed.{answer_to}
 
 -- a stage has an answer
 abbrev HasAnswer : {A : Type 0} → Stage A → Type 0
@@ -234,8 +236,14 @@ of_asked words bytes (command.Convolve schedule false) asked is =
     let orders = conv_has (command.Convolve schedule false) bytes in of_convolve words bytes schedule asked orders.0 orders.1
 of_asked words bytes _ asked is = absurd (cc)
 
-pub some_outcome : (words : List (List ℕ)) (bytes : List ℕ) → ((wanted : Command) → IsAsked words wanted → is_by_equation wanted ≡ true) → (status : Status) × (text : List ℕ) × IsOutcome words bytes status text
-some_outcome words bytes each = elim (asked_or_usage words) [
+some_family_outcome : (words : List (List ℕ)) (bytes : List ℕ) → ((wanted : Command) → IsAsked words wanted → is_by_equation wanted ≡ true) → (status : Status) × (text : List ℕ) × IsOutcome words bytes status text
+some_family_outcome words bytes each = elim (asked_or_usage words) [
   | inl asked ↦ of_asked words bytes asked.0 asked.1 (each asked.0 asked.1)
   | inr usage ↦ of_usage words bytes usage
 ]
+
+pub some_outcome : (words : List (List ℕ)) (bytes : List ℕ) → ((wanted : Command) → IsAsked words wanted → is_by_equation wanted ≡ true)
+    → (status : Status) × (text : List ℕ) × calls.IsOutcome words bytes status text
+some_outcome words bytes each =
+    let found = some_family_outcome words bytes each in
+    (found.0, found.1, answer_to words bytes found.0 found.1 found.2)

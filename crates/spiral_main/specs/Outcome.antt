@@ -1,90 +1,65 @@
--- What the program answers for its words and the bytes of its input, and what it writes.
-use Rattle.std.specs.Prelude.{◌≡◌, ◌⊎◌, ℕ, List, [], Ok, Err}
+-- What the program answers for its words and the bytes of its input, and what it writes: one equation for each command.
+use Rattle.std.specs.Prelude.{◌≡◌, ◌⊎◌, ℕ, List, Ok, Err}
 use Rattle.std.specs.declared.option.Option.{Option}
 use Rattle.std.specs.Io.KnownBytes.{Appends}
-use Rattle.transform_requests.specs.declared.TransformRequest.{TransformRequest}
-use Rattle.request_text.specs.Schedule.{Plan as Turns}
 use Rattle.io_edge.specs.Faults.{Rose}
 use Rattle.io_edge.specs.Taken.{AppendsPrefix}
-use Rattle.spiral_words.specs.Asked.{IsAsked}
+use Rattle.spiral_words.specs.Asked.{IsAsked, IsUsage}
 use Rattle.spiral_words.specs.declared.Command.{Command}
-use Rattle.spiral_words.specs.declared.Command.TheVariants as command
+use Rattle.spiral_words.specs.declared.Command.TheVariants.{Plan, Formula, Cert, Check, Code, C, Run, Trace, Sample, Compile, Apply, Exec, Convolve}
 use Rattle.spiral_status.specs.declared.status.Status.{Status}
-use Rattle.spiral_input.specs.Commands.{commanded, AskForRequest, AskForFormula, AskForConvolution}
-use Rattle.convolution_commands.specs.Convolved.{IsConvAnswer, IsBrokenConv, IsCutConv}
-use Rattle.formula_commands.specs.Compiled.{IsFormulaAnswer, IsBrokenFormula, IsCutFormula}
-use Rattle.spiral_input.specs.Line.{data_of, IsPartOfLine, HasEnded, room_behind}
-use Rattle.listing_commands.specs.Listed.{IsExecution, IsBrokenExecution, IsCutExecution}
+use Rattle.spiral_status.specs.declared.status.Status.TheVariants.{Usage}
 use Rattle.spiral_input.specs.Outcomes.{Outcomes, Meets}
-use Rattle.spiral_input.specs.Stage.{Stage, ◌>>=◌, IsAnswerBy, IsBrokenBy, IsCutBy}
-use Rattle.spiral_input.specs.Asking.{requested}
-use Rattle.request_commands.specs.Settled.{IsAccepted, IsDeclined, Settles, BreaksOff, ComesTo}
+use Rattle.spiral_input.specs.Stage.{Stage, IsAnswerBy}
+use Rattle.spiral_main.specs.Plan.{plan_outcomes}
+use Rattle.spiral_main.specs.Formula.{formula_outcomes}
+use Rattle.spiral_main.specs.Code.{code_outcomes}
+use Rattle.spiral_main.specs.C.{c_outcomes}
+use Rattle.spiral_main.specs.Run.{run_outcomes}
+use Rattle.spiral_main.specs.Trace.{trace_outcomes}
+use Rattle.spiral_main.specs.Cert.{cert_outcomes}
+use Rattle.spiral_main.specs.Check.{check_outcomes}
+use Rattle.spiral_main.specs.Sample.{sample_outcomes}
+use Rattle.spiral_main.specs.Compile.{compile_outcomes}
+use Rattle.spiral_main.specs.Apply.{apply_outcomes}
+use Rattle.spiral_main.specs.Exec.{exec_outcomes}
+use Rattle.spiral_main.specs.Convolve.{convolve_outcomes}
 
--- The stages
+-- what is right for a command
+abbrev pub outcomes_of : Command → Outcomes
+outcomes_of Plan = plan_outcomes
+outcomes_of Formula = formula_outcomes
+outcomes_of Code = code_outcomes
+outcomes_of C = c_outcomes
+outcomes_of (Run order) = run_outcomes order
+outcomes_of (Trace order) = trace_outcomes order
+outcomes_of Cert = cert_outcomes
+outcomes_of Check = check_outcomes
+outcomes_of (Sample seed schedule) = sample_outcomes seed schedule
+outcomes_of (Compile modulus) = compile_outcomes modulus
+outcomes_of (Apply modulus schedule) = apply_outcomes modulus schedule
+outcomes_of (Exec schedule) = exec_outcomes schedule
+outcomes_of (Convolve schedule as_code) = convolve_outcomes schedule as_code
 
--- what is to be done
-pub record Job : Type 0 where
-  pub command : Command
-  pub request : TransformRequest
+-- the command that the words ask for
+abbrev pub commanded : List (List ℕ) → Stage Command
+commanded words (Ok command) = IsAsked words command
+commanded words (Err status) = (status ≡ Usage) × IsUsage words
 
-abbrev pub accepted : Command → TransformRequest → Stage Job
-accepted wanted request (Ok job) = IsAccepted wanted request × (job ≡ record { command = wanted; request = request })
-accepted wanted request (Err status) = IsDeclined wanted request status
-
-abbrev pub ordered : List (List ℕ) → List ℕ → Stage Job
-ordered words bytes = do
-  command ← commanded words
-  request ← requested command bytes
-  accepted command request
-
--- What is answered
-
--- by a request: a stage ends the run, and nothing is written, or the status and the text are those of the job
-abbrev pub IsAnswerToRequest : List (List ℕ) → List ℕ → Status → List ℕ → Type 0
-IsAnswerToRequest words bytes status text =
-    IsAnswerBy (ordered words bytes) (λ (job : Job). Settles job.command job.request (room_behind bytes) (data_of bytes)) status text
-
--- The status and the text, by a request, by a listing, by a formula or by a list
+-- the status and the text: the words ask for no command, and nothing is written, or they are right for the one that they ask for
 abbrev pub IsOutcome : List (List ℕ) → List ℕ → Status → List ℕ → Type 0
 IsOutcome words bytes status text =
-    IsAnswerToRequest words bytes status text
-    ⊎ (((schedule : Turns) × IsAsked words (command.Exec schedule) × IsExecution schedule bytes status text)
-    ⊎ (((wanted : Command) × AskForFormula words wanted × IsFormulaAnswer wanted bytes status text)
-    ⊎ ((wanted : Command) × AskForConvolution words wanted × IsConvAnswer wanted bytes status text)))
+    IsAnswerBy (commanded words) (λ (command : Command). (outcomes_of command).answer bytes) status text
 
--- What a fault of the outside leaves
-
--- by a request: the bytes that were read are a part of the first line, and nothing is written, or a job and a part of what stands behind it
-abbrev pub IsBrokenRequest : List (List ℕ) → List ℕ → Type 0 → List ℕ → Type 0
-IsBrokenRequest words read ended text =
-    IsBrokenBy (AskForRequest words × IsPartOfLine read) (HasEnded read ended) (ordered words read) (λ (job : Job). BreaksOff job.command job.request (data_of read)) text
-
--- The bytes that were read show no fault, and the text is what was written up to there, by a request, by a listing, by a formula or by a list
-abbrev pub IsBrokenOff : List (List ℕ) → List ℕ → Type 0 → List ℕ → Type 0
-IsBrokenOff words read ended text =
-    IsBrokenRequest words read ended text
-    ⊎ (((schedule : Turns) × IsAsked words (command.Exec schedule) × IsBrokenExecution schedule read ended text)
-    ⊎ (((wanted : Command) × AskForFormula words wanted × IsBrokenFormula wanted read ended text)
-    ⊎ ((wanted : Command) × AskForConvolution words wanted × IsBrokenConv wanted read ended text)))
-
--- by a request: the text to which the job has come
-abbrev pub IsCutRequest : List (List ℕ) → List ℕ → List ℕ → List ℕ → Type 0
-IsCutRequest words read left text =
-    IsCutBy (HasEnded read (left ≡ [])) (ordered words read) (λ (job : Job). ComesTo job.command job.request (data_of read) left) text
-
--- The text to which a call has come by the bytes that were read, where this is left
-abbrev pub IsCutOff : List (List ℕ) → List ℕ → List ℕ → List ℕ → Type 0
-IsCutOff words read left text =
-    IsCutRequest words read left text
-    ⊎ (((schedule : Turns) × IsAsked words (command.Exec schedule) × IsCutExecution schedule read left text)
-    ⊎ (((wanted : Command) × AskForFormula words wanted × IsCutFormula wanted read left text)
-    ⊎ ((wanted : Command) × AskForConvolution words wanted × IsCutConv wanted read left text)))
-
--- What is right for a call with these words
+-- what is right for a call with these words
 abbrev pub call_outcomes : List (List ℕ) → Outcomes
-call_outcomes words = record { answer = IsOutcome words; broken = IsBrokenOff words; cut = IsCutOff words }
+call_outcomes words = record {
+  answer = IsOutcome words;
+  broken = λ read ended text. (command : Command) × IsAsked words command × (outcomes_of command).broken read ended text;
+  cut = λ read left text. (command : Command) × IsAsked words command × (outcomes_of command).cut read left text;
+}
 
--- Status and output of a run, by all the bytes of its input and by what the source has left of them
+-- status and output of a run, by all the bytes of its input and by what the source has left of them
 abbrev pub Accounts : List (List ℕ) → List ℕ → Option (List ℕ) → Option (List ℕ) → Option (List ℕ) → Status → Type 0
 Accounts words = Meets (call_outcomes words)
 

@@ -1,6 +1,5 @@
 -- Calls that are right in all that the program asks of them, and their success.
-use Rattle.std.specs.Prelude.{◌≡◌, ◌⊎◌, ℕ, ◌≤◌, ◌%◌, true, List, length, Ok, ◌∷◌}
-use Rattle.std.specs.List.{list_all}
+use Rattle.std.specs.Prelude.{◌≡◌, ◌⊎◌, ℕ, ◌≤◌, true, false, List, length, Ok, ◌∷◌}
 use Rattle.std.specs.declared.option.Option.{Option}
 use Rattle.std.specs.Io.KnownBytes.{Appends}
 use Rattle.matrix_meaning.specs.declared.Request.{Request}
@@ -8,7 +7,6 @@ use Rattle.transform_requests.specs.declared.TransformRequest.{TransformRequest}
 use Rattle.transform_requests.specs.Fields as requests
 use Rattle.plan_cert.specs.declared.verdict.Verdict.TheVariants.{Least}
 use Rattle.transform_certs.specs.Judged.{IsVerdict}
-use Rattle.data_stream.specs.Data.{tokens, is_good}
 use Rattle.icode.specs.Plain.{PlainProgram}
 use Rattle.input_rest.specs.Part.{second_part}
 use Rattle.request_text.specs.Schedule.{Plan as Turns}
@@ -25,13 +23,9 @@ use Rattle.convolution_commands.specs.Convolved.{conv_in}
 use Rattle.spiral_input.specs.Line.{data_of, room_behind}
 use Rattle.stream_run.specs.Stream.{data_vectors}
 use Rattle.listing_commands.specs.Listed.{runnable, room_behind_listing}
-use Rattle.spiral_main.specs.Outcome.{Job, ordered, IsOutcome}
-
--- good tokens in whole vectors, and no more bytes than may come
-pub record AreWholeVectors (size room : ℕ) (bytes : List ℕ) : Type 0 where
-  pub few : length bytes ≤ room
-  pub good : list_all is_good (tokens bytes) ≡ true
-  pub whole : length (tokens bytes) % size ≡ 0
+use Rattle.spiral_main.specs.Families.{Job, ordered}
+use Rattle.spiral_main.specs.Outcome.{IsOutcome}
+use Rattle.spiral_main.specs.RightRun.{AreWholeVectors}
 
 -- a certificate that proves a least cost, and not too long
 pub record IsRightCertificate (request : TransformRequest) (bytes : List ℕ) : Type 0 where

@@ -6,7 +6,8 @@ ghost use Rattle.io_edge.specs.Faults.{Reports};
 ghost use Rattle.spiral_input.specs.Commands.{takes_convolution, takes_formula, takes_listing};
 ghost use Rattle.spiral_input.specs.Commands.{AskForRest, AskForCommand, AreJudged};
 ghost use Rattle.spiral_input.specs.Outcomes.{ToldMeets};
-ghost use Rattle.spiral_main.specs.Outcome.{Accounts, Notes, call_outcomes};
+ghost use Rattle.spiral_main.specs.Families.{call_outcomes};
+ghost use Rattle.spiral_main.specs.Outcome.{Accounts, Notes};
 ghost use Rattle.spiral_input.specs.Stage.{status_of};
 ghost use Rattle.spiral_status.specs.Status.{note_line};
 

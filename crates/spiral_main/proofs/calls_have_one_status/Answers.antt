@@ -1,4 +1,4 @@
-use Rattle.spiral_main.proofs.OneOutcome.{one_status}
+use Rattle.spiral_main.proofs.Calls.{one_status}
 use Rattle.spiral_main.proofs.calls_have_one_status.Goals as goal
 
 pub returns : goal.returns

@@ -1,4 +1,4 @@
-use Rattle.spiral_main.proofs.OneText.{one_text}
+use Rattle.spiral_main.proofs.Calls.{one_text}
 use Rattle.spiral_main.proofs.calls_have_one_text.Goals as goal
 
 pub returns : goal.returns

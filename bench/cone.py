@@ -1,0 +1,125 @@
+#!/usr/bin/env python3
+"""Counts what a reader has to read to know what a clause says: the lines of all definitions in specs/ that it cites, and of those that
+these cite in turn, down to the standard library and to the types of the code, which are named and not counted.
+
+    bench/cone.py CRATE FUNCTION.. [--cut MODULE.NAME..] [--all]
+
+A root is a public function with its contract. What is cut stands as a word that is not opened. --all also prints each definition's lines.
+"""
+
+import collections
+import glob
+import re
+import sys
+
+WORD = re.compile(r"[^\s(){}\[\].,;:λ→×⊎]+")
+USE = re.compile(r"^\s*(?:pub )?(?:ghost )?use Rattle\.(\w+)\.specs\.([\w.]+?)(?:\.\{([^}]*)\}| as (\w+))?;?\s*$", re.M)
+START = re.compile(r"^(?:(?:abbrev|pub|unfoldable|opaque|record|data) )*([^\s({]+)(?: .*)? ?:(?: |$)")
+IS_MODIFIED = re.compile(r"^(?:abbrev|pub|unfoldable|opaque|record|data) ")
+
+
+def imports(text):
+    """The names that a file brings in, and the modules that it names."""
+    names, modules = {}, {}
+    for crate, module, listed, other in USE.findall(text):
+        if crate == "std":
+            continue
+        for item in filter(None, (i.strip() for i in listed.split(","))):
+            old, _, new = item.partition(" as ")
+            names[new or old] = (crate, module, old)
+        if not listed:
+            modules[other or module.split(".")[-1]] = (crate, module)
+    return names, modules
+
+
+def read(path, home, definitions, brought):
+    """The definitions of a file, each with its lines. The constructors of a type stand for the type."""
+    text = open(path).read()
+    brought[home] = imports(text)
+    name, mutual = None, False
+    for line in text.split("\n"):
+        bare = line[2:] if mutual and line.startswith("  ") else line
+        if not bare.strip() or bare.lstrip().startswith("--") or re.match(r"\s*(pub )?(use|mod) ", bare):
+            continue
+        if not line.startswith(" "):
+            mutual = bool(re.match(r"(abbrev )?(pub )?mutual", line))
+        start = START.match(bare)
+        if start and not bare.startswith(" ") and (IS_MODIFIED.match(bare) or bare.split()[0] != name) and not mutual_head(bare):
+            name = start.group(1)
+            definitions[home + (name,)] = []
+        if name:
+            definitions[home + (name,)].append(line)
+            if bare.startswith(" ") and definitions[home + (name,)][0].lstrip().startswith(("pub data", "data")):
+                for former in bare.split(":")[0].split():
+                    definitions.setdefault(home + (former,), definitions[home + (name,)])
+
+
+def mutual_head(line):
+    return bool(re.match(r"(abbrev )?(pub )?mutual", line)) or line.startswith("infix")
+
+
+def is_former(key, definitions):
+    """Whether an imported name is a constructor: of a type in specs/, or of a type of the code."""
+    return key is not None and ("declared" in key[1] or (key in definitions and definitions[key][0].lstrip().startswith(("pub data", "data"))))
+
+
+def cited(lines, home, definitions, brought):
+    """What the lines of a definition cite."""
+    names, modules = brought[home]
+    text = "\n".join(re.sub(r"--.*", "", line) for line in lines)
+    bound = {w for w in re.findall(r"\w+", " ".join(line.split(" = ")[0] for line in text.split("\n") if " = " in line and ":" not in line.split(" = ")[0]))
+             if not is_former(home + (w,), definitions) and not is_former(names.get(w), definitions)}
+    bound |= {w for listed in re.findall(r"λ ([\w ]+)\.", text) for w in listed.split()}
+    words = [w for w in WORD.findall(text) if w not in bound] + (["◌>>=◌"] if re.search(r"\bdo\b", text) else [])
+    for left, right in re.findall(r"(\w+)\.([^\s(){}\[\].,;:λ→×⊎]+)", text):
+        if left in modules:
+            yield modules[left] + (right,)
+    for word in words:
+        for spelling in (word, "◌" + word + "◌", "◌" + word):
+            if home + (spelling,) in definitions:
+                yield home + (spelling,)
+            elif spelling in names:
+                yield names[spelling]
+
+
+def cone(roots, cut, definitions, brought):
+    seen, types, waiting = {}, set(), list(roots)
+    while waiting:
+        key = waiting.pop()
+        if "declared" in key[1]:
+            types.add(key[1].split("declared.")[1].split(".TheVariants")[0])
+        elif key in definitions and id(definitions[key]) not in seen and ".".join(key[1:]) not in cut:
+            seen[id(definitions[key])] = key
+            waiting += cited(definitions[key], key[:2], definitions, brought)
+        elif key not in definitions and key[:2] in brought and key[2] in brought[key[:2]][0]:
+            waiting.append(brought[key[:2]][0][key[2]])
+    return list(seen.values()), types
+
+
+def main(crate, functions, cut, whole):
+    definitions, brought = {}, {}
+    for path in glob.glob("crates/*/specs/**/*.antt", recursive=True):
+        parts = path[:-5].split("/")
+        read(path, (parts[1], ".".join(parts[3:])), definitions, brought)
+    for path in glob.glob(f"crates/{crate}/src/**/*.rt", recursive=True):
+        text = open(path).read()
+        for function in functions:
+            found = re.search(rf"pub fn {function}\b.*?\n\{{", text, re.S)
+            if found:
+                brought[(crate, "")] = imports(text)
+                keys, types = cone(cited([found.group(0)], (crate, ""), definitions, brought), cut, definitions, brought)
+                lines = sum(len(definitions[key]) for key in keys)
+                print(f"{function}: {lines} lines, {len(keys)} definitions, {len(types)} types of the code")
+                count = collections.Counter()
+                for key in keys:
+                    count[key[0]] += len(definitions[key])
+                if whole:
+                    print("   " + ", ".join(f"{name} {size}" for name, size in count.most_common()))
+                    for key in sorted(keys):
+                        print(f"      {len(definitions[key]):3} {'.'.join(key)}")
+
+
+if __name__ == "__main__":
+    words = [w for w in sys.argv[1:] if w != "--all"]
+    at = words.index("--cut") if "--cut" in words else len(words)
+    main(words[0], words[1:at], set(words[at + 1:]), "--all" in sys.argv)

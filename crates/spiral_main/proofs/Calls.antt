@@ -1,0 +1,29 @@
+-- An outcome of words that ask for a command is an answer of this command, and words and bytes have one.
+use Rattle.std.proofs.Common.{◌≡◌, ℕ, List, Ok, Err, sym, ap, ◌∙◌}
+use Rattle.spiral_words.specs.Asked.{IsAsked}
+use Rattle.spiral_words.specs.declared.Command.{Command}
+use Rattle.spiral_words.proofs.OneCommand.{asked_once}
+use Rattle.spiral_words.proofs.Usage.{usage_nothing}
+use Rattle.spiral_status.specs.declared.status.Status.{Status}
+use Rattle.spiral_input.proofs.Stages.{IsDecided, done, ended, answer_for}
+use Rattle.spiral_main.specs.Outcome.{outcomes_of, commanded, IsOutcome}
+use Rattle.spiral_main.proofs.Landed.{answer_from}
+use Rattle.spiral_main.proofs.OneOutcome as families
+use Rattle.spiral_main.proofs.OneText as texts
+
+commanded_decided : (words : List (List ℕ)) → IsDecided (commanded words)
+commanded_decided words (Ok a) (Ok b) p q = ap done (asked_once words a b p q)
+commanded_decided words (Ok a) (Err t) p q = absurd (usage_nothing words a q.1 p)
+commanded_decided words (Err s) (Ok b) p q = absurd (usage_nothing words b p.1 q)
+commanded_decided words (Err s) (Err t) p q = ap ended (p.0 ∙ sym q.0)
+
+pub outcome_of : (words : List (List ℕ)) (bytes : List ℕ) (wanted : Command) (s : Status) (t : List ℕ) → IsAsked words wanted → IsOutcome words bytes s t
+    → (outcomes_of wanted).answer bytes s t
+outcome_of words bytes wanted s t asked p =
+    answer_for (commanded words) (λ (c : Command). (outcomes_of c).answer bytes) wanted s t (commanded_decided words) asked p
+
+pub one_status : (words : List (List ℕ)) (bytes : List ℕ) (a b : Status) (s t : List ℕ) → IsOutcome words bytes a s → IsOutcome words bytes b t → a ≡ b
+one_status words bytes a b s t p q = families.one_status words bytes a b s t (answer_from words bytes a s p) (answer_from words bytes b t q)
+
+pub one_text : (words : List (List ℕ)) (bytes : List ℕ) (a b : Status) (s t : List ℕ) → IsOutcome words bytes a s → IsOutcome words bytes b t → s ≡ t
+one_text words bytes a b s t p q = texts.one_text words bytes a b s t (answer_from words bytes a s p) (answer_from words bytes b t q)

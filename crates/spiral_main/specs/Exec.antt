@@ -1,0 +1,14 @@
+-- What is right for `exec`.
+use Rattle.std.specs.Prelude.{◌≡◌}
+use Rattle.icode.specs.Plain.{PlainProgram}
+use Rattle.request_text.specs.Schedule.{Plan as Turns}
+use Rattle.stream_run.specs.Stream.{lines}
+use Rattle.listing_commands.specs.Listed.{loaded, result_of}
+use Rattle.spiral_input.specs.Outcomes.{Outcomes}
+use Rattle.spiral_main.specs.Front.{part, by_front}
+use Rattle.spiral_main.specs.Works.{all, mapping}
+
+-- a line for each vector, of what the listing's program leaves for it
+abbrev pub exec_outcomes : Turns → Outcomes
+exec_outcomes schedule = by_front (part 1048576) (loaded schedule)
+    (λ (program : PlainProgram). mapping all program.size program.modulus (λ vectors text. text ≡ lines (result_of program) vectors))

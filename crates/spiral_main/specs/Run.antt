@@ -1,0 +1,15 @@
+-- What is right for `run`.
+use Rattle.std.specs.Prelude.{◌≡◌}
+use Rattle.transform_requests.specs.Fields.{asked_of, modulus_of, size_of}
+use Rattle.spiral_words.specs.declared.Order.{Order}
+use Rattle.stream_run.specs.Stream.{lines}
+use Rattle.spiral_input.specs.Orders.{procs_in}
+use Rattle.spiral_input.specs.Outcomes.{Outcomes}
+use Rattle.spiral_main.specs.Front.{line, by_front}
+use Rattle.spiral_main.specs.Works.{all, mapping}
+use Rattle.spiral_main.specs.Orders.{Planned, planned}
+
+-- a line for each vector, of the request's matrix times it
+abbrev pub run_outcomes : Order → Outcomes
+run_outcomes order = by_front (line 256) (planned (procs_in order))
+    (λ (plan : Planned). mapping all (size_of plan.request) (modulus_of plan.request) (λ vectors text. text ≡ lines (asked_of plan.request) vectors))
