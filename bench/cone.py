@@ -2,6 +2,8 @@
 """Counts what a reader has to read to know what a clause says: the lines of all definitions in specs/ that it cites, and of those that
 these cite in turn, down to the standard library and to the types of the code, which are named and not counted.
 
+    bench/cone.py                                           compares the table of docs/PROVED.md with what is counted; status 1 where they differ
+    bench/cone.py --write                                   writes the table into the page
     bench/cone.py CRATE FUNCTION.. [--cut MODULE.NAME..] [--all]
 
 A root is a public function with its contract. What is cut stands as a word that is not opened. --all also prints each definition's lines.
@@ -9,8 +11,33 @@ A root is a public function with its contract. What is cut stands as a word that
 
 import collections
 import glob
+import os
+import pathlib
 import re
 import sys
+
+TOP = pathlib.Path(__file__).resolve().parent.parent
+PAGE = TOP / "docs" / "PROVED.md"
+BEGIN = "<!-- the table of commands, written by bench/cone.py -->"
+END = "<!-- the end of the table of commands -->"
+# The laws of spiral_main on each command. `IsOutcome` links them to the program's clause, and is not opened.
+COMMANDS = [
+    ("`plan`", ["plan_answers"]),
+    ("`formula`", ["formula_answers"]),
+    ("`code`", ["code_answers", "code_is_good"]),
+    ("`c`", ["c_answers", "c_is_good"]),
+    ("`cert`", ["cert_answers"]),
+    ("`check`", ["check_answers"]),
+    ("`run`", ["run_answers", "run_is_right"]),
+    ("`trace`", ["trace_answers", "trace_is_good"]),
+    ("`sample`", ["sample_answers"]),
+    ("`compile`", ["compile_answers", "compile_is_good"]),
+    ("`apply`", ["apply_answers"]),
+    ("`exec`", ["exec_answers"]),
+    ("`convolve`", ["convolve_answers", "convolver_is_good"]),
+    ("all commands at once", ["calls_have_one_status"]),
+]
+LINK = {"Outcome.IsOutcome"}
 
 WORD = re.compile(r"[^\s(){}\[\].,;:λ→×⊎]+")
 USE = re.compile(r"^\s*(?:pub )?(?:ghost )?use Rattle\.(\w+)\.specs\.([\w.]+?)(?:\.\{([^}]*)\}| as (\w+))?;?\s*$", re.M)
@@ -96,30 +123,68 @@ def cone(roots, cut, definitions, brought):
     return list(seen.values()), types
 
 
-def main(crate, functions, cut, whole):
+def all_definitions():
     definitions, brought = {}, {}
-    for path in glob.glob("crates/*/specs/**/*.antt", recursive=True):
+    for path in sorted(glob.glob("crates/*/specs/**/*.antt", recursive=True)):
         parts = path[:-5].split("/")
         read(path, (parts[1], ".".join(parts[3:])), definitions, brought)
-    for path in glob.glob(f"crates/{crate}/src/**/*.rt", recursive=True):
+    return definitions, brought
+
+
+def counts(crate, functions, cut, definitions, brought):
+    """The cone of each of these functions of a crate: the keys of its definitions and the types of the code."""
+    found = {}
+    for path in sorted(glob.glob(f"crates/{crate}/src/**/*.rt", recursive=True)):
         text = open(path).read()
         for function in functions:
-            found = re.search(rf"pub fn {function}\b.*?\n\{{", text, re.S)
-            if found:
+            head = re.search(rf"pub fn {function}\b.*?\n\{{", text, re.S)
+            if head:
                 brought[(crate, "")] = imports(text)
-                keys, types = cone(cited([found.group(0)], (crate, ""), definitions, brought), cut, definitions, brought)
-                lines = sum(len(definitions[key]) for key in keys)
-                print(f"{function}: {lines} lines, {len(keys)} definitions, {len(types)} types of the code")
-                count = collections.Counter()
-                for key in keys:
-                    count[key[0]] += len(definitions[key])
-                if whole:
-                    print("   " + ", ".join(f"{name} {size}" for name, size in count.most_common()))
-                    for key in sorted(keys):
-                        print(f"      {len(definitions[key]):3} {'.'.join(key)}")
+                found[function] = cone(cited([head.group(0)], (crate, ""), definitions, brought), cut, definitions, brought)
+    return found
+
+
+def table():
+    """The text between the marks of the page."""
+    definitions, brought = all_definitions()
+    rows = ["", "| command | law | lines to read |", "| --- | --- | --- |"]
+    for command, laws in COMMANDS:
+        cut = LINK if command.startswith("`") else set()
+        for law, (keys, _) in counts("spiral_main", laws, cut, definitions, brought).items():
+            rows.append(f"| {command} | `{law}` | {sum(len(definitions[key]) for key in keys):,} |")
+    return "\n".join(rows + ["", ""])
+
+
+def page(write):
+    text = PAGE.read_text()
+    before, rest = text.split(BEGIN)
+    told, after = rest.split(END)
+    now = table()
+    if write:
+        PAGE.write_text(before + BEGIN + now + END + after)
+    elif told != now:
+        sys.exit("docs/PROVED.md: the table of commands is not what bench/cone.py counts; bench/cone.py --write")
+
+
+def main(crate, functions, cut, whole):
+    definitions, brought = all_definitions()
+    for function, (keys, types) in counts(crate, functions, cut, definitions, brought).items():
+        lines = sum(len(definitions[key]) for key in keys)
+        print(f"{function}: {lines} lines, {len(keys)} definitions, {len(types)} types of the code")
+        count = collections.Counter()
+        for key in keys:
+            count[key[0]] += len(definitions[key])
+        if whole:
+            print("   " + ", ".join(f"{name} {size}" for name, size in count.most_common()))
+            for key in sorted(keys):
+                print(f"      {len(definitions[key]):3} {'.'.join(key)}")
 
 
 if __name__ == "__main__":
-    words = [w for w in sys.argv[1:] if w != "--all"]
+    os.chdir(TOP)
+    words = [w for w in sys.argv[1:] if w not in ("--all", "--write")]
     at = words.index("--cut") if "--cut" in words else len(words)
-    main(words[0], words[1:at], set(words[at + 1:]), "--all" in sys.argv)
+    if words:
+        main(words[0], words[1:at], set(words[at + 1:]), "--all" in sys.argv)
+    else:
+        page("--write" in sys.argv)

@@ -37,8 +37,8 @@ use Rattle.spiral_input.specs.Stage.{HasGiven}
 use Rattle.spiral_input.proofs.InputLemmas.{none_read, none_left, none_cut, still_ended}
 use Rattle.spiral_input.specs.Outcomes.{Meets, ToldMeets}
 use Rattle.spiral_input.proofs.OutcomeLemmas.{meets_nothing}
-use Rattle.spiral_input.proofs.DataLemmas.{reads_vectors, lines_equal}
-use Rattle.spiral_input.proofs.LineLemmas.{line_there}
+use Rattle.spiral_input.proofs.DataLemmas.{fine_by, reads_vectors, lines_equal}
+use Rattle.spiral_input.proofs.LineLemmas.{room_after, line_there}
 use Rattle.stream_run.specs.Progress.{HasCome, ReadsData, StreamsBehind, StreamsOn, lacking, HasNoVector}
 use Rattle.stream_run.specs.Stream.{run_text, lines, group_vectors, vectors_of, data_answer, data_vectors, HasNoStranger, Writes}
 use Rattle.stream_run.specs.declared.stream.StreamFault.{StreamFault}
@@ -83,29 +83,29 @@ no_list wanted request room bytes answer status same a v = (
 )
 
 lacks : (wanted : Command) (request : Request) (old new : Fed) (bytes rest : List ℕ) (out : Option (List ℕ)) (result : Result (Unit {0}) StreamFault)
-    → IsConvolvable request → old.taken ≤ limit → result ≢ Err stream.WriteFault → ReadsData request.size request.modulus old new (Some bytes) (Some rest) [] result
+    → IsConvolvable request → old.taken ≤ limit → (lacking request.size result ≢ stream.TooLong → new.taken ≤ limit) → result ≢ Err stream.WriteFault → ReadsData request.size request.modulus old new (Some bytes) (Some rest) [] result
     → Meets (data_outcomes wanted request (limit - old.taken)) bytes (Some rest) out out (status_of_fault (lacking request.size result))
-lacks wanted request old new bytes rest out (Ok u) able start other r = record {
+lacks wanted request old new bytes rest out (Ok u) able start ends other r = record {
   answer = λ d. ([], inr (able, no_list wanted request (limit - old.taken) bytes (Ok u) _ refl (r.told start).0 (r.told start).1), Appends-nil out);
   read_fault = λ e. absurd (cc);
   write_fault = λ e. absurd (cc);
 }
-lacks wanted request old new bytes rest out (Err (stream.Truncated have need)) able start other r = record {
+lacks wanted request old new bytes rest out (Err (stream.Truncated have need)) able start ends other r = record {
   answer = λ d. ([], inr (able, no_list wanted request (limit - old.taken) bytes (Err (stream.Truncated have need)) _ refl (r.told start).0 (r.told start).1), Appends-nil out);
   read_fault = λ e. absurd (cc);
   write_fault = λ e. absurd (cc);
 }
-lacks wanted request old new bytes rest out (Err (stream.BadNumber token)) able start other r = record {
+lacks wanted request old new bytes rest out (Err (stream.BadNumber token)) able start ends other r = record {
   answer = λ d. ([], inr (able, no_list wanted request (limit - old.taken) bytes (Err (stream.BadNumber token)) _ refl (r.told start).0 (r.told start).1), Appends-nil out);
   read_fault = λ e. absurd (cc);
   write_fault = λ e. absurd (cc);
 }
-lacks wanted request old new bytes rest out (Err stream.TooLong) able start other r = record {
+lacks wanted request old new bytes rest out (Err stream.TooLong) able start ends other r = record {
   answer = λ d. ([], inr (able, no_list wanted request (limit - old.taken) bytes (Err stream.TooLong) _ refl (r.told start).0 (r.told start).1), Appends-nil out);
   read_fault = λ e. absurd (cc);
   write_fault = λ e. absurd (cc);
 }
-lacks wanted request old new bytes rest out (Err stream.ReadFault) able start other r = record {
+lacks wanted request old new bytes rest out (Err stream.ReadFault) able start ends other r = record {
   answer = λ d. absurd (d.read refl);
   read_fault = λ _. (
     r.read,
@@ -114,7 +114,7 @@ lacks wanted request old new bytes rest out (Err stream.ReadFault) able start ot
     (
       able,
       (
-        r.answer.1,
+        fine_by old.taken new.taken r.read r.answer.0 (ends (λ e. cc)) r.answer.1,
         subst (GoesOnBehind wanted) (sym r.answer.2) (none_behind wanted),
         subst (λ vectors. IsConvText wanted request vectors []) (sym r.answer.2) refl,
       ),
@@ -123,16 +123,16 @@ lacks wanted request old new bytes rest out (Err stream.ReadFault) able start ot
   );
   write_fault = λ e. absurd (cc);
 }
-lacks wanted request old new bytes rest out (Err stream.WriteFault) able start other r = absurd (other refl)
+lacks wanted request old new bytes rest out (Err stream.WriteFault) able start ends other r = absurd (other refl)
 
 pub convolves_lacking : (wanted : Command) (request : Request) (old new : Fed) (before after out : Option (List ℕ)) (fault : StreamFault)
-    → IsConvolvable request → old.taken ≤ limit → HasNoVector request.size request.modulus old new before after fault
+    → IsConvolvable request → old.taken ≤ limit → (fault ≢ stream.TooLong → new.taken ≤ limit) → HasNoVector request.size request.modulus old new before after fault
     → ToldMeets (data_outcomes wanted request (limit - old.taken)) before after out out (status_of_fault fault)
-convolves_lacking wanted request old new None after out fault able start none = tt
-convolves_lacking wanted request old new (Some bytes) None out fault able start none = absurd none.2.consumed
-convolves_lacking wanted request old new (Some bytes) (Some rest) out fault able start none =
+convolves_lacking wanted request old new None after out fault able start ends none = tt
+convolves_lacking wanted request old new (Some bytes) None out fault able start ends none = absurd none.2.consumed
+convolves_lacking wanted request old new (Some bytes) (Some rest) out fault able start ends none =
     subst (λ f. Meets (data_outcomes wanted request (limit - old.taken)) bytes (Some rest) out out (status_of_fault f)) (sym none.3)
-    (lacks wanted request old new bytes rest out none.0 able start none.1 none.2)
+    (lacks wanted request old new bytes rest out none.0 able start (subst (λ (f : StreamFault). f ≢ stream.TooLong → new.taken ≤ limit) none.3 ends) none.1 none.2)
 
 -- The listing
 
@@ -170,10 +170,10 @@ convolves_listing schedule request cut old new (Some bytes) (Some rest) out out'
 pub convolves_cut : (schedule : Plan) (request : Request) (cut : Cut) (old new : Fed) (before after out out' : Option (List ℕ)) (h listing : List ℕ) (program : Program)
     → cut.size ≡ request.size → 0 < request.size → HasCome request.modulus cut old new before after (h ∷ []) → new.taken ≤ limit → (cut.ended ≡ true → IsAtEnd after)
     → IsListProgram request h program → listing ≡ listing_of (plain_program program) → AppendsPrefix out out' listing
-    → (room : ℕ) → ToldMeets (data_outcomes (listing_for schedule) request room) before after out out' WriteFault
-convolves_cut schedule request cut old new None after out out' h listing program size some come within end made same wrote room = tt
-convolves_cut schedule request cut old new (Some bytes) None out out' h listing program size some come within end made same wrote room = absurd come.progress.consumed
-convolves_cut schedule request cut old new (Some bytes) (Some rest) out out' h listing program size some come within end made same wrote room =
+    → ToldMeets (data_outcomes (listing_for schedule) request (limit - old.taken)) before after out out' WriteFault
+convolves_cut schedule request cut old new None after out out' h listing program size some come within end made same wrote = tt
+convolves_cut schedule request cut old new (Some bytes) None out out' h listing program size some come within end made same wrote = absurd come.progress.consumed
+convolves_cut schedule request cut old new (Some bytes) (Some rest) out out' h listing program size some come within end made same wrote =
     let r = come_unwritten request.modulus cut old new (Some bytes) (Some rest) (h ∷ []) (omega (arith, some, size)) within end come in
     let seen : vectors_of request.size request.modulus (tokens r.read) ≡ h ∷ [] = ap (λ n. vectors_of n request.modulus (tokens r.read)) (sym size) ∙ r.answer.3 in
     record {
@@ -181,13 +181,15 @@ convolves_cut schedule request cut old new (Some bytes) (Some rest) out out' h l
       read_fault = λ e. absurd (cc);
       write_fault = λ _. (
         r.read,
+        [],
         rest,
         listing,
         r.consumed,
+        refl,
         (
           (made.tree, made.planned),
           (
-            r.answer.1,
+            fine_by old.taken new.taken r.read r.answer.0 within r.answer.1,
             r.answer.2,
             subst (λ vectors. IsConvText (listing_for schedule) request vectors listing) (sym seen) (program, made, same),
           ),
@@ -242,48 +244,50 @@ lines_answer schedule request room bytes h later result text out out' able a v s
 
 -- by each way in which it may end
 lines_ended : (schedule : Plan) (request : Request) (old new : Fed) (bytes rest h : List ℕ) (later : List (List ℕ)) (out out' : Option (List ℕ)) (text : List ℕ) (result : Result (Unit {0}) StreamFault)
-    → IsConvolvable request → old.taken ≤ limit → ReadsData request.size request.modulus old new (Some bytes) (Some rest) (h ∷ later) result → text ≡ conv_lines request h later → Writes out out' result text
+    → IsConvolvable request → old.taken ≤ limit → (result ≢ Err stream.TooLong → new.taken ≤ limit) → ReadsData request.size request.modulus old new (Some bytes) (Some rest) (h ∷ later) result → text ≡ conv_lines request h later → Writes out out' result text
     → Meets (data_outcomes (lines_for schedule) request (limit - old.taken)) bytes (Some rest) out out' (status_of_stream result)
-lines_ended schedule request old new bytes rest h later out out' text (Ok u) able start r same wrote = record {
+lines_ended schedule request old new bytes rest h later out out' text (Ok u) able start ends r same wrote = record {
   answer = λ d. lines_answer schedule request (limit - old.taken) bytes h later (Ok u) text out out' able (r.told start).0 (r.told start).1 same wrote;
   read_fault = λ e. absurd (cc);
   write_fault = λ e. absurd (cc);
 }
-lines_ended schedule request old new bytes rest h later out out' text (Err (stream.Truncated have need)) able start r same wrote = record {
+lines_ended schedule request old new bytes rest h later out out' text (Err (stream.Truncated have need)) able start ends r same wrote = record {
   answer = λ d. lines_answer schedule request (limit - old.taken) bytes h later (Err (stream.Truncated have need)) text out out' able (r.told start).0 (r.told start).1 same wrote;
   read_fault = λ e. absurd (cc);
   write_fault = λ e. absurd (cc);
 }
-lines_ended schedule request old new bytes rest h later out out' text (Err (stream.BadNumber token)) able start r same wrote = record {
+lines_ended schedule request old new bytes rest h later out out' text (Err (stream.BadNumber token)) able start ends r same wrote = record {
   answer = λ d. lines_answer schedule request (limit - old.taken) bytes h later (Err (stream.BadNumber token)) text out out' able (r.told start).0 (r.told start).1 same wrote;
   read_fault = λ e. absurd (cc);
   write_fault = λ e. absurd (cc);
 }
-lines_ended schedule request old new bytes rest h later out out' text (Err stream.TooLong) able start r same wrote = record {
+lines_ended schedule request old new bytes rest h later out out' text (Err stream.TooLong) able start ends r same wrote = record {
   answer = λ d. lines_answer schedule request (limit - old.taken) bytes h later (Err stream.TooLong) text out out' able (r.told start).0 (r.told start).1 same wrote;
   read_fault = λ e. absurd (cc);
   write_fault = λ e. absurd (cc);
 }
-lines_ended schedule request old new bytes rest h later out out' text (Err stream.ReadFault) able start r same wrote = record {
+lines_ended schedule request old new bytes rest h later out out' text (Err stream.ReadFault) able start ends r same wrote = record {
   answer = λ d. absurd (d.read refl);
   read_fault = λ _. (
     r.read,
     text,
     r.consumed,
-    (able, (r.answer.1, tt, subst (λ vectors. IsConvText (lines_for schedule) request vectors text) (sym r.answer.2) same)),
+    (able, (fine_by old.taken new.taken r.read r.answer.0 (ends (λ e. cc)) r.answer.1, tt, subst (λ vectors. IsConvText (lines_for schedule) request vectors text) (sym r.answer.2) same)),
     wrote,
   );
   write_fault = λ e. absurd (cc);
 }
-lines_ended schedule request old new bytes rest h later out out' text (Err stream.WriteFault) able start r same wrote = record {
+lines_ended schedule request old new bytes rest h later out out' text (Err stream.WriteFault) able start ends r same wrote = record {
   answer = λ d. absurd (d.write refl);
   read_fault = λ e. absurd (cc);
   write_fault = λ _. (
     r.read,
+    [],
     rest,
     text,
     r.consumed,
-    (able, (r.answer.1, r.answer.2, subst (λ vectors. IsConvText (lines_for schedule) request vectors text) (sym r.answer.3) same)),
+    refl,
+    (able, (fine_by old.taken new.taken r.read r.answer.0 (ends (λ e. cc)) r.answer.1, r.answer.2, subst (λ vectors. IsConvText (lines_for schedule) request vectors text) (sym r.answer.3) same)),
     wrote,
   );
 }
@@ -296,16 +300,16 @@ conv_turns schedule request procs own one none =
 
 run_told : {S : Type 0} (schedule : Plan) (request : Request) (code : Code) (old new : Fed) (before after out out' : Option (List ℕ)) (h : List ℕ) (program : Program) (leaves : List ℕ → S) (first last : S)
     (result : Result (Unit {0}) StreamFault)
-    → IsListProgram request h program → code ≡ code_of program → request.procs ≡ 1 → 0 < request.modulus → HasNoStranger schedule 1 → old.taken ≤ limit
+    → IsListProgram request h program → code ≡ code_of program → request.procs ≡ 1 → 0 < request.modulus → HasNoStranger schedule 1 → old.taken ≤ limit → (result ≢ Err stream.TooLong → new.taken ≤ limit)
     → StreamsBehind (h ∷ []) (run_text false code (turns_of schedule code.procs)) leaves request.size request.modulus old new before after out out' first last result
     → ToldMeets (data_outcomes (lines_for schedule) request (limit - old.taken)) before after out out' (status_of_stream result)
-run_told schedule request code old new None after out out' h program leaves first last result made same own some none start s = tt
-run_told schedule request code old new (Some bytes) None out out' h program leaves first last result made same own some none start s = absurd s.reads.consumed
-run_told schedule request code old new (Some bytes) (Some rest) out out' h program leaves first last result made same own some none start s =
+run_told schedule request code old new None after out out' h program leaves first last result made same own some none start ends s = tt
+run_told schedule request code old new (Some bytes) None out out' h program leaves first last result made same own some none start ends s = absurd s.reads.consumed
+run_told schedule request code old new (Some bytes) (Some rest) out out' h program leaves first last result made same own some none start ends s =
     let turns = turns_of schedule code.procs in
     let one : code.procs ≡ 1 = ap (λ (k : Code). k.procs) same ∙ made.convolver.header.procs ∙ own in
     let whole = reads_vectors request.size request.modulus old new s.reads.read (rest ≡ []) (h ∷ s.later) result s.reads.answer in
-    lines_ended schedule request old new bytes rest h s.later out out' (lines (λ x. results code x turns) s.later) result (made.tree, made.planned) start s.reads
+    lines_ended schedule request old new bytes rest h s.later out out' (lines (λ x. results code x turns) s.later) result (made.tree, made.planned) start ends s.reads
     (convolved_lines request h program code turns s.later made same some (conv_turns schedule request code.procs own one none) whole) s.wrote
 
 -- the list has come, by what the machine's code says of the modulus
@@ -317,14 +321,14 @@ list_come request code cut old now before mid h program made same come =
 -- the machine runs behind the list
 pub convolves_run : {S : Type 0} (schedule : Plan) (request : Request) (code : Code) (cut : Cut) (old now new : Fed) (before mid after out out' : Option (List ℕ)) (h : List ℕ) (program : Program) (leaves : List ℕ → S) (first last : S)
     (result : Result (Unit {0}) StreamFault)
-    → IsListProgram request h program → code ≡ code_of program → cut.size ≡ request.size → request.procs ≡ 1 → 0 < request.modulus → HasNoStranger schedule 1 → old.taken ≤ limit
+    → IsListProgram request h program → code ≡ code_of program → cut.size ≡ request.size → request.procs ≡ 1 → 0 < request.modulus → HasNoStranger schedule 1 → old.taken ≤ limit → (result ≢ Err stream.TooLong → new.taken ≤ limit)
     → HasCome request.modulus cut old now before mid (h ∷ [])
     → StreamsOn (run_text false code (turns_of schedule code.procs)) leaves code.modulus cut now new mid after out out' first last result
     → ToldMeets (data_outcomes (lines_for schedule) request (limit - old.taken)) before after out out' (status_of_stream result)
-convolves_run schedule request code cut old now new before mid after out out' h program leaves first last result made same size own some none start come s =
+convolves_run schedule request code cut old now new before mid after out out' h program leaves first last result made same size own some none start ends come s =
     let text : List ℕ → List ℕ = run_text false code (turns_of schedule code.procs) in
     let modulus : code.modulus ≡ request.modulus = ap (λ (k : Code). k.modulus) same ∙ made.convolver.header.modulus in
-    run_told schedule request code old new before after out out' h program leaves first last result made same own some none start
+    run_told schedule request code old new before after out out' h program leaves first last result made same own some none start ends
     (subst (λ n. StreamsBehind (h ∷ []) text leaves n request.modulus old new before after out out' first last result) size
     (subst (λ m. StreamsBehind (h ∷ []) text leaves cut.size m old new before after out out' first last result) modulus
     (s old before (h ∷ []) (list_come request code cut old now before mid h program made same come))))
@@ -383,23 +387,28 @@ convolves_after wanted bytes read rest taken request left out out' status whole 
             inr (
               request,
               over found.0 (IsAtEnd left) none (none_left rest found.0 left found.2) found.3.0,
-              subst (λ b. BreaksOffConv wanted request b found.1) (sym (asked.1 found.0 none).1) found.3.1,
+              subst (λ n. BreaksOffConv wanted request n (data_of (read ++ found.0)) found.1) (room_after read found.0 taken asked.0 (asked.1 found.0 none).1)
+                  (subst (λ b. BreaksOffConv wanted request (limit - taken) b found.1) (sym (asked.1 found.0 none).1) found.3.1),
             ),
             found.4,
           );
       write_fault = λ e.
           let found = p.write_fault e in
-          let none : rest ≡ [] → found.0 ≡ [] = λ end. (none_cut rest found.0 found.1 found.3 end).0 in (
+          let later : List ℕ = found.1 ++ found.2 in
+          let none : rest ≡ [] → found.0 ≡ [] = λ end. (none_cut rest found.0 later found.4 end).0 in (
             read ++ found.0,
             found.1,
             found.2,
-            whole ∙ ap (λ l. read ++ l) found.3 ∙ sym (append_assoc read found.0 found.1),
+            found.3,
+            whole ∙ ap (λ l. read ++ l) found.4 ∙ sym (append_assoc read found.0 later),
+            found.5,
             (
               request,
-              over found.0 (found.1 ≡ []) none (λ end. (none_cut rest found.0 found.1 found.3 end).1) found.4.0,
-              subst (λ b. ComesToConv wanted request b found.1 found.2) (sym (asked.1 found.0 none).1) found.4.1,
+              over found.0 (later ≡ []) none (λ end. (none_cut rest found.0 later found.4 end).1) found.6.0,
+              subst (λ n. ComesToConv wanted request n (data_of (read ++ found.0)) later found.3) (room_after read found.0 taken asked.0 (asked.1 found.0 none).1)
+                  (subst (λ b. ComesToConv wanted request (limit - taken) b later found.3) (sym (asked.1 found.0 none).1) found.6.1),
             ),
-            found.5,
+            found.7,
           );
     }
 

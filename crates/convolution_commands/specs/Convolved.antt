@@ -1,12 +1,11 @@
 -- What `convolve` answers: it goes by a request for convolutions, which the first line spells, and by a list, which is the first vector of the data.
 use Rattle.std.specs.Prelude.{◌≡◌, ◌⊎◌, ℕ, true, false, List, [], ◌∷◌, Ok, Err, Result}
-use Rattle.std.specs.List.{list_all}
 use Rattle.convolution.specs.Convolution.{convolution}
 use Rattle.convolver.specs.Convolver.{IsConvolver}
 use Rattle.convolver.specs.Letters.{conv_program}
 use Rattle.convolver.specs.Planned.{IsConvPlanned}
 use Rattle.plan_faults.specs.declared.convolving.ConvFault.{ConvFault}
-use Rattle.data_stream.specs.Data.{tokens, closed_part, is_good}
+use Rattle.data_stream.specs.Data.{tokens, closed_part}
 use Rattle.icode.specs.declared.program.Program.{Program}
 use Rattle.icode.specs.Program.{plain_program}
 use Rattle.listing_text.specs.Listing.{listing_of}
@@ -20,6 +19,7 @@ use Rattle.spiral_status.specs.declared.status.Status.TheVariants.{Success}
 use Rattle.spiral_status.specs.Fault.{status_of_conv, status_of_fault, status_of_request, status_of_stream}
 use Rattle.spiral_input.specs.Asking.{asked_by}
 use Rattle.spiral_input.specs.Line.{data_of, room_behind, HasEnded, IsPartOfLine}
+use Rattle.spiral_input.specs.Fine.{IsFine}
 use Rattle.spiral_input.specs.Outcomes.{Outcomes}
 use Rattle.spiral_input.specs.Stage.{Stage, ◌>>=◌, IsAnswerBy, IsBrokenBy, IsCutBy}
 use Rattle.stream_run.specs.Progress.{lacking}
@@ -112,27 +112,27 @@ abbrev pub GoesOnBehind : Command → List (List ℕ) → Type 0
 GoesOnBehind (command.Convolve schedule true) vectors = vectors ≡ []
 GoesOnBehind _ vectors = Unit {0}
 
--- The bytes behind the line show no fault so far, and the text is that of the vectors that are whole in them, though more may follow
-abbrev pub BreaksOffConv : Command → Request → List ℕ → List ℕ → Type 0
-BreaksOffConv wanted request bytes text =
-    (list_all is_good (tokens bytes) ≡ true) × GoesOnBehind wanted (vectors_of request.size request.modulus (tokens (closed_part bytes)))
+-- The bytes behind the line, of which so many may come, show no fault so far, and the text is that of the vectors that are whole in them, though more may follow
+abbrev pub BreaksOffConv : Command → Request → ℕ → List ℕ → List ℕ → Type 0
+BreaksOffConv wanted request room bytes text =
+    IsFine room bytes × GoesOnBehind wanted (vectors_of request.size request.modulus (tokens (closed_part bytes)))
     × IsConvText wanted request (vectors_of request.size request.modulus (tokens (closed_part bytes))) text
 
 -- The bytes that were read show no fault: they are a part of the line, and nothing is written, or a request and a part of its data
 abbrev pub IsBrokenConv : Command → List ℕ → Type 0 → List ℕ → Type 0
 IsBrokenConv wanted read ended text =
-    IsBrokenBy (IsPartOfLine read) (HasEnded read ended) (conv_in wanted read) (λ (request : Request). BreaksOffConv wanted request (data_of read)) text
+    IsBrokenBy (IsPartOfLine read) (HasEnded read ended) (conv_in wanted read) (λ (request : Request). BreaksOffConv wanted request (room_behind read) (data_of read)) text
 
 -- The text to which the command has come by the bytes that it read behind the line, where this is left
-abbrev pub ComesToConv : Command → Request → List ℕ → List ℕ → List ℕ → Type 0
-ComesToConv wanted request bytes left text =
-    (list_all is_good (tokens bytes) ≡ true) × ((closed_part bytes ≡ bytes) ⊎ (left ≡ []))
+abbrev pub ComesToConv : Command → Request → ℕ → List ℕ → List ℕ → List ℕ → Type 0
+ComesToConv wanted request room bytes left text =
+    IsFine room bytes × ((closed_part bytes ≡ bytes) ⊎ (left ≡ []))
     × IsConvText wanted request (vectors_of request.size request.modulus (tokens bytes)) text
 
 -- The text to which a call has come by the bytes that were read, where this is left
 abbrev pub IsCutConv : Command → List ℕ → List ℕ → List ℕ → Type 0
 IsCutConv wanted read left text =
-    IsCutBy (HasEnded read (left ≡ [])) (conv_in wanted read) (λ (request : Request). ComesToConv wanted request (data_of read) left) text
+    IsCutBy (HasEnded read (left ≡ [])) (conv_in wanted read) (λ (request : Request). ComesToConv wanted request (room_behind read) (data_of read) left) text
 
 -- what is right for `convolve`
 abbrev pub conv_outcomes : Command → Outcomes
@@ -150,6 +150,6 @@ EndsConv wanted request room bytes status text =
 abbrev pub data_outcomes : Command → Request → ℕ → Outcomes
 data_outcomes wanted request room = record {
   answer = EndsConv wanted request room;
-  broken = λ read ended text. IsConvolvable request × BreaksOffConv wanted request read text;
-  cut = λ read rest text. IsConvolvable request × ComesToConv wanted request read rest text;
+  broken = λ read ended text. IsConvolvable request × BreaksOffConv wanted request room read text;
+  cut = λ read rest text. IsConvolvable request × ComesToConv wanted request room read rest text;
 }

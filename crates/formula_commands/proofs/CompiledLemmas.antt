@@ -29,6 +29,7 @@ use Rattle.spiral_words.specs.declared.Command.TheVariants as command
 use Rattle.spiral_status.specs.declared.status.Status.{Status}
 use Rattle.spiral_status.specs.declared.status.Status.TheVariants.{Success, Turn, ReadFault, WriteFault, NoMemory, TooLong}
 use Rattle.stream_run.specs.declared.stream.StreamFault.{StreamFault}
+use Rattle.stream_run.specs.declared.stream.StreamFault.TheVariants as stream
 use Rattle.spiral_input.specs.Commands.{admitted, first_stranger, procs_named}
 use Rattle.formula_commands.specs.Compiled.{formula_limit, formula_line, written, formed, formula_in, IsAppliedText, SettlesFormula, BreaksOffFormula, ComesToFormula, IsCompiledText, IsFormulaCode, GivesText, formula_outcomes}
 use Rattle.spiral_status.specs.Fault.{status_of_stream, status_of_text}
@@ -40,7 +41,7 @@ use Rattle.spiral_input.proofs.InputLemmas.{none_read, none_left, none_cut, stil
 use Rattle.spiral_input.specs.Outcomes.{Meets, ToldMeets}
 use Rattle.spiral_input.proofs.OutcomeLemmas.{meets_nothing}
 use Rattle.spiral_input.proofs.DataLemmas.{RunsOver, runs_over, lines_equal}
-use Rattle.spiral_input.proofs.LineLemmas.{line_there}
+use Rattle.spiral_input.proofs.LineLemmas.{room_after, line_there}
 
 -- The line
 
@@ -155,9 +156,11 @@ computes_cut m (Some bytes) (Some rest) out out' read text listing consumed whol
       read_fault = λ e. absurd (cc);
       write_fault = λ _. (
         read,
+        [],
         rest,
         listing,
         consumed,
+        refl,
         (
           made.0,
           record {
@@ -183,6 +186,7 @@ computes_after m schedule bytes read rest text taken formula left out out' statu
     let all : length bytes ≡ length read + length rest = ap length cut ∙ length-append read rest in
     let same : length (data_of bytes) ≡ length rest = ap length behind in
     let room : limit - taken ≡ room_behind bytes = ap (λ n. limit - n) (omega (arith, count, all, same)) in
+    let room_there : (more : List ℕ) → data_of (read ++ more) ≡ more → limit - taken ≡ room_behind (read ++ more) = λ more is. room_after read more taken count is in
     let line : HasEnded read (rest ≡ []) = line_there read rest (λ more none. (whole more none).1) in
     let by : (more : List ℕ) → (rest ≡ [] → more ≡ []) → formula_in wanted (read ++ more) (Ok formula) = ordered_by wanted read rest text formula whole short orders in
     record {
@@ -210,7 +214,8 @@ computes_after m schedule bytes read rest text taken formula left out out' statu
                 front = still_ended read found.0 (rest ≡ []) (IsAtEnd left) line (none_left rest found.0 left found.2);
                 gives = by found.0 none;
               },
-              subst (λ b. BreaksOffFormula wanted formula b found.1) (sym data_is) (found.3, found.4),
+              subst (λ n. BreaksOffFormula wanted formula n (data_of (read ++ found.0)) found.1) (room_there found.0 data_is)
+                  (subst (λ b. BreaksOffFormula wanted formula (limit - taken) b found.1) (sym data_is) (found.3, found.4)),
             ),
             found.5,
           );
@@ -219,18 +224,21 @@ computes_after m schedule bytes read rest text taken formula left out out' statu
           let none = none_cut rest found.0 found.1 found.3 in
           let data_is : data_of (read ++ found.0) ≡ found.0 = (whole found.0 (λ end. (none end).0)).1 in (
             read ++ found.0,
+            [],
             found.1,
             found.2,
             cut ∙ ap (λ l. read ++ l) found.3 ∙ sym (append_assoc read found.0 found.1),
+            found.4,
             (
               formula,
               record {
                 front = still_ended read found.0 (rest ≡ []) (found.1 ≡ []) line (λ end. (none end).1);
                 gives = by found.0 (λ end. (none end).0);
               },
-              subst (λ b. ComesToFormula wanted formula b found.1 found.2) (sym data_is) (found.4, found.5, found.6),
+              subst (λ n. ComesToFormula wanted formula n (data_of (read ++ found.0)) found.1 found.2) (room_there found.0 data_is)
+                  (subst (λ b. ComesToFormula wanted formula (limit - taken) b found.1 found.2) (sym data_is) (found.5, found.6, found.7)),
             ),
-            found.7,
+            found.8,
           );
     }
 
@@ -251,14 +259,14 @@ formula_turns schedule procs one none =
     (All-from_get_or (λ q. q < 1) (turns_of schedule 1) 0 (turns_there schedule 1 (omega arith) (subst (HasNoStranger schedule) one none)))
 
 pub computes_run : (m : ℕ) (schedule : Plan) (code : Code) (old new : Fed) (before mid after out out' : Option (List ℕ)) (read text : List ℕ) (first last : State) (result : Result (Unit {0}) StreamFault)
-    → Consumes before mid read → old.taken ≡ length read → IsWholeLine read (IsAtEnd mid) text → length text ≤ formula_limit → length read ≤ length text + 1
+    → Consumes before mid read → old.taken ≡ length read → IsWholeLine read (IsAtEnd mid) text → length text ≤ formula_limit → length read ≤ length text + 1 → (result ≢ Err stream.TooLong → new.taken ≤ limit)
     → IsFormulaCode m (command.Apply m schedule) text code → HasNoStranger schedule code.procs
     → Streams (run_text false code (turns_of schedule code.procs)) (λ x. runs code x (turns_of schedule code.procs)) code.size code.modulus old new mid after out out' first last result
     → ToldMeets (formula_outcomes (command.Apply m schedule)) before after out out' (status_of_stream result)
-computes_run m schedule code old new None mid after out out' read text first last result consumed count whole short few made none s = tt
-computes_run m schedule code old new (Some bytes) None after out out' read text first last result consumed count whole short few made none s = absurd consumed
-computes_run m schedule code old new (Some bytes) (Some rest) None out out' read text first last result consumed count whole short few made none s = absurd s.consumed
-computes_run m schedule code old new (Some bytes) (Some rest) (Some left) out out' read text first last result consumed count whole short few made none s =
+computes_run m schedule code old new None mid after out out' read text first last result consumed count whole short few ends made none s = tt
+computes_run m schedule code old new (Some bytes) None after out out' read text first last result consumed count whole short few ends made none s = absurd consumed
+computes_run m schedule code old new (Some bytes) (Some rest) None out out' read text first last result consumed count whole short few ends made none s = absurd s.consumed
+computes_run m schedule code old new (Some bytes) (Some rest) (Some left) out out' read text first last result consumed count whole short few ends made none s =
     let formula : Formula = made.0 in
     let program : Program = made.1 in
     let is : IsCodeOf m formula program = made.3.code in
@@ -271,4 +279,4 @@ computes_run m schedule code old new (Some bytes) (Some rest) (Some left) out ou
     (subst (λ n. Streams (run_text false code turns) (λ x. runs code x turns) n code.modulus old new (Some rest) (Some left) out out' first last result) size s) in
     computes_after m schedule bytes read rest text old.taken formula (Some left) out out' (status_of_stream result) consumed count whole short made.2
     (runs_over (IsAppliedText m formula) (size_of formula) m [] (run_text false code turns) (λ x. runs code x turns) old new rest left out out out' first last result
-    (formula_lines m formula program code turns is made.4 (formula_turns schedule code.procs procs none)) (Appends-nil out) (omega (arith, count, short, few)) same)
+    (formula_lines m formula program code turns is made.4 (formula_turns schedule code.procs procs none)) (Appends-nil out) (omega (arith, count, short, few)) ends same)

@@ -1,7 +1,7 @@
 -- What `compile` and `apply` answer, which go by the formula that the first line spells.
-use Rattle.std.specs.Prelude.{◌≡◌, ◌≢◌, ◌⊎◌, ℕ, ◌+◌, ◌<◌, ◌≤◌, nat_le, true, false, List, [], ◌++◌, length, Vec, Ok, Err, Result, if◌then◌else◌}
+use Rattle.std.specs.Prelude.{◌≡◌, ◌≢◌, ◌⊎◌, ℕ, ◌+◌, ◌<◌, ◌≤◌, nat_le, false, List, [], ◌++◌, length, Vec, Ok, Err, Result, if◌then◌else◌}
 use Rattle.std.proofs.Common.{Global}
-use Rattle.std.specs.List.{list_all, list_any}
+use Rattle.std.specs.List.{list_any}
 use Rattle.icode.specs.Machine.{Code}
 use Rattle.icode.specs.Program.{plain_program, code_of}
 use Rattle.icode.specs.declared.program.Program.{Program}
@@ -15,7 +15,7 @@ use Rattle.spl_text.specs.declared.reading.SplFault.TheVariants as spl
 use Rattle.listing_text.specs.Listing.{listing_of}
 use Rattle.input_rest.specs.declared.RestFault.{RestFault}
 use Rattle.input_rest.specs.declared.RestFault.TheVariants as rest
-use Rattle.data_stream.specs.Data.{tokens, closed_part, is_good}
+use Rattle.data_stream.specs.Data.{tokens, closed_part}
 use Rattle.spiral_words.specs.declared.Command.{Command}
 use Rattle.spiral_words.specs.declared.Command.TheVariants as command
 use Rattle.spiral_status.specs.declared.status.Status.{Status}
@@ -23,6 +23,7 @@ use Rattle.spiral_status.specs.declared.status.Status.TheVariants.{Success, TooL
 use Rattle.spiral_status.specs.Fault.{status_of_spl, status_of_stream, status_of_text}
 use Rattle.spiral_input.specs.Commands.{admitted, first_stranger, procs_named}
 use Rattle.spiral_input.specs.Line.{is_line_end, first_line, data_of, room_behind, HasEnded, IsWholeLine}
+use Rattle.spiral_input.specs.Fine.{IsFine}
 use Rattle.spiral_input.specs.Outcomes.{Outcomes}
 use Rattle.spiral_input.specs.Stage.{Stage, given, ◌>>=◌, IsAnswerBy, IsBrokenBy, IsCutBy}
 use Rattle.stream_run.specs.Stream.{lines, vectors_of, data_answer, data_vectors}
@@ -88,29 +89,29 @@ pub record IsPartOfFormula (bytes : List ℕ) : Type 0 where
   pub unended : list_any is_line_end bytes ≡ false
   pub short : length bytes ≤ formula_limit
 
--- The bytes behind the line show no fault so far, and the text is that of the vectors that are whole in them, though more may follow. `compile` reads no such bytes
-abbrev pub BreaksOffFormula : Command → Formula → List ℕ → List ℕ → Type 0
-BreaksOffFormula (command.Apply m schedule) formula bytes text =
-    (list_all is_good (tokens bytes) ≡ true) × IsAppliedText m formula (vectors_of (size_of formula) m (tokens (closed_part bytes))) text
-BreaksOffFormula _ formula bytes text = ⊥
+-- The bytes behind the line, of which so many may come, show no fault so far, and the text is that of the vectors that are whole in them, though more may follow. `compile` reads no such bytes
+abbrev pub BreaksOffFormula : Command → Formula → ℕ → List ℕ → List ℕ → Type 0
+BreaksOffFormula (command.Apply m schedule) formula room bytes text =
+    IsFine room bytes × IsAppliedText m formula (vectors_of (size_of formula) m (tokens (closed_part bytes))) text
+BreaksOffFormula _ formula room bytes text = ⊥
 
 -- The bytes that were read show no fault: they are a part of the line, and nothing is written, or a formula and a part of its data
 abbrev pub IsBrokenFormula : Command → List ℕ → Type 0 → List ℕ → Type 0
 IsBrokenFormula wanted read ended text =
-    IsBrokenBy (IsPartOfFormula read) (HasEnded read ended) (formula_in wanted read) (λ (formula : Formula). BreaksOffFormula wanted formula (data_of read)) text
+    IsBrokenBy (IsPartOfFormula read) (HasEnded read ended) (formula_in wanted read) (λ (formula : Formula). BreaksOffFormula wanted formula (room_behind read) (data_of read)) text
 
 -- The text to which the command has come by the bytes that it read behind the line, where this is left
-abbrev pub ComesToFormula : Command → Formula → List ℕ → List ℕ → List ℕ → Type 0
-ComesToFormula (command.Compile m) formula bytes left text = (bytes ≡ []) × IsFormulaListing m formula text
-ComesToFormula (command.Apply m schedule) formula bytes left text =
-    (list_all is_good (tokens bytes) ≡ true) × ((closed_part bytes ≡ bytes) ⊎ (left ≡ []))
+abbrev pub ComesToFormula : Command → Formula → ℕ → List ℕ → List ℕ → List ℕ → Type 0
+ComesToFormula (command.Compile m) formula room bytes left text = (bytes ≡ []) × IsFormulaListing m formula text
+ComesToFormula (command.Apply m schedule) formula room bytes left text =
+    IsFine room bytes × ((closed_part bytes ≡ bytes) ⊎ (left ≡ []))
     × IsAppliedText m formula (vectors_of (size_of formula) m (tokens bytes)) text
-ComesToFormula _ formula bytes left text = ⊥
+ComesToFormula _ formula room bytes left text = ⊥
 
 -- The text to which a call has come by the bytes that were read, where this is left
 abbrev pub IsCutFormula : Command → List ℕ → List ℕ → List ℕ → Type 0
 IsCutFormula wanted read left text =
-    IsCutBy (HasEnded read (left ≡ [])) (formula_in wanted read) (λ (formula : Formula). ComesToFormula wanted formula (data_of read) left) text
+    IsCutBy (HasEnded read (left ≡ [])) (formula_in wanted read) (λ (formula : Formula). ComesToFormula wanted formula (room_behind read) (data_of read) left) text
 
 -- what is right for a command that goes by a formula
 abbrev pub formula_outcomes : Command → Outcomes

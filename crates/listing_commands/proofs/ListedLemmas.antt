@@ -21,6 +21,7 @@ use Rattle.request_text.specs.Schedule.{Plan}
 use Rattle.spiral_status.specs.declared.status.Status.{Status}
 use Rattle.spiral_status.specs.declared.status.Status.TheVariants.{Turn, ReadFault, WriteFault, NoMemory, TooLong}
 use Rattle.stream_run.specs.declared.stream.StreamFault.{StreamFault}
+use Rattle.stream_run.specs.declared.stream.StreamFault.TheVariants as stream
 use Rattle.spiral_input.specs.Commands.{stranger, admitted}
 use Rattle.spiral_status.specs.Fault.{status_of_part, status_of_stream}
 use Rattle.listing_commands.specs.Listed.{listing_limit, action_limit, listing_in, loaded, runnable, result_of, IsResultText, room_behind_listing, IsAnswerOfProgram, BreaksOffProgram, ComesToProgram, exec_outcomes}
@@ -138,6 +139,10 @@ executes_after schedule bytes read rest text taken program left out out' status 
     let all : length bytes ≡ length read + length rest = ap length cut ∙ length-append read rest in
     let same : length (second_part bytes) ≡ length rest = ap length behind in
     let room : limit - taken ≡ room_behind_listing bytes = ap (λ n. limit - n) (omega (arith, count, all, same)) in
+    let room_there : (more : List ℕ) → second_part (read ++ more) ≡ more → limit - taken ≡ room_behind_listing (read ++ more) = λ more is.
+    let whole : length (read ++ more) ≡ length read + length more = length-append read more in
+    let behind : length (second_part (read ++ more)) ≡ length more = ap length is in
+    ap (λ n. limit - n) (omega (arith, count, whole, behind)) in
     let runs : (more : List ℕ) → (rest ≡ [] → more ≡ []) → runnable schedule (read ++ more) (Ok program) =
     λ more none. record { value = text; before = sym (listing_short (read ++ more) text (whole.parts more none).0 short); behind = load } in
     record {
@@ -165,7 +170,8 @@ executes_after schedule bytes read rest text taken program left out out' status 
                 front = still_ended read found.0 (rest ≡ []) (IsAtEnd left) whole.end (none_left rest found.0 left found.2);
                 gives = runs found.0 none;
               },
-              subst (λ b. BreaksOffProgram program b found.1) (sym data_is) (found.3, found.4),
+              subst (λ n. BreaksOffProgram program n (second_part (read ++ found.0)) found.1) (room_there found.0 data_is)
+                  (subst (λ b. BreaksOffProgram program (limit - taken) b found.1) (sym data_is) (found.3, found.4)),
             ),
             found.5,
           );
@@ -174,33 +180,36 @@ executes_after schedule bytes read rest text taken program left out out' status 
           let none = none_cut rest found.0 found.1 found.3 in
           let data_is : second_part (read ++ found.0) ≡ found.0 = (whole.parts found.0 (λ end. (none end).0)).1 in (
             read ++ found.0,
+            [],
             found.1,
             found.2,
             cut ∙ ap (λ l. read ++ l) found.3 ∙ sym (append_assoc read found.0 found.1),
+            found.4,
             (
               program,
               record {
                 front = still_ended read found.0 (rest ≡ []) (found.1 ≡ []) whole.end (λ end. (none end).1);
                 gives = runs found.0 (λ end. (none end).0);
               },
-              subst (λ b. ComesToProgram program b found.1 found.2) (sym data_is) (found.4, found.5, found.6),
+              subst (λ n. ComesToProgram program n (second_part (read ++ found.0)) found.1 found.2) (room_there found.0 data_is)
+                  (subst (λ b. ComesToProgram program (limit - taken) b found.1 found.2) (sym data_is) (found.5, found.6, found.7)),
             ),
-            found.7,
+            found.8,
           );
     }
 
 pub executes_run : (schedule : Plan) (turns : List ℕ) (program : PlainProgram) (code : Code) (old new : Fed) (before mid after out out' : Option (List ℕ)) (read text : List ℕ) (first last : State) (result : Result (Unit {0}) StreamFault)
-    → Consumes before mid read → old.taken ≡ length read → IsWholePart read (IsAtEnd mid) text → length text ≤ listing_limit → length read ≤ length text + 1 → loaded schedule text (Ok program) → code ≡ plain_code program
+    → Consumes before mid read → old.taken ≡ length read → IsWholePart read (IsAtEnd mid) text → length text ≤ listing_limit → length read ≤ length text + 1 → (result ≢ Err stream.TooLong → new.taken ≤ limit) → loaded schedule text (Ok program) → code ≡ plain_code program
     → Streams (run_text false code turns) (λ x. runs code x turns) code.size code.modulus old new mid after out out' first last result
     → ToldMeets (exec_outcomes schedule) before after out out' (status_of_stream result)
-executes_run schedule turns program code old new None mid after out out' read text first last result consumed count whole short few load made s = tt
-executes_run schedule turns program code old new (Some bytes) None after out out' read text first last result consumed count whole short few load made s = absurd consumed
-executes_run schedule turns program code old new (Some bytes) (Some rest) None out out' read text first last result consumed count whole short few load made s = absurd s.consumed
-executes_run schedule turns program code old new (Some bytes) (Some rest) (Some left) out out' read text first last result consumed count whole short few load made s =
+executes_run schedule turns program code old new None mid after out out' read text first last result consumed count whole short few ends load made s = tt
+executes_run schedule turns program code old new (Some bytes) None after out out' read text first last result consumed count whole short few ends load made s = absurd consumed
+executes_run schedule turns program code old new (Some bytes) (Some rest) None out out' read text first last result consumed count whole short few ends load made s = absurd s.consumed
+executes_run schedule turns program code old new (Some bytes) (Some rest) (Some left) out out' read text first last result consumed count whole short few ends load made s =
     let own = plain_code program in
     let passes = loaded_passes schedule text program load in
     let same : Streams (run_text false own turns) (λ x. runs own x turns) own.size own.modulus old new (Some rest) (Some left) out out' first last result =
     subst (λ (k : Code). Streams (run_text false k turns) (λ x. runs k x turns) k.size k.modulus old new (Some rest) (Some left) out out' first last result) made s in
     executes_after schedule bytes read rest text old.taken program (Some left) out out' (status_of_stream result) consumed count whole short load
     (runs_over (IsResultText program) program.size program.modulus [] (run_text false own turns) (λ x. runs own x turns) old new rest left out out out' first last result
-    (λ ts. same_lines program turns passes (vectors_of program.size program.modulus ts)) (Appends-nil out) (omega (arith, count, short, few)) same)
+    (λ ts. same_lines program turns passes (vectors_of program.size program.modulus ts)) (Appends-nil out) (omega (arith, count, short, few)) ends same)

@@ -1,6 +1,5 @@
 -- What `exec` answers, which runs a listing only where its program passes the check.
-use Rattle.std.specs.Prelude.{◌≡◌, ◌≢◌, ◌⊎◌, ℕ, ◌-◌, List, [], length, nat_le, true, Ok, Err, Result, if◌then◌else◌, Vec}
-use Rattle.std.specs.List.{list_all}
+use Rattle.std.specs.Prelude.{◌≡◌, ◌≢◌, ◌⊎◌, ℕ, ◌-◌, List, [], length, nat_le, Ok, Err, Result, if◌then◌else◌, Vec}
 use Rattle.std.proofs.Common.{Global}
 use Rattle.icode.specs.Actions.{plain_code}
 use Rattle.icode.specs.Machine.{results, Code}
@@ -13,12 +12,13 @@ use Rattle.code_check.specs.Refusals.{PassesCheck, IsCause}
 use Rattle.io_edge.specs.Feed.{limit}
 use Rattle.input_rest.specs.Part.{first_part, second_part, HasPartEnded, IsInPart, GivesPart}
 use Rattle.input_rest.specs.declared.RestFault.{RestFault}
-use Rattle.data_stream.specs.Data.{tokens, closed_part, is_good}
+use Rattle.data_stream.specs.Data.{tokens, closed_part}
 use Rattle.request_text.specs.Schedule.{Plan as Turns}
 use Rattle.spiral_status.specs.declared.status.Status.{Status}
 use Rattle.spiral_status.specs.declared.status.Status.TheVariants.{TooLong, ListingSyntax}
 use Rattle.spiral_status.specs.Fault.{status_of_check, status_of_stream, status_of_part}
 use Rattle.spiral_input.specs.Commands.{stranger, admitted}
+use Rattle.spiral_input.specs.Fine.{IsFine}
 use Rattle.spiral_input.specs.Outcomes.{Outcomes}
 use Rattle.spiral_input.specs.Stage.{Stage, given, ◌>>=◌, IsAnswerBy, IsBrokenBy, IsCutBy}
 use Rattle.stream_run.specs.Stream.{lines, vectors_of, data_answer, data_vectors}
@@ -81,26 +81,26 @@ IsExecution schedule bytes status text =
 
 -- What a fault of the outside leaves
 
--- The bytes behind the listing show no fault so far, and the text is that of the vectors that are whole in them, though more may follow
-abbrev pub BreaksOffProgram : PlainProgram → List ℕ → List ℕ → Type 0
-BreaksOffProgram program bytes text =
-    (list_all is_good (tokens bytes) ≡ true) × IsResultText program (vectors_of program.size program.modulus (tokens (closed_part bytes))) text
+-- The bytes behind the listing, of which so many may come, show no fault so far, and the text is that of the vectors that are whole in them, though more may follow
+abbrev pub BreaksOffProgram : PlainProgram → ℕ → List ℕ → List ℕ → Type 0
+BreaksOffProgram program room bytes text =
+    IsFine room bytes × IsResultText program (vectors_of program.size program.modulus (tokens (closed_part bytes))) text
 
 -- The bytes that were read show no fault: they are a part of the listing, and nothing is written, or a program and a part of its data, of which no token counts that may go on
 abbrev pub IsBrokenExecution : Turns → List ℕ → Type 0 → List ℕ → Type 0
 IsBrokenExecution schedule read ended text =
-    IsBrokenBy (IsInPart listing_limit read) (HasPartEnded read ended) (runnable schedule read) (λ (program : PlainProgram). BreaksOffProgram program (second_part read)) text
+    IsBrokenBy (IsInPart listing_limit read) (HasPartEnded read ended) (runnable schedule read) (λ (program : PlainProgram). BreaksOffProgram program (room_behind_listing read) (second_part read)) text
 
 -- The text to which a program has come by the bytes that were read behind the listing, where this is left
-abbrev pub ComesToProgram : PlainProgram → List ℕ → List ℕ → List ℕ → Type 0
-ComesToProgram program bytes left text =
-    (list_all is_good (tokens bytes) ≡ true) × ((closed_part bytes ≡ bytes) ⊎ (left ≡ []))
+abbrev pub ComesToProgram : PlainProgram → ℕ → List ℕ → List ℕ → List ℕ → Type 0
+ComesToProgram program room bytes left text =
+    IsFine room bytes × ((closed_part bytes ≡ bytes) ⊎ (left ≡ []))
     × IsResultText program (vectors_of program.size program.modulus (tokens bytes)) text
 
 -- The text to which a call has come by the bytes that were read, where this is left
 abbrev pub IsCutExecution : Turns → List ℕ → List ℕ → List ℕ → Type 0
 IsCutExecution schedule read left text =
-    IsCutBy (HasPartEnded read (left ≡ [])) (runnable schedule read) (λ (program : PlainProgram). ComesToProgram program (second_part read) left) text
+    IsCutBy (HasPartEnded read (left ≡ [])) (runnable schedule read) (λ (program : PlainProgram). ComesToProgram program (room_behind_listing read) (second_part read) left) text
 
 -- what is right for `exec`
 abbrev pub exec_outcomes : Turns → Outcomes

@@ -1,5 +1,5 @@
 -- What the commands with store buffers perform.
-use Rattle.std.proofs.Common.{◌≡◌, ◌≤◌, ◌-◌, ◌++◌, ℕ, false, true, List, [], ◌∷◌, Result, refl, sym, ap, ap₂, subst, ◌∙◌, arith}
+use Rattle.std.proofs.Common.{◌≡◌, Err, ◌≢◌, ◌≤◌, ◌-◌, ◌++◌, ℕ, false, true, List, [], ◌∷◌, Result, refl, sym, ap, ap₂, subst, ◌∙◌, arith}
 use Rattle.std.proofs.KnownBytes.{Appends-nil}
 use Rattle.std.specs.declared.option.Option.{Option}
 use Rattle.std.specs.Io.KnownBytes.{Appends}
@@ -21,6 +21,7 @@ use Rattle.buffer_machine.specs.Listed.{HasNoStranger, events_of, procs_named}
 use Rattle.spiral_words.specs.declared.Command.TheVariants as command
 use Rattle.spiral_words.specs.declared.Order.{Order}
 use Rattle.stream_run.specs.declared.stream.StreamFault.{StreamFault}
+use Rattle.stream_run.specs.declared.stream.StreamFault.TheVariants as stream
 use Rattle.stream_run.specs.BufferedText.{buffered_text}
 use Rattle.spiral_status.specs.Fault.{status_of_stream}
 use Rattle.request_commands.specs.Traced.{order_of, traced_text}
@@ -45,10 +46,10 @@ good_memory request code good x events =
     subst (λ (k : Code). buffered_results k x events ≡ results k x []) (sym good.2) same
 
 pub performs_buffered_run : (order : Order) (request : TransformRequest) (code : Code) (events : List Event) (old new : Fed) (before after out out' : Option (List ℕ)) (first last : Buffered) (result : Result (Unit {0}) StreamFault)
-    → IsGoodCode request code → IsRequestInRange request → old.taken ≤ limit
+    → IsGoodCode request code → IsRequestInRange request → old.taken ≤ limit → (result ≢ Err stream.TooLong → new.taken ≤ limit)
     → Streams (buffered_text false code events) (λ x. buffered_runs code x events) code.size code.modulus old new before after out out' first last result
     → ToldMeets (request_outcomes (command.Run order) request (limit - old.taken)) before after out out' (status_of_stream result)
-performs_buffered_run order request code events old new before after out out' first last result good in_range within s =
+performs_buffered_run order request code events old new before after out out' first last result good in_range within ends s =
     let size : code.size ≡ size_of request = ap (λ (k : Code). k.size) good.2 ∙ good.1.2.good.header.size in
     let modulus : code.modulus ≡ modulus_of request = ap (λ (k : Code). k.modulus) good.2 ∙ good.1.2.good.header.modulus in
     let leaves : List ℕ → Buffered = λ x. buffered_runs code x events in
@@ -56,7 +57,7 @@ performs_buffered_run order request code events old new before after out out' fi
     let writes : IsTextFor (command.Run order) request [] (buffered_text false code events) =
     λ ts. texts_same (buffered_text false code events) (λ x. line_of (results code x [])) (λ x. ap line_of (good_memory request code good x events)) (vectors_of (size_of request) (modulus_of request) ts)
     ∙ good_lines request code [] (vectors_of (size_of request) (modulus_of request) ts) good (limits request in_range).modulus (λ i d lt. absurd (omega arith)) (ts, refl) in
-    performs_stream (command.Run order) request [] (buffered_text false code events) leaves old new before after out out out' first last result (good.1.0, good.1.1) writes (Appends-nil out) within sized
+    performs_stream (command.Run order) request [] (buffered_text false code events) leaves old new before after out out out' first last result (good.1.0, good.1.1) writes (Appends-nil out) within ends sized
 
 -- the text of a traced run
 traced_events : (events : Events) (procs : ℕ) (code : Code) → traced_text (order_of events) procs code ≡ buffered_text true code (events_of events procs)
@@ -64,12 +65,12 @@ traced_events (events.Turns schedule) procs code = refl
 traced_events (events.Mixed mix) procs code = refl
 
 pub performs_buffered_trace : (word : Events) (request : TransformRequest) (listing : List ℕ) (code : Code) (old new : Fed) (before after start out out' : Option (List ℕ)) (first last : Buffered) (result : Result (Unit {0}) StreamFault)
-    → IsTraced request listing code → Appends start out listing → old.taken ≤ limit
+    → IsTraced request listing code → Appends start out listing → old.taken ≤ limit → (result ≢ Err stream.TooLong → new.taken ≤ limit)
     → Streams (buffered_text true code (events_of word code.procs)) (λ x. buffered_runs code x (events_of word code.procs)) code.size code.modulus old new before after out out' first last result
     → ToldMeets (request_outcomes (command.Trace (order_of word)) request (limit - old.taken)) before after start out' (status_of_stream result)
-performs_buffered_trace word request listing code old new before after start out out' first last result made begun within s =
+performs_buffered_trace word request listing code old new before after start out out' first last result made begun within ends s =
     let leaves : List ℕ → Buffered = λ x. buffered_runs code x (events_of word code.procs) in
-    performs_trace (order_of word) request listing code leaves old new before after start out out' first last result made begun within
+    performs_trace (order_of word) request listing code leaves old new before after start out out' first last result made begun within ends
     (subst (λ (text : List ℕ → List ℕ). Streams text leaves code.size code.modulus old new before after out out' first last result) (sym (traced_events word code.procs code)) s)
 
 -- the events of a word are of these processors

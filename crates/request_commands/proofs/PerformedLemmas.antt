@@ -1,5 +1,5 @@
 -- What the commands for a request perform.
-use Rattle.std.proofs.Common.{◌≡◌, ◌<◌, ◌≤◌, ◌+◌, ◌-◌, ◌/◌, ℕ, true, false, List, [], ◌++◌, None, Some, Err, Result, length, refl, sym, ap, subst, ◌∙◌, arith, append-nil, length-append, inl, inr}
+use Rattle.std.proofs.Common.{◌≡◌, ◌≢◌, ◌<◌, ◌≤◌, ◌+◌, ◌-◌, ◌/◌, ℕ, true, false, List, [], ◌++◌, None, Some, Err, Result, length, refl, sym, ap, subst, ◌∙◌, arith, append-nil, length-append, inl, inr}
 use Rattle.std.proofs.Math.Nat.{div-mul-le_self}
 use Rattle.std.proofs.KnownBytes.{Appends-nil}
 use Rattle.std.specs.List.{All}
@@ -28,6 +28,7 @@ use Rattle.spiral_words.specs.declared.Order.{Order}
 use Rattle.spiral_status.specs.declared.status.Status.{Status}
 use Rattle.spiral_status.specs.declared.status.Status.TheVariants.{Success, WriteFault, NoMemory}
 use Rattle.stream_run.specs.declared.stream.StreamFault.{StreamFault}
+use Rattle.stream_run.specs.declared.stream.StreamFault.TheVariants as stream
 use Rattle.request_commands.specs.Checked.{certificate_limit, status_of_verdict, least_line, verdict_text}
 use Rattle.spiral_input.specs.Commands.{reads_certificate, first_stranger, has_text}
 use Rattle.spiral_status.specs.Fault.{status_of_generate, status_of_rest, status_of_stream}
@@ -122,12 +123,12 @@ performs_text wanted request room bytes left out out' text p l w = record {
   write_fault = λ e. absurd (cc);
 }
 
-pub performs_cut : (wanted : Command) (request : TransformRequest) (room : ℕ) (bytes : List ℕ) (left out out' : Option (List ℕ)) (text : List ℕ)
-    → IsAccepted wanted request → IsTextOf wanted request text → AppendsPrefix out out' text → Meets (request_outcomes wanted request room) bytes left out out' WriteFault
-performs_cut wanted request room bytes left out out' text p l w = record {
+pub performs_cut : (wanted : Command) (request : TransformRequest) (room : ℕ) (bytes : List ℕ) (out out' : Option (List ℕ)) (text : List ℕ)
+    → IsAccepted wanted request → IsTextOf wanted request text → AppendsPrefix out out' text → Meets (request_outcomes wanted request room) bytes (Some bytes) out out' WriteFault
+performs_cut wanted request room bytes out out' text p l w = record {
   answer = λ d. absurd (d.write refl);
   read_fault = λ e. absurd (cc);
-  write_fault = λ _. ([], bytes, text, refl, (p, inr (inl (refl, l))), w);
+  write_fault = λ _. ([], [], bytes, text, refl, refl, (p, inr (inl (refl, l))), w);
 }
 
 -- The lines of a run
@@ -156,19 +157,19 @@ data_performed : (wanted : Command) (request : TransformRequest) (room : ℕ) (b
 data_performed wanted request room bytes left out out' status there r = record {
   answer = λ d. let found = r.answer d in (found.0, inr (there, inl (found.1, found.2)), found.3);
   read_fault = λ e. let found = r.read_fault e in (found.0, found.1, found.2, (there, inl (found.3, found.4)), found.5);
-  write_fault = λ e. let found = r.write_fault e in (found.0, found.1, found.2, found.3, (there, inl (found.4, found.5, found.6)), found.7);
+  write_fault = λ e. let found = r.write_fault e in (found.0, [], found.1, found.2, found.3, found.4, (there, inl (found.5, found.6, found.7)), found.8);
 }
 
 pub performs_stream : {S : Type 0} (wanted : Command) (request : TransformRequest) (front : List ℕ) (text : List ℕ → List ℕ) (leaves : List ℕ → S) (old new : Fed) (before after start out out' : Option (List ℕ)) (first last : S)
     (result : Result (Unit {0}) StreamFault)
-    → IsAccepted wanted request → IsTextFor wanted request front text → Appends start out front → old.taken ≤ limit
+    → IsAccepted wanted request → IsTextFor wanted request front text → Appends start out front → old.taken ≤ limit → (result ≢ Err stream.TooLong → new.taken ≤ limit)
     → Streams text leaves (size_of request) (modulus_of request) old new before after out out' first last result
     → ToldMeets (request_outcomes wanted request (limit - old.taken)) before after start out' (status_of_stream result)
-performs_stream wanted request front text leaves old new None after start out out' first last result there writes begun within s = tt
-performs_stream wanted request front text leaves old new (Some bytes) None start out out' first last result there writes begun within s = absurd s.consumed
-performs_stream wanted request front text leaves old new (Some bytes) (Some rest) start out out' first last result there writes begun within s =
+performs_stream wanted request front text leaves old new None after start out out' first last result there writes begun within ends s = tt
+performs_stream wanted request front text leaves old new (Some bytes) None start out out' first last result there writes begun within ends s = absurd s.consumed
+performs_stream wanted request front text leaves old new (Some bytes) (Some rest) start out out' first last result there writes begun within ends s =
     data_performed wanted request (limit - old.taken) bytes (Some rest) start out' (status_of_stream result) there
-    (runs_over (IsTextOfData wanted request) (size_of request) (modulus_of request) front text leaves old new bytes rest start out out' first last result writes begun within s)
+    (runs_over (IsTextOfData wanted request) (size_of request) (modulus_of request) front text leaves old new bytes rest start out out' first last result writes begun within ends s)
 
 -- the stream of a good program is one of the request
 pub stream_of_request : {S : Type 0} (request : TransformRequest) (code : Code) (text : List ℕ → List ℕ) (leaves : List ℕ → S) (old new : Fed) (before after out out' : Option (List ℕ)) (first last : S) (result : Result (Unit {0}) StreamFault)
@@ -179,16 +180,16 @@ stream_of_request request code text leaves old new before after out out' first l
     (subst (λ n. Streams text leaves n code.modulus old new before after out out' first last result) size s)
 
 pub performs_run : (order : Order) (request : TransformRequest) (code : Code) (turns : List ℕ) (old new : Fed) (before after out out' : Option (List ℕ)) (first last : State) (result : Result (Unit {0}) StreamFault)
-    → IsGoodCode request code → IsRequestInRange request → All (λ q. q < procs_of request) turns → old.taken ≤ limit
+    → IsGoodCode request code → IsRequestInRange request → All (λ q. q < procs_of request) turns → old.taken ≤ limit → (result ≢ Err stream.TooLong → new.taken ≤ limit)
     → Streams (run_text false code turns) (λ x. runs code x turns) code.size code.modulus old new before after out out' first last result
     → ToldMeets (request_outcomes (command.Run order) request (limit - old.taken)) before after out out' (status_of_stream result)
-performs_run order request code turns old new before after out out' first last result good in_range there within s =
+performs_run order request code turns old new before after out out' first last result good in_range there within ends s =
     let size : code.size ≡ size_of request = ap (λ (k : Code). k.size) good.2 ∙ good.1.2.good.header.size in
     let modulus : code.modulus ≡ modulus_of request = ap (λ (k : Code). k.modulus) good.2 ∙ good.1.2.good.header.modulus in
     let sized = stream_of_request request code (run_text false code turns) (λ x. runs code x turns) old new before after out out' first last result size modulus s in
     let writes : IsTextFor (command.Run order) request [] (run_text false code turns) =
     λ ts. good_lines request code turns (vectors_of (size_of request) (modulus_of request) ts) good (limits request in_range).modulus there (ts, refl) in
-    performs_stream (command.Run order) request [] (run_text false code turns) (λ x. runs code x turns) old new before after out out out' first last result (good.1.0, good.1.1) writes (Appends-nil out) within sized
+    performs_stream (command.Run order) request [] (run_text false code turns) (λ x. runs code x turns) old new before after out out out' first last result (good.1.0, good.1.1) writes (Appends-nil out) within ends sized
 
 traced_affordable : (request : TransformRequest) (listing : List ℕ) (code : Code) → IsTraced request listing code → IsAffordable request
 traced_affordable request listing code made = (made.1.0, made.1.1)
@@ -208,21 +209,21 @@ traced_writes order request listing code made ts =
     (made.0, made.1, ap (λ l. l ++ texts (traced_text order code.procs code) vectors) made.2 ∙ ap (λ (f : List ℕ → List ℕ). listing_of (plain_program made.0) ++ texts f vectors) same)
 
 pub performs_trace : {S : Type 0} (order : Order) (request : TransformRequest) (listing : List ℕ) (code : Code) (leaves : List ℕ → S) (old new : Fed) (before after start out out' : Option (List ℕ)) (first last : S) (result : Result (Unit {0}) StreamFault)
-    → IsTraced request listing code → Appends start out listing → old.taken ≤ limit
+    → IsTraced request listing code → Appends start out listing → old.taken ≤ limit → (result ≢ Err stream.TooLong → new.taken ≤ limit)
     → Streams (traced_text order code.procs code) leaves code.size code.modulus old new before after out out' first last result
     → ToldMeets (request_outcomes (command.Trace order) request (limit - old.taken)) before after start out' (status_of_stream result)
-performs_trace order request listing code leaves old new before after start out out' first last result made begun within s =
+performs_trace order request listing code leaves old new before after start out out' first last result made begun within ends s =
     let size : code.size ≡ size_of request = ap (λ (k : Code). k.size) made.3 ∙ made.1.2.good.header.size in
     let modulus : code.modulus ≡ modulus_of request = ap (λ (k : Code). k.modulus) made.3 ∙ made.1.2.good.header.modulus in
     let text = traced_text order code.procs code in
     let sized = stream_of_request request code text leaves old new before after out out' first last result size modulus s in
-    performs_stream (command.Trace order) request listing text leaves old new before after start out out' first last result (traced_affordable request listing code made) (traced_writes order request listing code made) begun within sized
+    performs_stream (command.Trace order) request listing text leaves old new before after start out out' first last result (traced_affordable request listing code made) (traced_writes order request listing code made) begun within ends sized
 
 -- a trace whose listing is not written whole
-pub listing_cut : (order : Order) (request : TransformRequest) (listing : List ℕ) (code : Code) (room : ℕ) (before left out out' : Option (List ℕ))
-    → IsTraced request listing code → IsRequestInRange request → AppendsPrefix out out' listing → ToldMeets (request_outcomes (command.Trace order) request room) before left out out' WriteFault
-listing_cut order request listing code room None left out out' made in_range w = tt
-listing_cut order request listing code room (Some bytes) left out out' made in_range w =
+pub listing_cut : (order : Order) (request : TransformRequest) (listing : List ℕ) (code : Code) (room : ℕ) (before out out' : Option (List ℕ))
+    → IsTraced request listing code → IsRequestInRange request → AppendsPrefix out out' listing → ToldMeets (request_outcomes (command.Trace order) request room) before before out out' WriteFault
+listing_cut order request listing code room None out out' made in_range w = tt
+listing_cut order request listing code room (Some bytes) out out' made in_range w =
     let text = traced_text order code.procs code in
     let none : vectors_of (size_of request) (modulus_of request) [] ≡ [] = vectors_few (size_of request) (modulus_of request) [] (limits request in_range).size in
     let alone : listing ++ texts text (vectors_of (size_of request) (modulus_of request) []) ≡ listing = ap (λ (v : List (List ℕ)). listing ++ texts text v) none ∙ append-nil listing in
@@ -231,12 +232,14 @@ listing_cut order request listing code room (Some bytes) left out out' made in_r
       read_fault = λ e. absurd (cc);
       write_fault = λ _. (
         [],
+        [],
         bytes,
         listing,
         refl,
+        refl,
         (
           traced_affordable request listing code made,
-          inl (refl, inl refl, subst (IsTextOfData (command.Trace order) request (vectors_of (size_of request) (modulus_of request) [])) alone (traced_writes order request listing code made [])),
+          inl (record { few = omega arith; good = refl }, inl refl, subst (IsTextOfData (command.Trace order) request (vectors_of (size_of request) (modulus_of request) [])) alone (traced_writes order request listing code made [])),
         ),
         w,
       );
@@ -315,16 +318,18 @@ performs_judged_cut request room (Some bytes) (Some rest) out out' read text cos
   read_fault = λ e. absurd (cc);
   write_fault = λ _. (
     read,
+    [],
     rest,
     least_line cost,
     consumed,
+    refl,
     (there, inr (inr (refl, end, short, (verdict.Least cost, subst (λ l. IsVerdict request l (verdict.Least cost)) same judged, refl, refl)))),
     w,
   );
 }
 
--- the performance of a command that needs no data
-pub told_any : (wanted : Command) (request : TransformRequest) (room : ℕ) (before left out out' : Option (List ℕ)) (status : Status)
-    → ((room : ℕ) (bytes : List ℕ) (left : Option (List ℕ)) → Meets (request_outcomes wanted request room) bytes left out out' status) → ToldMeets (request_outcomes wanted request room) before left out out' status
-told_any wanted request room None left out out' status p = tt
-told_any wanted request room (Some bytes) left out out' status p = p room bytes left
+-- the performance of a command that reads no data
+pub told_any : (wanted : Command) (request : TransformRequest) (room : ℕ) (before out out' : Option (List ℕ)) (status : Status)
+    → ((room : ℕ) (bytes : List ℕ) → Meets (request_outcomes wanted request room) bytes (Some bytes) out out' status) → ToldMeets (request_outcomes wanted request room) before before out out' status
+told_any wanted request room None out out' status p = tt
+told_any wanted request room (Some bytes) out out' status p = p room bytes

@@ -28,6 +28,6 @@ Ends command request room bytes status text =
 abbrev pub request_outcomes : Command → TransformRequest → ℕ → Outcomes
 request_outcomes command request room = record {
   answer = Ends command request room;
-  broken = λ read ended text. IsAccepted command request × BreaksOff command request read text;
-  cut = λ read rest text. IsAccepted command request × ComesTo command request read rest text;
+  broken = λ read ended text. IsAccepted command request × BreaksOff command request room read text;
+  cut = λ read rest text. IsAccepted command request × ComesTo command request room read rest text;
 }

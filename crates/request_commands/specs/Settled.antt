@@ -1,6 +1,5 @@
 -- What the commands for a request answer, and what they write.
 use Rattle.std.specs.Prelude.{◌≡◌, ◌⊎◌, ℕ, ◌≤◌, true, List, [], ◌∷◌, ◌++◌, length, Ok, Err}
-use Rattle.std.specs.List.{list_all}
 use Rattle.transform_requests.specs.declared.TransformRequest.{TransformRequest}
 use Rattle.transform_requests.specs.Fields.{asked_of, modulus_of, procs_of, size_of}
 use Rattle.transform_requests.specs.Trees.{cost_of}
@@ -18,7 +17,7 @@ use Rattle.transform_texts.specs.Texts.{plan_text}
 use Rattle.spl_text.specs.Spelling.{spelling}
 use Rattle.listing_text.specs.Listing.{listing_of}
 use Rattle.c_print.specs.CText.{c_text_of}
-use Rattle.data_stream.specs.Data.{tokens, closed_part, is_good}
+use Rattle.data_stream.specs.Data.{tokens, closed_part}
 use Rattle.spiral_words.specs.declared.Command.{Command}
 use Rattle.spiral_words.specs.declared.Order.{Order}
 use Rattle.spiral_words.specs.declared.Command.TheVariants as command
@@ -26,6 +25,7 @@ use Rattle.spiral_status.specs.declared.status.Status.{Status}
 use Rattle.spiral_status.specs.declared.status.Status.TheVariants.{Success}
 use Rattle.request_commands.specs.Checked.{certificate_limit, IsJudged, IsChecked}
 use Rattle.spiral_input.specs.Commands.{reads_certificate}
+use Rattle.spiral_input.specs.Fine.{IsFine}
 use Rattle.spiral_status.specs.Fault.{status_of_generate, status_of_stream}
 use Rattle.request_commands.specs.Traced.{traced_text}
 use Rattle.request_commands.specs.Sample.{sample_vector, weighted_sum, sample_text}
@@ -127,16 +127,16 @@ Settles wanted request room bytes status text =
 
 -- What a fault of the outside leaves
 
--- The bytes behind the first line show no fault so far. For data the text is that of the vectors that are whole in them, though more may follow; a certificate has none yet
-abbrev pub BreaksOff : Command → TransformRequest → List ℕ → List ℕ → Type 0
-BreaksOff wanted request bytes text =
-    ((list_all is_good (tokens bytes) ≡ true) × IsTextOfData wanted request (vectors_of (size_of request) (modulus_of request) (tokens (closed_part bytes))) text)
+-- The bytes behind the first line, of which so many may come, show no fault so far. For data the text is that of the vectors that are whole in them, though more may follow; a certificate has none yet
+abbrev pub BreaksOff : Command → TransformRequest → ℕ → List ℕ → List ℕ → Type 0
+BreaksOff wanted request room bytes text =
+    (IsFine room bytes × IsTextOfData wanted request (vectors_of (size_of request) (modulus_of request) (tokens (closed_part bytes))) text)
     ⊎ ((reads_certificate wanted ≡ true) × (length bytes ≤ certificate_limit) × (text ≡ []))
 
 -- The text to which a command has come by the bytes that it read behind the first line, where this is left. Of data no token counts that what is left may go on. For a text none are read
-abbrev pub ComesTo : Command → TransformRequest → List ℕ → List ℕ → List ℕ → Type 0
-ComesTo wanted request bytes left text =
-    ((list_all is_good (tokens bytes) ≡ true) × ((closed_part bytes ≡ bytes) ⊎ (left ≡ []))
+abbrev pub ComesTo : Command → TransformRequest → ℕ → List ℕ → List ℕ → List ℕ → Type 0
+ComesTo wanted request room bytes left text =
+    (IsFine room bytes × ((closed_part bytes ≡ bytes) ⊎ (left ≡ []))
     × IsTextOfData wanted request (vectors_of (size_of request) (modulus_of request) (tokens bytes)) text)
     ⊎ (((bytes ≡ []) × IsTextOf wanted request text)
     ⊎ ((reads_certificate wanted ≡ true) × (left ≡ []) × (length bytes ≤ certificate_limit) × IsJudged request bytes Success text))

@@ -2,7 +2,6 @@
 #![tactic(auto)]
 
 ghost use Rattle.std.specs.Prelude.{◌≡◌, ◌≢◌, ◌-◌, ◌≤◌, ℕ, List, [], Ok, true};
-ghost use Rattle.std.specs.declared.option.Option.{Option};
 ghost use Rattle.std.specs.Io.KnownBytes.{Appends, IsAtEnd};
 ghost use Rattle.transform_requests.specs.Fields.{procs_of};
 ghost use Rattle.transform_requests.specs.Range.{IsRequestInRange};
@@ -39,8 +38,8 @@ fn write_text<O: Sink>(
     requires in_range { IsRequestInRange request.now }
     requires turns { NamesNoStranger command.now (procs_of request.now) }
     requires textual { has_text command.now ≡ true }
-    ensures told { (room : ℕ) (bytes : List ℕ) (left : Option (List ℕ)) →
-        Meets (request_outcomes command.now request.now room) bytes left
+    ensures told { (room : ℕ) (bytes : List ℕ) →
+        Meets (request_outcomes command.now request.now room) bytes (Some bytes)
         (O.taken output.old) (O.taken output.new) (status_of result) }
     ensures read { status_of result ≢ Status.ReadFault }
     ensures usage { status_of result ≢ Status.Usage }

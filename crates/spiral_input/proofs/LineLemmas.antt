@@ -1,10 +1,11 @@
 -- Where the first line of an input ends.
-use Rattle.std.proofs.Common.{◌≡◌, ◌⊎◌, ◌≤◌, ◌+◌, ℕ, Bool, true, false, not, ◌||◌, List, [], ◌∷◌, ◌++◌, length, take, drop, cond, refl, sym, ap, ◌∙◌, arith, append_assoc, append-nil, length-append, add-zero, zero-add, inl, inr}
+use Rattle.std.proofs.Common.{◌≡◌, ◌⊎◌, ◌≤◌, ◌+◌, ◌-◌, ℕ, Bool, true, false, not, ◌||◌, List, [], ◌∷◌, ◌++◌, length, take, drop, cond, refl, sym, ap, ◌∙◌, arith, append_assoc, append-nil, length-append, add-zero, zero-add, inl, inr}
 use Rattle.std.proofs.Math.Seq.{take-append_seam, take-append-add, drop-append-add}
 use Rattle.std.proofs.lemmas.List.{take_all}
 use Rattle.std.proofs.lemmas.List.Folds.{list_any-append}
 use Rattle.std.specs.List.{list_any, position_or_len}
-use Rattle.spiral_input.specs.Line.{is_line_end, first_line, data_of, HasEnded, IsWholeLine}
+use Rattle.io_edge.specs.Feed.{limit}
+use Rattle.spiral_input.specs.Line.{is_line_end, first_line, data_of, room_behind, HasEnded, IsWholeLine}
 
 neither : (a b : Bool) → (a || b) ≡ false → (a ≡ false) × (b ≡ false)
 neither true b h = absurd (cc)
@@ -53,6 +54,13 @@ line_longer text more h =
 two_cases : (b : Bool) → (b ≡ true) ⊎ (b ≡ false)
 two_cases true = inl refl
 two_cases false = inr refl
+
+-- as many bytes may come behind the line as the limit leaves behind what was taken for it
+pub room_after : (read more : List ℕ) (taken : ℕ) → taken ≡ length read → data_of (read ++ more) ≡ more → limit - taken ≡ room_behind (read ++ more)
+room_after read more taken count is =
+    let whole : length (read ++ more) ≡ length read + length more = length-append read more in
+    let behind : length (data_of (read ++ more)) ≡ length more = ap length is in
+    ap (λ n. limit - n) (omega (arith, count, whole, behind))
 
 -- the first line has ended where what stands behind it is known, whatever follows
 pub line_there : (read rest : List ℕ) → ((more : List ℕ) → (rest ≡ [] → more ≡ []) → data_of (read ++ more) ≡ more) → HasEnded read (rest ≡ [])

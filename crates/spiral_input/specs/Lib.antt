@@ -1,6 +1,7 @@
 pub mod Asking
 pub mod Commands
 pub mod Ends
+pub mod Fine
 pub mod Line
 pub mod Orders
 pub mod Outcomes

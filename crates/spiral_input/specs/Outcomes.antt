@@ -23,9 +23,9 @@ pub record Meets (outcomes : Outcomes) (bytes : List ℕ) (left before after : O
   -- a read failed: the bytes that the source gave show no fault, and the output took the whole text up to there
   pub read_fault : status ≡ ReadFault → (read : List ℕ) × (text : List ℕ) × Consumes (Some bytes) left read
       × outcomes.broken read (IsAtEnd left) text × Appends before after text
-  -- a write failed at a text, of which the output took a front
-  pub write_fault : status ≡ WriteFault → (read : List ℕ) × (rest : List ℕ) × (text : List ℕ) × (bytes ≡ read ++ rest)
-      × outcomes.cut read rest text × AppendsPrefix before after text
+  -- a write failed at a text, of which the output took a front. These bytes were read, the next are held, and the source has the rest
+  pub write_fault : status ≡ WriteFault → (read held rest text : List ℕ) × (bytes ≡ read ++ (held ++ rest)) × (left ≡ Some rest)
+      × outcomes.cut read (held ++ rest) text × AppendsPrefix before after text
 
 -- the same over a source that tells its bytes
 abbrev pub ToldMeets : Outcomes → Option (List ℕ) → Option (List ℕ) → Option (List ℕ) → Option (List ℕ) → Status → Type 0

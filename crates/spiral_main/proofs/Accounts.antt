@@ -27,7 +27,7 @@ use Rattle.formula_commands.specs.Compiled.{formula_outcomes}
 use Rattle.spiral_input.specs.Outcomes.{Meets, ToldMeets}
 use Rattle.spiral_input.proofs.InputLemmas.{none_read, none_left, none_cut, still_ended}
 use Rattle.spiral_input.proofs.OutcomeLemmas.{meets_nothing, meets_wider}
-use Rattle.spiral_input.proofs.LineLemmas.{line_there}
+use Rattle.spiral_input.proofs.LineLemmas.{line_there, room_after}
 
 -- By a request
 
@@ -77,23 +77,28 @@ accounts_after words bytes read rest taken wanted request left out out' status n
             inl (inr (
               job,
               order found.0 (IsAtEnd left) none (none_left rest found.0 left found.2) found.3.0,
-              subst (λ b. BreaksOff wanted request b found.1) (sym (asked.1 found.0 none).1) found.3.1,
+              subst (λ n. BreaksOff wanted request n (data_of (read ++ found.0)) found.1) (room_after read found.0 taken asked.0 (asked.1 found.0 none).1)
+                  (subst (λ b. BreaksOff wanted request (limit - taken) b found.1) (sym (asked.1 found.0 none).1) found.3.1),
             )),
             found.4,
           );
       write_fault = λ e.
           let found = p.write_fault e in
-          let none : rest ≡ [] → found.0 ≡ [] = λ end. (none_cut rest found.0 found.1 found.3 end).0 in (
+          let later : List ℕ = found.1 ++ found.2 in
+          let none : rest ≡ [] → found.0 ≡ [] = λ end. (none_cut rest found.0 later found.4 end).0 in (
             read ++ found.0,
             found.1,
             found.2,
-            whole ∙ ap (λ l. read ++ l) found.3 ∙ sym (append_assoc read found.0 found.1),
+            found.3,
+            whole ∙ ap (λ l. read ++ l) found.4 ∙ sym (append_assoc read found.0 later),
+            found.5,
             inl (
               job,
-              order found.0 (found.1 ≡ []) none (λ end. (none_cut rest found.0 found.1 found.3 end).1) found.4.0,
-              subst (λ b. ComesTo wanted request b found.1 found.2) (sym (asked.1 found.0 none).1) found.4.1,
+              order found.0 (later ≡ []) none (λ end. (none_cut rest found.0 later found.4 end).1) found.6.0,
+              subst (λ n. ComesTo wanted request n (data_of (read ++ found.0)) later found.3) (room_after read found.0 taken asked.0 (asked.1 found.0 none).1)
+                  (subst (λ b. ComesTo wanted request (limit - taken) b later found.3) (sym (asked.1 found.0 none).1) found.6.1),
             ),
-            found.5,
+            found.7,
           );
     }
 

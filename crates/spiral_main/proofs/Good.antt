@@ -1,6 +1,5 @@
 -- What the commands that print a program answer is right, too, where the program's statements are forgotten.
-use Rattle.std.proofs.Common.{◌≡◌, ℕ, true, List, [], ◌∷◌, Result}
-use Rattle.matrix_meaning.specs.declared.Request.{Request}
+use Rattle.std.proofs.Common.{ℕ, true, List, [], ◌∷◌}
 use Rattle.request_text.specs.Schedule.{Plan as Turns}
 use Rattle.request_text.specs.Turns.{named}
 use Rattle.spl_ast.specs.Formula.{Formula}

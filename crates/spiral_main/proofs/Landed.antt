@@ -11,7 +11,7 @@ use Rattle.spiral_input.specs.Asking.{requested}
 use Rattle.spiral_input.specs.Commands as commands
 use Rattle.spiral_input.specs.Commands.{takes_request, takes_formula, takes_convolution}
 use Rattle.spiral_input.specs.Line.{data_of, room_behind}
-use Rattle.spiral_input.specs.Outcomes.{Outcomes}
+use Rattle.spiral_input.specs.Outcomes.{Outcomes, ToldMeets}
 use Rattle.spiral_input.specs.Stage.{◌>>=◌, IsAnswerBy}
 use Rattle.request_commands.specs.Performed.{Ends}
 use Rattle.request_commands.specs.Settled.{IsAccepted, Settles, BreaksOff, ComesTo}
@@ -100,7 +100,7 @@ broken_to words read ended t (inl (inr (job, p, q))) =
       (request_to wanted p.gives.before.1).broken read ended t (inr (
         line.value,
         record { front = p.front; gives = line.before },
-        (line.behind.0, subst (λ (j : Job). BreaksOff j.command j.request (data_of read) t) line.behind.1 q),
+        (line.behind.0, subst (λ (j : Job). BreaksOff j.command j.request (room_behind read) (data_of read) t) line.behind.1 q),
       )),
     )
 broken_to words read ended t (inr (inl p)) = (command.Exec p.0, p.1, (exec_to p.0).broken read ended t p.2)
@@ -116,7 +116,7 @@ cut_to words read left t (inl (job, p, q)) =
       (request_to wanted p.gives.before.1).cut read left t (
         line.value,
         record { front = p.front; gives = line.before },
-        (line.behind.0, subst (λ (j : Job). ComesTo j.command j.request (data_of read) left t) line.behind.1 q),
+        (line.behind.0, subst (λ (j : Job). ComesTo j.command j.request (room_behind read) (data_of read) left t) line.behind.1 q),
       ),
     )
 cut_to words read left t (inr (inl p)) = (command.Exec p.0, p.1, (exec_to p.0).cut read left t p.2)
@@ -222,7 +222,7 @@ pub accounts_from : (words : List (List ℕ)) (bytes : List ℕ) (left before af
 accounts_from words bytes left before after s m = meets_within (call_outcomes words) (landed.call_outcomes words) bytes left before after s (calls_from words) m
 
 -- where the source tells its bytes
-pub told_to : (words : List (List ℕ)) (source left before after : Option (List ℕ)) (s : Status) → IfSome source (λ bytes. landed.Accounts words bytes left before after s)
+pub told_to : (words : List (List ℕ)) (source left before after : Option (List ℕ)) (s : Status) → ToldMeets (landed.call_outcomes words) source left before after s
     → IfSome source (λ bytes. Accounts words bytes left before after s)
 told_to words None left before after s p = tt
 told_to words (Some bytes) left before after s p = accounts_to words bytes left before after s p

@@ -19,7 +19,6 @@ use Rattle.spiral_input.specs.Stage.{Stage, given, ◌>>=◌}
 use Rattle.formula_commands.specs.Compiled as families
 use Rattle.formula_commands.specs.Compiled.{written, IsFormulaListing}
 use Rattle.listing_commands.specs.Listed as listings
-use Rattle.listing_commands.specs.Listed.{loaded, result_of}
 use Rattle.convolution_commands.specs.Convolved.{conv_spelt, convolvable, conv_status, conv_outcomes, IsConvolvable, IsConvText, SettlesConv, BreaksOffConv, ComesToConv, GoesOnBehind}
 use Rattle.spiral_main.specs.Front.{line, taken_from, room_behind, ordered, by_front, Work}
 use Rattle.spiral_main.specs.Works.{Wants, all, a_first, the_first, status_by, ReadsOn, by_first, writing, mapping}
@@ -135,8 +134,8 @@ wanted_by schedule as_code = command.Convolve schedule as_code
 abbrev settling : Command → Request → Work
 settling wanted request room = record {
   answer = SettlesConv wanted request room;
-  broken = λ read ended text. BreaksOffConv wanted request read text;
-  cut = ComesToConv wanted request;
+  broken = λ read ended text. BreaksOffConv wanted request room read text;
+  cut = ComesToConv wanted request room;
 }
 
 status_same : (schedule : Turns) (as_code : Bool) (size : ℕ) (answer : Result (Unit {0}) StreamFault) (vectors : List (List ℕ))
@@ -184,12 +183,12 @@ convolves_to : (schedule : Turns) (as_code : Bool) (r : Request) (room : ℕ)
 convolves_to schedule as_code r room = record {
   answer = convolved_answer schedule as_code r room;
   broken = λ read ended t p.
-      let own = subst (λ (q : Request). BreaksOffConv (wanted_by schedule as_code) q read t) p.1.1 p.2 in
+      let own = subst (λ (q : Request). BreaksOffConv (wanted_by schedule as_code) q room read t) p.1.1 p.2 in
       let vectors = vectors_of r.size r.modulus (tokens (closed_part read)) in
       let found = text_to schedule as_code r vectors t p.1.0 own.2 in
       (with_tree r found.0, (refl, found.1), (own.0, reads_on schedule as_code vectors own.1, found.2));
   cut = λ read left t p.
-      let own = subst (λ (q : Request). ComesToConv (wanted_by schedule as_code) q read left t) p.1.1 p.2 in
+      let own = subst (λ (q : Request). ComesToConv (wanted_by schedule as_code) q room read left t) p.1.1 p.2 in
       let found = text_to schedule as_code r (vectors_of r.size r.modulus (tokens read)) t p.1.0 own.2 in
       (with_tree r found.0, (refl, found.1), (own.0, own.1, found.2));
 }

@@ -1,5 +1,5 @@
 -- What is right for one call is right for another.
-use Rattle.std.proofs.Common.{◌≡◌, ℕ, List, [], Ok, Err, Result, inl, inr}
+use Rattle.std.proofs.Common.{◌≡◌, ℕ, List, [], ◌++◌, Ok, Err, Result, inl, inr}
 use Rattle.std.specs.declared.option.Option.{Option}
 use Rattle.std.specs.Io.KnownBytes.{IsAtEnd}
 use Rattle.spiral_status.specs.declared.status.Status.{Status}
@@ -19,7 +19,7 @@ pub meets_within : (a b : Outcomes) (bytes : List ℕ) (left before after : Opti
 meets_within a b bytes left before after s w m = record {
   answer = λ defined. let p = m.answer defined in (p.0, w.answer bytes s p.0 p.1, p.2);
   read_fault = λ fault. let p = m.read_fault fault in (p.0, p.1, p.2, w.broken p.0 (IsAtEnd left) p.1 p.3, p.4);
-  write_fault = λ fault. let p = m.write_fault fault in (p.0, p.1, p.2, p.3, w.cut p.0 p.1 p.2 p.4, p.5);
+  write_fault = λ fault. let p = m.write_fault fault in (p.0, p.1, p.2, p.3, p.4, p.5, w.cut p.0 (p.1 ++ p.2) p.3 p.6, p.7);
 }
 
 pub within_then : (a b c : Outcomes) → Within a b → Within b c → Within a c

@@ -54,7 +54,7 @@ IsOutcome words bytes status text =
 -- by a request: the bytes that were read are a part of the first line, and nothing is written, or a job and a part of what stands behind it
 abbrev pub IsBrokenRequest : List (List ℕ) → List ℕ → Type 0 → List ℕ → Type 0
 IsBrokenRequest words read ended text =
-    IsBrokenBy (AskForRequest words × IsPartOfLine read) (HasEnded read ended) (ordered words read) (λ (job : Job). BreaksOff job.command job.request (data_of read)) text
+    IsBrokenBy (AskForRequest words × IsPartOfLine read) (HasEnded read ended) (ordered words read) (λ (job : Job). BreaksOff job.command job.request (room_behind read) (data_of read)) text
 
 -- The bytes that were read show no fault, and the text is what was written up to there, by a request, by a listing, by a formula or by a list
 abbrev pub IsBrokenOff : List (List ℕ) → List ℕ → Type 0 → List ℕ → Type 0
@@ -67,7 +67,7 @@ IsBrokenOff words read ended text =
 -- by a request: the text to which the job has come
 abbrev pub IsCutRequest : List (List ℕ) → List ℕ → List ℕ → List ℕ → Type 0
 IsCutRequest words read left text =
-    IsCutBy (HasEnded read (left ≡ [])) (ordered words read) (λ (job : Job). ComesTo job.command job.request (data_of read) left) text
+    IsCutBy (HasEnded read (left ≡ [])) (ordered words read) (λ (job : Job). ComesTo job.command job.request (room_behind read) (data_of read) left) text
 
 -- The text to which a call has come by the bytes that were read, where this is left
 abbrev pub IsCutOff : List (List ℕ) → List ℕ → List ℕ → List ℕ → Type 0

@@ -1,14 +1,14 @@
 -- What a command does behind its front: it writes a text, or a text for the vectors of the data, or it judges all that is there.
-use Rattle.std.specs.Prelude.{◌≡◌, ◌⊎◌, ℕ, ◌≤◌, true, List, [], ◌∷◌, length, Result}
-use Rattle.std.specs.List.{list_all}
+use Rattle.std.specs.Prelude.{◌≡◌, ◌⊎◌, ℕ, ◌≤◌, List, [], ◌∷◌, length, Result}
 use Rattle.plan_cert.specs.declared.verdict.Verdict.{Verdict}
-use Rattle.data_stream.specs.Data.{tokens, closed_part, is_good}
+use Rattle.data_stream.specs.Data.{tokens, closed_part}
 use Rattle.spiral_status.specs.declared.status.Status.{Status}
 use Rattle.spiral_status.specs.declared.status.Status.TheVariants.{Success}
 use Rattle.spiral_status.specs.Fault.{status_of_fault, status_of_stream}
 use Rattle.stream_run.specs.Progress.{lacking}
 use Rattle.stream_run.specs.Stream.{vectors_of, data_answer, data_vectors}
 use Rattle.stream_run.specs.declared.stream.StreamFault.{StreamFault}
+use Rattle.spiral_input.specs.Fine.{IsFine}
 use Rattle.request_commands.specs.Checked.{certificate_limit, status_of_verdict, verdict_text, IsOverlong}
 use Rattle.spiral_main.specs.Front.{Work}
 
@@ -40,18 +40,14 @@ abbrev pub ReadsOn : Wants → List (List ℕ) → Type 0
 ReadsOn the_first vectors = vectors ≡ []
 ReadsOn _ vectors = Unit {0}
 
--- what was read shows no fault
-abbrev pub IsFine : List ℕ → Type 0
-IsFine read = list_all is_good (tokens read) ≡ true
-
 -- It writes a text for the vectors of the data. The last token that was read counts only where nothing is left with which it may go on
 abbrev pub mapping : Wants → (size modulus : ℕ) → (List (List ℕ) → List ℕ → Type 0) → Work
 mapping wants size modulus IsText room = record {
   answer = λ bytes status text. (status ≡ status_by wants size (data_answer size room bytes) (data_vectors size modulus room bytes))
       × IsText (data_vectors size modulus room bytes) text;
-  broken = λ read ended text. IsFine read × ReadsOn wants (vectors_of size modulus (tokens (closed_part read)))
+  broken = λ read ended text. IsFine room read × ReadsOn wants (vectors_of size modulus (tokens (closed_part read)))
       × IsText (vectors_of size modulus (tokens (closed_part read))) text;
-  cut = λ read left text. IsFine read × ((closed_part read ≡ read) ⊎ (left ≡ [])) × IsText (vectors_of size modulus (tokens read)) text;
+  cut = λ read left text. IsFine room read × ((closed_part read ≡ read) ⊎ (left ≡ [])) × IsText (vectors_of size modulus (tokens read)) text;
 }
 
 -- a text for the vectors behind the first. Before that is there, nothing is written

@@ -31,7 +31,7 @@ returns-in_err-read_first-clause-told g c =
     (subst (λ n. HasNoVector n c.unwrap-modulus.result c.args.feed.now c.read_first.new.feed start reached fault) size c.in_err-read_first.ensures.none) in
     let p = err_from_is_err_and c.from_residual-in_err-read_first.result c.from_residual-in_err-read_first.ensures.1 in
     rw (p.1, p.2) (λ wanted out. convolves_lacking wanted request c.args.feed.now c.read_first.new.feed start reached out fault
-    (breakdown_of c.in_ok-plan.plan.tree, c.in_ok-plan.ensures.planned) c.requires.within none)
+    (breakdown_of c.in_ok-plan.plan.tree, c.in_ok-plan.ensures.planned) c.requires.within (λ other. c.in_err-read_first.ensures.within (λ e. other (let q = p.1 in cc))) none)
 
 pub generate_conv-requires-clause-list : goal.generate_conv-requires-clause-list
 generate_conv-requires-clause-list g c =

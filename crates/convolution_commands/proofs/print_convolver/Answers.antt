@@ -1,6 +1,6 @@
 use Rattle.std.proofs.Common.{◌<◌, ◌-◌, arith}
 use Rattle.std.proofs.lemmas.Result.{err_from_is_err_and}
-use Rattle.io_edge.specs.Feed.{to_come, limit}
+use Rattle.io_edge.specs.Feed.{to_come}
 use Rattle.convolution_commands.proofs.ConvolvedLemmas.{convolves_listing, convolves_cut}
 use Rattle.data_stream.proofs.TokensLemmas.{reports_none}
 use Rattle.spiral_status.specs.declared.status.Status.TheVariants.{NoMemory}
@@ -18,7 +18,7 @@ returns-in_err-write_all-clause-told g c =
     let p = err_from_is_err_and c.from_residual-in_err-write_all.result c.from_residual-in_err-write_all.ensures.1 in
     rw (p.1, p.2) (convolves_cut c.args.schedule.now c.args.request.now c.in_ok-program.field-0-1 c.args.feed.now c.listed_program.new.feed start reached
     (taken c.args.output.now) (taken c.write_all.new.sink) c.in_ok-program.field-0-2.items c.in_ok-listing.listing.items c.in_ok-program.program
-    made.cut some made.come made.within made.ready.end made.program c.in_ok-listing.ensures.text wrote (limit - c.args.feed.now.taken))
+    made.cut some made.come made.within made.ready.end made.program c.in_ok-listing.ensures.text wrote)
 
 pub returns-clause-told : goal.returns-clause-told
 returns-clause-told g c =

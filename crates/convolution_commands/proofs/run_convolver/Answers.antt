@@ -23,7 +23,7 @@ returns-in_err-run_vectors-clause-told g c =
     rw (p.1, p.2) (convolves_run c.args.schedule.now request code c.in_ok-program.vectors c.args.feed.now c.listed_program.new.feed c.run_vectors.new.feed start mid reached
     (taken c.args.output.now) (taken c.run_vectors.new.output) c.in_ok-program.list.items c.in_ok-program.program (λ x. runs code x (turns_of c.args.schedule.now code.procs))
     c.in_ok-machine.machine.state c.run_vectors.new.machine.state (Err c.in_err-run_vectors.field-0.0)
-    made.program c.in_ok-machine.ensures.code made.cut c.requires.request.procs some c.requires.turns c.requires.within made.come c.in_err-run_vectors.ensures.streams)
+    made.program c.in_ok-machine.ensures.code made.cut c.requires.request.procs some c.requires.turns c.requires.within c.in_err-run_vectors.ensures.within made.come c.in_err-run_vectors.ensures.streams)
 
 pub returns-clause-told : goal.returns-clause-told
 returns-clause-told g c =
@@ -38,7 +38,7 @@ returns-clause-told g c =
     convolves_run c.args.schedule.now request code c.in_ok-program.vectors c.args.feed.now c.listed_program.new.feed c.run_vectors.new.feed start mid reached
     (taken c.args.output.now) (taken c.run_vectors.new.output) c.in_ok-program.list.items c.in_ok-program.program (λ x. runs code x (turns_of c.args.schedule.now code.procs))
     c.in_ok-machine.machine.state c.run_vectors.new.machine.state (Ok tt)
-    made.program c.in_ok-machine.ensures.code made.cut c.requires.request.procs some c.requires.turns c.requires.within made.come c.in_ok-run_vectors.ensures.streams
+    made.program c.in_ok-machine.ensures.code made.cut c.requires.request.procs some c.requires.turns c.requires.within c.in_ok-run_vectors.ensures.within made.come c.in_ok-run_vectors.ensures.streams
 
 pub returns-clause-end : goal.returns-clause-end
 returns-clause-end g c =

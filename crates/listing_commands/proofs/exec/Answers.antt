@@ -37,7 +37,7 @@ returns-in_err-run_stream-clause-told g c =
     rw (p.1, p.2) (executes_run c.args.schedule.now (turns_of c.args.schedule.now code.procs) made.0 code c.listing_text.new.feed c.run_stream.new.feed
     start reached (to_come c.run_stream.new.feed (g.I.Source.left c.run_stream.new.input)) (taken c.args.output.now) (taken c.run_stream.new.output) told.0 c.in_ok-text.text.items
     c.in_ok-machine.machine.state c.run_stream.new.machine.state (Err c.in_err-run_stream.field-0.0)
-    told.1 (told.2.0 ∙ zero-add (length told.0)) told.2.3 told.2.1 told.2.2 made.1 made.2 c.in_err-run_stream.ensures.streams)
+    told.1 (told.2.0 ∙ zero-add (length told.0)) told.2.3 told.2.1 told.2.2 c.in_err-run_stream.ensures.within made.1 made.2 c.in_err-run_stream.ensures.streams)
 
 pub returns-clause-told : goal.returns-clause-told
 returns-clause-told g c =
@@ -50,7 +50,7 @@ returns-clause-told g c =
     executes_run c.args.schedule.now (turns_of c.args.schedule.now code.procs) made.0 code c.listing_text.new.feed c.run_stream.new.feed
     start reached (to_come c.run_stream.new.feed (g.I.Source.left c.run_stream.new.input)) (taken c.args.output.now) (taken c.run_stream.new.output) told.0 c.in_ok-text.text.items
     c.in_ok-machine.machine.state c.run_stream.new.machine.state (Ok tt)
-    told.1 (told.2.0 ∙ zero-add (length told.0)) told.2.3 told.2.1 told.2.2 made.1 made.2 c.in_ok-run_stream.ensures.streams
+    told.1 (told.2.0 ∙ zero-add (length told.0)) told.2.3 told.2.1 told.2.2 c.in_ok-run_stream.ensures.within made.1 made.2 c.in_ok-run_stream.ensures.streams
 
 pub returns-in_err-run_stream-clause-ends : goal.returns-in_err-run_stream-clause-ends
 returns-in_err-run_stream-clause-ends g c =

@@ -18,7 +18,7 @@ returns-in_err-run_stream-clause-told g c =
     (to_come c.args.feed.now (g.I.Source.left c.args.input.now)) (to_come c.run_stream.new.feed (g.I.Source.left c.run_stream.new.input))
     (taken c.args.output.now) (taken c.run_stream.new.output) c.in_ok-machine.machine.state c.run_stream.new.machine.state (Err c.in_err-run_stream.field-0.0)
     c.in_ok-machine.ensures.machine c.requires.in_range (good_turns c.args.schedule.now c.args.request.now code c.in_ok-machine.ensures.machine c.requires.in_range c.requires.turns)
-    c.requires.within c.in_err-run_stream.ensures.streams)
+    c.requires.within c.in_err-run_stream.ensures.within c.in_err-run_stream.ensures.streams)
 
 pub returns-in_err-run_stream-clause-end : goal.returns-in_err-run_stream-clause-end
 returns-in_err-run_stream-clause-end g c =
@@ -33,7 +33,7 @@ returns-clause-told g c =
     (to_come c.args.feed.now (g.I.Source.left c.args.input.now)) (to_come c.run_stream.new.feed (g.I.Source.left c.run_stream.new.input))
     (taken c.args.output.now) (taken c.run_stream.new.output) c.in_ok-machine.machine.state c.run_stream.new.machine.state (Ok tt)
     c.in_ok-machine.ensures.machine c.requires.in_range (good_turns c.args.schedule.now c.args.request.now code c.in_ok-machine.ensures.machine c.requires.in_range c.requires.turns)
-    c.requires.within c.in_ok-run_stream.ensures.streams
+    c.requires.within c.in_ok-run_stream.ensures.within c.in_ok-run_stream.ensures.streams
 
 pub returns-clause-end : goal.returns-clause-end
 returns-clause-end g c = λ _. c.in_ok-run_stream.ensures.streams.answer.1

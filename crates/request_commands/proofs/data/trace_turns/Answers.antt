@@ -18,7 +18,7 @@ returns-in_err-write_all-clause-told g c =
     let p = err_from_is_err_and c.from_residual-in_err-write_all.result c.from_residual-in_err-write_all.ensures.1 in
     let wrote = rw c.deref.ensures.value at c.in_err-write_all.ensures.bytes in
     rw (p.1, p.2) (listing_cut (order.Turns c.args.schedule.now) c.args.request.now c.in_ok-listing.listing.items c.in_ok-listing.machine.code (limit - c.args.feed.now.taken)
-    (to_come c.args.feed.now (g.I.Source.left c.args.input.now)) (to_come c.args.feed.now (g.I.Source.left c.args.input.now)) (g.O.Sink.taken c.args.output.now) (g.O.Sink.taken c.write_all.new.sink)
+    (to_come c.args.feed.now (g.I.Source.left c.args.input.now)) (g.O.Sink.taken c.args.output.now) (g.O.Sink.taken c.write_all.new.sink)
     c.in_ok-listing.ensures.program c.requires.in_range wrote)
 
 pub returns-in_err-run_stream-clause-told : goal.returns-in_err-run_stream-clause-told
@@ -29,7 +29,7 @@ returns-in_err-run_stream-clause-told g c =
     rw (p.1, p.2) (performs_trace (order.Turns c.args.schedule.now) c.args.request.now c.in_ok-listing.listing.items c.in_ok-listing.machine.code (λ x. runs c.in_ok-listing.machine.code x (turns_of c.args.schedule.now c.in_ok-listing.machine.code.procs)) c.args.feed.now c.run_stream.new.feed
     (to_come c.args.feed.now (g.I.Source.left c.args.input.now)) (to_come c.run_stream.new.feed (g.I.Source.left c.run_stream.new.input))
     (taken c.args.output.now) (taken c.write_all.new.sink) (taken c.run_stream.new.output) c.in_ok-listing.machine.state c.run_stream.new.machine.state (Err c.in_err-run_stream.field-0.0)
-    c.in_ok-listing.ensures.program wrote c.requires.within c.in_err-run_stream.ensures.streams)
+    c.in_ok-listing.ensures.program wrote c.requires.within c.in_err-run_stream.ensures.within c.in_err-run_stream.ensures.streams)
 
 pub returns-in_err-run_stream-clause-end : goal.returns-in_err-run_stream-clause-end
 returns-in_err-run_stream-clause-end g c =
@@ -43,7 +43,7 @@ returns-clause-told g c =
     performs_trace (order.Turns c.args.schedule.now) c.args.request.now c.in_ok-listing.listing.items c.in_ok-listing.machine.code (λ x. runs c.in_ok-listing.machine.code x (turns_of c.args.schedule.now c.in_ok-listing.machine.code.procs)) c.args.feed.now c.run_stream.new.feed
     (to_come c.args.feed.now (g.I.Source.left c.args.input.now)) (to_come c.run_stream.new.feed (g.I.Source.left c.run_stream.new.input))
     (taken c.args.output.now) (taken c.write_all.new.sink) (taken c.run_stream.new.output) c.in_ok-listing.machine.state c.run_stream.new.machine.state (Ok tt)
-    c.in_ok-listing.ensures.program wrote c.requires.within c.in_ok-run_stream.ensures.streams
+    c.in_ok-listing.ensures.program wrote c.requires.within c.in_ok-run_stream.ensures.within c.in_ok-run_stream.ensures.streams
 
 pub returns-clause-end : goal.returns-clause-end
 returns-clause-end g c = λ _. c.in_ok-run_stream.ensures.streams.answer.1

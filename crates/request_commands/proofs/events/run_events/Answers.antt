@@ -18,7 +18,7 @@ returns-in_err-run_buffered-clause-told g c =
     (to_come c.args.feed.now (g.I.Source.left c.args.input.now)) (to_come c.run_buffered.new.feed (g.I.Source.left c.run_buffered.new.input))
     (taken c.args.output.now) (taken c.run_buffered.new.output) c.in_ok-machine.machine.state c.run_buffered.new.machine.state (Err c.in_err-run_buffered.field-0.0)
     c.in_ok-machine.ensures.machine c.requires.in_range
-    c.requires.within c.in_err-run_buffered.ensures.streams)
+    c.requires.within c.in_err-run_buffered.ensures.within c.in_err-run_buffered.ensures.streams)
 
 pub returns-in_err-run_buffered-clause-end : goal.returns-in_err-run_buffered-clause-end
 returns-in_err-run_buffered-clause-end g c =
@@ -33,7 +33,7 @@ returns-clause-told g c =
     (to_come c.args.feed.now (g.I.Source.left c.args.input.now)) (to_come c.run_buffered.new.feed (g.I.Source.left c.run_buffered.new.input))
     (taken c.args.output.now) (taken c.run_buffered.new.output) c.in_ok-machine.machine.state c.run_buffered.new.machine.state (Ok tt)
     c.in_ok-machine.ensures.machine c.requires.in_range
-    c.requires.within c.in_ok-run_buffered.ensures.streams
+    c.requires.within c.in_ok-run_buffered.ensures.within c.in_ok-run_buffered.ensures.streams
 
 pub returns-clause-end : goal.returns-clause-end
 returns-clause-end g c = λ _. c.in_ok-run_buffered.ensures.streams.answer.1

@@ -17,7 +17,7 @@ returns-in_err-write_all-clause-told g c =
     let p = err_from_is_err_and c.from_residual-in_err-write_all.result c.from_residual-in_err-write_all.ensures.1 in
     let wrote = rw c.deref.ensures.value at c.in_err-write_all.ensures.bytes in
     rw (p.1, p.2) (listing_cut (order_of c.args.events) c.args.request.now c.in_ok-listing.listing.items c.in_ok-listing.machine.code (limit - c.args.feed.now.taken)
-    (to_come c.args.feed.now (g.I.Source.left c.args.input.now)) (to_come c.args.feed.now (g.I.Source.left c.args.input.now)) (g.O.Sink.taken c.args.output.now) (g.O.Sink.taken c.write_all.new.sink)
+    (to_come c.args.feed.now (g.I.Source.left c.args.input.now)) (g.O.Sink.taken c.args.output.now) (g.O.Sink.taken c.write_all.new.sink)
     c.in_ok-listing.ensures.program c.requires.in_range wrote)
 
 pub returns-in_err-run_buffered-clause-told : goal.returns-in_err-run_buffered-clause-told
@@ -28,7 +28,7 @@ returns-in_err-run_buffered-clause-told g c =
     rw (p.1, p.2) (performs_buffered_trace c.args.events c.args.request.now c.in_ok-listing.listing.items c.in_ok-listing.machine.code c.args.feed.now c.run_buffered.new.feed
     (to_come c.args.feed.now (g.I.Source.left c.args.input.now)) (to_come c.run_buffered.new.feed (g.I.Source.left c.run_buffered.new.input))
     (taken c.args.output.now) (taken c.write_all.new.sink) (taken c.run_buffered.new.output) c.in_ok-listing.machine.state c.run_buffered.new.machine.state (Err c.in_err-run_buffered.field-0.0)
-    c.in_ok-listing.ensures.program wrote c.requires.within c.in_err-run_buffered.ensures.streams)
+    c.in_ok-listing.ensures.program wrote c.requires.within c.in_err-run_buffered.ensures.within c.in_err-run_buffered.ensures.streams)
 
 pub returns-in_err-run_buffered-clause-end : goal.returns-in_err-run_buffered-clause-end
 returns-in_err-run_buffered-clause-end g c =
@@ -42,7 +42,7 @@ returns-clause-told g c =
     performs_buffered_trace c.args.events c.args.request.now c.in_ok-listing.listing.items c.in_ok-listing.machine.code c.args.feed.now c.run_buffered.new.feed
     (to_come c.args.feed.now (g.I.Source.left c.args.input.now)) (to_come c.run_buffered.new.feed (g.I.Source.left c.run_buffered.new.input))
     (taken c.args.output.now) (taken c.write_all.new.sink) (taken c.run_buffered.new.output) c.in_ok-listing.machine.state c.run_buffered.new.machine.state (Ok tt)
-    c.in_ok-listing.ensures.program wrote c.requires.within c.in_ok-run_buffered.ensures.streams
+    c.in_ok-listing.ensures.program wrote c.requires.within c.in_ok-run_buffered.ensures.within c.in_ok-run_buffered.ensures.streams
 
 pub returns-clause-end : goal.returns-clause-end
 returns-clause-end g c = λ _. c.in_ok-run_buffered.ensures.streams.answer.1

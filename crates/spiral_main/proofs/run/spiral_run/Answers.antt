@@ -1,4 +1,5 @@
 use Rattle.std.proofs.Common.{Global, map, string_bytes}
+use Rattle.spiral_input.specs.Stage.{status_of}
 use Rattle.spiral_main.proofs.Landed.{told_to}
 use Rattle.spiral_main.proofs.run.spiral_run.Goals as goal
 
@@ -13,4 +14,4 @@ returns-clause-told g c =
     let taken = g.O.Sink.taken in
     rw c.ending-status.ensures
     (told_to (map (string_bytes {Z = Global}) c.args.words.now.items) (g.I.Source.left c.args.input.now) (g.I.Source.left c.work.new.input)
-    (taken c.args.output.now) (taken c.work.new.output) _ c.work.ensures.told)
+    (taken c.args.output.now) (taken c.work.new.output) (status_of c.work.result) c.work.ensures.told)
