@@ -22,18 +22,18 @@ BEGIN = "<!-- the table of commands, written by bench/cone.py -->"
 END = "<!-- the end of the table of commands -->"
 # The laws of spiral_main on each command. `IsOutcome` links them to the program's clause, and is not opened.
 COMMANDS = [
-    ("`plan`", ["plan_answers"]),
-    ("`formula`", ["formula_answers"]),
-    ("`code`", ["code_answers", "code_is_good"]),
-    ("`c`", ["c_answers", "c_is_good"]),
-    ("`cert`", ["cert_answers"]),
+    ("`plan`", ["plan_answers", "plan_is_right"]),
+    ("`formula`", ["formula_answers", "formula_is_right"]),
+    ("`code`", ["code_answers", "code_is_good", "code_is_right"]),
+    ("`c`", ["c_answers", "c_is_good", "c_is_right"]),
+    ("`cert`", ["cert_answers", "cert_is_right"]),
     ("`check`", ["check_answers"]),
     ("`run`", ["run_answers", "run_is_right"]),
-    ("`trace`", ["trace_answers", "trace_is_good"]),
-    ("`sample`", ["sample_answers"]),
-    ("`compile`", ["compile_answers", "compile_is_good"]),
-    ("`apply`", ["apply_answers"]),
-    ("`exec`", ["exec_answers"]),
+    ("`trace`", ["trace_answers", "trace_is_good", "trace_is_right"]),
+    ("`sample`", ["sample_answers", "sample_is_right"]),
+    ("`compile`", ["compile_answers", "compile_is_good", "compile_is_right"]),
+    ("`apply`", ["apply_answers", "apply_is_right"]),
+    ("`exec`", ["exec_answers", "exec_is_right"]),
     ("`convolve`", ["convolve_answers", "convolver_is_good"]),
     ("all commands at once", ["calls_have_one_status"]),
 ]
@@ -150,8 +150,9 @@ def table():
     rows = ["", "| command | law | lines to read |", "| --- | --- | --- |"]
     for command, laws in COMMANDS:
         cut = LINK if command.startswith("`") else set()
-        for law, (keys, _) in counts("spiral_main", laws, cut, definitions, brought).items():
-            rows.append(f"| {command} | `{law}` | {sum(len(definitions[key]) for key in keys):,} |")
+        found = counts("spiral_main", laws, cut, definitions, brought)
+        for law in laws:
+            rows.append(f"| {command} | `{law}` | {sum(len(definitions[key]) for key in found[law][0]):,} |")
     return "\n".join(rows + ["", ""])
 
 

@@ -9,6 +9,6 @@ pub mod OneText
 pub mod Others
 pub mod Requests
 pub mod RightCalls
-pub mod RightRun
+pub mod RightFront
 pub mod SomeOutcome
 pub mod Within

@@ -26,7 +26,7 @@ use Rattle.spiral_main.specs.Families.{Job, ordered, IsAnswerToRequest, IsOutcom
 use Rattle.spiral_main.specs.Outcome as calls
 use Rattle.request_commands.specs.Settled.{IsTextOfData, Settles}
 use Rattle.spiral_main.specs.Right.{AreRightData, AreRightVectors, BeginWithList, IsRightRest, IsRightRequest, IsRightCall, Succeeds}
-use Rattle.spiral_main.specs.RightRun.{AreWholeVectors}
+use Rattle.spiral_main.specs.RightFront.{AreWholeVectors}
 use Rattle.stream_run.specs.Stream.{data_answer}
 use Rattle.spiral_words.proofs.OneCommand.{asked_once}
 use Rattle.convolution_commands.proofs.OneConvolution.{conv_decided}

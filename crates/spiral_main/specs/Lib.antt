@@ -16,7 +16,7 @@ pub mod Exec
 pub mod Convolve
 pub mod Outcome
 pub mod Families
-pub mod RightRun
+pub mod RightFront
 pub mod Right
 pub mod Always
 pub mod Programs

@@ -25,7 +25,7 @@ use Rattle.stream_run.specs.Stream.{data_vectors}
 use Rattle.listing_commands.specs.Listed.{runnable, room_behind_listing}
 use Rattle.spiral_main.specs.Families.{Job, ordered}
 use Rattle.spiral_main.specs.Outcome.{IsOutcome}
-use Rattle.spiral_main.specs.RightRun.{AreWholeVectors}
+use Rattle.spiral_main.specs.RightFront.{AreWholeVectors}
 
 -- a certificate that proves a least cost, and not too long
 pub record IsRightCertificate (request : TransformRequest) (bytes : List ℕ) : Type 0 where

@@ -1,7 +1,0 @@
-use Rattle.spiral_words.specs.declared.Command.TheVariants as command
-use Rattle.spiral_main.proofs.Calls.{outcome_of}
-use Rattle.spiral_main.proofs.Good.{good_c}
-use Rattle.spiral_main.proofs.c_is_good.Goals as goal
-
-pub returns : goal.returns
-returns c = λ words bytes status text asked p. good_c.answer bytes status text (outcome_of words bytes command.C status text asked p)

@@ -1,6 +1,0 @@
-use Rattle.spiral_words.specs.declared.Command.TheVariants as command
-use Rattle.spiral_main.proofs.Calls.{outcome_of}
-use Rattle.spiral_main.proofs.exec_answers.Goals as goal
-
-pub returns : goal.returns
-returns c = λ schedule words bytes status text asked p. outcome_of words bytes (command.Exec schedule) status text asked p

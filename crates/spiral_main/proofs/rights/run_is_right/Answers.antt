@@ -1,0 +1,11 @@
+use Rattle.std.proofs.Common.{◌≡◌, refl, inr}
+use Rattle.stream_run.specs.Stream.{lines}
+use Rattle.transform_requests.specs.Fields.{asked_of}
+use Rattle.spiral_words.specs.declared.Command.TheVariants as command
+use Rattle.spiral_input.specs.Orders.{procs_in}
+use Rattle.spiral_main.proofs.RightFront.{data_are_right}
+use Rattle.spiral_main.proofs.rights.run_is_right.Goals as goal
+
+pub returns : goal.returns
+returns c = λ words bytes order plan asked right vectors.
+    inr (command.Run order, asked, data_are_right (procs_in order) bytes (λ p vs t. t ≡ lines (asked_of p.request) vs) plan _ right vectors refl)

@@ -1,0 +1,36 @@
+-- Inputs that are right in all that a command asks of them.
+use Rattle.std.specs.Prelude.{◌≤◌, ◌≡◌, ◌%◌, ℕ, true, List, length, Ok, None}
+use Rattle.std.specs.List.{list_all}
+use Rattle.data_stream.specs.Data.{tokens, is_good}
+use Rattle.spiral_input.specs.Asking.{spelt}
+use Rattle.spiral_input.specs.Commands.{first_stranger}
+use Rattle.stream_run.specs.Stream.{vectors_of}
+use Rattle.transform_code.specs.Planned.{IsPlanned}
+use Rattle.transform_requests.specs.Fields.{modulus_of, procs_of, size_of}
+use Rattle.spiral_main.specs.Front.{Front, line, room_behind}
+use Rattle.spiral_main.specs.Orders.{Planned}
+
+-- good tokens in whole vectors, and no more bytes than may come
+pub record AreWholeVectors (size room : ℕ) (bytes : List ℕ) : Type 0 where
+  pub few : length bytes ≤ room
+  pub good : list_all is_good (tokens bytes) ≡ true
+  pub whole : length (tokens bytes) % size ≡ 0
+
+-- the first line is not too long and spells the request, whose processors are all that the words name, and these trees are chosen for it: the least cost is within the budget
+pub record IsRightLine (names bytes : List ℕ) (plan : Planned) : Type 0 where
+  pub short : length ((line 256).first bytes) ≤ 256
+  pub spells : spelt ((line 256).first bytes) (Ok plan.request)
+  pub turns : first_stranger names (procs_of plan.request) ≡ None
+  pub planned : IsPlanned plan.request (Ok plan.trees)
+
+-- behind a front there are whole vectors
+abbrev pub HasWholeVectors : Front → ℕ → List ℕ → Type 0
+HasWholeVectors front size bytes = AreWholeVectors size (room_behind front bytes) (front.behind bytes)
+
+-- the vectors behind a front
+abbrev pub vectors_behind : Front → (size modulus : ℕ) → List ℕ → List (List ℕ)
+vectors_behind front size modulus bytes = vectors_of size modulus (tokens (front.behind bytes))
+
+-- those behind the line of a request
+abbrev pub request_vectors : Planned → List ℕ → List (List ℕ)
+request_vectors plan bytes = vectors_behind (line 256) (size_of plan.request) (modulus_of plan.request) bytes
