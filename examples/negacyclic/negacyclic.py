@@ -5,8 +5,8 @@
     negacyclic.py back SIZE M [WORDS]        the polynomial again
 
 M is a prime with 2 * SIZE dividing it less one, the twist that of `choose.py SIZE mod M`, and WORDS are further words
-of the request, as 'lanes 8 unroll 16'. What forward makes of two polynomials is multiplied place by place, and back makes
-of it their product modulo x^SIZE + 1. SPIRAL names the program (bin/spiral).
+of the request, as 'lanes 8 unroll 16'. What forward makes of two polynomials is multiplied place by place, and back
+makes of it their product modulo x^SIZE + 1. SPIRAL names the program (bin/spiral).
 """
 
 import argparse

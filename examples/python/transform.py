@@ -4,7 +4,7 @@
     forward([1, 2, 3, 4])
 
 The library is a shared one, made of what `library.py NAME` or `spiral-fast --name NAME` writes, and the header NAME.h
-stands beside it. Numbers are reduced below the modulus. Of an array of numpy, where it is there, the result is one, too.
+stands beside it. Numbers are reduced below the modulus. Of an array of numpy the result is one, too.
 """
 
 import ctypes
