@@ -1,5 +1,5 @@
 #!/usr/bin/env python3
-"""Nanoseconds of a C text with its own arrays, and of the function that is made of it, and their ratio. It judges nothing.
+"""Nanoseconds of a C text with its own arrays and of the function that is made of it, and their ratio. No judgement.
 
     functions.py [COMPILER [FLAG ..]]     clang -O3 -march=native, if nothing is named
 

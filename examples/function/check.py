@@ -3,10 +3,10 @@
 
     check.py [COMPILER ..]     gcc and clang, if none is named
 
-Two functions stand in one program and two threads call them at once; a third program spreads one transform over threads
-by its phases. Each is also built with ThreadSanitizer. All is compiled with -Wall -Wextra -Werror, and that of
-`spiral c` with -Wpedantic, too. Python and Rust call a function, where cargo is there. SPIRAL and SPIRAL_FAST name the
-programs (bin/spiral, bin/spiral-fast).
+Two functions stand in one program and two threads call them at once; another program spreads one transform over threads
+by its phases. Each is also built with ThreadSanitizer. A function's file shows its two names alone, and has no data but
+constants. All is compiled with -Wall -Wextra -Werror, and what is made of `spiral c` with -Wpedantic, too. Python and
+Rust call a function, where cargo is there. SPIRAL and SPIRAL_FAST name the programs (bin/spiral, bin/spiral-fast).
 """
 
 import os
@@ -80,6 +80,16 @@ def check_program(folder, main, names, build, given, wanted):
         sys.exit(f"function/check.py: {main} differs, built by {' '.join(build)}")
 
 
+def check_symbols(folder, names):
+    """A file shows its two functions, and keeps no data but constants."""
+    for name in names:
+        output(["cc", "-c", f"{folder}/{name}.c", "-o", f"{folder}/{name}.o", "-w", "-Wno-psabi"])
+        symbols = [line.split()[-2:] for line in output(["nm", f"{folder}/{name}.o"]).splitlines()]
+        shown = {symbol for kind, symbol in symbols if kind.isupper() and kind != "U"}
+        if shown != {name, f"{name}_phase"} or any(kind in "BbCDd" for kind, _ in symbols):
+            sys.exit(f"function/check.py: {name} has other names or data: {symbols}")
+
+
 def check(folder, compilers, writer):
     """Builds and runs both programs; gives how many were right."""
     right = 0
@@ -90,6 +100,7 @@ def check(folder, compilers, writer):
         if main == "two.c":
             requests["back"] = "i" + requests["forward"]
         write_functions(folder, writer, requests)
+        check_symbols(folder, requests)
         given = vectors(size, modulus)
         wanted = [transform(vector, modulus, root) for vector in given]
         for build in builds:

@@ -24,6 +24,8 @@ typedef void transform(uint64_t *out, const uint64_t *in, uint64_t *work);
 
 enum { PRIMES = 3, LIMB = 64 };
 
+_Static_assert(SIZE <= 1 << 20, "a sum of products is below the product of the primes");
+
 /* A factor modulo a prime, with the quotient of factor * 2^64 by the prime. */
 struct factor {
     uint64_t value, quotient;
