@@ -9,9 +9,10 @@ use Rattle.joined_passes.proofs.Counts.{count_both}
 use Rattle.joined_passes.proofs.Means.{are_in_turn}
 use Rattle.joined_passes.proofs.Phases.{one-phase}
 use Rattle.joined_passes.proofs.join.Goals as goal
+use Rattle.joined_passes.proofs.join.Goals.{In_ok-push}
 
 -- the one phase that is made
-phases : (c : goal.In_ok-push) →
+phases : (c : In_ok-push) →
     plain_phases c.push.new.self.items
     ≡ (joined (plain_merged c.args.first) c.args.diagonal.items (plain_merged c.args.second)).phases
 phases c =
