@@ -17,13 +17,16 @@ commanded_decided words (Ok a) (Err t) p q = absurd (usage_nothing words a q.1 p
 commanded_decided words (Err s) (Ok b) p q = absurd (usage_nothing words b p.1 q)
 commanded_decided words (Err s) (Err t) p q = ap ended (p.0 ∙ sym q.0)
 
-pub outcome_of : (words : List (List ℕ)) (bytes : List ℕ) (wanted : Command) (s : Status) (t : List ℕ) → IsAsked words wanted → IsOutcome words bytes s t
+pub outcome_of : (words : List (List ℕ)) (bytes : List ℕ) (wanted : Command) (s : Status) (t : List ℕ)
+    → IsAsked words wanted → IsOutcome words bytes s t
     → (outcomes_of wanted).answer bytes s t
 outcome_of words bytes wanted s t asked p =
     answer_for (commanded words) (λ (c : Command). (outcomes_of c).answer bytes) wanted s t (commanded_decided words) asked p
 
-pub one_status : (words : List (List ℕ)) (bytes : List ℕ) (a b : Status) (s t : List ℕ) → IsOutcome words bytes a s → IsOutcome words bytes b t → a ≡ b
+pub one_status : (words : List (List ℕ)) (bytes : List ℕ) (a b : Status) (s t : List ℕ) → IsOutcome words bytes a s
+    → IsOutcome words bytes b t → a ≡ b
 one_status words bytes a b s t p q = families.one_status words bytes a b s t (answer_from words bytes a s p) (answer_from words bytes b t q)
 
-pub one_text : (words : List (List ℕ)) (bytes : List ℕ) (a b : Status) (s t : List ℕ) → IsOutcome words bytes a s → IsOutcome words bytes b t → s ≡ t
+pub one_text : (words : List (List ℕ)) (bytes : List ℕ) (a b : Status) (s t : List ℕ) → IsOutcome words bytes a s
+    → IsOutcome words bytes b t → s ≡ t
 one_text words bytes a b s t p q = texts.one_text words bytes a b s t (answer_from words bytes a s p) (answer_from words bytes b t q)

@@ -17,14 +17,16 @@ use Rattle.spiral_main.specs.Compile.{IsCodeListing, compile_outcomes, good_comp
 use Rattle.spiral_main.specs.Convolve.{ConvPlanned, conv_planned, IsConvListing, IsConvolverListing, convolve_outcomes, good_convolver_outcomes}
 use Rattle.spiral_main.proofs.Within.{Within, front_within}
 
-more_written : (P Q : List ℕ → Type 0) (room : ℕ) → ((t : List ℕ) → P t → Q t) → Within (writing P room) (writing Q room)
+more_written : (P Q : List ℕ → Type 0) (room : ℕ) → ((t : List ℕ) → P t → Q t)
+    → Within (writing P room) (writing Q room)
 more_written P Q room h = record {
   answer = λ bytes s t p. (p.0, h t p.1);
   broken = λ read ended t p. p;
   cut = λ read left t p. (p.0, h t p.1);
 }
 
-more_mapped : (wants : Wants) (size modulus : ℕ) (P Q : List (List ℕ) → List ℕ → Type 0) (room : ℕ) → ((vectors : List (List ℕ)) (t : List ℕ) → P vectors t → Q vectors t)
+more_mapped : (wants : Wants) (size modulus : ℕ) (P Q : List (List ℕ) → List ℕ → Type 0) (room : ℕ)
+    → ((vectors : List (List ℕ)) (t : List ℕ) → P vectors t → Q vectors t)
     → Within (mapping wants size modulus P room) (mapping wants size modulus Q room)
 more_mapped wants size modulus P Q room h = record {
   answer = λ bytes s t p. (p.0, h _ t p.1);
@@ -51,7 +53,8 @@ pub good_compile : (m : ℕ) → Within (compile_outcomes m) (good_compile_outco
 good_compile m = front_within (line 65536) written written (λ (formula : Formula). writing (IsFormulaListing m formula)) (λ (formula : Formula). writing (IsCodeListing m formula)) (λ text r p. p)
     (λ formula room. more_written (IsFormulaListing m formula) (IsCodeListing m formula) room (λ t p. (p.0, p.1.code, p.2)))
 
-list_kept : (plan : ConvPlanned) (vectors : List (List ℕ)) (t : List ℕ) → by_first (IsConvListing plan) vectors t → by_first (IsConvolverListing plan) vectors t
+list_kept : (plan : ConvPlanned) (vectors : List (List ℕ)) (t : List ℕ) → by_first (IsConvListing plan) vectors t
+    → by_first (IsConvolverListing plan) vectors t
 list_kept plan [] t p = p
 list_kept plan (h ∷ later) t p = (p.0, p.1.convolver, p.2)
 

@@ -5,7 +5,8 @@ use Rattle.spiral_input.specs.Stage.{Stage, given, GoesOn, ◌>>=◌, IsAnswerBy
 
 -- Three stages
 
-pub joined : {A B C : Type 0} (a : Stage A) (b : A → Stage B) (c : B → Stage C) (r : Result C Status) → ((a >>= b) >>= c) r → (a >>= (λ (x : A). b x >>= c)) r
+pub joined : {A B C : Type 0} (a : Stage A) (b : A → Stage B) (c : B → Stage C) (r : Result C Status)
+    → ((a >>= b) >>= c) r → (a >>= (λ (x : A). b x >>= c)) r
 joined a b c (Ok v) p = record {
   value = p.before.value;
   before = p.before.before;
@@ -25,7 +26,8 @@ refused_behind a b c s x gives (inl p) = inl (inr (record { value = x; before = 
 refused_behind a b c s x gives (inr p) =
     inr (record { value = p.value; before = record { value = x; before = gives; behind = p.before }; behind = p.behind })
 
-pub split_off : {A B C : Type 0} (a : Stage A) (b : A → Stage B) (c : B → Stage C) (r : Result C Status) → (a >>= (λ (x : A). b x >>= c)) r → ((a >>= b) >>= c) r
+pub split_off : {A B C : Type 0} (a : Stage A) (b : A → Stage B) (c : B → Stage C) (r : Result C Status)
+    → (a >>= (λ (x : A). b x >>= c)) r → ((a >>= b) >>= c) r
 split_off a b c (Ok v) p = record {
   value = p.behind.value;
   before = record { value = p.value; before = p.before; behind = p.behind.before };
@@ -53,17 +55,21 @@ no_unit a (Err s) (inr p) = absurd (ok_err s (Err s) (Ok p.value) p.value refl r
 
 -- The answer by two stages is that by the first, of answers by the second
 
-nested_refusal : {A B : Type 0} (first : Stage A) (next : A → Stage B) (Settles : B → Status → List ℕ → Type 0) (s : Status) (t : List ℕ)
-    → first (Err s) ⊎ GoesOn first next (Err s) → t ≡ [] → IsAnswerBy first (λ (a : A). IsAnswerBy (next a) Settles) s t
+nested_refusal : {A B : Type 0} (first : Stage A) (next : A → Stage B) (Settles : B → Status → List ℕ → Type 0)
+    (s : Status) (t : List ℕ)
+    → first (Err s) ⊎ GoesOn first next (Err s) → t ≡ []
+    → IsAnswerBy first (λ (a : A). IsAnswerBy (next a) Settles) s t
 nested_refusal first next Settles s t (inl p) e = inl (p, e)
 nested_refusal first next Settles s t (inr p) e = inr (p.value, p.before, inl (p.behind, e))
 
-pub nested : {A B : Type 0} (first : Stage A) (next : A → Stage B) (Settles : B → Status → List ℕ → Type 0) (s : Status) (t : List ℕ)
+pub nested : {A B : Type 0} (first : Stage A) (next : A → Stage B) (Settles : B → Status → List ℕ → Type 0)
+    (s : Status) (t : List ℕ)
     → IsAnswerBy (first >>= next) Settles s t → IsAnswerBy first (λ (a : A). IsAnswerBy (next a) Settles) s t
 nested first next Settles s t (inl p) = nested_refusal first next Settles s t p.0 p.1
 nested first next Settles s t (inr p) = inr (p.1.value, p.1.before, inr (p.0, p.1.behind, p.2))
 
-pub unnested : {A B : Type 0} (first : Stage A) (next : A → Stage B) (Settles : B → Status → List ℕ → Type 0) (s : Status) (t : List ℕ)
+pub unnested : {A B : Type 0} (first : Stage A) (next : A → Stage B) (Settles : B → Status → List ℕ → Type 0)
+    (s : Status) (t : List ℕ)
     → IsAnswerBy first (λ (a : A). IsAnswerBy (next a) Settles) s t → IsAnswerBy (first >>= next) Settles s t
 unnested first next Settles s t (inl p) = inl (inl p.0, p.1)
 unnested first next Settles s t (inr (a, gives, inl p)) = inl (inr (record { value = a; before = gives; behind = p.0 }), p.1)
@@ -71,16 +77,19 @@ unnested first next Settles s t (inr (a, gives, inr p)) = inr (p.0, record { val
 
 -- Another stage, and more that is settled
 
-pub answer_map : {A : Type 0} (stage other : Stage A) (P Q : A → Status → List ℕ → Type 0) (s : Status) (t : List ℕ) → ((r : Result A Status) → stage r → other r)
+pub answer_map : {A : Type 0} (stage other : Stage A) (P Q : A → Status → List ℕ → Type 0) (s : Status) (t : List ℕ)
+    → ((r : Result A Status) → stage r → other r)
     → ((a : A) → P a s t → Q a s t) → IsAnswerBy stage P s t → IsAnswerBy other Q s t
 answer_map stage other P Q s t g h (inl p) = inl (g (Err s) p.0, p.1)
 answer_map stage other P Q s t g h (inr p) = inr (p.0, g (Ok p.0) p.1, h p.0 p.2)
 
-pub cut_map : {A : Type 0} (ended : Type 0) (stage other : Stage A) (P Q : A → List ℕ → Type 0) (t : List ℕ) → ((r : Result A Status) → stage r → other r)
+pub cut_map : {A : Type 0} (ended : Type 0) (stage other : Stage A) (P Q : A → List ℕ → Type 0) (t : List ℕ)
+    → ((r : Result A Status) → stage r → other r)
     → ((a : A) → P a t → Q a t) → IsCutBy ended stage P t → IsCutBy ended other Q t
 cut_map ended stage other P Q t g h p = (p.0, record { front = p.1.front; gives = g (Ok p.0) p.1.gives }, h p.0 p.2)
 
-pub broken_map : {A : Type 0} (unended ended : Type 0) (stage other : Stage A) (P Q : A → List ℕ → Type 0) (t : List ℕ) → ((r : Result A Status) → stage r → other r)
+pub broken_map : {A : Type 0} (unended ended : Type 0) (stage other : Stage A) (P Q : A → List ℕ → Type 0)
+    (t : List ℕ) → ((r : Result A Status) → stage r → other r)
     → ((a : A) → P a t → Q a t) → IsBrokenBy unended ended stage P t → IsBrokenBy unended ended other Q t
 broken_map unended ended stage other P Q t g h (inl p) = inl p
 broken_map unended ended stage other P Q t g h (inr p) = inr (cut_map ended stage other P Q t g h p)

@@ -35,11 +35,13 @@ abbrev pub applying : ℕ → Formula → Work
 applying m formula = mapping all (size_of formula) m (λ vectors text. text ≡ lines (formulas.apply m formula) vectors)
 
 apply_broken : (m : ℕ) (schedule : Turns) (read : List ℕ) (ended : Type 0) (t : List ℕ)
-    → (families.formula_outcomes (command.Apply m schedule)).broken read ended t → (apply_outcomes m schedule).broken read ended t
+    → (families.formula_outcomes (command.Apply m schedule)).broken read ended t
+    → (apply_outcomes m schedule).broken read ended t
 apply_broken m schedule read ended t (inl p) = inl (record { unended = p.0.unended; short = p.0.short }, p.1)
 apply_broken m schedule read ended t (inr p) = inr (p.0, record { front = p.1.front; gives = p.1.gives }, (p.2.0, tt, p.2.1))
 
-pub apply_to : (m : ℕ) (schedule : Turns) → Within (families.formula_outcomes (command.Apply m schedule)) (apply_outcomes m schedule)
+pub apply_to : (m : ℕ) (schedule : Turns)
+    → Within (families.formula_outcomes (command.Apply m schedule)) (apply_outcomes m schedule)
 apply_to m schedule = record {
   answer = λ bytes s t p. p;
   broken = apply_broken m schedule;
@@ -47,11 +49,13 @@ apply_to m schedule = record {
 }
 
 broken_apply : (m : ℕ) (schedule : Turns) (read : List ℕ) (ended : Type 0) (t : List ℕ)
-    → (apply_outcomes m schedule).broken read ended t → (families.formula_outcomes (command.Apply m schedule)).broken read ended t
+    → (apply_outcomes m schedule).broken read ended t
+    → (families.formula_outcomes (command.Apply m schedule)).broken read ended t
 broken_apply m schedule read ended t (inl p) = inl (record { unended = p.0.unended; short = p.0.short }, p.1)
 broken_apply m schedule read ended t (inr p) = inr (p.0, record { front = p.1.front; gives = p.1.gives }, (p.2.0, p.2.2))
 
-pub apply_from : (m : ℕ) (schedule : Turns) → Within (apply_outcomes m schedule) (families.formula_outcomes (command.Apply m schedule))
+pub apply_from : (m : ℕ) (schedule : Turns)
+    → Within (apply_outcomes m schedule) (families.formula_outcomes (command.Apply m schedule))
 apply_from m schedule = record {
   answer = λ bytes s t p. p;
   broken = broken_apply m schedule;
@@ -72,7 +76,8 @@ turned_from : (m : ℕ) → Within (compile_outcomes m) (compile_turned m)
 turned_from m = front_within (line 65536) written (formed []) (λ (formula : Formula). writing (IsFormulaListing m formula)) (λ (formula : Formula). writing (IsFormulaListing m formula))
     (λ text r p. with_unit (written text) r p) (λ formula room. record { answer = λ bytes s t p. p; broken = λ read ended t p. p; cut = λ read left t p. p })
 
-compile_broken : (m : ℕ) (read : List ℕ) (ended : Type 0) (t : List ℕ) → (families.formula_outcomes (command.Compile m)).broken read ended t → (compile_turned m).broken read ended t
+compile_broken : (m : ℕ) (read : List ℕ) (ended : Type 0) (t : List ℕ)
+    → (families.formula_outcomes (command.Compile m)).broken read ended t → (compile_turned m).broken read ended t
 compile_broken m read ended t (inl p) = inl (record { unended = p.0.unended; short = p.0.short }, p.1)
 compile_broken m read ended t (inr p) = absurd p.2
 
@@ -83,7 +88,8 @@ compile_to m = within_then (families.formula_outcomes (command.Compile m)) (comp
   cut = λ read left t p. p;
 }) (turned_to m)
 
-broken_compile : (m : ℕ) (read : List ℕ) (ended : Type 0) (t : List ℕ) → (compile_turned m).broken read ended t → (families.formula_outcomes (command.Compile m)).broken read ended t
+broken_compile : (m : ℕ) (read : List ℕ) (ended : Type 0) (t : List ℕ) → (compile_turned m).broken read ended t
+    → (families.formula_outcomes (command.Compile m)).broken read ended t
 broken_compile m read ended t (inl p) = inl (record { unended = p.0.unended; short = p.0.short }, p.1)
 broken_compile m read ended t (inr p) = absurd p.2
 
@@ -96,14 +102,16 @@ compile_from m = within_then (compile_outcomes m) (compile_turned m) (families.f
 
 -- `exec`
 
-exec_broken : (schedule : Turns) (read : List ℕ) (ended : Type 0) (t : List ℕ) → (listings.exec_outcomes schedule).broken read ended t → (exec_outcomes schedule).broken read ended t
+exec_broken : (schedule : Turns) (read : List ℕ) (ended : Type 0) (t : List ℕ)
+    → (listings.exec_outcomes schedule).broken read ended t → (exec_outcomes schedule).broken read ended t
 exec_broken schedule read ended t (inl p) = inl (record { unended = p.0.unended; short = p.0.short }, p.1)
 exec_broken schedule read ended t (inr p) = inr (p.0, record { front = p.1.front; gives = p.1.gives }, (p.2.0, tt, p.2.1))
 
 pub exec_to : (schedule : Turns) → Within (listings.exec_outcomes schedule) (exec_outcomes schedule)
 exec_to schedule = record { answer = λ bytes s t p. p; broken = exec_broken schedule; cut = λ read left t p. p }
 
-broken_exec : (schedule : Turns) (read : List ℕ) (ended : Type 0) (t : List ℕ) → (exec_outcomes schedule).broken read ended t → (listings.exec_outcomes schedule).broken read ended t
+broken_exec : (schedule : Turns) (read : List ℕ) (ended : Type 0) (t : List ℕ)
+    → (exec_outcomes schedule).broken read ended t → (listings.exec_outcomes schedule).broken read ended t
 broken_exec schedule read ended t (inl p) = inl (record { unended = p.0.unended; short = p.0.short }, p.1)
 broken_exec schedule read ended t (inr p) = inr (p.0, record { front = p.1.front; gives = p.1.gives }, (p.2.0, p.2.2))
 
@@ -138,22 +146,26 @@ settling wanted request room = record {
   cut = ComesToConv wanted request room;
 }
 
-status_same : (schedule : Turns) (as_code : Bool) (size : ℕ) (answer : Result (Unit {0}) StreamFault) (vectors : List (List ℕ))
+status_same : (schedule : Turns) (as_code : Bool) (size : ℕ) (answer : Result (Unit {0}) StreamFault)
+    (vectors : List (List ℕ))
     → conv_status (wanted_by schedule as_code) size answer vectors ≡ status_by (wants_of as_code) size answer vectors
 status_same schedule false size answer [] = refl
 status_same schedule false size answer (h ∷ later) = refl
 status_same schedule true size answer [] = refl
 status_same schedule true size answer (h ∷ later) = refl
 
-reads_on : (schedule : Turns) (as_code : Bool) (vectors : List (List ℕ)) → GoesOnBehind (wanted_by schedule as_code) vectors → ReadsOn (wants_of as_code) vectors
+reads_on : (schedule : Turns) (as_code : Bool) (vectors : List (List ℕ))
+    → GoesOnBehind (wanted_by schedule as_code) vectors → ReadsOn (wants_of as_code) vectors
 reads_on schedule false vectors p = tt
 reads_on schedule true vectors p = p
 
-goes_on : (schedule : Turns) (as_code : Bool) (vectors : List (List ℕ)) → ReadsOn (wants_of as_code) vectors → GoesOnBehind (wanted_by schedule as_code) vectors
+goes_on : (schedule : Turns) (as_code : Bool) (vectors : List (List ℕ)) → ReadsOn (wants_of as_code) vectors
+    → GoesOnBehind (wanted_by schedule as_code) vectors
 goes_on schedule false vectors p = tt
 goes_on schedule true vectors p = p
 
-text_to : (schedule : Turns) (as_code : Bool) (r : Request) (vectors : List (List ℕ)) (t : List ℕ) → IsConvolvable r → IsConvText (wanted_by schedule as_code) r vectors t
+text_to : (schedule : Turns) (as_code : Bool) (r : Request) (vectors : List (List ℕ)) (t : List ℕ) → IsConvolvable r
+    → IsConvText (wanted_by schedule as_code) r vectors t
     → (tree : Breakdown) × IsConvPlanned r (Ok tree) × list_text as_code (with_tree r tree) vectors t
 text_to schedule false r [] t can p = (can.0, can.1, p)
 text_to schedule false r (h ∷ later) t can p = (can.0, can.1, p)
@@ -161,7 +173,8 @@ text_to schedule true r [] t can p = (can.0, can.1, p)
 text_to schedule true r (h ∷ later) t can (program, is, p) =
     (is.tree, is.planned, (program, record { letters = is.letters; convolver = is.convolver }, p))
 
-text_from : (schedule : Turns) (as_code : Bool) (r : Request) (tree : Breakdown) (vectors : List (List ℕ)) (t : List ℕ) → IsConvPlanned r (Ok tree)
+text_from : (schedule : Turns) (as_code : Bool) (r : Request) (tree : Breakdown) (vectors : List (List ℕ))
+    (t : List ℕ) → IsConvPlanned r (Ok tree)
     → list_text as_code (with_tree r tree) vectors t → IsConvText (wanted_by schedule as_code) r vectors t
 text_from schedule false r tree [] t planned p = p
 text_from schedule false r tree (h ∷ later) t planned p = p
@@ -169,8 +182,10 @@ text_from schedule true r tree [] t planned p = p
 text_from schedule true r tree (h ∷ later) t planned (program, is, p) =
     (program, record { tree = tree; planned = planned; letters = is.letters; convolver = is.convolver }, p)
 
-convolved_answer : (schedule : Turns) (as_code : Bool) (r : Request) (room : ℕ) (bytes : List ℕ) (s : Status) (t : List ℕ)
-    → (staged (convolvable r) (settling (wanted_by schedule as_code)) room).answer bytes s t → (staged (conv_chosen r) (convolving as_code) room).answer bytes s t
+convolved_answer : (schedule : Turns) (as_code : Bool) (r : Request) (room : ℕ) (bytes : List ℕ) (s : Status)
+    (t : List ℕ)
+    → (staged (convolvable r) (settling (wanted_by schedule as_code)) room).answer bytes s t
+    → (staged (conv_chosen r) (convolving as_code) room).answer bytes s t
 convolved_answer schedule as_code r room bytes s t (inl p) = inl p
 convolved_answer schedule as_code r room bytes s t (inr (same, is, p)) =
     let own = subst (λ (q : Request). SettlesConv (wanted_by schedule as_code) q room bytes s t) is.1 p in
@@ -193,8 +208,10 @@ convolves_to schedule as_code r room = record {
       (with_tree r found.0, (refl, found.1), (own.0, own.1, found.2));
 }
 
-settled_answer : (schedule : Turns) (as_code : Bool) (r : Request) (room : ℕ) (bytes : List ℕ) (s : Status) (t : List ℕ)
-    → (staged (conv_chosen r) (convolving as_code) room).answer bytes s t → (staged (convolvable r) (settling (wanted_by schedule as_code)) room).answer bytes s t
+settled_answer : (schedule : Turns) (as_code : Bool) (r : Request) (room : ℕ) (bytes : List ℕ) (s : Status)
+    (t : List ℕ)
+    → (staged (conv_chosen r) (convolving as_code) room).answer bytes s t
+    → (staged (convolvable r) (settling (wanted_by schedule as_code)) room).answer bytes s t
 settled_answer schedule as_code r room bytes s t (inl p) = inl p
 settled_answer schedule as_code r room bytes s t (inr (plan, is, p)) =
     let own = subst (λ (q : Request). (convolving as_code (with_tree q plan.tree) room).answer bytes s t) is.0 p in
@@ -250,12 +267,15 @@ list_from schedule as_code =
     (λ (r : Request). staged (convolvable r) (settling (wanted_by schedule as_code))) (λ text r p. p) (convolves_from schedule as_code))
     (front_join (line 256) (conv_asks schedule) convolvable (settling (wanted_by schedule as_code))))
 
-landed_broken : (schedule : Turns) (as_code : Bool) (read : List ℕ) (ended : Type 0) (t : List ℕ) → (conv_outcomes (wanted_by schedule as_code)).broken read ended t → (by_list schedule as_code).broken read ended t
+landed_broken : (schedule : Turns) (as_code : Bool) (read : List ℕ) (ended : Type 0) (t : List ℕ)
+    → (conv_outcomes (wanted_by schedule as_code)).broken read ended t
+    → (by_list schedule as_code).broken read ended t
 landed_broken schedule as_code read ended t (inl p) = inl (record { unended = p.0.unended; short = p.0.short }, p.1)
 landed_broken schedule as_code read ended t (inr (r, p, q)) =
     inr (r, record { front = p.front; gives = joined (given (taken_from (line 256) read)) (conv_asks schedule) convolvable (Ok r) p.gives }, q)
 
-landed_to : (schedule : Turns) (as_code : Bool) → Within (conv_outcomes (wanted_by schedule as_code)) (by_list schedule as_code)
+landed_to : (schedule : Turns) (as_code : Bool)
+    → Within (conv_outcomes (wanted_by schedule as_code)) (by_list schedule as_code)
 landed_to schedule as_code = record {
   answer = λ bytes s t p.
       answer_map (ordered (line 256) (conv_asks schedule) bytes >>= convolvable) (ordered (line 256) (λ text. conv_asks schedule text >>= convolvable) bytes)
@@ -270,12 +290,15 @@ landed_to schedule as_code = record {
   );
 }
 
-broken_landed : (schedule : Turns) (as_code : Bool) (read : List ℕ) (ended : Type 0) (t : List ℕ) → (by_list schedule as_code).broken read ended t → (conv_outcomes (wanted_by schedule as_code)).broken read ended t
+broken_landed : (schedule : Turns) (as_code : Bool) (read : List ℕ) (ended : Type 0) (t : List ℕ)
+    → (by_list schedule as_code).broken read ended t
+    → (conv_outcomes (wanted_by schedule as_code)).broken read ended t
 broken_landed schedule as_code read ended t (inl p) = inl (record { unended = p.0.unended; short = p.0.short }, p.1)
 broken_landed schedule as_code read ended t (inr (r, p, q)) =
     inr (r, record { front = p.front; gives = split_off (given (taken_from (line 256) read)) (conv_asks schedule) convolvable (Ok r) p.gives }, q)
 
-landed_from : (schedule : Turns) (as_code : Bool) → Within (by_list schedule as_code) (conv_outcomes (wanted_by schedule as_code))
+landed_from : (schedule : Turns) (as_code : Bool)
+    → Within (by_list schedule as_code) (conv_outcomes (wanted_by schedule as_code))
 landed_from schedule as_code = record {
   answer = λ bytes s t p.
       answer_map (ordered (line 256) (λ text. conv_asks schedule text >>= convolvable) bytes) (ordered (line 256) (conv_asks schedule) bytes >>= convolvable)
@@ -290,10 +313,12 @@ landed_from schedule as_code = record {
   );
 }
 
-pub convolve_to : (schedule : Turns) (as_code : Bool) → Within (conv_outcomes (command.Convolve schedule as_code)) (convolve_outcomes schedule as_code)
+pub convolve_to : (schedule : Turns) (as_code : Bool)
+    → Within (conv_outcomes (command.Convolve schedule as_code)) (convolve_outcomes schedule as_code)
 convolve_to schedule false = within_then (conv_outcomes (wanted_by schedule false)) (by_list schedule false) (convolve_outcomes schedule false) (landed_to schedule false) (list_to schedule false)
 convolve_to schedule true = within_then (conv_outcomes (wanted_by schedule true)) (by_list schedule true) (convolve_outcomes schedule true) (landed_to schedule true) (list_to schedule true)
 
-pub convolve_from : (schedule : Turns) (as_code : Bool) → Within (convolve_outcomes schedule as_code) (conv_outcomes (command.Convolve schedule as_code))
+pub convolve_from : (schedule : Turns) (as_code : Bool)
+    → Within (convolve_outcomes schedule as_code) (conv_outcomes (command.Convolve schedule as_code))
 convolve_from schedule false = within_then (convolve_outcomes schedule false) (by_list schedule false) (conv_outcomes (wanted_by schedule false)) (list_from schedule false) (landed_from schedule false)
 convolve_from schedule true = within_then (convolve_outcomes schedule true) (by_list schedule true) (conv_outcomes (wanted_by schedule true)) (list_from schedule true) (landed_from schedule true)

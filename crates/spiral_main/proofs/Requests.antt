@@ -57,8 +57,10 @@ record Writes (wanted : Command) (IsText : Planned → List ℕ → Type 0) : Ty
       → (trees : List Breakdown) × IsPlanned r (Ok trees) × IsText (with_trees r trees) t
   from : (r : TransformRequest) (trees : List Breakdown) (t : List ℕ) → IsPlanned r (Ok trees) → IsText (with_trees r trees) t → IsTextOf wanted r t
 
-written_answer : (wanted : Command) (IsText : Planned → List ℕ → Type 0) → Writes wanted IsText → (r : TransformRequest) (room : ℕ) (bytes : List ℕ) (s : Status) (t : List ℕ)
-    → (request_outcomes wanted r room).answer bytes s t → (staged (chosen r) (λ (plan : Planned). writing (IsText plan)) room).answer bytes s t
+written_answer : (wanted : Command) (IsText : Planned → List ℕ → Type 0) → Writes wanted IsText
+    → (r : TransformRequest) (room : ℕ) (bytes : List ℕ) (s : Status) (t : List ℕ)
+    → (request_outcomes wanted r room).answer bytes s t
+    → (staged (chosen r) (λ (plan : Planned). writing (IsText plan)) room).answer bytes s t
 written_answer wanted IsText w r room bytes s t (inl p) = inl (w.budget.declined r s p.0, p.1)
 written_answer wanted IsText w r room bytes s t (inr (accepted, inl p)) = absurd (w.no_data r _ t p.1)
 written_answer wanted IsText w r room bytes s t (inr (accepted, inr (inl p))) =
@@ -66,20 +68,25 @@ written_answer wanted IsText w r room bytes s t (inr (accepted, inr (inl p))) =
     inr (with_trees r found.0, (refl, found.1), (p.0, found.2))
 written_answer wanted IsText w r room bytes s t (inr (accepted, inr (inr p))) = absurd (w.budget.no_check p.0)
 
-written_broken : (wanted : Command) (IsText : Planned → List ℕ → Type 0) → Writes wanted IsText → (r : TransformRequest) (room : ℕ) (read : List ℕ) (ended : Type 0) (t : List ℕ)
-    → (request_outcomes wanted r room).broken read ended t → (staged (chosen r) (λ (plan : Planned). writing (IsText plan)) room).broken read ended t
+written_broken : (wanted : Command) (IsText : Planned → List ℕ → Type 0) → Writes wanted IsText
+    → (r : TransformRequest) (room : ℕ) (read : List ℕ) (ended : Type 0) (t : List ℕ)
+    → (request_outcomes wanted r room).broken read ended t
+    → (staged (chosen r) (λ (plan : Planned). writing (IsText plan)) room).broken read ended t
 written_broken wanted IsText w r room read ended t (accepted, inl p) = absurd (w.no_data r _ t p.1)
 written_broken wanted IsText w r room read ended t (accepted, inr p) = absurd (w.budget.no_check p.0)
 
-written_cut : (wanted : Command) (IsText : Planned → List ℕ → Type 0) → Writes wanted IsText → (r : TransformRequest) (room : ℕ) (read left t : List ℕ)
-    → (request_outcomes wanted r room).cut read left t → (staged (chosen r) (λ (plan : Planned). writing (IsText plan)) room).cut read left t
+written_cut : (wanted : Command) (IsText : Planned → List ℕ → Type 0) → Writes wanted IsText
+    → (r : TransformRequest) (room : ℕ) (read left t : List ℕ)
+    → (request_outcomes wanted r room).cut read left t
+    → (staged (chosen r) (λ (plan : Planned). writing (IsText plan)) room).cut read left t
 written_cut wanted IsText w r room read left t (accepted, inl p) = absurd (w.no_data r _ t p.2)
 written_cut wanted IsText w r room read left t (accepted, inr (inl p)) =
     let found = w.to r t (w.budget.accepted r accepted) p.1 in
     (with_trees r found.0, (refl, found.1), (p.0, found.2))
 written_cut wanted IsText w r room read left t (accepted, inr (inr p)) = absurd (w.budget.no_check p.0)
 
-writes_to : (wanted : Command) (IsText : Planned → List ℕ → Type 0) → Writes wanted IsText → (r : TransformRequest) (room : ℕ)
+writes_to : (wanted : Command) (IsText : Planned → List ℕ → Type 0) → Writes wanted IsText
+    → (r : TransformRequest) (room : ℕ)
     → Within (request_outcomes wanted r room) (staged (chosen r) (λ (plan : Planned). writing (IsText plan)) room)
 writes_to wanted IsText w r room = record {
   answer = written_answer wanted IsText w r room;
@@ -87,16 +94,20 @@ writes_to wanted IsText w r room = record {
   cut = written_cut wanted IsText w r room;
 }
 
-own_text : (IsText : Planned → List ℕ → Type 0) (r : TransformRequest) (plan : Planned) (t : List ℕ) → plan.request ≡ r → IsText plan t → IsText (with_trees r plan.trees) t
+own_text : (IsText : Planned → List ℕ → Type 0) (r : TransformRequest) (plan : Planned) (t : List ℕ)
+    → plan.request ≡ r → IsText plan t → IsText (with_trees r plan.trees) t
 own_text IsText r plan t e p = subst (λ (q : TransformRequest). IsText (with_trees q plan.trees) t) e p
 
-writing_answer : (wanted : Command) (IsText : Planned → List ℕ → Type 0) → Writes wanted IsText → (r : TransformRequest) (room : ℕ) (bytes : List ℕ) (s : Status) (t : List ℕ)
-    → (staged (chosen r) (λ (plan : Planned). writing (IsText plan)) room).answer bytes s t → (request_outcomes wanted r room).answer bytes s t
+writing_answer : (wanted : Command) (IsText : Planned → List ℕ → Type 0) → Writes wanted IsText
+    → (r : TransformRequest) (room : ℕ) (bytes : List ℕ) (s : Status) (t : List ℕ)
+    → (staged (chosen r) (λ (plan : Planned). writing (IsText plan)) room).answer bytes s t
+    → (request_outcomes wanted r room).answer bytes s t
 writing_answer wanted IsText w r room bytes s t (inl p) = inl (w.budget.refused r s p.0, p.1)
 writing_answer wanted IsText w r room bytes s t (inr (plan, is, p)) =
     inr (w.budget.affordable r (plan.trees, is.1), inr (inl (p.0, w.from r plan.trees t is.1 (own_text IsText r plan t is.0 p.1))))
 
-writes_from : (wanted : Command) (IsText : Planned → List ℕ → Type 0) → Writes wanted IsText → (r : TransformRequest) (room : ℕ)
+writes_from : (wanted : Command) (IsText : Planned → List ℕ → Type 0) → Writes wanted IsText
+    → (r : TransformRequest) (room : ℕ)
     → Within (staged (chosen r) (λ (plan : Planned). writing (IsText plan)) room) (request_outcomes wanted r room)
 writes_from wanted IsText w r room = record {
   answer = writing_answer wanted IsText w r room;
@@ -120,7 +131,8 @@ record Maps (wanted : Command) (IsText : Planned → List (List ℕ) → List �
   from : (r : TransformRequest) (trees : List Breakdown) (vectors : List (List ℕ)) (t : List ℕ) → IsPlanned r (Ok trees) → IsText (with_trees r trees) vectors t
       → IsTextOfData wanted r vectors t
 
-mapped_answer : (wanted : Command) (IsText : Planned → List (List ℕ) → List ℕ → Type 0) → Maps wanted IsText → (r : TransformRequest) (room : ℕ) (bytes : List ℕ) (s : Status) (t : List ℕ)
+mapped_answer : (wanted : Command) (IsText : Planned → List (List ℕ) → List ℕ → Type 0) → Maps wanted IsText
+    → (r : TransformRequest) (room : ℕ) (bytes : List ℕ) (s : Status) (t : List ℕ)
     → (request_outcomes wanted r room).answer bytes s t → (staged (chosen r) (over IsText) room).answer bytes s t
 mapped_answer wanted IsText w r room bytes s t (inl p) = inl (w.budget.declined r s p.0, p.1)
 mapped_answer wanted IsText w r room bytes s t (inr (accepted, inl p)) =
@@ -129,14 +141,17 @@ mapped_answer wanted IsText w r room bytes s t (inr (accepted, inl p)) =
 mapped_answer wanted IsText w r room bytes s t (inr (accepted, inr (inl p))) = absurd (w.no_text r t p.1)
 mapped_answer wanted IsText w r room bytes s t (inr (accepted, inr (inr p))) = absurd (w.budget.no_check p.0)
 
-mapped_broken : (wanted : Command) (IsText : Planned → List (List ℕ) → List ℕ → Type 0) → Maps wanted IsText → (r : TransformRequest) (room : ℕ) (read : List ℕ) (ended : Type 0) (t : List ℕ)
-    → (request_outcomes wanted r room).broken read ended t → (staged (chosen r) (over IsText) room).broken read ended t
+mapped_broken : (wanted : Command) (IsText : Planned → List (List ℕ) → List ℕ → Type 0) → Maps wanted IsText
+    → (r : TransformRequest) (room : ℕ) (read : List ℕ) (ended : Type 0) (t : List ℕ)
+    → (request_outcomes wanted r room).broken read ended t
+    → (staged (chosen r) (over IsText) room).broken read ended t
 mapped_broken wanted IsText w r room read ended t (accepted, inl p) =
     let found = w.to r _ t (w.budget.accepted r accepted) p.1 in
     (with_trees r found.0, (refl, found.1), (p.0, tt, found.2))
 mapped_broken wanted IsText w r room read ended t (accepted, inr p) = absurd (w.budget.no_check p.0)
 
-mapped_cut : (wanted : Command) (IsText : Planned → List (List ℕ) → List ℕ → Type 0) → Maps wanted IsText → (r : TransformRequest) (room : ℕ) (read left t : List ℕ)
+mapped_cut : (wanted : Command) (IsText : Planned → List (List ℕ) → List ℕ → Type 0) → Maps wanted IsText
+    → (r : TransformRequest) (room : ℕ) (read left t : List ℕ)
     → (request_outcomes wanted r room).cut read left t → (staged (chosen r) (over IsText) room).cut read left t
 mapped_cut wanted IsText w r room read left t (accepted, inl p) =
     let found = w.to r _ t (w.budget.accepted r accepted) p.2 in
@@ -144,7 +159,8 @@ mapped_cut wanted IsText w r room read left t (accepted, inl p) =
 mapped_cut wanted IsText w r room read left t (accepted, inr (inl p)) = absurd (w.no_text r t p.1)
 mapped_cut wanted IsText w r room read left t (accepted, inr (inr p)) = absurd (w.budget.no_check p.0)
 
-maps_to : (wanted : Command) (IsText : Planned → List (List ℕ) → List ℕ → Type 0) → Maps wanted IsText → (r : TransformRequest) (room : ℕ)
+maps_to : (wanted : Command) (IsText : Planned → List (List ℕ) → List ℕ → Type 0) → Maps wanted IsText
+    → (r : TransformRequest) (room : ℕ)
     → Within (request_outcomes wanted r room) (staged (chosen r) (over IsText) room)
 maps_to wanted IsText w r room = record {
   answer = mapped_answer wanted IsText w r room;
@@ -152,14 +168,16 @@ maps_to wanted IsText w r room = record {
   cut = mapped_cut wanted IsText w r room;
 }
 
-mapping_answer : (wanted : Command) (IsText : Planned → List (List ℕ) → List ℕ → Type 0) → Maps wanted IsText → (r : TransformRequest) (room : ℕ) (bytes : List ℕ) (s : Status) (t : List ℕ)
+mapping_answer : (wanted : Command) (IsText : Planned → List (List ℕ) → List ℕ → Type 0) → Maps wanted IsText
+    → (r : TransformRequest) (room : ℕ) (bytes : List ℕ) (s : Status) (t : List ℕ)
     → (staged (chosen r) (over IsText) room).answer bytes s t → (request_outcomes wanted r room).answer bytes s t
 mapping_answer wanted IsText w r room bytes s t (inl p) = inl (w.budget.refused r s p.0, p.1)
 mapping_answer wanted IsText w r room bytes s t (inr (plan, is, p)) =
     let q = subst (λ (r : TransformRequest). (over IsText (with_trees r plan.trees) room).answer bytes s t) is.0 p in
     inr (w.budget.affordable r (plan.trees, is.1), inl (q.0, w.from r plan.trees _ t is.1 q.1))
 
-maps_from : (wanted : Command) (IsText : Planned → List (List ℕ) → List ℕ → Type 0) → Maps wanted IsText → (r : TransformRequest) (room : ℕ)
+maps_from : (wanted : Command) (IsText : Planned → List (List ℕ) → List ℕ → Type 0) → Maps wanted IsText
+    → (r : TransformRequest) (room : ℕ)
     → Within (staged (chosen r) (over IsText) room) (request_outcomes wanted r room)
 maps_from wanted IsText w r room = record {
   answer = mapping_answer wanted IsText w r room;
@@ -174,33 +192,39 @@ maps_from wanted IsText w r room = record {
 -- `check`
 
 checked_answer : (r : TransformRequest) (room : ℕ) (bytes : List ℕ) (s : Status) (t : List ℕ)
-    → (request_outcomes command.Check r room).answer bytes s t → (staged (fitting r) (λ (q : TransformRequest). judging (IsVerdict q)) room).answer bytes s t
+    → (request_outcomes command.Check r room).answer bytes s t
+    → (staged (fitting r) (λ (q : TransformRequest). judging (IsVerdict q)) room).answer bytes s t
 checked_answer r room bytes s t (inl p) = inl p
 checked_answer r room bytes s t (inr (admitted, inl p)) = absurd p.1
 checked_answer r room bytes s t (inr (admitted, inr (inl p))) = absurd p.1
 checked_answer r room bytes s t (inr (admitted, inr (inr p))) = inr (r, (refl, admitted), p.1)
 
 checked_broken : (r : TransformRequest) (room : ℕ) (read : List ℕ) (ended : Type 0) (t : List ℕ)
-    → (request_outcomes command.Check r room).broken read ended t → (staged (fitting r) (λ (q : TransformRequest). judging (IsVerdict q)) room).broken read ended t
+    → (request_outcomes command.Check r room).broken read ended t
+    → (staged (fitting r) (λ (q : TransformRequest). judging (IsVerdict q)) room).broken read ended t
 checked_broken r room read ended t (admitted, inl p) = absurd p.1
 checked_broken r room read ended t (admitted, inr p) = (r, (refl, admitted), (p.1, p.2))
 
 checked_cut : (r : TransformRequest) (room : ℕ) (read left t : List ℕ)
-    → (request_outcomes command.Check r room).cut read left t → (staged (fitting r) (λ (q : TransformRequest). judging (IsVerdict q)) room).cut read left t
+    → (request_outcomes command.Check r room).cut read left t
+    → (staged (fitting r) (λ (q : TransformRequest). judging (IsVerdict q)) room).cut read left t
 checked_cut r room read left t (admitted, inl p) = absurd p.2
 checked_cut r room read left t (admitted, inr (inl p)) = absurd p.1
 checked_cut r room read left t (admitted, inr (inr p)) = (r, (refl, admitted), (p.1, p.2, p.3))
 
-checks_to : (r : TransformRequest) (room : ℕ) → Within (request_outcomes command.Check r room) (staged (fitting r) (λ (q : TransformRequest). judging (IsVerdict q)) room)
+checks_to : (r : TransformRequest) (room : ℕ)
+    → Within (request_outcomes command.Check r room) (staged (fitting r) (λ (q : TransformRequest). judging (IsVerdict q)) room)
 checks_to r room = record { answer = checked_answer r room; broken = checked_broken r room; cut = checked_cut r room }
 
 judging_answer : (r : TransformRequest) (room : ℕ) (bytes : List ℕ) (s : Status) (t : List ℕ)
-    → (staged (fitting r) (λ (q : TransformRequest). judging (IsVerdict q)) room).answer bytes s t → (request_outcomes command.Check r room).answer bytes s t
+    → (staged (fitting r) (λ (q : TransformRequest). judging (IsVerdict q)) room).answer bytes s t
+    → (request_outcomes command.Check r room).answer bytes s t
 judging_answer r room bytes s t (inl p) = inl p
 judging_answer r room bytes s t (inr (q, is, p)) =
     inr (is.1, inr (inr (refl, subst (λ (q : TransformRequest). (judging (IsVerdict q) room).answer bytes s t) is.0 p)))
 
-checks_from : (r : TransformRequest) (room : ℕ) → Within (staged (fitting r) (λ (q : TransformRequest). judging (IsVerdict q)) room) (request_outcomes command.Check r room)
+checks_from : (r : TransformRequest) (room : ℕ)
+    → Within (staged (fitting r) (λ (q : TransformRequest). judging (IsVerdict q)) room) (request_outcomes command.Check r room)
 checks_from r room = record {
   answer = judging_answer r room;
   broken = λ read ended t p. (p.1.1, inr (refl, p.2.0, p.2.1));
@@ -251,7 +275,8 @@ cert_writes = record {
   from = λ r trees t planned p. p;
 }
 
-sample_writes : (seed : ℕ) (schedule : Turns) → Writes (command.Sample seed schedule) (λ plan t. t ≡ sample_lines plan seed)
+sample_writes : (seed : ℕ) (schedule : Turns)
+    → Writes (command.Sample seed schedule) (λ plan t. t ≡ sample_lines plan seed)
 sample_writes seed schedule = record {
   budget = record { accepted = λ r p. p; affordable = λ r p. p; declined = λ r s p. p; refused = λ r s p. p; no_check = λ e. absurd (cc) };
   no_data = λ r vectors t p. p;

@@ -32,7 +32,8 @@ use Rattle.spiral_main.specs.RightFront.{AreWholeVectors, HasWholeVectors, IsRig
 use Rattle.spiral_main.proofs.Calls.{one_status, one_text}
 
 -- good tokens that are seen whole
-right_vectors : (size modulus room : ℕ) (bytes : List ℕ) → length bytes ≤ room → list_all is_good (tokens bytes) ≡ true
+right_vectors : (size modulus room : ℕ) (bytes : List ℕ) → length bytes ≤ room
+    → list_all is_good (tokens bytes) ≡ true
     → data_vectors size modulus room bytes ≡ vectors_of size modulus (tokens bytes)
 right_vectors size modulus room bytes few good =
     let over : nat_lt room (length bytes) ≡ false = grind (arith, common_steps) in
@@ -42,28 +43,34 @@ right_vectors size modulus room bytes few good =
     ∙ ap (λ x. vectors_seen size modulus false (bad_after 0 (tokens x)) x) seen
     ∙ ap (λ x. vectors_seen size modulus false x bytes) none
 
-short_taken : (text : List ℕ) (most : ℕ) → length text ≤ most → cond {A = Result (List ℕ) Status} (nat_le (length text) most) (Ok text) (Err (TooLong most)) ≡ Ok text
+short_taken : (text : List ℕ) (most : ℕ) → length text ≤ most
+    → cond {A = Result (List ℕ) Status} (nat_le (length text) most) (Ok text) (Err (TooLong most)) ≡ Ok text
 short_taken text most short =
     let test : nat_le (length text) most ≡ true = grind (arith, common_steps) in
     ap (λ b. cond {A = Result (List ℕ) Status} b (Ok text) (Err (TooLong most))) test
 
 -- A call that is right by its front: the front is not too long, it orders a value, and the work for this answers what is behind
-front_answer : {A : Type 0} (front : Front) (orders : List ℕ → Stage A) (work : A → Work) (value : A) (bytes : List ℕ) (s : Status) (t : List ℕ)
+front_answer : {A : Type 0} (front : Front) (orders : List ℕ → Stage A) (work : A → Work) (value : A)
+    (bytes : List ℕ) (s : Status) (t : List ℕ)
     → length (front.first bytes) ≤ front.most → orders (front.first bytes) (Ok value)
-    → (work value (room_behind front bytes)).answer (front.behind bytes) s t → (by_front front orders work).answer bytes s t
+    → (work value (room_behind front bytes)).answer (front.behind bytes) s t
+    → (by_front front orders work).answer bytes s t
 front_answer front orders work value bytes s t short gives p =
     inr (value, record { value = front.first bytes; before = sym (short_taken (front.first bytes) front.most short); behind = gives }, p)
 
 -- whole vectors are answered Success, and the text for all of them
-whole_answer : (size modulus : ℕ) (IsText : List (List ℕ) → List ℕ → Type 0) (room : ℕ) (bytes t : List ℕ) → AreWholeVectors size room bytes
-    → IsText (vectors_of size modulus (tokens bytes)) t → (mapping all size modulus IsText room).answer bytes Success t
+whole_answer : (size modulus : ℕ) (IsText : List (List ℕ) → List ℕ → Type 0) (room : ℕ) (bytes t : List ℕ)
+    → AreWholeVectors size room bytes
+    → IsText (vectors_of size modulus (tokens bytes)) t
+    → (mapping all size modulus IsText room).answer bytes Success t
 whole_answer size modulus IsText room bytes t v p = (
   sym (ap status_of_stream (right_answer size room bytes v.few v.good v.whole)),
   subst (λ vectors. IsText vectors t) (sym (right_vectors size modulus room bytes v.few v.good)) p,
 )
 
 -- what the line of a request orders
-orders_plan : (names bytes : List ℕ) (plan : Planned) → IsRightLine names bytes plan → planned names ((line 256).first bytes) (Ok plan)
+orders_plan : (names bytes : List ℕ) (plan : Planned) → IsRightLine names bytes plan
+    → planned names ((line 256).first bytes) (Ok plan)
 orders_plan names bytes plan right = record {
   value = plan.request;
   before = record {
@@ -74,17 +81,21 @@ orders_plan names bytes plan right = record {
   behind = (refl, right.planned);
 }
 
-line_answer : (names bytes : List ℕ) (work : Planned → Work) (plan : Planned) (t : List ℕ) → IsRightLine names bytes plan
-    → (work plan (room_behind (line 256) bytes)).answer ((line 256).behind bytes) Success t → (by_front (line 256) (planned names) work).answer bytes Success t
+line_answer : (names bytes : List ℕ) (work : Planned → Work) (plan : Planned) (t : List ℕ)
+    → IsRightLine names bytes plan
+    → (work plan (room_behind (line 256) bytes)).answer ((line 256).behind bytes) Success t
+    → (by_front (line 256) (planned names) work).answer bytes Success t
 line_answer names bytes work plan t right p = front_answer (line 256) (planned names) work plan bytes Success t right.short (orders_plan names bytes plan right) p
 
 -- By a request
 
-pub text_is_right : (names bytes : List ℕ) (IsText : Planned → List ℕ → Type 0) (plan : Planned) (t : List ℕ) → IsRightLine names bytes plan → IsText plan t
+pub text_is_right : (names bytes : List ℕ) (IsText : Planned → List ℕ → Type 0) (plan : Planned) (t : List ℕ)
+    → IsRightLine names bytes plan → IsText plan t
     → (by_front (line 256) (planned names) (λ (p : Planned). writing (IsText p))).answer bytes Success t
 text_is_right names bytes IsText plan t right is = line_answer names bytes (λ (p : Planned). writing (IsText p)) plan t right (refl, is)
 
-pub data_are_right : (names bytes : List ℕ) (IsText : Planned → List (List ℕ) → List ℕ → Type 0) (plan : Planned) (t : List ℕ) → IsRightLine names bytes plan
+pub data_are_right : (names bytes : List ℕ) (IsText : Planned → List (List ℕ) → List ℕ → Type 0) (plan : Planned)
+    (t : List ℕ) → IsRightLine names bytes plan
     → HasWholeVectors (line 256) (size_of plan.request) bytes → IsText plan (request_vectors plan bytes) t
     → (by_front (line 256) (planned names) (λ (p : Planned). mapping all (size_of p.request) (modulus_of p.request) (IsText p))).answer bytes Success t
 data_are_right names bytes IsText plan t right vectors is =
@@ -93,12 +104,14 @@ data_are_right names bytes IsText plan t right vectors is =
 
 -- By a formula or a listing
 
-pub listing_is_right : (m : ℕ) (bytes : List ℕ) (formula : Formula) (t : List ℕ) → length ((line 65536).first bytes) ≤ 65536 → written ((line 65536).first bytes) (Ok formula)
+pub listing_is_right : (m : ℕ) (bytes : List ℕ) (formula : Formula) (t : List ℕ)
+    → length ((line 65536).first bytes) ≤ 65536 → written ((line 65536).first bytes) (Ok formula)
     → IsFormulaListing m formula t → (outcomes_of (command.Compile m)).answer bytes Success t
 listing_is_right m bytes formula t short gives is =
     front_answer (line 65536) written (λ (f : Formula). writing (IsFormulaListing m f)) formula bytes Success t short gives (refl, is)
 
-pub applied_is_right : (m : ℕ) (schedule : Turns) (bytes : List ℕ) (formula : Formula) → length ((line 65536).first bytes) ≤ 65536 → formed (named schedule) ((line 65536).first bytes) (Ok formula)
+pub applied_is_right : (m : ℕ) (schedule : Turns) (bytes : List ℕ) (formula : Formula)
+    → length ((line 65536).first bytes) ≤ 65536 → formed (named schedule) ((line 65536).first bytes) (Ok formula)
     → HasWholeVectors (line 65536) (spl.size_of formula) bytes
     → (outcomes_of (command.Apply m schedule)).answer bytes Success (lines (formulas.apply m formula) (vectors_behind (line 65536) (spl.size_of formula) m bytes))
 applied_is_right m schedule bytes formula short gives vectors =
@@ -106,7 +119,8 @@ applied_is_right m schedule bytes formula short gives vectors =
     front_answer (line 65536) (formed (named schedule)) (λ (f : Formula). mapping all (spl.size_of f) m (λ vs t. t ≡ lines (formulas.apply m f) vs)) formula bytes Success text short gives
     (whole_answer (spl.size_of formula) m (λ vs t. t ≡ lines (formulas.apply m formula) vs) (room_behind (line 65536) bytes) ((line 65536).behind bytes) text vectors refl)
 
-pub executed_is_right : (schedule : Turns) (bytes : List ℕ) (program : PlainProgram) → length ((part 1048576).first bytes) ≤ 1048576 → loaded schedule ((part 1048576).first bytes) (Ok program)
+pub executed_is_right : (schedule : Turns) (bytes : List ℕ) (program : PlainProgram)
+    → length ((part 1048576).first bytes) ≤ 1048576 → loaded schedule ((part 1048576).first bytes) (Ok program)
     → HasWholeVectors (part 1048576) program.size bytes
     → (outcomes_of (command.Exec schedule)).answer bytes Success (lines (result_of program) (vectors_behind (part 1048576) program.size program.modulus bytes))
 executed_is_right schedule bytes program short gives vectors =
@@ -115,8 +129,10 @@ executed_is_right schedule bytes program short gives vectors =
     (whole_answer program.size program.modulus (λ vs t. t ≡ lines (result_of program) vs) (room_behind (part 1048576) bytes) ((part 1048576).behind bytes) text vectors refl)
 
 -- a call whose outcome is Success with this text succeeds with it, but for the outside and memory
-pub right_success : (words : List (List ℕ)) (bytes : List ℕ) (left before after : Option (List ℕ)) (s : Status) (t : List ℕ) → IsOutcome words bytes Success t
-    → Accounts words bytes left before after s → s ≢ ReadFault → s ≢ WriteFault → s ≢ NoMemory → (s ≡ Success) × Appends before after t
+pub right_success : (words : List (List ℕ)) (bytes : List ℕ) (left before after : Option (List ℕ)) (s : Status)
+    (t : List ℕ) → IsOutcome words bytes Success t
+    → Accounts words bytes left before after s → s ≢ ReadFault → s ≢ WriteFault → s ≢ NoMemory
+    → (s ≡ Success) × Appends before after t
 right_success words bytes left before after s t own accounts read write memory =
     let found = accounts.answer (record { read = read; write = write; memory = memory }) in
     let same : found.0 ≡ t = one_text words bytes s Success found.0 t found.1 own in

@@ -29,14 +29,16 @@ within_then a b c v w = record {
   cut = λ read left t p. w.cut read left t (v.cut read left t p);
 }
 
-pub ordered_map : {A : Type 0} (front : Front) (orders others : List ℕ → Stage A) (bytes : List ℕ) → ((text : List ℕ) (r : Result A Status) → orders text r → others text r)
+pub ordered_map : {A : Type 0} (front : Front) (orders others : List ℕ → Stage A) (bytes : List ℕ)
+    → ((text : List ℕ) (r : Result A Status) → orders text r → others text r)
     → (r : Result A Status) → ordered front orders bytes r → ordered front others bytes r
 ordered_map front orders others bytes h (Ok v) p = record { value = p.value; before = p.before; behind = h p.value (Ok v) p.behind }
 ordered_map front orders others bytes h (Err s) (inl p) = inl p
 ordered_map front orders others bytes h (Err s) (inr p) = inr (record { value = p.value; before = p.before; behind = h p.value (Err s) p.behind })
 
 -- more orders, and more that is right behind the front
-pub front_within : {A : Type 0} (front : Front) (orders others : List ℕ → Stage A) (v w : A → Work) → ((text : List ℕ) (r : Result A Status) → orders text r → others text r)
+pub front_within : {A : Type 0} (front : Front) (orders others : List ℕ → Stage A) (v w : A → Work)
+    → ((text : List ℕ) (r : Result A Status) → orders text r → others text r)
     → ((a : A) (room : ℕ) → Within (v a room) (w a room)) → Within (by_front front orders v) (by_front front others w)
 front_within {A} front orders others v w g h = record {
   answer = λ bytes s t p.
@@ -61,15 +63,19 @@ staged {A} stage work room = record {
   cut = λ read left t. (a : A) × stage (Ok a) × (work a room).cut read left t;
 }
 
-split_broken : {A B : Type 0} (front : Front) (orders : List ℕ → Stage A) (next : A → Stage B) (work : B → Work) (read : List ℕ) (ended : Type 0) (t : List ℕ)
-    → (by_front front (λ text. orders text >>= next) work).broken read ended t → (by_front front orders (λ (a : A). staged (next a) work)).broken read ended t
+split_broken : {A B : Type 0} (front : Front) (orders : List ℕ → Stage A) (next : A → Stage B) (work : B → Work)
+    (read : List ℕ) (ended : Type 0) (t : List ℕ)
+    → (by_front front (λ text. orders text >>= next) work).broken read ended t
+    → (by_front front orders (λ (a : A). staged (next a) work)).broken read ended t
 split_broken front orders next work read ended t (inl p) = inl p
 split_broken front orders next work read ended t (inr (b, p, q)) =
     let o = split_off (given (taken_from front read)) orders next (Ok b) p.gives in
     inr (o.value, record { front = p.front; gives = o.before }, (b, o.behind, q))
 
-join_broken : {A B : Type 0} (front : Front) (orders : List ℕ → Stage A) (next : A → Stage B) (work : B → Work) (read : List ℕ) (ended : Type 0) (t : List ℕ)
-    → (by_front front orders (λ (a : A). staged (next a) work)).broken read ended t → (by_front front (λ text. orders text >>= next) work).broken read ended t
+join_broken : {A B : Type 0} (front : Front) (orders : List ℕ → Stage A) (next : A → Stage B) (work : B → Work)
+    (read : List ℕ) (ended : Type 0) (t : List ℕ)
+    → (by_front front orders (λ (a : A). staged (next a) work)).broken read ended t
+    → (by_front front (λ text. orders text >>= next) work).broken read ended t
 join_broken front orders next work read ended t (inl p) = inl p
 join_broken front orders next work read ended t (inr (a, p, (b, n, q))) =
     inr (b, record { front = p.front; gives = joined (given (taken_from front read)) orders next (Ok b) (record { value = a; before = p.gives; behind = n }) }, q)

@@ -21,4 +21,5 @@ formed names text = do
 -- a line for each vector, of the formula's matrix times it
 abbrev pub apply_outcomes : ℕ → Turns → Outcomes
 apply_outcomes m schedule = by_front (line 65536) (formed (named schedule))
-    (λ (formula : Formula). mapping all (size_of formula) m (λ vectors text. text ≡ lines (formulas.apply m formula) vectors))
+    (λ (formula : Formula). mapping all (size_of formula) m
+    (λ vectors text. text ≡ lines (formulas.apply m formula) vectors))

@@ -18,4 +18,5 @@ fitting request (Err status) = (fault : GenerateFault) × IsBarred request fault
 
 -- the verdict on the certificate
 abbrev pub check_outcomes : Outcomes
-check_outcomes = by_front (line 256) (λ text. spelt text >>= fitting) (λ (request : TransformRequest). judging (IsVerdict request))
+check_outcomes = by_front (line 256) (λ text. spelt text >>= fitting)
+    (λ (request : TransformRequest). judging (IsVerdict request))

@@ -18,7 +18,8 @@ compile_outcomes m = by_front (line 65536) written (λ (formula : Formula). writ
 
 -- the text is the listing of a program that is code of the formula
 abbrev pub IsCodeListing : ℕ → Formula → List ℕ → Type 0
-IsCodeListing m formula text = (program : Program) × IsCodeOf m formula program × (text ≡ listing_of (plain_program program))
+IsCodeListing m formula text =
+    (program : Program) × IsCodeOf m formula program × (text ≡ listing_of (plain_program program))
 
 abbrev pub good_compile_outcomes : ℕ → Outcomes
 good_compile_outcomes m = by_front (line 65536) written (λ (formula : Formula). writing (IsCodeListing m formula))

@@ -33,7 +33,8 @@ conv_turned names request = given (admitted (first_stranger names request.procs)
 -- the request with the tree chosen for it, or the first cause to refuse it
 abbrev pub conv_chosen : Request → Stage ConvPlanned
 conv_chosen request (Ok plan) = (plan.request ≡ request) × IsConvPlanned request (Ok plan.tree)
-conv_chosen request (Err status) = (fault : ConvFault) × IsConvPlanned request (Err fault) × (status ≡ status_of_conv fault)
+conv_chosen request (Err status) =
+    (fault : ConvFault) × IsConvPlanned request (Err fault) × (status ≡ status_of_conv fault)
 
 abbrev pub conv_planned : List ℕ → List ℕ → Stage ConvPlanned
 conv_planned names text = conv_spelt text >>= conv_turned names >>= conv_chosen

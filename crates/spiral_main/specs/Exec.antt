@@ -11,4 +11,5 @@ use Rattle.spiral_main.specs.Works.{all, mapping}
 -- a line for each vector, of what the listing's program leaves for it
 abbrev pub exec_outcomes : Turns → Outcomes
 exec_outcomes schedule = by_front (part 1048576) (loaded schedule)
-    (λ (program : PlainProgram). mapping all program.size program.modulus (λ vectors text. text ≡ lines (result_of program) vectors))
+    (λ (program : PlainProgram). mapping all program.size program.modulus
+    (λ vectors text. text ≡ lines (result_of program) vectors))

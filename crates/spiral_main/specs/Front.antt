@@ -9,7 +9,7 @@ use Rattle.spiral_input.specs.Line.{is_line_end}
 use Rattle.spiral_input.specs.Outcomes.{Outcomes}
 use Rattle.spiral_input.specs.Stage.{Stage, given, ◌>>=◌, IsAnswerBy, IsBrokenBy, IsCutBy}
 
--- A front of an input: what it is, what stands behind its end, whether its end is there, and how many bytes it has at most
+-- A front of an input: what it is, what stands behind its end, whether this is there, and how many bytes it has at most
 pub record Front : Type 0 where
   pub first : List ℕ → List ℕ
   pub behind : List ℕ → List ℕ
@@ -18,7 +18,12 @@ pub record Front : Type 0 where
 
 -- the first line
 abbrev pub line : ℕ → Front
-line most = record { first = before_first is_line_end; behind = after_first is_line_end; has_end = list_any is_line_end; most = most }
+line most = record {
+  first = before_first is_line_end;
+  behind = after_first is_line_end;
+  has_end = list_any is_line_end;
+  most = most;
+}
 
 -- the lines before the first empty line
 abbrev pub part : ℕ → Front
@@ -26,7 +31,8 @@ part most = record { first = first_part; behind = second_part; has_end = has_emp
 
 -- the front of the bytes, if it is not too long
 abbrev pub taken_from : Front → List ℕ → Result (List ℕ) Status
-taken_from front bytes = if nat_le (length (front.first bytes)) front.most then Ok (front.first bytes) else Err (TooLong front.most)
+taken_from front bytes =
+    if nat_le (length (front.first bytes)) front.most then Ok (front.first bytes) else Err (TooLong front.most)
 
 -- as many bytes as the limit leaves behind it
 abbrev pub room_behind : Front → List ℕ → ℕ
@@ -51,10 +57,11 @@ ordered front orders bytes = do
 abbrev pub Work : Type 1
 Work = ℕ → Outcomes
 
--- what is right for a command: its front orders a value, or refuses it and nothing is written, and behind it is the work for this value
+-- what is right for a command: its front orders a value, or refuses it and nothing is written; the work for the value is behind
 abbrev pub by_front : {A : Type 0} → Front → (List ℕ → Stage A) → (A → Work) → Outcomes
 by_front {A} front orders work = record {
-  answer = λ bytes. IsAnswerBy (ordered front orders bytes) (λ (value : A). (work value (room_behind front bytes)).answer (front.behind bytes));
+  answer = λ bytes. IsAnswerBy (ordered front orders bytes)
+      (λ (value : A). (work value (room_behind front bytes)).answer (front.behind bytes));
   broken = λ read ended. IsBrokenBy (MayGoOn front read) (HasEnded front read ended) (ordered front orders read)
       (λ (value : A). (work value (room_behind front read)).broken (front.behind read) ended);
   cut = λ read left. IsCutBy (HasEnded front read (left ≡ [])) (ordered front orders read)

@@ -22,7 +22,8 @@ turned names request = given (admitted (first_stranger names (procs_of request))
 -- the request with the trees chosen for it, or the first cause to refuse it
 abbrev pub chosen : TransformRequest → Stage Planned
 chosen request (Ok plan) = (plan.request ≡ request) × IsPlanned request (Ok plan.trees)
-chosen request (Err status) = (fault : GenerateFault) × IsPlanned request (Err fault) × (status ≡ status_of_generate fault)
+chosen request (Err status) =
+    (fault : GenerateFault) × IsPlanned request (Err fault) × (status ≡ status_of_generate fault)
 
 -- what a line orders, for a command whose words name these processors
 abbrev pub planned : List ℕ → List ℕ → Stage Planned

@@ -46,7 +46,7 @@ abbrev pub commanded : List (List ℕ) → Stage Command
 commanded words (Ok command) = IsAsked words command
 commanded words (Err status) = (status ≡ Usage) × IsUsage words
 
--- the status and the text: the words ask for no command, and nothing is written, or they are right for the one that they ask for
+-- the status and the text: the words ask for no command, and nothing is written, or they are right for this command
 abbrev pub IsOutcome : List (List ℕ) → List ℕ → Status → List ℕ → Type 0
 IsOutcome words bytes status text =
     IsAnswerBy (commanded words) (λ (command : Command). (outcomes_of command).answer bytes) status text
@@ -55,7 +55,8 @@ IsOutcome words bytes status text =
 abbrev pub call_outcomes : List (List ℕ) → Outcomes
 call_outcomes words = record {
   answer = IsOutcome words;
-  broken = λ read ended text. (command : Command) × IsAsked words command × (outcomes_of command).broken read ended text;
+  broken = λ read ended text. (command : Command) × IsAsked words command
+      × (outcomes_of command).broken read ended text;
   cut = λ read left text. (command : Command) × IsAsked words command × (outcomes_of command).cut read left text;
 }
 

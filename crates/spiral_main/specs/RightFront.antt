@@ -16,7 +16,8 @@ pub record AreWholeVectors (size room : ℕ) (bytes : List ℕ) : Type 0 where
   pub good : list_all is_good (tokens bytes) ≡ true
   pub whole : length (tokens bytes) % size ≡ 0
 
--- the first line is not too long and spells the request, whose processors are all that the words name, and these trees are chosen for it: the least cost is within the budget
+-- the first line is not too long and spells the request, which has each processor that the words name; these trees are
+-- chosen for it, so the least cost is within the budget
 pub record IsRightLine (names bytes : List ℕ) (plan : Planned) : Type 0 where
   pub short : length ((line 256).first bytes) ≤ 256
   pub spells : spelt ((line 256).first bytes) (Ok plan.request)

@@ -12,4 +12,5 @@ use Rattle.spiral_main.specs.Orders.{Planned, planned}
 -- a line for each vector, of the request's matrix times it
 abbrev pub run_outcomes : Order → Outcomes
 run_outcomes order = by_front (line 256) (planned (procs_in order))
-    (λ (plan : Planned). mapping all (size_of plan.request) (modulus_of plan.request) (λ vectors text. text ≡ lines (asked_of plan.request) vectors))
+    (λ (plan : Planned). mapping all (size_of plan.request) (modulus_of plan.request)
+    (λ vectors text. text ≡ lines (asked_of plan.request) vectors))

@@ -15,10 +15,11 @@ use Rattle.spiral_main.specs.Works.{all, mapping}
 use Rattle.spiral_main.specs.Orders.{Planned, planned}
 use Rattle.spiral_main.specs.Code.{IsGoodProgram}
 
--- the listing of the program of the trees, and for each vector the lines of its run in the order and the line of its results
+-- the listing of the program of the trees, and for each vector the lines of its run in the order and of its results
 abbrev pub IsTrace : Order → Planned → List (List ℕ) → List ℕ → Type 0
 IsTrace order plan vectors text = (program : Program) × IsProgramOf plan.request plan.trees program
-    × (text ≡ listing_of (plain_program program) ++ texts (traced_text order (procs_of plan.request) (code_of program)) vectors)
+    × (text ≡ listing_of (plain_program program)
+    ++ texts (traced_text order (procs_of plan.request) (code_of program)) vectors)
 
 abbrev pub trace_outcomes : Order → Outcomes
 trace_outcomes order = by_front (line 256) (planned (procs_in order))
@@ -27,7 +28,8 @@ trace_outcomes order = by_front (line 256) (planned (procs_in order))
 -- the same of a program that is good for the request
 abbrev pub IsGoodTrace : Order → Planned → List (List ℕ) → List ℕ → Type 0
 IsGoodTrace order plan vectors text = (program : Program) × IsGoodProgram plan program
-    × (text ≡ listing_of (plain_program program) ++ texts (traced_text order (procs_of plan.request) (code_of program)) vectors)
+    × (text ≡ listing_of (plain_program program)
+    ++ texts (traced_text order (procs_of plan.request) (code_of program)) vectors)
 
 abbrev pub good_trace_outcomes : Order → Outcomes
 good_trace_outcomes order = by_front (line 256) (planned (procs_in order))

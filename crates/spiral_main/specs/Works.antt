@@ -1,4 +1,4 @@
--- What a command does behind its front: it writes a text, or a text for the vectors of the data, or it judges all that is there.
+-- What a command does behind its front: it writes a text, or one for the vectors of the data, or it judges all that is there.
 use Rattle.std.specs.Prelude.{◌≡◌, ◌⊎◌, ℕ, ◌≤◌, List, [], ◌∷◌, length, Result}
 use Rattle.plan_cert.specs.declared.verdict.Verdict.{Verdict}
 use Rattle.data_stream.specs.Data.{tokens, closed_part}
@@ -40,14 +40,16 @@ abbrev pub ReadsOn : Wants → List (List ℕ) → Type 0
 ReadsOn the_first vectors = vectors ≡ []
 ReadsOn _ vectors = Unit {0}
 
--- It writes a text for the vectors of the data. The last token that was read counts only where nothing is left with which it may go on
+-- It writes a text for the vectors of the data. The last token counts only where nothing is left with which it may go on
 abbrev pub mapping : Wants → (size modulus : ℕ) → (List (List ℕ) → List ℕ → Type 0) → Work
 mapping wants size modulus IsText room = record {
-  answer = λ bytes status text. (status ≡ status_by wants size (data_answer size room bytes) (data_vectors size modulus room bytes))
+  answer = λ bytes status text.
+      (status ≡ status_by wants size (data_answer size room bytes) (data_vectors size modulus room bytes))
       × IsText (data_vectors size modulus room bytes) text;
   broken = λ read ended text. IsFine room read × ReadsOn wants (vectors_of size modulus (tokens (closed_part read)))
       × IsText (vectors_of size modulus (tokens (closed_part read))) text;
-  cut = λ read left text. IsFine room read × ((closed_part read ≡ read) ⊎ (left ≡ [])) × IsText (vectors_of size modulus (tokens read)) text;
+  cut = λ read left text. IsFine room read × ((closed_part read ≡ read) ⊎ (left ≡ []))
+      × IsText (vectors_of size modulus (tokens read)) text;
 }
 
 -- a text for the vectors behind the first. Before that is there, nothing is written
@@ -59,11 +61,13 @@ by_first IsText (x ∷ later) text = IsText x later text
 
 -- the status and the text of the verdict on the bytes
 abbrev pub IsJudged : (List ℕ → Verdict → Type 0) → List ℕ → Status → List ℕ → Type 0
-IsJudged IsVerdict bytes status text = (found : Verdict) × IsVerdict bytes found × (status ≡ status_of_verdict found) × (text ≡ verdict_text found)
+IsJudged IsVerdict bytes status text =
+    (found : Verdict) × IsVerdict bytes found × (status ≡ status_of_verdict found) × (text ≡ verdict_text found)
 
 abbrev pub judging : (List ℕ → Verdict → Type 0) → Work
 judging IsVerdict room = record {
-  answer = λ bytes status text. IsOverlong bytes status text ⊎ ((length bytes ≤ certificate_limit) × IsJudged IsVerdict bytes status text);
+  answer = λ bytes status text. IsOverlong bytes status text
+      ⊎ ((length bytes ≤ certificate_limit) × IsJudged IsVerdict bytes status text);
   broken = λ read ended text. (length read ≤ certificate_limit) × (text ≡ []);
   cut = λ read left text. (left ≡ []) × (length read ≤ certificate_limit) × IsJudged IsVerdict read Success text;
 }
