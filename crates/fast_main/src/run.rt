@@ -35,7 +35,7 @@ pub const LISTING_LIMIT: u64 = 1 << 26;
 fn fast_text_of(alloc: Global, options: Options<'_>, program: Program) -> Result<Vec<u8>, NoMemory>
     requires fits { Fits program }
     requires apart { (phase : ℕ) → IsApart (code_of program) phase }
-    requires allowed { IsTrue (allows options.entry.size program.modulus) }
+    requires allowed { IsTrue (allows options.size program.modulus) }
     ensures text { IfOk result
         (λ text. text.items ≡ fast_text (plain_options options.entry) (plain_program program)) }
     ensures sound { IfOk result (λ _. AreSoundWords options.entry.size (plain_program program)) }

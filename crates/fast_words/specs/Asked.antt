@@ -7,7 +7,7 @@ use Rattle.clap.specs.Words.{Row, Text, fault_of, first_of, matches_of}
 use Rattle.clap.specs.Walk.{is_empty}
 use Rattle.word_code.specs.declared.choose.WordSize.{WordSize}
 use Rattle.word_code.specs.declared.choose.WordSize.TheVariants.{Any, Of32, Of52, Of64}
-use Rattle.word_print.specs.TextForm.{TextForm, arrays, function, header}
+use Rattle.word_print.specs.TextForm.{TextForm, with_arrays, named_function, named_header}
 use Rattle.fast_words.specs.CommandLine.{fast_app}
 
 -- ---- words of a size
@@ -50,13 +50,13 @@ is_given name rows = option_map_or (λ word. bytes_eq word (codes "true")) (firs
 
 -- a function of this name, or its header
 abbrev pub named_form : Bool → Text → TextForm
-named_form false name = function name
-named_form true name = header name
+named_form false name = named_function name
+named_form true name = named_header name
 
 -- without a name there are arrays, and no header
 abbrev pub form_by : Bool → Option Text → Option TextForm
 form_by wants_header (Some name) = if is_name name then Some (named_form wants_header name) else None
-form_by wants_header None = if wants_header then None else Some arrays
+form_by wants_header None = if wants_header then None else Some with_arrays
 
 abbrev pub form_in : List Row → Option TextForm
 form_in rows = form_by (is_given (codes "header") rows) (first_of (codes "name") rows)

@@ -1,5 +1,6 @@
 // Which text the words ask for.
 ghost use Rattle.std.specs.Prelude.{◌≡◌, option_map};
+ghost use Rattle.std.specs.List.{list_all};
 ghost use Rattle.word_print.specs.TextForm.{text_form};
 ghost use Rattle.fast_words.specs.Asked.{is_digit, is_letter, is_name_byte, begins_with_digit, is_name, named_form, form_by};
 
@@ -32,14 +33,22 @@ fn begins_with_digit(name: &[u8]) -> bool
     }
 }
 
+fn are_name_bytes(name: &[u8]) -> bool
+    ensures { result ≡ list_all is_name_byte name.now }
+{
+    for byte in name {
+        if !is_name_byte(*byte) {
+            return false;
+        }
+    }
+    true
+}
+
 /// Whether the bytes are an identifier of C, of at most 64.
 fn is_name(name: &[u8]) -> bool
     ensures { result ≡ is_name name.now }
 {
-    !name.is_empty()
-        && name.len() <= 64
-        && !begins_with_digit(name)
-        && name.iter().all(|byte| is_name_byte(*byte))
+    !name.is_empty() && name.len() <= 64 && !begins_with_digit(name) && are_name_bytes(name)
 }
 
 fn named_form<'a>(wants_header: bool, name: &'a str) -> Form<'a>

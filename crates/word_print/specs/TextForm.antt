@@ -5,11 +5,11 @@ use Rattle.word_print.specs.declared.form.Form.TheVariants as form
 
 -- arrays and a function for each phase, a function of a name over the caller's arrays, or the header of that function
 pub data TextForm : Type 0 where
-  arrays : TextForm
-  function : (name : List ℕ) → TextForm
-  header : (name : List ℕ) → TextForm
+  with_arrays : TextForm
+  named_function : (name : List ℕ) → TextForm
+  named_header : (name : List ℕ) → TextForm
 
 abbrev pub text_form : Form → TextForm
-text_form form.Arrays = arrays
-text_form (form.Function name) = function name.now
-text_form (form.Header name) = header name.now
+text_form form.Arrays = with_arrays
+text_form (form.Function name) = named_function name.now
+text_form (form.Header name) = named_header name.now

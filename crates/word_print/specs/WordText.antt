@@ -8,7 +8,7 @@ use Rattle.listing_text.specs.Listing.{array_text, header_text}
 use Rattle.word_code.specs.declared.program.Reduction.{Reduction}
 use Rattle.word_code.specs.WordProgram.{Note, WordStmt, WordBody, PlainWordProgram, Loop, Do, NoStmts, AndStmts}
 use Rattle.word_print.specs.WordFront.{functions_text, numbered_text, sizes_text, arrays_text}
-use Rattle.word_print.specs.TextForm.{TextForm, arrays, function, header}
+use Rattle.word_print.specs.TextForm.{TextForm, with_arrays, named_function, named_header}
 use Rattle.word_print.specs.FunctionText.{each_from, static_phase_text, parameters_text, functions_to_link_text, capital, guard_text, lengths_text, counts_text, asked_text, declared_functions_text, word_type_text, linkage_text}
 
 -- a place: its constant and its parts. The constant is unsigned, of 64 bits, and each sum has one, so sums and what is made of
@@ -195,6 +195,6 @@ named_header_text name p =
     ++ linkage_text (asked_text capitals ++ declared_functions_text name (word_type_text p.width.half))
 
 abbrev pub words_text : TextForm → PlainWordProgram → List ℕ
-words_text arrays p = arrays_and_phases_text p
-words_text (function name) p = named_function_text name p
-words_text (header name) p = named_header_text name p
+words_text with_arrays p = arrays_and_phases_text p
+words_text (named_function name) p = named_function_text name p
+words_text (named_header name) p = named_header_text name p
