@@ -10,5 +10,6 @@ pub mod Others
 pub mod Requests
 pub mod RightCalls
 pub mod RightFront
+pub mod RightRequests
 pub mod SomeOutcome
 pub mod Within

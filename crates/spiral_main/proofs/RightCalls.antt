@@ -27,6 +27,7 @@ use Rattle.spiral_main.specs.Outcome as calls
 use Rattle.request_commands.specs.Settled.{IsTextOfData, Settles}
 use Rattle.spiral_main.specs.Right.{AreRightData, AreRightVectors, BeginWithList, IsRightRest, IsRightRequest, IsRightCall, Succeeds}
 use Rattle.spiral_main.specs.RightFront.{AreWholeVectors}
+use Rattle.spiral_main.proofs.RightRequests.{job_of, orders_job, orders_request}
 use Rattle.stream_run.specs.Stream.{data_answer}
 use Rattle.spiral_words.proofs.OneCommand.{asked_once}
 use Rattle.convolution_commands.proofs.OneConvolution.{conv_decided}
@@ -76,8 +77,9 @@ settled_right wanted r room bytes s text right (inr (inr p)) = check_right wante
 
 answer_success : (words : List (List ℕ)) (bytes : List ℕ) (s : Status) (text : List ℕ) → IsRightRequest words bytes → IsAnswerToRequest words bytes s text → s ≡ Success
 answer_success words bytes s text right p =
-    settled_right right.job.command right.job.request (room_behind bytes) (data_of bytes) s text right.rest
-    (answer_for (ordered words bytes) (λ (job : Job). Settles job.command job.request (room_behind bytes) (data_of bytes)) right.job s text (ordered_decided words bytes) right.asks p)
+    settled_right right.wanted right.request (room_behind bytes) (data_of bytes) s text right.rest
+    (answer_for (ordered words bytes) (λ (job : Job). Settles job.command job.request (room_behind bytes) (data_of bytes)) (job_of words bytes right) s text
+    (ordered_decided words bytes) (orders_job words bytes right) p)
 
 execution_success : (schedule : Plan) (bytes : List ℕ) (program : PlainProgram) (s : Status) (text : List ℕ) → runnable schedule bytes (Ok program)
     → AreWholeVectors program.size (room_behind_listing bytes) (second_part bytes) → IsExecution schedule bytes s text → s ≡ Success
@@ -115,9 +117,9 @@ conv_success wanted bytes request s text h orders list right p =
 
 right_success : (words : List (List ℕ)) (bytes : List ℕ) (s : Status) (text : List ℕ) → IsRightCall words bytes → IsOutcome words bytes s text → s ≡ Success
 right_success words bytes s text (inl right) (inl p) = answer_success words bytes s text right p
-right_success words bytes s text (inl right) (inr (inl p)) = absurd (no_order words (command.Exec p.0) bytes (Ok right.job) p.1 refl right.asks)
-right_success words bytes s text (inl right) (inr (inr (inl p))) = absurd (no_order words p.0 bytes (Ok right.job) p.1.0 (no_request p.0 p.1.1) right.asks)
-right_success words bytes s text (inl right) (inr (inr (inr p))) = absurd (no_order words p.0 bytes (Ok right.job) p.1.0 (no_plain_request p.0 p.1.1) right.asks)
+right_success words bytes s text (inl right) (inr (inl p)) = absurd (no_order words (command.Exec p.0) bytes (Ok (job_of words bytes right)) p.1 refl (orders_job words bytes right))
+right_success words bytes s text (inl right) (inr (inr (inl p))) = absurd (no_order words p.0 bytes (Ok (job_of words bytes right)) p.1.0 (no_request p.0 p.1.1) (orders_job words bytes right))
+right_success words bytes s text (inl right) (inr (inr (inr p))) = absurd (no_order words p.0 bytes (Ok (job_of words bytes right)) p.1.0 (no_plain_request p.0 p.1.1) (orders_job words bytes right))
 right_success words bytes s text (inr (inl right)) (inl p) = absurd (no_answer words (command.Exec right.schedule) bytes s text right.asked refl p)
 right_success words bytes s text (inr (inl right)) (inr (inr p)) = absurd (listing_alone words bytes right.schedule s text right.asked p)
 right_success words bytes s text (inr (inr (inl right))) (inl p) = absurd (no_answer words right.wanted bytes s text right.asked.0 (no_request right.wanted right.asked.1) p)
@@ -131,7 +133,7 @@ right_success words bytes s text (inr (inr (inr right))) (inr (inl p)) = absurd 
 right_success words bytes s text (inr (inr (inr right))) (inr (inr (inl p))) = absurd (no_both words p.0 right.wanted p.1 right.asked)
 right_success words bytes s text (inr (inr (inr right))) (inr (inr (inr p))) =
     let same : p.0 ≡ right.wanted = asked_once words p.0 right.wanted p.1.0 right.asked.0 in
-    conv_success right.wanted bytes right.request s text right.asked.1 right.orders right.list right.rest (subst (λ (k : Command). IsConvAnswer k bytes s text) same p.2)
+    conv_success right.wanted bytes right.request s text right.asked.1 (orders_request words bytes right) right.list right.rest (subst (λ (k : Command). IsConvAnswer k bytes s text) same p.2)
 right_success words bytes s text (inr (inl right)) (inr (inl p)) =
     let same : p.0 ≡ right.schedule = schedule_asked_once words p.0 right.schedule p.1 right.asked in
     execution_success right.schedule bytes right.program s text right.runs right.rest (subst (λ (k : Plan). IsExecution k bytes s text) same p.2)

@@ -4,7 +4,14 @@ use Rattle.std.specs.declared.option.Option.{Option}
 use Rattle.std.specs.Io.KnownBytes.{Appends}
 use Rattle.matrix_meaning.specs.declared.Request.{Request}
 use Rattle.transform_requests.specs.declared.TransformRequest.{TransformRequest}
+use Rattle.transform_requests.specs.declared.TransformRequest.TheVariants.{One, Several}
 use Rattle.transform_requests.specs.Fields as requests
+use Rattle.transform_requests.specs.Range.{IsRequestValid}
+use Rattle.convolution.specs.Request.{IsConvRequest}
+use Rattle.convolver.specs.Planned.{HasPrincipalRoot, both_halves}
+use Rattle.dimension_plans.specs.Several.{CanShare, IsLeastOf}
+use Rattle.generate.specs.Planned.{IsRooted}
+use Rattle.tree_model.specs.Admissible.{CanDivide, IsLeast, IsLeastWhole}
 use Rattle.plan_cert.specs.declared.verdict.Verdict.TheVariants.{Least}
 use Rattle.transform_certs.specs.Judged.{IsVerdict}
 use Rattle.icode.specs.Plain.{PlainProgram}
@@ -17,13 +24,13 @@ use Rattle.spiral_words.specs.declared.Command.TheVariants as command
 use Rattle.spiral_status.specs.declared.status.Status.{Status}
 use Rattle.spiral_status.specs.declared.status.Status.TheVariants.{Success}
 use Rattle.request_commands.specs.Checked.{certificate_limit}
-use Rattle.spiral_input.specs.Commands.{AskForFormula, AskForConvolution}
+use Rattle.spiral_input.specs.Asking.{asked_by, requested}
+use Rattle.spiral_input.specs.Commands.{commanded, AskForFormula, AskForConvolution}
 use Rattle.formula_commands.specs.Compiled.{formula_in}
-use Rattle.convolution_commands.specs.Convolved.{conv_in}
+use Rattle.convolution_commands.specs.Convolved.{conv_procs, conv_spelt}
 use Rattle.spiral_input.specs.Line.{data_of, room_behind}
 use Rattle.stream_run.specs.Stream.{data_vectors}
 use Rattle.listing_commands.specs.Listed.{runnable, room_behind_listing}
-use Rattle.spiral_main.specs.Families.{Job, ordered}
 use Rattle.spiral_main.specs.Outcome.{IsOutcome}
 use Rattle.spiral_main.specs.RightFront.{AreWholeVectors}
 
@@ -40,11 +47,32 @@ IsRightRest (command.Trace order) request room bytes = AreWholeVectors (requests
 IsRightRest command.Check request room bytes = IsRightCertificate request bytes
 IsRightRest _ request room bytes = Unit {0}
 
--- The words are a command line that goes by a request, the first line spells a valid request, each turn that they name is of one of its processors, some trees fit, and the least cost is within the budget, which `check` does not ask. What stands behind the line is right
+-- some tree is admitted, which processors and lanes can share
+abbrev pub AdmitsTrees : TransformRequest → Type 0
+AdmitsTrees (One r) = CanDivide r
+AdmitsTrees (Several r) = CanShare r
+
+-- the least cost of the trees is within the budget
+abbrev pub IsWithinBudget : TransformRequest → Type 0
+IsWithinBudget (One r) = (cost : ℕ) × IsLeastWhole r cost × (cost ≤ r.budget)
+IsWithinBudget (Several r) = (cost : ℕ) × IsLeastOf r cost × (cost ≤ r.budget)
+
+-- `check` asks for no budget
+abbrev pub HasBudgetFor : Command → TransformRequest → Type 0
+HasBudgetFor command.Check request = Unit {0}
+HasBudgetFor _ request = IsWithinBudget request
+
+-- The words are a command line that goes by a request, the first line spells a request, and each turn that the words name is of one of
+-- its processors. The request is valid, admits a tree, and its least cost is within the budget. What stands behind the line is right
 pub record IsRightRequest (words : List (List ℕ)) (bytes : List ℕ) : Type 0 where
-  pub job : Job
-  pub asks : ordered words bytes (Ok job)
-  pub rest : IsRightRest job.command job.request (room_behind bytes) (data_of bytes)
+  pub wanted : Command
+  pub asked : commanded words (Ok wanted)
+  pub request : TransformRequest
+  pub orders : requested wanted bytes (Ok request)
+  pub valid : IsRequestValid request
+  pub divides : AdmitsTrees request
+  pub budget : HasBudgetFor wanted request
+  pub rest : IsRightRest wanted request (room_behind bytes) (data_of bytes)
 
 -- The words ask for `exec`, the listing's program passes the check and has the processors that the schedule names, and what stands behind the listing is right
 pub record IsRightExecution (words : List (List ℕ)) (bytes : List ℕ) : Type 0 where
@@ -76,12 +104,21 @@ abbrev pub AreRightVectors : Command → Request → ℕ → List ℕ → Type 0
 AreRightVectors (command.Convolve schedule false) request room bytes = AreWholeVectors request.size room bytes
 AreRightVectors _ request room bytes = Unit {0}
 
--- The words ask for `convolve`, the first line spells a request for convolutions, the schedule names the one processor alone, the root has the size and its power sums are 0, the cost is within the budget, and the data begin with a list and are right
+-- two transforms of the least cost, and a multiplication for each item between them, are within the budget
+abbrev pub IsWithinConvBudget : Request → Type 0
+IsWithinConvBudget r = (least : ℕ) × IsLeast r least × (both_halves r least ≤ r.budget)
+
+-- The words ask for `convolve`, the first line spells a request for convolutions, and the schedule names the one processor alone. The root
+-- is one of the size, its power sums are 0, and the least cost is within the budget. The data begin with a list and are right
 pub record IsRightConvolution (words : List (List ℕ)) (bytes : List ℕ) : Type 0 where
   pub wanted : Command
   pub asked : AskForConvolution words wanted
   pub request : Request
-  pub orders : conv_in wanted bytes (Ok request)
+  pub orders : asked_by conv_procs conv_spelt wanted bytes (Ok request)
+  pub able : IsConvRequest request
+  pub rooted : IsRooted request
+  pub principal : HasPrincipalRoot request
+  pub budget : IsWithinConvBudget request
   pub list : BeginWithList request (room_behind bytes) (data_of bytes)
   pub rest : AreRightVectors wanted request (room_behind bytes) (data_of bytes)
 

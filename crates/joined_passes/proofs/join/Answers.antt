@@ -1,32 +1,26 @@
-use Rattle.std.proofs.Common.{◌≡◌, ap, ◌∙◌}
+use Rattle.std.proofs.Common.{ap, ◌∙◌}
 use Rattle.passes.specs.Views.{plain_merged}
 use Rattle.multiplied_passes.specs.Multiplied.{multiplied_last}
 use Rattle.multiplied_passes.specs.Views.{plain_phases}
 use Rattle.multiplied_passes.specs.declared.Pick.TheVariants.{Own}
 use Rattle.passes.specs.Nest.{values}
-use Rattle.joined_passes.specs.Joined.{joined}
 use Rattle.joined_passes.proofs.Counts.{count_both}
 use Rattle.joined_passes.proofs.Means.{are_in_turn}
 use Rattle.joined_passes.proofs.Phases.{one-phase}
 use Rattle.joined_passes.proofs.join.Goals as goal
-use Rattle.joined_passes.proofs.join.Goals.{In_ok-push}
-
--- the one phase that is made
-phases : (c : In_ok-push) →
-    plain_phases c.push.new.self.items
-    ≡ (joined (plain_merged c.args.first) c.args.diagonal.items (plain_merged c.args.second)).phases
-phases c =
-    one-phase c.new-phases.result.items c.push.new.self.items c.append.new.self c.in_ok-passes.passes.items
-    c.in_ok-after.after.items _ _ c.new-phases.ensures.items c.in_ok-push.ensures.items c.in_ok-append.ensures.items
-    (c.in_ok-passes.ensures ∙ ap (multiplied_last Own (values c.args.diagonal.items)) c.in_ok-before.ensures)
-    c.in_ok-after.ensures
 
 pub returns-clause-meaning : goal.returns-clause-meaning
 returns-clause-meaning c =
-    are_in_turn (plain_merged c.args.first) (plain_merged c.args.second) c.args.diagonal.items
-    (plain_phases c.push.new.self.items) (phases c)
+    are_in_turn (plain_merged c.args.first) (plain_merged c.args.second) c.args.diagonal.items (plain_phases c.push.new.self.items)
+    (one-phase c.new-phases.result.items c.push.new.self.items c.append.new.self c.in_ok-passes.passes.items c.in_ok-after.after.items _ _
+    c.new-phases.ensures.items c.in_ok-push.ensures.items c.in_ok-append.ensures.items
+    (c.in_ok-passes.ensures ∙ ap (multiplied_last Own (values c.args.diagonal.items)) c.in_ok-before.ensures)
+    c.in_ok-after.ensures)
 
 pub returns-clause-counts : goal.returns-clause-counts
 returns-clause-counts c =
-    count_both (plain_merged c.args.first) (plain_merged c.args.second) c.args.diagonal.items
-    (plain_phases c.push.new.self.items) (phases c)
+    count_both (plain_merged c.args.first) (plain_merged c.args.second) c.args.diagonal.items (plain_phases c.push.new.self.items)
+    (one-phase c.new-phases.result.items c.push.new.self.items c.append.new.self c.in_ok-passes.passes.items c.in_ok-after.after.items _ _
+    c.new-phases.ensures.items c.in_ok-push.ensures.items c.in_ok-append.ensures.items
+    (c.in_ok-passes.ensures ∙ ap (multiplied_last Own (values c.args.diagonal.items)) c.in_ok-before.ensures)
+    c.in_ok-after.ensures)
