@@ -7,6 +7,7 @@
 SPIRAL names the program (bin/spiral).
 """
 
+import argparse
 import os
 import random
 import subprocess
@@ -43,18 +44,34 @@ def products(one, others):
     return [sum(value << (DIGIT * k) for k, value in enumerate(values)) for values in sums]
 
 
-def main():
-    if len(sys.argv) == 3:
-        one, other = (int(text, 16) for text in sys.argv[1:])
-        print(f"{products(one, [other])[0]:x}")
-        return
+def hexadecimal(text):
+    if not text or set(text) - set("0123456789abcdefABCDEF"):
+        raise argparse.ArgumentTypeError(f"{text} is not of hexadecimal digits alone")
+    return int(text, 16)
+
+
+def compared():
+    """Some products, compared with Python's own; gives how many."""
     rng, total = random.Random(7), 0
     for bits in (1, 16, 17, 100, 1000, 9000, 60000):
         one = (1 << bits) - 1
         others = [rng.getrandbits(bits), one, 1 << (bits - 1), 1, 0]
         assert products(one, others) == [one * other for other in others], bits
         total += len(others)
-    print(f"products by convolve: {total} right")
+    return total
+
+
+def main():
+    usage = "by_convolve.py [ONE OTHER]"
+    parser = argparse.ArgumentParser(usage=usage, description=__doc__, formatter_class=argparse.RawTextHelpFormatter)
+    parser.add_argument("numbers", type=hexadecimal, nargs="*", metavar="NUMBER", help="hexadecimal digits")
+    numbers = parser.parse_args().numbers
+    if len(numbers) == 2:
+        print(f"{products(numbers[0], numbers[1:])[0]:x}")
+    elif numbers:
+        parser.error("it wants two numbers, or none")
+    else:
+        print(f"products by convolve: {compared()} right")
 
 
 if __name__ == "__main__":
