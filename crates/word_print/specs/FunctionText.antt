@@ -1,5 +1,5 @@
 -- The text of a function to link: what stands round its phases, and the header for its callers.
-use Rattle.std.specs.Prelude.{ℕ, zero, suc, ◌+◌, ◌-◌, ◌==◌, ◌&&◌, nat_le, List, [], ◌++◌, codes, decimal, map, if◌then◌else◌}
+use Rattle.std.specs.Prelude.{ℕ, zero, suc, ◌+◌, ◌-◌, ◌&&◌, nat_le, Bool, true, false, List, [], ◌++◌, codes, decimal, map, if◌then◌else◌}
 use Rattle.word_print.specs.WordFront.{numbered_text}
 
 -- a text for each of so many numbers, from this one on
@@ -78,9 +78,10 @@ asked_text capitals =
     ++ codes "_MODULUS; work: " ++ capitals
     ++ codes "_WORK words; no two overlap; best at multiples of 64 bytes. */\n"
 
--- of words of which half has so many values
-abbrev pub word_type_text : ℕ → List ℕ
-word_type_text half = if half == 65536 then codes "uint32_t" else codes "uint64_t"
+-- of words of 32 bits, and of others
+abbrev pub word_type_text : Bool → List ℕ
+word_type_text true = codes "uint32_t"
+word_type_text false = codes "uint64_t"
 
 -- the three arrays as parameters
 abbrev pub arrays_asked_text : List ℕ → List ℕ

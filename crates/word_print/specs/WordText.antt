@@ -192,7 +192,7 @@ named_header_text name p =
     let capitals = map capital name in
     word_header_text p ++ guard_text capitals ++ lengths_text capitals p.frame.size (words_of_array p)
     ++ counts_text capitals p.frame.modulus p.frame.procs (length p.phases)
-    ++ linkage_text (asked_text capitals ++ declared_functions_text name (word_type_text p.width.half))
+    ++ linkage_text (asked_text capitals ++ declared_functions_text name (word_type_text (p.width.half == 65536)))
 
 abbrev pub words_text : TextForm → PlainWordProgram → List ℕ
 words_text with_arrays p = arrays_and_phases_text p

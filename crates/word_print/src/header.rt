@@ -149,17 +149,17 @@ fn put_functions_of(
     put_word(out, b"#ifdef __cplusplus\n}\n#endif\n#endif\n")
 }
 
-/// Writes the functions over words of which half has so many values.
+/// Writes the functions over words of 32 bits, or over others.
 pub(crate) fn put_linked(
     out: &mut Vec<u8>,
     capitals: &[u8],
     name: &[u8],
-    half: u64,
+    narrow: bool,
 ) -> Result<(), AllocError>
     ensures { OnOk result (out.new.items ≡ out.old.items ++ linkage_text
-        (asked_text capitals.now ++ declared_functions_text name.now (word_type_text half))) }
+        (asked_text capitals.now ++ declared_functions_text name.now (word_type_text narrow))) }
 {
-    if half == 65536 {
+    if narrow {
         put_functions_of(out, capitals, name, b"uint32_t")
     } else {
         put_functions_of(out, capitals, name, b"uint64_t")

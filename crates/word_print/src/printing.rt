@@ -245,7 +245,7 @@ fn print_header(alloc: Global, name: &[u8], program: &WordProgram) -> Result<Vec
     put_guard(&mut out, &capitals)?;
     put_lengths(&mut out, &capitals, program.size, words)?;
     put_counts(&mut out, &capitals, program.modulus, program.procs, phases)?;
-    put_linked(&mut out, &capitals, name, program.half)?;
+    put_linked(&mut out, &capitals, name, program.half == 65536)?;
     Ok(out)
 }
 
