@@ -1,17 +1,16 @@
 -- A request that is valid, admits a tree and has the budget for its least cost is one for its command.
-use Rattle.std.proofs.Common.{◌≡◌, ℕ, ◌+◌, ◌≤◌, true, List, [], ◌∷◌, Ok, ap, ◌∙◌, arith, inl, refl, subst}
-use Rattle.std.specs.Prelude.{All}
-use Rattle.std.proofs.lemmas.Bool.{and_from, eq-eqb}
+use Rattle.std.proofs.Common.{◌≡◌, ℕ, ◌+◌, ◌≤◌, true, List, [], ◌∷◌, Ok, ap, ◌∙◌, arith, inl, inr, refl, subst}
+use Rattle.std.proofs.lemmas.Bool.{and_from, cases_Bool, eq-eqb}
 use Rattle.convolution.specs.Request.{IsConvRequest}
 use Rattle.convolution_commands.specs.Convolved.{IsConvolvable, conv_in}
 use Rattle.convolver.specs.Planned.{HasPrincipalRoot, both_halves}
-use Rattle.dimension_plans.proofs.Existence.{chosen_trees}
-use Rattle.dimension_plans.specs.Several.{IsSeveralRequest, several_cost}
+use Rattle.dimension_plans.proofs.Existence.{chosen_are_least, chosen_trees}
+use Rattle.dimension_plans.specs.Several.{CanShare, IsSeveralRequest, several_cost}
 use Rattle.dimension_plans.specs.declared.SeveralRequest.{SeveralRequest}
 use Rattle.dimensions.specs.Transform.{listed}
 use Rattle.generate.proofs.Existence.{valid_of_rooted}
 use Rattle.generate.specs.Planned.{IsRooted, has_root, root_power}
-use Rattle.matrix_meaning.specs.Valid.{HasRoot}
+use Rattle.matrix_meaning.specs.Valid.{HasRoot, IsInRange, IsValid}
 use Rattle.matrix_meaning.specs.declared.Kind.{Kind}
 use Rattle.matrix_meaning.specs.declared.Kind.TheVariants.{Dft, Wht}
 use Rattle.matrix_meaning.specs.declared.Request.{Request}
@@ -19,11 +18,14 @@ use Rattle.plan_search.proofs.BestTrees.{chosen_exists, chosen_is_least, least_o
 use Rattle.request_commands.specs.Settled.{IsAccepted, IsAffordable}
 use Rattle.spiral_words.specs.declared.Command.{Command}
 use Rattle.spiral_words.specs.declared.Command.TheVariants as command
-use Rattle.transform_code.specs.Planned.{HasRoots, IsAdmitted}
-use Rattle.transform_requests.specs.Range.{IsRequestValid}
+use Rattle.transform_code.specs.Planned.{ArePlanned, HasRoots, IsAdmitted, IsOnePlanned}
+use Rattle.transform_requests.specs.Range.{AreInRange, IsRequestInRange, IsRequestValid}
 use Rattle.transform_requests.specs.declared.TransformRequest.{TransformRequest}
 use Rattle.transform_requests.specs.declared.TransformRequest.TheVariants.{One, Several}
-use Rattle.tree_model.specs.Cost.{cost_of, extra_cost, whole_cost}
+use Rattle.tree_model.specs.Admissible.{CanDivide, IsAdmissible, RootFits}
+use Rattle.tree_model.specs.Breakdown.{Breakdown, leaf, node, size_of}
+use Rattle.tree_model.specs.Cost.{cost_of, extra_cost, is_plain, whole_cost}
+use Rattle.tree_model.specs.declared.tree.Rule.TheVariants.{Gt, Ct, Split}
 use Rattle.spiral_main.specs.Families.{Job, ordered}
 use Rattle.spiral_main.specs.Right.{AdmitsTrees, HasBudgetFor, IsRightConvolution, IsRightRequest, IsWithinBudget, IsWithinConvBudget}
 
@@ -96,3 +98,42 @@ orders_request words bytes right = record {
   before = right.orders;
   behind = (convolvable_by right.request right.able right.rooted right.principal right.budget, refl);
 }
+
+-- ---- a request that has a plan is right
+
+root_divides : (c : Request) (t : Breakdown) → RootFits c t → CanDivide c
+root_divides c (leaf d) h = absurd h
+root_divides c (node Gt a b) h = absurd h
+root_divides c (node Ct a b) h = inr (size_of a, size_of b, h)
+root_divides c (node Split a b) h = inr (size_of a, size_of b, h)
+
+tree_divides : (c : Request) (t : Breakdown) → IsAdmissible c t → CanDivide c
+tree_divides c t h = elim (cases_Bool (is_plain c)) [
+  | inl plain ↦ inl plain
+  | inr shared ↦ root_divides c t (h.root refl shared)
+]
+
+one_is_right : (r : Request) (ts : List Breakdown) → IsInRange r → IsOnePlanned r (Ok ts) → IsValid r × CanDivide r × IsWithinBudget (One r)
+one_is_right r [] range planned = absurd planned
+one_is_right r (t ∷ []) range planned = (
+  valid_of_rooted r range planned.0,
+  tree_divides r t planned.1.candidate,
+  (whole_cost r t, (cost_of r t, chosen_is_least r t planned.1, refl), planned.2),
+)
+one_is_right r (t ∷ u ∷ ts) range planned = absurd planned
+
+several_are_right : (r : SeveralRequest) (ts : List Breakdown) → AreInRange r → ArePlanned r (Ok ts)
+    → IsSeveralRequest r × CanShare r × IsWithinBudget (Several r)
+several_are_right r ts range planned = (
+  record {
+    several = range.several;
+    parts = λ k d within. ((range.parts k d within).0, record { in_range = (range.parts k d within).1; root = planned.0 k d within });
+    whole = range.whole;
+  },
+  planned.1.0,
+  (several_cost r (listed r.dimensions) ts, chosen_are_least r ts planned.1, planned.2),
+)
+
+pub planned_is_right : (r : TransformRequest) → IsRequestInRange r → IsAffordable r → IsRequestValid r × AdmitsTrees r × IsWithinBudget r
+planned_is_right (One r) range planned = one_is_right r planned.0 range planned.1
+planned_is_right (Several r) range planned = several_are_right r planned.0 range planned.1

@@ -7,7 +7,8 @@ ghost use Rattle.icode.specs.Machine.{Code};
 ghost use Rattle.icode.specs.Program.{plain_program};
 ghost use Rattle.icode.specs.declared.program.Program.{Program as SpecProgram};
 ghost use Rattle.request_commands.specs.Performed.{IsGoodCode};
-ghost use Rattle.request_commands.specs.Settled.{IsListing, IsProgramFor};
+ghost use Rattle.request_commands.specs.Settled.{IsAffordable, IsListing, IsProgramFor};
+ghost use Rattle.transform_requests.specs.Range.{IsRequestInRange, IsRequestValid};
 ghost use Rattle.transform_requests.specs.declared.TransformRequest.{TransformRequest as SpecRequest};
 ghost use Rattle.spiral_words.specs.Asked.{IsAsked};
 ghost use Rattle.spiral_words.specs.declared.Command.{Command as SpecCommand};
@@ -17,7 +18,7 @@ ghost use Rattle.spiral_main.specs.Families as families;
 ghost use Rattle.spiral_main.specs.Always.{is_by_equation};
 ghost use Rattle.spiral_main.specs.Outcome.{Accounts, IsOutcome};
 ghost use Rattle.spiral_main.specs.Programs.{IsCodeListed};
-ghost use Rattle.spiral_main.specs.Right.{IsRightCall, Succeeds};
+ghost use Rattle.spiral_main.specs.Right.{AdmitsTrees, IsRightCall, IsWithinBudget, Succeeds};
 
 pub mod answers;
 pub mod rights;
@@ -57,6 +58,13 @@ pub fn right_calls_succeed()
         → Accounts words bytes left before after status
         → status ≢ ReadFault → status ≢ WriteFault
         → (status ≡ NoMemory) ⊎ Succeeds words bytes before after status }
+{}
+
+/// What a right call asks of a request is no more than that it has a plan: a request in range that has one is valid, admits a
+/// tree, and its least cost is within the budget.
+pub fn planned_requests_are_right()
+    ensures { (request : SpecRequest) → IsRequestInRange request → IsAffordable request
+        → IsRequestValid request × AdmitsTrees request × IsWithinBudget request }
 {}
 
 /// A call of `plan`, `formula`, `run`, `sample`, `apply` or `convolve` without `--code`, and one whose words are no
