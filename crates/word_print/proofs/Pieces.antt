@@ -23,11 +23,10 @@ eight_pieces old a b c d e f g h = simp append_assoc
 pub pieces_between : (old a b c d : List ℕ) → (((old ++ a) ++ b) ++ c) ++ d ≡ old ++ (a ++ (b ++ c) ++ d)
 pieces_between old a b c d = simp append_assoc
 
--- Pieces put one behind the other from nothing
-
+-- three pieces from nothing, one behind the other
 pub three_parts : (a b c start one two three : List ℕ) → start ≡ [] → one ≡ start ++ a → two ≡ one ++ b → three ≡ two ++ c → three ≡ a ++ b ++ c
 three_parts a b c start one two three nothing first second third =
-    third ∙ ap (λ o. o ++ c) (second ∙ ap (λ o. o ++ b) (first ∙ ap (λ o. o ++ a) nothing)) ∙ append_assoc a b c
+    third ∙ ap (λ o. o ++ c) (second ∙ ap (λ o. o ++ b) (first ∙ ap (λ o. o ++ a) nothing))
 
 next_one : (text : ℕ → List ℕ) (count number : ℕ) → number < count → each_from text (count - number) number ≡ text number ++ each_from text (count - (number + 1)) (number + 1)
 next_one text count number lt =

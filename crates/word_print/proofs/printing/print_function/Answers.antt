@@ -1,6 +1,6 @@
-use Rattle.std.proofs.Common.{◌≡◌, ◌++◌, ℕ, List, length, ap, sym, ◌∙◌}
+use Rattle.std.proofs.Common.{◌≡◌, ◌++◌, ℕ, List, length, ap, ◌∙◌, arith}
 use Rattle.std.proofs.lemmas.List.{length-map}
-use Rattle.word_code.specs.View.{plain_word_program, plain_word_body}
+use Rattle.word_code.specs.View.{plain_word_program}
 use Rattle.word_print.specs.FunctionText.{static_phase_text, parameters_text, functions_to_link_text}
 use Rattle.word_print.specs.WordText.{words_of_array, front_text, all_phases_text}
 use Rattle.word_print.proofs.Pieces.{three_parts}
@@ -13,7 +13,8 @@ returns c =
     let procs = c.args.program.now.procs in
     let front = c.put_front.new.out.items in
     let phases = c.put_phases.new.out.items in
-    let count : c.len-phases.result ≡ length p.phases = c.len-phases.ensures ∙ sym (length-map c.args.program.now.phases.items _) in
+    let mapped : length p.phases ≡ length c.args.program.now.phases.items = length-map c.args.program.now.phases.items _ in
+    let count : c.len-phases.result ≡ length p.phases = omega (arith, c.len-phases.ensures, c.args.program.now.phases.ok.0, mapped) in
     three_parts (front_text p) (all_phases_text (static_phase_text name) parameters_text p) (functions_to_link_text name (words_of_array p) procs (length p.phases))
     c.new-out.result.items front phases c.put_functions_to_link.new.out.items c.new-out.ensures.items c.in_ok-put_front.ensures
     (c.in_ok-put_phases.ensures ∙ ap (λ (before : List ℕ). front ++ all_phases_text before parameters_text p) (c.deref.ensures.value ∙ c.in_ok-static_phase.ensures))
