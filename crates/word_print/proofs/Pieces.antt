@@ -16,7 +16,8 @@ four_pieces old a b c d = simp append_assoc
 pub five_pieces : (old a b c d e : List ℕ) → ((((old ++ a) ++ b) ++ c) ++ d) ++ e ≡ old ++ (a ++ b ++ c ++ d ++ e)
 five_pieces old a b c d e = simp append_assoc
 
-pub eight_pieces : (old a b c d e f g h : List ℕ) → (((((((old ++ a) ++ b) ++ c) ++ d) ++ e) ++ f) ++ g) ++ h ≡ old ++ (a ++ b ++ c ++ d ++ e ++ f ++ g ++ h)
+pub eight_pieces : (old a b c d e f g h : List ℕ)
+    → (((((((old ++ a) ++ b) ++ c) ++ d) ++ e) ++ f) ++ g) ++ h ≡ old ++ (a ++ b ++ c ++ d ++ e ++ f ++ g ++ h)
 eight_pieces old a b c d e f g h = simp append_assoc
 
 -- two pieces between two
@@ -24,7 +25,8 @@ pub pieces_between : (old a b c d : List ℕ) → (((old ++ a) ++ b) ++ c) ++ d 
 pieces_between old a b c d = simp append_assoc
 
 -- three pieces from nothing, one behind the other
-pub three_parts : (a b c start one two three : List ℕ) → start ≡ [] → one ≡ start ++ a → two ≡ one ++ b → three ≡ two ++ c → three ≡ a ++ b ++ c
+pub three_parts : (a b c start one two three : List ℕ) → start ≡ [] → one ≡ start ++ a → two ≡ one ++ b → three ≡ two ++ c
+    → three ≡ a ++ b ++ c
 three_parts a b c start one two three nothing first second third =
     third ∙ ap (λ o. o ++ c) (second ∙ ap (λ o. o ++ b) (first ∙ ap (λ o. o ++ a) nothing))
 

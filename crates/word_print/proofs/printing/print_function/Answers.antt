@@ -15,8 +15,12 @@ returns c =
     let phases = c.put_phases.new.out.items in
     let mapped : length p.phases ≡ length c.args.program.now.phases.items = length-map c.args.program.now.phases.items _ in
     let count : c.len-phases.result ≡ length p.phases = omega (arith, c.len-phases.ensures, c.args.program.now.phases.ok.0, mapped) in
-    three_parts (front_text p) (all_phases_text (static_phase_text name) parameters_text p) (functions_to_link_text name (words_of_array p) procs (length p.phases))
-    c.new-out.result.items front phases c.put_functions_to_link.new.out.items c.new-out.ensures.items c.in_ok-put_front.ensures
-    (c.in_ok-put_phases.ensures ∙ ap (λ (before : List ℕ). front ++ all_phases_text before parameters_text p) (c.deref.ensures.value ∙ c.in_ok-static_phase.ensures))
-    (c.in_ok-put_functions_to_link.ensures ∙ ap (λ (words : ℕ). phases ++ functions_to_link_text name words procs c.len-phases.result) c.array_words-words.ensures.words
+    three_parts (front_text p) (all_phases_text (static_phase_text name) parameters_text p)
+    (functions_to_link_text name (words_of_array p) procs (length p.phases)) c.new-out.result.items front phases
+    c.put_functions_to_link.new.out.items c.new-out.ensures.items c.in_ok-put_front.ensures
+    (c.in_ok-put_phases.ensures
+    ∙ ap (λ (before : List ℕ). front ++ all_phases_text before parameters_text p)
+        (c.deref.ensures.value ∙ c.in_ok-static_phase.ensures))
+    (c.in_ok-put_functions_to_link.ensures
+    ∙ ap (λ (words : ℕ). phases ++ functions_to_link_text name words procs c.len-phases.result) c.array_words-words.ensures.words
     ∙ ap (λ (n : ℕ). phases ++ functions_to_link_text name (words_of_array p) procs n) count)
