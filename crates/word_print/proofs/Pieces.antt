@@ -1,5 +1,5 @@
 -- How pieces of text are put together, one behind the other.
-use Rattle.std.proofs.Common.{◌≡◌, ℕ, suc, ◌+◌, ◌-◌, ◌<◌, ◌≢◌, List, ◌++◌, append_assoc, codes, ap, sym, ◌∙◌, arith}
+use Rattle.std.proofs.Common.{◌≡◌, ℕ, suc, ◌+◌, ◌-◌, ◌<◌, ◌≢◌, List, [], ◌++◌, append_assoc, codes, ap, sym, ◌∙◌, arith}
 use Rattle.word_print.specs.WordFront.{numbered_text}
 use Rattle.word_print.specs.FunctionText.{each_from}
 use Rattle.word_print.specs.WordText.{becomes_text, sources_text, targets_text}
@@ -15,6 +15,20 @@ four_pieces old a b c d = simp append_assoc
 
 pub five_pieces : (old a b c d e : List ℕ) → ((((old ++ a) ++ b) ++ c) ++ d) ++ e ≡ old ++ (a ++ b ++ c ++ d ++ e)
 five_pieces old a b c d e = simp append_assoc
+
+pub eight_pieces : (old a b c d e f g h : List ℕ)
+    → (((((((old ++ a) ++ b) ++ c) ++ d) ++ e) ++ f) ++ g) ++ h ≡ old ++ (a ++ b ++ c ++ d ++ e ++ f ++ g ++ h)
+eight_pieces old a b c d e f g h = simp append_assoc
+
+-- two pieces between two
+pub pieces_between : (old a b c d : List ℕ) → (((old ++ a) ++ b) ++ c) ++ d ≡ old ++ (a ++ (b ++ c) ++ d)
+pieces_between old a b c d = simp append_assoc
+
+-- three pieces from nothing, one behind the other
+pub three_parts : (a b c start one two three : List ℕ) → start ≡ [] → one ≡ start ++ a → two ≡ one ++ b → three ≡ two ++ c
+    → three ≡ a ++ b ++ c
+three_parts a b c start one two three nothing first second third =
+    third ∙ ap (λ o. o ++ c) (second ∙ ap (λ o. o ++ b) (first ∙ ap (λ o. o ++ a) nothing))
 
 next_one : (text : ℕ → List ℕ) (count number : ℕ) → number < count → each_from text (count - number) number ≡ text number ++ each_from text (count - (number + 1)) (number + 1)
 next_one text count number lt =

@@ -1,4 +1,4 @@
-use Rattle.std.proofs.Common.{◌≡◌, ◌++◌, ◌≤◌, drop}
+use Rattle.std.proofs.Common.{◌≡◌, ◌++◌, drop}
 use Rattle.std.specs.Prelude.{IsTrue}
 use Rattle.word_code.specs.View.{plain_word_phases, plain_word_program}
 use Rattle.word_print.specs.WordText.{word_phases_text, all_phases_text}
