@@ -1,10 +1,8 @@
 -- What the bytes of the input account for.
-use Rattle.std.proofs.Common.{◌≡◌, ◌≢◌, ◌⊎◌, ℕ, ◌<◌, ◌≤◌, true, List, [], ◌∷◌, ◌++◌, length, None, Some, Err, inl, inr, refl, sym, ap, subst, ◌∙◌, append_assoc, arith}
+use Rattle.std.proofs.Common.{◌≡◌, ◌≢◌, ℕ, ◌<◌, ◌≤◌, List, [], ◌∷◌, ◌++◌, length, None, Some, Err, inl, inr, refl, sym, ap, subst, ◌∙◌, append_assoc}
 use Rattle.std.specs.declared.option.Option.{Option}
 use Rattle.std.specs.Io.KnownBytes.{Appends, Consumes, IsAtEnd, prepend_known}
 use Rattle.std.proofs.KnownBytes.{Appends-nil}
-use Rattle.icode.specs.declared.program.Program.{Program}
-use Rattle.icode.specs.Program.{plain_program}
 use Rattle.fast_words.specs.Asked.{Asked, asked}
 use Rattle.fast_words.specs.declared.options.Refusal.{Refusal}
 use Rattle.fast_words.specs.declared.options.Refusal.TheVariants as words
@@ -14,13 +12,10 @@ use Rattle.input_rest.specs.Part.{first_part, HasPartEnded, IsWholePart, GivesPa
 use Rattle.input_rest.proofs.PartLemmas.{still_ended}
 use Rattle.io_edge.specs.Feed.{Fed, to_come}
 use Rattle.io_edge.specs.Taken.{AppendsPrefix}
-use Rattle.listing_text.specs.Texts.{is_listing}
-use Rattle.code_check.specs.Refusals.{PassesCheck}
 use Rattle.fast_main.specs.declared.status.Status.{Status}
-use Rattle.fast_main.specs.declared.status.Status.TheVariants.{Success, Usage, WriteFault, NoMemory}
-use Rattle.fast_main.specs.Outcome.{action_limit, IsRefused, IsTranslated, IsDefined, IsInside, IsOutcome, AreJudged, HasReadListing, ToldAccounts}
+use Rattle.fast_main.specs.declared.status.Status.TheVariants.{Success, Usage, WriteFault}
+use Rattle.fast_main.specs.Outcome.{IsRefused, IsTranslated, IsDefined, IsInside, IsOutcome, AreJudged, HasReadListing, ToldAccounts}
 use Rattle.fast_main.specs.Status.{listing_limit, status_of_rest, status_of_words}
-use Rattle.word_code.specs.declared.choose.WordSize.{WordSize}
 
 pub prepend_nothing : (left : Option (List ℕ)) → prepend_known [] left ≡ left
 prepend_nothing None = refl

@@ -12,13 +12,13 @@ pub returns-in_err-options-clause-told : goal.returns-in_err-options-clause-told
 returns-in_err-options-clause-told g c =
     let words = map (string_bytes {Z = Global}) c.args.words.now.items in
     let told = g.I.Source.left c.args.input.now in
-    let p = err_from_is_err_and c.from_residual-in_err-options.result c.from_residual-in_err-options.ensures.1 in
+    let p = err_from_is_err_and c.from_residual.result c.from_residual.ensures.1 in
     rw (p.1, p.2) (told_no_words words told told (g.O.Sink.taken c.args.output.now) c.in_err-options.field-0.0 (λ e. c.in_err-options.ensures.usage (ap (λ f. Err f) e)))
 
 pub returns-in_err-options-clause-words : goal.returns-in_err-options-clause-words
 returns-in_err-options-clause-words g c =
     let words = map (string_bytes {Z = Global}) c.args.words.now.items in
-    let p = err_from_is_err_and c.from_residual-in_err-options.result c.from_residual-in_err-options.ensures.1 in
+    let p = err_from_is_err_and c.from_residual.result c.from_residual.ensures.1 in
     rw (p.1, p.2) (judged_refused words c.in_err-options.field-0.0 (λ e. c.in_err-options.ensures.usage (ap (λ f. Err f) e)))
 
 pub returns-in_err-listing-clause-told : goal.returns-in_err-listing-clause-told
