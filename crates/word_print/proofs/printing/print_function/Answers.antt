@@ -20,7 +20,7 @@ returns c =
     c.put_functions_to_link.new.out.items c.new-out.ensures.items c.in_ok-put_front.ensures
     (c.in_ok-put_phases.ensures
     ∙ ap (λ (before : List ℕ). front ++ all_phases_text before parameters_text p)
-        (c.deref.ensures.value ∙ c.in_ok-static_phase.ensures))
+    (c.deref.ensures.value ∙ c.in_ok-static_phase.ensures))
     (c.in_ok-put_functions_to_link.ensures
     ∙ ap (λ (words : ℕ). phases ++ functions_to_link_text name words procs c.len-phases.result) c.array_words-words.ensures.words
     ∙ ap (λ (n : ℕ). phases ++ functions_to_link_text name (words_of_array p) procs n) count)
