@@ -18,7 +18,7 @@ use Rattle.operators.specs.Sum.{list_below}
 use Rattle.operators.proofs.Lists.{at-list_below, length-list_below, list_below-same}
 use Rattle.passes.specs.Good.{IsVector}
 use Rattle.passes.specs.Merged.{merged_on}
-use Rattle.request_passes.proofs.Small.{tree-small}
+use Rattle.generate.proofs.Small.{tree-small}
 use Rattle.tree_model.specs.Admissible.{IsAdmissible}
 use Rattle.tree_model.specs.Breakdown.{Breakdown}
 use Rattle.tree_passes.proofs.Lean.{trees-transform}

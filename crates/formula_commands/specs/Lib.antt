@@ -1,1 +1,2 @@
 pub mod Compiled
+pub use Rattle.formula_code.specs.Code

@@ -5,7 +5,7 @@ use Rattle.formula_lower.specs.Merged.{sigma_of, tree_merged}
 use Rattle.formula_lower.proofs.TreeLayouts.{tree_layout}
 use Rattle.icode.specs.Plain.{PlainProgram}
 use Rattle.inverse_requests.specs.Inverted.{inverted}
-use Rattle.loop_merge.proofs.LoopLimits.{trees_merge}
+use Rattle.tree_passes.proofs.LoopLimits.{trees_merge}
 use Rattle.matrix_meaning.specs.declared.Direction.{Direction}
 use Rattle.matrix_meaning.specs.declared.Direction.TheVariants.{Forward, Inverse}
 use Rattle.matrix_meaning.specs.declared.Request.{Request}

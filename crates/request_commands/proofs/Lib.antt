@@ -5,3 +5,4 @@ pub mod PlanLemmas
 pub mod Requests
 pub mod RunLemmas
 pub mod SampleLemmas
+pub use Rattle.transform_code.proofs.Existence

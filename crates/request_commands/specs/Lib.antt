@@ -3,3 +3,7 @@ pub mod Performed
 pub mod Sample
 pub mod Settled
 pub mod Traced
+pub use Rattle.transform_code.specs.Good
+pub use Rattle.transform_code.specs.Lean
+pub use Rattle.transform_code.specs.Letters
+pub use Rattle.transform_code.specs.Planned

@@ -10,8 +10,8 @@ use Rattle.matrix_meaning.specs.declared.Request.{Request}
 use Rattle.plan_faults.specs.declared.generating.GenerateFault.{GenerateFault}
 use Rattle.plan_faults.specs.declared.generating.GenerateFault.TheVariants as generate
 use Rattle.ring_mod.specs.Residue.{power_mod}
-use Rattle.transform_code.specs.Letters.{HasLetters, HasOneLetters}
-use Rattle.transform_code.specs.Planned.{IsAdmitted, IsBarred, IsFirstPower, IsPlanned}
+use Rattle.request_commands.specs.Letters.{HasLetters, HasOneLetters}
+use Rattle.request_commands.specs.Planned.{IsAdmitted, IsBarred, IsFirstPower, IsPlanned}
 use Rattle.transform_requests.specs.declared.TransformRequest.{TransformRequest}
 use Rattle.transform_requests.specs.declared.TransformRequest.TheVariants.{One, Several}
 use Rattle.transform_requests.specs.Range.{AreRooted}

@@ -1,8 +1,8 @@
 -- Commands that go by a formula, by a listing or by a list: what the families say of them is what their own equations say.
 use Rattle.std.proofs.Common.{◌≡◌, ℕ, Bool, true, false, List, [], ◌∷◌, Ok, Result, refl, sym, subst, ◌∙◌, inl, inr}
-use Rattle.convolution.specs.Convolution.{convolution}
+use Rattle.convolution_commands.specs.Convolution.{convolution}
 use Rattle.data_stream.specs.Data.{tokens, closed_part}
-use Rattle.convolver.specs.Planned.{IsConvPlanned}
+use Rattle.convolution_commands.specs.Planned.{IsConvPlanned}
 use Rattle.matrix_meaning.specs.declared.Request.{Request}
 use Rattle.request_text.specs.Schedule.{Plan as Turns}
 use Rattle.request_text.specs.Turns.{named}

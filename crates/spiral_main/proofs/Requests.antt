@@ -5,7 +5,7 @@ use Rattle.request_text.specs.Schedule.{Plan as Turns}
 use Rattle.stream_run.specs.Stream.{lines, data_vectors}
 use Rattle.transform_certs.specs.Certified.{IsCertificateText}
 use Rattle.transform_certs.specs.Judged.{IsVerdict}
-use Rattle.transform_code.specs.Planned.{IsPlanned}
+use Rattle.request_commands.specs.Planned.{IsPlanned}
 use Rattle.transform_requests.specs.Fields.{asked_of, modulus_of, size_of}
 use Rattle.transform_requests.specs.declared.TransformRequest.{TransformRequest}
 use Rattle.transform_texts.specs.Formulas.{trees_expansion}

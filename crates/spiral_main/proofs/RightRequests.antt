@@ -1,15 +1,15 @@
 -- A request that is valid, admits a tree and has the budget for its least cost is one for its command.
 use Rattle.std.proofs.Common.{◌≡◌, ℕ, ◌+◌, ◌≤◌, true, List, [], ◌∷◌, Ok, ap, ◌∙◌, arith, inl, inr, refl, subst}
 use Rattle.std.proofs.lemmas.Bool.{and_from, cases_Bool, eq-eqb}
-use Rattle.convolution.specs.Request.{IsConvRequest}
+use Rattle.convolution_commands.specs.Request.{IsConvRequest}
 use Rattle.convolution_commands.specs.Convolved.{IsConvolvable, conv_in}
-use Rattle.convolver.specs.Planned.{HasPrincipalRoot, both_halves}
+use Rattle.convolution_commands.specs.Planned.{HasPrincipalRoot, both_halves}
 use Rattle.dimension_plans.proofs.Existence.{chosen_are_least, chosen_trees}
 use Rattle.dimension_plans.specs.Several.{CanShare, IsSeveralRequest, several_cost}
 use Rattle.dimension_plans.specs.declared.SeveralRequest.{SeveralRequest}
 use Rattle.dimensions.specs.Transform.{listed}
-use Rattle.generate.proofs.Existence.{valid_of_rooted}
-use Rattle.generate.specs.Planned.{IsRooted, has_root, root_power}
+use Rattle.request_commands.proofs.Existence.{valid_of_rooted}
+use Rattle.request_commands.specs.Planned.{IsRooted, has_root, root_power}
 use Rattle.matrix_meaning.specs.Valid.{HasRoot, IsInRange, IsValid}
 use Rattle.matrix_meaning.specs.declared.Kind.{Kind}
 use Rattle.matrix_meaning.specs.declared.Kind.TheVariants.{Dft, Wht}
@@ -18,7 +18,7 @@ use Rattle.plan_search.proofs.BestTrees.{chosen_exists, chosen_is_least, least_o
 use Rattle.request_commands.specs.Settled.{IsAccepted, IsAffordable}
 use Rattle.spiral_words.specs.declared.Command.{Command}
 use Rattle.spiral_words.specs.declared.Command.TheVariants as command
-use Rattle.transform_code.specs.Planned.{ArePlanned, HasRoots, IsAdmitted, IsOnePlanned}
+use Rattle.request_commands.specs.Planned.{ArePlanned, HasRoots, IsAdmitted, IsOnePlanned}
 use Rattle.transform_requests.specs.Range.{AreInRange, IsRequestInRange, IsRequestValid}
 use Rattle.transform_requests.specs.declared.TransformRequest.{TransformRequest}
 use Rattle.transform_requests.specs.declared.TransformRequest.TheVariants.{One, Several}

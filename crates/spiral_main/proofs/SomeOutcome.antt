@@ -8,9 +8,9 @@ use Rattle.transform_requests.specs.declared.TransformRequest.{TransformRequest}
 use Rattle.transform_requests.specs.Fields.{modulus_of, procs_of, size_of}
 use Rattle.transform_requests.specs.Range.{IsRequestInRange}
 use Rattle.transform_requests.specs.Trees.{cost_of}
-use Rattle.transform_code.specs.Lean.{loads_of, stores_of}
-use Rattle.transform_code.specs.Planned.{IsPlanned}
-use Rattle.transform_code.proofs.Existence.{plan_of_request}
+use Rattle.request_commands.specs.Lean.{loads_of, stores_of}
+use Rattle.request_commands.specs.Planned.{IsPlanned}
+use Rattle.request_commands.proofs.Existence.{plan_of_request}
 use Rattle.transform_texts.specs.Formulas.{trees_expansion}
 use Rattle.transform_texts.specs.Texts.{plan_text}
 use Rattle.tree_model.specs.Breakdown.{Breakdown}

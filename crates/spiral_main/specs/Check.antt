@@ -2,7 +2,7 @@
 use Rattle.std.specs.Prelude.{◌≡◌, Ok, Err}
 use Rattle.plan_faults.specs.declared.generating.GenerateFault.{GenerateFault}
 use Rattle.transform_certs.specs.Judged.{IsVerdict}
-use Rattle.transform_code.specs.Planned.{IsAdmitted, IsBarred}
+use Rattle.request_commands.specs.Planned.{IsAdmitted, IsBarred}
 use Rattle.transform_requests.specs.declared.TransformRequest.{TransformRequest}
 use Rattle.spiral_status.specs.Fault.{status_of_generate}
 use Rattle.spiral_input.specs.Asking.{spelt}

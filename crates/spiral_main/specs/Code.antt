@@ -4,8 +4,8 @@ use Rattle.icode.specs.declared.program.Program.{Program}
 use Rattle.icode.specs.Program.{plain_program}
 use Rattle.listing_text.specs.Listing.{listing_of}
 use Rattle.request_commands.specs.Settled.{IsProgramOf}
-use Rattle.transform_code.specs.Good.{IsGood}
-use Rattle.transform_code.specs.Lean.{IsLean}
+use Rattle.request_commands.specs.Good.{IsGood}
+use Rattle.request_commands.specs.Lean.{IsLean}
 use Rattle.transform_requests.specs.Trees.{cost_of}
 use Rattle.spiral_input.specs.Outcomes.{Outcomes}
 use Rattle.spiral_main.specs.Front.{line, by_front}

@@ -1,6 +1,6 @@
 -- What is right for `compile`.
 use Rattle.std.specs.Prelude.{◌≡◌, ℕ, List}
-use Rattle.formula_code.specs.Code.{IsCodeOf}
+use Rattle.formula_commands.specs.Code.{IsCodeOf}
 use Rattle.icode.specs.declared.program.Program.{Program}
 use Rattle.icode.specs.Program.{plain_program}
 use Rattle.listing_text.specs.Listing.{listing_of}

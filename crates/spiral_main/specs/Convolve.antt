@@ -1,9 +1,9 @@
 -- What is right for `convolve`, with `--code` and without.
 use Rattle.std.specs.Prelude.{◌≡◌, ℕ, Bool, true, false, List, Ok, Err}
-use Rattle.convolution.specs.Convolution.{convolution}
-use Rattle.convolver.specs.Convolver.{IsConvolver}
-use Rattle.convolver.specs.Letters.{conv_program}
-use Rattle.convolver.specs.Planned.{IsConvPlanned}
+use Rattle.convolution_commands.specs.Convolution.{convolution}
+use Rattle.convolution_commands.specs.Convolver.{IsConvolver}
+use Rattle.convolution_commands.specs.Letters.{conv_program}
+use Rattle.convolution_commands.specs.Planned.{IsConvPlanned}
 use Rattle.icode.specs.declared.program.Program.{Program}
 use Rattle.icode.specs.Program.{plain_program}
 use Rattle.listing_text.specs.Listing.{listing_of}

@@ -5,7 +5,7 @@ use Rattle.spiral_status.specs.Fault.{status_of_generate}
 use Rattle.spiral_input.specs.Asking.{spelt}
 use Rattle.spiral_input.specs.Commands.{admitted, first_stranger}
 use Rattle.spiral_input.specs.Stage.{Stage, given, ◌>>=◌}
-use Rattle.transform_code.specs.Planned.{IsPlanned}
+use Rattle.request_commands.specs.Planned.{IsPlanned}
 use Rattle.transform_requests.specs.Fields.{procs_of}
 use Rattle.transform_requests.specs.declared.TransformRequest.{TransformRequest}
 use Rattle.tree_model.specs.Breakdown.{Breakdown}

@@ -7,10 +7,10 @@ use Rattle.transform_requests.specs.declared.TransformRequest.{TransformRequest}
 use Rattle.transform_requests.specs.declared.TransformRequest.TheVariants.{One, Several}
 use Rattle.transform_requests.specs.Fields as requests
 use Rattle.transform_requests.specs.Range.{IsRequestValid}
-use Rattle.convolution.specs.Request.{IsConvRequest}
-use Rattle.convolver.specs.Planned.{HasPrincipalRoot, both_halves}
+use Rattle.convolution_commands.specs.Request.{IsConvRequest}
+use Rattle.convolution_commands.specs.Planned.{HasPrincipalRoot, both_halves}
 use Rattle.dimension_plans.specs.Several.{CanShare, IsLeastOf}
-use Rattle.generate.specs.Planned.{IsRooted}
+use Rattle.request_commands.specs.Planned.{IsRooted}
 use Rattle.tree_model.specs.Admissible.{CanDivide, IsLeast, IsLeastWhole}
 use Rattle.plan_cert.specs.declared.verdict.Verdict.TheVariants.{Least}
 use Rattle.transform_certs.specs.Judged.{IsVerdict}

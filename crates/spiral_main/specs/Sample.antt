@@ -2,7 +2,7 @@
 use Rattle.std.specs.Prelude.{◌≡◌, ℕ, List}
 use Rattle.request_text.specs.Schedule.{Plan as Turns}
 use Rattle.request_text.specs.Turns.{named}
-use Rattle.transform_code.specs.Lean.{loads_of, stores_of}
+use Rattle.request_commands.specs.Lean.{loads_of, stores_of}
 use Rattle.transform_requests.specs.Fields.{asked_of, modulus_of, size_of}
 use Rattle.transform_requests.specs.Trees.{cost_of}
 use Rattle.request_commands.specs.Sample.{sample_vector, weighted_sum, sample_text}

@@ -8,6 +8,7 @@ use Rattle.dimension_plans.proofs.Existence.{chosen_trees, chosen_are_least, dec
 use Rattle.dimensions.specs.declared.Dimension.{Dimension}
 use Rattle.dimensions.specs.Transform.{listed}
 use Rattle.generate.proofs.Existence.{plan_exists}
+pub use Rattle.generate.proofs.Existence.{valid_of_rooted}
 use Rattle.generate.specs.Planned as one
 use Rattle.matrix_meaning.specs.declared.Request.{Request}
 use Rattle.plan_faults.specs.declared.generating.GenerateFault.{GenerateFault}

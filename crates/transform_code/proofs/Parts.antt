@@ -20,7 +20,7 @@ use Rattle.pass_programs.specs.Contract as contract
 use Rattle.pass_programs.specs.Program.{target_of}
 use Rattle.passes.specs.Nest.{PlainNest}
 use Rattle.tree_model.specs.Breakdown.{Breakdown}
-use Rattle.tree_passes.proofs.Adding.{adds}
+use Rattle.generate.proofs.Adding.{adds}
 use Rattle.transform_code.specs.Lean.{AreParts, IsLeanCode, IsLeanList, IsPart}
 
 cons-head : {x y : ℕ} {xs ys : List ℕ} → x ∷ xs ≡ y ∷ ys → x ≡ y

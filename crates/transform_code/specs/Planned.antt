@@ -5,6 +5,7 @@ use Rattle.dimension_plans.specs.Several.{several_cost, AreChosen, CanShare, IsL
 use Rattle.dimensions.specs.declared.Dimension.{Dimension}
 use Rattle.dimensions.specs.Transform.{listed}
 use Rattle.generate.specs.Planned as one
+pub use Rattle.generate.specs.Planned.{IsRooted, has_root, root_power}
 use Rattle.matrix_meaning.specs.declared.Request.{Request}
 use Rattle.plan_faults.specs.declared.generating.GenerateFault.{GenerateFault}
 use Rattle.plan_faults.specs.declared.generating.GenerateFault.TheVariants.{Root, NoDivide, OverBudget, NoMemory}

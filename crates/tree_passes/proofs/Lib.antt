@@ -14,3 +14,4 @@ pub mod Adding
 pub mod Parts
 pub mod Lean
 pub mod Merged
+pub use Rattle.loop_merge.proofs.LoopLimits
