@@ -22,6 +22,19 @@ size_named word =
 abbrev pub size_in : List Row → Option WordSize
 size_in rows = option_map_or size_named (first_of (codes "words") rows) (Some Any)
 
+-- ---- lanes
+
+abbrev pub lanes_named : Text → Option ℕ
+lanes_named word =
+    if bytes_eq word (codes "2") then Some 2
+    else (if bytes_eq word (codes "4") then Some 4
+    else (if bytes_eq word (codes "8") then Some 8
+    else (if bytes_eq word (codes "16") then Some 16 else None)))
+
+-- without the option one
+abbrev pub lanes_in : List Row → Option ℕ
+lanes_in rows = option_map_or lanes_named (first_of (codes "lanes") rows) (Some 1)
+
 -- ---- names
 
 abbrev pub is_digit : ℕ → Bool
@@ -61,18 +74,19 @@ form_by wants_header None = if wants_header then None else Some with_arrays
 abbrev pub form_in : List Row → Option TextForm
 form_in rows = form_by (is_given (codes "header") rows) (first_of (codes "name") rows)
 
--- ---- both
+-- ---- all of it
 
+-- words of which size, how many lanes, and which text
 pub record Asked : Type 0 where
   pub size : WordSize
+  pub lanes : ℕ
   pub form : TextForm
 
-abbrev pub both : Option WordSize → Option TextForm → Option Asked
-both (Some size) (Some form) = Some (record { size = size; form = form })
-both (Some size) None = None
-both None form = None
+abbrev pub together : Option WordSize → Option ℕ → Option TextForm → Option Asked
+together (Some size) (Some lanes) (Some form) = Some (record { size = size; lanes = lanes; form = form })
+together _ _ _ = None
 
 -- What the words ask for, the program's name first: what clap finds in them. They ask for nothing where clap refuses them.
 abbrev pub asked : List Text → Option Asked
 asked words =
-    if is_empty (fault_of fast_app words) then (let rows = matches_of fast_app words in both (size_in rows) (form_in rows)) else None
+    if is_empty (fault_of fast_app words) then (let rows = matches_of fast_app words in together (size_in rows) (lanes_in rows) (form_in rows)) else None

@@ -4,4 +4,4 @@ use Rattle.fast_words.specs.declared.options.Options.{Options}
 use Rattle.fast_words.specs.Asked.{Asked}
 
 abbrev pub plain_options : Options → Asked
-plain_options options = record { size = options.size; form = text_form options.form }
+plain_options options = record { size = options.size; lanes = options.lanes; form = text_form options.form }

@@ -36,8 +36,10 @@ pub(crate) fn fast_app<'a>(alloc: Global) -> Result<Command<'a>, AllocError>
 {
     let words = option(alloc, "words");
     let sized = bare(alloc).arg(words)?;
+    let lanes = option(alloc, "lanes");
+    let laned = sized.arg(lanes)?;
     let name = option(alloc, "name");
-    let named = sized.arg(name)?;
+    let named = laned.arg(name)?;
     let header = flag(alloc, "header");
     named.arg(header)
 }

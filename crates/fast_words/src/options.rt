@@ -3,7 +3,7 @@ ghost use Rattle.std.specs.Prelude.{◌≡◌, Err, IfOk, None, Some, option_map
 ghost use Rattle.clap.specs.Words.{found_of, rows_of};
 ghost use Rattle.word_print.specs.TextForm.{text_form};
 ghost use Rattle.fast_words.specs.declared.options.Refusal.TheVariants.{NoMemory};
-ghost use Rattle.fast_words.specs.Asked.{asked, both, size_named, size_in, form_in};
+ghost use Rattle.fast_words.specs.Asked.{asked, together, size_named, size_in, lanes_named, lanes_in, form_in};
 ghost use Rattle.fast_words.specs.View.{plain_options};
 
 use crate::form::form_by;
@@ -14,10 +14,11 @@ use thiserror::Error;
 use word_code::choose::WordSize;
 use word_print::Form;
 
-/// What the words ask for: words of a size, and which text.
+/// What the words ask for: words of a size, how many lanes, and which text.
 #[derive(Clone, Copy)]
 pub struct Options<'a> {
     pub size: WordSize,
+    pub lanes: u64,
     pub form: Form<'a>,
 }
 
@@ -61,17 +62,44 @@ fn size_in(matches: &ArgMatches<'_>) -> Option<WordSize>
     }
 }
 
+// The number of lanes that a word names.
+fn lanes_named(word: &str) -> Option<u64>
+    ensures { result ≡ lanes_named word.now }
+{
+    match word {
+        "2" => Some(2),
+        "4" => Some(4),
+        "8" => Some(8),
+        "16" => Some(16),
+        _ => None,
+    }
+}
+
+fn lanes_in(matches: &ArgMatches<'_>) -> Option<u64>
+    ensures { result ≡ lanes_in (rows_of (found_of matches.now)) }
+{
+    match option_in(matches, "lanes") {
+        Some(word) => lanes_named(word),
+        None => Some(1),
+    }
+}
+
 fn form_in<'a>(matches: &ArgMatches<'a>) -> Option<Form<'a>>
     ensures { option_map text_form result ≡ form_in (rows_of (found_of matches.now)) }
 {
     form_by(is_given(matches, "header"), option_in(matches, "name"))
 }
 
-fn both<'a>(size: Option<WordSize>, form: Option<Form<'a>>) -> Option<Options<'a>>
-    ensures { option_map plain_options result ≡ both size (option_map text_form form.entry) }
+fn together<'a>(
+    size: Option<WordSize>,
+    lanes: Option<u64>,
+    form: Option<Form<'a>>,
+) -> Option<Options<'a>>
+    ensures { option_map plain_options result
+        ≡ together size lanes (option_map text_form form.entry) }
 {
-    match (size, form) {
-        (Some(size), Some(form)) => Some(Options { size, form }),
+    match (size, lanes, form) {
+        (Some(size), Some(lanes), Some(form)) => Some(Options { size, lanes, form }),
         _ => None,
     }
 }
@@ -83,7 +111,7 @@ pub fn options_of<'a>(alloc: Global, words: &'a Vec<String>) -> Result<Options<'
     ensures usage { result ≡ Err Refusal.Usage → asked (map string_bytes words.now.items) ≡ None }
 {
     let matches = parsed(alloc, words)?;
-    match both(size_in(&matches), form_in(&matches)) {
+    match together(size_in(&matches), lanes_in(&matches), form_in(&matches)) {
         Some(options) => Ok(options),
         None => Err(Refusal::Usage),
     }
