@@ -21,7 +21,7 @@ use listing_text::print_listing;
 use spiral_status::Status;
 use spiral_words::Command;
 use std::alloc::Global;
-use stream_run::run_buffered;
+use runs::run_buffered;
 use transform_requests::TransformRequest;
 
 // A machine with store buffers and a good program for the request, and room for a vector.

@@ -9,7 +9,7 @@ use plan_faults::{ConvFault, GenerateFault};
 use request_text::RequestFault;
 use spl_text::SplFault;
 use std::alloc::AllocError;
-use stream_run::StreamFault;
+use runs::StreamFault;
 
 /// How many bytes a request line may have, without its end.
 pub const LINE_LIMIT: usize = 256;

@@ -6,12 +6,12 @@ ghost use Rattle.icode.specs.Program.{Fits};
 use crate::machines::{machine_with, schedule};
 use crate::programs::program;
 use crate::same::same;
+use buffer_machine::Events;
 use icode::program::Program;
 use io_edge::{Feed, MemSink, MemSource};
 use std::alloc::Global;
 use std::test::Fail;
-use stream_run::run_stream;
-use trace_text::write_turns;
+use runs::{run_stream, write_steps};
 use worked_rows::{check, field, number, numbers};
 
 // A program, its input, a schedule and the write that fails, if any (each line is one); and the lines, `/` being a line
@@ -50,7 +50,7 @@ fn traced(
     let mut machine = machine_with(alloc, program, &numbers(alloc, input)?)?;
     match schedule.stranger(machine.procs()) {
         None => {
-            let result = write_turns(&mut machine, &schedule, output);
+            let result = write_steps(&mut machine, Events::Turns(&schedule), output);
             Ok(format!(in alloc; "{result:?}")?)
         }
         Some(_) => Err(Fail::from("a stranger")),
