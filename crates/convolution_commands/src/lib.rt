@@ -27,11 +27,11 @@ use matrix_meaning::Request;
 use par_machine::Machine;
 use request_text::{Schedule, read_conv};
 use ring_mod::Modulus;
+use runs::{read_first, run_vectors};
 use spiral_input::{check_turns, read_line, stranger};
 use spiral_status::{LINE_LIMIT, Status};
 use spiral_words::Command;
 use std::alloc::Global;
-use runs::{read_first, run_vectors};
 
 // The request for convolutions that the first line of the input spells, for the command.
 fn ask_conv<I: Source>(command: &Command, feed: &mut Feed, input: &mut I) -> Result<Request, Status>

@@ -17,11 +17,11 @@ use io_edge::{Feed, Sink, Source};
 use par_machine::Machine;
 use request_text::Schedule;
 use ring_mod::Modulus;
+use runs::run_stream;
 use spiral_input::check_turns;
 use spiral_status::Status;
 use spiral_words::Command;
 use std::alloc::Global;
-use runs::run_stream;
 
 // A machine with a program for the formula that the text spells, if the schedule names its one processor alone, and
 // room for a vector.

@@ -18,10 +18,10 @@ use io_edge::{Feed, Sink, Source};
 use listing_text::read_listing;
 use par_machine::Machine;
 use request_text::Schedule;
+use runs::run_stream;
 use spiral_input::check_turns;
 use spiral_status::Status;
 use std::alloc::Global;
-use runs::run_stream;
 
 /// How many bytes a listing has at most.
 const LISTING_LIMIT: u64 = 1_048_576;

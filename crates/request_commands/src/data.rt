@@ -16,10 +16,10 @@ use crate::texts::{engine, traced_engine};
 use buffer_machine::Events;
 use io_edge::{Feed, Sink, Source, write_all};
 use request_text::Schedule;
+use runs::run_stream;
 use spiral_status::Status;
 use spiral_words::{Command, Order};
 use std::alloc::Global;
-use runs::run_stream;
 use transform_requests::TransformRequest;
 
 /// Writes the line of each vector's transform.

@@ -17,9 +17,9 @@ use memory::NoMemory;
 use par_machine::Machine;
 use request_text::{Schedule, next_state};
 use ring_mod::Modulus;
+use runs::transform;
 use spiral_status::Status;
 use std::alloc::Global;
-use runs::transform;
 use transform_requests::TransformRequest;
 
 // Puts the vector of the seed into the slice.

@@ -5,8 +5,8 @@ use Rattle.icode.specs.declared.event.Drained.TheVariants.{Wrote}
 use Rattle.icode.specs.declared.event.Event.{Event}
 use Rattle.icode.specs.declared.event.Event.TheVariants.{Turn, Drain}
 use Rattle.icode.specs.declared.event.Turned.TheVariants.{Did}
-use Rattle.icode.specs.Buffers.{Buffered, buffered_run, buffered_start, drain_answer}
-use Rattle.icode.specs.Machine.{Code, IsCode, State, answer, run, start}
+use Rattle.icode.specs.Buffers.{buffered_start, drain_answer}
+use Rattle.icode.specs.Machine.{Code, IsCode, answer, start}
 use Rattle.runs.specs.Standing.{Standing, completion_at, direct, queued, stepped}
 use Rattle.runs.specs.Walks.{walked}
 
@@ -36,9 +36,12 @@ CompletionActs code s = EachActs code s (completion_at code s)
 
 -- so it is in every run
 abbrev pub CompletionsAct : Type 0
-CompletionsAct = (code : Code) → IsCode code → (x turns : List ℕ) → CompletionActs code (walked code (direct (start code x)) (map Turn turns))
+CompletionsAct =
+    (code : Code) → IsCode code → (x turns : List ℕ)
+    → CompletionActs code (walked code (direct (start code x)) (map Turn turns))
 
 -- and in every run with store buffers
 abbrev pub EventCompletionsAct : Type 0
 EventCompletionsAct =
-    (code : Code) → IsCode code → (x : List ℕ) (events : List Event) → CompletionActs code (walked code (queued (buffered_start code x)) events)
+    (code : Code) → IsCode code → (x : List ℕ) (events : List Event)
+    → CompletionActs code (walked code (queued (buffered_start code x)) events)

@@ -9,9 +9,10 @@ use Rattle.runs.specs.Lines.{step_lines}
 use Rattle.runs.specs.Standing.{Standing}
 use Rattle.runs.specs.Walks.{walked}
 
--- the fault met the line of one of the events: the lines of those before it are written, and a front of its own; it is the
--- last that is done. Events are numbered from a number on.
-pub record FaultMet (code : Code) (s : Standing) (number : ℕ) (events : List Event) (t : Standing) (old new : Option (List ℕ)) : Type 0 where
+-- the fault met the line of one of the events: the lines of those before it are written, and a front of its own; it is
+-- the last that is done. Events are numbered from a number on.
+pub record FaultMet (code : Code) (s : Standing) (number : ℕ) (events : List Event) (t : Standing)
+    (old new : Option (List ℕ)) : Type 0 where
   pub front : List Event
   pub met : Event
   pub rest : List Event

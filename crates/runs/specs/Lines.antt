@@ -19,7 +19,8 @@ step_line code (queued b) number (Drain q) = drain_line number q (drain_answer b
 -- the lines of events from this number on, the first of which is done where the machine stands so
 abbrev pub step_lines : Code → Standing → ℕ → List Event → List ℕ
 step_lines code s number [] = []
-step_lines code s number (e ∷ events) = step_line code s number e ++ step_lines code (stepped code s e) (number + 1) events
+step_lines code s number (e ∷ events) =
+    step_line code s number e ++ step_lines code (stepped code s e) (number + 1) events
 
 -- the lines of a whole run from there on
 abbrev pub trace_of : Code → Standing → List Event → List ℕ

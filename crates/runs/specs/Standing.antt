@@ -26,4 +26,5 @@ memory_at (queued b) = b.state.memory
 
 -- the event is of a processor that there is, and the events that complete the run begin with it
 abbrev pub IsNextStep : Code → Standing → Event → Type 0
-IsNextStep code s event = (proc_of event < code.procs) × (completion_at code s ≡ event ∷ completion_at code (stepped code s event))
+IsNextStep code s event =
+    (proc_of event < code.procs) × (completion_at code s ≡ event ∷ completion_at code (stepped code s event))

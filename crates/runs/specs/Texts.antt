@@ -23,8 +23,10 @@ text_at asked code s events = asked_lines asked code s events ++ line_of (result
 
 -- the text of a vector's run without store buffers
 abbrev pub run_text : Bool → Code → List ℕ → List ℕ → List ℕ
-run_text asked code turns x = asked_lines asked code (direct (start code x)) (map Turn turns) ++ line_of (results code x turns)
+run_text asked code turns x =
+    asked_lines asked code (direct (start code x)) (map Turn turns) ++ line_of (results code x turns)
 
 -- and with them
 abbrev pub buffered_text : Bool → Code → List Event → List ℕ → List ℕ
-buffered_text asked code events x = asked_lines asked code (queued (buffered_start code x)) events ++ line_of (buffered_results code x events)
+buffered_text asked code events x =
+    asked_lines asked code (queued (buffered_start code x)) events ++ line_of (buffered_results code x events)

@@ -1,5 +1,5 @@
 // What runs a program by events: a machine without store buffers, or one with them.
-ghost use Rattle.std.specs.Prelude.{◌≡◌, ℕ, ◌+◌, ◌*◌, ◌^◌, ◌<◌, ◌≤◌, List, [], length, All, IfSome, IfNone, slice_index};
+ghost use Rattle.std.specs.Prelude.{◌≡◌, ℕ, ◌*◌, ◌^◌, ◌<◌, ◌≤◌, List, [], length, All, IfSome, IfNone, slice_index};
 ghost use Rattle.icode.specs.Buffers.{proc_of};
 ghost use Rattle.icode.specs.Machine.{Code, padded};
 ghost use Rattle.buffer_machine.specs.Listed.{HasNoStranger, events_of};

@@ -1,5 +1,4 @@
 // The machine with store buffers, run by events.
-ghost use Rattle.std.specs.Prelude.{◌≡◌};
 ghost use Rattle.icode.specs.Buffers.{buffered_start};
 ghost use Rattle.runs.specs.Standing.{queued};
 

@@ -1,6 +1,6 @@
 // The line of a turn or a drain.
 
-ghost use Rattle.std.specs.Prelude.{◌≡◌, ◌+◌, ◌*◌, ◌<◌, ◌≤◌, ◌++◌, length, take, codes, decimal, flat_map};
+ghost use Rattle.std.specs.Prelude.{◌≡◌, ◌+◌, ◌*◌, ◌<◌, ◌≤◌, ◌++◌, length, codes, decimal, flat_map};
 ghost use Rattle.std.specs.List.{join_by};
 ghost use Rattle.arrayvec.specs.ArrayString.{array_string_len};
 ghost use Rattle.runs.specs.Trace.{action_text, answer_text, drain_line, drained_text, turn_line};

@@ -1,7 +1,5 @@
-use Rattle.std.proofs.Common.{◌≡◌, ◌∙◌, ◌+◌, None, arith, drop, map, nat_le, refl, sym, ap}
-use Rattle.std.specs.List.{find}
+use Rattle.std.proofs.Common.{◌∙◌, ◌+◌, arith, drop, sym, ap}
 use Rattle.std.proofs.lemmas.List.{drop_all}
-use Rattle.icode.specs.Buffers.{proc_of}
 use Rattle.icode.specs.Machine.{Code}
 use Rattle.buffer_machine.specs.declared.events.Events.TheVariants.{Mixed}
 use Rattle.buffer_machine.proofs.Named.{event_there, next_of}

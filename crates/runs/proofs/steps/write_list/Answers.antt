@@ -5,9 +5,7 @@ use Rattle.icode.specs.Machine.{Code}
 use Rattle.io_edge.specs.Taken.{AppendsPrefix}
 use Rattle.buffer_machine.specs.Listed.{HasNoStranger, events_of}
 use Rattle.buffer_machine.proofs.Named.{event_there, next_of}
-use Rattle.runs.specs.Lines.{step_lines}
-use Rattle.runs.specs.Standing.{Standing, completion_at, stepped}
-use Rattle.runs.specs.Walks.{walked}
+use Rattle.runs.specs.Standing.{stepped}
 use Rattle.runs.specs.Faults.{FaultMet}
 use Rattle.runs.proofs.Walks.{step_alone}
 use Rattle.runs.proofs.FaultLemmas.{met_passes, met_prefix}

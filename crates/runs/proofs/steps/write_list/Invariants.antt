@@ -1,8 +1,5 @@
 use Rattle.std.proofs.Common.{◌≡◌, drop}
 use Rattle.buffer_machine.specs.Listed.{events_of}
-use Rattle.runs.specs.Lines.{step_lines}
-use Rattle.runs.specs.Standing.{Standing, completion_at, stepped}
-use Rattle.runs.specs.Walks.{walked}
 use Rattle.runs.proofs.Goes.{Goes}
 use Rattle.runs.proofs.steps.write_list.Given as goal
 

@@ -6,9 +6,7 @@ use Rattle.icode.specs.declared.event.Event.{Event}
 use Rattle.icode.specs.Buffers.{proc_of}
 use Rattle.icode.specs.Machine.{Code}
 use Rattle.io_edge.specs.Taken.{AppendsPrefix}
-use Rattle.runs.specs.Lines.{step_lines}
 use Rattle.runs.specs.Standing.{Standing, completion_at, stepped}
-use Rattle.runs.specs.Walks.{walked}
 use Rattle.runs.specs.Faults.{FaultMet}
 use Rattle.runs.proofs.Walks.{step_alone}
 use Rattle.runs.proofs.Acts.{one_more_acts}

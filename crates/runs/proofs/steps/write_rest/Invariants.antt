@@ -2,9 +2,7 @@ use Rattle.std.proofs.Common.{◌≡◌, ◌+◌, ◌<◌, ◌^◌, [], ◌∷�
 use Rattle.std.specs.Prelude.{IfSome, IfNone}
 use Rattle.icode.specs.Buffers.{proc_of}
 use Rattle.runs.specs.Course.{CompletionActs}
-use Rattle.runs.specs.Lines.{step_lines}
-use Rattle.runs.specs.Standing.{Standing, completion_at, stepped}
-use Rattle.runs.specs.Walks.{walked}
+use Rattle.runs.specs.Standing.{completion_at, stepped}
 use Rattle.runs.proofs.Goes.{Goes}
 use Rattle.runs.proofs.steps.write_rest.Given as goal
 

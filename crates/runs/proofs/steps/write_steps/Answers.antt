@@ -5,7 +5,7 @@ use Rattle.io_edge.specs.Taken.{AppendsPrefix, WritesAll}
 use Rattle.io_edge.proofs.TakenLemmas.{prefix_more, writes_after}
 use Rattle.buffer_machine.specs.Listed.{events_of}
 use Rattle.runs.specs.Lines.{step_lines}
-use Rattle.runs.specs.Standing.{Standing, completion_at, stepped}
+use Rattle.runs.specs.Standing.{completion_at}
 use Rattle.runs.specs.Walks.{walked}
 use Rattle.runs.proofs.Walks.{trace_parts, same_rest}
 use Rattle.runs.proofs.Acts.{on_ok}

@@ -9,9 +9,9 @@ use crate::same::same;
 use buffer_machine::Events;
 use icode::program::Program;
 use io_edge::{Feed, MemSink, MemSource};
+use runs::{run_stream, write_steps};
 use std::alloc::Global;
 use std::test::Fail;
-use runs::{run_stream, write_steps};
 use worked_rows::{check, field, number, numbers};
 
 // A program, its input, a schedule and the write that fails, if any (each line is one); and the lines, `/` being a line
