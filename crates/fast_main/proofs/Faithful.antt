@@ -1,5 +1,5 @@
 -- The words of a program that passes the check leave what it leaves.
-use Rattle.std.proofs.Common.{◌≡◌, ℕ, All, length, ◌<◌, ◌≤◌, Bool, true, false, map, refl, sym, ap, subst, ◌∙◌}
+use Rattle.std.proofs.Common.{◌≡◌, ℕ, ◌*◌, All, length, ◌<◌, ◌≤◌, Bool, true, false, List, map, inl, inr, refl, sym, ap, subst, ◌∙◌}
 use Rattle.std.specs.Prelude.{if◌then◌else◌}
 use Rattle.std.specs.List.{list_all}
 use Rattle.icode.specs.Actions.{PlainFits, plain_code}
@@ -13,6 +13,8 @@ use Rattle.in_place.proofs.Fitting.{in_place_fits, in_place_apart}
 use Rattle.loop_interchange.specs.Interchange.{are_nests, interchanged_body, interchanged}
 use Rattle.loop_interchange.proofs.Law.{interchanged_leaves_the_same}
 use Rattle.loop_interchange.proofs.Programs.{modulus_stays}
+use Rattle.loop_lanes.specs.Lanes.{IsLanes, can_be_laned, laned, laned_body}
+use Rattle.loop_lanes.proofs.Law.{laned_leaves_the_same}
 use Rattle.word_code.specs.declared.program.WordProgram.{WordProgram}
 use Rattle.word_code.specs.declared.choose.WordSize.{WordSize}
 use Rattle.word_code.specs.Choice.{allows, fast_words, laziness_for}
@@ -22,7 +24,18 @@ use Rattle.word_code.specs.Same.{LeavesTheSame, FitsAs}
 use Rattle.word_code.specs.View.{plain_word_program}
 use Rattle.word_code.specs.WordMachine.{word_results}
 use Rattle.word_code.specs.WordProgram.{PlainWordProgram, word_code}
-use Rattle.fast_main.specs.Translation.{words_for, IsFaithful, AreSoundWords}
+use Rattle.fast_words.specs.Asked.{IsLaneCount}
+use Rattle.fast_main.specs.Translation.{prepared, words_for, IsFaithful, AreSoundWords}
+
+-- ---- the prepared program
+
+-- what takes the place of the program p
+record IsSameAs (made p : PlainProgram) : Type 0 where
+  size : made.size ≡ p.size
+  modulus : made.modulus ≡ p.modulus
+  fits : PlainFits made
+  apart : (phase : ℕ) → IsApart (plain_code made) phase
+  same : (x turns orders : List ℕ) → results (plain_code made) x turns ≡ results (plain_code p) x orders
 
 size_stays : (p : PlainProgram) → (interchanged p).size ≡ p.size
 size_stays p = of_choice (list_all (are_nests p.lanes) p.phases)
@@ -31,51 +44,89 @@ size_stays p = of_choice (list_all (are_nests p.lanes) p.phases)
     of_choice true = refl
     of_choice false = refl
 
--- the program `there` is the interchanged one, and fits
-pub fits_from : (p there : Program) → plain_program there ≡ interchanged (plain_program p) → Fits p → ((phase : ℕ) → IsApart (code_of p) phase) → Fits there
-fits_from p there is fits apart = subst PlainFits (sym is) (interchanged_leaves_the_same (plain_program p) fits apart).fits
+interchanged_is : (p : PlainProgram) → PlainFits p → ((phase : ℕ) → IsApart (plain_code p) phase) → IsSameAs (interchanged p) p
+interchanged_is p fits apart =
+    let law = interchanged_leaves_the_same p fits apart in
+    record { size = size_stays p; modulus = modulus_stays p; fits = law.fits; apart = law.apart; same = law.same }
 
--- and takes words of the sizes that the program takes
-pub allowed_from : (size : WordSize) (p there : Program) → plain_program there ≡ interchanged (plain_program p) → allows size p.modulus ≡ true → allows size there.modulus ≡ true
-allowed_from size p there is allowed =
-    ap (allows size) (ap (λ (z : PlainProgram). z.modulus) is ∙ modulus_stays (plain_program p)) ∙ allowed
+laned_size : (v : ℕ) (p : PlainProgram) → (laned v p).size ≡ p.size
+laned_size v p = of_choice (can_be_laned v p)
+  where
+    of_choice : (b : Bool) → (if b then record p { lanes = v; regs = 3 * p.regs; phases = map (laned_body v p.regs) p.phases } else p).size ≡ p.size
+    of_choice true = refl
+    of_choice false = refl
 
--- the program `made` on words is `words` in place
-pub words_from : (size : WordSize) (words made : WordProgram) (p there : Program) → plain_program there ≡ interchanged (plain_program p)
-    → plain_word_program words ≡ fast_words size (plain_program there) → plain_word_program made ≡ in_place (plain_program there) (plain_word_program words)
-    → plain_word_program made ≡ words_for size (plain_program p)
-words_from size words made p there is quick shared = shared ∙ ap (in_place (plain_program there)) quick ∙ ap (λ q. in_place q (fast_words size q)) is
+laned_modulus : (v : ℕ) (p : PlainProgram) → (laned v p).modulus ≡ p.modulus
+laned_modulus v p = of_choice (can_be_laned v p)
+  where
+    of_choice : (b : Bool) → (if b then record p { lanes = v; regs = 3 * p.regs; phases = map (laned_body v p.regs) p.phases } else p).modulus ≡ p.modulus
+    of_choice true = refl
+    of_choice false = refl
 
--- and leaves what the program leaves
-faithful_from : (size : WordSize) (words made : WordProgram) (p there : Program) → plain_program there ≡ interchanged (plain_program p)
-    → plain_word_program words ≡ fast_words size (plain_program there) → plain_word_program made ≡ in_place (plain_program there) (plain_word_program words)
-    → LeavesTheSame words there
-    → ((z : Laziness) → plain_word_program words ≡ quickened z (plain_program there) → LeavesAlike (plain_word_program made) (plain_word_program words))
-    → Fits p → ((phase : ℕ) → IsApart (code_of p) phase) → IsFaithful size (plain_program p)
-faithful_from size words made p there is quick shared same alike fits apart x turns orders long low =
-    let law = interchanged_leaves_the_same (plain_program p) fits apart in
-    let z = laziness_for size there.modulus there.lanes in
-    let long_too : (plain_word_program made).frame.size ≡ p.size =
-    ap (λ (w : PlainWordProgram). w.frame.size) (words_from size words made p there is quick shared) ∙ size_stays (plain_program p) in
-    ap (λ w. word_results (word_code w) x turns) (sym (words_from size words made p there is quick shared))
-    ∙ alike z quick x turns (subst (λ (n : ℕ). n ≤ length x) (sym long_too) long)
-    ∙ same (fits_from p there is fits apart) x turns (subst (λ (m : ℕ). All (λ v. v < m) x) (sym (ap (λ (z : PlainProgram). z.modulus) is ∙ modulus_stays (plain_program p))) low)
-    ∙ ap (λ (z : PlainProgram). results (plain_code z) x turns) is
-    ∙ law.same x turns orders
-
--- it fits, is apart and leaves what the program leaves
-pub sound_from : (size : WordSize) (words made : WordProgram) (p there : Program) → plain_program there ≡ interchanged (plain_program p)
-    → plain_word_program words ≡ fast_words size (plain_program there) → plain_word_program made ≡ in_place (plain_program there) (plain_word_program words)
-    → FitsAs words there
-    → LeavesTheSame words there
-    → ((z : Laziness) → plain_word_program words ≡ quickened z (plain_program there) → LeavesAlike (plain_word_program made) (plain_word_program words))
-    → Fits p → ((phase : ℕ) → IsApart (code_of p) phase) → AreSoundWords size (plain_program p)
-sound_from size words made p there is quick shared well same alike fits apart =
-    let q = interchanged (plain_program p) in
-    let law = interchanged_leaves_the_same (plain_program p) fits apart in
+laned_is : (v : ℕ) (p : PlainProgram) → IsLanes v → PlainFits p → ((phase : ℕ) → IsApart (plain_code p) phase) → IsSameAs (laned v (interchanged p)) p
+laned_is v p lanes fits apart =
+    let first = interchanged_is p fits apart in
+    let law = laned_leaves_the_same v (interchanged p) lanes first.fits first.apart in
     record {
-      fits = subst WordsFit (sym shared ∙ words_from size words made p there is quick shared)
-          (in_place_fits (plain_program there) (plain_word_program words) (well (fits_from p there is fits apart)));
-      apart = in_place_apart (laziness_for size q.modulus q.lanes) q law.apart;
-      faithful = faithful_from size words made p there is quick shared same alike fits apart;
+      size = laned_size v (interchanged p) ∙ first.size;
+      modulus = laned_modulus v (interchanged p) ∙ first.modulus;
+      fits = law.fits;
+      apart = law.apart;
+      same = λ x turns orders. law.same x turns turns ∙ first.same x turns orders;
     }
+
+prepared_is : (lanes : ℕ) (p : PlainProgram) → IsLaneCount lanes → PlainFits p → ((phase : ℕ) → IsApart (plain_code p) phase) → IsSameAs (prepared lanes p) p
+prepared_is lanes p (inl one) fits apart = subst (λ n. IsSameAs (prepared n p) p) (sym one) (interchanged_is p fits apart)
+prepared_is lanes p (inr (inl two)) fits apart =
+    subst (λ n. IsSameAs (prepared n p) p) (sym two) (laned_is 2 p (inl refl) fits apart)
+prepared_is lanes p (inr (inr (inl four))) fits apart =
+    subst (λ n. IsSameAs (prepared n p) p) (sym four) (laned_is 4 p (inr (inl refl)) fits apart)
+prepared_is lanes p (inr (inr (inr (inl eight)))) fits apart =
+    subst (λ n. IsSameAs (prepared n p) p) (sym eight) (laned_is 8 p (inr (inr (inl refl))) fits apart)
+prepared_is lanes p (inr (inr (inr (inr sixteen)))) fits apart =
+    subst (λ n. IsSameAs (prepared n p) p) (sym sixteen) (laned_is 16 p (inr (inr (inr refl))) fits apart)
+
+-- ---- its words
+
+module _ (size : WordSize) (lanes : ℕ) (p there : Program) (count : IsLaneCount lanes) (is : plain_program there ≡ prepared lanes (plain_program p)) (fits : Fits p) (apart : (phase : ℕ) → IsApart (code_of p) phase) where
+  law : IsSameAs (prepared lanes (plain_program p)) (plain_program p)
+  law = prepared_is lanes (plain_program p) count fits apart
+
+  -- the program `there` is the prepared one, and fits
+  pub fits_from : Fits there
+  fits_from = subst PlainFits (sym is) law.fits
+
+  modulus_from : there.modulus ≡ p.modulus
+  modulus_from = ap (λ (z : PlainProgram). z.modulus) is ∙ law.modulus
+
+  -- and takes words of the sizes that the program takes
+  pub allowed_from : allows size p.modulus ≡ true → allows size there.modulus ≡ true
+  allowed_from allowed = ap (allows size) modulus_from ∙ allowed
+
+  module _ (words made : WordProgram) (quick : plain_word_program words ≡ fast_words size (plain_program there)) (shared : plain_word_program made ≡ in_place (plain_program there) (plain_word_program words)) where
+    -- the program `made` on words is `words` in place
+    pub words_from : plain_word_program made ≡ words_for size lanes (plain_program p)
+    words_from = shared ∙ ap (in_place (plain_program there)) quick ∙ ap (λ q. in_place q (fast_words size q)) is
+
+    module _ (well : FitsAs words there) (same : LeavesTheSame words there) (alike : (z : Laziness) → plain_word_program words ≡ quickened z (plain_program there) → LeavesAlike (plain_word_program made) (plain_word_program words)) where
+      -- and leaves what the program leaves
+      faithful_from : IsFaithful size lanes (plain_program p)
+      faithful_from x turns orders long low =
+          let z = laziness_for size there.modulus there.lanes in
+          let long_too : (plain_word_program made).frame.size ≡ p.size =
+          ap (λ (w : PlainWordProgram). w.frame.size) words_from ∙ law.size in
+          ap (λ w. word_results (word_code w) x turns) (sym words_from)
+          ∙ alike z quick x turns (subst (λ (n : ℕ). n ≤ length x) (sym long_too) long)
+          ∙ same fits_from x turns (subst (λ (m : ℕ). All (λ v. v < m) x) (sym modulus_from) low)
+          ∙ ap (λ (z : PlainProgram). results (plain_code z) x turns) is
+          ∙ law.same x turns orders
+
+      -- it fits, is apart and leaves what the program leaves
+      pub sound_from : AreSoundWords size lanes (plain_program p)
+      sound_from =
+          let q = prepared lanes (plain_program p) in
+          record {
+            fits = subst WordsFit (sym shared ∙ words_from) (in_place_fits (plain_program there) (plain_word_program words) (well fits_from));
+            apart = in_place_apart (laziness_for size q.modulus q.lanes) q law.apart;
+            faithful = faithful_from;
+          }

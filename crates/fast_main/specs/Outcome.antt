@@ -54,7 +54,7 @@ pub record IsTranslated (wanted : Asked) (bytes text : List ℕ) : Type 0 where
   pub listing : is_listing bytes program
   pub passes : PassesCheck action_limit program
   pub allowed : allows wanted.size program.modulus ≡ true
-  pub sound : AreSoundWords wanted.size program
+  pub sound : AreSoundWords wanted.size wanted.lanes program
   pub says : text ≡ fast_text wanted program
 
 -- why the bytes of a listing have no text

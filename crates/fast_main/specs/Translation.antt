@@ -1,11 +1,12 @@
 -- The C text of a program, and what the words that it spells leave.
-use Rattle.std.specs.Prelude.{◌≡◌, ℕ, ◌<◌, ◌≤◌, List, length, All}
+use Rattle.std.specs.Prelude.{◌≡◌, ℕ, ◌==◌, ◌<◌, ◌≤◌, List, length, All, if◌then◌else◌}
 use Rattle.icode.specs.Actions.{plain_code}
 use Rattle.icode.specs.Machine.{IsApart, results}
 use Rattle.icode.specs.Plain.{PlainProgram}
 use Rattle.fast_words.specs.Asked.{Asked}
 use Rattle.in_place.specs.InPlace.{in_place}
 use Rattle.loop_interchange.specs.Interchange.{interchanged}
+use Rattle.loop_lanes.specs.Lanes.{laned}
 use Rattle.word_code.specs.Bare.{WordsFit}
 use Rattle.word_code.specs.declared.choose.WordSize.{WordSize}
 use Rattle.word_code.specs.Choice.{fast_words}
@@ -13,23 +14,28 @@ use Rattle.word_code.specs.WordMachine.{under, word_results}
 use Rattle.word_code.specs.WordProgram.{PlainWordProgram, word_code}
 use Rattle.word_print.specs.WordText.{words_text}
 
--- the program on words of this size that is chosen for it, where loops are interchanged and passes work in place
-abbrev pub words_for : WordSize → PlainProgram → PlainWordProgram
-words_for size p = let q = interchanged p in in_place q (fast_words size q)
+-- the program where loops are interchanged, and where rounds of loops become lanes if several are asked for
+abbrev pub prepared : ℕ → PlainProgram → PlainProgram
+prepared lanes p = let q = interchanged p in if lanes == 1 then q else laned lanes q
+
+-- the program on words of this size that is chosen for that, where passes work in place
+abbrev pub words_for : WordSize → ℕ → PlainProgram → PlainWordProgram
+words_for size lanes p = let q = prepared lanes p in in_place q (fast_words size q)
 
 -- and the text of it that is asked for
 abbrev pub fast_text : Asked → PlainProgram → List ℕ
-fast_text asked p = words_text asked.form (words_for asked.size p)
+fast_text asked p = words_text asked.form (words_for asked.size asked.lanes p)
 
 -- for every vector of at least as many residues as its size, and every order of turns, the program on words leaves in Y the words
 -- that the program leaves
-abbrev pub IsFaithful : WordSize → PlainProgram → Type 0
-IsFaithful size p =
-    (x turns orders : List ℕ) → p.size ≤ length x → All (λ v. v < p.modulus) x → word_results (word_code (words_for size p)) x turns ≡ results (plain_code p) x orders
+abbrev pub IsFaithful : WordSize → ℕ → PlainProgram → Type 0
+IsFaithful size lanes p =
+    (x turns orders : List ℕ) → p.size ≤ length x → All (λ v. v < p.modulus) x →
+    word_results (word_code (words_for size lanes p)) x turns ≡ results (plain_code p) x orders
 
 -- each place and each register of the program on words is there and its numbers are words, no processor touches a line that
 -- another writes in the phase, and it leaves what the program leaves
-pub record AreSoundWords (size : WordSize) (p : PlainProgram) : Type 0 where
-  pub fits : WordsFit (words_for size p)
-  pub apart : (phase : ℕ) → IsApart (under (word_code (words_for size p))) phase
-  pub faithful : IsFaithful size p
+pub record AreSoundWords (size : WordSize) (lanes : ℕ) (p : PlainProgram) : Type 0 where
+  pub fits : WordsFit (words_for size lanes p)
+  pub apart : (phase : ℕ) → IsApart (under (word_code (words_for size lanes p))) phase
+  pub faithful : IsFaithful size lanes p

@@ -11,7 +11,8 @@ ghost use Rattle.fast_main.specs.Outcome.{IsRefused, IsTranslated, IsInside, IsD
 ghost use Rattle.fast_main.specs.Outcome.{AreJudged, HasReadListing};
 ghost use Rattle.fast_main.specs.Outcome.{ToldAccounts, Notes};
 ghost use Rattle.fast_main.specs.Status.{note_line, status_of};
-ghost use Rattle.fast_main.specs.Translation.{fast_text, AreSoundWords};
+ghost use Rattle.fast_words.specs.Asked.{IsLaneCount};
+ghost use Rattle.fast_main.specs.Translation.{prepared, fast_text, AreSoundWords};
 
 use crate::Status;
 use crate::rows::write_note;
@@ -24,6 +25,7 @@ use input_rest::read_part;
 use io_edge::{Feed, Sink, Source, write_all};
 use listing_text::read_listing;
 use loop_interchange::interchange;
+use loop_lanes::lane_loops;
 use memory::NoMemory;
 use std::alloc::Global;
 use word_code::choose::make_fast;
@@ -32,16 +34,32 @@ use word_print::print_words;
 /// How many bytes a listing has at most.
 pub const LISTING_LIMIT: u64 = 1 << 26;
 
+// The program where loops are interchanged, and where rounds of loops become so many lanes.
+fn prepare(alloc: Global, lanes: u64, program: Program) -> Result<Program, NoMemory>
+    requires { IsLaneCount lanes }
+    ensures { IfOk result
+        (λ made. plain_program made ≡ prepared lanes (plain_program program)) }
+{
+    let program = interchange(program);
+    if lanes == 1 {
+        return Ok(program);
+    }
+    let made = lane_loops(alloc, lanes, program)?;
+    Ok(made)
+}
+
 // The C text of a program that is asked for.
 fn fast_text_of(alloc: Global, options: Options<'_>, program: Program) -> Result<Vec<u8>, NoMemory>
     requires fits { Fits program }
     requires apart { (phase : ℕ) → IsApart (code_of program) phase }
     requires allowed { IsTrue (allows options.size program.modulus) }
+    requires lanes { IsLaneCount options.lanes }
     ensures text { IfOk result
         (λ text. text.items ≡ fast_text (plain_options options.entry) (plain_program program)) }
-    ensures sound { IfOk result (λ _. AreSoundWords options.entry.size (plain_program program)) }
+    ensures sound { IfOk result
+        (λ _. AreSoundWords options.entry.size options.entry.lanes (plain_program program)) }
 {
-    let program = interchange(program);
+    let program = prepare(alloc, options.lanes, program)?;
     let words = make_fast(alloc, options.size, &program)?;
     let words = work_in_place(alloc, &program, words)?;
     let text = print_words(alloc, options.form, &words)?;
@@ -50,6 +68,7 @@ fn fast_text_of(alloc: Global, options: Options<'_>, program: Program) -> Result
 
 // The C text that is asked for, of the bytes of a listing.
 fn text_of(alloc: Global, options: Options<'_>, listing: &[u8]) -> Result<Vec<u8>, Status>
+    requires { IsLaneCount options.lanes }
     ensures text { IfOk result
         (λ text. IsTranslated (plain_options options.entry) listing.now text.items) }
     ensures refused { IfErr result

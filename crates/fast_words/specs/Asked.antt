@@ -1,5 +1,5 @@
 -- What the words of a command line ask for.
-use Rattle.std.specs.Prelude.{ℕ, ◌==◌, ◌&&◌, ◌||◌, nat_le, not, Bool, true, false, List, [], ◌∷◌, length, Option, Some, None, codes, if◌then◌else◌}
+use Rattle.std.specs.Prelude.{◌≡◌, ◌⊎◌, ℕ, ◌==◌, ◌&&◌, ◌||◌, nat_le, not, Bool, true, false, List, [], ◌∷◌, length, Option, Some, None, codes, if◌then◌else◌}
 use Rattle.std.specs.List.{list_all}
 use Rattle.std.specs.Option.{option_map_or}
 use Rattle.std.specs.Str.{bytes_eq}
@@ -30,6 +30,10 @@ lanes_named word =
     else (if bytes_eq word (codes "4") then Some 4
     else (if bytes_eq word (codes "8") then Some 8
     else (if bytes_eq word (codes "16") then Some 16 else None)))
+
+-- one, or one of these
+abbrev pub IsLaneCount : ℕ → Type 0
+IsLaneCount lanes = (lanes ≡ 1) ⊎ ((lanes ≡ 2) ⊎ (lanes ≡ 4) ⊎ (lanes ≡ 8) ⊎ (lanes ≡ 16))
 
 -- without the option one
 abbrev pub lanes_in : List Row → Option ℕ

@@ -1,9 +1,9 @@
 // The options of a call.
-ghost use Rattle.std.specs.Prelude.{◌≡◌, Err, IfOk, None, Some, option_map, map, string_bytes};
+ghost use Rattle.std.specs.Prelude.{◌≡◌, Err, IfOk, IfSome, None, Some, option_map, map, string_bytes};
 ghost use Rattle.clap.specs.Words.{found_of, rows_of};
 ghost use Rattle.word_print.specs.TextForm.{text_form};
 ghost use Rattle.fast_words.specs.declared.options.Refusal.TheVariants.{NoMemory};
-ghost use Rattle.fast_words.specs.Asked.{asked, together, size_named, size_in, lanes_named, lanes_in, form_in};
+ghost use Rattle.fast_words.specs.Asked.{IsLaneCount, asked, together, size_named, size_in, lanes_named, lanes_in, form_in};
 ghost use Rattle.fast_words.specs.View.{plain_options};
 
 use crate::form::form_by;
@@ -64,7 +64,8 @@ fn size_in(matches: &ArgMatches<'_>) -> Option<WordSize>
 
 // The number of lanes that a word names.
 fn lanes_named(word: &str) -> Option<u64>
-    ensures { result ≡ lanes_named word.now }
+    ensures value { result ≡ lanes_named word.now }
+    ensures count { IfSome result IsLaneCount }
 {
     match word {
         "2" => Some(2),
@@ -76,7 +77,8 @@ fn lanes_named(word: &str) -> Option<u64>
 }
 
 fn lanes_in(matches: &ArgMatches<'_>) -> Option<u64>
-    ensures { result ≡ lanes_in (rows_of (found_of matches.now)) }
+    ensures value { result ≡ lanes_in (rows_of (found_of matches.now)) }
+    ensures count { IfSome result IsLaneCount }
 {
     match option_in(matches, "lanes") {
         Some(word) => lanes_named(word),
@@ -95,8 +97,10 @@ fn together<'a>(
     lanes: Option<u64>,
     form: Option<Form<'a>>,
 ) -> Option<Options<'a>>
-    ensures { option_map plain_options result
+    requires { IfSome lanes IsLaneCount }
+    ensures value { option_map plain_options result
         ≡ together size lanes (option_map text_form form.entry) }
+    ensures count { IfSome result (λ options. IsLaneCount options.lanes) }
 {
     match (size, lanes, form) {
         (Some(size), Some(lanes), Some(form)) => Some(Options { size, lanes, form }),
@@ -108,6 +112,7 @@ fn together<'a>(
 pub fn options_of<'a>(alloc: Global, words: &'a Vec<String>) -> Result<Options<'a>, Refusal>
     ensures ok { IfOk result
         (λ options. asked (map string_bytes words.now.items) ≡ Some (plain_options options)) }
+    ensures lanes { IfOk result (λ options. IsLaneCount options.lanes) }
     ensures usage { result ≡ Err Refusal.Usage → asked (map string_bytes words.now.items) ≡ None }
 {
     let matches = parsed(alloc, words)?;

@@ -9,7 +9,7 @@ use crate::parts::stride;
 use icode::program::{Part, Stmt};
 
 /// The statements in the innermost of the loops that the body is.
-pub(crate) fn innermost(body: &[Stmt]) -> &[Stmt]
+pub fn innermost(body: &[Stmt]) -> &[Stmt]
     ensures { plain_body result.now ≡ round_in (plain_body body.now) }
 {
     if body.len() != 1 {

@@ -10,5 +10,8 @@ mod parts;
 mod registers;
 mod rounds;
 
+pub use bodies::innermost;
 pub use loops::interchange;
-pub use parts::same_parts;
+pub use parts::{are_linear, same_parts, stride};
+pub use registers::are_fresh;
+pub use rounds::same_array;

@@ -26,14 +26,14 @@ fn are_linear_from(least: u128, parts: &[Part]) -> bool
 }
 
 /// Whether they are multiples of the processor's number and, behind them, of loops' values alone, by rising depth.
-pub(crate) fn are_linear(parts: &[Part]) -> bool
+pub fn are_linear(parts: &[Part]) -> bool
     ensures { result ≡ are_linear 0 (plain_parts parts.now) }
 {
     are_linear_from(0, parts)
 }
 
 /// How far they go in a step of the loop at this depth.
-pub(crate) fn stride(depth: u64, parts: &[Part]) -> u64
+pub fn stride(depth: u64, parts: &[Part]) -> u64
     ensures { result ≡ stride depth (plain_parts parts.now) }
 {
     let Some((part, rest)) = parts.split_first() else {

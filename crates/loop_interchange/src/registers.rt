@@ -64,7 +64,7 @@ fn put_after(lanes: u64, next: u128, op: &Op) -> u128
 }
 
 /// Whether they are straight statements, which read no register that they have not put.
-pub(crate) fn are_fresh(lanes: u64, body: &[Stmt]) -> bool
+pub fn are_fresh(lanes: u64, body: &[Stmt]) -> bool
     ensures { result ≡ are_fresh lanes 0 (plain_body body.now) }
 {
     let mut next = 0;

@@ -21,7 +21,8 @@ fn order_of(array: Array) -> u64
     }
 }
 
-fn same_array(left: Array, right: Array) -> bool
+/// Whether both are the same array.
+pub fn same_array(left: Array, right: Array) -> bool
     ensures { result ≡ same_array left right }
 {
     order_of(left) == order_of(right)

@@ -13,11 +13,11 @@ use Rattle.fast_main.proofs.run.fast_text_of.Goals as goal
 
 pub work_in_place-requires : goal.work_in_place-requires
 work_in_place-requires c =
-    record { fits = fits_from c.args.program c.interchange-program.result c.interchange-program.ensures c.requires.fits c.requires.apart }
+    record { fits = fits_from c.args.options.size c.args.options.lanes c.args.program c.in_ok-program.program c.requires.lanes c.in_ok-program.ensures c.requires.fits c.requires.apart }
 
 pub print_words-requires-clause-nests : goal.print_words-requires-clause-nests
 print_words-requires-clause-nests c =
-    let program = c.interchange-program.result in
+    let program = c.in_ok-program.program in
     ap (λ (w : PlainWordProgram). are_word_phases_within w.phases) c.in_ok-words-2.ensures.made
     ∙ in_place_nests (plain_program program) (plain_word_program c.in_ok-words.words)
     ∙ ap (λ (w : PlainWordProgram). are_word_phases_within w.phases) c.in_ok-words.ensures.made
@@ -26,12 +26,18 @@ print_words-requires-clause-nests c =
 pub returns-clause-text : goal.returns-clause-text
 returns-clause-text c =
     c.in_ok-text.ensures
-    ∙ ap (words_text (text_form c.args.options.form)) (words_from c.args.options.size c.in_ok-words.words c.in_ok-words-2.words c.args.program c.interchange-program.result c.interchange-program.ensures c.in_ok-words.ensures.made c.in_ok-words-2.ensures.made)
+    ∙ ap (words_text (text_form c.args.options.form))
+    (words_from c.args.options.size c.args.options.lanes c.args.program c.in_ok-program.program c.requires.lanes c.in_ok-program.ensures c.requires.fits c.requires.apart
+    c.in_ok-words.words c.in_ok-words-2.words c.in_ok-words.ensures.made c.in_ok-words-2.ensures.made)
 
 pub returns-clause-sound : goal.returns-clause-sound
 returns-clause-sound c =
-    sound_from c.args.options.size c.in_ok-words.words c.in_ok-words-2.words c.args.program c.interchange-program.result c.interchange-program.ensures c.in_ok-words.ensures.made c.in_ok-words-2.ensures.made
-    c.in_ok-words.ensures.fits c.in_ok-words.ensures.same c.in_ok-words-2.ensures.same c.requires.fits c.requires.apart
+    sound_from c.args.options.size c.args.options.lanes c.args.program c.in_ok-program.program c.requires.lanes c.in_ok-program.ensures c.requires.fits c.requires.apart
+    c.in_ok-words.words c.in_ok-words-2.words c.in_ok-words.ensures.made c.in_ok-words-2.ensures.made
+    c.in_ok-words.ensures.fits c.in_ok-words.ensures.same c.in_ok-words-2.ensures.same
 
 pub make_fast-requires : goal.make_fast-requires
-make_fast-requires c = record { allowed = allowed_from c.args.options.size c.args.program c.interchange-program.result c.interchange-program.ensures c.requires.allowed }
+make_fast-requires c =
+    record {
+      allowed = allowed_from c.args.options.size c.args.options.lanes c.args.program c.in_ok-program.program c.requires.lanes c.in_ok-program.ensures c.requires.fits c.requires.apart c.requires.allowed;
+    }

@@ -1,0 +1,6 @@
+pub mod Rounds
+pub mod Columns
+pub mod Lanes
+pub mod Laws
+pub mod Layers
+pub mod View
