@@ -154,6 +154,9 @@ def raced(race, size, title, primes, lanes, unroll):
     one = fast_text(f"{request} unroll {unroll}")
     race.text("fast, one lane, clang", "clang", one, *NATIVE)
     race.text("fast, one lane, gcc", "gcc", one, *NATIVE)
+    for words in [[], ["--words", "52"]] if modulus < NARROW else [[]]:
+        laned = fast_text(f"{request} unroll {unroll}", "--lanes", str(lanes), *words)
+        race.text(f"fast, lanes from loops {' '.join(words)}, clang", "clang", laned, *NATIVE)
     race.text("specified, gcc", "gcc", output([SPIRAL, "c"], request + "\n"), "-O2")
     race.run(f"{size}, {title}")
 

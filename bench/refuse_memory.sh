@@ -47,6 +47,7 @@ of_request() {
     echo "$request" | "$program" code >"$work/input"
     refused_in_turn "$request" "$fast"
     refused_in_turn "$request" "$fast" --words 52
+    refused_in_turn "$request" "$fast" --lanes 2
     refused_in_turn "$request" "$fast" --name transform
     refused_in_turn "$request" "$fast" --name transform --header
   fi
@@ -54,4 +55,5 @@ of_request() {
 
 of_request 'dft 4 mod 17 root 4' '1 2 3 4'
 of_request 'dft 4 mod 17 root 4 procs 2 line 1' '1 2 3 4'
+of_request 'dft 16 mod 17 root 3 unroll 4' '0 1 0 0 0 0 0 0 0 0 0 0 0 0 0 0'
 of_request 'dft 16 mod 17 root 3 procs 2 line 2 lanes 2' '0 1 0 0 0 0 0 0 0 0 0 0 0 0 0 0'

@@ -137,6 +137,19 @@ while read -r request; do
   elif [[ $request == *procs* ]]; then
     linked "functions of $request" gcc -O1 -g -fsanitize=thread
   fi
+  # lanes from loops, where the listing is of one lane
+  if [[ $request != *lanes* ]]; then
+    for lanes in 2 4 8 16; do
+      fast_text "$request" --lanes "$lanes"
+      compared "$lanes lanes from loops of $request" clang -O3 -march=native
+    done
+    compared "16 lanes from loops of $request" gcc -O2
+    if [ "$size" -le 256 ]; then
+      compared "16 lanes from loops of $request" gcc -O1 -g -fsanitize=address,undefined
+    elif [[ $request == *procs* ]]; then
+      compared "16 lanes from loops of $request" gcc -O1 -g -fsanitize=thread
+    fi
+  fi
   # words of 52 bits, with the operation for their products and without it
   if [ "$modulus" -lt $((1 << 51)) ]; then
     fast_text "$request" --words 52

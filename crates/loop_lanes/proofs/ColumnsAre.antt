@@ -17,7 +17,7 @@ use Rattle.loop_lanes.specs.Columns.{Columns, Factors, renumbered, renumbered_op
 use Rattle.loop_lanes.specs.Layers.{Write, IsAfter, IsGroup, LeaveWrites, memory_by, ColumnsWrite, FactoredColumnsWrite, written, values_put, round_writes, group_writes}
 use Rattle.loop_lanes.specs.Rounds.{straight, is_store, is_by_lane, in_row, stores, others, stored_registers, stored_constants, are_from}
 use Rattle.loop_lanes.proofs.Held.{IsFront, HoldsFront, values_in, front_after}
-use Rattle.loop_lanes.proofs.Lanes.{front_held}
+use Rattle.loop_lanes.proofs.FrontHeld.{front_held}
 use Rattle.loop_lanes.proofs.Orders.{some_lanes, group_fits}
 use Rattle.loop_lanes.proofs.Parted.{all_taken, from_at, others_put, others_fresh, taken_fresh, length-stored_registers, stored_low, puts_low}
 use Rattle.loop_lanes.proofs.Renumbered.{renumbered_is, renumbered_apart, renumbered_at}

@@ -6,7 +6,7 @@ pub mod Groups
 pub mod Held
 pub mod InOrder
 pub mod Joined
-pub mod Lanes
+pub mod FrontHeld
 pub mod Law
 pub mod Limited
 pub mod LimitedNests

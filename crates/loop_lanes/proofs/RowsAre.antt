@@ -25,8 +25,8 @@ use Rattle.loop_lanes.specs.Layers.{Write, written, RowsWrite, memory_by, on_lan
 use Rattle.loop_lanes.specs.Rounds.{straight, is_by_lane, is_store, in_row, widened}
 use Rattle.loop_lanes.proofs.Arrays.{IsOutside, same_start, other_outside}
 use Rattle.loop_lanes.proofs.Held.{AreHeld, in_lanes}
-use Rattle.loop_lanes.proofs.Lanes as lanes
-use Rattle.loop_lanes.proofs.Lanes.{put_next}
+use Rattle.loop_lanes.proofs.FrontHeld as lanes
+use Rattle.loop_lanes.proofs.FrontHeld.{put_next}
 use Rattle.loop_lanes.proofs.Orders.{group_fits, register_low, writes_split, members_turned, values_stay, parts_same, some_lanes}
 use Rattle.loop_lanes.proofs.Writes.{written-append}
 

@@ -19,7 +19,7 @@ use Rattle.loop_interchange.specs.Rounds.{Stored}
 use Rattle.loop_lanes.specs.Columns.{Factors, product_at, row_at, tile_at}
 use Rattle.loop_lanes.specs.Layers.{Write, written, steps_at, on_lanes}
 use Rattle.loop_lanes.specs.Rounds.{widened_parts}
-use Rattle.loop_lanes.proofs.Lanes.{factor_of, factor_each}
+use Rattle.loop_lanes.proofs.FrontHeld.{factor_of, factor_each}
 use Rattle.loop_lanes.proofs.RowsAre.{words_written}
 use Rattle.loop_lanes.proofs.Wide.{moved_value}
 use Rattle.loop_lanes.proofs.Writes.{written-append}
