@@ -1,0 +1,12 @@
+use Rattle.std.proofs.Common.{ne_eqb, ap, sym, ◌∙◌}
+use Rattle.std.specs.Prelude.{if◌then◌else◌}
+use Rattle.icode.specs.Program.{plain_program}
+use Rattle.loop_interchange.specs.Interchange.{interchanged}
+use Rattle.loop_lanes.specs.Lanes.{laned}
+use Rattle.fast_main.proofs.run.prepare.Goals as goal
+
+pub returns : goal.returns
+returns c =
+    let q = interchanged (plain_program c.args.program) in
+    c.in_ok-made.ensures.made ∙ ap (laned c.args.lanes) c.interchange-program.ensures
+    ∙ ap (λ b. if b then q else laned c.args.lanes q) (sym (ne_eqb c.args.lanes 1 c.if-lanes-eq1.false))
