@@ -1,0 +1,11 @@
+mod Bodies
+mod Dividing
+mod Law
+mod Listed
+mod Placed
+mod Products
+mod Programs
+mod Registers
+mod Replaced
+mod Walked
+mod Whole

@@ -1,0 +1,4 @@
+pub mod Factors
+pub mod Places
+pub mod TwoTables
+pub mod Laws
