@@ -1,6 +1,6 @@
 -- A product by an entry of the table, and the two products that it becomes.
-use Rattle.std.proofs.Common.{◌≡◌, ◌≢◌, ℕ, zero, suc, ◌+◌, ◌-◌, ◌*◌, ◌/◌, ◌%◌, ◌<◌, ◌≤◌, ◌^◌, ◌&&◌, true, List, [], ◌∷◌, ◌++◌, All, map, replicate, length, refl, sym, ap, ap₂, ◌∙◌, subst, arith, eqb-true, ltb-true, inl, inr, length-append, mul-le-mul_left}
-use Rattle.std.specs.Prelude.{slice_index, slice_index_or, slice_set, nat_lt, ◌==◌}
+use Rattle.std.proofs.Common.{◌≡◌, ◌≢◌, ℕ, zero, suc, ◌+◌, ◌-◌, ◌*◌, ◌/◌, ◌%◌, ◌<◌, ◌≤◌, true, List, [], ◌∷◌, ◌++◌, All, map, replicate, length, refl, sym, ap, ap₂, ◌∙◌, subst, arith, eqb-true, ltb-true, length-append, mul-le-mul_left}
+use Rattle.std.specs.Prelude.{slice_index, slice_index_or, slice_set, nat_lt}
 use Rattle.std.specs.List.{range_with_len, list_all}
 use Rattle.std.proofs.lemmas.List.Elements.{All-nil, All-cons, All-append, All-map, All-replicate}
 use Rattle.operators.specs.Sum.{list_below}
@@ -8,12 +8,12 @@ use Rattle.operators.proofs.Lists.{length-list_below, at-list_below}
 use Rattle.ring_mod.specs.Residue.{product_mod}
 use Rattle.icode.specs.declared.action.Action.{Action}
 use Rattle.icode.specs.declared.action.Action.TheVariants as actions
-use Rattle.icode.specs.Actions.{Step, StepFits, RegistersFit, step_of, lane_factors, actions_of}
+use Rattle.icode.specs.Actions.{Step, StepFits, RegistersFit, step_of, lane_factors}
 use Rattle.icode.specs.Expression.{sum_numbers}
 use Rattle.icode.specs.Limits.{is_small_positive, is_small}
-use Rattle.icode.specs.Plain.{PlainExpr, PlainOp, PlainProgram, Load, Store, Zero, Add, Sub, Neg, MulConst, MulTable, Tile}
+use Rattle.icode.specs.Plain.{PlainExpr, PlainOp, PlainProgram, MulTable}
 use Rattle.icode.proofs.Bools.{both_true}
-use Rattle.two_tables.specs.Factors.{Cut, first_factor, second_factor, first_place, second_place, is_cut, are_factors}
+use Rattle.two_tables.specs.Factors.{Cut, first_factor, second_factor, first_place, second_place, is_cut}
 use Rattle.two_tables.specs.Places.{is_even, place_in_first, place_in_second}
 use Rattle.two_tables.specs.TwoTables.{has_room, is_usable, is_cut_well, can_split, in_factors, is_body_even}
 use Rattle.two_tables.proofs.Dividing.{IsInBlock, in_block}

@@ -1,5 +1,5 @@
 -- A program with a table in two factors leaves what it left.
-use Rattle.std.proofs.Common.{◌≡◌, ℕ, zero, suc, ◌+◌, ◌*◌, ◌^◌, ◌<◌, ◌≤◌, ◌&&◌, List, [], ◌∷◌, Bool, true, false, All, map, flat_map, length, refl, sym, ap, ap₂, ◌∙◌, subst, arith, ltb-true, leb-true, ⊎_elim, Contains}
+use Rattle.std.proofs.Common.{◌≡◌, ℕ, zero, suc, ◌+◌, ◌*◌, ◌^◌, ◌<◌, ◌≤◌, ◌&&◌, List, [], ◌∷◌, Bool, true, false, map, flat_map, length, refl, sym, ap, ap₂, ◌∙◌, subst, arith, ltb-true, leb-true, ⊎_elim, Contains}
 use Rattle.std.specs.Prelude.{slice_index_or, nat_lt, nat_le, if◌then◌else◌}
 use Rattle.std.specs.List.{range_with_len, list_all}
 use Rattle.std.proofs.Math.Nat.{mul-le-mul_right}
@@ -8,10 +8,10 @@ use Rattle.std.proofs.lemmas.List.{get_or_past, length-map}
 use Rattle.std.proofs.lemmas.List.FromFn.{get_or-map-range_with_len, length-map-range_with_len}
 use Rattle.operators.specs.Sum.{sum_below}
 use Rattle.icode.specs.declared.action.Action.{Action}
-use Rattle.icode.specs.Actions.{Step, StepFits, PlainFits, steps_of_body, steps_of_phase, actions_of, plain_code}
+use Rattle.icode.specs.Actions.{Step, PlainFits, steps_of_body, steps_of_phase, actions_of, plain_code}
 use Rattle.icode.specs.Lengths.{len_of_body}
 use Rattle.icode.specs.Limits.{is_small}
-use Rattle.icode.specs.Machine.{IsApart, Local, acts, effects, lines_of, stored_words, touched_words, written_lines, touched_lines, whole_lines, words_at, results}
+use Rattle.icode.specs.Machine.{IsApart, Local, acts, effects, lines_of, stored_words, touched_words, whole_lines, words_at}
 use Rattle.icode.specs.Plain.{PlainBody, PlainProgram, NoStmts}
 use Rattle.icode.proofs.Bools.{both_true}
 use Rattle.icode.proofs.Lengths.{body_length}

@@ -1,6 +1,6 @@
 -- What the walk over a table's entries has found.
-use Rattle.std.proofs.Common.{◌≡◌, ℕ, zero, suc, ◌+◌, ◌*◌, ◌/◌, ◌%◌, ◌<◌, ◌≤◌, ◌&&◌, true, List, [], ◌∷◌, length, refl, sym, ap, ◌∙◌, arith, eqb-true, ltb-true, ⊎_elim}
-use Rattle.std.specs.Prelude.{slice_index, nat_lt, ◌==◌, Bool}
+use Rattle.std.proofs.Common.{◌≡◌, ℕ, zero, suc, ◌+◌, ◌<◌, ◌≤◌, true, List, [], ◌∷◌, length, sym, ap, ◌∙◌, arith, eqb-true, ltb-true, ⊎_elim}
+use Rattle.std.specs.Prelude.{slice_index, nat_lt, Bool}
 use Rattle.std.specs.List.{range_with_len, list_all}
 use Rattle.ring_mod.specs.Residue.{product_mod}
 use Rattle.std.proofs.lemmas.Bool.{cases_eq}

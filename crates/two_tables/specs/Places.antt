@@ -1,6 +1,6 @@
 -- Places of a table's entries, and those of their factors.
 use Rattle.std.specs.Prelude.{ℕ, zero, suc, ◌%◌, ◌==◌, ◌&&◌, Bool, true, false}
-use Rattle.icode.specs.Plain.{PlainExpr, PlainParts, PlainPart, Sum, NoParts, AndParts, Proc, Var, Product, Rem, Quot}
+use Rattle.icode.specs.Plain.{PlainExpr, PlainParts, Sum, NoParts, AndParts, Proc, Var, Product, Rem, Quot}
 use Rattle.two_tables.specs.Factors.{Cut}
 
 -- at most so many multiples of the lanes, each of the processor's number or of loops' values
