@@ -38,6 +38,8 @@ COMMANDS = [
     ("all commands at once", ["calls_have_one_status"]),
 ]
 LINK = {"Outcome.IsOutcome"}
+# The modules that a crate passes on by `pub use` in specs/Lib.antt, and where they stand.
+PASSED_ON = {}
 
 WORD = re.compile(r"[^\s(){}\[\].,;:λ→×⊎]+")
 USE = re.compile(r"^\s*(?:pub )?(?:ghost )?use Rattle\.(\w+)\.specs\.([\w.]+?)(?:\.\{([^}]*)\}| as (\w+))?;?\s*$", re.M)
@@ -113,6 +115,8 @@ def cone(roots, cut, definitions, brought):
     seen, types, waiting = {}, set(), list(roots)
     while waiting:
         key = waiting.pop()
+        while key[:2] in PASSED_ON:
+            key = PASSED_ON[key[:2]] + key[2:]
         if "declared" in key[1]:
             types.add(key[1].split("declared.")[1].split(".TheVariants")[0])
         elif key in definitions and id(definitions[key]) not in seen and ".".join(key[1:]) not in cut:
@@ -127,6 +131,8 @@ def all_definitions():
     definitions, brought = {}, {}
     for path in sorted(glob.glob("crates/*/specs/**/*.antt", recursive=True)):
         parts = path[:-5].split("/")
+        if parts[3:] == ["Lib"]:
+            PASSED_ON.update({(parts[1], name): home for name, home in imports(open(path).read())[1].items()})
         read(path, (parts[1], ".".join(parts[3:])), definitions, brought)
     return definitions, brought
 

@@ -39,11 +39,12 @@ use Rattle.spiral_input.specs.Outcomes.{Meets, ToldMeets}
 use Rattle.spiral_input.proofs.OutcomeLemmas.{meets_nothing}
 use Rattle.spiral_input.proofs.DataLemmas.{fine_by, reads_vectors, lines_equal}
 use Rattle.spiral_input.proofs.LineLemmas.{room_after, line_there}
-use Rattle.stream_run.specs.Progress.{HasCome, ReadsData, StreamsBehind, StreamsOn, lacking, HasNoVector}
-use Rattle.stream_run.specs.Stream.{run_text, lines, group_vectors, vectors_of, data_answer, data_vectors, HasNoStranger, Writes}
-use Rattle.stream_run.specs.declared.stream.StreamFault.{StreamFault}
-use Rattle.stream_run.specs.declared.stream.StreamFault.TheVariants as stream
-use Rattle.stream_run.proofs.ProgressLemmas.{vectors_begin, come_unwritten}
+use Rattle.runs.specs.Progress.{HasCome, ReadsData, StreamsBehind, StreamsOn, lacking, HasNoVector}
+use Rattle.runs.specs.Texts.{run_text}
+use Rattle.runs.specs.Stream.{lines, group_vectors, vectors_of, data_answer, data_vectors, HasNoStranger, Writes}
+use Rattle.runs.specs.declared.stream.StreamFault.{StreamFault}
+use Rattle.runs.specs.declared.stream.StreamFault.TheVariants as stream
+use Rattle.runs.proofs.ProgressLemmas.{vectors_begin, come_unwritten}
 
 -- Refusals
 

@@ -35,7 +35,7 @@ use Rattle.spiral_input.specs.Line.{line_of, data_of, room_behind}
 use Rattle.spiral_input.specs.Stage.{given}
 use Rattle.convolution_commands.proofs.OneRequest.{spelt_once, faulty, judged_ok, judged_once, unshared_ok}
 use Rattle.spiral_input.proofs.Stages.{IsDecided, done, ended, given_decided, bind_decided, of_answers}
-use Rattle.stream_run.specs.Stream.{data_vectors}
+use Rattle.runs.specs.Stream.{data_vectors}
 
 -- The line
 

@@ -22,9 +22,9 @@ use Rattle.spiral_input.specs.Line.{data_of, room_behind, HasEnded, IsPartOfLine
 use Rattle.spiral_input.specs.Fine.{IsFine}
 use Rattle.spiral_input.specs.Outcomes.{Outcomes}
 use Rattle.spiral_input.specs.Stage.{Stage, ◌>>=◌, IsAnswerBy, IsBrokenBy, IsCutBy}
-use Rattle.stream_run.specs.Progress.{lacking}
-use Rattle.stream_run.specs.Stream.{lines, vectors_of, data_answer, data_vectors}
-use Rattle.stream_run.specs.declared.stream.StreamFault.{StreamFault}
+use Rattle.runs.specs.Progress.{lacking}
+use Rattle.runs.specs.Stream.{lines, vectors_of, data_answer, data_vectors}
+use Rattle.runs.specs.declared.stream.StreamFault.{StreamFault}
 use Rattle.tree_model.specs.Breakdown.{Breakdown}
 
 -- The request

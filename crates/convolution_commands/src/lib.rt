@@ -15,8 +15,8 @@ ghost use Rattle.convolution_commands.specs.Convolved.{conv_procs, conv_spelt};
 ghost use Rattle.spiral_input.specs.Ends.{EndsCleanly, ReadsCleanly};
 ghost use Rattle.spiral_input.specs.Outcomes.{ToldMeets};
 ghost use Rattle.spiral_input.specs.Stage.{status_of};
-ghost use Rattle.stream_run.specs.Progress.{HasCome};
-ghost use Rattle.stream_run.specs.Stream.{HasNoStranger};
+ghost use Rattle.runs.specs.Progress.{HasCome};
+ghost use Rattle.runs.specs.Stream.{HasNoStranger};
 
 use convolver::{generate_conv, plan_conv};
 use data_stream::Vectors;
@@ -27,11 +27,11 @@ use matrix_meaning::Request;
 use par_machine::Machine;
 use request_text::{Schedule, read_conv};
 use ring_mod::Modulus;
+use runs::{read_first, run_vectors};
 use spiral_input::{check_turns, read_line, stranger};
 use spiral_status::{LINE_LIMIT, Status};
 use spiral_words::Command;
 use std::alloc::Global;
-use stream_run::{read_first, run_vectors};
 
 // The request for convolutions that the first line of the input spells, for the command.
 fn ask_conv<I: Source>(command: &Command, feed: &mut Feed, input: &mut I) -> Result<Request, Status>

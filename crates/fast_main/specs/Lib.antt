@@ -1,4 +1,5 @@
 pub mod Words
 pub mod Translation
+pub mod Rows
 pub mod Status
 pub mod Outcome

@@ -1,6 +1,5 @@
 -- What a call answers with: its exit code and its line on the note.
-use Rattle.std.specs.Prelude.{ℕ, ◌^◌, List, [], ◌∷◌, codes, decimal, Ok, Err, Result}
-use Rattle.std.specs.List.{concat}
+use Rattle.std.specs.Prelude.{ℕ, ◌^◌, List, codes, Ok, Err, Result}
 use Rattle.code_check.specs.declared.CheckFault.{CheckFault}
 use Rattle.code_check.specs.declared.CheckFault.TheVariants as check
 use Rattle.fast_words.specs.declared.options.Refusal.{Refusal}
@@ -9,44 +8,16 @@ use Rattle.input_rest.specs.declared.RestFault.{RestFault}
 use Rattle.input_rest.specs.declared.RestFault.TheVariants as rest
 use Rattle.listing_text.specs.declared.listing.ListingFault.{ListingFault}
 use Rattle.listing_text.specs.declared.listing.ListingFault.TheVariants as listing
+use Rattle.status_rows.specs.Rows.{line_of}
 use Rattle.fast_main.specs.declared.status.Status.{Status}
-use Rattle.fast_main.specs.declared.status.Status.TheVariants.{Success, Usage, ListingSyntax, OverSteps, Address, Register, LineShared, WideModulus, ReadFault, WriteFault, NoMemory, TooLong}
+use Rattle.fast_main.specs.declared.status.Status.TheVariants.{Success, Usage, ListingSyntax, OverSteps, Address, Register, LineShared, ReadFault, WriteFault, NoMemory, TooLong}
+use Rattle.fast_main.specs.Rows.{row_of}
 
 abbrev pub code_of : Status → ℕ
-code_of Success = 0
-code_of Usage = 2
-code_of ReadFault = 10
-code_of WriteFault = 11
-code_of NoMemory = 12
-code_of (TooLong limit) = 13
-code_of (ListingSyntax line) = 18
-code_of (Address phase q i) = 19
-code_of (Register phase q i) = 20
-code_of (LineShared phase line a b) = 21
-code_of (OverSteps limit) = 22
-code_of (WideModulus bits) = 24
-
--- a text, and which action of which processor in which phase
-abbrev pub action_line : List ℕ → ℕ → ℕ → ℕ → List ℕ
-action_line front phase q i =
-    concat (front ∷ codes " in phase " ∷ decimal phase ∷ codes ", processor " ∷ decimal q ∷ codes ", action " ∷ decimal i
-    ∷ codes "\n" ∷ [])
+code_of status = (row_of status).code
 
 abbrev pub note_line : Status → List ℕ
-note_line Success = []
-note_line Usage =
-    codes "spiral_fast: usage: spiral_fast [--words 32|52|64] [--name NAME [--header]] < LISTING > TEXT (reads a listing, writes C)\n"
-note_line ReadFault = codes "spiral_fast: read failed\n"
-note_line WriteFault = codes "spiral_fast: write failed\n"
-note_line NoMemory = codes "spiral_fast: out of memory\n"
-note_line (TooLong limit) = concat (codes "spiral_fast: more than " ∷ decimal limit ∷ codes " bytes\n" ∷ [])
-note_line (ListingSyntax line) = concat (codes "spiral_fast: listing syntax at line " ∷ decimal line ∷ codes "\n" ∷ [])
-note_line (Address phase q i) = action_line (codes "spiral_fast: bad place") phase q i
-note_line (Register phase q i) = action_line (codes "spiral_fast: bad register") phase q i
-note_line (LineShared phase line a b) =
-    concat (codes "spiral_fast: phase " ∷ decimal phase ∷ codes " line " ∷ decimal line ∷ codes " is shared by " ∷ decimal a ∷ codes " and " ∷ decimal b ∷ codes "\n" ∷ [])
-note_line (OverSteps limit) = concat (codes "spiral_fast: more than " ∷ decimal limit ∷ codes " actions\n" ∷ [])
-note_line (WideModulus bits) = concat (codes "spiral_fast: modulus of more than " ∷ decimal bits ∷ codes "-bit words\n" ∷ [])
+note_line status = line_of (codes "spiral_fast: ") (row_of status).parts
 
 -- how many bytes a listing has at most
 abbrev pub listing_limit : ℕ

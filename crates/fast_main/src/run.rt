@@ -13,7 +13,8 @@ ghost use Rattle.fast_main.specs.Outcome.{ToldAccounts, Notes};
 ghost use Rattle.fast_main.specs.Status.{note_line, status_of};
 ghost use Rattle.fast_main.specs.Translation.{fast_text, AreSoundWords};
 
-use crate::status::{Status, write_note};
+use crate::Status;
+use crate::rows::write_note;
 use crate::words::bits_of;
 use code_check::verify;
 use fast_words::{Options, options_of};

@@ -28,15 +28,16 @@ use Rattle.spiral_words.specs.declared.Command.{Command}
 use Rattle.spiral_words.specs.declared.Command.TheVariants as command
 use Rattle.spiral_status.specs.declared.status.Status.{Status}
 use Rattle.spiral_status.specs.declared.status.Status.TheVariants.{Success, Turn, ReadFault, WriteFault, NoMemory, TooLong}
-use Rattle.stream_run.specs.declared.stream.StreamFault.{StreamFault}
-use Rattle.stream_run.specs.declared.stream.StreamFault.TheVariants as stream
+use Rattle.runs.specs.declared.stream.StreamFault.{StreamFault}
+use Rattle.runs.specs.declared.stream.StreamFault.TheVariants as stream
 use Rattle.spiral_input.specs.Commands.{admitted, first_stranger, procs_named}
 use Rattle.formula_commands.specs.Compiled.{formula_limit, formula_line, written, formed, formula_in, IsAppliedText, SettlesFormula, BreaksOffFormula, ComesToFormula, IsCompiledText, IsFormulaCode, GivesText, formula_outcomes}
 use Rattle.spiral_status.specs.Fault.{status_of_stream, status_of_text}
 use Rattle.spiral_input.specs.Line.{is_line_end, first_line, data_of, room_behind, HasEnded, IsWholeLine}
 use Rattle.spiral_status.specs.Status.{IsDefined}
 use Rattle.spiral_input.specs.Refusals.{IsRefusal}
-use Rattle.stream_run.specs.Stream.{run_text, lines, vectors_of, HasNoStranger, Streams}
+use Rattle.runs.specs.Texts.{run_text}
+use Rattle.runs.specs.Stream.{lines, vectors_of, HasNoStranger, Streams}
 use Rattle.spiral_input.proofs.InputLemmas.{none_read, none_left, none_cut, still_ended}
 use Rattle.spiral_input.specs.Outcomes.{Meets, ToldMeets}
 use Rattle.spiral_input.proofs.OutcomeLemmas.{meets_nothing}

@@ -26,7 +26,7 @@ use Rattle.spiral_input.specs.Line.{is_line_end, first_line, data_of, room_behin
 use Rattle.spiral_input.specs.Fine.{IsFine}
 use Rattle.spiral_input.specs.Outcomes.{Outcomes}
 use Rattle.spiral_input.specs.Stage.{Stage, given, ◌>>=◌, IsAnswerBy, IsBrokenBy, IsCutBy}
-use Rattle.stream_run.specs.Stream.{lines, vectors_of, data_answer, data_vectors}
+use Rattle.runs.specs.Stream.{lines, vectors_of, data_answer, data_vectors}
 
 -- how many bytes the line of a formula has at most
 abbrev pub formula_limit : ℕ

@@ -8,7 +8,7 @@ ghost use Rattle.spiral_input.specs.Outcomes.{ToldMeets};
 ghost use Rattle.spiral_input.specs.Stage.{status_of};
 ghost use Rattle.spiral_status.specs.Status.{IsDefined};
 ghost use Rattle.spiral_input.specs.Refusals.{IsRefusal};
-ghost use Rattle.stream_run.specs.Stream.{HasNoStranger};
+ghost use Rattle.runs.specs.Stream.{HasNoStranger};
 
 use crate::compile::written_formula;
 use crate::formula_line::formula_line;
@@ -17,11 +17,11 @@ use io_edge::{Feed, Sink, Source};
 use par_machine::Machine;
 use request_text::Schedule;
 use ring_mod::Modulus;
+use runs::run_stream;
 use spiral_input::check_turns;
 use spiral_status::Status;
 use spiral_words::Command;
 use std::alloc::Global;
-use stream_run::run_stream;
 
 // A machine with a program for the formula that the text spells, if the schedule names its one processor alone, and
 // room for a vector.

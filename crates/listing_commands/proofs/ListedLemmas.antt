@@ -20,14 +20,15 @@ use Rattle.data_stream.specs.Line.{line_of}
 use Rattle.request_text.specs.Schedule.{Plan}
 use Rattle.spiral_status.specs.declared.status.Status.{Status}
 use Rattle.spiral_status.specs.declared.status.Status.TheVariants.{Turn, ReadFault, WriteFault, NoMemory, TooLong}
-use Rattle.stream_run.specs.declared.stream.StreamFault.{StreamFault}
-use Rattle.stream_run.specs.declared.stream.StreamFault.TheVariants as stream
+use Rattle.runs.specs.declared.stream.StreamFault.{StreamFault}
+use Rattle.runs.specs.declared.stream.StreamFault.TheVariants as stream
 use Rattle.spiral_input.specs.Commands.{stranger, admitted}
 use Rattle.spiral_status.specs.Fault.{status_of_part, status_of_stream}
 use Rattle.listing_commands.specs.Listed.{listing_limit, action_limit, listing_in, loaded, runnable, result_of, IsResultText, room_behind_listing, IsAnswerOfProgram, BreaksOffProgram, ComesToProgram, exec_outcomes}
 use Rattle.spiral_status.specs.Status.{IsDefined}
 use Rattle.spiral_input.specs.Refusals.{IsRefusal}
-use Rattle.stream_run.specs.Stream.{run_text, texts, lines, vectors_of, Streams}
+use Rattle.runs.specs.Stream.{texts, lines, vectors_of, Streams}
+use Rattle.runs.specs.Texts.{run_text}
 use Rattle.spiral_input.proofs.InputLemmas.{none_read, none_left, none_cut}
 use Rattle.spiral_input.specs.Outcomes.{Meets, ToldMeets}
 use Rattle.spiral_input.proofs.OutcomeLemmas.{meets_nothing}

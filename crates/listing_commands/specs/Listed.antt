@@ -21,7 +21,7 @@ use Rattle.spiral_input.specs.Commands.{stranger, admitted}
 use Rattle.spiral_input.specs.Fine.{IsFine}
 use Rattle.spiral_input.specs.Outcomes.{Outcomes}
 use Rattle.spiral_input.specs.Stage.{Stage, given, ◌>>=◌, IsAnswerBy, IsBrokenBy, IsCutBy}
-use Rattle.stream_run.specs.Stream.{lines, vectors_of, data_answer, data_vectors}
+use Rattle.runs.specs.Stream.{lines, vectors_of, data_answer, data_vectors}
 
 -- how many bytes a listing has at most, and how many actions its program
 abbrev pub listing_limit : ℕ

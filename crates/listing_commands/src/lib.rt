@@ -10,7 +10,7 @@ ghost use Rattle.spiral_input.specs.Outcomes.{ToldMeets};
 ghost use Rattle.spiral_input.specs.Stage.{status_of};
 ghost use Rattle.spiral_status.specs.Status.{IsDefined};
 ghost use Rattle.spiral_input.specs.Refusals.{IsRefusal};
-ghost use Rattle.stream_run.specs.Stream.{HasNoStranger};
+ghost use Rattle.runs.specs.Stream.{HasNoStranger};
 
 use code_check::verify;
 use input_rest::{RestFault, read_part};
@@ -18,10 +18,10 @@ use io_edge::{Feed, Sink, Source};
 use listing_text::read_listing;
 use par_machine::Machine;
 use request_text::Schedule;
+use runs::run_stream;
 use spiral_input::check_turns;
 use spiral_status::Status;
 use std::alloc::Global;
-use stream_run::run_stream;
 
 /// How many bytes a listing has at most.
 const LISTING_LIMIT: u64 = 1_048_576;

@@ -20,22 +20,18 @@ use Rattle.buffer_machine.specs.declared.Events.TheVariants as events
 use Rattle.buffer_machine.specs.Listed.{HasNoStranger, events_of, procs_named}
 use Rattle.spiral_words.specs.declared.Command.TheVariants as command
 use Rattle.spiral_words.specs.declared.Order.{Order}
-use Rattle.stream_run.specs.declared.stream.StreamFault.{StreamFault}
-use Rattle.stream_run.specs.declared.stream.StreamFault.TheVariants as stream
-use Rattle.stream_run.specs.BufferedText.{buffered_text}
+use Rattle.runs.specs.declared.stream.StreamFault.{StreamFault}
+use Rattle.runs.specs.declared.stream.StreamFault.TheVariants as stream
+use Rattle.runs.specs.Texts.{buffered_text}
 use Rattle.spiral_status.specs.Fault.{status_of_stream}
 use Rattle.request_commands.specs.Traced.{order_of, traced_text}
 use Rattle.request_commands.specs.Performed.{IsGoodCode, IsTraced, request_outcomes}
 use Rattle.spiral_input.specs.Outcomes.{ToldMeets}
-use Rattle.stream_run.specs.Stream.{Streams, texts, vectors_of}
+use Rattle.runs.specs.Stream.{Streams, texts, vectors_of}
 use Rattle.request_commands.proofs.PerformedLemmas.{IsTextFor, good_lines, performs_stream, performs_trace, stream_of_request, traced_stranger}
 use Rattle.request_commands.proofs.Requests.{limits}
 use Rattle.request_commands.proofs.RunLemmas.{good_procs}
-
--- texts that are the same, one by one
-texts_same : (f g : List ℕ → List ℕ) → ((x : List ℕ) → f x ≡ g x) → (vectors : List (List ℕ)) → texts f vectors ≡ texts g vectors
-texts_same f g same [] = refl
-texts_same f g same (x ∷ xs) = ap₂ (λ (l m : List ℕ). l ++ m) (same x) (texts_same f g same xs)
+use Rattle.runs.proofs.StreamLemmas.{texts_same}
 
 -- with store buffers a good program leaves what it leaves without
 pub good_memory : (request : TransformRequest) (code : Code) → IsGoodCode request code → (x : List ℕ) (events : List Event) → buffered_results code x events ≡ results code x []

@@ -27,18 +27,19 @@ use Rattle.spiral_words.specs.declared.Command.TheVariants as command
 use Rattle.spiral_words.specs.declared.Order.{Order}
 use Rattle.spiral_status.specs.declared.status.Status.{Status}
 use Rattle.spiral_status.specs.declared.status.Status.TheVariants.{Success, WriteFault, NoMemory}
-use Rattle.stream_run.specs.declared.stream.StreamFault.{StreamFault}
-use Rattle.stream_run.specs.declared.stream.StreamFault.TheVariants as stream
+use Rattle.runs.specs.declared.stream.StreamFault.{StreamFault}
+use Rattle.runs.specs.declared.stream.StreamFault.TheVariants as stream
 use Rattle.request_commands.specs.Checked.{certificate_limit, status_of_verdict, least_line, verdict_text}
 use Rattle.spiral_input.specs.Commands.{reads_certificate, first_stranger, has_text}
 use Rattle.spiral_status.specs.Fault.{status_of_generate, status_of_rest, status_of_stream}
 use Rattle.request_commands.specs.Traced.{traced_text}
 use Rattle.spiral_status.specs.Status.{IsDefined}
-use Rattle.stream_run.specs.Stream.{vectors_of, texts, lines, run_text, Streams}
+use Rattle.runs.specs.Stream.{vectors_of, texts, lines, Streams}
+use Rattle.runs.specs.Texts.{run_text}
 use Rattle.request_commands.specs.Settled.{IsRefused, IsShutOut, IsAffordable, IsAccepted, IsDeclined, product, IsTextOf, IsTextOfData}
 use Rattle.spiral_input.proofs.DataLemmas.{RunsOver, runs_over, lines_equal}
 use Rattle.request_commands.proofs.Requests.{limits}
-use Rattle.stream_run.proofs.StreamLemmas.{vectors_few}
+use Rattle.runs.proofs.StreamLemmas.{vectors_few}
 use Rattle.spiral_input.specs.Refusals.{IsRefusal}
 use Rattle.request_commands.specs.Performed.{IsGoodCode, IsTraced, request_outcomes}
 use Rattle.spiral_input.specs.Outcomes.{Meets, ToldMeets}

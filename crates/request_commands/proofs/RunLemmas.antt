@@ -10,7 +10,7 @@ use Rattle.request_text.specs.Turns.{turns_of}
 use Rattle.par_machine.proofs.Schedules.{turns_there}
 use Rattle.request_commands.specs.Performed.{IsGoodCode}
 use Rattle.request_commands.proofs.Requests.{limits}
-use Rattle.stream_run.specs.Stream.{HasNoStranger}
+use Rattle.runs.specs.Stream.{HasNoStranger}
 
 -- a good program has the request's processors
 pub good_procs : (request : TransformRequest) (code : Code) → IsGoodCode request code → code.procs ≡ procs_of request

@@ -25,7 +25,7 @@ use Rattle.transform_code.specs.Lean.{loads_of, stores_of}
 use Rattle.request_commands.specs.Settled.{product, IsSampleText}
 use Rattle.request_commands.specs.Sample.{sample_vector, weighted_sum, sample_text, AreCountable}
 use Rattle.request_commands.specs.Performed.{IsGoodCode}
-use Rattle.stream_run.specs.Stream.{HasNoStranger}
+use Rattle.runs.specs.Stream.{HasNoStranger}
 use Rattle.request_commands.proofs.CountLemmas.{whole-of, within_word}
 use Rattle.request_commands.proofs.Requests.{limits, lean_loads, lean_stores, within_budget}
 use Rattle.request_commands.proofs.RunLemmas.{good_turns}

@@ -29,7 +29,7 @@ use Rattle.spiral_input.specs.Fine.{IsFine}
 use Rattle.spiral_status.specs.Fault.{status_of_generate, status_of_stream}
 use Rattle.request_commands.specs.Traced.{traced_text}
 use Rattle.request_commands.specs.Sample.{sample_vector, weighted_sum, sample_text}
-use Rattle.stream_run.specs.Stream.{texts, lines, vectors_of, data_answer, data_vectors}
+use Rattle.runs.specs.Stream.{texts, lines, vectors_of, data_answer, data_vectors}
 
 -- The request
 

@@ -7,8 +7,7 @@ use Rattle.buffer_machine.specs.declared.Events.{Events}
 use Rattle.buffer_machine.specs.declared.Events.TheVariants as events
 use Rattle.spiral_words.specs.declared.Order.{Order}
 use Rattle.spiral_words.specs.declared.Order.TheVariants as order
-use Rattle.stream_run.specs.BufferedText.{buffered_text}
-use Rattle.stream_run.specs.Stream.{run_text}
+use Rattle.runs.specs.Texts.{buffered_text, run_text}
 
 -- The text of a vector's run on so many processors: a line for each turn and drain, and the line of its results. Turns
 -- alone are those of the machine without buffers

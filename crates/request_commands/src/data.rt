@@ -9,17 +9,17 @@ ghost use Rattle.spiral_input.specs.Stage.{status_of};
 ghost use Rattle.spiral_input.specs.Ends.{EndsCleanly};
 ghost use Rattle.spiral_input.specs.Outcomes.{ToldMeets};
 ghost use Rattle.request_commands.specs.Performed.{request_outcomes};
-ghost use Rattle.stream_run.specs.Stream.{HasNoStranger};
+ghost use Rattle.runs.specs.Stream.{HasNoStranger};
 
 use crate::events::{run_events, trace_events};
 use crate::texts::{engine, traced_engine};
 use buffer_machine::Events;
 use io_edge::{Feed, Sink, Source, write_all};
 use request_text::Schedule;
+use runs::run_stream;
 use spiral_status::Status;
 use spiral_words::{Command, Order};
 use std::alloc::Global;
-use stream_run::run_stream;
 use transform_requests::TransformRequest;
 
 /// Writes the line of each vector's transform.

@@ -18,10 +18,10 @@ use crate::texts::good_product;
 use buffer_machine::{BufMachine, Events};
 use io_edge::{Feed, Sink, Source, write_all};
 use listing_text::print_listing;
+use runs::run_buffered;
 use spiral_status::Status;
 use spiral_words::Command;
 use std::alloc::Global;
-use stream_run::run_buffered;
 use transform_requests::TransformRequest;
 
 // A machine with store buffers and a good program for the request, and room for a vector.

@@ -8,7 +8,7 @@ ghost use Rattle.request_commands.specs.Sample.{AreCountable, AreTotals};
 ghost use Rattle.request_commands.specs.Sample.{sample_vector, weighted_sum, sample_text};
 ghost use Rattle.spiral_status.specs.Status.{IsDefined};
 ghost use Rattle.spiral_input.specs.Refusals.{IsRefusal};
-ghost use Rattle.stream_run.specs.Stream.{HasNoStranger};
+ghost use Rattle.runs.specs.Stream.{HasNoStranger};
 
 use crate::texts::engine;
 use icode::action::Counts;
@@ -17,9 +17,9 @@ use memory::NoMemory;
 use par_machine::Machine;
 use request_text::{Schedule, next_state};
 use ring_mod::Modulus;
+use runs::transform;
 use spiral_status::Status;
 use std::alloc::Global;
-use stream_run::transform;
 use transform_requests::TransformRequest;
 
 // Puts the vector of the seed into the slice.

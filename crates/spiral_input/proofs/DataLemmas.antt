@@ -17,9 +17,9 @@ use Rattle.spiral_status.specs.declared.status.Status.TheVariants.{ReadFault, Wr
 use Rattle.spiral_status.specs.Fault.{status_of_stream}
 use Rattle.spiral_status.specs.Status.{IsDefined}
 use Rattle.spiral_input.specs.Fine.{IsFine}
-use Rattle.stream_run.specs.declared.stream.StreamFault.{StreamFault}
-use Rattle.stream_run.specs.declared.stream.StreamFault.TheVariants as stream
-use Rattle.stream_run.specs.Stream.{vectors_of, texts, data_answer, data_vectors, Reads, Streams, group_vectors, lines}
+use Rattle.runs.specs.declared.stream.StreamFault.{StreamFault}
+use Rattle.runs.specs.declared.stream.StreamFault.TheVariants as stream
+use Rattle.runs.specs.Stream.{vectors_of, texts, data_answer, data_vectors, Reads, Streams, group_vectors, lines}
 
 -- Status and output of a run over the data, where it is known which text belongs to which whole vectors
 pub record RunsOver (IsText : List (List ℕ) → List ℕ → Type 0) (size modulus room : ℕ) (bytes : List ℕ) (left before after : Option (List ℕ)) (status : Status) : Type 0 where

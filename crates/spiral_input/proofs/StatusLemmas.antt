@@ -7,8 +7,8 @@ use Rattle.input_rest.specs.declared.RestFault.{RestFault}
 use Rattle.input_rest.specs.declared.RestFault.TheVariants as rest_fault
 use Rattle.spiral_status.specs.declared.status.Status.{Status}
 use Rattle.spiral_status.specs.declared.status.Status.TheVariants.{Success, Usage, ReadFault, WriteFault, NoMemory}
-use Rattle.stream_run.specs.declared.stream.StreamFault.{StreamFault}
-use Rattle.stream_run.specs.declared.stream.StreamFault.TheVariants as stream
+use Rattle.runs.specs.declared.stream.StreamFault.{StreamFault}
+use Rattle.runs.specs.declared.stream.StreamFault.TheVariants as stream
 use Rattle.spiral_status.specs.Fault.{status_of_rest, status_of_fault}
 use Rattle.spiral_input.specs.Ends.{EndsCleanly}
 use Rattle.spiral_input.specs.Refusals.{IsRefusal}

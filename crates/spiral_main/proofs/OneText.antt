@@ -12,7 +12,7 @@ use Rattle.icode.specs.Plain.{PlainProgram}
 use Rattle.icode.specs.Program.{plain_program}
 use Rattle.icode.specs.declared.program.Program.{Program}
 use Rattle.listing_text.specs.Listing.{listing_of}
-use Rattle.stream_run.specs.Stream.{texts}
+use Rattle.runs.specs.Stream.{texts}
 use Rattle.request_commands.specs.Lean.{loads_of, stores_of}
 use Rattle.request_commands.specs.Letters.{HasLetters}
 use Rattle.transform_requests.specs.Fields.{modulus_of, procs_of, size_of}

@@ -8,8 +8,8 @@ use Rattle.request_text.specs.Schedule.{Plan as Turns}
 use Rattle.request_text.specs.Turns.{named}
 use Rattle.spl_ast.specs.Formula.{Formula, size_of}
 use Rattle.spl_ast.specs.Meaning as formulas
-use Rattle.stream_run.specs.Stream.{lines, vectors_of, data_answer, data_vectors}
-use Rattle.stream_run.specs.declared.stream.StreamFault.{StreamFault}
+use Rattle.runs.specs.Stream.{lines, vectors_of, data_answer, data_vectors}
+use Rattle.runs.specs.declared.stream.StreamFault.{StreamFault}
 use Rattle.tree_model.specs.Breakdown.{Breakdown}
 use Rattle.spiral_words.specs.declared.Command.{Command}
 use Rattle.spiral_words.specs.declared.Command.TheVariants as command

@@ -2,7 +2,7 @@
 use Rattle.std.proofs.Common.{◌≡◌, ℕ, true, List, [], ◌∷◌, ◌++◌, Ok, refl, subst, inl, inr}
 use Rattle.spl_text.specs.Spelling.{spelling}
 use Rattle.request_text.specs.Schedule.{Plan as Turns}
-use Rattle.stream_run.specs.Stream.{lines, data_vectors}
+use Rattle.runs.specs.Stream.{lines, data_vectors}
 use Rattle.transform_certs.specs.Certified.{IsCertificateText}
 use Rattle.transform_certs.specs.Judged.{IsVerdict}
 use Rattle.request_commands.specs.Planned.{IsPlanned}

@@ -28,7 +28,7 @@ use Rattle.request_commands.specs.Settled.{IsTextOfData, Settles}
 use Rattle.spiral_main.specs.Right.{AreRightData, AreRightVectors, BeginWithList, IsRightRest, IsRightRequest, IsRightCall, Succeeds}
 use Rattle.spiral_main.specs.RightFront.{AreWholeVectors}
 use Rattle.spiral_main.proofs.RightRequests.{job_of, orders_job, orders_request}
-use Rattle.stream_run.specs.Stream.{data_answer}
+use Rattle.runs.specs.Stream.{data_answer}
 use Rattle.spiral_words.proofs.OneCommand.{asked_once}
 use Rattle.convolution_commands.proofs.OneConvolution.{conv_decided}
 use Rattle.listing_commands.proofs.OneExecution.{runnable_decided}
@@ -36,7 +36,7 @@ use Rattle.formula_commands.proofs.OneFormula.{formula_decided}
 use Rattle.spiral_main.proofs.Landed.{answer_from}
 use Rattle.spiral_main.proofs.OneOutcome.{ordered_decided, no_order, no_answer, no_formula, no_request, no_plain_request, no_convolution, no_both, listing_alone, schedule_asked_once}
 use Rattle.spiral_input.proofs.Stages.{answer_for}
-use Rattle.stream_run.proofs.StreamLemmas.{right_answer}
+use Rattle.runs.proofs.StreamLemmas.{right_answer}
 
 data_right : (wanted : Command) (r : TransformRequest) (room : ℕ) (bytes : List ℕ) (vectors : List (List ℕ)) (text : List ℕ) → IsRightRest wanted r room bytes → IsTextOfData wanted r vectors text
     → data_answer (requests.size_of r) room bytes ≡ Ok tt

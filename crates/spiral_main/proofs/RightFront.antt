@@ -12,8 +12,8 @@ use Rattle.request_text.specs.Turns.{named}
 use Rattle.spl_ast.specs.Formula.{Formula}
 use Rattle.spl_ast.specs.Formula as spl
 use Rattle.spl_ast.specs.Meaning as formulas
-use Rattle.stream_run.specs.Stream.{lines, vectors_of, bad_after, vectors_seen, data_vectors}
-use Rattle.stream_run.proofs.StreamLemmas.{bad_behind, right_answer}
+use Rattle.runs.specs.Stream.{lines, vectors_of, bad_after, vectors_seen, data_vectors}
+use Rattle.runs.proofs.StreamLemmas.{bad_behind, right_answer}
 use Rattle.transform_requests.specs.Fields.{modulus_of, procs_of, size_of}
 use Rattle.spiral_words.specs.declared.Command.TheVariants as command
 use Rattle.spiral_status.specs.Fault.{status_of_stream}

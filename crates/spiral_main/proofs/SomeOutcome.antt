@@ -15,7 +15,7 @@ use Rattle.transform_texts.specs.Formulas.{trees_expansion}
 use Rattle.transform_texts.specs.Texts.{plan_text}
 use Rattle.tree_model.specs.Breakdown.{Breakdown}
 use Rattle.spl_text.specs.Spelling.{spelling}
-use Rattle.stream_run.specs.Stream.{lines, data_answer, data_vectors}
+use Rattle.runs.specs.Stream.{lines, data_answer, data_vectors}
 use Rattle.spiral_words.specs.Asked.{IsAsked, IsUsage}
 use Rattle.spiral_words.specs.declared.Command.{Command}
 use Rattle.spiral_words.specs.declared.Command.TheVariants as command

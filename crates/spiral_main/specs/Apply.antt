@@ -4,7 +4,7 @@ use Rattle.request_text.specs.Schedule.{Plan as Turns}
 use Rattle.request_text.specs.Turns.{named}
 use Rattle.spl_ast.specs.Formula.{Formula, size_of}
 use Rattle.spl_ast.specs.Meaning as formulas
-use Rattle.stream_run.specs.Stream.{lines}
+use Rattle.runs.specs.Stream.{lines}
 use Rattle.formula_commands.specs.Compiled.{written}
 use Rattle.spiral_input.specs.Commands.{admitted, first_stranger}
 use Rattle.spiral_input.specs.Outcomes.{Outcomes}

@@ -12,7 +12,7 @@ use Rattle.plan_faults.specs.declared.convolving.ConvFault.{ConvFault}
 use Rattle.request_text.specs.Schedule.{Plan as Turns}
 use Rattle.request_text.specs.Turns.{named}
 use Rattle.spiral_status.specs.Fault.{status_of_conv}
-use Rattle.stream_run.specs.Stream.{lines}
+use Rattle.runs.specs.Stream.{lines}
 use Rattle.tree_model.specs.Breakdown.{Breakdown}
 use Rattle.convolution_commands.specs.Convolved.{conv_spelt}
 use Rattle.spiral_input.specs.Commands.{admitted, first_stranger}

@@ -29,7 +29,7 @@ use Rattle.spiral_input.specs.Commands.{commanded, AskForFormula, AskForConvolut
 use Rattle.formula_commands.specs.Compiled.{formula_in}
 use Rattle.convolution_commands.specs.Convolved.{conv_procs, conv_spelt}
 use Rattle.spiral_input.specs.Line.{data_of, room_behind}
-use Rattle.stream_run.specs.Stream.{data_vectors}
+use Rattle.runs.specs.Stream.{data_vectors}
 use Rattle.listing_commands.specs.Listed.{runnable, room_behind_listing}
 use Rattle.spiral_main.specs.Outcome.{IsOutcome}
 use Rattle.spiral_main.specs.RightFront.{AreWholeVectors}

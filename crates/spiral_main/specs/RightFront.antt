@@ -4,7 +4,7 @@ use Rattle.std.specs.List.{list_all}
 use Rattle.data_stream.specs.Data.{tokens, is_good}
 use Rattle.spiral_input.specs.Asking.{spelt}
 use Rattle.spiral_input.specs.Commands.{first_stranger}
-use Rattle.stream_run.specs.Stream.{vectors_of}
+use Rattle.runs.specs.Stream.{vectors_of}
 use Rattle.request_commands.specs.Planned.{IsPlanned}
 use Rattle.transform_requests.specs.Fields.{modulus_of, procs_of, size_of}
 use Rattle.spiral_main.specs.Front.{Front, line, room_behind}

@@ -2,7 +2,7 @@
 use Rattle.std.specs.Prelude.{◌≡◌}
 use Rattle.transform_requests.specs.Fields.{asked_of, modulus_of, size_of}
 use Rattle.spiral_words.specs.declared.Order.{Order}
-use Rattle.stream_run.specs.Stream.{lines}
+use Rattle.runs.specs.Stream.{lines}
 use Rattle.spiral_input.specs.Orders.{procs_in}
 use Rattle.spiral_input.specs.Outcomes.{Outcomes}
 use Rattle.spiral_main.specs.Front.{line, by_front}

@@ -5,7 +5,7 @@ use Rattle.icode.specs.Program.{plain_program, code_of}
 use Rattle.listing_text.specs.Listing.{listing_of}
 use Rattle.transform_requests.specs.Fields.{modulus_of, procs_of, size_of}
 use Rattle.spiral_words.specs.declared.Order.{Order}
-use Rattle.stream_run.specs.Stream.{texts}
+use Rattle.runs.specs.Stream.{texts}
 use Rattle.request_commands.specs.Settled.{IsProgramOf}
 use Rattle.request_commands.specs.Traced.{traced_text}
 use Rattle.spiral_input.specs.Orders.{procs_in}

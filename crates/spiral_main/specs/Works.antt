@@ -5,9 +5,9 @@ use Rattle.data_stream.specs.Data.{tokens, closed_part}
 use Rattle.spiral_status.specs.declared.status.Status.{Status}
 use Rattle.spiral_status.specs.declared.status.Status.TheVariants.{Success}
 use Rattle.spiral_status.specs.Fault.{status_of_fault, status_of_stream}
-use Rattle.stream_run.specs.Progress.{lacking}
-use Rattle.stream_run.specs.Stream.{vectors_of, data_answer, data_vectors}
-use Rattle.stream_run.specs.declared.stream.StreamFault.{StreamFault}
+use Rattle.runs.specs.Progress.{lacking}
+use Rattle.runs.specs.Stream.{vectors_of, data_answer, data_vectors}
+use Rattle.runs.specs.declared.stream.StreamFault.{StreamFault}
 use Rattle.spiral_input.specs.Fine.{IsFine}
 use Rattle.request_commands.specs.Checked.{certificate_limit, status_of_verdict, verdict_text, IsOverlong}
 use Rattle.spiral_main.specs.Front.{Work}

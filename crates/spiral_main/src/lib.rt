@@ -25,9 +25,9 @@ pub mod rights;
 mod run;
 
 pub use run::spiral_run;
+pub use runs::{StreamFault, run_stream};
 pub use spiral_status::Status;
 pub use spiral_words::Command;
-pub use stream_run::{StreamFault, run_stream};
 
 /// The words and the bytes of a call determine its status.
 pub fn calls_have_one_status()

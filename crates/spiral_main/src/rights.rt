@@ -26,7 +26,7 @@ ghost use Rattle.spl_ast.specs.Meaning as meanings;
 ghost use Rattle.spl_text.specs.Spelling.{spelling};
 ghost use Rattle.std.specs.Io.KnownBytes.{Appends};
 ghost use Rattle.std.specs.declared.option.Option.{Option};
-ghost use Rattle.stream_run.specs.Stream.{lines};
+ghost use Rattle.runs.specs.Stream.{lines};
 ghost use Rattle.transform_certs.specs.Certified.{IsCertificateText};
 ghost use Rattle.transform_requests.specs.Fields.{asked_of, size_of};
 ghost use Rattle.transform_texts.specs.Formulas.{trees_expansion};

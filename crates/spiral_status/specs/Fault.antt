@@ -16,8 +16,8 @@ use Rattle.plan_faults.specs.declared.convolving.ConvFault.{ConvFault}
 use Rattle.plan_faults.specs.declared.convolving.ConvFault.TheVariants as conv
 use Rattle.plan_faults.specs.declared.generating.GenerateFault.{GenerateFault}
 use Rattle.plan_faults.specs.declared.generating.GenerateFault.TheVariants as generate
-use Rattle.stream_run.specs.declared.stream.StreamFault.{StreamFault}
-use Rattle.stream_run.specs.declared.stream.StreamFault.TheVariants as stream
+use Rattle.runs.specs.declared.stream.StreamFault.{StreamFault}
+use Rattle.runs.specs.declared.stream.StreamFault.TheVariants as stream
 use Rattle.spiral_status.specs.declared.status.Status.{Status}
 use Rattle.spiral_status.specs.declared.status.Status.TheVariants.{Success, Syntax, Range, Shape, LanesLine, NotUnit, Root, NotPrincipal, NoDivide, OverBudget, BadNumber, Truncated, ReadFault, WriteFault, NoMemory, TooLong, FormulaShape, TooDeep, ListingSyntax, Address, Register, LineShared, OverSteps}
 

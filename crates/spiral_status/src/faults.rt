@@ -7,9 +7,9 @@ use listing_text::ListingFault;
 use memory::NoMemory;
 use plan_faults::{ConvFault, GenerateFault};
 use request_text::RequestFault;
+use runs::StreamFault;
 use spl_text::SplFault;
 use std::alloc::AllocError;
-use stream_run::StreamFault;
 
 /// How many bytes a request line may have, without its end.
 pub const LINE_LIMIT: usize = 256;

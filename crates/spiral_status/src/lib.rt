@@ -2,9 +2,9 @@
 #![tactic(auto)]
 
 mod faults;
-mod note;
+mod rows;
 mod status;
 
 pub use faults::{CERTIFICATE_LIMIT, LINE_LIMIT};
-pub use note::write_note;
+pub use rows::write_note;
 pub use status::Status;

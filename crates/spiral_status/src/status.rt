@@ -1,7 +1,4 @@
 // What a call answers with.
-ghost use Rattle.std.specs.Prelude.{◌≡◌};
-ghost use Rattle.spiral_status.specs.Status.{code_of};
-
 use request_text::Field;
 
 /// How a run ended.
@@ -115,37 +112,4 @@ pub enum Status {
     OverSteps {
         limit: u64,
     },
-}
-
-impl Status {
-    /// The exit code of the process.
-    pub fn code(&self) -> u8
-        ensures code { result ≡ code_of self.now }
-    {
-        match self {
-            Status::Success => 0,
-            Status::Usage => 2,
-            Status::Syntax { .. } => 3,
-            Status::Range { .. } | Status::Shape { .. } | Status::LanesLine { .. } => 4,
-            Status::Turn { .. } => 5,
-            Status::Root { .. } => 6,
-            Status::NoDivide => 7,
-            Status::OverBudget { .. } => 8,
-            Status::BadNumber { .. } | Status::Truncated { .. } => 9,
-            Status::ReadFault => 10,
-            Status::WriteFault => 11,
-            Status::NoMemory => 12,
-            Status::TooLong { .. } => 13,
-            Status::Unread | Status::Wrong { .. } => 14,
-            Status::NotUnit { .. } => 15,
-            Status::FormulaShape { .. } => 16,
-            Status::TooDeep { .. } => 17,
-            Status::ListingSyntax { .. } => 18,
-            Status::Address { .. } => 19,
-            Status::Register { .. } => 20,
-            Status::LineShared { .. } => 21,
-            Status::OverSteps { .. } => 22,
-            Status::NotPrincipal { .. } => 23,
-        }
-    }
 }

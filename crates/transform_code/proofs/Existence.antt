@@ -39,8 +39,8 @@ first_power_or_none m (d ∷ others) = elim (cases_eq (power_mod m d.root d.size
   ]
 ]
 
-valid_of_rooted : (r : SeveralRequest) → AreInRange r → HasRoots r → IsSeveralRequest r
-valid_of_rooted r range rooted = record {
+several_valid : (r : SeveralRequest) → AreInRange r → HasRoots r → IsSeveralRequest r
+several_valid r range rooted = record {
   several = range.several;
   parts = λ k d within. ((range.parts k d within).0, record { in_range = (range.parts k d within).1; root = rooted k d within });
   whole = range.whole;
@@ -59,7 +59,7 @@ several_exist r range = elim (first_power_or_none r.modulus (listed r.dimensions
   | inr first ↦ (Err (Root first.0), first.1)
   | inl rooted ↦ elim (decided_share r) [
     | inr none ↦ (Err NoDivide, (rooted, none))
-    | inl can ↦ let trees = chosen_trees r (valid_of_rooted r range rooted) can in within_budget_or_not r trees.0 rooted trees.1
+    | inl can ↦ let trees = chosen_trees r (several_valid r range rooted) can in within_budget_or_not r trees.0 rooted trees.1
   ]
 ]
 

@@ -4,13 +4,13 @@
 #[cfg(test)]
 mod checks;
 #[cfg(test)]
+mod lines;
+#[cfg(test)]
 mod machines;
 #[cfg(test)]
 mod programs;
 #[cfg(test)]
 mod queues;
-#[cfg(test)]
-mod runs;
 #[cfg(test)]
 mod same;
 #[cfg(test)]

@@ -6,7 +6,7 @@ use Rattle.convolver.specs.Letters.{conv_program}
 use Rattle.tree_model.specs.Breakdown.{breakdown_of}
 use Rattle.io_edge.specs.Feed.{to_come, limit}
 use Rattle.spiral_status.specs.Fault.{status_of_conv}
-use Rattle.stream_run.specs.Progress.{HasNoVector}
+use Rattle.runs.specs.Progress.{HasNoVector}
 use Rattle.convolution_commands.proofs.ConvolvedLemmas.{conv_refused, conv_refusal, convolves_refused, convolves_lacking}
 use Rattle.convolution_commands.proofs.listed_program.Goals as goal
 

@@ -2,7 +2,7 @@ use Rattle.std.proofs.Common.{◌≡◌, sym, ap, subst, ◌∙◌}
 use Rattle.std.proofs.lemmas.Result.{err_from_is_err_and}
 use Rattle.icode.specs.Machine.{Code}
 use Rattle.icode.specs.Program.{plain_program, code_of}
-use Rattle.stream_run.specs.Stream.{HasNoStranger}
+use Rattle.runs.specs.Stream.{HasNoStranger}
 use Rattle.listing_commands.proofs.ListedLemmas.{unturned, loads}
 use Rattle.listing_commands.proofs.loaded_engine.Goals as goal
 

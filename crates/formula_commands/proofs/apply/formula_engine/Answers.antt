@@ -2,7 +2,7 @@ use Rattle.std.proofs.Common.{◌≡◌, sym, ap, subst, ◌∙◌}
 use Rattle.std.proofs.lemmas.Result.{err_from_is_err_and}
 use Rattle.icode.specs.Machine.{Code}
 use Rattle.spiral_words.specs.declared.Command.TheVariants as command
-use Rattle.stream_run.specs.Stream.{HasNoStranger}
+use Rattle.runs.specs.Stream.{HasNoStranger}
 use Rattle.formula_commands.proofs.CompiledLemmas.{formula_unturned, forms, unformed}
 use Rattle.formula_commands.proofs.apply.formula_engine.Goals as goal
 

@@ -1,5 +1,5 @@
 use Rattle.std.proofs.Common.{◌≡◌, refl, inr}
-use Rattle.stream_run.specs.Stream.{lines}
+use Rattle.runs.specs.Stream.{lines}
 use Rattle.transform_requests.specs.Fields.{asked_of}
 use Rattle.spiral_words.specs.declared.Command.TheVariants as command
 use Rattle.spiral_input.specs.Orders.{procs_in}

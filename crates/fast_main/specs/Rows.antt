@@ -1,0 +1,26 @@
+-- The table of statuses: of each its number, and its line behind `spiral_fast: `.
+use Rattle.std.specs.Prelude.{[], ◌∷◌, None, Some, codes}
+use Rattle.status_rows.specs.Rows.{PlainRow, row}
+use Rattle.fast_main.specs.declared.status.Status.{Status}
+use Rattle.fast_main.specs.declared.status.Status.TheVariants.{Success, Usage, ListingSyntax, OverSteps, Address, Register, LineShared, WideModulus, ReadFault, WriteFault, NoMemory, TooLong}
+
+abbrev pub row_of : Status → PlainRow
+row_of Success = row 0 []
+row_of Usage =
+    row 2 ((codes "usage: spiral_fast [--words 32|52|64] [--name NAME [--header]] < LISTING > TEXT (reads a listing, writes C)", None) ∷ [])
+row_of ReadFault = row 10 ((codes "read failed", None) ∷ [])
+row_of WriteFault = row 11 ((codes "write failed", None) ∷ [])
+row_of NoMemory = row 12 ((codes "out of memory", None) ∷ [])
+row_of (TooLong limit) = row 13 ((codes "more than ", Some limit) ∷ (codes " bytes", None) ∷ [])
+row_of (ListingSyntax line) = row 18 ((codes "listing syntax at line ", Some line) ∷ [])
+row_of (Address phase proc action) =
+    row 19 ((codes "bad place in phase ", Some phase) ∷ (codes ", processor ", Some proc)
+    ∷ (codes ", action ", Some action) ∷ [])
+row_of (Register phase proc action) =
+    row 20 ((codes "bad register in phase ", Some phase) ∷ (codes ", processor ", Some proc)
+    ∷ (codes ", action ", Some action) ∷ [])
+row_of (LineShared phase line a b) =
+    row 21 ((codes "phase ", Some phase) ∷ (codes " line ", Some line)
+    ∷ (codes " is shared by ", Some a) ∷ (codes " and ", Some b) ∷ [])
+row_of (OverSteps limit) = row 22 ((codes "more than ", Some limit) ∷ (codes " actions", None) ∷ [])
+row_of (WideModulus bits) = row 24 ((codes "modulus of more than ", Some bits) ∷ (codes "-bit words", None) ∷ [])

@@ -1,0 +1,70 @@
+-- Steps of a machine whose lines are written one by one.
+use Rattle.std.proofs.Common.{◌≡◌, ℕ, ◌+◌, List, [], ◌∷◌, ◌++◌, length, arith, sym, ap, ap₂, ◌∙◌, subst, refl, append_assoc, append-nil}
+use Rattle.std.specs.declared.option.Option.{Option}
+use Rattle.std.specs.Io.KnownBytes.{Appends}
+use Rattle.std.proofs.KnownBytes.{Appends-nil, Appends-trans}
+use Rattle.std.proofs.lemmas.List.{length-append}
+use Rattle.io_edge.specs.Taken.{AppendsPrefix}
+use Rattle.icode.specs.declared.event.Event.{Event}
+use Rattle.icode.specs.Machine.{Code}
+use Rattle.runs.specs.Course.{PassesThrough}
+use Rattle.runs.specs.Faults.{FaultMet}
+use Rattle.runs.specs.Lines.{step_lines}
+use Rattle.runs.specs.Standing.{Standing}
+use Rattle.runs.specs.Walks.{walked}
+use Rattle.runs.proofs.Walks.{lines-append, walked-append}
+
+-- the steps before those that are left are done, and their lines are written
+pub record Goes (code : Code) (before after : Option (List ℕ)) (first : Standing) (from : ℕ) (all : List Event) (s : Standing) (number : ℕ) (left : List Event) : Type 0 where
+  pub past : List Event
+  pub whole : all ≡ past ++ left
+  pub here : s ≡ walked code first past
+  pub count : number ≡ from + length past
+  pub took : Appends before after (step_lines code first from past)
+
+module _ {code : Code} {a : Option (List ℕ)} {first : Standing} {from : ℕ} {all : List Event} where
+  pub goes_first : Goes code a a first from all first from all
+  goes_first =
+      let e : from ≡ from + 0 = omega arith in
+      record { past = []; whole = refl; here = refl; count = e; took = Appends-nil a }
+
+  module _ {b : Option (List ℕ)} {s : Standing} {number : ℕ} {left : List Event} (g : Goes code a b first from all s number left) where
+    pub goes_passes : PassesThrough code first all s
+    goes_passes = record { front = g.past; rest = left; whole = g.whole; after = g.here }
+
+    pub goes_out : left ≡ [] → Appends a b (step_lines code first from all) × (s ≡ walked code first all)
+    goes_out e =
+        let over : g.past ≡ all = sym (g.whole ∙ (ap (λ l. g.past ++ l) e ∙ append-nil g.past)) in
+        (subst (λ l. Appends a b (step_lines code first from l)) over g.took, g.here ∙ ap (walked code first) over)
+
+    -- the next step
+    module _ (c : Option (List ℕ)) (q : Event) (rest : List Event) (e : left ≡ q ∷ rest) (t : Standing) (moved : t ≡ walked code s (q ∷ [])) where
+      there : t ≡ walked code first (g.past ++ q ∷ [])
+      there = moved ∙ (ap (λ (u : Standing). walked code u (q ∷ [])) g.here ∙ sym (walked-append code g.past (q ∷ []) first))
+
+      line : step_lines code s number (q ∷ []) ≡ step_lines code (walked code first g.past) (from + length g.past) (q ∷ [])
+      line = ap₂ (λ (u : Standing) n. step_lines code u n (q ∷ [])) g.here g.count
+
+      pub goes_on : Appends b c (step_lines code s number (q ∷ [])) → Goes code a c first from all t (number + 1) rest
+      goes_on took =
+          record {
+            past = g.past ++ q ∷ [];
+            whole = g.whole ∙ (ap (λ l. g.past ++ l) e ∙ sym (append_assoc g.past (q ∷ []) rest));
+            here = there;
+            count = omega (arith, g.count, length-append g.past (q ∷ []));
+            took = subst (Appends a c) (sym (lines-append code g.past (q ∷ []) first from))
+                (Appends-trans a b c (step_lines code first from g.past) (step_lines code (walked code first g.past) (from + length g.past) (q ∷ [])) g.took (subst (Appends b c) line took));
+          }
+
+      pub goes_met : AppendsPrefix b c (step_lines code s number (q ∷ [])) → FaultMet code first from all t a c
+      goes_met took =
+          record {
+            front = g.past;
+            met = q;
+            rest = rest;
+            whole = g.whole ∙ ap (λ l. g.past ++ l) e;
+            after = there;
+            before = b;
+            written = g.took;
+            cut = subst (AppendsPrefix b c) line took;
+          }

@@ -1,0 +1,9 @@
+pub mod Walks
+pub mod Goes
+pub mod TwoMachines
+pub mod FaultLemmas
+pub mod Acts
+pub mod Settled
+pub mod EventsAct
+pub mod StreamLemmas
+pub mod ProgressLemmas

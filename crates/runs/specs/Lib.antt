@@ -1,0 +1,10 @@
+pub mod Trace
+pub mod Standing
+pub mod Walks
+pub mod Lines
+pub mod Course
+pub mod Faults
+pub mod Texts
+pub mod StreamFault
+pub mod Stream
+pub mod Progress

@@ -1,3 +1,0 @@
-pub mod StreamLemmas
-pub mod BufferedLemmas
-pub mod ProgressLemmas

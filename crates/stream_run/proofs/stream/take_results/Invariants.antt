@@ -1,9 +1,0 @@
-use Rattle.std.proofs.Common.{◌≡◌, take}
-use Rattle.icode.specs.Machine.{words_at}
-use Rattle.stream_run.proofs.stream.take_results.Given as goal
-
--- the words so far are those of the machine's second array
-abbrev pub invariant-loop-place : goal.invariant-loop-place
-invariant-loop-place l = record {
-  words : take l.place l.vector ≡ words_at l.place l.machine.state.memory l.first;
-}

@@ -1,4 +1,0 @@
-pub mod StreamFault
-pub mod Stream
-pub mod Progress
-pub mod BufferedText

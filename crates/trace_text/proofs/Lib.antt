@@ -1,7 +1,0 @@
-pub mod Lines
-pub mod Goes
-pub mod EventLemmas
-mod Courses
-mod FaultLemmas
-mod Settled
-mod EventsAct

@@ -1,0 +1,9 @@
+use Rattle.std.proofs.Common.{◌≡◌, None, nat_le, subst, sym}
+use Rattle.std.specs.List.{find}
+use Rattle.request_text.specs.Turns.{named}
+use Rattle.worked_machines.proofs.lines.traced.Goals as goal
+
+pub write_steps-result-requires : goal.write_steps-result-requires
+write_steps-result-requires c = record {
+  no_stranger = subst (λ n. find (λ q. nat_le n q) (named c.in_ok-schedule.schedule) ≡ None) c.procs.ensures.value (sym c.in-None.ensures);
+}

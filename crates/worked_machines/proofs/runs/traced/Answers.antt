@@ -1,9 +1,0 @@
-use Rattle.std.proofs.Common.{◌≡◌, None, nat_le, subst, sym}
-use Rattle.std.specs.List.{find}
-use Rattle.request_text.specs.Turns.{named}
-use Rattle.worked_machines.proofs.runs.traced.Goals as goal
-
-pub write_turns-result-requires : goal.write_turns-result-requires
-write_turns-result-requires c = record {
-  no_stranger = subst (λ n. find (λ q. nat_le n q) (named c.in_ok-schedule.schedule) ≡ None) c.procs.ensures.value (sym c.in-None.ensures);
-}
