@@ -1,5 +1,5 @@
 -- What becomes of a program's fields where a table is in two factors.
-use Rattle.std.proofs.Common.{◌≡◌, ℕ, zero, suc, ◌+◌, ◌-◌, ◌*◌, ◌^◌, ◌<◌, ◌≤◌, ◌&&◌, Bool, true, false, List, [], ◌∷◌, ◌++◌, Vec, Global, map, length, get_or, refl, sym, ap, ap₂, ◌∙◌, subst, arith, length-append, lt-ltb, ltb-true}
+use Rattle.std.proofs.Common.{◌≡◌, ℕ, zero, suc, ◌+◌, ◌-◌, ◌^◌, ◌<◌, ◌≤◌, ◌&&◌, Bool, true, false, List, [], ◌∷◌, ◌++◌, Vec, Global, map, length, get_or, refl, sym, ap, ap₂, ◌∙◌, subst, arith, length-append, lt-ltb, ltb-true}
 use Rattle.std.specs.Prelude.{nat_lt, nat_le, slice_index_or, slice_set, if◌then◌else◌}
 use Rattle.std.specs.List.{list_all}
 use Rattle.std.proofs.lemmas.List.{length-map, map-append}

@@ -1,10 +1,10 @@
 -- Statements that are pushed one after another.
-use Rattle.std.proofs.Common.{◌≡◌, ℕ, zero, suc, ◌+◌, ◌<◌, ◌≤◌, List, [], ◌∷◌, ◌++◌, Vec, Global, flat_map, length, take, map, get_or, refl, sym, ap, ap₂, ◌∙◌, append-nil, arith}
+use Rattle.std.proofs.Common.{◌≡◌, ℕ, zero, suc, ◌+◌, ◌<◌, ◌≤◌, List, [], ◌∷◌, ◌++◌, Vec, Global, flat_map, length, take, map, get_or, refl, sym, ap, ◌∙◌, append-nil, arith}
 use Rattle.std.proofs.lemmas.List.{take_more, map-append}
 use Rattle.std.proofs.lemmas.List.Concat.{flat_map-append}
 use Rattle.icode.specs.declared.program.Stmt.{Stmt}
 use Rattle.icode.specs.declared.program.Stmt.TheVariants as stmts
-use Rattle.icode.specs.Plain.{PlainStmt, PlainBody, Loop, AndStmts, body_of, plain_stmt, plain_body}
+use Rattle.icode.specs.Plain.{PlainStmt, Loop, AndStmts, body_of, plain_stmt, plain_body}
 use Rattle.icode.proofs.Views.{plain_stmt-Loop}
 use Rattle.two_tables.specs.TwoTables.{Split, put_before, factored_stmt, factored_body}
 use Rattle.two_tables.specs.View.{plain_stmts}

@@ -1,5 +1,5 @@
 -- What the code's values are among the definitions.
-use Rattle.std.specs.Prelude.{ℕ, List, map}
+use Rattle.std.specs.Prelude.{List, map}
 use Rattle.icode.specs.declared.program.Stmt.{Stmt}
 use Rattle.icode.specs.declared.program.Part.{Part}
 use Rattle.icode.specs.Plain.{PlainStmt, PlainParts, parts_of, plain_part, plain_stmt}
