@@ -1,0 +1,15 @@
+mod Bodies
+mod Cutting
+mod Dividing
+mod Law
+mod Listed
+mod Made
+mod Placed
+mod Products
+mod Programs
+mod Pushed
+mod Registers
+mod Replaced
+mod Walked
+mod Whole
+mod Within

@@ -1,0 +1,13 @@
+//! Tables in two factors: a large table that is the product of two small ones gives two products in place of one.
+#![tactic(auto)]
+
+mod cuts;
+mod even;
+mod factors;
+pub mod laws;
+mod places;
+mod room;
+mod split;
+mod tables;
+
+pub use tables::factor_tables;
