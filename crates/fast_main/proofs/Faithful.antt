@@ -15,6 +15,10 @@ use Rattle.loop_interchange.proofs.Law.{interchanged_leaves_the_same}
 use Rattle.loop_interchange.proofs.Programs.{modulus_stays}
 use Rattle.loop_lanes.specs.Lanes.{IsLanes, can_be_laned, laned, laned_body}
 use Rattle.loop_lanes.proofs.Law.{laned_leaves_the_same}
+use Rattle.two_tables.specs.Laws.{IsInPlaceOf}
+use Rattle.two_tables.specs.TwoTables.{factored, large_table}
+use Rattle.two_tables.proofs.Law.{factored_leaves_the_same}
+use Rattle.two_tables.proofs.Programs.{after}
 use Rattle.word_code.specs.declared.program.WordProgram.{WordProgram}
 use Rattle.word_code.specs.declared.choose.WordSize.{WordSize}
 use Rattle.word_code.specs.Choice.{allows, fast_words, laziness_for}
@@ -25,17 +29,9 @@ use Rattle.word_code.specs.View.{plain_word_program}
 use Rattle.word_code.specs.WordMachine.{word_results}
 use Rattle.word_code.specs.WordProgram.{PlainWordProgram, word_code}
 use Rattle.fast_words.specs.Asked.{IsLaneCount}
-use Rattle.fast_main.specs.Translation.{prepared, words_for, IsFaithful, AreSoundWords}
+use Rattle.fast_main.specs.Translation.{has_cheap_products, on_lanes, prepared, words_for, IsFaithful, AreSoundWords}
 
 -- ---- the prepared program
-
--- what takes the place of the program p
-record IsSameAs (made p : PlainProgram) : Type 0 where
-  size : made.size ≡ p.size
-  modulus : made.modulus ≡ p.modulus
-  fits : PlainFits made
-  apart : (phase : ℕ) → IsApart (plain_code made) phase
-  same : (x turns orders : List ℕ) → results (plain_code made) x turns ≡ results (plain_code p) x orders
 
 size_stays : (p : PlainProgram) → (interchanged p).size ≡ p.size
 size_stays p = of_choice (list_all (are_nests p.lanes) p.phases)
@@ -44,7 +40,7 @@ size_stays p = of_choice (list_all (are_nests p.lanes) p.phases)
     of_choice true = refl
     of_choice false = refl
 
-interchanged_is : (p : PlainProgram) → PlainFits p → ((phase : ℕ) → IsApart (plain_code p) phase) → IsSameAs (interchanged p) p
+interchanged_is : (p : PlainProgram) → PlainFits p → ((phase : ℕ) → IsApart (plain_code p) phase) → IsInPlaceOf (interchanged p) p
 interchanged_is p fits apart =
     let law = interchanged_leaves_the_same p fits apart in
     record { size = size_stays p; modulus = modulus_stays p; fits = law.fits; apart = law.apart; same = law.same }
@@ -63,34 +59,55 @@ laned_modulus v p = of_choice (can_be_laned v p)
     of_choice true = refl
     of_choice false = refl
 
-laned_is : (v : ℕ) (p : PlainProgram) → IsLanes v → PlainFits p → ((phase : ℕ) → IsApart (plain_code p) phase) → IsSameAs (laned v (interchanged p)) p
+laned_is : (v : ℕ) (p : PlainProgram) → IsLanes v → PlainFits p → ((phase : ℕ) → IsApart (plain_code p) phase) → IsInPlaceOf (laned v (interchanged p)) p
 laned_is v p lanes fits apart =
     let first = interchanged_is p fits apart in
     let law = laned_leaves_the_same v (interchanged p) lanes first.fits first.apart in
-    record {
-      size = laned_size v (interchanged p) ∙ first.size;
-      modulus = laned_modulus v (interchanged p) ∙ first.modulus;
+    let next : IsInPlaceOf (laned v (interchanged p)) (interchanged p) = record {
+      size = laned_size v (interchanged p);
+      modulus = laned_modulus v (interchanged p);
       fits = law.fits;
       apart = law.apart;
-      same = λ x turns orders. law.same x turns turns ∙ first.same x turns orders;
-    }
+      same = law.same;
+    } in
+    after (laned v (interchanged p)) (interchanged p) p next first
 
-prepared_is : (lanes : ℕ) (p : PlainProgram) → IsLaneCount lanes → PlainFits p → ((phase : ℕ) → IsApart (plain_code p) phase) → IsSameAs (prepared lanes p) p
-prepared_is lanes p (inl one) fits apart = subst (λ n. IsSameAs (prepared n p) p) (sym one) (interchanged_is p fits apart)
-prepared_is lanes p (inr (inl two)) fits apart =
-    subst (λ n. IsSameAs (prepared n p) p) (sym two) (laned_is 2 p (inl refl) fits apart)
-prepared_is lanes p (inr (inr (inl four))) fits apart =
-    subst (λ n. IsSameAs (prepared n p) p) (sym four) (laned_is 4 p (inr (inl refl)) fits apart)
-prepared_is lanes p (inr (inr (inr (inl eight)))) fits apart =
-    subst (λ n. IsSameAs (prepared n p) p) (sym eight) (laned_is 8 p (inr (inr (inl refl))) fits apart)
-prepared_is lanes p (inr (inr (inr (inr sixteen)))) fits apart =
-    subst (λ n. IsSameAs (prepared n p) p) (sym sixteen) (laned_is 16 p (inr (inr (inr refl))) fits apart)
+on_lanes_is : (lanes : ℕ) (p : PlainProgram) → IsLaneCount lanes → PlainFits p → ((phase : ℕ) → IsApart (plain_code p) phase) → IsInPlaceOf (on_lanes lanes p) p
+on_lanes_is lanes p (inl one) fits apart = subst (λ n. IsInPlaceOf (on_lanes n p) p) (sym one) (interchanged_is p fits apart)
+on_lanes_is lanes p (inr (inl two)) fits apart =
+    subst (λ n. IsInPlaceOf (on_lanes n p) p) (sym two) (laned_is 2 p (inl refl) fits apart)
+on_lanes_is lanes p (inr (inr (inl four))) fits apart =
+    subst (λ n. IsInPlaceOf (on_lanes n p) p) (sym four) (laned_is 4 p (inr (inl refl)) fits apart)
+on_lanes_is lanes p (inr (inr (inr (inl eight)))) fits apart =
+    subst (λ n. IsInPlaceOf (on_lanes n p) p) (sym eight) (laned_is 8 p (inr (inr (inl refl))) fits apart)
+on_lanes_is lanes p (inr (inr (inr (inr sixteen)))) fits apart =
+    subst (λ n. IsInPlaceOf (on_lanes n p) p) (sym sixteen) (laned_is 16 p (inr (inr (inr refl))) fits apart)
+
+prepared_is : (size : WordSize) (lanes : ℕ) (p : PlainProgram) → IsLaneCount lanes → PlainFits p → ((phase : ℕ) → IsApart (plain_code p) phase) → IsInPlaceOf (prepared size lanes p) p
+prepared_is size lanes p count fits apart = of_choice (has_cheap_products size (on_lanes lanes p).modulus)
+  where
+    first : IsInPlaceOf (on_lanes lanes p) p
+    first = on_lanes_is lanes p count fits apart
+
+    of_choice : (b : Bool) → IsInPlaceOf (if b then factored large_table (on_lanes lanes p) else on_lanes lanes p) p
+    of_choice true =
+        after (factored large_table (on_lanes lanes p)) (on_lanes lanes p) p (factored_leaves_the_same large_table (on_lanes lanes p) first.fits first.apart) first
+    of_choice false = first
+
+-- the program on lanes, as it goes to its tables: it fits, and is apart
+module _ (lanes : ℕ) (p there : Program) (count : IsLaneCount lanes) (is : plain_program there ≡ on_lanes lanes (plain_program p)) (fits : Fits p) (apart : (phase : ℕ) → IsApart (code_of p) phase) where
+  pub lanes_fit : Fits there
+  lanes_fit = subst PlainFits (sym is) (on_lanes_is lanes (plain_program p) count fits apart).fits
+
+  pub lanes_apart : (phase : ℕ) → IsApart (code_of there) phase
+  lanes_apart phase =
+      subst (λ z. IsApart (plain_code z) phase) (sym is) ((on_lanes_is lanes (plain_program p) count fits apart).apart phase)
 
 -- ---- its words
 
-module _ (size : WordSize) (lanes : ℕ) (p there : Program) (count : IsLaneCount lanes) (is : plain_program there ≡ prepared lanes (plain_program p)) (fits : Fits p) (apart : (phase : ℕ) → IsApart (code_of p) phase) where
-  law : IsSameAs (prepared lanes (plain_program p)) (plain_program p)
-  law = prepared_is lanes (plain_program p) count fits apart
+module _ (size : WordSize) (lanes : ℕ) (p there : Program) (count : IsLaneCount lanes) (is : plain_program there ≡ prepared size lanes (plain_program p)) (fits : Fits p) (apart : (phase : ℕ) → IsApart (code_of p) phase) where
+  law : IsInPlaceOf (prepared size lanes (plain_program p)) (plain_program p)
+  law = prepared_is size lanes (plain_program p) count fits apart
 
   -- the program `there` is the prepared one, and fits
   pub fits_from : Fits there
@@ -124,7 +141,7 @@ module _ (size : WordSize) (lanes : ℕ) (p there : Program) (count : IsLaneCoun
       -- it fits, is apart and leaves what the program leaves
       pub sound_from : AreSoundWords size lanes (plain_program p)
       sound_from =
-          let q = prepared lanes (plain_program p) in
+          let q = prepared size lanes (plain_program p) in
           record {
             fits = subst WordsFit (sym shared ∙ words_from) (in_place_fits (plain_program there) (plain_word_program words) (well fits_from));
             apart = in_place_apart (laziness_for size q.modulus q.lanes) q law.apart;

@@ -1,5 +1,5 @@
 -- The C text of a program, and what the words that it spells leave.
-use Rattle.std.specs.Prelude.{◌≡◌, ℕ, ◌==◌, ◌<◌, ◌≤◌, List, length, All, if◌then◌else◌}
+use Rattle.std.specs.Prelude.{◌≡◌, ℕ, ◌==◌, ◌<◌, ◌≤◌, nat_lt, Bool, true, false, List, length, All, if◌then◌else◌}
 use Rattle.icode.specs.Actions.{plain_code}
 use Rattle.icode.specs.Machine.{IsApart, results}
 use Rattle.icode.specs.Plain.{PlainProgram}
@@ -7,20 +7,34 @@ use Rattle.fast_words.specs.Asked.{Asked}
 use Rattle.in_place.specs.InPlace.{in_place}
 use Rattle.loop_interchange.specs.Interchange.{interchanged}
 use Rattle.loop_lanes.specs.Lanes.{laned}
+use Rattle.two_tables.specs.TwoTables.{factored, large_table}
 use Rattle.word_code.specs.Bare.{WordsFit}
 use Rattle.word_code.specs.declared.choose.WordSize.{WordSize}
+use Rattle.word_code.specs.declared.choose.WordSize.TheVariants.{Any, Of32, Of52, Of64}
 use Rattle.word_code.specs.Choice.{fast_words}
 use Rattle.word_code.specs.WordMachine.{under, word_results}
 use Rattle.word_code.specs.WordProgram.{PlainWordProgram, word_code}
 use Rattle.word_print.specs.WordText.{words_text}
 
 -- the program where loops are interchanged, and where rounds of loops become lanes if several are asked for
-abbrev pub prepared : ℕ → PlainProgram → PlainProgram
-prepared lanes p = let q = interchanged p in if lanes == 1 then q else laned lanes q
+abbrev pub on_lanes : ℕ → PlainProgram → PlainProgram
+on_lanes lanes p = let q = interchanged p in if lanes == 1 then q else laned lanes q
+
+-- two products cost less than an entry of a large table: not in words of 64 bits
+abbrev pub has_cheap_products : WordSize → ℕ → Bool
+has_cheap_products Any modulus = nat_lt modulus 2147483648
+has_cheap_products Of32 modulus = true
+has_cheap_products Of52 modulus = true
+has_cheap_products Of64 modulus = false
+
+-- that, where large tables are in two factors if products are cheap
+abbrev pub prepared : WordSize → ℕ → PlainProgram → PlainProgram
+prepared size lanes p =
+    let q = on_lanes lanes p in if has_cheap_products size q.modulus then factored large_table q else q
 
 -- the program on words of this size that is chosen for that, where passes work in place
 abbrev pub words_for : WordSize → ℕ → PlainProgram → PlainWordProgram
-words_for size lanes p = let q = prepared lanes p in in_place q (fast_words size q)
+words_for size lanes p = let q = prepared size lanes p in in_place q (fast_words size q)
 
 -- and the text of it that is asked for
 abbrev pub fast_text : Asked → PlainProgram → List ℕ

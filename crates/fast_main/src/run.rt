@@ -12,7 +12,7 @@ ghost use Rattle.fast_main.specs.Outcome.{AreJudged, HasReadListing};
 ghost use Rattle.fast_main.specs.Outcome.{ToldAccounts, Notes};
 ghost use Rattle.fast_main.specs.Status.{note_line, status_of};
 ghost use Rattle.fast_words.specs.Asked.{IsLaneCount};
-ghost use Rattle.fast_main.specs.Translation.{prepared, fast_text, AreSoundWords};
+ghost use Rattle.fast_main.specs.Translation.{fast_text, AreSoundWords};
 
 use crate::Status;
 use crate::rows::write_note;
@@ -24,8 +24,6 @@ use in_place::work_in_place;
 use input_rest::read_part;
 use io_edge::{Feed, Sink, Source, write_all};
 use listing_text::read_listing;
-use loop_interchange::interchange;
-use loop_lanes::lane_loops;
 use memory::NoMemory;
 use std::alloc::Global;
 use word_code::choose::make_fast;
@@ -33,20 +31,6 @@ use word_print::print_words;
 
 /// How many bytes a listing has at most.
 pub const LISTING_LIMIT: u64 = 1 << 26;
-
-// The program where loops are interchanged, and where rounds of loops become so many lanes.
-fn prepare(alloc: Global, lanes: u64, program: Program) -> Result<Program, NoMemory>
-    requires { IsLaneCount lanes }
-    ensures { IfOk result
-        (λ made. plain_program made ≡ prepared lanes (plain_program program)) }
-{
-    let program = interchange(program);
-    if lanes == 1 {
-        return Ok(program);
-    }
-    let made = lane_loops(alloc, lanes, program)?;
-    Ok(made)
-}
 
 // The C text of a program that is asked for.
 fn fast_text_of(alloc: Global, options: Options<'_>, program: Program) -> Result<Vec<u8>, NoMemory>
@@ -59,7 +43,7 @@ fn fast_text_of(alloc: Global, options: Options<'_>, program: Program) -> Result
     ensures sound { IfOk result
         (λ _. AreSoundWords options.entry.size options.entry.lanes (plain_program program)) }
 {
-    let program = prepare(alloc, options.lanes, program)?;
+    let program = prepare(alloc, options.size, options.lanes, program)?;
     let words = make_fast(alloc, options.size, &program)?;
     let words = work_in_place(alloc, &program, words)?;
     let text = print_words(alloc, options.form, &words)?;

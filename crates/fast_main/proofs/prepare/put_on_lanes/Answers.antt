@@ -3,7 +3,7 @@ use Rattle.std.specs.Prelude.{if◌then◌else◌}
 use Rattle.icode.specs.Program.{plain_program}
 use Rattle.loop_interchange.specs.Interchange.{interchanged}
 use Rattle.loop_lanes.specs.Lanes.{laned}
-use Rattle.fast_main.proofs.run.prepare.Goals as goal
+use Rattle.fast_main.proofs.prepare.put_on_lanes.Goals as goal
 
 pub returns : goal.returns
 returns c =

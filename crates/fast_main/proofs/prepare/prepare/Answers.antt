@@ -1,0 +1,15 @@
+use Rattle.std.proofs.Common.{ap, sym, ◌∙◌}
+use Rattle.std.specs.Prelude.{if◌then◌else◌}
+use Rattle.icode.specs.Plain.{PlainProgram}
+use Rattle.icode.specs.Program.{plain_program}
+use Rattle.two_tables.specs.TwoTables.{factored, large_table}
+use Rattle.fast_main.specs.Translation.{has_cheap_products, on_lanes}
+use Rattle.fast_main.proofs.Faithful.{lanes_fit, lanes_apart}
+use Rattle.fast_main.proofs.prepare.prepare.Goals as goal
+
+pub factor_tables-requires : goal.factor_tables-requires
+factor_tables-requires c =
+    record {
+      fits = lanes_fit c.args.lanes c.args.program c.in_ok-there.there c.requires.lanes c.in_ok-there.ensures c.requires.fits c.requires.apart;
+      apart = lanes_apart c.args.lanes c.args.program c.in_ok-there.there c.requires.lanes c.in_ok-there.ensures c.requires.fits c.requires.apart;
+    }

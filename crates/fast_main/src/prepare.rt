@@ -1,0 +1,61 @@
+// What becomes of a program before it is one on words.
+ghost use Rattle.std.specs.Prelude.{◌≡◌, ℕ, IfOk};
+ghost use Rattle.icode.specs.Machine.{IsApart};
+ghost use Rattle.icode.specs.Program.{plain_program, code_of, Fits};
+ghost use Rattle.fast_words.specs.Asked.{IsLaneCount};
+ghost use Rattle.fast_main.specs.Translation.{has_cheap_products, on_lanes, prepared};
+
+use icode::program::Program;
+use loop_interchange::interchange;
+use loop_lanes::lane_loops;
+use memory::NoMemory;
+use std::alloc::Global;
+use two_tables::{LARGE_TABLE, factor_tables};
+use word_code::choose::WordSize;
+
+/// Whether two products cost less than an entry of a large table.
+fn has_cheap_products(size: WordSize, modulus: u64) -> bool
+    ensures { result ≡ has_cheap_products size modulus }
+{
+    match size {
+        WordSize::Any => modulus < 0x8000_0000,
+        WordSize::Of32 => true,
+        WordSize::Of52 => true,
+        WordSize::Of64 => false,
+    }
+}
+
+// The program where loops are interchanged, and where rounds of loops become so many lanes.
+fn put_on_lanes(alloc: Global, lanes: u64, program: Program) -> Result<Program, NoMemory>
+    requires { IsLaneCount lanes }
+    ensures { IfOk result
+        (λ made. plain_program made ≡ on_lanes lanes (plain_program program)) }
+{
+    let program = interchange(program);
+    if lanes == 1 {
+        return Ok(program);
+    }
+    let made = lane_loops(alloc, lanes, program)?;
+    Ok(made)
+}
+
+/// That, where large tables are in two factors if products are cheap.
+pub(crate) fn prepare(
+    alloc: Global,
+    size: WordSize,
+    lanes: u64,
+    program: Program,
+) -> Result<Program, NoMemory>
+    requires lanes { IsLaneCount lanes }
+    requires fits { Fits program }
+    requires apart { (phase : ℕ) → IsApart (code_of program) phase }
+    ensures { IfOk result
+        (λ made. plain_program made ≡ prepared size lanes (plain_program program)) }
+{
+    let there = put_on_lanes(alloc, lanes, program)?;
+    if !has_cheap_products(size, there.modulus) {
+        return Ok(there);
+    }
+    let made = factor_tables(alloc, LARGE_TABLE, there)?;
+    Ok(made)
+}
