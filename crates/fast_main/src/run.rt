@@ -15,6 +15,7 @@ ghost use Rattle.fast_words.specs.Asked.{IsLaneCount};
 ghost use Rattle.fast_main.specs.Translation.{fast_text, AreSoundWords};
 
 use crate::Status;
+use crate::prepare::prepare;
 use crate::rows::write_note;
 use crate::words::bits_of;
 use code_check::verify;
