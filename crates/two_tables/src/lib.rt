@@ -10,4 +10,4 @@ mod room;
 mod split;
 mod tables;
 
-pub use tables::factor_tables;
+pub use tables::{LARGE_TABLE, factor_tables};
