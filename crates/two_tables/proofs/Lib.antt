@@ -1,12 +1,12 @@
 mod Bodies
 mod Cutting
 mod Dividing
-mod Law
+pub mod Law
 mod Listed
 mod Made
 mod Placed
 mod Products
-mod Programs
+pub mod Programs
 mod Pushed
 mod Registers
 mod Replaced
