@@ -1,5 +1,5 @@
 -- Columns on v lanes, turned by tiles, leave what v rounds write.
-use Rattle.std.proofs.Common.{◌≡◌, ℕ, zero, suc, ◌+◌, ◌*◌, ◌/◌, ◌%◌, ◌<◌, ◌≤◌, true, not, List, [], ◌∷◌, ◌++◌, Contains, Option, Some, None, map, flat_map, length, take, refl, sym, ap, ap₂, ◌∙◌, arith, inl, inr, subst, eqb-true, leb-true, mul_comm, take-append-drop}
+use Rattle.std.proofs.Common.{◌≡◌, ℕ, zero, suc, ◌+◌, ◌*◌, ◌/◌, ◌%◌, ◌<◌, ◌≤◌, Bool, true, not, List, [], ◌∷◌, ◌++◌, Contains, Option, Some, None, map, flat_map, length, take, refl, sym, ap, ap₂, ◌∙◌, arith, inl, inr, subst, eqb-true, leb-true, mul_comm, take-append-drop}
 use Rattle.std.specs.Prelude.{◌==◌, ◌&&◌, nat_le, slice_index}
 use Rattle.std.specs.List.{list_all, range_with_len}
 use Rattle.std.proofs.lemmas.List.{length-take-le}
@@ -13,7 +13,7 @@ use Rattle.code_laws.proofs.Stores.{length-registers}
 use Rattle.loop_interchange.specs.Places.{are_linear, stride}
 use Rattle.loop_interchange.specs.Rounds.{Stored, are_fresh}
 use Rattle.loop_interchange.proofs.Linear.{wrong}
-use Rattle.loop_lanes.specs.Columns.{Columns, Factors, renumbered, renumbered_op, are_distinct, are_products, factored_registers, front_length, last_products, plain_columns, factored_columns, are_tiles, are_columns, are_by, tile_at, in_columns}
+use Rattle.loop_lanes.specs.Columns.{Columns, Factors, renumbered, renumbered_op, are_distinct, are_products, factored_registers, front_length, last_products, plain_columns, factored_columns, are_tiles, are_columns, are_by, in_columns}
 use Rattle.loop_lanes.specs.Layers.{Write, IsAfter, IsGroup, LeaveWrites, memory_by, ColumnsWrite, FactoredColumnsWrite, written, values_put, round_writes, group_writes}
 use Rattle.loop_lanes.specs.Rounds.{straight, is_store, is_by_lane, in_row, stores, others, stored_registers, stored_constants, are_from}
 use Rattle.loop_lanes.proofs.Held.{IsFront, HoldsFront, values_in, front_after}
@@ -22,7 +22,7 @@ use Rattle.loop_lanes.proofs.Orders.{some_lanes, group_fits}
 use Rattle.loop_lanes.proofs.Parted.{all_taken, from_at, others_put, others_fresh, taken_fresh, length-stored_registers, stored_low, puts_low}
 use Rattle.loop_lanes.proofs.Renumbered.{renumbered_is, renumbered_apart, renumbered_at}
 use Rattle.loop_lanes.proofs.RoundWrites.{acts_in, acts-append, others_values, values_follow, products_low, products_put, writes_in_order}
-use Rattle.loop_lanes.proofs.Tiled.{Leave, AreLinearBy, stored_in, write_in, wide_acts, wide-append, in_tiles}
+use Rattle.loop_lanes.proofs.Tiled.{Leave, AreLinearBy, stored_in, write_in, wide_acts, wide-append, tile_ops, in_tiles}
 use Rattle.loop_lanes.proofs.Turned.{by_rounds, by_tiles, turned_after}
 
 -- ---- what the tests tell
@@ -36,7 +36,8 @@ pub record AreColumns (v loop : ℕ) (to : Stored) (ops : List PlainOp) (c : Col
   pub front_by_lane : list_all (is_by_lane loop to) c.front ≡ true
   pub distinct : are_distinct c.turned ≡ true
 
-pub columns_told : (v loop : ℕ) (to : Stored) (ops : List PlainOp) (c : Columns) → are_columns v loop to ops c ≡ true → AreColumns v loop to ops c
+pub columns_told : (v loop : ℕ) (to : Stored) (ops : List PlainOp) (c : Columns) → are_columns v loop to ops c ≡ true →
+    AreColumns v loop to ops c
 columns_told v loop to ops c h =
     let m : ℕ = length c.turned in
     let tiles = both_true (are_tiles v loop to ops c) _ h in
@@ -62,9 +63,10 @@ loops_same : {X : Type 0} (f g : ℕ → List X) (j n : ℕ) → ((i : ℕ) → 
     flat_map f (range_with_len j n) ≡ flat_map g (range_with_len j n)
 loops_same f g j zero h = refl
 loops_same f g j (suc n) h =
-    ap₂ (λ x xs. x ++ xs) (h j (omega arith) (omega arith)) (loops_same f g (j + 1) n (λ i from to. h i (omega (arith, from)) (omega (arith, to))))
+    ap₂ (λ x xs. x ++ xs) (h j (omega arith) (omega arith))
+    (loops_same f g (j + 1) n (λ i from to. h i (omega (arith, from)) (omega (arith, to))))
 
--- what is known of the operations before the tiles: they put registers of the program, and those that are turned are among these
+-- the operations before the tiles put registers of the program, and those that are turned are among these
 record IsBefore (p : PlainProgram) (c : Columns) : Type 0 where
   fresh : are_fresh 1 0 (straight c.front) ≡ true
   puts : list_all (λ op. not (is_store op)) c.front ≡ true
@@ -79,14 +81,16 @@ module _ (v : ℕ) (p : PlainProgram) (to : Stored) (ops : List PlainOp) (vs : L
   -- the round stores what becomes of it
   abbrev AreStored : Columns → Type 0
   AreStored c =
-      (memory : List ℕ) (l j : ℕ) → l < v → j < length c.turned → length (values_in v p memory c.front vs b q l) ≡ length c.front →
+      (memory : List ℕ) (l j : ℕ) → l < v → j < length c.turned → length (values_in v p memory c.front vs b q l)
+      ≡ length c.front →
       slice_index (values_in v p memory ops vs b q l) (slice_index (stored_registers ops) j)
       ≡ stored_in v p to vs b q c.by l j (held_in c memory l j)
 
   -- what the group writes
   group-by_rounds : (c : Columns) (memory : List ℕ) → AreColumns v (length vs) to ops c →
       ((l : ℕ) → l < v → length (values_in v p memory c.front vs b q l) ≡ length c.front) → AreStored c →
-      group_writes v p memory ops vs b q ≡ by_rounds v (length c.turned) (write_in v p to vs b q c.by (held_in c memory))
+      group_writes v p memory ops vs b q
+      ≡ by_rounds v (length c.turned) (write_in v p to vs b q c.by (held_in c memory))
   group-by_rounds c memory are long stored =
       loops_same (λ l. round_writes p memory ops (vs ++ (v * b + l) ∷ []) q) _ 0 v (λ l from to_there.
       let below : l < v = omega (arith, to_there) in
@@ -114,11 +118,13 @@ module _ (v : ℕ) (p : PlainProgram) (to : Stored) (ops : List PlainOp) (vs : L
               | inr two ↦ omega (arith, two.1, are.few, before.short)
             ];
         apart = λ r k below under e.
-            renumbered_apart p.regs c.turned r k (omega (arith, below, before.short)) (omega (arith, under, before.short)) e;
+            renumbered_apart p.regs c.turned r k (omega (arith, below, before.short))
+            (omega (arith, under, before.short)) e;
       }
 
   columns-write : (c : Columns) → IsGroup v p to ops vs b q → AreColumns v (length vs) to ops c → IsBefore p c →
-      AreLinearBy v p to vs b q c.by → AreStored c → LeaveWrites v p (in_columns v p.regs (length vs) to c) ops vs b q
+      AreLinearBy v p to vs b q c.by → AreStored c →
+      LeaveWrites v p (in_columns v p.regs (length vs) to c) ops vs b q
   columns-write c group are before linear_by stored r memory room =
       record {
         done = turned.done;
@@ -149,7 +155,7 @@ module _ (v : ℕ) (p : PlainProgram) (to : Stored) (ops : List PlainOp) (vs : L
       front = map (λ op. renumbered_op f (in_row v (length vs) op)) c.front
 
       tiles : List PlainOp
-      tiles = flat_map (λ g. tile_at v (length vs) to c.by (p.regs + m + g * v) (p.regs + g * v) (g * v)) (range_with_len 0 (m / v))
+      tiles = flat_map (tile_ops v p to vs b q group.linear c.by m) (range_with_len 0 (m / v))
 
       held : HoldsFront v p f c.front vs b q begun
       held = front_held v p to f c.front vs b q begun (front-is c group.alone are before) room
@@ -162,7 +168,8 @@ module _ (v : ℕ) (p : PlainProgram) (to : Stored) (ops : List PlainOp) (vs : L
 
       left : Leave p.modulus v (wide_acts v p to vs b q tiles) (λ i. i < p.regs + m) after done
       left =
-          in_tiles v p to vs b q group.linear c.by m (m / v) after (held_in c memory) linear_by (omega (arith, are.few, before.short)) whole
+          in_tiles v p to vs b q group.linear c.by m (m / v) after (held_in c memory) linear_by
+          (omega (arith, are.few, before.short)) whole
           (omega (arith, room, length-registers p.modulus v (wide_acts v p to vs b q front) begun))
           (λ l j low below.
           ap (lane_of v after.registers l) (sym (renumbered_at p.regs c.turned j are.distinct below))
@@ -171,7 +178,8 @@ module _ (v : ℕ) (p : PlainProgram) (to : Stored) (ops : List PlainOp) (vs : L
       leaves : memory_by p.modulus v (wide_acts v p to vs b q (front ++ tiles)) r memory ≡ written memory done
       leaves =
           ap (λ acts. memory_by p.modulus v acts r memory) (wide-append v p to vs b q front tiles)
-          ∙ ap (λ (z : Local). z.memory) (lists_follow p.modulus v (wide_acts v p to vs b q front) (wide_acts v p to vs b q tiles) begun)
+          ∙ ap (λ (z : Local). z.memory)
+          (lists_follow p.modulus v (wide_acts v p to vs b q front) (wide_acts v p to vs b q tiles) begun)
           ∙ left.memory
           ∙ ap (λ words. written words done) held.memory
 
@@ -184,7 +192,8 @@ module _ (v : ℕ) (p : PlainProgram) (to : Stored) (ops : List PlainOp) (vs : L
 -- ---- plain columns
 
 -- the first round fits, so the registers that are put are the program's
-short-others : (v : ℕ) (p : PlainProgram) (to : Stored) (ops : List PlainOp) (vs : List ℕ) (b q : ℕ) → IsGroup v p to ops vs b q →
+short-others : (v : ℕ) (p : PlainProgram) (to : Stored) (ops : List PlainOp) (vs : List ℕ) (b q : ℕ) →
+    IsGroup v p to ops vs b q →
     length (others ops) ≤ p.regs
 short-others v p to ops vs b q group =
     omega (
@@ -205,18 +214,30 @@ columns_write v p to ops vs b q group h =
     })
     tt
     (λ memory l j low below long.
-    ap (λ xs. slice_index xs (slice_index (stored_registers ops) j)) (others_values p (vs ++ (v * b + l) ∷ []) q memory [] ops))
+    ap (λ xs. slice_index xs (slice_index (stored_registers ops) j))
+    (others_values p (vs ++ (v * b + l) ∷ []) q memory [] ops))
 
 -- ---- factored columns
 
+-- what the test tells of products
+by_told : (v loop : ℕ) (ops : List PlainOp) (by : Factors) → are_by v loop ops (Some by) ≡ true →
+    (are_linear 0 by.parts ≡ true)
+    × (are_products by (front_length ops) 0 (last_products ops) ≡ true)
+    × (are_from (front_length ops) (stored_registers ops) ≡ true)
+by_told v loop ops by h =
+    let small : Bool = is_small (by.constant + (length (stores ops) + v * stride loop by.parts)) in
+    let both = both_true (are_linear 0 by.parts && small) _ h in
+    let two = both_true _ (are_from (front_length ops) (stored_registers ops)) both.1 in
+    ((both_true (are_linear 0 by.parts) small both.0).0, two.0, two.1)
+
 -- what is stored is a product, of what was put before the products
-factored-stored : (v : ℕ) (p : PlainProgram) (to : Stored) (ops : List PlainOp) (vs : List ℕ) (b q : ℕ) (by : Option Factors) →
-    p.lanes ≡ 1 → are_by v (length vs) ops by ≡ true → length (stores ops) ≡ length (factored_registers (last_products ops)) →
-    (memory : List ℕ) (l j : ℕ) → j < length (factored_registers (last_products ops)) →
-    length (values_in v p memory (take (front_length ops) (others ops)) vs b q l) ≡ length (take (front_length ops) (others ops)) →
+factored-stored : (v : ℕ) (p : PlainProgram) (to : Stored) (ops : List PlainOp) (vs : List ℕ) (b q : ℕ)
+    (by : Option Factors) →
+    p.lanes ≡ 1 → are_by v (length vs) ops by ≡ true → length (stores ops) ≡ length (factored_columns ops).turned →
+    (memory : List ℕ) (l j : ℕ) → j < length (factored_columns ops).turned →
+    length (values_in v p memory (factored_columns ops).front vs b q l) ≡ length (factored_columns ops).front →
     slice_index (values_in v p memory ops vs b q l) (slice_index (stored_registers ops) j)
-    ≡ stored_in v p to vs b q by l j
-    (slice_index (values_in v p memory (take (front_length ops) (others ops)) vs b q l) (slice_index (factored_registers (last_products ops)) j))
+    ≡ stored_in v p to vs b q by l j (held_in v p to ops vs b q (factored_columns ops) memory l j)
 factored-stored v p to ops vs b q None alone h many memory l j below long = wrong h
 factored-stored v p to ops vs b q (Some by) alone h many memory l j below long =
     let us : List ℕ = vs ++ (v * b + l) ∷ [] in
@@ -224,37 +245,36 @@ factored-stored v p to ops vs b q (Some by) alone h many memory l j below long =
     let front : List PlainOp = take n (others ops) in
     let products : List PlainOp = last_products ops in
     let xs : List ℕ = values_in v p memory front vs b q l in
-    let two =
-    both_true (are_products by n 0 products) (are_from n (stored_registers ops))
-    (both_true (are_linear 0 by.parts && is_small (by.constant + (length (stores ops) + v * stride (length vs) by.parts))) _ h).1 in
+    let told = by_told v (length vs) ops by h in
     let size : length xs ≡ n = long ∙ length-take-le n (others ops) (omega arith) in
     let last : slice_index (stored_registers ops) j ≡ length xs + j =
-    from_at n (stored_registers ops) j two.1 (omega (arith, below, many, length-stored_registers ops)) ∙ ap (λ k. k + j) (sym size) in
+    from_at n (stored_registers ops) j told.2 (omega (arith, below, many, length-stored_registers ops))
+    ∙ ap (λ k. k + j) (sym size) in
     let parted : values_in v p memory ops vs b q l ≡ values_put p.modulus memory xs (acts_in p us q products) =
     others_values p us q memory [] ops
     ∙ ap (λ zs. values_put p.modulus memory [] (acts_in p us q zs)) (sym (take-append-drop n (others ops)))
     ∙ ap (values_put p.modulus memory []) (acts-append p us q front products)
     ∙ values_follow p.modulus memory [] (acts_in p us q front) (acts_in p us q products) in
     let first : 0 + j ≡ j = omega arith in
+    let x : ℕ = slice_index xs (slice_index (factored_registers products) j) in
     ap₂ (λ zs k. slice_index zs k) parted last
-    ∙ products_put p us q by n 0 products memory xs j alone two.0 (omega (arith, size)) below
-    ∙ ap (λ k. stored_in v p to vs b q (Some by) l k (slice_index xs (slice_index (factored_registers products) j))) first
+    ∙ products_put p us q by n 0 products memory xs j alone told.1 (omega (arith, size)) below
+    ∙ ap (λ k. stored_in v p to vs b q (Some by) l k x) first
 
--- registers that are multiplied were put before the products, and factors are by linear places
+-- registers that are multiplied were put before the products
 factored-low : (v loop : ℕ) (ops : List PlainOp) (by : Option Factors) → are_by v loop ops by ≡ true →
-    (j : ℕ) → j < length (factored_registers (last_products ops)) → slice_index (factored_registers (last_products ops)) j < front_length ops
+    (j : ℕ) → j < length (factored_registers (last_products ops)) →
+    slice_index (factored_registers (last_products ops)) j < front_length ops
 factored-low v loop ops None h j below = wrong h
 factored-low v loop ops (Some by) h j below =
-    products_low by (front_length ops) 0 (last_products ops) j
-    (both_true (are_products by (front_length ops) 0 (last_products ops)) _
-    (both_true (are_linear 0 by.parts && is_small (by.constant + (length (stores ops) + v * stride loop by.parts))) _ h).1).0 below
+    products_low by (front_length ops) 0 (last_products ops) j (by_told v loop ops by h).1 below
 
-factored-linear : (v : ℕ) (p : PlainProgram) (to : Stored) (ops : List PlainOp) (vs : List ℕ) (b q : ℕ) (by : Option Factors) →
+-- factors are by linear places
+factored-linear : (v : ℕ) (p : PlainProgram) (to : Stored) (ops : List PlainOp) (vs : List ℕ) (b q : ℕ)
+    (by : Option Factors) →
     are_by v (length vs) ops by ≡ true → AreLinearBy v p to vs b q by
 factored-linear v p to ops vs b q None h = tt
-factored-linear v p to ops vs b q (Some by) h =
-    (both_true (are_linear 0 by.parts) _
-    (both_true (are_linear 0 by.parts && is_small (by.constant + (length (stores ops) + v * stride (length vs) by.parts))) _ h).0).0
+factored-linear v p to ops vs b q (Some by) h = (by_told v (length vs) ops by h).0
 
 pub factored_columns_write : FactoredColumnsWrite
 factored_columns_write v p to ops vs b q group h =
@@ -271,4 +291,5 @@ factored_columns_write v p to ops vs b q group h =
       low = λ j below. omega (arith, size, factored-low v (length vs) ops c.by two.0 j below);
     })
     (factored-linear v p to ops vs b q c.by two.0)
-    (λ memory l j low below long. factored-stored v p to ops vs b q c.by group.alone two.0 are.many memory l j below long)
+    (λ memory l j low below long.
+    factored-stored v p to ops vs b q c.by group.alone two.0 are.many memory l j below long)

@@ -1,7 +1,7 @@
 -- Steps of v lanes that touch words of a group's steps alone, and fit.
-use Rattle.std.proofs.Common.{◌≡◌, ℕ, zero, suc, ◌+◌, ◌*◌, ◌<◌, ◌≤◌, List, [], ◌∷◌, ◌++◌, All, Contains, flat_map, map, length, sym, subst, arith, ⊎_elim}
+use Rattle.std.proofs.Common.{◌≡◌, ℕ, zero, suc, ◌+◌, ◌*◌, ◌<◌, ◌≤◌, List, [], ◌∷◌, ◌++◌, All, Contains, flat_map, length, sym, subst, arith, ⊎_elim}
 use Rattle.std.specs.List.{range_with_len}
-use Rattle.std.proofs.lemmas.List.Elements.{All-contains, Contains-append_left, Contains-append_right, Contains-append_cases}
+use Rattle.std.proofs.lemmas.List.Elements.{All-nil, All-head, All-tail, All-append, All-contains, Contains-append_left, Contains-append_right, Contains-append_cases}
 use Rattle.icode.specs.declared.action.Action.{Action}
 use Rattle.icode.specs.Actions.{Step, StepFits, step_of, actions_of}
 use Rattle.icode.specs.Machine.{stored_words, touched_words}
@@ -40,46 +40,30 @@ pub record IsCovered (v : ℕ) (p : PlainProgram) (old : List Step) (s : Step) :
   pub touched : (k : ℕ) → Contains (touched_words v s.action) k → Contains (touched_by 1 (actions_of old)) k
   pub fits : StepFits (on_lanes v p) s
 
+-- what holds in each round of a loop
+pub all-loop : {X : Type 0} (P : X → Type 0) (f : ℕ → List X) (a n : ℕ) →
+    ((i : ℕ) → a ≤ i → i < a + n → All P (f i)) → All P (flat_map f (range_with_len a n))
+all-loop P f a zero h = All-nil P
+all-loop P f a (suc n) h =
+    All-append P (f a) (flat_map f (range_with_len (a + 1) n)) (h a (omega arith) (omega arith))
+    (all-loop P f (a + 1) n (λ i low high. h i (omega (arith, low)) (omega (arith, high))))
+
 module _ (v : ℕ) (p : PlainProgram) (old : List Step) (ws : List ℕ) (q : ℕ) where
-  -- the steps of operations are
-  abbrev pub OpsCovered : List PlainOp → Type 0
-  OpsCovered ops = (op : PlainOp) → Contains ops op → IsCovered v p old (step_of (on_lanes v p) op ws q)
+  -- the step of an operation is
+  abbrev pub IsOpCovered : PlainOp → Type 0
+  IsOpCovered op = IsCovered v p old (step_of (on_lanes v p) op ws q)
 
-  pub ops-nil : OpsCovered []
-  ops-nil op h = absurd (Contains-nil op h)
-
-  pub ops-append : (xs ys : List PlainOp) → OpsCovered xs → OpsCovered ys → OpsCovered (xs ++ ys)
-  ops-append xs ys first second op h =
-      ⊎_elim (λ here. first op here) (λ later. second op later) (Contains-append_cases xs ys op h)
-
-  pub ops-cons : (x : PlainOp) (xs : List PlainOp) → IsCovered v p old (step_of (on_lanes v p) x ws q) → OpsCovered xs →
-      OpsCovered (x ∷ xs)
-  ops-cons x xs first rest op (zero, lt, e) = subst (λ y. IsCovered v p old (step_of (on_lanes v p) y ws q)) e first
-  ops-cons x xs first rest op (suc k, lt, e) = rest op (k, omega arith, e)
-
-  pub ops-loop : (f : ℕ → List PlainOp) (a n : ℕ) → ((i : ℕ) → a ≤ i → i < a + n → OpsCovered (f i)) →
-      OpsCovered (flat_map f (range_with_len a n))
-  ops-loop f a zero h = ops-nil
-  ops-loop f a (suc n) h =
-      ops-append (f a) (flat_map f (range_with_len (a + 1) n)) (h a (omega arith) (omega arith))
-      (ops-loop f (a + 1) n (λ i low high. h i (omega (arith, low)) (omega (arith, high))))
-
-  pub ops-map : (f : PlainOp → PlainOp) (xs : List PlainOp) →
-      ((op : PlainOp) → Contains xs op → IsCovered v p old (step_of (on_lanes v p) (f op) ws q)) →
-      OpsCovered (map f xs)
-  ops-map f [] h = ops-nil
-  ops-map f (x ∷ xs) h =
-      ops-cons (f x) (map f xs) (h x (Contains-head x xs)) (ops-map f xs (λ op has. h op (Contains-tail x xs op has)))
-
-  steps_covered : (ops : List PlainOp) → OpsCovered ops → (s : Step) → Contains (steps_at (on_lanes v p) ops ws q) s →
-      IsCovered v p old s
+  steps_covered : (ops : List PlainOp) → All IsOpCovered ops → (s : Step) →
+      Contains (steps_at (on_lanes v p) ops ws q) s → IsCovered v p old s
   steps_covered [] covered s h = absurd (Contains-nil s h)
-  steps_covered (op ∷ ops) covered s (zero, lt, e) = subst (IsCovered v p old) e (covered op (Contains-head op ops))
+  steps_covered (op ∷ ops) covered s (zero, lt, e) =
+      subst (IsCovered v p old) e (All-head IsOpCovered op ops covered)
   steps_covered (op ∷ ops) covered s (suc k, lt, e) =
-      steps_covered ops (λ x has. covered x (Contains-tail op ops x has)) s (k, omega arith, e)
+      steps_covered ops (All-tail IsOpCovered op ops covered) s (k, omega arith, e)
 
   -- and leave the same memory, and are no more
-  pub lanes_from : (ops : List PlainOp) → OpsCovered ops → length (steps_at (on_lanes v p) ops ws q) ≤ length old →
+  pub lanes_from : (ops : List PlainOp) → All IsOpCovered ops →
+      length (steps_at (on_lanes v p) ops ws q) ≤ length old →
       ((r s memory : List ℕ) → 3 * p.regs * v ≤ length r → p.regs ≤ length s →
       memory_by p.modulus v (actions_of (steps_at (on_lanes v p) ops ws q)) r memory ≡ memory_by p.modulus 1
       (actions_of old) s memory) →

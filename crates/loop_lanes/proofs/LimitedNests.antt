@@ -1,7 +1,7 @@
 -- Rounds, nests and programs on lanes stand within the limits of programs.
-use Rattle.std.proofs.Common.{◌≡◌, ℕ, zero, suc, ◌+◌, ◌*◌, ◌/◌, ◌%◌, ◌^◌, ◌<◌, ◌≤◌, true, List, [], ◌∷◌, All, Contains, Option, Some, None, map, flat_map, length, refl, sym, ap, ◌∙◌, subst, arith, eqb-true, ltb-true, lt-ltb, mul-le-mul_left, ⊎_elim}
-use Rattle.std.specs.Prelude.{◌==◌, nat_lt}
-use Rattle.std.specs.List.{range_with_len, list_all}
+use Rattle.std.proofs.Common.{◌≡◌, ℕ, zero, suc, ◌+◌, ◌*◌, ◌/◌, ◌%◌, ◌^◌, ◌<◌, ◌≤◌, true, List, [], ◌∷◌, All, Contains, Option, Some, None, map, length, refl, sym, ap, ◌∙◌, subst, arith, eqb-true, ltb-true, lt-ltb, mul-le-mul_left, ⊎_elim}
+use Rattle.std.specs.Prelude.{◌==◌, nat_le, nat_lt}
+use Rattle.std.specs.List.{list_all}
 use Rattle.std.proofs.Math.Nat.{div-add-mod, div-mul-le_self}
 use Rattle.std.proofs.lemmas.Bool.{and_parts, and_from, true≢false}
 use Rattle.std.proofs.lemmas.List.{length-map}
@@ -19,6 +19,7 @@ use Rattle.loop_interchange.proofs.Members.{all_of_members}
 use Rattle.loop_lanes.specs.Rounds.{straight, ops_in, stores, widened_parts, is_by_lane, are_rows, in_row}
 use Rattle.loop_lanes.specs.Columns.{Columns, Factors, renumbered, renumbered_op, plain_columns, factored_columns, product_at, row_at, tile_at, in_columns}
 use Rattle.loop_lanes.specs.Lanes.{IsLanes, can_lane, laned_ops, laned_round, last_count, is_lanable, are_lanable, narrowed, laned_nest, laned_body}
+use Rattle.loop_lanes.proofs.Covered.{all-loop}
 use Rattle.loop_lanes.proofs.Limited.{StaysSmall, op-within, place-within, small-less}
 use Rattle.loop_lanes.proofs.Nests.{straight-is}
 use Rattle.loop_lanes.proofs.Parts.{IsOther, AreSome, are_some, stored_each}
@@ -42,13 +43,6 @@ within-straight m n [] h = All-nil (λ op. is_op_within m op n ≡ true)
 within-straight m n (op ∷ ops) h =
     let two = and_parts (is_op_within m op n) _ h in
     All-cons (λ op. is_op_within m op n ≡ true) op ops two.0 (within-straight m n ops two.1)
-
-all-loop : {X : Type 0} (P : X → Type 0) (f : ℕ → List X) (a n : ℕ) → ((i : ℕ) → a ≤ i → i < a + n → All P (f i)) →
-    All P (flat_map f (range_with_len a n))
-all-loop P f a zero h = All-nil P
-all-loop P f a (suc n) h =
-    All-append P (f a) (flat_map f (range_with_len (a + 1) n)) (h a (omega arith) (omega arith))
-    (all-loop P f (a + 1) n (λ i low high. h i (omega (arith, low)) (omega (arith, high))))
 
 -- ---- rounds
 
@@ -123,7 +117,9 @@ module _ (m v loop n regs : ℕ) (to : Stored) (ops : List PlainOp) (lanes : Are
         let room = tests.apart in
         let some = lanes.some in
         let is_many = tests.columns.many in
-        let is = stored_each loop to ops tests.columns.from tests.columns.stores_by_lane (g * v) (omega (arith, end, some, is_many)) in
+        let is =
+        stored_each loop to ops tests.columns.from tests.columns.stores_by_lane (g * v)
+        (omega (arith, end, some, is_many)) in
         let old =
         and_parts (is_small is.register) (is_expr_within (Sum (g * v) to.parts) n)
         (there (Store is.array (Sum (g * v) to.parts) is.register) is.has) in
@@ -259,7 +255,8 @@ nest-within m v regs (Do op) lanes few h within = wrong h
 nest-within m v regs (Loop count body) lanes few h within =
     let counts : List ℕ = counts_in body in
     let round : PlainBody = round_in body in
-    let tests = both_true (last_count count counts % v == 0) _ h in
+    let short = both_true (nat_le (length (stores (ops_in round))) 256) _ h in
+    let tests = both_true (last_count count counts % v == 0) _ short.1 in
     let more = both_true (are_fresh 1 0 round) _ tests.1 in
     narrowed-within m v (0 + 1 + length counts) count counts 0 round
     (laned_round v regs (length counts) round) lanes.some tests.0 refl

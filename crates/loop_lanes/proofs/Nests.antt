@@ -1,6 +1,6 @@
 -- Loops, one in the other, of which the innermost goes v rounds at a time, and bodies of phases.
 use Rattle.std.proofs.Common.{◌≡◌, ℕ, zero, suc, ◌+◌, ◌*◌, ◌<◌, ◌≤◌, List, [], ◌∷◌, ◌++◌, true, Contains, Option, Some, None, flat_map, length, refl, sym, ap, ap₂, ◌∙◌, subst, arith, length-append, eqb-true}
-use Rattle.std.specs.Prelude.{◌/◌, ◌%◌, ◌==◌}
+use Rattle.std.specs.Prelude.{◌/◌, ◌%◌, ◌==◌, nat_le}
 use Rattle.std.specs.List.{range_with_len}
 use Rattle.std.proofs.Math.Nat.{div-add-mod}
 use Rattle.std.proofs.Math.Path.{fun_ext}
@@ -16,7 +16,7 @@ use Rattle.loop_interchange.proofs.Changes.{in-loop}
 use Rattle.loop_interchange.proofs.Linear.{wrong}
 use Rattle.loop_interchange.proofs.Looped.{looped_is}
 use Rattle.loop_interchange.proofs.Rows.{StepsFit, all_fit}
-use Rattle.loop_lanes.specs.Rounds.{straight, ops_in}
+use Rattle.loop_lanes.specs.Rounds.{straight, ops_in, stores}
 use Rattle.loop_lanes.specs.Lanes.{IsLanes, can_lane, laned_ops, laned_round, last_count, is_lanable, are_lanable, narrowed, laned_nest, laned_body}
 use Rattle.loop_lanes.specs.Layers.{AreLanesFor, IsGroup, RoundsAreLanes, steps_at, group_at, on_lanes}
 use Rattle.loop_lanes.proofs.Joined.{lanes-nil, lanes-append, lanes-loop}
@@ -181,7 +181,8 @@ module _ (rounds_are : RoundsAreLanes) (v : ℕ) (p : PlainProgram) (q : ℕ) (i
   stmt_for (Loop count body) h fit =
       let counts : List ℕ = counts_in body in
       let round : PlainBody = round_in body in
-      let tests = both_true (last_count count counts % v == 0) _ h in
+      let short = both_true (nat_le (length (stores (ops_in round))) 256) _ h in
+      let tests = both_true (last_count count counts % v == 0) _ short.1 in
       let more = both_true (are_fresh 1 0 round) _ tests.1 in
       let old : steps_of_stmt p (Loop count (looped counts round)) [] q ≡ steps_of_stmt p (Loop count body) [] q =
       ap (λ inside. steps_of_stmt p (Loop count inside) [] q) (looped_is body) in

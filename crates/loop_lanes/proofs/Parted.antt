@@ -4,7 +4,7 @@ use Rattle.std.specs.Prelude.{slice_index, nat_lt, ◌==◌}
 use Rattle.std.specs.List.{list_all}
 use Rattle.std.proofs.lemmas.Bool.{and_from}
 use Rattle.icode.specs.Actions.{StepFits, step_of}
-use Rattle.icode.specs.Plain.{PlainOp, PlainProgram, Load, Store, Zero, Add, Sub, Neg, MulConst, MulTable, Tile}
+use Rattle.icode.specs.Plain.{PlainOp, PlainProgram, Store}
 use Rattle.icode.proofs.Bools.{both_true}
 use Rattle.loop_interchange.specs.Rounds.{is_fresh, put_after, are_fresh}
 use Rattle.loop_lanes.specs.Layers.{steps_at}
@@ -13,11 +13,13 @@ use Rattle.loop_lanes.proofs.Orders.{register_low}
 
 -- ---- lists
 
-pub all_taken : {X : Type 0} (f : X → Bool) (xs : List X) (n : ℕ) → list_all f xs ≡ true → list_all f (take n xs) ≡ true
+pub all_taken : {X : Type 0} (f : X → Bool) (xs : List X) (n : ℕ) → list_all f xs ≡ true →
+    list_all f (take n xs) ≡ true
 all_taken f xs zero h = refl
 all_taken f [] (suc n) h = refl
 all_taken f (x ∷ xs) (suc n) h =
-    let two = both_true (f x) (list_all f xs) h in and_from (f x) (list_all f (take n xs)) two.0 (all_taken f xs n two.1)
+    let two =
+    both_true (f x) (list_all f xs) h in and_from (f x) (list_all f (take n xs)) two.0 (all_taken f xs n two.1)
 
 -- numbers one behind the other
 pub from_at : (n : ℕ) (ks : List ℕ) (j : ℕ) → are_from n ks ≡ true → j < length ks → slice_index ks j ≡ n + j
@@ -32,19 +34,23 @@ others_put [] = refl
 others_put (Store array place r ∷ ops) = others_put ops
 others_put (op ∷ ops) = others_put ops
 
-pub others_fresh : (ops : List PlainOp) (next : ℕ) → are_fresh 1 next (straight ops) ≡ true → are_fresh 1 next (straight (others ops)) ≡ true
+pub others_fresh : (ops : List PlainOp) (next : ℕ) → are_fresh 1 next (straight ops) ≡ true →
+    are_fresh 1 next (straight (others ops)) ≡ true
 others_fresh [] next h = refl
 others_fresh (Store array place r ∷ ops) next h = others_fresh ops next (both_true (nat_lt r next) _ h).1
 others_fresh (op ∷ ops) next h =
     let two = both_true (is_fresh 1 next op) (are_fresh 1 (put_after 1 next op) (straight ops)) h in
-    and_from (is_fresh 1 next op) (are_fresh 1 (put_after 1 next op) (straight (others ops))) two.0 (others_fresh ops (put_after 1 next op) two.1)
+    and_from (is_fresh 1 next op) (are_fresh 1 (put_after 1 next op) (straight (others ops))) two.0
+    (others_fresh ops (put_after 1 next op) two.1)
 
-pub taken_fresh : (ops : List PlainOp) (next n : ℕ) → are_fresh 1 next (straight ops) ≡ true → are_fresh 1 next (straight (take n ops)) ≡ true
+pub taken_fresh : (ops : List PlainOp) (next n : ℕ) → are_fresh 1 next (straight ops) ≡ true →
+    are_fresh 1 next (straight (take n ops)) ≡ true
 taken_fresh ops next zero h = refl
 taken_fresh [] next (suc n) h = refl
 taken_fresh (op ∷ ops) next (suc n) h =
     let two = both_true (is_fresh 1 next op) (are_fresh 1 (put_after 1 next op) (straight ops)) h in
-    and_from (is_fresh 1 next op) (are_fresh 1 (put_after 1 next op) (straight (take n ops))) two.0 (taken_fresh ops (put_after 1 next op) n two.1)
+    and_from (is_fresh 1 next op) (are_fresh 1 (put_after 1 next op) (straight (take n ops))) two.0
+    (taken_fresh ops (put_after 1 next op) n two.1)
 
 -- ---- registers
 
@@ -54,11 +60,14 @@ length-stored_registers (Store array place r ∷ ops) = ap suc (length-stored_re
 length-stored_registers (op ∷ ops) = length-stored_registers ops
 
 -- what is stored has been put
-pub stored_low : (ops : List PlainOp) (next c : ℕ) → are_fresh 1 next (straight ops) ≡ true → c < length (stored_registers ops) →
+pub stored_low : (ops : List PlainOp) (next c : ℕ) → are_fresh 1 next (straight ops) ≡ true →
+    c < length (stored_registers ops) →
     slice_index (stored_registers ops) c < next + length (others ops)
 stored_low [] next c h below = absurd (omega arith)
-stored_low (Store array place r ∷ ops) next zero h below = omega (arith, ltb-true r next (both_true (nat_lt r next) _ h).0)
-stored_low (Store array place r ∷ ops) next (suc c) h below = stored_low ops next c (both_true (nat_lt r next) _ h).1 (omega arith)
+stored_low (Store array place r ∷ ops) next zero h below =
+    omega (arith, ltb-true r next (both_true (nat_lt r next) _ h).0)
+stored_low (Store array place r ∷ ops) next (suc c) h below =
+    stored_low ops next c (both_true (nat_lt r next) _ h).1 (omega arith)
 stored_low (op ∷ ops) next c h below =
     omega (arith, stored_low ops (put_after 1 next op) c (both_true (is_fresh 1 next op) _ h).1 below)
 
@@ -73,4 +82,5 @@ module _ (p : PlainProgram) (us : List ℕ) (q : ℕ) where
       let two = both_true (is_fresh 1 next op) (are_fresh 1 (put_after 1 next op) (straight ops)) h in
       let one = fits 0 (step_of p op us q) (omega arith) in
       let here = register_low p next op us q alone refl two.0 one in
-      omega (arith, puts_low ops (put_after 1 next op) alone two.1 (λ k d lt. fits (suc k) d (omega arith)) (omega (arith, here)))
+      let behind : put_after 1 next op ≤ p.regs = omega (arith, here) in
+      omega (arith, puts_low ops (put_after 1 next op) alone two.1 (λ k d lt. fits (suc k) d (omega arith)) behind)

@@ -1,10 +1,10 @@
 -- A round of v lanes stands for a group of v rounds, from the laws on what they write.
-use Rattle.std.proofs.Common.{◌≡◌, ℕ, zero, suc, ◌+◌, ◌*◌, ◌<◌, ◌≤◌, true, not, List, [], ◌∷◌, ◌++◌, Option, Some, None, map, flat_map, length, refl, sym, ap, ◌∙◌, subst, arith, eqb-true, length-append, mul-le-mul_left, ⊎_elim}
+use Rattle.std.proofs.Common.{◌≡◌, ℕ, zero, suc, ◌+◌, ◌*◌, ◌<◌, ◌≤◌, true, not, List, [], ◌∷◌, All, ◌++◌, Option, Some, None, map, flat_map, length, refl, sym, ap, ◌∙◌, subst, arith, eqb-true, length-append, mul-le-mul_left, ⊎_elim}
 use Rattle.std.specs.Prelude.{◌==◌, ◌/◌}
 use Rattle.std.specs.List.{range_with_len, list_all}
 use Rattle.std.proofs.Math.Nat.{div-mul-le_self}
 use Rattle.std.proofs.lemmas.List.{length-map}
-use Rattle.std.proofs.lemmas.List.Elements.{All-contains}
+use Rattle.std.proofs.lemmas.List.Elements.{All-nil, All-cons, All-append, All-map, All-contains}
 use Rattle.std.proofs.lemmas.List.Filters.{length-filter_both}
 use Rattle.std.proofs.lemmas.List.Sums.{AllPass-from_list_all}
 use Rattle.icode.specs.Actions.{Step, step_of, actions_of}
@@ -13,11 +13,12 @@ use Rattle.icode.proofs.Bools.{both_true}
 use Rattle.loop_interchange.specs.Places.{stride}
 use Rattle.loop_interchange.specs.Rounds.{Stored}
 use Rattle.loop_interchange.proofs.Linear.{wrong}
+use Rattle.loop_interchange.proofs.Members.{all_of_members}
 use Rattle.loop_lanes.specs.Rounds.{is_store, stores, others, is_by_lane, are_rows, in_row}
 use Rattle.loop_lanes.specs.Columns.{Columns, Factors, renumbered, renumbered_op, plain_columns, factored_columns, product_at, row_at, tile_at, in_columns}
 use Rattle.loop_lanes.specs.Lanes.{can_lane, laned_ops}
 use Rattle.loop_lanes.specs.Layers.{AreLanesFor, IsGroup, GroupsWrite, GroupsAreSure, LeaveWrites, RowsWrite, ColumnsWrite, FactoredColumnsWrite, RoundsAreLanes, memory_by, group_writes, steps_at, group_at, on_lanes}
-use Rattle.loop_lanes.proofs.Covered.{OpsCovered, ops-nil, ops-append, ops-cons, ops-loop, ops-map, lanes_from}
+use Rattle.loop_lanes.proofs.Covered.{IsOpCovered, all-loop, lanes_from}
 use Rattle.loop_lanes.proofs.FrontCovered.{AreLow, Covered, front_covered}
 use Rattle.loop_lanes.proofs.Orders.{some_lanes, group_fits}
 use Rattle.loop_lanes.proofs.Parted.{puts_low}
@@ -95,8 +96,11 @@ module _ (v : ℕ) (p : PlainProgram) (to : Stored) (ops : List PlainOp) (vs : L
   abbrev group : List Step
   group = group_at v p ops vs b q
 
+  abbrev IsDone : PlainOp → Type 0
+  IsDone = IsOpCovered v p group (vs ++ b ∷ []) q
+
   abbrev Cover : List PlainOp → Type 0
-  Cover = OpsCovered v p group (vs ++ b ∷ []) q
+  Cover = All IsDone
 
   some : 0 < v
   some = some_lanes v known.lanes
@@ -111,7 +115,8 @@ module _ (v : ℕ) (p : PlainProgram) (to : Stored) (ops : List PlainOp) (vs : L
   low : length (others ops) ≤ p.regs
   low =
       let few =
-      puts_low p (vs ++ (v * b + 0) ∷ []) q ops 0 known.alone known.fresh (group_fits v p ops vs b q 0 some known.fits) (omega arith) in
+      puts_low p (vs ++ (v * b + 0) ∷ []) q ops 0 known.alone known.fresh
+      (group_fits v p ops vs b q 0 some known.fits) (omega arith) in
       omega (arith, few)
 
   -- ---- rows
@@ -121,11 +126,12 @@ module _ (v : ℕ) (p : PlainProgram) (to : Stored) (ops : List PlainOp) (vs : L
       let two = both_true (stride loop to.parts == 1) _ h in
       let by_lane =
       AllPass-from_list_all (is_by_lane loop to) ops (both_true (list_all (is_by_lane loop to) ops) _ two.1).0 in
-      ops-map v p group (vs ++ b ∷ []) q (in_row v loop) ops (λ op has.
+      All-map IsDone (in_row v loop) ops
+      (all_of_members (λ op. IsDone (in_row v loop op)) ops (λ op has.
       subst (Covered v p ops vs b q some known.alone known.fits) (renumbered_none (in_row v loop op))
       (front_covered v p ops vs b q some known.alone known.fits (λ r. r) (λ r lt. omega (arith, lt)) to op known.linear
       (λ _. eqb-true (stride loop to.parts) 1 two.0)
-      (All-contains (λ op. is_by_lane loop to op ≡ true) ops op by_lane has) has))
+      (All-contains (λ op. is_by_lane loop to op ≡ true) ops op by_lane has) has)))
 
   rows_few : length (steps_at (on_lanes v p) (map (in_row v loop) ops) (vs ++ b ∷ []) q) ≤ length group
   rows_few =
@@ -152,55 +158,57 @@ module _ (v : ℕ) (p : PlainProgram) (to : Stored) (ops : List PlainOp) (vs : L
     front_ops : Cover (map (λ op. renumbered_op (renumbered p.regs c.turned) (in_row v loop op)) c.front)
     front_ops =
         let by_lane = AllPass-from_list_all (is_by_lane loop to) c.front tests.columns.front_by_lane in
-        ops-map v p group (vs ++ b ∷ []) q
-        (λ op. renumbered_op (renumbered p.regs c.turned) (in_row v loop op)) c.front (λ op has.
+        All-map IsDone (λ op. renumbered_op (renumbered p.regs c.turned) (in_row v loop op)) c.front
+        (all_of_members (λ op. IsDone (renumbered_op (renumbered p.regs c.turned) (in_row v loop op))) c.front
+        (λ op has.
         let other = All-contains (IsOther ops) c.front op tests.front has in
         front_covered v p ops vs b q some known.alone known.fits
         (renumbered p.regs c.turned) low_numbers to op known.linear
         (λ e. wrong (sym other.1 ∙ e))
-        (All-contains (λ op. is_by_lane loop to op ≡ true) c.front op by_lane has) other.0)
+        (All-contains (λ op. is_by_lane loop to op ≡ true) c.front op by_lane has) other.0))
 
     stored_at : (g i : ℕ) → g < m / v → i < v → IsStored to ops (g * v + i)
     stored_at g i there lt =
         let many = tests.columns.many in
         let within = tile_within g v m there in
-        stored_each loop to ops tests.columns.from tests.columns.stores_by_lane (g * v + i) (omega (arith, many, within, lt))
+        stored_each loop to ops tests.columns.from tests.columns.stores_by_lane (g * v + i)
+        (omega (arith, many, within, lt))
 
     product_ops : (by : Option Factors) → AreMultiplied v loop ops by m → (g l r : ℕ) → g < m / v → l < v →
         r < 3 * p.regs → Cover (product_at v loop by r (g * v) l)
-    product_ops None factors g l r there lt small = ops-nil v p group (vs ++ b ∷ []) q
+    product_ops None factors g l r there lt small = All-nil IsDone
     product_ops (Some by) factors g l r there lt small =
         let within = tile_within g v m there in
-        ops-cons v p group (vs ++ b ∷ []) q _ []
+        All-cons IsDone _ []
         (product_covered v p ops vs b q some known.alone known.fits by factors.linear (g * v)
         (λ i less. factors.each (g * v + i) (omega (arith, within, less))) l lt r small)
-        (ops-nil v p group (vs ++ b ∷ []) q)
+        (All-nil IsDone)
 
     row_ops : (g l r : ℕ) → g < m / v → l < v → r + l < 3 * p.regs → Cover (row_at v loop to c.by r (g * v) l)
     row_ops g l r there lt small =
-        ops-append v p group (vs ++ b ∷ []) q (product_at v loop c.by (r + l) (g * v) l) _
+        All-append IsDone (product_at v loop c.by (r + l) (g * v) l) _
         (product_ops c.by tests.factors g l (r + l) there lt small)
-        (ops-cons v p group (vs ++ b ∷ []) q _ []
+        (All-cons IsDone _ []
         (row_covered v p ops vs b q some known.alone known.fits to known.linear (g * v)
         (λ i less. stored_at g i there less) l lt (r + l) small)
-        (ops-nil v p group (vs ++ b ∷ []) q))
+        (All-nil IsDone))
 
     tile_ops : (g : ℕ) → g < m / v → Cover (tile_at v loop to c.by (p.regs + m + g * v) (p.regs + g * v) (g * v))
     tile_ops g there =
         let within = tile_within g v m there in
-        ops-cons v p group (vs ++ b ∷ []) q (Tile (p.regs + m + g * v) (p.regs + g * v)) _
+        All-cons IsDone (Tile (p.regs + m + g * v) (p.regs + g * v)) _
         (tile_covered v p ops vs b q some known.alone known.fits (p.regs + m + g * v) (p.regs + g * v)
         (omega (arith, within, turned_low)) (omega (arith, within)))
-        (ops-loop v p group (vs ++ b ∷ []) q (row_at v loop to c.by (p.regs + m + g * v) (g * v)) 0 v
+        (all-loop IsDone (row_at v loop to c.by (p.regs + m + g * v) (g * v)) 0 v
         (λ l from lt. row_ops g l (p.regs + m + g * v) there (omega (arith, lt))
         (omega (arith, lt, within, turned_low))))
 
     columns_covered : Cover (in_columns v p.regs loop to c)
     columns_covered =
-        ops-append v p group (vs ++ b ∷ []) q
+        All-append IsDone
         (map (λ op. renumbered_op (renumbered p.regs c.turned) (in_row v loop op)) c.front) _
         front_ops
-        (ops-loop v p group (vs ++ b ∷ []) q
+        (all-loop IsDone
         (λ g. tile_at v loop to c.by (p.regs + m + g * v) (p.regs + g * v) (g * v)) 0 (m / v)
         (λ g from lt. tile_ops g (omega (arith, lt))))
 
@@ -245,7 +253,8 @@ module _ (v : ℕ) (p : PlainProgram) (to : Stored) (ops : List PlainOp) (vs : L
         lanes_from v p group (vs ++ b ∷ []) q (map (in_row v loop) ops) (rows_covered h) rows_few
         (leave (map (in_row v loop) ops) (rows_write v p to ops vs b q known h))
 
-    columns_for : (c : Columns) → AreGood v loop to ops c → LeaveWrites v p (in_columns v p.regs loop to c) ops vs b q →
+    columns_for : (c : Columns) → AreGood v loop to ops c →
+        LeaveWrites v p (in_columns v p.regs loop to c) ops vs b q →
         LanesFor (in_columns v p.regs loop to c)
     columns_for c tests writes =
         lanes_from v p group (vs ++ b ∷ []) q (in_columns v p.regs loop to c) (columns_covered c tests)

@@ -1,11 +1,11 @@
 -- Lanes from loops: of loops, one in the other, of one lane, v rounds of the innermost become one round of v lanes.
-use Rattle.std.specs.Prelude.{ℕ, ◌≡◌, ◌⊎◌, ◌*◌, ◌/◌, ◌%◌, ◌^◌, ◌==◌, ◌&&◌, ◌||◌, Bool, true, false, nat_lt, List, [], ◌∷◌, length, map, Option, Some, None, if◌then◌else◌}
+use Rattle.std.specs.Prelude.{ℕ, ◌≡◌, ◌⊎◌, ◌*◌, ◌/◌, ◌%◌, ◌^◌, ◌==◌, ◌&&◌, ◌||◌, Bool, true, false, nat_lt, nat_le, List, [], ◌∷◌, length, map, Option, Some, None, if◌then◌else◌}
 use Rattle.std.specs.List.{list_all}
 use Rattle.icode.specs.Plain.{PlainOp, PlainStmt, PlainBody, PlainProgram, Loop, Do, NoStmts, AndStmts}
 use Rattle.loop_interchange.specs.Places.{are_linear}
 use Rattle.loop_interchange.specs.Rounds.{Stored, are_fresh, first_store}
 use Rattle.loop_interchange.specs.Interchange.{counts_in, round_in}
-use Rattle.loop_lanes.specs.Rounds.{straight, ops_in, are_rows, in_row}
+use Rattle.loop_lanes.specs.Rounds.{straight, ops_in, stores, are_rows, in_row}
 use Rattle.loop_lanes.specs.Columns.{plain_columns, factored_columns, are_plain_columns, are_factored_columns, in_columns}
 
 abbrev pub IsLanes : ℕ → Type 0
@@ -37,11 +37,12 @@ abbrev pub last_count : ℕ → List ℕ → ℕ
 last_count count [] = count
 last_count outer (count ∷ counts) = last_count count counts
 
--- its rounds are straight, read no register of another round, and go v at a time
+-- its rounds are straight, store not too often, read no register of another round, and go v at a time
 abbrev pub is_lanable : ℕ → PlainStmt → Bool
 is_lanable v (Loop count body) =
-    (last_count count (counts_in body) % v == 0) && (are_fresh 1 0 (round_in body)
-    && can_lane v (length (counts_in body)) (first_store (round_in body)) (ops_in (round_in body)))
+    nat_le (length (stores (ops_in (round_in body)))) 256
+    && ((last_count count (counts_in body) % v == 0) && (are_fresh 1 0 (round_in body)
+    && can_lane v (length (counts_in body)) (first_store (round_in body)) (ops_in (round_in body))))
 is_lanable v (Do op) = false
 
 abbrev pub are_lanable : ℕ → PlainBody → Bool

@@ -1,7 +1,12 @@
 //! Lanes from loops: rounds of the innermost loop become lanes.
 #![tactic(auto)]
 
+mod choice;
+mod columns;
 mod lanes;
 pub mod laws;
+mod loops;
+mod rounds;
+mod tiles;
 
 pub use lanes::lane_loops;
