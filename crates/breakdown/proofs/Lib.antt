@@ -1,4 +1,5 @@
 pub mod Sizes
 pub mod Meaning
 pub mod Nesting
-pub mod Inverse
+pub mod Asked
+mod Examples

@@ -1,19 +1,23 @@
 -- Sizes of trees and of their formulas.
-use Rattle.std.proofs.Common.{◌≡◌, ℕ, zero, suc, ◌+◌, ◌*◌, ◌/◌, ◌%◌, ◌≤◌, refl, sym, subst, arith, ap, ap₂, ◌∙◌, mul_comm, mod-eq_of_lt, ⊎_elim}
+use Rattle.std.proofs.Common.{◌≡◌, ◌≢◌, ℕ, zero, suc, ◌+◌, ◌*◌, ◌/◌, ◌%◌, ◌≤◌, refl, sym, subst, arith, ap, ap₂, ◌∙◌}
+use Rattle.std.proofs.Common.{mul_comm, mod-eq_of_lt, ⊎_elim}
+use Rattle.std.specs.Int.{IsGcd}
 use Rattle.std.proofs.Math.Nat.{zero-mod, mod_self}
 use Rattle.std.proofs.lemmas.Bool.{cases_lt}
 use Rattle.std.proofs.lemmas.Nat.{div-mul-add}
 use Rattle.ring_mod.proofs.Congruence.{same-from_product}
+use Rattle.matrix_meaning.specs.declared.Dimensions.TheVariants.{One}
 use Rattle.matrix_meaning.specs.declared.Kind.{Kind}
-use Rattle.matrix_meaning.specs.declared.Kind.TheVariants.{Dft, Wht}
+use Rattle.matrix_meaning.specs.declared.Kind.TheVariants.{Dft, Wht, Idft}
 use Rattle.matrix_meaning.specs.declared.Request.{Request}
 use Rattle.matrix_meaning.specs.Kind.{IsPowerOfTwo}
 use Rattle.matrix_meaning.specs.Valid.{IsValid}
 use Rattle.tree_model.specs.declared.tree.Rule.{Rule}
-use Rattle.tree_model.specs.declared.tree.Rule.TheVariants.{Gt, Ct, Split}
-use Rattle.tree_model.specs.Breakdown.{Breakdown, leaf, node, size_of, AllowsLeaf, IsSplit, IsWellFormed}
+use Rattle.tree_model.specs.declared.tree.Rule.TheVariants.{Gt, Ct, Split, Dim}
+use Rattle.tree_model.specs.Breakdown.{Breakdown, leaf, node, size_of, AllowsLeaf, AllowsRule}
 use Rattle.tree_model.specs.Cost.{node_root}
-use Rattle.tree_model.proofs.Sizes.{one_le_size_of}
+use Rattle.tree_model.specs.Whole.{left_of, right_of, AllowsRuleOf, IsTreeOf}
+use Rattle.tree_model.proofs.Sizes.{left_le}
 use Rattle.spl_ast.specs.Formula.{Formula, size_of as rows_of}
 use Rattle.spl_ast.specs.Shape.{IsSize, IsMultiple}
 use Rattle.breakdown.specs.Expansion.{expansion, leaf_formula, rule_formula, HasFactors}
@@ -23,16 +27,20 @@ use Rattle.breakdown.specs.Expansion.{expansion, leaf_formula, rule_formula, Has
 rows-leaf : (kind : Kind) (d w : ℕ) → rows_of (leaf_formula kind d w) ≡ d
 rows-leaf Dft d w = refl
 rows-leaf Wht d w = refl
+rows-leaf Idft d w = refl
 
 rows-rule : (rule : Rule) (r s w : ℕ) (a b : Formula) → rows_of a ≡ r → rows_of (rule_formula rule r s w a b) ≡ r * s
 rows-rule Ct r s w a b e = ap (λ n. n * s) e
 rows-rule Gt r s w a b e = refl
 rows-rule Split r s w a b e = ap (λ n. n * s) e
+rows-rule Dim r s w a b e = ap (λ n. n * s) e
 
 -- a tree's formula has the tree's size
-pub rows_of_expansion : (c : Request) (t : Breakdown) → rows_of (expansion c t) ≡ size_of t
-rows_of_expansion c (leaf d) = rows-leaf c.kind d _
-rows_of_expansion c (node rule a b) = rows-rule rule (size_of a) (size_of b) _ (expansion c a) (expansion c b) (rows_of_expansion c a)
+pub rows_of_expansion : (p : Request) (t : Breakdown) → rows_of (expansion p t) ≡ size_of t
+rows_of_expansion p (leaf d) = rows-leaf p.kind d _
+rows_of_expansion p (node rule a b) =
+    rows-rule rule (size_of a) (size_of b) (node_root p (size_of a * size_of b))
+    (expansion (left_of rule p) a) (expansion (right_of rule p) b) (rows_of_expansion (left_of rule p) a)
 
 -- ---- factors
 
@@ -72,19 +80,32 @@ pub second_divides : (n r s : ℕ) → n % (r * s) ≡ 0 → n % s ≡ 0
 second_divides n r s h = first_divides n s r (ap (λ k. n % k) (mul_comm s r) ∙ h)
 
 divisor_below : (n d : ℕ) → 1 ≤ n → n % d ≡ 0 → d ≤ n
-divisor_below n d pos h = ⊎_elim (λ l. let same : n % d ≡ n = mod-eq_of_lt l in absurd (omega arith)) (λ l. l) (cases_lt n d)
+divisor_below n d pos h =
+    ⊎_elim (λ l. let same : n % d ≡ n = mod-eq_of_lt l in absurd (omega arith)) (λ l. l) (cases_lt n d)
 
 pub whole_divides : (n d : ℕ) → d ≡ n → n % d ≡ 0
 whole_divides n d same = ap (λ k. n % k) same ∙ mod_self n
 
--- a node has a size
-pub node_size : (c : Request) (t : Breakdown) → IsValid c → IsWellFormed c.kind t → c.size % size_of t ≡ 0 → IsSize (size_of t)
-node_size c t valid tree divides =
-    let range = valid.in_range.size in
-    (one_le_size_of c.kind t tree, omega (arith, divisor_below c.size (size_of t) range.0 divides, range.1))
+positive_leaf : (kind : Kind) (d : ℕ) → AllowsLeaf kind d → 1 ≤ d
+positive_leaf Dft d h = h
+positive_leaf Wht d h = h.0
+positive_leaf Idft d h = absurd h
 
-pub leaf_size : (c : Request) (d : ℕ) → IsValid c → AllowsLeaf c.kind d → c.size % d ≡ 0 → IsSize d
-leaf_size c d valid allowed divides = node_size c (leaf d) valid allowed divides
+pub positive_tree : (p : Request) (t : Breakdown) → IsTreeOf p t → 1 ≤ size_of t
+positive_tree p (leaf d) h = positive_leaf p.kind d h.1
+positive_tree p (node rule a b) h =
+    let left : size_of a ≤ size_of a * size_of b = left_le (size_of a) (size_of b) h.1 in omega (arith, h.0)
+
+size_in : (p : Request) (d : ℕ) → IsValid p → 1 ≤ d → p.size % d ≡ 0 → IsSize d
+size_in p d valid pos divides =
+    let range = valid.in_range.size in (pos, omega (arith, divisor_below p.size d range.0 divides, range.1))
+
+-- a node has a size
+pub node_size : (p : Request) (t : Breakdown) → IsValid p → IsTreeOf p t → p.size % size_of t ≡ 0 → IsSize (size_of t)
+node_size p t valid tree divides = size_in p (size_of t) valid (positive_tree p t tree) divides
+
+pub leaf_size : (p : Request) (d : ℕ) → IsValid p → AllowsLeaf p.kind d → p.size % d ≡ 0 → IsSize d
+leaf_size p d valid allowed divides = size_in p d valid (positive_leaf p.kind d allowed) divides
 
 small_power : (d : ℕ) → 1 ≤ d → d ≤ 2 → IsPowerOfTwo d
 small_power zero low high = absurd (omega arith)
@@ -96,35 +117,78 @@ small_power (suc (suc (suc d))) low high = absurd (omega arith)
 pub leaf_power : (kind : Kind) (d : ℕ) → kind ≡ Wht → AllowsLeaf kind d → IsPowerOfTwo d
 leaf_power Dft d e h = absurd cc
 leaf_power Wht d e h = small_power d h.0 h.1
+leaf_power Idft d e h = absurd h
 
--- ---- trees
+-- no leaf stands for an inverse
+pub no_inverse_leaf : (kind : Kind) (d : ℕ) → kind ≡ Idft → AllowsLeaf kind d → ⊥
+no_inverse_leaf Dft d e h = absurd cc
+no_inverse_leaf Wht d e h = absurd cc
+no_inverse_leaf Idft d e h = h
+
+-- ---- the parts of a node
 
 abbrev pub nodes_of : Breakdown → ℕ
 nodes_of (leaf d) = 1
 nodes_of (node rule a b) = nodes_of a + nodes_of b + 1
 
--- the formulas of a node's parts have sizes that its rule takes
-pub product_size : (c : Request) (rule : Rule) (a b : Breakdown) (f g : Formula) → IsValid c → IsWellFormed c.kind (node rule a b) → c.size % (size_of a * size_of b) ≡ 0 →
-    f ≡ expansion c a → g ≡ expansion c b → IsSize (rows_of f * rows_of g)
-product_size c rule a b f g valid tree divides e h =
-    let sizes : rows_of f * rows_of g ≡ size_of a * size_of b = ap₂ (λ x y. x * y) (ap rows_of e ∙ rows_of_expansion c a) (ap rows_of h ∙ rows_of_expansion c b) in
-    subst IsSize (sym sizes) (node_size c (node rule a b) valid tree divides)
+-- sizes of parts divide those of the requests that the parts are of
+pub left_divides : (p : Request) (rule : Rule) (r s : ℕ) → AllowsRuleOf p rule r s → p.size % (r * s) ≡ 0 →
+    (left_of rule p).size % r ≡ 0
+left_divides p Gt r s h divides = first_divides p.size r s divides
+left_divides p Ct r s h divides = first_divides p.size r s divides
+left_divides p Split r s h divides = first_divides p.size r s divides
+left_divides p Dim r s h divides = whole_divides _ r h.1
 
-factors-rule : (kind : Kind) (rule : Rule) (r s : ℕ) → IsSplit kind rule r s → HasFactors rule r s
-factors-rule kind Ct r s h = tt
-factors-rule kind Split r s h = tt
-factors-rule Dft Gt r s h = record { first = h.left; second = h.right; coprime = h.allowed }
-factors-rule Wht Gt r s h = absurd h.allowed
+pub right_divides : (p : Request) (rule : Rule) (r s : ℕ) → AllowsRuleOf p rule r s → p.size % (r * s) ≡ 0 →
+    (right_of rule p).size % s ≡ 0
+right_divides p Gt r s h divides = second_divides p.size r s divides
+right_divides p Ct r s h divides = second_divides p.size r s divides
+right_divides p Split r s h divides = second_divides p.size r s divides
+right_divides p Dim r s h divides = whole_divides _ s h.2
 
-pub rule_factors : (c : Request) (rule : Rule) (a b : Breakdown) (f g : Formula) → IsWellFormed c.kind (node rule a b) →
-    f ≡ expansion c a → g ≡ expansion c b → HasFactors rule (rows_of f) (rows_of g)
-rule_factors c rule a b f g tree e h =
-    subst (λ r. HasFactors rule r (rows_of g)) (sym (ap rows_of e ∙ rows_of_expansion c a))
-    (subst (λ s. HasFactors rule (size_of a) s) (sym (ap rows_of h ∙ rows_of_expansion c b)) (factors-rule c.kind rule (size_of a) (size_of b) tree.0))
+-- a dim is of several dimensions
+pub dim_parts : (p : Request) (rule : Rule) (r s : ℕ) → AllowsRuleOf p rule r s → rule ≡ Dim → p.dimensions ≢ One
+dim_parts p Gt r s h e = absurd cc
+dim_parts p Ct r s h e = absurd cc
+dim_parts p Split r s h e = absurd cc
+dim_parts p Dim r s h e = h.0
 
-pub node_expansion : (c : Request) (rule : Rule) (a b : Breakdown) (f g h : Formula) → f ≡ expansion c a → g ≡ expansion c b →
-    h ≡ rule_formula rule (rows_of f) (rows_of g) (node_root c (rows_of f * rows_of g)) f g → h ≡ expansion c (node rule a b)
-node_expansion c rule a b f g h e k made =
-    made
-    ∙ ap₂ (λ r s. rule_formula rule r s (node_root c (r * s)) f g) (ap rows_of e ∙ rows_of_expansion c a) (ap rows_of k ∙ rows_of_expansion c b)
-    ∙ ap₂ (λ x y. rule_formula rule (size_of a) (size_of b) (node_root c (size_of a * size_of b)) x y) e k
+coprime_factors : (kind : Kind) (r s : ℕ) → AllowsRule kind Gt r s → IsGcd r s 1
+coprime_factors Dft r s h = h
+coprime_factors Wht r s h = absurd h
+coprime_factors Idft r s h = absurd h
+
+factors-rule : (p : Request) (rule : Rule) (r s : ℕ) → 2 ≤ r → 2 ≤ s → AllowsRuleOf p rule r s → HasFactors rule r s
+factors-rule p Gt r s left right h = record { first = left; second = right; coprime = coprime_factors p.kind r s h.1 }
+factors-rule p Ct r s left right h = tt
+factors-rule p Split r s left right h = tt
+factors-rule p Dim r s left right h = tt
+
+-- a node by a rule, with formulas of its parts
+module _ (p : Request) (rule : Rule) (a b : Breakdown) (f g : Formula)
+    (left : f ≡ expansion (left_of rule p) a) (right : g ≡ expansion (right_of rule p) b) where
+  left_rows : rows_of f ≡ size_of a
+  left_rows = ap rows_of left ∙ rows_of_expansion (left_of rule p) a
+
+  right_rows : rows_of g ≡ size_of b
+  right_rows = ap rows_of right ∙ rows_of_expansion (right_of rule p) b
+
+  pub product_size : IsValid p → IsTreeOf p (node rule a b) → p.size % (size_of a * size_of b) ≡ 0 →
+      IsSize (rows_of f * rows_of g)
+  product_size valid tree divides =
+      let sizes : rows_of f * rows_of g ≡ size_of a * size_of b = ap₂ (λ x y. x * y) left_rows right_rows in
+      subst IsSize (sym sizes) (node_size p (node rule a b) valid tree divides)
+
+  pub rule_factors : IsTreeOf p (node rule a b) → HasFactors rule (rows_of f) (rows_of g)
+  rule_factors tree =
+      subst (λ r. HasFactors rule r (rows_of g)) (sym left_rows)
+      (subst (λ s. HasFactors rule (size_of a) s) (sym right_rows)
+      (factors-rule p rule (size_of a) (size_of b) tree.0 tree.1 tree.2))
+
+  pub node_expansion : (h : Formula) →
+      h ≡ rule_formula rule (rows_of f) (rows_of g) (node_root p (rows_of f * rows_of g)) f g →
+      h ≡ expansion p (node rule a b)
+  node_expansion h made =
+      made
+      ∙ ap₂ (λ r s. rule_formula rule r s (node_root p (r * s)) f g) left_rows right_rows
+      ∙ ap₂ (λ x y. rule_formula rule (size_of a) (size_of b) (node_root p (size_of a * size_of b)) x y) left right

@@ -7,10 +7,10 @@ use Rattle.std.proofs.lemmas.List.{length-drop}
 use Rattle.std.specs.List.{All}
 use Rattle.std.specs.declared.option.Option.{Option}
 use Rattle.std.specs.Io.KnownBytes.{Appends, IsAtEnd}
-use Rattle.convolution.specs.Convolution.{convolution}
-use Rattle.convolver.specs.Planned.{IsConvPlanned}
-use Rattle.plan_faults.specs.declared.convolving.ConvFault.{ConvFault}
-use Rattle.plan_faults.specs.declared.convolving.ConvFault.TheVariants as conv
+use Rattle.matrix_meaning.specs.Convolution.{convolution}
+use Rattle.generate.specs.ConvPlanned.{IsConvPlanned}
+use Rattle.plan_search.specs.declared.convolving.ConvFault.{ConvFault}
+use Rattle.plan_search.specs.declared.convolving.ConvFault.TheVariants as conv
 use Rattle.data_stream.specs.Data.{tokens}
 use Rattle.data_stream.specs.Vectors.{Cut}
 use Rattle.icode.specs.Machine.{Code, results}
@@ -30,7 +30,7 @@ use Rattle.spiral_status.specs.declared.status.Status.TheVariants.{Success, Writ
 use Rattle.spiral_status.specs.Fault.{status_of_conv, status_of_fault, status_of_stream}
 use Rattle.spiral_status.specs.Status.{IsDefined}
 use Rattle.spiral_input.specs.Asking.{asked_by, AsksBy, Asks}
-use Rattle.convolution_commands.specs.Convolved.{conv_procs, conv_spelt, IsConvolvable, IsConvRefused, conv_lines, IsConvText, conv_status, SettlesConv, conv_in, GoesOnBehind, BreaksOffConv, ComesToConv, conv_outcomes, data_outcomes, IsListProgram}
+use Rattle.convolution_commands.specs.Convolved.{conv_spelt, IsConvolvable, IsConvRefused, conv_lines, IsConvText, conv_status, SettlesConv, conv_in, GoesOnBehind, BreaksOffConv, ComesToConv, conv_outcomes, data_outcomes, IsListProgram}
 use Rattle.spiral_input.specs.Line.{data_of, room_behind, HasEnded}
 use Rattle.spiral_input.specs.Refusals.{IsRefusal}
 use Rattle.spiral_input.specs.Stage.{HasGiven}
@@ -338,18 +338,18 @@ convolves_run schedule request code cut old now new before mid after out out' h 
 
 -- the call ends with the line
 pub convolves_line : (wanted : Command) (before after out : Option (List ℕ)) (taken : ℕ) (status : Status)
-    → Asks conv_procs conv_spelt wanted before after taken (Err status) → status ≢ WriteFault → ToldMeets (conv_outcomes wanted) before after out out status
+    → Asks conv_spelt wanted before after taken (Err status) → status ≢ WriteFault → ToldMeets (conv_outcomes wanted) before after out out status
 convolves_line wanted None after out taken status a other = tt
 convolves_line wanted (Some bytes) None out taken status a other = absurd a
 convolves_line wanted (Some bytes) (Some rest) out taken status a other = record {
-  answer = λ d. ([], inl (inl (subst (λ b. asked_by conv_procs conv_spelt wanted b (Err status)) (sym a.1) (a.2.0 d)), refl), Appends-nil out);
+  answer = λ d. ([], inl (inl (subst (λ b. asked_by conv_spelt wanted b (Err status)) (sym a.1) (a.2.0 d)), refl), Appends-nil out);
   read_fault = λ e. (a.0, [], a.1, inl (a.2.1 e, refl), Appends-nil out);
   write_fault = λ e. absurd (other e);
 }
 
 -- what is done behind the line is what the call does
 convolves_after : (wanted : Command) (bytes read rest : List ℕ) (taken : ℕ) (request : Request) (left out out' : Option (List ℕ)) (status : Status)
-    → bytes ≡ read ++ rest → AsksBy conv_procs conv_spelt wanted read rest taken (Ok request) → Meets (data_outcomes wanted request (limit - taken)) rest left out out' status
+    → bytes ≡ read ++ rest → AsksBy conv_spelt wanted read rest taken (Ok request) → Meets (data_outcomes wanted request (limit - taken)) rest left out out' status
     → Meets (conv_outcomes wanted) bytes left out out' status
 convolves_after wanted bytes read rest taken request left out out' status whole asked p =
     let here = asked.1 rest (λ e. e) in
@@ -363,7 +363,7 @@ convolves_after wanted bytes read rest taken request left out out' status whole 
       front = still_ended read more (rest ≡ []) ended line goes;
       gives = record { value = request; before = (asked.1 more none).0; behind = (able, refl) };
     } in
-    let asked_here : asked_by conv_procs conv_spelt wanted bytes (Ok request) = subst (λ b. asked_by conv_procs conv_spelt wanted b (Ok request)) (sym whole) here.0 in
+    let asked_here : asked_by conv_spelt wanted bytes (Ok request) = subst (λ b. asked_by conv_spelt wanted b (Ok request)) (sym whole) here.0 in
     record {
       answer = λ d.
           let found = p.answer d in (
@@ -414,7 +414,7 @@ convolves_after wanted bytes read rest taken request left out out' status whole 
     }
 
 pub convolves_asked : (wanted : Command) (before mid left : Option (List ℕ)) (taken : ℕ) (request : Request) (out out' : Option (List ℕ)) (status : Status)
-    → Asks conv_procs conv_spelt wanted before mid taken (Ok request) → ToldMeets (data_outcomes wanted request (limit - taken)) mid left out out' status → ToldMeets (conv_outcomes wanted) before left out out' status
+    → Asks conv_spelt wanted before mid taken (Ok request) → ToldMeets (data_outcomes wanted request (limit - taken)) mid left out out' status → ToldMeets (conv_outcomes wanted) before left out out' status
 convolves_asked wanted None mid left taken request out out' status a p = tt
 convolves_asked wanted (Some bytes) None left taken request out out' status a p = absurd a
 convolves_asked wanted (Some bytes) (Some rest) left taken request out out' status a p = convolves_after wanted bytes a.0 rest taken request left out out' status a.1 a.2 p

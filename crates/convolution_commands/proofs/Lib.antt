@@ -1,4 +1,3 @@
 pub mod ConvolvedLemmas
 pub mod Existence
 pub mod OneConvolution
-pub mod OneRequest

@@ -1,16 +1,16 @@
 -- What `convolve` answers: it goes by a request for convolutions, which the first line spells, and by a list, which is the first vector of the data.
 use Rattle.std.specs.Prelude.{◌≡◌, ◌⊎◌, ℕ, true, false, List, [], ◌∷◌, Ok, Err, Result}
-use Rattle.convolution.specs.Convolution.{convolution}
-use Rattle.convolver.specs.Convolver.{IsConvolver}
-use Rattle.convolver.specs.Letters.{conv_program}
-use Rattle.convolver.specs.Planned.{IsConvPlanned}
-use Rattle.plan_faults.specs.declared.convolving.ConvFault.{ConvFault}
+use Rattle.matrix_meaning.specs.Convolution.{convolution}
+use Rattle.generate.specs.Convolver.{IsConvolver}
+use Rattle.generate.specs.ConvLetters.{conv_program}
+use Rattle.generate.specs.ConvPlanned.{IsConvPlanned}
+use Rattle.plan_search.specs.declared.convolving.ConvFault.{ConvFault}
 use Rattle.data_stream.specs.Data.{tokens, closed_part}
 use Rattle.icode.specs.declared.program.Program.{Program}
 use Rattle.icode.specs.Program.{plain_program}
 use Rattle.listing_text.specs.Listing.{listing_of}
 use Rattle.matrix_meaning.specs.declared.Request.{Request}
-use Rattle.request_text.specs.ConvAnswer.{ConvAnswers}
+use Rattle.request_text.specs.Answer.{ConvAnswers}
 use Rattle.request_text.specs.declared.RequestFault.{RequestFault}
 use Rattle.spiral_words.specs.declared.Command.{Command}
 use Rattle.spiral_words.specs.declared.Command.TheVariants as command
@@ -34,10 +34,6 @@ abbrev pub conv_spelt : List ℕ → Stage Request
 conv_spelt line (Ok request) = ConvAnswers line (Ok request)
 conv_spelt line (Err status) = (fault : RequestFault) × ConvAnswers line (Err fault) × (status ≡ status_of_request fault)
 
--- how many processors it has
-abbrev pub conv_procs : Request → ℕ
-conv_procs request = request.procs
-
 -- the root is one of the size, its power sums are 0, and the least cost is within the budget
 abbrev pub IsConvolvable : Request → Type 0
 IsConvolvable request = (tree : Breakdown) × IsConvPlanned request (Ok tree)
@@ -53,7 +49,7 @@ convolvable request (Err status) = IsConvRefused request status
 -- the request of the first line, for the command
 abbrev pub conv_in : Command → List ℕ → Stage Request
 conv_in wanted bytes = do
-  request ← asked_by conv_procs conv_spelt wanted bytes
+  request ← asked_by conv_spelt wanted bytes
   convolvable request
 
 -- What is written

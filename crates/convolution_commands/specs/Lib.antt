@@ -1,6 +1,6 @@
 pub mod Convolved
-pub use Rattle.convolution.specs.Convolution
-pub use Rattle.convolution.specs.Request
-pub use Rattle.convolver.specs.Convolver
-pub use Rattle.convolver.specs.Letters
-pub use Rattle.convolver.specs.Planned
+pub use Rattle.matrix_meaning.specs.Convolution
+pub use Rattle.matrix_meaning.specs.Convolving
+pub use Rattle.generate.specs.Convolver
+pub use Rattle.generate.specs.ConvLetters
+pub use Rattle.generate.specs.ConvPlanned

@@ -4,22 +4,22 @@
 ghost use Rattle.std.specs.Prelude.{◌≡◌, ◌-◌, ◌≤◌, ◌∷◌, List, ℕ, [], false, true, vec_len, IfOk, IfErr, OnOk};
 ghost use Rattle.std.specs.declared.option.Option.{Option};
 ghost use Rattle.std.specs.Io.KnownBytes.{IsAtEnd};
-ghost use Rattle.convolution.specs.Request.{IsConvRequest};
+ghost use Rattle.matrix_meaning.specs.Convolving.{IsConvRequest};
 ghost use Rattle.data_stream.specs.Vectors.{IsReady};
 ghost use Rattle.io_edge.specs.Feed.{to_come, limit};
 ghost use Rattle.spiral_words.specs.declared.Command.{Command as SpecCommand};
 ghost use Rattle.spiral_input.specs.Commands.{reads_rest, takes_convolution, NamesNoStranger};
 ghost use Rattle.spiral_input.specs.Asking.{Asks};
 ghost use Rattle.convolution_commands.specs.Convolved.{conv_outcomes, data_outcomes, IsListProgram};
-ghost use Rattle.convolution_commands.specs.Convolved.{conv_procs, conv_spelt};
+ghost use Rattle.convolution_commands.specs.Convolved.{conv_spelt};
 ghost use Rattle.spiral_input.specs.Ends.{EndsCleanly, ReadsCleanly};
 ghost use Rattle.spiral_input.specs.Outcomes.{ToldMeets};
 ghost use Rattle.spiral_input.specs.Stage.{status_of};
 ghost use Rattle.runs.specs.Progress.{HasCome};
 ghost use Rattle.runs.specs.Stream.{HasNoStranger};
 
-use convolver::{generate_conv, plan_conv};
 use data_stream::Vectors;
+use generate::{generate_conv, plan_conv};
 use icode::program::Program;
 use io_edge::{Feed, Sink, Source, write_all};
 use listing_text::print_listing;
@@ -36,7 +36,7 @@ use std::alloc::Global;
 // The request for convolutions that the first line of the input spells, for the command.
 fn ask_conv<I: Source>(command: &Command, feed: &mut Feed, input: &mut I) -> Result<Request, Status>
     requires fresh { feed.old.taken ≡ 0 }
-    ensures told { Asks conv_procs conv_spelt command.now (to_come feed.old (I.left input.old))
+    ensures told { Asks conv_spelt command.now (to_come feed.old (I.left input.old))
         (to_come feed.new (I.left input.new)) feed.new.taken result }
     ensures within { OnOk result (feed.new.taken ≤ 257) }
     ensures request { IfOk result IsConvRequest }

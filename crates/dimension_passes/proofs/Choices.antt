@@ -1,69 +1,98 @@
--- The passes of several dimensions by the choices in their definition.
-use Rattle.std.proofs.Common.{◌≡◌, ℕ, ◌*◌, ◌≤◌, Bool, true, false, arith, refl, subst, if◌then◌else◌, nat_le, List, [], ◌∷◌, ◌++◌, length, ◌&&◌}
-use Rattle.std.specs.Prelude.{map, ◌==◌}
+-- The merged passes of several dimensions, and the cost model's, by the choices in their definitions.
+use Rattle.std.proofs.Common.{◌≡◌, ℕ, ◌*◌, ◌≤◌, Bool, true, false, arith, refl, if◌then◌else◌, nat_le, List, [], ◌∷◌, ◌++◌, ◌&&◌}
+use Rattle.std.specs.Prelude.{◌==◌}
 use Rattle.std.proofs.lemmas.Bool.Decides.{nat_tests}
-use Rattle.dimension_plans.specs.declared.SeveralRequest.{SeveralRequest}
-use Rattle.dimension_plans.specs.Several.{part_of, whole_of, AreAdmissible}
-use Rattle.dimensions.specs.declared.Dimension.{Dimension}
-use Rattle.dimensions.specs.Transform.{listed, size_in}
 use Rattle.formula_lower.specs.Merged.{tree_merged}
 use Rattle.kernel_passes.specs.Merged.{kernel_merged}
+use Rattle.matrix_meaning.specs.declared.Request.{Request}
+use Rattle.matrix_meaning.specs.Parts.{first_of, rest_of}
 use Rattle.passes.specs.Merged.{PlainMerged}
 use Rattle.shared_tensors.specs.Tensored.{tensored}
-use Rattle.tree_model.specs.Breakdown.{Breakdown}
+use Rattle.tree_model.specs.declared.tree.Rule.TheVariants.{Gt, Ct, Split, Dim}
+use Rattle.tree_model.specs.Admissible.{Fits}
+use Rattle.tree_model.specs.Breakdown.{Breakdown, leaf, node, size_of}
 use Rattle.tree_model.specs.Cost.{is_plain}
-use Rattle.tree_model.specs.Passes.{passes_of}
-use Rattle.dimension_passes.specs.Counts.{DimensionPass, kernels_of, pass_of, passes_in, several_passes, shared_passes_in}
-use Rattle.dimension_passes.specs.Laws.{AreTreesFor}
-use Rattle.dimension_passes.specs.Merged.{plain_passes, rooted, several_merged, shared_passes}
+use Rattle.tree_model.specs.Passes.{nodes}
+use Rattle.tree_model.specs.Whole.{rooted_of}
+use Rattle.tree_model.specs.WholePasses.{RequestPass, pass_of, node_passes, passes_in, request_passes, shared_passes}
+use Rattle.dimension_passes.specs.Laws.{IsDimTree}
+use Rattle.dimension_passes.specs.Merged.{plain_passes, shared_dims, trees_merged}
+use Rattle.dimension_passes.proofs.Dims.{IsFlat, IsKnownDim, by_dim}
+
+-- ---- one size
+
+pub flat_plain : (p : Request) (t : Breakdown) → IsFlat t → plain_passes p t ≡ tree_merged p t
+flat_plain p (leaf d) flat = refl
+flat_plain p (node Gt a b) flat = refl
+flat_plain p (node Ct a b) flat = refl
+flat_plain p (node Split a b) flat = refl
+flat_plain p (node Dim a b) flat = absurd flat
+
+pub flat_merged : (p : Request) (t : Breakdown) → IsFlat t → trees_merged p t ≡ tree_merged p t
+flat_merged p (leaf d) flat = refl
+flat_merged p (node Gt a b) flat = refl
+flat_merged p (node Ct a b) flat = refl
+flat_merged p (node Split a b) flat = refl
+flat_merged p (node Dim a b) flat = absurd flat
+
+pub flat_in : (p : Request) (count : ℕ) (t : Breakdown) → IsFlat t → passes_in p count t ≡ node_passes p count t
+flat_in p count (leaf d) flat = refl
+flat_in p count (node Gt a b) flat = refl
+flat_in p count (node Ct a b) flat = refl
+flat_in p count (node Split a b) flat = refl
+flat_in p count (node Dim a b) flat = absurd flat
 
 -- ---- several dimensions together are straight-line code, or a tensor product
 
-module _ (P : PlainMerged → List DimensionPass → Type 0) (r : SeveralRequest) (count : ℕ) (d e : Dimension) (more : List Dimension) (t : Breakdown) (ts : List Breakdown) where
-  pub by_unroll : (size_in (d ∷ e ∷ more) ≤ r.unroll → P (kernel_merged (rooted (d ∷ e ∷ more) (t ∷ ts))) (kernels_of count (d ∷ e ∷ more) (t ∷ ts) ∷ [])) →
-      P (tensored 1 1 (tree_merged (part_of r d) t) (plain_passes r (e ∷ more) ts)) (passes_in r (count * d.size) (e ∷ more) ts ++ map (pass_of d) (passes_of (part_of r d) (count * size_in (e ∷ more)) t)) →
-      P (plain_passes r (d ∷ e ∷ more) (t ∷ ts)) (passes_in r count (d ∷ e ∷ more) (t ∷ ts))
-  by_unroll straight product = pick (nat_le (size_in (d ∷ e ∷ more)) r.unroll) refl
+module _ (P : PlainMerged → List RequestPass → Type 0) (p : Request) (count : ℕ) (a b : Breakdown) where
+  abbrev words : ℕ
+  words = size_of a * size_of b
+
+  abbrev product : PlainMerged
+  product = tensored 1 1 (tree_merged (first_of p) a) (plain_passes (rest_of p) b)
+
+  abbrev both : List RequestPass
+  both = passes_in (rest_of p) (count * size_of a) b ++ node_passes (first_of p) (count * size_of b) a
+
+  pub by_unroll :
+      (words ≤ p.unroll → P (kernel_merged (rooted_of p (node Dim a b))) (pass_of p (nodes count (node Dim a b) false) ∷ [])) →
+      P product both → P (plain_passes p (node Dim a b)) (passes_in p count (node Dim a b))
+  by_unroll straight apart = pick (nat_le words p.unroll) refl
     where
-      pick : (b : Bool) → nat_le (size_in (d ∷ e ∷ more)) r.unroll ≡ b →
-          P (if b then kernel_merged (rooted (d ∷ e ∷ more) (t ∷ ts)) else tensored 1 1 (tree_merged (part_of r d) t) (plain_passes r (e ∷ more) ts))
-          (if b then kernels_of count (d ∷ e ∷ more) (t ∷ ts) ∷ [] else passes_in r (count * d.size) (e ∷ more) ts ++ map (pass_of d) (passes_of (part_of r d) (count * size_in (e ∷ more)) t))
-      pick true short = straight (let low : size_in (d ∷ e ∷ more) ≤ r.unroll = grind (arith, nat_tests) in low)
-      pick false long = product
+      pick : (c : Bool) → nat_le words p.unroll ≡ c →
+          P (if c then kernel_merged (rooted_of p (node Dim a b)) else product)
+          (if c then pass_of p (nodes count (node Dim a b) false) ∷ [] else both)
+      pick true short = straight (let low : words ≤ p.unroll = grind (arith, nat_tests) in low)
+      pick false long = apart
 
 -- the same of the merged passes alone
-pub merged_by_unroll : (P : PlainMerged → Type 0) (r : SeveralRequest) (d e : Dimension) (more : List Dimension) (t : Breakdown) (ts : List Breakdown) →
-    (size_in (d ∷ e ∷ more) ≤ r.unroll → P (kernel_merged (rooted (d ∷ e ∷ more) (t ∷ ts)))) → P (tensored 1 1 (tree_merged (part_of r d) t) (plain_passes r (e ∷ more) ts)) → P (plain_passes r (d ∷ e ∷ more) (t ∷ ts))
-merged_by_unroll P r d e more t ts straight product = by_unroll (λ g passes. P g) r 1 d e more t ts straight product
+pub merged_by_unroll : (P : PlainMerged → Type 0) (p : Request) (a b : Breakdown) →
+    (size_of a * size_of b ≤ p.unroll → P (kernel_merged (rooted_of p (node Dim a b)))) →
+    P (tensored 1 1 (tree_merged (first_of p) a) (plain_passes (rest_of p) b)) → P (plain_passes p (node Dim a b))
+merged_by_unroll P p a b straight apart = by_unroll (λ g passes. P g) p 1 a b straight apart
 
 -- ---- one processor and one lane have the whole, or they share it
 
--- two dimensions at least, and a tree for each
-pub by_first : (P : List Dimension → List Breakdown → Type 0) (r : SeveralRequest) (ts : List Breakdown) → AreTreesFor r ts →
-    ((d e : Dimension) (more : List Dimension) (t : Breakdown) (us : List Breakdown) → listed r.dimensions ≡ d ∷ e ∷ more → AreTreesFor r (t ∷ us) → P (d ∷ e ∷ more) (t ∷ us)) → P (listed r.dimensions) ts
-by_first P r ts trees each = cases (listed r.dimensions) ts refl trees
+pub plain_counts : (c : Request) → is_plain c ≡ true → (c.procs ≡ 1) × (c.lanes ≡ 1)
+plain_counts c plain = both_one c.procs c.lanes plain
   where
-    cases : (ds : List Dimension) (us : List Breakdown) → listed r.dimensions ≡ ds → AreTreesFor r us → P ds us
-    cases [] us is h = let many : 2 ≤ length {A = Dimension} [] = subst (λ es. 2 ≤ length es) is h.request.several in absurd (omega (arith, many))
-    cases (d ∷ []) us is h = let many : 2 ≤ length (d ∷ []) = subst (λ es. 2 ≤ length es) is h.request.several in absurd (omega (arith, many))
-    cases (d ∷ e ∷ more) [] is h = absurd (subst (λ es. AreAdmissible r es []) is h.admissible)
-    cases (d ∷ e ∷ more) (t ∷ us) is h = each d e more t us is h
+    both_one : (p v : ℕ) → (p == 1 && v == 1) ≡ true → (p ≡ 1) × (v ≡ 1)
+    both_one p v h = (grind (arith, nat_tests), grind (arith, nat_tests))
 
-pub plain_counts : (r : SeveralRequest) → is_plain (whole_of r) ≡ true → (r.procs ≡ 1) × (r.lanes ≡ 1)
-plain_counts r plain = both r.procs r.lanes plain
-  where
-    both : (p v : ℕ) → (p == 1 && v == 1) ≡ true → (p ≡ 1) × (v ≡ 1)
-    both p v h = (grind (arith, nat_tests), grind (arith, nat_tests))
-
-pub by_shares : (P : PlainMerged → List DimensionPass → Type 0) (r : SeveralRequest) (ts : List Breakdown) → AreTreesFor r ts →
-    ((d e : Dimension) (more : List Dimension) (t : Breakdown) (us : List Breakdown) → listed r.dimensions ≡ d ∷ e ∷ more → AreTreesFor r (t ∷ us) → (r.procs ≡ 1) × (r.lanes ≡ 1) →
-    P (plain_passes r (d ∷ e ∷ more) (t ∷ us)) (passes_in r 1 (d ∷ e ∷ more) (t ∷ us))) →
-    ((d e : Dimension) (more : List Dimension) (t : Breakdown) (us : List Breakdown) → listed r.dimensions ≡ d ∷ e ∷ more → AreTreesFor r (t ∷ us) →
-    P (shared_passes r (d ∷ e ∷ more) (t ∷ us)) (shared_passes_in r (d ∷ e ∷ more) (t ∷ us))) → P (several_merged r ts) (several_passes r ts)
-by_shares P r ts trees alone shared = pick (is_plain (whole_of r)) refl
-  where
-    pick : (b : Bool) → is_plain (whole_of r) ≡ b →
-        P (if b then plain_passes r (listed r.dimensions) ts else shared_passes r (listed r.dimensions) ts) (if b then passes_in r 1 (listed r.dimensions) ts else shared_passes_in r (listed r.dimensions) ts)
-    pick true plain =
-        by_first (λ ds us. P (plain_passes r ds us) (passes_in r 1 ds us)) r ts trees (λ d e more t us is h. alone d e more t us is h (plain_counts r plain))
-    pick false not_plain = by_first (λ ds us. P (shared_passes r ds us) (shared_passes_in r ds us)) r ts trees shared
+module _ (P : PlainMerged → List RequestPass → Type 0) (c : Request) (t : Breakdown) (h : IsDimTree c t) where
+  pub by_shares :
+      ((a b : Breakdown) → IsKnownDim c a b → (c.procs ≡ 1) × (c.lanes ≡ 1) →
+      P (plain_passes c (node Dim a b)) (passes_in c 1 (node Dim a b))) →
+      ((a b : Breakdown) → IsKnownDim c a b → Fits c (size_of a) (size_of b) → P (shared_dims c a b) (shared_passes c a b)) →
+      P (trees_merged c t) (request_passes c t)
+  by_shares alone shared = by_dim (λ u. P (trees_merged c u) (request_passes c u)) c t h each
+    where
+      each : (a b : Breakdown) → IsKnownDim c a b → (is_plain c ≡ false → Fits c (size_of a) (size_of b)) →
+          P (trees_merged c (node Dim a b)) (request_passes c (node Dim a b))
+      each a b known fits = pick (is_plain c) refl
+        where
+          pick : (plain : Bool) → is_plain c ≡ plain →
+              P (if plain then plain_passes c (node Dim a b) else shared_dims c a b)
+              (if plain then passes_in c 1 (node Dim a b) else shared_passes c a b)
+          pick true is = alone a b known (plain_counts c is)
+          pick false is = shared a b known (fits is)

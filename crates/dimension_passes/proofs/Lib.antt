@@ -1,9 +1,10 @@
-pub mod Requests
-pub mod Straight
+mod Calls
 pub mod Choices
-pub mod Parts
-pub mod Programs
-pub mod Means
-pub mod Tensors
-pub mod Scaled
 pub mod Counting
+pub mod Dims
+pub mod FlatPasses
+pub mod Means
+mod Parts
+pub mod Programs
+mod Scaled
+mod Straight

@@ -1,143 +1,165 @@
 -- The merged passes of dimensions are parts of tensor products.
-use Rattle.std.proofs.Common.{◌≡◌, ℕ, ◌+◌, ◌*◌, ◌≤◌, inl, inr, arith, refl, sym, ap, subst, List, [], ◌∷◌, length}
-use Rattle.std.proofs.Math.Nat.{mul-one}
-use Rattle.dimension_plans.specs.declared.SeveralRequest.{SeveralRequest}
-use Rattle.dimension_plans.specs.Several.{part_of, AreValid, FitsFirst}
-use Rattle.dimensions.specs.declared.Dimension.{Dimension}
-use Rattle.dimensions.specs.Transform.{listed, size_in}
+use Rattle.std.proofs.Common.{◌≡◌, ℕ, suc, ◌+◌, ◌*◌, ◌%◌, ◌<◌, ◌≤◌, false, inl, inr, arith, refl, sym, ap, ap₂, subst, ◌∙◌}
 use Rattle.formula_lower.specs.Merged.{tree_merged}
-use Rattle.kernel_passes.specs.Laws.{IsKernel}
 use Rattle.kernel_passes.specs.Merged.{kernel_merged}
+use Rattle.kernel_passes.proofs.Parts.{kernels_are_parts}
+use Rattle.matrix_meaning.specs.declared.Dimensions.TheVariants.{One}
+use Rattle.matrix_meaning.specs.declared.Request.{Request}
+use Rattle.matrix_meaning.specs.Parts.{first_of, rest_of}
+use Rattle.matrix_meaning.specs.Valid.{IsValid}
+use Rattle.matrix_meaning.proofs.Parts.{first_is_one}
 use Rattle.operators.specs.Sizes.{max_size}
-use Rattle.pass_actions.specs.Machine.{plain_machine}
+use Rattle.pass_actions.specs.Machine.{PlainMachine, plain_machine}
 use Rattle.pass_programs.specs.Contract.{IsHost}
 use Rattle.shared_tensors.specs.Laws.{AreParts, CanShare, IsPart}
 use Rattle.shared_tensors.specs.Tensored.{tensored}
-use Rattle.tree_model.specs.Admissible.{IsAdmissible}
-use Rattle.tree_model.specs.Breakdown.{Breakdown}
-use Rattle.tree_parts.specs.Parts.{IsForPart}
-use Rattle.tree_parts.proofs.TreesAreParts.{trees_are_parts}
-use Rattle.dimension_passes.specs.Laws.{AreTreesFor}
-use Rattle.dimension_passes.specs.Merged.{machine_of, plain_passes, rooted}
-use Rattle.kernel_passes.proofs.Parts.{kernels_are_parts}
 use Rattle.shared_tensors.proofs.PartAgain.{tensored_is_part}
-use Rattle.dimension_passes.proofs.Choices.{merged_by_unroll, plain_counts}
-use Rattle.dimension_passes.proofs.Requests.{AreKnown, IsDimension, first_of, known_behind, known_whole, others_of, two_in}
-use Rattle.dimension_passes.proofs.Straight.{rooted-makes, rooted-size}
+use Rattle.tree_model.specs.declared.tree.Rule.TheVariants.{Dim}
+use Rattle.tree_model.specs.Admissible.{Fits}
+use Rattle.tree_model.specs.Breakdown.{Breakdown, node, size_of}
+use Rattle.tree_model.specs.Cost.{is_plain}
+use Rattle.tree_model.specs.Whole.{rooted_of}
+use Rattle.tree_parts.proofs.TreesAreParts.{trees_are_parts}
+use Rattle.tree_passes.specs.Laws.{machine_of}
+use Rattle.dimension_passes.specs.Merged.{plain_passes}
+use Rattle.dimension_passes.proofs.Choices.{flat_plain, merged_by_unroll}
+use Rattle.dimension_passes.proofs.Dims.{IsFlat, IsKnown, IsKnownDim, behind, by_dims, few_behind, first_plain, flat_admissible, flat_behind, rest_plain}
+use Rattle.dimension_passes.proofs.Straight.{rooted_size, straight}
+
+-- a place has one part more for each dimension
+abbrev pub room_for : Breakdown → ℕ
+room_for t = 41 + behind t
 
 -- ---- one dimension
 
-pub for_part : (r : SeveralRequest) (d : Dimension) → IsDimension r d → IsForPart (part_of r d)
-for_part r d h = record { valid = h.1; two = h.0; procs = refl; line = refl; lanes = refl }
-
-one_part : (r : SeveralRequest) (d : Dimension) (t : Breakdown) (room : ℕ) → IsDimension r d → IsAdmissible (part_of r d) t → 41 ≤ room → room ≤ 64 →
-    IsPart d.size r.modulus room (tree_merged (part_of r d) t)
-one_part r d t room valid h enough high = trees_are_parts (part_of r d) t room (for_part r d valid) h enough high
+one_part : (p : Request) (t : Breakdown) (room : ℕ) → IsKnown p t → p.dimensions ≡ One → 41 ≤ room → room ≤ 64 →
+    IsPart p.size p.modulus room (tree_merged p t)
+one_part p t room known one enough high = trees_are_parts p t room known.part (flat_admissible p t known one) enough high
 
 -- ---- several, for one processor and one lane
 
-pub plain_shares : (r : SeveralRequest) (d e : Dimension) (more : List Dimension) → AreValid r (d ∷ e ∷ more) → size_in (d ∷ e ∷ more) ≤ max_size →
-    CanShare (plain_machine (size_in (d ∷ e ∷ more)) r.modulus) d.size (size_in (e ∷ more))
-plain_shares r d e more valid small =
-    let first = first_of r d (e ∷ more) valid in
-    let large = first.1.in_range.modulus in
-    let two = two_in r d (e ∷ more) valid in
-    record {
-      host = record { size = (omega (arith, two), small); modulus = (large.0, omega (arith, large)); procs = (omega arith, omega arith); line = (omega arith, omega arith); lanes = (omega arith, omega arith) };
-      left = first.0;
-      right = two_in r e more (others_of r d (e ∷ more) valid);
-      product = refl;
-      procs = λ several. absurd (omega (arith, several));
-      lanes = λ several. absurd (omega (arith, several));
-      lanes_in_line = λ several. absurd (omega (arith, several));
-    }
-
--- a place has one part more for each dimension
-abbrev pub room_for : List Dimension → ℕ
-room_for others = 41 + length others
-
-module _ (r : SeveralRequest) (d e : Dimension) (more : List Dimension) (t : Breakdown) (ts : List Breakdown) (known : AreKnown r (d ∷ e ∷ more) (t ∷ ts)) where
-  both_parts : IsPart (size_in (e ∷ more)) r.modulus (room_for more) (plain_passes r (e ∷ more) ts) →
-      AreParts (plain_machine (size_in (d ∷ e ∷ more)) r.modulus) d.size (size_in (e ∷ more)) (room_for more) (tree_merged (part_of r d) t) (plain_passes r (e ∷ more) ts)
-  both_parts right =
-      let few = known.few in
+module _ (c : Request) (a b : Breakdown) (h : IsKnownDim c a b) where
+  pub shares_for : (host : PlainMachine) → IsHost host → size_of a * size_of b ≡ host.size →
+      (1 < host.procs → (size_of a % (host.procs * host.line) ≡ 0) × (size_of b % (host.procs * host.line) ≡ 0)) →
+      (1 < host.lanes → (size_of a % host.lanes ≡ 0) × (size_of b % host.lanes ≡ 0)) →
+      (1 < host.procs → host.line % host.lanes ≡ 0) → CanShare host (size_of a) (size_of b)
+  shares_for host is product procs lanes in_line =
+      let left = h.first.part.two in
+      let right = h.rest.part.two in
+      let first = h.first.size in
+      let rest = h.rest.size in
       record {
-        shares = plain_shares r d e more known.valid known.small;
-        left_part = one_part r d t (room_for more) (first_of r d (e ∷ more) known.valid) known.admissible.0 (omega arith) (omega (arith, few));
-        right_part = right;
+        host = is;
+        left = omega (arith, left, first);
+        right = omega (arith, right, rest);
+        product = product;
+        procs = procs;
+        lanes = lanes;
+        lanes_in_line = in_line;
       }
 
--- trees of no more words than are unrolled are straight-line code
-pub straight : (r : SeveralRequest) (d e : Dimension) (more : List Dimension) (ts : List Breakdown) → AreKnown r (d ∷ e ∷ more) ts → size_in (d ∷ e ∷ more) ≤ r.unroll → IsKernel r.modulus (rooted (d ∷ e ∷ more) ts)
-straight r d e more ts known short =
-    let range = (first_of r d (e ∷ more) known.valid).1.in_range in
-    let large = range.modulus in
-    let unroll = range.unroll in
-    let two = two_in r d (e ∷ more) known.valid in
-    let size = rooted-size r d (e ∷ more) ts known.admissible in
+  -- a machine of one processor and one lane for as many words
+  pub plain_host : IsHost (plain_machine c.size c.modulus)
+  plain_host =
+      let range = h.valid.in_range in
+      let large = range.modulus in
+      record {
+        size = range.size;
+        modulus = (large.0, omega (arith, large));
+        procs = (omega arith, omega arith);
+        line = (omega arith, omega arith);
+        lanes = (omega arith, omega arith);
+      }
+
+  pub plain_shares : CanShare (plain_machine c.size c.modulus) (size_of a) (size_of b)
+  plain_shares =
+      shares_for (plain_machine c.size c.modulus) plain_host h.size
+      (λ several. absurd (omega (arith, several)))
+      (λ several. absurd (omega (arith, several)))
+      (λ several. absurd (omega (arith, several)))
+
+  -- the passes of the first dimension's tree, where there are at most four dimensions
+  left_part : behind b ≤ 3 → IsPart (size_of a) c.modulus (room_for b) (tree_merged (first_of c) a)
+  left_part few =
+      subst (λ m. IsPart (size_of a) m (room_for b) (tree_merged (first_of c) a)) (first_plain c h.several).modulus
+      (subst (λ n. IsPart n (first_of c).modulus (room_for b) (tree_merged (first_of c) a)) (sym h.first.size)
+      (one_part (first_of c) a (room_for b) h.first (first_is_one c h.several) (omega arith) (omega (arith, few))))
+
+-- the passes of a known tree are a part
+abbrev IsPlainPart : Request → Breakdown → Type 0
+IsPlainPart p t = IsPart p.size p.modulus (room_for t) (plain_passes p t)
+
+flat_part : (p : Request) (t : Breakdown) → IsKnown p t → p.dimensions ≡ One → IsFlat t → IsPlainPart p t
+flat_part p t known one flat =
+    subst (IsPart p.size p.modulus (room_for t)) (sym (flat_plain p t flat))
+    (subst (λ n. IsPart p.size p.modulus (41 + n) (tree_merged p t)) (sym (flat_behind t flat))
+    (one_part p t 41 known one (omega arith) (omega arith)))
+
+right_part : (c : Request) (a b : Breakdown) → IsKnownDim c a b → IsPlainPart (rest_of c) b →
+    IsPart (size_of b) c.modulus (room_for b) (plain_passes (rest_of c) b)
+right_part c a b h rest =
+    subst (λ m. IsPart (size_of b) m (room_for b) (plain_passes (rest_of c) b)) (rest_plain c h.several).modulus
+    (subst (λ n. IsPart n (rest_of c).modulus (room_for b) (plain_passes (rest_of c) b)) (sym h.rest.size) rest)
+
+both_parts : (c : Request) (a b : Breakdown) (h : IsKnownDim c a b) → IsPlainPart (rest_of c) b → (host : PlainMachine) →
+    host.modulus ≡ c.modulus → CanShare host (size_of a) (size_of b) →
+    AreParts host (size_of a) (size_of b) (room_for b) (tree_merged (first_of c) a) (plain_passes (rest_of c) b)
+both_parts c a b h rest host same shares =
     record {
-      modulus = (large.0, omega (arith, large));
-      makes = rooted-makes r d (e ∷ more) ts known.valid known.admissible;
-      two = omega (arith, size, two);
-      short = omega (arith, size, short, unroll);
+      shares = shares;
+      left_part = subst (λ m. IsPart (size_of a) m (room_for b) (tree_merged (first_of c) a)) (sym same)
+          (left_part c a b h (few_behind (rest_of c) b h.rest.tree));
+      right_part = subst (λ m. IsPart (size_of b) m (room_for b) (plain_passes (rest_of c) b)) (sym same) (right_part c a b h rest);
     }
 
-pub plain_part : (r : SeveralRequest) (d : Dimension) (others : List Dimension) (ts : List Breakdown) → AreKnown r (d ∷ others) ts → IsPart (size_in (d ∷ others)) r.modulus (room_for others) (plain_passes r (d ∷ others) ts)
-plain_part r d others [] known = absurd known.admissible
-plain_part r d [] (t ∷ ts) known =
-    subst (λ n. IsPart n r.modulus 41 (tree_merged (part_of r d) t)) (sym (mul-one d.size)) (one_part r d t 41 (first_of r d [] known.valid) known.admissible.0 (omega arith) (omega arith))
-plain_part r d (e ∷ more) (t ∷ ts) known =
-    let room = room_for (e ∷ more) in
-    let n = size_in (d ∷ e ∷ more) in
-    let trees = rooted (d ∷ e ∷ more) (t ∷ ts) in
-    let few = known.few in
-    let next : room_for more + 1 ≡ room = omega arith in
-    merged_by_unroll (IsPart n r.modulus room) r d e more t ts
-    (λ short. subst (λ size. IsPart size r.modulus room (kernel_merged trees)) (rooted-size r d (e ∷ more) (t ∷ ts) known.admissible) (kernels_are_parts r.modulus room trees (straight r d e more (t ∷ ts) known short)))
-    (subst (λ some. IsPart n r.modulus some (tensored 1 1 (tree_merged (part_of r d) t) (plain_passes r (e ∷ more) ts))) next
-    (tensored_is_part n r.modulus d.size (size_in (e ∷ more)) (room_for more) (tree_merged (part_of r d) t) (plain_passes r (e ∷ more) ts) (omega (arith, few))
-    (both_parts r d e more t ts known (plain_part r e more ts (known_behind r d (e ∷ more) t ts known)))))
+dim_part : (p : Request) (a b : Breakdown) → IsKnownDim p a b → IsPlainPart (rest_of p) b → IsPlainPart p (node Dim a b)
+dim_part p a b h rest =
+    let room = room_for (node Dim a b) in
+    let trees = rooted_of p (node Dim a b) in
+    let few = few_behind (rest_of p) b h.rest.tree in
+    let next : room_for b + 1 ≡ room = omega arith in
+    merged_by_unroll (IsPart p.size p.modulus room) p a b
+    (λ short.
+    subst (λ n. IsPart n p.modulus room (kernel_merged trees)) (rooted_size p (node Dim a b) ∙ h.size)
+    (kernels_are_parts p.modulus room trees (straight p a b h short)))
+    (subst (λ some. IsPart p.size p.modulus some (tensored 1 1 (tree_merged (first_of p) a) (plain_passes (rest_of p) b))) next
+    (tensored_is_part p.size p.modulus (size_of a) (size_of b) (room_for b) (tree_merged (first_of p) a) (plain_passes (rest_of p) b)
+    (omega (arith, few))
+    (both_parts p a b h rest (plain_machine p.size p.modulus) refl (plain_shares p a b h))))
 
-pub plain_parts : (r : SeveralRequest) (d e : Dimension) (more : List Dimension) (t : Breakdown) (ts : List Breakdown) → AreKnown r (d ∷ e ∷ more) (t ∷ ts) →
-    AreParts (plain_machine (size_in (d ∷ e ∷ more)) r.modulus) d.size (size_in (e ∷ more)) (room_for more) (tree_merged (part_of r d) t) (plain_passes r (e ∷ more) ts)
-plain_parts r d e more t ts known = both_parts r d e more t ts known (plain_part r e more ts (known_behind r d (e ∷ more) t ts known))
+pub plain_part : (p : Request) (t : Breakdown) → IsKnown p t → IsPart p.size p.modulus (room_for t) (plain_passes p t)
+plain_part p t known = by_dims IsPlainPart flat_part dim_part p t known
 
--- ---- the whole
+-- both parts of a dim on any machine that can share them
+pub dim_parts : (c : Request) (a b : Breakdown) → IsKnownDim c a b → (host : PlainMachine) →
+    host.modulus ≡ c.modulus → CanShare host (size_of a) (size_of b) →
+    AreParts host (size_of a) (size_of b) (room_for b) (tree_merged (first_of c) a) (plain_passes (rest_of c) b)
+dim_parts c a b h host same shares = both_parts c a b h (plain_part (rest_of c) b h.rest) host same shares
 
-module _ (r : SeveralRequest) (d e : Dimension) (more : List Dimension) (t : Breakdown) (ts : List Breakdown) (is : listed r.dimensions ≡ d ∷ e ∷ more) (trees : AreTreesFor r (t ∷ ts)) where
-  pub host : IsHost (machine_of r)
-  host =
-      let range = trees.request.whole in
-      let large = range.modulus in
-      record { size = range.size; modulus = (large.0, omega (arith, large)); procs = range.procs; line = range.line; lanes = range.lanes }
+-- ---- the machine of the request
 
-  pub all_known : AreKnown r (d ∷ e ∷ more) (t ∷ ts)
-  all_known = known_whole r (d ∷ e ∷ more) (t ∷ ts) is trees
+pub host_of : (c : Request) → IsValid c → IsHost (machine_of c)
+host_of c valid =
+    let range = valid.in_range in
+    let large = range.modulus in
+    record { size = range.size; modulus = (large.0, omega (arith, large)); procs = range.procs; line = range.line; lanes = range.lanes }
 
-  whole_shares : FitsFirst r (d ∷ e ∷ more) → CanShare (machine_of r) d.size (size_in (e ∷ more))
-  whole_shares fits =
-      let plain = plain_shares r d e more all_known.valid all_known.small in
-      let product : d.size * size_in (e ∷ more) ≡ (machine_of r).size = ap size_in (sym is) in
-      let lanes_in_line = trees.request.whole.lanes_in_line in
-      elim fits [
-        | inl plain_whole ↦
-            let one = plain_counts r plain_whole in
-            let procs = one.0 in
-            let lanes = one.1 in
-            record {
-              host = host;
-              left = plain.left;
-              right = plain.right;
-              product = product;
-              procs = λ several. absurd (omega (arith, several, procs));
-              lanes = λ several. absurd (omega (arith, several, lanes));
-              lanes_in_line = lanes_in_line;
-            }
-        | inr shared ↦
-            record { host = host; left = plain.left; right = plain.right; product = product; procs = shared.procs; lanes = shared.lanes; lanes_in_line = lanes_in_line }
-      ]
+module _ (c : Request) (a b : Breakdown) (h : IsKnownDim c a b) where
+  -- of one processor and one lane
+  pub alone_shares : (c.procs ≡ 1) × (c.lanes ≡ 1) → CanShare (machine_of c) (size_of a) (size_of b)
+  alone_shares one =
+      let procs = one.0 in
+      let lanes = one.1 in
+      shares_for c a b h (machine_of c) (host_of c h.valid) h.size
+      (λ several. absurd (omega (arith, several, procs)))
+      (λ several. absurd (omega (arith, several, lanes)))
+      h.valid.in_range.lanes_in_line
 
-  pub whole_parts : AreParts (machine_of r) d.size (size_in (e ∷ more)) (room_for more) (tree_merged (part_of r d) t) (plain_passes r (e ∷ more) ts)
-  whole_parts =
-      let plain = plain_parts r d e more t ts all_known in
-      record { shares = whole_shares (subst (FitsFirst r) is trees.shares); left_part = plain.left_part; right_part = plain.right_part }
+  -- or of several that share the dim
+  pub fitting_shares : Fits c (size_of a) (size_of b) → CanShare (machine_of c) (size_of a) (size_of b)
+  fitting_shares fits =
+      shares_for c a b h (machine_of c) (host_of c h.valid) h.size fits.procs fits.lanes h.valid.in_range.lanes_in_line
+
+  pub machine_parts : CanShare (machine_of c) (size_of a) (size_of b) →
+      AreParts (machine_of c) (size_of a) (size_of b) (room_for b) (tree_merged (first_of c) a) (plain_passes (rest_of c) b)
+  machine_parts shares = dim_parts c a b h (machine_of c) refl shares

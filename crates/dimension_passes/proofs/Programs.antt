@@ -1,36 +1,41 @@
 -- A program can be made of the merged passes of several dimensions.
-use Rattle.std.proofs.Common.{◌≡◌, arith, sym, ap, ◌∙◌, subst, List, ◌∷◌}
-use Rattle.dimension_plans.specs.declared.SeveralRequest.{SeveralRequest}
-use Rattle.dimension_plans.specs.Several.{part_of}
-use Rattle.dimensions.specs.declared.Dimension.{Dimension}
-use Rattle.dimensions.specs.Transform.{listed, size_in}
+use Rattle.std.proofs.Common.{◌≡◌, arith, ◌∙◌, subst}
 use Rattle.formula_lower.specs.Merged.{tree_merged}
-use Rattle.pass_programs.specs.Contract.{CanProgram}
-use Rattle.shared_tensors.specs.Tensored.{tensored}
-use Rattle.tree_model.specs.Breakdown.{Breakdown}
-use Rattle.dimension_passes.specs.Laws.{AreTreesFor, SeveralCanProgram}
-use Rattle.dimension_passes.specs.Merged.{machine_of, plain_passes, rooted, shared_passes}
 use Rattle.kernel_passes.proofs.Programs.{kernels_can_program}
+use Rattle.matrix_meaning.specs.declared.Request.{Request}
+use Rattle.matrix_meaning.specs.Parts.{first_of, rest_of}
+use Rattle.pass_programs.specs.Contract.{CanProgram}
+use Rattle.shared_tensors.specs.Laws.{CanShare}
+use Rattle.shared_tensors.specs.Tensored.{tensored}
 use Rattle.shared_tensors.proofs.PartAgain.{tensored_can_program}
+use Rattle.tree_model.specs.declared.tree.Rule.TheVariants.{Dim}
+use Rattle.tree_model.specs.Breakdown.{Breakdown, node, size_of}
+use Rattle.tree_model.specs.Whole.{rooted_of}
+use Rattle.tree_passes.specs.Laws.{machine_of}
+use Rattle.dimension_passes.specs.Laws.{DimsCanProgram}
+use Rattle.dimension_passes.specs.Merged.{plain_passes, shared_dims}
 use Rattle.dimension_passes.proofs.Choices.{by_shares, merged_by_unroll}
-use Rattle.dimension_passes.proofs.Parts.{all_known, host, room_for, straight, whole_parts}
-use Rattle.dimension_passes.proofs.Straight.{rooted-size}
+use Rattle.dimension_passes.proofs.Dims.{IsKnownDim, few_behind}
+use Rattle.dimension_passes.proofs.Parts.{alone_shares, fitting_shares, host_of, machine_parts, room_for}
+use Rattle.dimension_passes.proofs.Straight.{rooted_size, straight}
 
-module _ (r : SeveralRequest) (d e : Dimension) (more : List Dimension) (t : Breakdown) (us : List Breakdown) (is : listed r.dimensions ≡ d ∷ e ∷ more) (h : AreTreesFor r (t ∷ us)) where
-  shared_can : CanProgram (machine_of r) (shared_passes r (d ∷ e ∷ more) (t ∷ us))
-  shared_can =
-      let few = (all_known r d e more t us is h).few in
-      tensored_can_program (machine_of r) d.size (size_in (e ∷ more)) (room_for more) (tree_merged (part_of r d) t) (plain_passes r (e ∷ more) us) (omega (arith, few)) (whole_parts r d e more t us is h)
+module _ (c : Request) (a b : Breakdown) (h : IsKnownDim c a b) where
+  shared_can : CanShare (machine_of c) (size_of a) (size_of b) → CanProgram (machine_of c) (shared_dims c a b)
+  shared_can shares =
+      let few = few_behind (rest_of c) b h.rest.tree in
+      tensored_can_program (machine_of c) (size_of a) (size_of b) (room_for b) (tree_merged (first_of c) a) (plain_passes (rest_of c) b)
+      (omega (arith, few)) (machine_parts c a b h shares)
 
-  plain_can : (r.procs ≡ 1) × (r.lanes ≡ 1) → CanProgram (machine_of r) (plain_passes r (d ∷ e ∷ more) (t ∷ us))
+  plain_can : (c.procs ≡ 1) × (c.lanes ≡ 1) → CanProgram (machine_of c) (plain_passes c (node Dim a b))
   plain_can one =
-      let known = all_known r d e more t us is h in
-      let left = tree_merged (part_of r d) t in
-      let right = plain_passes r (e ∷ more) us in
-      merged_by_unroll (CanProgram (machine_of r)) r d e more t us
-      (λ short. kernels_can_program (machine_of r) (rooted (d ∷ e ∷ more) (t ∷ us)) (host r d e more t us is h) one.0 one.1
-      (rooted-size r d (e ∷ more) (t ∷ us) known.admissible ∙ ap size_in (sym is)) (straight r d e more (t ∷ us) known short))
-      (subst (λ p. CanProgram (machine_of r) (tensored p 1 left right)) one.0 (subst (λ v. CanProgram (machine_of r) (tensored r.procs v left right)) one.1 shared_can))
+      let left = tree_merged (first_of c) a in
+      let right = plain_passes (rest_of c) b in
+      merged_by_unroll (CanProgram (machine_of c)) c a b
+      (λ short. kernels_can_program (machine_of c) (rooted_of c (node Dim a b)) (host_of c h.valid) one.0 one.1
+      (rooted_size c (node Dim a b) ∙ h.size) (straight c a b h short))
+      (subst (λ p. CanProgram (machine_of c) (tensored p 1 left right)) one.0
+      (subst (λ v. CanProgram (machine_of c) (tensored c.procs v left right)) one.1 (shared_can (alone_shares c a b h one))))
 
-pub several_can_program : SeveralCanProgram
-several_can_program r ts trees = by_shares (λ g passes. CanProgram (machine_of r) g) r ts trees (plain_can r) (shared_can r)
+pub dims_can_program : DimsCanProgram
+dims_can_program c t h =
+    by_shares (λ g passes. CanProgram (machine_of c) g) c t h (plain_can c) (λ a b known fits. shared_can c a b known (fitting_shares c a b known fits))

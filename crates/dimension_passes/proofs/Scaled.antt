@@ -5,10 +5,12 @@ use Rattle.std.proofs.Math.Nat.{mul-one}
 use Rattle.std.proofs.lemmas.List.{map-append}
 use Rattle.matrix_meaning.specs.declared.Request.{Request}
 use Rattle.tree_model.specs.declared.tree.Rule.{Rule}
-use Rattle.tree_model.specs.declared.tree.Rule.TheVariants.{Gt, Ct, Split}
+use Rattle.tree_model.specs.declared.tree.Rule.TheVariants.{Gt, Ct, Split, Dim}
 use Rattle.tree_model.specs.Breakdown.{Breakdown, leaf, node, size_of}
-use Rattle.tree_model.specs.Cost.{cost_of, is_kernel, mul_cost_of}
-use Rattle.tree_model.specs.Passes.{Pass, nodes, tiles, node_loads, pass_cost, pass_loads, passes_of, twiddle_by, twiddle_last, with_twiddles}
+use Rattle.tree_model.specs.Cost.{is_kernel, mul_cost_of}
+use Rattle.tree_model.specs.Passes.{Pass, nodes, tiles, node_loads, pass_loads, passes_of, twiddle_by, twiddle_last, with_twiddles}
+use Rattle.tree_model.specs.Whole.{cost_in}
+use Rattle.tree_model.specs.WholePasses.{pass_cost_in}
 
 abbrev pub scaled : ℕ → Pass → Pass
 scaled k (nodes count t twiddled) = nodes (k * count) t twiddled
@@ -27,6 +29,7 @@ scaled-by : (k : ℕ) (rule : Rule) (ps : List Pass) → twiddle_by rule (map (s
 scaled-by k Gt ps = refl
 scaled-by k Ct ps = scaled-last k ps
 scaled-by k Split ps = refl
+scaled-by k Dim ps = refl
 
 scaled-pick : (k : ℕ) (b : Bool) (ps qs us vs : List Pass) → ps ≡ map (scaled k) us → qs ≡ map (scaled k) vs → (if b then ps else qs) ≡ map (scaled k) (if b then us else vs)
 scaled-pick k true ps qs us vs h g = h
@@ -52,10 +55,11 @@ times-pick : (k n x y : ℕ) (b : Bool) → k * x + (if b then y * (k * n) else 
 times-pick k n x y true = omega arith
 times-pick k n x y false = omega arith
 
-pub cost-scales : (c : Request) (k n : ℕ) (p : Pass) → pass_cost c (k * n) (scaled k p) ≡ k * pass_cost c n p
+pub cost-scales : (c : Request) (k n : ℕ) (p : Pass) → pass_cost_in c (k * n) (scaled k p) ≡ k * pass_cost_in c n p
 cost-scales c k n (nodes count t twiddled) =
-    let apart : k * count * cost_of c t ≡ k * (count * cost_of c t) = omega arith in
-    ap (λ v. v + (if twiddled then mul_cost_of c * (k * n) else 0)) apart ∙ times-pick k n (count * cost_of c t) (mul_cost_of c) twiddled
+    let apart : k * count * cost_in c t ≡ k * (count * cost_in c t) = omega arith in
+    ap (λ v. v + (if twiddled then mul_cost_of c * (k * n) else 0)) apart
+    ∙ times-pick k n (count * cost_in c t) (mul_cost_of c) twiddled
 cost-scales c k n (tiles twiddled) = let none = times-pick k n 0 (mul_cost_of c) twiddled in omega (arith, none)
 
 loads-pick : (k n d : ℕ) (b : Bool) → (if b then k * n else k * n * d) ≡ k * (if b then n else n * d)

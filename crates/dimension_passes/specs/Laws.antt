@@ -1,42 +1,37 @@
 -- What the merged passes of several dimensions do and count, and that a program can be made of them.
-use Rattle.std.specs.Prelude.{◌≡◌, ℕ, ◌==◌, if◌then◌else◌, List, length, map}
-use Rattle.dimension_plans.specs.declared.SeveralRequest.{SeveralRequest}
-use Rattle.dimension_plans.specs.Several.{AreAdmissible, CanShare, IsSeveralRequest}
-use Rattle.dimensions.specs.Transform.{listed, transform_in}
+use Rattle.std.specs.Prelude.{◌≡◌, ◌≢◌, ℕ, ◌==◌, if◌then◌else◌, List, length, map}
+use Rattle.matrix_meaning.specs.Asked.{asked_of}
+use Rattle.matrix_meaning.specs.declared.Dimensions.TheVariants.{One}
+use Rattle.matrix_meaning.specs.declared.Request.{Request}
+use Rattle.matrix_meaning.specs.Valid.{IsValid}
 use Rattle.pass_actions.specs.Costs.{pass_cost, pass_loads}
 use Rattle.pass_programs.specs.Contract.{CanProgram, all_passes}
-use Rattle.passes.specs.Merged.{merged_on}
+use Rattle.passes.specs.Merged.{PlainMerged, merged_on}
 use Rattle.tree_model.specs.Breakdown.{Breakdown}
-use Rattle.dimension_passes.specs.Counts.{cost_of_pass, loads_of_pass, several_passes}
-use Rattle.dimension_passes.specs.Merged.{machine_of, several_merged}
+use Rattle.tree_model.specs.Chosen.{IsWholeTree}
+use Rattle.tree_model.specs.WholePasses.{cost_of_pass, loads_of_pass, request_passes}
+use Rattle.tree_passes.specs.Laws.{machine_of}
+use Rattle.dimension_passes.specs.Merged.{trees_merged}
 
--- trees for a request, which its processors and lanes can share
-pub record AreTreesFor (r : SeveralRequest) (ts : List Breakdown) : Type 0 where
-  pub request : IsSeveralRequest r
-  pub shares : CanShare r
-  pub admissible : AreAdmissible r (listed r.dimensions) ts
+-- a valid request of several dimensions, and a tree that it admits
+pub record IsDimTree (c : Request) (t : Breakdown) : Type 0 where
+  pub valid : IsValid c
+  pub several : c.dimensions ≢ One
+  pub tree : IsWholeTree c t
 
 -- a program can be made of them
-abbrev pub SeveralCanProgram : Type 0
-SeveralCanProgram =
-    (r : SeveralRequest) (ts : List Breakdown) → AreTreesFor r ts → CanProgram (machine_of r) (several_merged r ts)
+abbrev pub DimsCanProgram : Type 0
+DimsCanProgram = (c : Request) (t : Breakdown) → IsDimTree c t → CanProgram (machine_of c) (trees_merged c t)
 
 -- they do the transform
-abbrev pub SeveralMeans : Type 0
-SeveralMeans =
-    (r : SeveralRequest) (ts : List Breakdown) (x : List ℕ) → AreTreesFor r ts →
-    merged_on r.modulus (several_merged r ts) x ≡ transform_in (listed r.dimensions) r.modulus x
+abbrev pub DimsMean : Type 0
+DimsMean = (c : Request) (t : Breakdown) (x : List ℕ) → IsDimTree c t → merged_on c.modulus (trees_merged c t) x ≡ asked_of c x
 
--- pass by pass they count what the cost model does; there is one phase,
--- or there are two where there are several processors
-pub record CountsSeveral (r : SeveralRequest) (ts : List Breakdown) : Type 0 where
-  pub phases : length (several_merged r ts).phases ≡ (if r.procs == 1 then 1 else 2)
-  pub costs :
-      map (pass_cost r.weight r.modulus) (all_passes (several_merged r ts).phases)
-      ≡ map (cost_of_pass r) (several_passes r ts)
-  pub loads :
-      map pass_loads (all_passes (several_merged r ts).phases)
-      ≡ map (loads_of_pass r) (several_passes r ts)
+-- Pass by pass these passes count what the cost model does. There is one phase, or there are two where there are several processors
+pub record CountsRequest (c : Request) (t : Breakdown) (g : PlainMerged) : Type 0 where
+  pub phases : length g.phases ≡ (if c.procs == 1 then 1 else 2)
+  pub costs : map (pass_cost c.weight c.modulus) (all_passes g.phases) ≡ map (cost_of_pass c.size) (request_passes c t)
+  pub loads : map pass_loads (all_passes g.phases) ≡ map (loads_of_pass c.size) (request_passes c t)
 
-abbrev pub SeveralCount : Type 0
-SeveralCount = (r : SeveralRequest) (ts : List Breakdown) → AreTreesFor r ts → CountsSeveral r ts
+abbrev pub DimsCount : Type 0
+DimsCount = (c : Request) (t : Breakdown) → IsDimTree c t → CountsRequest c t (trees_merged c t)

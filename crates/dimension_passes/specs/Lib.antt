@@ -1,3 +1,3 @@
 pub mod Merged
-pub mod Counts
 pub mod Laws
+pub mod Plain

@@ -12,7 +12,7 @@ use Rattle.formula_lower.proofs.Lowers.{coprime}
 use Rattle.formula_lower.proofs.Moves.{left_positive}
 use Rattle.formula_lower.proofs.Numbers.{numbers-wrapped, strided-closed, in-closed, out-closed}
 use Rattle.formula_lower.proofs.Parts.{size-more}
-use Rattle.rooted_trees.specs.Trees.{single}
+use Rattle.tree_model.specs.Trees.{single}
 use Rattle.sigma_lower.specs.Wrapped.{wrapped}
 use Rattle.spl_ast.specs.Formula.{Formula, Identity, Fourier, Hadamard, Twiddles, Diagonal, Stride, Permutation, GoodThomasIn, GoodThomasOut, Product, TensorLeft, TensorRight, DirectSum, Pending, size_of}
 use Rattle.spl_ast.specs.Shape.{IsShaped}

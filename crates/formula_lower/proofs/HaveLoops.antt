@@ -17,7 +17,7 @@ use Rattle.steps.specs.declared.target.Target.{Target}
 use Rattle.tensor_paths.specs.declared.Tensor.TheVariants.{Blocks}
 use Rattle.tensor_paths.specs.Path.{Path}
 use Rattle.tree_model.specs.declared.tree.Rule.{Rule}
-use Rattle.tree_model.specs.declared.tree.Rule.TheVariants.{Gt, Ct, Split}
+use Rattle.tree_model.specs.declared.tree.Rule.TheVariants.{Gt, Ct, Split, Dim}
 
 -- ---- a nest among the terms
 
@@ -95,6 +95,7 @@ rule-piece : (rule : Rule) (path : Path) (r s w : ℕ) (left right : List PlainS
 rule-piece Gt path r s w left right h = piece-front right _ h
 rule-piece Ct path r s w left right h = piece-front right _ h
 rule-piece Split path r s w left right h = piece-front right left h
+rule-piece Dim path r s w left right h = piece-front right left h
 
 steps-piece : (path : Path) (l : Layout) → HasPiece (steps_of path l)
 steps-piece path (work w) = tt
@@ -126,6 +127,10 @@ right-have : (c : Target) (p v : ℕ) (rule : Rule) (w : ℕ) (a b : Layout) →
 right-have c p v Gt w a b fits = absurd fits
 right-have c p v Ct w a b fits = right-nest (turned_in p v (layout_size a) (layout_size b)) _ (left-nest (map lowered (steps_of (right_path p v (layout_size a)) b)) _ (lowered-nest (steps_of (right_path p v (layout_size a)) b) (steps-piece (right_path p v (layout_size a)) b)))
 right-have c p v Split w a b fits = right-nest (tiled_before p v (layout_size a) (layout_size b)) _ (left-nest (map lowered (steps_of (right_path p v (layout_size a)) b)) _ (lowered-nest (steps_of (right_path p v (layout_size a)) b) (steps-piece (right_path p v (layout_size a)) b)))
+right-have c p v Dim w a b fits =
+    right-nest (tiled_before p v (layout_size a) (layout_size b)) _
+    (left-nest (map lowered (steps_of (right_path p v (layout_size a)) b)) _
+    (lowered-nest (steps_of (right_path p v (layout_size a)) b) (steps-piece (right_path p v (layout_size a)) b)))
 
 -- ---- phases
 

@@ -7,7 +7,7 @@ use Rattle.matrix_meaning.specs.declared.Kind.TheVariants.{Wht}
 use Rattle.matrix_meaning.specs.Kind.{IsPowerOfTwo}
 use Rattle.passes.specs.Term.{same, nest, product}
 use Rattle.passes.specs.Work.{kernel}
-use Rattle.rooted_trees.specs.Trees.{single}
+use Rattle.tree_model.specs.Trees.{single}
 use Rattle.formula_lower.specs.Terms.{one_more, halvings, hadamard_term}
 use Rattle.formula_lower.proofs.Lowers.{halvings-power, power-above}
 use Rattle.formula_lower.proofs.Parts.{grown-one}

@@ -26,7 +26,7 @@ use Rattle.passes.specs.Work.{kernel, horner}
 use Rattle.passes.proofs.CopiesMerge.{low, high}
 use Rattle.passes.proofs.Keeps.{under-vector, under-none, vector-fill, both-equal, front, back, front-vector, back-vector}
 use Rattle.passes.proofs.Walk.{vector-below}
-use Rattle.rooted_trees.specs.Trees.{single}
+use Rattle.tree_model.specs.Trees.{single}
 use Rattle.formula_lower.specs.Terms.{one_more, halvings, hadamard_term, fourier_term, term_of, Lowers, LowerKeeps}
 use Rattle.formula_lower.proofs.Moves.{left_positive, move-wrapped, strided-move, in-move, out-move}
 use Rattle.formula_lower.proofs.Parts.{transform-work, nest-lowers, move-lowers, diag-lowers, product-lowers, lowers-as, size-more, more-lowers, under-keeps}
@@ -64,7 +64,8 @@ hadamard-one m y v =
     sym (vector-fill m 1 y _ v (λ i below.
     let first : i ≡ 0 = omega arith in
     let value : 0 + 1 * slice_index y 0 ≡ slice_index y 0 = omega arith in
-    subst (λ j. (0 + entry_of Wht m 0 j 0 * slice_index y 0) % m ≡ slice_index y j) (sym first) (ap (λ s. s % m) value ∙ mod-eq_of_lt (v.residues 0 (omega arith)))))
+    subst (λ j. (0 + entry_of Wht m 1 0 j 0 * slice_index y 0) % m ≡ slice_index y j) (sym first)
+    (ap (λ s. s % m) value ∙ mod-eq_of_lt (v.residues 0 (omega arith)))))
 
 hadamard-lowers : (m : ℕ) (path : Path) (k : ℕ) → 0 < m → Lowers m (size_under path (2 ^ k)) (hadamard_term path k) (under path (2 ^ k) (transform Wht m (2 ^ k) 0))
 hadamard-lowers m path zero positive =

@@ -21,7 +21,7 @@ use Rattle.steps.specs.declared.target.Target.{Target}
 use Rattle.tensor_paths.specs.declared.Tensor.TheVariants.{Blocks, Columns}
 use Rattle.tensor_paths.specs.Path.{Path}
 use Rattle.tree_model.specs.declared.tree.Rule.{Rule}
-use Rattle.tree_model.specs.declared.tree.Rule.TheVariants.{Gt, Ct, Split}
+use Rattle.tree_model.specs.declared.tree.Rule.TheVariants.{Gt, Ct, Split, Dim}
 
 -- how the terms so far end: gathers may wait; or none waits, and the last loop may have a diagonal; or it has none and may be a tile's; or it is none
 pub data Ending : Type 0 where
@@ -170,6 +170,7 @@ rule-order Gt path r s w left right h k e =
     (tt, lead-append waits fresh fresh right (left ++ step path (thomas_out r s) ∷ []) (k waits) (lead-append fresh fresh fresh left (step path (thomas_out r s) ∷ []) (h fresh) (tt, refl)))
 rule-order Ct path r s w left right h k e = (tt, lead-append waits fresh fresh right (step path (twiddles r s w) ∷ left) (k waits) (refl, h settled))
 rule-order Split path r s w left right h k e = lead-append e fresh fresh right left (k e) (h fresh)
+rule-order Dim path r s w left right h k e = lead-append e fresh fresh right left (k e) (h fresh)
 
 steps-order : (m : ℕ) (path : Path) (l : Layout) → IsGoodLayout m l → AreInOrder (steps_of path l)
 steps-order m path (work w) good = λ e. (good-piece m w good.1, is-fresh e path w (good-piece m w good.1))
@@ -231,6 +232,7 @@ abbrev right_ending : ℕ → Rule → Ending
 right_ending v Gt = settled
 right_ending v Ct = settled
 right_ending v Split = if v == 1 then fresh else tiled
+right_ending v Dim = if v == 1 then fresh else tiled
 
 right-leads : (m p v : ℕ) (rule : Rule) (w : ℕ) (a b : Layout) → IsGoodLayout m b → Leads settled (right_terms p v rule w a b) (right_ending v rule)
 right-leads m p v Gt w a b good = refl
@@ -250,6 +252,17 @@ right-leads m p v Split w a b good =
     let last = if v == 1 then fresh else tiled in
     leads-append settled between last (tiled_before p v r s) _ (leads-first (v == 1) (tile_path p v r s) v (vectors_grouped (s / v * v) p v r s))
     (leads-append between fresh last (map lowered (steps_of path b)) _ (leads-lowered between fresh (steps_of path b) (steps-order m path b good between)) (leads-tile (v == 1) (tile_path p v r s) v (vectors_grouped (v * (s / v)) p v r s)))
+right-leads m p v Dim w a b good =
+    let r = layout_size a in
+    let s = layout_size b in
+    let path = right_path p v r in
+    let between = if v == 1 then settled else tiled in
+    let last = if v == 1 then fresh else tiled in
+    leads-append settled between last (tiled_before p v r s) _
+    (leads-first (v == 1) (tile_path p v r s) v (vectors_grouped (s / v * v) p v r s))
+    (leads-append between fresh last (map lowered (steps_of path b)) _
+    (leads-lowered between fresh (steps_of path b) (steps-order m path b good between))
+    (leads-tile (v == 1) (tile_path p v r s) v (vectors_grouped (v * (s / v)) p v r s)))
 
 -- ---- phases
 
@@ -279,6 +292,7 @@ right-ends : (v : ℕ) (rule : Rule) → right_ending v rule ≡ waits → ⊥
 right-ends v Gt h = settled-ends h
 right-ends v Ct h = settled-ends h
 right-ends v Split h = pick-ends (v == 1) h
+right-ends v Dim h = pick-ends (v == 1) h
 
 pick-phases : (c : Target) (b : Bool) (first second : List PlainTerm) → IsOrderedPhase c (first ++ second) → IsOrderedPhase c first → IsOrderedPhase c second → AllOrdered c (if b then (first ++ second) ∷ [] else first ∷ second ∷ [])
 pick-phases c true first second all h k = (all, tt)

@@ -55,7 +55,9 @@ nest-lowers m path w loose h = record { good = (loose, refl); on = λ x v. nest-
 pub transform-work : (kind : Kind) (m d w : ℕ) → IsWork m d (transform kind m d w)
 transform-work kind m d w =
     record {
-      reads = λ x. list_below-same d _ _ (λ k below. ap (λ s. s % m) (sum_below-same d _ _ (λ l within. ap (λ v. entry_of kind m w k l * v) (at-list_below d (slice_index x) l within))));
+      reads = λ x.
+          list_below-same d _ _ (λ k below. ap (λ s. s % m) (sum_below-same d _ _ (λ l within.
+          ap (λ v. entry_of kind m d w k l * v) (at-list_below d (slice_index x) l within))));
       residue = λ y k below. ap (λ s. s % m) (at-list_below d _ k below) ∙ mod-mod _ m ∙ sym (at-list_below d _ k below);
       size = λ y. length-list_below d _;
     }

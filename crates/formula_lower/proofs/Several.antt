@@ -7,7 +7,7 @@ use Rattle.passes.specs.Limits.{AreSeveral, HasSeveral}
 use Rattle.passes.specs.Term.{nest}
 use Rattle.passes.specs.Work.{kernel, horner}
 use Rattle.passes.proofs.Several.{several-push}
-use Rattle.rooted_trees.specs.Trees.{single}
+use Rattle.tree_model.specs.Trees.{single}
 use Rattle.formula_lower.specs.Terms.{one_more, halvings, hadamard_term, fourier_term, term_of}
 use Rattle.spl_ast.specs.Formula.{Formula, Identity, Fourier, Hadamard, Twiddles, Diagonal, Stride, Permutation, GoodThomasIn, GoodThomasOut, Product, TensorLeft, TensorRight, DirectSum, Pending}
 use Rattle.spl_ast.specs.Shape.{IsShaped}

@@ -18,7 +18,7 @@ use Rattle.tensor_paths.specs.declared.Tensor.{Tensor}
 use Rattle.tensor_paths.specs.declared.Tensor.TheVariants.{Blocks, Columns}
 use Rattle.tensor_paths.specs.Path.{Path, count_of}
 use Rattle.tree_model.specs.declared.tree.Rule.{Rule}
-use Rattle.tree_model.specs.declared.tree.Rule.TheVariants.{Gt, Ct, Split}
+use Rattle.tree_model.specs.declared.tree.Rule.TheVariants.{Gt, Ct, Split, Dim}
 
 -- ---- paths
 
@@ -95,6 +95,7 @@ rule-tight : (rule : Rule) (path : Path) (r s w : ℕ) (left right : List PlainS
 rule-tight Gt path r s w left right h l k = ((h, tt), steps-append right _ k (steps-append left (step path (thomas_out r s) ∷ []) l ((h, tt), tt)))
 rule-tight Ct path r s w left right h l k = ((h, tt), steps-append right (step path (twiddles r s w) ∷ left) k ((h, tt), l))
 rule-tight Split path r s w left right h l k = steps-append right left k l
+rule-tight Dim path r s w left right h l k = steps-append right left k l
 
 steps-tight : (m : ℕ) (path : Path) (l : Layout) → IsTight path → IsGoodLayout m l → AreTightSteps (steps_of path l)
 steps-tight m path (work w) h good = ((h, good-rows m w good.1), tt)
@@ -156,6 +157,12 @@ right-tight m p v Split w a b formed =
     let s = layout_size b in
     terms-append (tiled_before p v r s) _ (before-tight p v r s)
     (terms-append (map lowered (steps_of (right_path p v r) b)) (tiled_after p v r s) (right-steps-tight m p v r b formed) (after-tight p v r s))
+right-tight m p v Dim w a b formed =
+    let r = layout_size a in
+    let s = layout_size b in
+    terms-append (tiled_before p v r s) _ (before-tight p v r s)
+    (terms-append (map lowered (steps_of (right_path p v r) b)) (tiled_after p v r s)
+    (right-steps-tight m p v r b formed) (after-tight p v r s))
 
 -- ---- phases
 

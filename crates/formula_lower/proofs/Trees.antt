@@ -15,7 +15,7 @@ use Rattle.passes.specs.Work.{PlainWork, kernel, rows, horner, tile, copy, work_
 use Rattle.passes.proofs.Nests.{moves-no-words}
 use Rattle.passes.proofs.Keeps.{scatter-same}
 use Rattle.passes.proofs.Walk.{vector-below}
-use Rattle.rooted_trees.specs.Trees.{PlainTrees, single, tensor, trees_size, trees_on}
+use Rattle.tree_model.specs.Trees.{PlainTrees, single, tensor, trees_size, trees_on}
 use Rattle.formula_lower.specs.Terms.{Lowers}
 use Rattle.formula_lower.specs.Trees.{core_term}
 use Rattle.formula_lower.proofs.Lowers.{gath-lowers}

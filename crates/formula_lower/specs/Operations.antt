@@ -13,7 +13,8 @@ use Rattle.tensor_paths.specs.Path.{Path, copies_of, size_under}
 -- A permutation has none, a diagonal a product for each item. A short DFT has an addition or subtraction for each entry but those of a column, and a product for each entry that is neither 1 nor -1; a longer one has a product and an addition for each entry
 abbrev pub operations : ℕ → ℕ → Formula → ℕ
 operations weight m (Identity n) = 0
-operations weight m (Fourier n w) = if nat_le n 8 then n * (n - 1) + products_cost weight m 0 (entry_of Dft m w) n n else (1 + weight) * n * n
+operations weight m (Fourier n w) =
+    if nat_le n 8 then n * (n - 1) + products_cost weight m 0 (entry_of Dft m n w) n n else (1 + weight) * n * n
 operations weight m (Hadamard n) = n * halvings n n
 operations weight m (Twiddles n s w) = weight * n
 operations weight m (Diagonal c) = weight * length c

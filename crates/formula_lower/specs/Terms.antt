@@ -13,7 +13,7 @@ use Rattle.spl_ast.specs.Shape.{IsShaped}
 use Rattle.tensor_paths.specs.declared.Tensor.{Tensor}
 use Rattle.tensor_paths.specs.declared.Tensor.TheVariants.{Blocks, Columns}
 use Rattle.tensor_paths.specs.Path.{Path, count_of, size_under, under}
-use Rattle.rooted_trees.specs.Trees.{single}
+use Rattle.tree_model.specs.Trees.{single}
 use Rattle.tree_model.specs.Breakdown.{leaf}
 
 -- a tensor of one copy is none

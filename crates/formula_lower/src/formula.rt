@@ -12,7 +12,7 @@ ghost use Rattle.passes.specs.Sigma.{CanMerge};
 ghost use Rattle.passes.specs.Term.{gath, diag, nest, move, product, beside, term_on};
 ghost use Rattle.passes.specs.Views.{plain_term, plain_work};
 ghost use Rattle.passes.specs.Work.{kernel};
-ghost use Rattle.rooted_trees.specs.Trees.{single};
+ghost use Rattle.tree_model.specs.Trees.{single};
 ghost use Rattle.passes.specs.Room.{HasRoom};
 ghost use Rattle.sigma_lower.specs.Wrapped.{wrapped};
 ghost use Rattle.spl_ast.specs.Formula.{size_of};
@@ -25,12 +25,11 @@ use matrix_meaning::Kind;
 use memory::NoMemory;
 use passes::{Factors, Term, Work};
 use ring_mod::Modulus;
-use rooted_trees::{RootedTree, RootedTrees};
 use sigma_lower::under;
 use spl_ast::{Node, Spl};
 use std::alloc::Global;
 use tensor_paths::Tensor;
-use tree_model::Tree;
+use tree_model::{RootedTree, RootedTrees, Tree};
 
 /// The longest DFT that is straight-line code.
 const MAX_KERNEL: u64 = 8;

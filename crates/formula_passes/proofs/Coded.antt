@@ -7,7 +7,7 @@ use Rattle.std.proofs.Math.Pow.{pow_mono}
 use Rattle.std.proofs.lemmas.Bool.{cases_lt}
 use Rattle.std.proofs.lemmas.Bool.Decides.{nat_tests}
 use Rattle.std.proofs.lemmas.List.Elements.{All-nil, All-cons}
-use Rattle.matrix_meaning.specs.declared.Kind.TheVariants.{Dft, Wht}
+use Rattle.matrix_meaning.specs.declared.Kind.TheVariants.{Dft, Wht, Idft}
 use Rattle.pass_actions.specs.Laws.{CanWork}
 use Rattle.pass_actions.specs.Machine.{plain_machine, first_loop, loop_counts}
 use Rattle.pass_programs.specs.Conditions.{CanWriteNest, LoadsAlike}
@@ -24,7 +24,7 @@ use Rattle.passes.proofs.Walk.{and-left, and-right}
 use Rattle.perm_algebra.specs.Affine.{Sum, constant, levels, parts, peak, top}
 use Rattle.perm_algebra.proofs.AffineLaws.{value-le-top}
 use Rattle.program_laws.specs.Plain.{IsPlainNest}
-use Rattle.rooted_trees.specs.Trees.{single, tensor}
+use Rattle.tree_model.specs.Trees.{single, tensor}
 use Rattle.tensor_paths.specs.Path.{AreInRange}
 use Rattle.tree_model.specs.Breakdown.{leaf, node}
 use Rattle.formula_passes.proofs.Costs.{leaf-root}
@@ -94,6 +94,7 @@ small-counts (c ∷ counts) h high =
 pub some-items : (w : PlainWork) → IsFormulaWork w → 0 < work_size w
 some-items (kernel (single Dft root (leaf d))) h = omega (arith, h.0)
 some-items (kernel (single Wht root (leaf d))) h = omega (arith, h.0.0)
+some-items (kernel (single Idft root (leaf d))) h = absurd h.0
 some-items (kernel (single kind root (node rule a b))) h = absurd h
 some-items (kernel (tensor kind root t others)) h = absurd h
 some-items (rows root d) h = absurd h

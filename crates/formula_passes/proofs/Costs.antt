@@ -6,7 +6,7 @@ use Rattle.formula_lower.specs.Operations as formulas
 use Rattle.formula_lower.specs.Terms.{halvings}
 use Rattle.kernel_gen.specs.Kernel.{AllowsRoot, kernel_cost, kernel_of, product_cost, products_cost}
 use Rattle.matrix_meaning.specs.declared.Kind.{Kind}
-use Rattle.matrix_meaning.specs.declared.Kind.TheVariants.{Dft, Wht}
+use Rattle.matrix_meaning.specs.declared.Kind.TheVariants.{Dft, Wht, Idft}
 use Rattle.matrix_meaning.specs.Kind.{entry_of}
 use Rattle.operators.specs.Sum.{sum_below}
 use Rattle.pass_actions.specs.Acts.{nest_registers, pass_registers, with_multiplier}
@@ -18,7 +18,7 @@ use Rattle.passes.specs.Counts.{copies_in, multiplier_cost}
 use Rattle.passes.specs.Nest.{PlainMultiplier, PlainNest, copies_of}
 use Rattle.passes.specs.Work.{PlainWork, kernel, rows, horner, tile, copy, work_size}
 use Rattle.passes.proofs.Counting.{items_of}
-use Rattle.rooted_trees.specs.Trees.{single, tensor}
+use Rattle.tree_model.specs.Trees.{single, tensor}
 use Rattle.spl_ast.specs.Formula.{Formula, Identity, Fourier, Hadamard, Twiddles, Diagonal, Stride, Permutation, GoodThomasIn, GoodThomasOut, Product, TensorLeft, TensorRight, DirectSum, Pending, size_of, parts_of}
 use Rattle.spl_ast.specs.Shape.{IsShaped}
 use Rattle.tree_model.specs.Breakdown.{leaf, node}
@@ -49,11 +49,13 @@ leaf-size (suc d) x h =
 
 -- operations and items
 leaf-cost : (m d root : ℕ) (kind : Kind) → kernel_cost 1 m kind (leaf d) root + d ≤ 2 * (d * d)
-leaf-cost m d root kind = leaf-size d (products_cost 1 m 0 (entry_of kind m root) d d) (products-le m d (entry_of kind m root))
+leaf-cost m d root kind =
+    leaf-size d (products_cost 1 m 0 (entry_of kind m d root) d d) (products-le m d (entry_of kind m d root))
 
 pub leaf-root : (m root d : ℕ) (kind : Kind) → AllowsRoot m root kind (leaf d)
 leaf-root m root d Dft = tt
 leaf-root m root d Wht = tt
+leaf-root m root d Idft = tt
 
 -- ---- registers
 
@@ -130,8 +132,9 @@ under-le k s p x h =
 pub operations-le : (m : ℕ) (f : Formula) → IsShaped f → formulas.operations 1 m f ≤ 2 * (size_of f * size_of f) * (parts_of f + 1)
 operations-le m (Identity n) shaped = omega arith
 operations-le m (Fourier n w) shaped =
-    let short = leaf-size n (products_cost 1 m 0 (entry_of Dft m w) n n) (products-le m n (entry_of Dft m w)) in
-    either-le (nat_le n 8) (n * (n - 1) + products_cost 1 m 0 (entry_of Dft m w) n n) ((1 + 1) * n * n) (2 * (n * n) * (0 + 1)) (omega (arith, short)) (omega arith)
+    let short = leaf-size n (products_cost 1 m 0 (entry_of Dft m n w) n n) (products-le m n (entry_of Dft m n w)) in
+    either-le (nat_le n 8) (n * (n - 1) + products_cost 1 m 0 (entry_of Dft m n w) n n) ((1 + 1) * n * n)
+    (2 * (n * n) * (0 + 1)) (omega (arith, short)) (omega arith)
 operations-le m (Hadamard n) shaped = let each : n * halvings n n ≤ n * n = mul-le-mul_left n (halvings-le n n) in omega (arith, each)
 operations-le m (Twiddles n s w) shaped = let square = square-le n in omega (arith, square)
 operations-le m (Diagonal c) shaped = let square = square-le (length c) in omega (arith, square)

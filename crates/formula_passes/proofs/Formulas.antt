@@ -12,7 +12,7 @@ use Rattle.formula_lower.proofs.Compiling.{formulas_compile}
 use Rattle.formula_lower.proofs.Lowers.{halvings-power, power-above, lowers}
 use Rattle.formula_lower.proofs.Several.{term-several}
 use Rattle.kernel_gen.proofs.Residues.{power_below}
-use Rattle.rooted_trees.specs.Trees.{single}
+use Rattle.tree_model.specs.Trees.{single}
 use Rattle.formula_passes.specs.Laws.{FormulasCanProgram}
 use Rattle.formula_passes.proofs.Coded.{plain-nests}
 use Rattle.formula_passes.proofs.Costs.{operations-le, pass-few, pass-loads-le, passes-grown}

@@ -13,7 +13,7 @@ use Rattle.passes.proofs.Natural.{ranged, at-second, place-with}
 use Rattle.passes.proofs.Nests.{length-map, names-simplified, sum-simplified, with_more, two_below}
 use Rattle.passes.proofs.Sides.{rest_of, rest-range, sound-renumbered, up, lift-more, names-up}
 use Rattle.perm_algebra.specs.Affine.{Sum, constant, variable, remainder, value, simplified}
-use Rattle.rooted_trees.specs.Trees.{single, tensor}
+use Rattle.tree_model.specs.Trees.{single, tensor}
 use Rattle.tensor_paths.specs.Path.{Path, AreInRange, count_of, place}
 use Rattle.tree_model.specs.Breakdown.{leaf, node, AllowsLeaf}
 

@@ -1,37 +1,57 @@
 -- Each request in range has a tree, or a first cause to be refused.
-use Rattle.std.proofs.Common.{◌≡◌, true, refl, inl, inr, Result, Ok, Err}
-use Rattle.std.proofs.lemmas.Bool.{cases_Bool, cases_lt, eqb-true}
-use Rattle.matrix_meaning.specs.declared.Kind.{Kind}
-use Rattle.matrix_meaning.specs.declared.Kind.TheVariants.{Dft, Wht}
+use Rattle.std.proofs.Common.{◌≡◌, ◌⊎◌, ℕ, refl, inl, inr, Option, None, Some, Result, Ok, Err}
+use Rattle.std.proofs.lemmas.Bool.{cases_Bool, cases_lt}
+use Rattle.matrix_meaning.specs.declared.Dimensions.{Dimensions}
+use Rattle.matrix_meaning.specs.declared.Dimensions.TheVariants.{One, Two, Three, Four}
 use Rattle.matrix_meaning.specs.declared.Request.{Request}
-use Rattle.matrix_meaning.specs.Valid.{HasRoot, IsInRange, IsValid}
-use Rattle.tree_model.specs.Admissible.{IsChosen}
+use Rattle.matrix_meaning.specs.Parts.{bad_power, first_of, rest_of}
+use Rattle.matrix_meaning.specs.Valid.{IsInRange}
+use Rattle.matrix_meaning.proofs.Requests.{valid_by_powers}
+use Rattle.plan_search.specs.declared.generating.GenerateFault.{GenerateFault}
+use Rattle.plan_search.specs.declared.generating.GenerateFault.TheVariants.{Root, NoDivide, OverBudget}
+use Rattle.plan_search.proofs.Decisions.{IsDecidable, decided_divide, decided_fits}
+use Rattle.plan_search.proofs.WholeChosen.{whole_exists, whole_is_least}
 use Rattle.tree_model.specs.Breakdown.{Breakdown}
-use Rattle.tree_model.specs.Cost.{cost_of, whole_cost}
-use Rattle.plan_search.proofs.BestTrees.{chosen_exists, chosen_is_least}
-use Rattle.plan_search.proofs.Decisions.{decided_divide}
-use Rattle.plan_faults.specs.declared.generating.GenerateFault.{GenerateFault}
-use Rattle.plan_faults.specs.declared.generating.GenerateFault.TheVariants.{Root, NoDivide, OverBudget}
-use Rattle.generate.specs.Planned.{IsPlanned, IsRooted, has_root, root_power}
+use Rattle.tree_model.specs.Chosen.{CanDivideBy, CanDivideWhole, IsWholeChosen, SharesDimensions, whole_cost}
+use Rattle.tree_model.specs.Cost.{is_plain}
+use Rattle.generate.specs.Planned.{IsPlanned, IsRooted}
 
-rooted_by : (kind : Kind) (r : Request) → has_root kind (root_power r) ≡ true → HasRoot kind r.modulus r.root r.size
-rooted_by Dft r e = eqb-true (root_power r) 1 e
-rooted_by Wht r e = tt
+-- there is a power that is wrong, or there is none
+pub wrong_or_none : (power : Option ℕ) → ((w : ℕ) × (power ≡ Some w)) ⊎ (power ≡ None)
+wrong_or_none None = inr refl
+wrong_or_none (Some w) = inl (w, refl)
 
-pub valid_of_rooted : (r : Request) → IsInRange r → IsRooted r → IsValid r
-valid_of_rooted r range rooted = record { in_range = range; root = rooted_by r.kind r rooted }
+-- whether processors and lanes share several dimensions is decided
+decided_shares : (r : Request) → IsDecidable (SharesDimensions r)
+decided_shares r = elim (cases_Bool (is_plain r)) [
+  | inl plain ↦ inl (inl plain)
+  | inr spread ↦ elim (decided_fits r (first_of r).size (rest_of r).size) [
+    | inl fits ↦ inl (inr fits)
+    | inr not ↦ inr (λ can. elim can [ inl plain ↦ absurd (cc) | inr fits ↦ not fits ])
+  ]
+]
 
-within_budget_or_not : (r : Request) (t : Breakdown) → IsRooted r → IsChosen r t → (answer : Result Breakdown GenerateFault) × IsPlanned r answer
+-- and so is whether some tree is admitted
+decided_whole : (r : Request) → IsDecidable (CanDivideWhole r)
+decided_whole r = by r.dimensions
+  where
+    by : (ds : Dimensions) → IsDecidable (CanDivideBy r ds)
+    by One = decided_divide r
+    by (Two a b) = decided_shares r
+    by (Three a b c) = decided_shares r
+    by (Four a b c d) = decided_shares r
+
+within_budget_or_not : (r : Request) (t : Breakdown) → IsRooted r → IsWholeChosen r t → (answer : Result Breakdown GenerateFault) × IsPlanned r answer
 within_budget_or_not r t rooted chosen = elim (cases_lt r.budget (whole_cost r t)) [
-  | inl over ↦ (Err (OverBudget (whole_cost r t) r.budget), (rooted, (cost_of r t, chosen_is_least r t chosen, refl), refl, over))
+  | inl over ↦ (Err (OverBudget (whole_cost r t) r.budget), (rooted, whole_is_least r t chosen, refl, over))
   | inr within ↦ (Ok t, (rooted, chosen, within))
 ]
 
 pub plan_exists : (r : Request) → IsInRange r → (answer : Result Breakdown GenerateFault) × IsPlanned r answer
-plan_exists r range = elim (cases_Bool (has_root r.kind (root_power r))) [
-  | inr other ↦ (Err (Root (root_power r)), (other, refl))
-  | inl rooted ↦ elim (decided_divide r) [
+plan_exists r range = elim (wrong_or_none (bad_power r)) [
+  | inl wrong ↦ (Err (Root wrong.0), wrong.1)
+  | inr rooted ↦ elim (decided_whole r) [
     | inr none ↦ (Err NoDivide, (rooted, none))
-    | inl can ↦ let tree = chosen_exists r (valid_of_rooted r range rooted) can in within_budget_or_not r tree.0 rooted tree.1
+    | inl can ↦ let tree = whole_exists r range can in within_budget_or_not r tree.0 rooted tree.1
   ]
 ]

@@ -1,25 +1,28 @@
 -- The program of the chosen tree is good and lean.
-use Rattle.std.proofs.Common.{◌≡◌, ℕ, zero, suc, ◌+◌, ◌*◌, ◌/◌, ◌<◌, List, [], sym, ap, ◌∙◌, arith}
+use Rattle.std.proofs.Common.{◌≡◌, ℕ, zero, suc, ◌+◌, ◌*◌, ◌/◌, ◌<◌, List, [], sym, ap, ◌∙◌, arith, subst, flat_map, length}
 use Rattle.std.proofs.Math.Nat.{mul-div_cancel_left}
+use Rattle.std.specs.List.{range_with_len}
 use Rattle.icode.specs.declared.program.Program.{Program}
-use Rattle.icode.specs.Machine.{padded, results, whole_counts, words_at}
+use Rattle.icode.specs.Machine.{acts, counts_of, padded, results, whole_counts, words_at}
 use Rattle.icode.specs.Program.{code_of, plain_program}
 use Rattle.icode.proofs.Lists.{code_is}
 use Rattle.icode.proofs.Runs.{memory_of_runs}
-use Rattle.matrix_meaning.specs.Asked.{asked_transform}
+use Rattle.matrix_meaning.specs.Asked.{asked_of}
 use Rattle.matrix_meaning.specs.declared.Request.{Request}
 use Rattle.matrix_meaning.specs.Valid.{IsValid}
 use Rattle.operators.specs.Sum.{sum_below}
 use Rattle.pass_programs.specs.Contract.{Performs}
+use Rattle.passes.specs.Good as vectors
 use Rattle.request_passes.specs.Merged.{request_merged}
-use Rattle.request_passes.proofs.Requests.{requests_are_lean, requests_compute}
-use Rattle.tree_model.specs.Admissible.{IsAdmissible}
+use Rattle.request_passes.proofs.Requests.{requests_count, requests_mean}
 use Rattle.tree_model.specs.Breakdown.{Breakdown}
-use Rattle.tree_model.specs.Cost.{whole_cost}
-use Rattle.tree_model.specs.Passes.{loads_of, stores_of}
-use Rattle.tree_passes.specs.Computes.{Computes}
+use Rattle.tree_model.specs.Chosen.{IsWholeTree, whole_cost}
+use Rattle.tree_model.specs.WholePasses.{request_passes, whole_loads, whole_stores}
+use Rattle.tree_model.proofs.WholeCosts.{passes_do_the_cost}
 use Rattle.tree_passes.specs.Laws.{machine_of}
-use Rattle.generate.specs.Good.{IsGood, IsLean}
+use Rattle.generate.specs.Good.{IsGood, IsVector}
+use Rattle.generate.specs.Lean.{IsLean, IsLeanCode}
+use Rattle.generate.proofs.Parts.{IsShare, lean-code, share-of}
 
 -- n equal shares, of which p make the whole, are n of them
 shares-sum : (p whole : ℕ) (f : ℕ → ℕ) (n : ℕ) → ((q : ℕ) → q < n → p * f q ≡ whole) → p * sum_below n f ≡ n * whole
@@ -32,37 +35,50 @@ shares-sum p whole f (suc n) each =
     omega (arith, rest, last, spread, more)
 
 -- equal shares of all are the whole
-pub whole-of : (p whole : ℕ) (f : ℕ → ℕ) → 0 < p → ((q : ℕ) → q < p → p * f q ≡ whole) → sum_below p f ≡ whole
+whole-of : (p whole : ℕ) (f : ℕ → ℕ) → 0 < p → ((q : ℕ) → q < p → p * f q ≡ whole) → sum_below p f ≡ whole
 whole-of p whole f some each = sym (mul-div_cancel_left (sum_below p f) some) ∙ ap (λ n. n / p) (shares-sum p whole f p each) ∙ mul-div_cancel_left whole some
 
-module _ (r : Request) (t : Breakdown) (p : Program) (valid : IsValid r) (admissible : IsAdmissible r t) (performs : Performs (machine_of r) (request_merged r t) (plain_program p)) where
-  computes : Computes r t (asked_transform r) (whole_cost r t) (plain_program p)
-  computes = requests_compute r t (plain_program p) valid admissible performs
+module _ (r : Request) (t : Breakdown) (p : Program) (valid : IsValid r) (h : IsWholeTree r t) (performs : Performs (machine_of r) (request_merged r t) (plain_program p)) where
+  some-procs : 0 < r.procs
+  some-procs = let procs = valid.in_range.procs in omega (arith, procs)
 
-  some : 0 < r.procs
-  some = let procs = valid.in_range.procs in omega (arith, procs)
+  parts : IsLeanCode r t (code_of p)
+  parts =
+      let weight = valid.in_range.weight in
+      lean-code r t (request_merged r t) (plain_program p) (omega (arith, weight)) (requests_count r t valid h) performs
+
+  share : (q : ℕ) → q < r.procs → IsShare r (request_passes r t) (whole_counts (code_of p) q)
+  share q low =
+      subst (λ n. IsShare r (request_passes r t) (counts_of n (flat_map (λ phase. acts (code_of p) phase q) (range_with_len 0 (length (code_of p).lists))))) (sym performs.lanes)
+      (share-of r t _ (parts.lists q low))
 
   -- the turns that come first do not matter
   any-turns : (x turns : List ℕ) → results (code_of p) x turns ≡ results (code_of p) x []
   any-turns x turns =
-      let first = memory_of_runs (code_of p) (code_is (plain_program p)) computes.apart x turns in
-      let none = memory_of_runs (code_of p) (code_is (plain_program p)) computes.apart x [] in
+      let first = memory_of_runs (code_of p) (code_is (plain_program p)) performs.apart x turns in
+      let none = memory_of_runs (code_of p) (code_is (plain_program p)) performs.apart x [] in
       ap (λ memory. words_at p.size memory (padded (code_of p))) (first ∙ sym none)
+
+  transforms : (x : List ℕ) → IsVector r x → results (code_of p) x [] ≡ asked_of r x
+  transforms x vector =
+      let size = vector.size in
+      let same : vectors.IsVector r.modulus r.size x = record { size = size; residues = λ i low. vector.residues i 0 (omega (arith, low, size)) } in
+      performs.results x same ∙ requests_mean r t x valid h same
 
   pub good : IsGood r (whole_cost r t) p
   good =
       record {
         header = record { size = performs.size; modulus = performs.modulus; procs = performs.procs; line = performs.line; lanes = performs.lanes };
-        fits = computes.fits;
-        product = λ x turns vector _. any-turns x turns ∙ computes.results x vector.size vector.residues;
-        apart = computes.apart;
-        operations = λ q low. (computes.shares q low).operations;
+        fits = performs.fits;
+        product = λ x turns vector _. any-turns x turns ∙ transforms x vector;
+        apart = performs.apart;
+        operations = λ q low. (share q low).operations ∙ passes_do_the_cost r t valid h;
       }
 
   pub lean : IsLean r t p
   lean =
       record {
-        parts = requests_are_lean r t (plain_program p) valid admissible performs;
-        loads = whole-of r.procs (loads_of r t) (λ q. (whole_counts (code_of p) q).loads) some (λ q low. (computes.shares q low).loads);
-        stores = whole-of r.procs (stores_of r t) (λ q. (whole_counts (code_of p) q).stores) some (λ q low. (computes.shares q low).stores);
+        parts = parts;
+        loads = whole-of r.procs (whole_loads r t) (λ q. (whole_counts (code_of p) q).loads) some-procs (λ q low. (share q low).loads);
+        stores = whole-of r.procs (whole_stores r t) (λ q. (whole_counts (code_of p) q).stores) some-procs (λ q low. (share q low).stores);
       }

@@ -1,5 +1,11 @@
 pub mod Chain
+pub mod ConvChain
+pub mod ConvExistence
+pub mod ConvGoodness
+pub mod ConvMeaning
+pub mod ConvTrees
 pub mod Existence
+pub mod Factors
 pub mod Goodness
-pub use Rattle.request_passes.proofs.Small
-pub use Rattle.tree_passes.proofs.Adding
+pub mod Parts
+pub mod Totals

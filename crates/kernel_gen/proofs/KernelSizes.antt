@@ -5,15 +5,15 @@ use Rattle.std.specs.Prelude.{◌==◌, count_ones}
 use lib.Count.{ones}
 use Rattle.std.specs.Int.Bits.{and_zero_r}
 use Rattle.matrix_meaning.specs.declared.Kind.{Kind}
-use Rattle.matrix_meaning.specs.declared.Kind.TheVariants.{Dft, Wht}
+use Rattle.matrix_meaning.specs.declared.Kind.TheVariants.{Dft, Wht, Idft}
 use Rattle.matrix_meaning.specs.Kind.{entry_of, sign}
 use Rattle.operators.specs.Sum.{sum_below}
 use Rattle.ring_mod.specs.Residue.{power_mod}
 use Rattle.ring_mod.proofs.Powers.{power_mod-zero}
-use Rattle.rooted_trees.specs.Trees.{PlainTrees, single, tensor, trees_size}
+use Rattle.tree_model.specs.Trees.{PlainTrees, single, tensor, trees_size}
 use Rattle.tree_model.specs.declared.tree.Rule.{Rule}
-use Rattle.tree_model.specs.declared.tree.Rule.TheVariants.{Gt, Ct, Split}
-use Rattle.tree_model.specs.Breakdown.{Breakdown, leaf, node, size_of, IsWellFormed}
+use Rattle.tree_model.specs.declared.tree.Rule.TheVariants.{Gt, Ct, Split, Dim}
+use Rattle.tree_model.specs.Breakdown.{Breakdown, leaf, node, size_of, AllowsLeaf, IsWellFormed}
 use Rattle.tree_model.proofs.CostBounds.{sum_le_product}
 use Rattle.tree_model.proofs.Sizes.{one_le_size_of}
 use Rattle.kernel_gen.specs.Kernel.{CanMake, product_cost, products_cost, rule_cost, kernel_cost, trees_cost}
@@ -49,20 +49,22 @@ one-free (suc zero) = refl
 one-free (suc (suc m)) = let one : 1 % suc (suc m) ≡ 1 = mod-eq_of_lt (omega arith) in ap (product_cost 1 (suc (suc m)) 0) one
 
 -- the first column of a transform takes no product
-column-free : (kind : Kind) (m w k : ℕ) → product_cost 1 m 0 (entry_of kind m w k 0) ≡ 0
+column-free : (kind : Kind) (m d w k : ℕ) → AllowsLeaf kind d → product_cost 1 m 0 (entry_of kind m d w k 0) ≡ 0
 unfolding ones
-column-free Dft m w k = ap (λ e. product_cost 1 m 0 (power_mod m w e)) (mul-zero k) ∙ ap (product_cost 1 m 0) (power_mod-zero m w) ∙ one-free m
-column-free Wht m w k = ap (λ c. product_cost 1 m 0 (sign m (count_ones c))) (and_zero_r k)
+column-free Dft m d w k allowed = ap (λ e. product_cost 1 m 0 (power_mod m w e)) (mul-zero k) ∙ ap (product_cost 1 m 0) (power_mod-zero m w) ∙ one-free m
+column-free Wht m d w k allowed = ap (λ c. product_cost 1 m 0 (sign m (count_ones c))) (and_zero_r k)
+column-free Idft m d w k allowed = absurd allowed
 
-entries-le : (kind : Kind) (m w d : ℕ) → products_cost 1 m 0 (entry_of kind m w) d d ≤ d * (d - 1)
-entries-le kind m w d =
-    sum_below-le d (d - 1) (λ k. sum_below d (λ l. product_cost 1 m 0 (entry_of kind m w k l))) (λ k.
-    sum_below-less d (λ l. product_cost 1 m 0 (entry_of kind m w k l)) (λ l. product-le m 0 (entry_of kind m w k l) (omega arith)) (column-free kind m w k))
+entries-le : (kind : Kind) (m w d : ℕ) → AllowsLeaf kind d → products_cost 1 m 0 (entry_of kind m d w) d d ≤ d * (d - 1)
+entries-le kind m w d allowed =
+    sum_below-le d (d - 1) (λ k. sum_below d (λ l. product_cost 1 m 0 (entry_of kind m d w k l))) (λ k.
+    sum_below-less d (λ l. product_cost 1 m 0 (entry_of kind m d w k l)) (λ l. product-le m 0 (entry_of kind m d w k l) (omega arith)) (column-free kind m d w k allowed))
 
 rule-le : (m : ℕ) (rule : Rule) (r s w : ℕ) → rule_cost 1 m rule r s w ≤ r * s
 rule-le m Gt r s w = omega arith
-rule-le m Ct r s w = products-le m 1 (entry_of Dft m w) r s (omega arith)
+rule-le m Ct r s w = products-le m 1 (entry_of Dft m r w) r s (omega arith)
 rule-le m Split r s w = omega arith
+rule-le m Dim r s w = omega arith
 
 -- ---- trees
 
@@ -85,7 +87,7 @@ node-few r s x y z hr hs hx hy hz =
     omega arith
 
 tree-few : (m : ℕ) (kind : Kind) (t : Breakdown) (w : ℕ) → IsWellFormed kind t → IsFew (size_of t) (kernel_cost 1 m kind t w)
-tree-few m kind (leaf d) w formed = leaf-few d (products_cost 1 m 0 (entry_of kind m w) d d) (entries-le kind m w d)
+tree-few m kind (leaf d) w formed = leaf-few d (products_cost 1 m 0 (entry_of kind m d w) d d) (entries-le kind m w d formed)
 tree-few m kind (node rule a b) w formed =
     node-few (size_of a) (size_of b) (kernel_cost 1 m kind a (power_mod m w (size_of b))) (kernel_cost 1 m kind b (power_mod m w (size_of a))) (rule_cost 1 m rule (size_of a) (size_of b) w)
     formed.0.left formed.0.right (tree-few m kind a (power_mod m w (size_of b)) formed.1) (tree-few m kind b (power_mod m w (size_of a)) formed.2) (rule-le m rule (size_of a) (size_of b) w)

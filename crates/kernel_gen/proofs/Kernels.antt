@@ -6,7 +6,7 @@ use Rattle.code_laws.proofs.ByLane.{arithmetic_is_by_lane, weighted_is_by_lane}
 use Rattle.icode.specs.Machine.{counts_of, weighted}
 use Rattle.code_laws.proofs.Placing.{slice_index-map, length-mapped}
 use Rattle.matrix_meaning.specs.declared.Kind.{Kind}
-use Rattle.matrix_meaning.specs.declared.Kind.TheVariants.{Dft, Wht}
+use Rattle.matrix_meaning.specs.declared.Kind.TheVariants.{Dft, Wht, Idft}
 use Rattle.matrix_meaning.specs.Kind.{transform}
 use Rattle.operators.specs.Sum.{list_below}
 use Rattle.operators.proofs.Lists.{length-list_below, at-list_below}
@@ -45,12 +45,16 @@ pub root-any : (kind : Kind) (m : ℕ) (t : Breakdown) (w : ℕ) → IsRoot kind
 root-any Wht m t w root = tt
 root-any Dft m (leaf d) w root = tt
 root-any Dft m (node rule a b) w root = root
+root-any Idft m (leaf d) w root = tt
+root-any Idft m (node rule a b) w root = root
 
 pub does-any : (m weight : ℕ) (kind : Kind) (t : Breakdown) (w : ℕ) → 2 ≤ m → IsWellFormed kind t → AllowsRoot m w kind t →
     Does m weight (size_of t) (size_of t) (kernel_cost weight m kind t w) (tree_make m kind t w) (transform kind m (size_of t) w)
 does-any m weight Wht t w modulus formed root = does-tree m weight modulus Wht t w formed tt
 does-any m weight Dft (leaf d) w modulus formed root = does-leaf m weight modulus Dft d w formed
 does-any m weight Dft (node rule a b) w modulus formed root = does-tree m weight modulus Dft (node rule a b) w formed root
+does-any m weight Idft (leaf d) w modulus formed root = absurd formed
+does-any m weight Idft (node rule a b) w modulus formed root = absurd formed.0.allowed
 
 -- what the kernel of a tree does
 pub kernel-does : (m weight : ℕ) (kind : Kind) (t : Breakdown) (w : ℕ) → 2 ≤ m → IsWellFormed kind t → AllowsRoot m w kind t →

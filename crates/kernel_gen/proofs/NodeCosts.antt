@@ -7,7 +7,7 @@ use Rattle.matrix_meaning.specs.declared.Request.{Request}
 use Rattle.ring_mod.specs.Residue.{power_mod}
 use Rattle.ring_mod.proofs.Powers.{power_mod_of_power}
 use Rattle.tree_model.specs.declared.tree.Rule.{Rule}
-use Rattle.tree_model.specs.declared.tree.Rule.TheVariants.{Gt, Ct, Split}
+use Rattle.tree_model.specs.declared.tree.Rule.TheVariants.{Gt, Ct, Split, Dim}
 use Rattle.tree_model.specs.Breakdown.{Breakdown, leaf, node, size_of, IsWellFormed}
 use Rattle.tree_model.specs.Cost.{is_plain, is_kernel, cost_of, leaf_cost, node_root}
 use Rattle.tree_model.specs.Cost as trees
@@ -49,6 +49,7 @@ module _ (c : Request) where
   rule-same : (rule : Rule) (r s q : ℕ) → 0 < r * s → r * s * q ≡ c.size → is_kernel c (r * s) ≡ true → rule_cost c.weight c.modulus rule r s (power_mod c.modulus c.root q) ≡ trees.rule_cost c rule r s
   rule-same Gt r s q some whole is = refl
   rule-same Split r s q some whole is = refl
+  rule-same Dim r s q some whole is = refl
   rule-same Ct r s q some whole is =
       ap (λ root. trees.products_cost c Dft 1 root r s) (sym (root-is c (r * s) q some whole))
       ∙ sym (ap (λ b. if b then trees.products_cost c Dft 1 (node_root c (r * s)) r s else c.weight * (r * s)) is)

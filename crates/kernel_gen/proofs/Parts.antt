@@ -6,9 +6,9 @@ use Rattle.operators.specs.Operator.{good_thomas_in, good_thomas_out}
 use Rattle.operators.specs.Operator.{gather}
 use Rattle.operators.specs.Sum.{list_below}
 use Rattle.tree_model.specs.declared.tree.Rule.{Rule}
-use Rattle.tree_model.specs.declared.tree.Rule.TheVariants.{Gt, Ct, Split}
+use Rattle.tree_model.specs.declared.tree.Rule.TheVariants.{Gt, Ct, Split, Dim}
 use Rattle.tree_model.specs.Breakdown.{Breakdown, node, size_of}
-use Rattle.rooted_trees.specs.Trees.{PlainTrees, single, tensor, trees_size}
+use Rattle.tree_model.specs.Trees.{PlainTrees, single, tensor, trees_size}
 use Rattle.kernel_gen.specs.declared.straight.Kernel.{Kernel as KernelRecord}
 use Rattle.kernel_gen.specs.declared.straight.Instruction.{Instruction}
 use Rattle.kernel_gen.specs.declared.transform.Transform.{Transform}
@@ -58,6 +58,13 @@ module _ (transform left right : Transform) (tree a b : Breakdown) (r s : ℕ) w
       Wrote mid new (columns_make r s (make_of left a)) y z → Wrote old new (make_of transform tree) ins z
   wrote_split old mid new ins y z parts p q =
       wrote-node Split old new ins z parts (wrote-then old mid new (rows_make r s (λ _. make_of right b)) (columns_make r s (make_of left a)) ins y z p q)
+
+  pub wrote_dim : (old mid new : Writer) (ins y z : List ℕ) → ArePartsOf transform left right Dim tree a b r s →
+      Wrote old mid (rows_make r s (λ _. make_of right b)) ins y →
+      Wrote mid new (columns_make r s (make_of left a)) y z → Wrote old new (make_of transform tree) ins z
+  wrote_dim old mid new ins y z parts p q =
+      wrote-node Dim old new ins z parts
+      (wrote-then old mid new (rows_make r s (λ _. make_of right b)) (columns_make r s (make_of left a)) ins y z p q)
 
   pub wrote_gt : (old mid new : Writer) (ins x y z outs : List ℕ) → ArePartsOf transform left right Gt tree a b r s → x ≡ gather (r * s) (good_thomas_in r s) ins →
       Wrote old mid (rows_make r s (λ _. make_of right b)) x y →

@@ -3,7 +3,7 @@ use Rattle.std.proofs.Common.{ℕ, ◌+◌, ◌*◌, ◌^◌, ◌<◌, ◌≤◌
 use Rattle.std.proofs.Math.Nat.{mul-le-mul_right}
 use Rattle.matrix_meaning.specs.Kind.{transform}
 use Rattle.operators.proofs.Lists.{length-list_below}
-use Rattle.rooted_trees.specs.Trees.{PlainTrees, single, tensor, trees_size, trees_on, AreWords}
+use Rattle.tree_model.specs.Trees.{PlainTrees, single, tensor, trees_size, trees_on, AreWords}
 use Rattle.tree_model.specs.Breakdown.{size_of}
 use Rattle.tree_model.proofs.Sizes.{one_le_size_of, word_sizes}
 use Rattle.tree_model.specs.declared.tree.Rule.TheVariants.{Split}

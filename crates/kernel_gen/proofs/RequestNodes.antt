@@ -2,7 +2,7 @@
 use Rattle.std.proofs.Common.{◌≡◌, ℕ, ◌*◌, ◌%◌, ◌<◌, ◌≤◌, sym, ap, ap₂, ◌∙◌, arith, mul_comm}
 use Rattle.std.proofs.Math.Nat.{mod-eq_of_lt}
 use Rattle.matrix_meaning.specs.declared.Kind.{Kind}
-use Rattle.matrix_meaning.specs.declared.Kind.TheVariants.{Dft, Wht}
+use Rattle.matrix_meaning.specs.declared.Kind.TheVariants.{Dft, Wht, Idft}
 use Rattle.matrix_meaning.specs.declared.Request.{Request}
 use Rattle.matrix_meaning.specs.Valid.{IsValid, HasRoot}
 use Rattle.ring_mod.specs.Residue.{power_mod}
@@ -20,6 +20,9 @@ use Rattle.kernel_gen.proofs.NodeCosts.{cost-same}
 part_root : (kind : Kind) (m w n d q : ℕ) → 2 ≤ m → d * q ≡ n → HasRoot kind m w n → IsRoot kind m d (power_mod m w q)
 part_root Wht m w n d q large whole root = tt
 part_root Dft m w n d q large whole root =
+    let least : 1 < m = large in
+    power_mod_of_power m w q d ∙ ap (power_mod m w) (mul_comm q d ∙ whole) ∙ root ∙ sym (mod-eq_of_lt least)
+part_root Idft m w n d q large whole root =
     let least : 1 < m = large in
     power_mod_of_power m w q d ∙ ap (power_mod m w) (mul_comm q d ∙ whole) ∙ root ∙ sym (mod-eq_of_lt least)
 

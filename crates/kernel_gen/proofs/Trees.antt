@@ -7,7 +7,7 @@ use Rattle.std.proofs.Math.Nat.{mod-eq_of_lt}
 use Rattle.std.proofs.lemmas.Nat.{pow-add}
 use Rattle.std.proofs.lemmas.Bool.{cases_eq}
 use Rattle.matrix_meaning.specs.declared.Kind.{Kind}
-use Rattle.matrix_meaning.specs.declared.Kind.TheVariants.{Dft, Wht}
+use Rattle.matrix_meaning.specs.declared.Kind.TheVariants.{Dft, Wht, Idft}
 use Rattle.operators.specs.Identities.{turn}
 use Rattle.matrix_meaning.specs.Kind.{entry_of, sign, transform, IsPowerOfTwo}
 use Rattle.matrix_meaning.specs.Laws.{twiddle}
@@ -22,8 +22,8 @@ use Rattle.operators.proofs.Places.{stride_below}
 use Rattle.operators.proofs.Sums.{sum_below-add}
 use Rattle.ring_mod.specs.Residue.{power_mod}
 use Rattle.ring_mod.proofs.Powers.{power_mod-zero, power_mod-part}
-use Rattle.tree_model.specs.declared.tree.Rule.TheVariants.{Gt, Ct, Split}
-use Rattle.tree_model.specs.Breakdown.{Breakdown, leaf, node, size_of, IsWellFormed}
+use Rattle.tree_model.specs.declared.tree.Rule.TheVariants.{Gt, Ct, Split, Dim}
+use Rattle.tree_model.specs.Breakdown.{Breakdown, leaf, node, size_of, AllowsLeaf, IsWellFormed}
 use Rattle.kernel_gen.specs.Making.{Maker}
 use Rattle.kernel_gen.specs.Kernel.{IsRoot, node_make, tree_make, product_cost, rule_cost, kernel_cost}
 use Rattle.kernel_gen.proofs.Pieces.{Does, Piece, piece, picked, joined, does-as}
@@ -33,10 +33,11 @@ use Rattle.kernel_gen.proofs.Factors.{does-diagonal}
 use Rattle.kernel_gen.proofs.Matrices.{does-matrix}
 
 -- the first column of a transform
-first_column : (kind : Kind) (m w k : ℕ) → 2 ≤ m → entry_of kind m w k 0 ≡ 1
+first_column : (kind : Kind) (m d w k : ℕ) → AllowsLeaf kind d → 2 ≤ m → entry_of kind m d w k 0 ≡ 1
 unfolding ones
-first_column Dft m w k modulus = ap (power_mod m w) (mul-zero k) ∙ power_mod-zero m w ∙ mod-eq_of_lt (omega arith)
-first_column Wht m w k modulus = ap (λ c. sign m (count_ones c)) (and_zero_r k)
+first_column Dft m d w k allowed modulus = ap (power_mod m w) (mul-zero k) ∙ power_mod-zero m w ∙ mod-eq_of_lt (omega arith)
+first_column Wht m d w k allowed modulus = ap (λ c. sign m (count_ones c)) (and_zero_r k)
+first_column Idft m d w k allowed modulus = absurd allowed
 
 -- the places of the permutations
 good_thomas_in_below : (r s p : ℕ) → p < r * s → good_thomas_in r s p < r * s
@@ -118,11 +119,12 @@ module _ (m weight : ℕ) (modulus : 2 ≤ m) where
   some_items : (kind : Kind) (d : ℕ) → IsWellFormed kind (leaf d) → 0 < d
   some_items Dft d formed = formed
   some_items Wht d formed = formed.0
+  some_items Idft d formed = absurd formed
 
   pub does-leaf : (kind : Kind) (d w : ℕ) → IsWellFormed kind (leaf d) →
       Does m weight d d (kernel_cost weight m kind (leaf d) w) (tree_make m kind (leaf d) w) (transform kind m d w)
   does-leaf kind d w formed =
-      does-matrix m weight (omega arith) d (entry_of kind m w) (some_items kind d formed) (λ i. first_column kind m w i modulus) (λ k l. entry_below kind m w k l modulus)
+      does-matrix m weight (omega arith) d (entry_of kind m d w) (some_items kind d formed) (λ i. first_column kind m d w i formed modulus) (λ k l. entry_below kind m d w k l modulus)
 
   pub does-tree : (kind : Kind) (t : Breakdown) (w : ℕ) → IsWellFormed kind t → IsRoot kind m (size_of t) w →
       Does m weight (size_of t) (size_of t) (kernel_cost weight m kind t w) (tree_make m kind t w) (transform kind m (size_of t) w)
@@ -146,3 +148,6 @@ module _ (m weight : ℕ) (modulus : 2 ≤ m) where
   does-tree Dft (node Split a b) w formed root = absurd formed.0.allowed
   does-tree Wht (node Gt a b) w formed root = absurd formed.0.allowed
   does-tree Wht (node Ct a b) w formed root = absurd formed.0.allowed
+  does-tree Dft (node Dim a b) w formed root = absurd formed.0.allowed
+  does-tree Wht (node Dim a b) w formed root = absurd formed.0.allowed
+  does-tree Idft (node rule a b) w formed root = absurd formed.0.allowed

@@ -1,7 +1,7 @@
 -- The kernel of a tree, and what it costs.
 use Rattle.std.specs.Prelude.{◌≡◌, ℕ, ◌+◌, ◌-◌, ◌*◌, ◌%◌, ◌==◌, if◌then◌else◌}
 use Rattle.matrix_meaning.specs.declared.Kind.{Kind}
-use Rattle.matrix_meaning.specs.declared.Kind.TheVariants.{Dft, Wht}
+use Rattle.matrix_meaning.specs.declared.Kind.TheVariants.{Dft, Wht, Idft}
 use Rattle.operators.specs.Identities.{turn}
 use Rattle.matrix_meaning.specs.Kind.{entry_of}
 use Rattle.operators.specs.Operator.{good_thomas_in, good_thomas_out}
@@ -9,23 +9,26 @@ use Rattle.operators.specs.Operator.{gather}
 use Rattle.operators.specs.Sum.{sum_below, list_below}
 use Rattle.ring_mod.specs.Residue.{power_mod}
 use Rattle.tree_model.specs.declared.tree.Rule.{Rule}
-use Rattle.tree_model.specs.declared.tree.Rule.TheVariants.{Gt, Ct, Split}
+use Rattle.tree_model.specs.declared.tree.Rule.TheVariants.{Gt, Ct, Split, Dim}
 use Rattle.tree_model.specs.Breakdown.{Breakdown, leaf, node, size_of, IsWellFormed}
 use Rattle.tree_model.specs.Cost.{node_root}
 use Rattle.matrix_meaning.specs.declared.Request.{Request}
-use Rattle.rooted_trees.specs.Trees.{PlainTrees, single, tensor, trees_size}
+use Rattle.tree_model.specs.Trees.{PlainTrees, single, tensor, trees_size}
 use Rattle.kernel_gen.specs.Making.{Made, Maker, pick_make, then_make, rows_make, matrix_make, diagonal_make}
 
 -- a root of the size of a transform
 abbrev pub IsRoot : Kind → ℕ → ℕ → ℕ → Type 0
 IsRoot Dft m n w = power_mod m w n ≡ 1 % m
 IsRoot Wht m n w = Unit {0}
+IsRoot Idft m n w = power_mod m w n ≡ 1 % m
 
 -- a root that a rule may take apart: any for a leaf, and for other trees one of the tree's size
 abbrev pub AllowsRoot : ℕ → ℕ → Kind → Breakdown → Type 0
 AllowsRoot m root Wht t = Unit {0}
 AllowsRoot m root Dft (leaf d) = Unit {0}
 AllowsRoot m root Dft (node rule a b) = power_mod m root (size_of a * size_of b) ≡ 1 % m
+AllowsRoot m root Idft (leaf d) = Unit {0}
+AllowsRoot m root Idft (node rule a b) = power_mod m root (size_of a * size_of b) ≡ 1 % m
 
 -- a piece on each of s columns of r inputs
 abbrev pub columns_make : ℕ → ℕ → Maker → Maker
@@ -42,10 +45,11 @@ node_make m Gt r s w a b =
 node_make m Ct r s w a b =
     then_make (pick_make (turn r s)) (then_make (rows_make r s (twiddled_make m s w b)) (columns_make r s a))
 node_make m Split r s w a b = then_make (rows_make r s (λ _. b)) (columns_make r s a)
+node_make m Dim r s w a b = then_make (rows_make r s (λ _. b)) (columns_make r s a)
 
 -- the code of a tree for the root w, modulo m
 abbrev pub tree_make : ℕ → Kind → Breakdown → ℕ → Maker
-tree_make m kind (leaf d) w = matrix_make m (entry_of kind m w) d
+tree_make m kind (leaf d) w = matrix_make m (entry_of kind m d w) d
 tree_make m kind (node rule a b) w =
     node_make m rule (size_of a) (size_of b) w (tree_make m kind a (power_mod m w (size_of b))) (tree_make m kind b (power_mod m w (size_of a)))
 
@@ -68,12 +72,13 @@ products_cost weight m minus e rows columns = sum_below rows (λ k. sum_below co
 -- what a rule adds to its parts' costs: ct multiplies by its twiddles
 abbrev pub rule_cost : ℕ → ℕ → Rule → ℕ → ℕ → ℕ → ℕ
 rule_cost weight m Gt r s w = 0
-rule_cost weight m Ct r s w = products_cost weight m 1 (entry_of Dft m w) r s
+rule_cost weight m Ct r s w = products_cost weight m 1 (entry_of Dft m r w) r s
 rule_cost weight m Split r s w = 0
+rule_cost weight m Dim r s w = 0
 
 -- the cost of a tree's code for the root w, where a multiplication costs `weight`
 abbrev pub kernel_cost : ℕ → ℕ → Kind → Breakdown → ℕ → ℕ
-kernel_cost weight m kind (leaf d) w = d * (d - 1) + products_cost weight m 0 (entry_of kind m w) d d
+kernel_cost weight m kind (leaf d) w = d * (d - 1) + products_cost weight m 0 (entry_of kind m d w) d d
 kernel_cost weight m kind (node rule a b) w =
     size_of b * kernel_cost weight m kind a (power_mod m w (size_of b)) + size_of a * kernel_cost weight m kind b (power_mod m w (size_of a)) + rule_cost weight m rule (size_of a) (size_of b) w
 

@@ -3,14 +3,14 @@ ghost use Rattle.std.specs.Prelude.{◌≡◌, ◌*◌, ◌^◌, ◌<◌, ◌≤
 ghost use Rattle.kernel_gen.specs.Kernel.{trees_make};
 ghost use Rattle.kernel_gen.specs.Making.{rows_make};
 ghost use Rattle.kernel_gen.specs.Writing.{Wrote};
-ghost use Rattle.rooted_trees.specs.Trees.{plain_trees, trees_size, AreWords};
+ghost use Rattle.tree_model.specs.Trees.{plain_trees, trees_size, AreWords};
 
 use crate::transform::{Grid, Transform};
 use crate::writer::Writer;
 use memory::NoMemory;
 use ring_mod::Modulus;
-use rooted_trees::RootedTrees;
 use std::alloc::Global;
+use tree_model::RootedTrees;
 
 impl Writer {
     /// The code of trees for each row of inputs.

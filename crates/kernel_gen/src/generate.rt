@@ -3,7 +3,7 @@ ghost use Rattle.std.specs.Prelude.{◌≡◌, ◌%◌, ◌^◌, ◌<◌, ◌≤
 ghost use Rattle.operators.specs.Sum.{list_below};
 ghost use Rattle.tree_model.specs.Breakdown.{breakdown_of, size_of, HasWordSizes, IsWellFormed};
 ghost use Rattle.kernel_gen.specs.Kernel.{kernel_of, node_kernel, trees_kernel};
-ghost use Rattle.rooted_trees.specs.Trees.{plain_trees, trees_size, AreWords};
+ghost use Rattle.tree_model.specs.Trees.{plain_trees, trees_size, AreWords};
 ghost use Rattle.kernel_gen.specs.Writing.{next_of};
 ghost use Rattle.kernel_gen.specs.Kernels.{made_of, CostsDefinition, CostsNode, IsStraight, TransformsBy, TransformsNode};
 
@@ -13,9 +13,8 @@ use crate::writer::Writer;
 use matrix_meaning::Kind;
 use memory::NoMemory;
 use ring_mod::Modulus;
-use rooted_trees::RootedTrees;
 use std::alloc::Global;
-use tree_model::{Ctx, Tree, node_root};
+use tree_model::{Ctx, RootedTrees, Tree, node_root};
 
 // The registers of so many inputs.
 fn first_registers(alloc: Global, n: u64) -> Result<Vec<u64>, NoMemory>

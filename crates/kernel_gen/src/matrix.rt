@@ -29,7 +29,7 @@ impl Writer {
         let n = ins.len() as u64;
         let mut acc = ins[0];
         for l in 1..n {
-            let factor = entry(kind, n, root, modulus.get(), k, l);
+            let factor = entry(kind, &[n], &[root], modulus.get(), k, l);
             acc = self.put_term(modulus, factor, acc, ins[l as usize])?;
         }
         Ok(acc)

@@ -153,6 +153,14 @@ impl Writer {
                 let outs = self.put_columns(alloc, &left, a, grid, &inner)?;
                 Ok(outs)
             }
+            Tree::Dim(a, b) => {
+                let grid = Grid::of_parts(a, b);
+                let left = transform.part(grid.columns);
+                let right = transform.part(grid.rows);
+                let inner = self.put_rows(alloc, &right, b, grid, ins)?;
+                let outs = self.put_columns(alloc, &left, a, grid, &inner)?;
+                Ok(outs)
+            }
         }
     }
 }

@@ -2,7 +2,7 @@
 use Rattle.std.proofs.Common.{◌≡◌, ℕ, ◌+◌, ◌*◌, arith, ap, [], ◌∷◌}
 use Rattle.kernel_gen.specs.Kernel.{trees_cost}
 use Rattle.kernel_passes.specs.Laws.{KernelsCount}
-use Rattle.rooted_trees.specs.Trees.{trees_size}
+use Rattle.tree_model.specs.Trees.{trees_size}
 
 pub kernels_count : KernelsCount
 kernels_count m trees =

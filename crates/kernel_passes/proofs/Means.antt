@@ -12,8 +12,8 @@ use Rattle.passes.specs.Nest.{nests_on}
 use Rattle.passes.specs.Term.{natural}
 use Rattle.passes.specs.Work.{kernel}
 use Rattle.passes.proofs.Natural.{at-natural, nest-natural}
-use Rattle.rooted_trees.specs.Trees.{PlainTrees, trees_on, trees_size}
-use Rattle.rooted_trees.proofs.Products.{trees-below, trees-length, trees-same}
+use Rattle.tree_model.specs.Trees.{PlainTrees, trees_on, trees_size}
+use Rattle.tree_model.proofs.TreeProducts.{trees-below, trees-length, trees-same}
 
 module _ (m : ℕ) (trees : PlainTrees) (x : List ℕ) (some : 0 < m) where
   abbrev n : ℕ

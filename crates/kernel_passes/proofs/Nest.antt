@@ -9,7 +9,7 @@ use Rattle.passes.specs.Work.{kernel}
 use Rattle.passes.proofs.Natural.{natural-good}
 use Rattle.passes.proofs.Within.{constant-small, limited}
 use Rattle.perm_algebra.specs.Affine.{Sum, constant}
-use Rattle.rooted_trees.specs.Trees.{PlainTrees, trees_size}
+use Rattle.tree_model.specs.Trees.{PlainTrees, trees_size}
 use Rattle.shared_tensors.proofs.TileLimits.{all-tested}
 
 map-same : (n : ℕ) (sums : List Sum) → map (place_sum [] n 0) sums ≡ sums

@@ -15,7 +15,7 @@ use Rattle.passes.specs.Work.{kernel, tile}
 use Rattle.passes.proofs.Within.{both-true}
 use Rattle.perm_algebra.specs.Affine.{constant}
 use Rattle.perm_algebra.specs.Room.{HasCounts}
-use Rattle.rooted_trees.specs.Trees.{PlainTrees, trees_size}
+use Rattle.tree_model.specs.Trees.{PlainTrees, trees_size}
 use Rattle.shared_tensors.specs.Laws.{HasNoTile, IsPart, IsShallow}
 
 -- what holds of the one pass

@@ -8,7 +8,7 @@ use Rattle.kernel_passes.specs.Merged.{kernel_nest}
 use Rattle.pass_actions.specs.Machine.{PlainMachine}
 use Rattle.pass_actions.proofs.KernelActions.{trees-registers}
 use Rattle.pass_programs.specs.Contract.{most_actions}
-use Rattle.rooted_trees.specs.Trees.{PlainTrees, trees_size}
+use Rattle.tree_model.specs.Trees.{PlainTrees, trees_size}
 
 module _ (m : ℕ) (trees : PlainTrees) (is : IsKernel m trees) where
   abbrev n : ℕ

@@ -15,7 +15,7 @@ use Rattle.passes.specs.Good.{IsGoodPass, NamesItems}
 use Rattle.passes.specs.Merge.{limits_of}
 use Rattle.passes.specs.Nest.{PlainNest, load_place}
 use Rattle.passes.specs.Work.{kernel}
-use Rattle.rooted_trees.specs.Trees.{PlainTrees, trees_size}
+use Rattle.tree_model.specs.Trees.{PlainTrees, trees_size}
 use Rattle.pass_programs.proofs.TestedLists.{sums-written}
 
 -- the only lane is the first

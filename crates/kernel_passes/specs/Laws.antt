@@ -5,7 +5,7 @@ use Rattle.pass_actions.specs.Costs.{pass_cost, pass_loads}
 use Rattle.pass_actions.specs.Machine.{PlainMachine}
 use Rattle.pass_programs.specs.Contract.{CanProgram, IsHost, all_passes}
 use Rattle.passes.specs.Merged.{merged_on}
-use Rattle.rooted_trees.specs.Trees.{PlainTrees, trees_on, trees_size}
+use Rattle.tree_model.specs.Trees.{PlainTrees, trees_on, trees_size}
 use Rattle.shared_tensors.specs.Laws.{IsPart}
 use Rattle.kernel_passes.specs.Merged.{kernel_merged}
 

@@ -5,7 +5,7 @@ use Rattle.passes.specs.Merged.{PlainMerged}
 use Rattle.passes.specs.Nest.{PlainNest}
 use Rattle.passes.specs.Work.{kernel}
 use Rattle.perm_algebra.specs.Affine.{Sum, constant}
-use Rattle.rooted_trees.specs.Trees.{PlainTrees, trees_size}
+use Rattle.tree_model.specs.Trees.{PlainTrees, trees_size}
 
 -- the items of the array, in order
 abbrev pub all_items : PlainTrees → List Sum

@@ -5,13 +5,13 @@ ghost use Rattle.std.specs.Prelude.{◌≡◌, IfOk};
 ghost use Rattle.kernel_passes.specs.Laws.{KernelsAreParts, KernelsCanProgram, KernelsCount, KernelsTransform};
 ghost use Rattle.kernel_passes.specs.Merged.{kernel_merged};
 ghost use Rattle.passes.specs.Views.{plain_merged};
-ghost use Rattle.rooted_trees.specs.Trees.{AreWords, plain_trees};
+ghost use Rattle.tree_model.specs.Trees.{AreWords, plain_trees};
 
 use memory::NoMemory;
 use passes::{Merged, Nest, Work, items_in, items_out};
-use rooted_trees::RootedTrees;
 use smallvec::SmallVec;
 use std::alloc::Global;
+use tree_model::RootedTrees;
 
 /// The merged passes of trees in straight-line code, for one processor and one lane.
 pub fn merge_kernel(alloc: Global, trees: RootedTrees) -> Result<Merged, NoMemory>

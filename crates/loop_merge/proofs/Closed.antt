@@ -17,7 +17,7 @@ use Rattle.tensor_paths.specs.declared.Tensor.TheVariants.{Blocks, Columns}
 use Rattle.tensor_paths.specs.Path.{Path, size_under}
 use Rattle.tensor_paths.proofs.Under.{size_under-push}
 use Rattle.tree_model.specs.declared.tree.Rule.{Rule}
-use Rattle.tree_model.specs.declared.tree.Rule.TheVariants.{Gt, Ct, Split}
+use Rattle.tree_model.specs.declared.tree.Rule.TheVariants.{Gt, Ct, Split, Dim}
 
 abbrev pub AreClosed : ℕ → List Mapping → Type 0
 AreClosed n [] = Unit {0}
@@ -63,6 +63,7 @@ waiting_closed size Gt path r s waiting h w =
     (closed-under size path (r * s) (ThomasIn r s) h.whole.high h.fills (thomas_in-closed r s (omega (arith, h.left)) (omega (arith, h.right)) h.small), w)
 waiting_closed size Ct path r s waiting h w = (closed-under size path (r * s) (Strided r s) h.whole.high h.fills (strided-closed r s), w)
 waiting_closed size Split path r s waiting h w = w
+waiting_closed size Dim path r s waiting h w = w
 
 back_closed : (size : ℕ) (path : Path) (r s : ℕ) → IsRuleIn size Gt path r s → IsClosed size (wrapped path (r * s) (ThomasBack r s (unit_of r s) (unit_of s r)))
 back_closed size path r s h =
@@ -108,6 +109,7 @@ passes_rule size Gt path r s w left right h l k =
 passes_rule size Ct path r s w left right h l k =
     passes-append size _ left (passes-last size (multiplied path r s w) right (λ p q. multiplied-closed size path r s w p (closed-inner size path (r * s) h.whole.high h.fills h.within) q) k) l
 passes_rule size Split path r s w left right h l k = passes-append size right left k l
+passes_rule size Dim path r s w left right h l k = passes-append size right left k l
 
 new-closed : (size : ℕ) (path : Path) (waiting : List Mapping) (w : PlainWork) → AreClosed size waiting → IsClosedPass size (new_pass path w waiting)
 new-closed size path waiting w h = record { befores = h; afters = tt; multiplies = λ d e. absurd (none_is_some d e) }

@@ -22,7 +22,7 @@ use Rattle.tensor_paths.specs.declared.Tensor.{Tensor}
 use Rattle.tensor_paths.specs.declared.Tensor.TheVariants.{Blocks, Columns}
 use Rattle.tensor_paths.specs.Path.{Path, count_of, copies_of}
 use Rattle.tree_model.specs.declared.tree.Rule.{Rule}
-use Rattle.tree_model.specs.declared.tree.Rule.TheVariants.{Gt, Ct, Split}
+use Rattle.tree_model.specs.declared.tree.Rule.TheVariants.{Gt, Ct, Split, Dim}
 use Rattle.smp_rewrite.specs.Fits.{HasParts, RuleHasParts, CanShareLayout}
 use Rattle.steps.specs.Targets.{is_alone}
 
@@ -45,6 +45,7 @@ more-by : (n : ℕ) (rule : Rule) (ps : List Counted) → map (more n) (twiddle_
 more-by n Gt ps = refl
 more-by n Ct ps = more-last n ps
 more-by n Split ps = refl
+more-by n Dim ps = refl
 
 more-passes : (n k : ℕ) (l : Layout) → map (more n) (passes_of k l) ≡ passes_of (n * k) l
 more-passes n k (work w) = refl
@@ -112,6 +113,7 @@ abbrev counted_right : Rule → Bool → List Counted → List Counted
 counted_right Gt one ps = []
 counted_right Ct one ps = twiddle_last (ps ++ (if one then [] else tiles false ∷ []))
 counted_right Split one ps = (if one then [] else tiles false ∷ []) ++ (ps ++ (if one then [] else tiles false ∷ []))
+counted_right Dim one ps = (if one then [] else tiles false ∷ []) ++ (ps ++ (if one then [] else tiles false ∷ []))
 
 counted-right_passes : (m p v : ℕ) (rule : Rule) (w : ℕ) (a b : Layout) → IsGoodLayout m b → map counted (right_passes p v rule w a b) ≡ counted_right rule (v == 1) (passes_of (copies_of (right_path p v (layout_size a))) b)
 counted-right_passes m p v Gt w a b h = refl
@@ -124,6 +126,14 @@ counted-right_passes m p v Ct w a b h =
     (map-append counted inner (if_lanes v (tile_after p v r s))
     ∙ ap₂ (λ x y. x ++ y) (counted_passes m (right_path p v r) (turned_waiting p v r s) b h) (counted-lanes (v == 1) (tile_after p v r s)))
 counted-right_passes m p v Split w a b h =
+    let r = layout_size a in
+    let s = layout_size b in
+    let inner = layout_passes (right_path p v r) [] b in
+    map-append counted (if_lanes v (tile_before p v r s)) (inner ++ if_lanes v (tile_after p v r s))
+    ∙ ap₂ (λ x y. x ++ y) (counted-lanes (v == 1) (tile_before p v r s))
+    (map-append counted inner (if_lanes v (tile_after p v r s))
+    ∙ ap₂ (λ x y. x ++ y) (counted_passes m (right_path p v r) [] b h) (counted-lanes (v == 1) (tile_after p v r s)))
+counted-right_passes m p v Dim w a b h =
     let r = layout_size a in
     let s = layout_size b in
     let inner = layout_passes (right_path p v r) [] b in
@@ -151,6 +161,7 @@ on_one_lane : (rule : Rule) (ps qs : List Counted) → (rule ≡ Gt → ⊥) →
 on_one_lane Gt ps qs h = absurd (h refl)
 on_one_lane Ct ps qs h = ap (λ xs. twiddle_last xs ++ qs) (append-nil ps)
 on_one_lane Split ps qs h = ap (λ xs. xs ++ qs) (append-nil ps)
+on_one_lane Dim ps qs h = ap (λ xs. xs ++ qs) (append-nil ps)
 
 on_lanes : (rule : Rule) (root : ℕ) (a b : Layout) → (rule ≡ Gt → ⊥) →
     counted_right rule false (passes_of (layout_size a) b) ++ passes_of (layout_size b) a ≡ tiled_passes (by rule root a b)
@@ -159,6 +170,9 @@ on_lanes Ct root a b h =
     ap (λ xs. xs ++ passes_of (layout_size b) a) (last-tile (passes_of (layout_size a) b) false)
     ∙ append_assoc (passes_of (layout_size a) b) (tiles true ∷ []) (passes_of (layout_size b) a)
 on_lanes Split root a b h = ap (λ xs. tiles false ∷ xs) (append_assoc (passes_of (layout_size a) b) (tiles false ∷ []) (passes_of (layout_size b) a))
+on_lanes Dim root a b h =
+    ap (λ xs. tiles false ∷ xs)
+    (append_assoc (passes_of (layout_size a) b) (tiles false ∷ []) (passes_of (layout_size b) a))
 
 as_counted : (rule : Rule) (root : ℕ) (a b : Layout) → (rule ≡ Gt → ⊥) → (one few : Bool) → one ≡ few →
     counted_right rule one (passes_of (layout_size a) b) ++ passes_of (layout_size b) a ≡ (if few then passes_of 1 (by rule root a b) else tiled_passes (by rule root a b))
@@ -189,6 +203,7 @@ root_rule : (c : Target) (rule : Rule) (r s : ℕ) → RuleHasParts c rule r s �
 root_rule c Gt r s fits = absurd fits
 root_rule c Ct r s fits = ((λ e. absurd (cc)), fits)
 root_rule c Split r s fits = ((λ e. absurd (cc)), fits)
+root_rule c Dim r s fits = ((λ e. absurd (cc)), fits)
 
 shared_counts : (c : Target) (l : Layout) → CanShareLayout c l → IsGoodLayout c.modulus l → is_alone c ≡ false → map counted (in_order (root_passes c l)) ≡ whole_passes c.lanes l
 shared_counts c (work w) shares good shared = absurd (shares.root shared)

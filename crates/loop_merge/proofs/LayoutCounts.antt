@@ -7,10 +7,10 @@ use Rattle.kernel_gen.proofs.NodeCosts.{kernel-short}
 use Rattle.loop_merge.specs.Laws.{Counted, works, tiles, with_twiddles, twiddle_last, twiddle_by, passes_of, tiled_passes, whole_passes, loads_by, CountsAs, AllCount, LayoutsCount}
 use Rattle.matrix_meaning.specs.Valid.{IsValid}
 use Rattle.matrix_meaning.specs.declared.Kind.{Kind}
-use Rattle.matrix_meaning.specs.declared.Kind.TheVariants.{Dft, Wht}
+use Rattle.matrix_meaning.specs.declared.Kind.TheVariants.{Dft, Wht, Idft}
 use Rattle.matrix_meaning.specs.declared.Request.{Request}
 use Rattle.passes.specs.Work.{PlainWork, kernel}
-use Rattle.rooted_trees.specs.Trees.{single}
+use Rattle.tree_model.specs.Trees.{single}
 use Rattle.smp_rewrite.proofs.TreeLaws.{root_kernel}
 use Rattle.steps.specs.Layout.{Layout, work, by, layout_size, layout_of, long_work, node_work, work_cost}
 use Rattle.steps.proofs.Layouts.{kernel-priced, layouts_have_size, leaf-priced, part-le}
@@ -20,7 +20,7 @@ use Rattle.tree_model.specs.Cost.{cost_of, is_kernel, is_plain, node_root}
 use Rattle.tree_model.specs.Passes as trees
 use Rattle.tree_model.proofs.Splits.{below_product, other_below}
 use Rattle.tree_model.specs.declared.tree.Rule.{Rule}
-use Rattle.tree_model.specs.declared.tree.Rule.TheVariants.{Gt, Ct, Split}
+use Rattle.tree_model.specs.declared.tree.Rule.TheVariants.{Gt, Ct, Split, Dim}
 
 -- ---- one pass
 
@@ -82,12 +82,14 @@ passes-by : (c : Request) (rule : Rule) (ps : List Counted) (qs : List trees.Pas
 passes-by c Gt ps qs h = h
 passes-by c Ct ps qs h = passes-last c ps qs h
 passes-by c Split ps qs h = h
+passes-by c Dim ps qs h = h
 
 -- ---- the loads of a leaf
 
 rows-loads : (n root d : ℕ) (kind : Kind) → AllowsLeaf kind d → 2 < d → loads_by n (long_work kind root (leaf d)) ≡ n * d
 rows-loads n root d Dft h more = refl
 rows-loads n root d Wht h more = absurd (omega (arith, h.1, more))
+rows-loads n root d Idft h more = absurd h
 
 leaf-loads : (c : Request) (d : ℕ) → IsValid c → AllowsLeaf c.kind d → (d ≡ c.size → is_plain c ≡ false → ⊥) → loads_by c.size (node_work c (leaf d)) ≡ trees.node_loads c c.size (leaf d)
 leaf-loads c d valid formed root = pick (is_kernel c d) refl
@@ -171,6 +173,17 @@ tiled c Split a b fits left right size_a size_b =
       passes-append c (passes_of (layout_size la) lb) (tiles false ∷ passes_of (layout_size lb) la) (trees.passes_of c (size_of a) b) (trees.tiles false ∷ trees.passes_of c (size_of b) a)
           (subst (λ k. ArePasses c (passes_of k lb) (trees.passes_of c (size_of a) b)) (sym size_a) (right (size_of a)))
           (refl, subst (λ k. ArePasses c (passes_of k la) (trees.passes_of c (size_of b) a)) (sym size_b) (left (size_of b))),
+    )
+tiled c Dim a b fits left right size_a size_b =
+    let la = layout_of c a in
+    let lb = layout_of c b in (
+      refl,
+      passes-append c (passes_of (layout_size la) lb) (tiles false ∷ passes_of (layout_size lb) la)
+          (trees.passes_of c (size_of a) b) (trees.tiles false ∷ trees.passes_of c (size_of b) a)
+          (subst (λ k. ArePasses c (passes_of k lb) (trees.passes_of c (size_of a) b)) (sym size_a) (right (size_of a))) (
+            refl,
+            subst (λ k. ArePasses c (passes_of k la) (trees.passes_of c (size_of b) a)) (sym size_b) (left (size_of b)),
+          ),
     )
 
 root-pick : (c : Request) (z : Bool) (w : PlainWork) (l : Layout) (qs : List trees.Pass) → z ≡ false → ArePasses c (tiled_passes l) qs → ArePasses c (tiled_passes (if z then work w else l)) qs

@@ -13,7 +13,7 @@ use Rattle.passes.specs.Limits.{AreSeveral}
 use Rattle.passes.specs.Merge.{items_in, items_out}
 use Rattle.passes.specs.Work.{PlainWork, kernel, rows, horner, tile, copy, work_size}
 use Rattle.perm_algebra.specs.Affine.{Sum, constant}
-use Rattle.rooted_trees.specs.Trees.{PlainTrees, trees_size}
+use Rattle.tree_model.specs.Trees.{PlainTrees, trees_size}
 use Rattle.sigma_lower.proofs.Lowering.{part-le}
 use Rattle.tensor_paths.specs.declared.Tensor.TheVariants.{Blocks, Columns}
 use Rattle.tensor_paths.specs.Path.{Path, copies_of, count_of}

@@ -29,7 +29,7 @@ use Rattle.tensor_paths.specs.declared.Tensor.TheVariants.{Blocks, Columns}
 use Rattle.tensor_paths.specs.Path.{Path, grown, size_under}
 use Rattle.tensor_paths.proofs.Under.{size_under-push}
 use Rattle.tree_model.specs.declared.tree.Rule.{Rule}
-use Rattle.tree_model.specs.declared.tree.Rule.TheVariants.{Gt, Ct, Split}
+use Rattle.tree_model.specs.declared.tree.Rule.TheVariants.{Gt, Ct, Split, Dim}
 use Rattle.smp_rewrite.specs.Fits.{CanShareLayout}
 
 -- ---- a tensor at a place, and the permutation of a rule
@@ -151,6 +151,7 @@ gathering_rule size Ct path r s waiting h g =
     gathering-mapped size path waiting (Strided r s) r s (λ d e cs count fits. turns-one r s d e cs count h.left h.right fits)
     (λ d e cs count fits. turns-room r s d e cs count h.left h.right h.small fits) h.fills h.whole.high g
 gathering_rule size Split path r s waiting h g = gathering-push size path waiting (Blocks r) s g
+gathering_rule size Dim path r s waiting h g = gathering-push size path waiting (Blocks r) s g
 
 -- ---- scatters: from the pass inwards out to a node
 
@@ -321,6 +322,9 @@ placed_rule size Ct path r s w left right h l k =
     placed-append size path (r * s) _ left (placed-multiplied size path r s w right h.small (omega (arith, h.fills, h.whole.high)) h.within (placed-lift size path (Blocks r) s right k)) (placed-lift size path (Columns s) r left l)
 placed_rule size Split path r s w left right h l k =
     placed-append size path (r * s) right left (placed-lift size path (Blocks r) s right k) (placed-lift size path (Columns s) r left l)
+placed_rule size Dim path r s w left right h l k =
+    placed-append size path (r * s) right left
+    (placed-lift size path (Blocks r) s right k) (placed-lift size path (Columns s) r left l)
 
 new-placed : (size : ℕ) (path : Path) (waiting : List Mapping) (w : PlainWork) → size_under path (work_size w) ≡ size → Gathering size path waiting (work_size w) → IsPlacedPass size path (work_size w) (new_pass path w waiting)
 new-placed size path waiting w e g = record { gathers = g; scatters = scattering-new size path waiting w e; multiplies = λ d e. absurd (none_is_some d e) }

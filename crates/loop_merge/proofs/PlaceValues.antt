@@ -21,7 +21,7 @@ use Rattle.tensor_paths.specs.declared.Tensor.TheVariants.{Blocks, Columns}
 use Rattle.tensor_paths.specs.Path.{Path, size_under, place}
 use Rattle.tensor_paths.proofs.Under.{size_under-push}
 use Rattle.tree_model.specs.declared.tree.Rule.{Rule}
-use Rattle.tree_model.specs.declared.tree.Rule.TheVariants.{Gt, Ct, Split}
+use Rattle.tree_model.specs.declared.tree.Rule.TheVariants.{Gt, Ct, Split, Dim}
 
 -- ---- one pass
 
@@ -88,6 +88,7 @@ waiting_formed size Gt path r s waiting h w =
 waiting_formed size Ct path r s waiting h w =
     (wrapped-formed path (r * s) (Strided r s) (whole_positive size Ct path r s h) (strided-formed r s (omega (arith, h.left)) (omega (arith, h.right)) h.small), w)
 waiting_formed size Split path r s waiting h w = w
+waiting_formed size Dim path r s waiting h w = w
 
 back_formed : (size : ℕ) (path : Path) (r s : ℕ) → IsRuleIn size Gt path r s → IsFormed (wrapped path (r * s) (ThomasBack r s (unit_of r s) (unit_of s r)))
 back_formed size path r s h =
@@ -133,6 +134,7 @@ passes_rule size Gt path r s w left right h l k =
 passes_rule size Ct path r s w left right h l k =
     passes-append _ left (passes-last (multiplied path r s w) right (λ p q. multiplied-formed path r s w p (whole_positive size Ct path r s h) q) k) l
 passes_rule size Split path r s w left right h l k = passes-append right left k l
+passes_rule size Dim path r s w left right h l k = passes-append right left k l
 
 new-formed : (path : Path) (waiting : List Mapping) (w : PlainWork) → AreFormed waiting → IsFormedPass (new_pass path w waiting)
 new-formed path waiting w h = record { befores = h; afters = tt; multiplies = λ d e. absurd (none_is_some d e) }

@@ -20,7 +20,7 @@ use Rattle.tensor_paths.specs.declared.Tensor.TheVariants.{Blocks, Columns}
 use Rattle.tensor_paths.specs.Path.{Path, grown, size_under}
 use Rattle.tensor_paths.proofs.Under.{size_under-push}
 use Rattle.tree_model.specs.declared.tree.Rule.{Rule}
-use Rattle.tree_model.specs.declared.tree.Rule.TheVariants.{Gt, Ct, Split}
+use Rattle.tree_model.specs.declared.tree.Rule.TheVariants.{Gt, Ct, Split, Dim}
 use Rattle.steps.specs.Layout.{Layout, work, by, layout_size}
 
 -- ---- merging behind passes that are there
@@ -73,6 +73,7 @@ sized_rule : (m : ℕ) (rule : Rule) (path : Path) (r s w : ℕ) (left right : L
 sized_rule m Gt path r s w left right e h k = (e, sized-append m right (left ++ step path (thomas_out r s) ∷ []) k (sized-append m left (step path (thomas_out r s) ∷ []) h (e, tt)))
 sized_rule m Ct path r s w left right e h k = (e, sized-append m right (step path (twiddles r s w) ∷ left) k (e, h))
 sized_rule m Split path r s w left right e h k = sized-append m right left k h
+sized_rule m Dim path r s w left right e h k = sized-append m right left k h
 
 sized_steps : (m : ℕ) (path : Path) (l : Layout) → size_under path (layout_size l) ≡ m → AreSized m (steps_of path l)
 sized_steps m path (work w) e = (e, tt)
@@ -183,6 +184,20 @@ merged-right p v Split w a b =
     let inner = layout_passes (right_path p v r) [] b in
     terms-append (done []) (tiled_before p v r s) (steps ++ after)
     ∙ ap (λ z. merged z (steps ++ after)) (merged-first_tile (v == 1) (tile_path p v r s) (tile v) (vectors_grouped (s / v * v) p v r s))
+    ∙ terms-append (done before) steps after
+    ∙ ap (λ z. merged z after) (merged_tree (right_path p v r) b (done before))
+    ∙ merged-tile (v == 1) (tile_path p v r s) (tile v) (vectors_grouped (v * (s / v)) p v r s) (before ++ inner)
+    ∙ ap done (append_assoc before inner (if_lanes v (tile_after p v r s)))
+merged-right p v Dim w a b =
+    let r = layout_size a in
+    let s = layout_size b in
+    let after = tiled_after p v r s in
+    let steps = map lowered (steps_of (right_path p v r) b) in
+    let before = if_lanes v (tile_before p v r s) in
+    let inner = layout_passes (right_path p v r) [] b in
+    terms-append (done []) (tiled_before p v r s) (steps ++ after)
+    ∙ ap (λ z. merged z (steps ++ after))
+    (merged-first_tile (v == 1) (tile_path p v r s) (tile v) (vectors_grouped (s / v * v) p v r s))
     ∙ terms-append (done before) steps after
     ∙ ap (λ z. merged z after) (merged_tree (right_path p v r) b (done before))
     ∙ merged-tile (v == 1) (tile_path p v r s) (tile v) (vectors_grouped (v * (s / v)) p v r s) (before ++ inner)

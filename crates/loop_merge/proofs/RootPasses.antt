@@ -11,7 +11,7 @@ use Rattle.passes.specs.Work.{tile}
 use Rattle.sigma_lower.specs.Wrapped.{wrapped}
 use Rattle.tensor_paths.specs.declared.Tensor.TheVariants.{Columns}
 use Rattle.tree_model.specs.declared.tree.Rule.{Rule}
-use Rattle.tree_model.specs.declared.tree.Rule.TheVariants.{Gt, Ct, Split}
+use Rattle.tree_model.specs.declared.tree.Rule.TheVariants.{Gt, Ct, Split, Dim}
 use Rattle.smp_rewrite.specs.Fits.{CanShareLayout}
 use Rattle.steps.specs.Layout.{Layout, work, by, layout_size, IsGoodLayout}
 use Rattle.steps.specs.Targets.{is_alone}
@@ -40,6 +40,10 @@ right_passes p v Ct w a b =
     (layout_passes (right_path p v (layout_size a)) (turned_waiting p v (layout_size a) (layout_size b)) b ++ if_lanes v (tile_after p v (layout_size a) (layout_size b)))
 right_passes p v Split w a b =
     if_lanes v (tile_before p v (layout_size a) (layout_size b)) ++ (layout_passes (right_path p v (layout_size a)) [] b ++ if_lanes v (tile_after p v (layout_size a) (layout_size b)))
+right_passes p v Dim w a b =
+    if_lanes v (tile_before p v (layout_size a) (layout_size b))
+    ++ (layout_passes (right_path p v (layout_size a)) [] b
+    ++ if_lanes v (tile_after p v (layout_size a) (layout_size b)))
 
 -- ---- the left part, of m * s words: s copies of a matrix of m words
 

@@ -32,7 +32,7 @@ use Rattle.smp_rewrite.proofs.Tensors.{within_all}
 use Rattle.tensor_paths.specs.declared.Tensor.TheVariants.{Blocks, Columns}
 use Rattle.tensor_paths.specs.Path.{Path, size_under, copies_of}
 use Rattle.tensor_paths.proofs.Under.{size_under-copies}
-use Rattle.tree_model.specs.declared.tree.Rule.TheVariants.{Gt, Ct, Split}
+use Rattle.tree_model.specs.declared.tree.Rule.TheVariants.{Gt, Ct, Split, Dim}
 use Rattle.smp_rewrite.specs.Fits.{CanShareLayout}
 use Rattle.steps.specs.Targets.{is_alone}
 
@@ -326,4 +326,11 @@ root_good c P (by Ct root a b) h good all over shared =
 root_good c P (by Split root a b) h good all over shared =
     let shares = shares_of c (by Split root a b) (layout_size a) (layout_size b) h (h.root shared) good.0.left good.0.right h.size in
     phases_good c P (c.procs == 1) _ _ (split_good c P c.procs c.lanes (layout_size a) (layout_size b) shares b over good.2 all.1 refl)
+    (left_good c P c.procs c.lanes (layout_size a) (layout_size b) shares a good.1 all.0 refl)
+root_good c P (by Dim root a b) h good all over shared =
+    let shares =
+    shares_of c (by Dim root a b) (layout_size a) (layout_size b) h (h.root shared) good.0.left good.0.right h.size
+    in
+    phases_good c P (c.procs == 1) _ _
+    (split_good c P c.procs c.lanes (layout_size a) (layout_size b) shares b over good.2 all.1 refl)
     (left_good c P c.procs c.lanes (layout_size a) (layout_size b) shares a good.1 all.0 refl)

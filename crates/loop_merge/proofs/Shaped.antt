@@ -9,13 +9,13 @@ use Rattle.kernel_gen.specs.Kernel.{CanMake}
 use Rattle.passes.specs.Limits.{AreSeveral}
 use Rattle.passes.proofs.Several.{several-push}
 use Rattle.passes.specs.Work.{PlainWork, kernel, rows, horner, tile, copy, work_size}
-use Rattle.rooted_trees.specs.Trees.{trees_size}
+use Rattle.tree_model.specs.Trees.{trees_size}
 use Rattle.steps.specs.Layout.{Layout, work, by, layout_size, IsGoodWork, IsGoodLayout}
 use Rattle.tensor_paths.specs.declared.Tensor.TheVariants.{Blocks, Columns}
 use Rattle.tensor_paths.specs.Path.{Path, size_under}
 use Rattle.tensor_paths.proofs.Under.{size_under-push}
 use Rattle.tree_model.specs.declared.tree.Rule.{Rule}
-use Rattle.tree_model.specs.declared.tree.Rule.TheVariants.{Gt, Ct, Split}
+use Rattle.tree_model.specs.declared.tree.Rule.TheVariants.{Gt, Ct, Split, Dim}
 
 -- each work of the layout is such
 abbrev pub HasWorks : (PlainWork → Type 0) → Layout → Type 0
@@ -81,6 +81,7 @@ shaped_rule : (P : PlainWork → Type 0) (size : ℕ) (rule : Rule) (path : Path
 shaped_rule P size Gt path r s w left right fills l k = shaped-append P size right _ k (shaped-last P size _ left (λ p h. scattered-shaped P size _ p h) l)
 shaped_rule P size Ct path r s w left right fills l k = shaped-append P size _ left (shaped-last P size (multiplied path r s w) right (λ p h. multiplied-shaped P size path r s w p fills h) k) l
 shaped_rule P size Split path r s w left right fills l k = shaped-append P size right left k l
+shaped_rule P size Dim path r s w left right fills l k = shaped-append P size right left k l
 
 pub shaped_passes : (P : PlainWork → Type 0) (m size : ℕ) (path : Path) (waiting : List Mapping) (l : Layout) → AreSeveral path → IsGoodLayout m l →
     HasWorks P l → size_under path (layout_size l) ≡ size → AreShaped P size (layout_passes path waiting l)

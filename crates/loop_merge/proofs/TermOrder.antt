@@ -6,7 +6,7 @@ use Rattle.steps.specs.Step.{PlainStep, step, thomas_out, twiddles, rule_steps, 
 use Rattle.tensor_paths.specs.declared.Tensor.TheVariants.{Blocks, Columns}
 use Rattle.tensor_paths.specs.Path.{Path}
 use Rattle.tree_model.specs.declared.tree.Rule.{Rule}
-use Rattle.tree_model.specs.declared.tree.Rule.TheVariants.{Gt, Ct, Split}
+use Rattle.tree_model.specs.declared.tree.Rule.TheVariants.{Gt, Ct, Split, Dim}
 use Rattle.steps.specs.Layout.{Layout, work, by, layout_size}
 
 -- how the terms so far end: gathers may wait, or none waits, or none waits and the last pass has no diagonal
@@ -54,6 +54,7 @@ rule_in_order Gt path r s w left right h k e =
     (tt, leads-steps waits fresh fresh right (left ++ step path (thomas_out r s) ∷ []) (k waits) (leads-steps fresh fresh fresh left (step path (thomas_out r s) ∷ []) (h fresh) (refl, refl)))
 rule_in_order Ct path r s w left right h k e = (tt, leads-steps waits fresh fresh right (step path (twiddles r s w) ∷ left) (k waits) (refl, h settled))
 rule_in_order Split path r s w left right h k e = leads-steps e fresh fresh right left (k e) (h fresh)
+rule_in_order Dim path r s w left right h k e = leads-steps e fresh fresh right left (k e) (h fresh)
 
 pub steps_in_order : (path : Path) (l : Layout) → AreInOrder (map lowered (steps_of path l))
 steps_in_order path (work w) = λ e. (tt, refl)

@@ -13,18 +13,20 @@ use Rattle.tensor_paths.specs.declared.Tensor.TheVariants.{Blocks, Columns}
 use Rattle.tensor_paths.specs.Path.{Path, copies_of}
 use Rattle.tensor_paths.proofs.Under.{copies_of-push}
 use Rattle.tree_model.specs.declared.tree.Rule.{Rule}
-use Rattle.tree_model.specs.declared.tree.Rule.TheVariants.{Gt, Ct, Split}
+use Rattle.tree_model.specs.declared.tree.Rule.TheVariants.{Gt, Ct, Split, Dim}
 
 -- the gathers that wait when a rule's right part begins
 abbrev pub rule_waiting : Rule → Path → ℕ → ℕ → List Mapping → List Mapping
 rule_waiting Gt path r s waiting = wrapped path (r * s) (ThomasIn r s) ∷ waiting
 rule_waiting Ct path r s waiting = wrapped path (r * s) (Strided r s) ∷ waiting
 rule_waiting Split path r s waiting = waiting
+rule_waiting Dim path r s waiting = waiting
 
 abbrev pub rule_passes : Rule → Path → ℕ → ℕ → ℕ → List PlainPass → List PlainPass → List PlainPass
 rule_passes Gt path r s w left right = right ++ at_last (scattered (wrapped path (r * s) (ThomasBack r s (unit_of r s) (unit_of s r)))) left
 rule_passes Ct path r s w left right = at_last (multiplied path r s w) right ++ left
 rule_passes Split path r s w left right = right ++ left
+rule_passes Dim path r s w left right = right ++ left
 
 -- the passes of a layout under the tensors of the path, where these gathers wait
 abbrev pub layout_passes : Path → List Mapping → Layout → List PlainPass
@@ -58,6 +60,7 @@ full_rule : (rule : Rule) (path : Path) (r s w : ℕ) (left right : List PlainPa
 full_rule Gt path r s w left right h = full-append right _ (full-at_last _ left h)
 full_rule Ct path r s w left right h = full-append (at_last (multiplied path r s w) right) left h
 full_rule Split path r s w left right h = full-append right left h
+full_rule Dim path r s w left right h = full-append right left h
 
 pub full_passes : (path : Path) (waiting : List Mapping) (l : Layout) → IsFull (layout_passes path waiting l)
 full_passes path waiting (work w) = tt
@@ -106,6 +109,11 @@ makes_rule Split path r s w left right make_left make_right full_left full_right
     ∙ ap (λ z. merged z (map lowered left)) (on_right st)
     ∙ on_left (done (st.passes ++ make_right st.waiting))
     ∙ ap done (append_assoc st.passes (make_right st.waiting) (make_left []))
+makes_rule Dim path r s w left right make_left make_right full_left full_right on_left on_right st =
+    merged-append st right left
+    ∙ ap (λ z. merged z (map lowered left)) (on_right st)
+    ∙ on_left (done (st.passes ++ make_right st.waiting))
+    ∙ ap done (append_assoc st.passes (make_right st.waiting) (make_left []))
 
 pub merged_tree : (path : Path) (l : Layout) → Makes (steps_of path l) (λ waiting. layout_passes path waiting l)
 merged_tree path (work w) = λ st. refl
@@ -146,6 +154,7 @@ counted_rule : (rule : Rule) (path : Path) (r s w : ℕ) (left right : List Plai
 counted_rule Gt path r s w left right = map-append right _ ∙ ap (λ rest. map counted right ++ rest) (counted-scattered _ left)
 counted_rule Ct path r s w left right = map-append (at_last (multiplied path r s w) right) left ∙ ap (λ rest. rest ++ map counted left) (counted-multiplied path r s w right)
 counted_rule Split path r s w left right = map-append right left
+counted_rule Dim path r s w left right = map-append right left
 
 -- a work of a good layout is no tile
 counted-work : (m n : ℕ) (w : PlainWork) → IsGoodWork m w → counted_as n w false ∷ [] ≡ passes_of n (work w)

@@ -136,7 +136,9 @@ module _ (m r s w : ℕ) (x : List ℕ) (root : power_mod m w (r * s) ≡ 1 % m)
       ≡ sum_below (r * s) (λ q. tensor-entry (good_thomas_out r s k) q * slice_index x (good_thomas_in r s q)) % m
   unfolding tensor-entry
   outputs_at k below =
-      ap (λ y. slice_index y (good_thomas_out r s k)) (on_columns-on_blocks m r s (entry_of Dft m (power_mod m w s)) (entry_of Dft m (power_mod m w r)) (gather (r * s) (good_thomas_in r s) x))
+      ap (λ y. slice_index y (good_thomas_out r s k))
+      (on_columns-on_blocks m r s (entry_of Dft m r (power_mod m w s)) (entry_of Dft m s (power_mod m w r))
+      (gather (r * s) (good_thomas_in r s) x))
       ∙ at-matrix_times m (r * s) tensor-entry (gather (r * s) (good_thomas_in r s) x) (good_thomas_out r s k) (out_below k below)
       ∙ ap (λ n. n % m) (sum_below-same (r * s) _ _ (λ q within. ap (λ y. tensor-entry (good_thomas_out r s k) q * y) (at-list_below (r * s) _ q within)))
 

@@ -6,12 +6,11 @@ use Rattle.std.specs.Int.{IsGcd}
 use Rattle.ring_mod.specs.Inverse.{inverse_mod}
 use Rattle.ring_mod.specs.Residue.{power_mod}
 use Rattle.ring_mod.proofs.Powers.{power_mod_of_power, power_mod-drop, power_mod-zero}
-use Rattle.matrix_meaning.specs.declared.Direction.TheVariants.{Inverse}
 use Rattle.matrix_meaning.specs.declared.Request.{Request}
-use Rattle.matrix_meaning.specs.Valid.{AllowsDirection, IsInRange}
-use Rattle.matrix_meaning.specs.declared.Kind.TheVariants.{Dft}
-use Rattle.matrix_meaning.specs.Kind.{entry_of}
-use Rattle.matrix_meaning.specs.Inverse.{inverse_root, inverse_entry, InverseTransform, InverseRoot}
+use Rattle.matrix_meaning.specs.Valid.{HasUnit, IsInRange}
+use Rattle.matrix_meaning.specs.declared.Kind.TheVariants.{Dft, Idft}
+use Rattle.matrix_meaning.specs.Kind.{entry_of, inverse_root}
+use Rattle.matrix_meaning.specs.Laws.{InverseTransform, InverseRoot}
 use Rattle.operators.specs.Sum.{sum_below}
 use Rattle.operators.proofs.Matrices.{at-matrix_times}
 use Rattle.operators.proofs.Sums.{mul-sum_below, same-sum_below}
@@ -19,8 +18,8 @@ use Rattle.operators.proofs.Lists.{list_below-same}
 
 -- a row of the inverse, times a list: 1 / n times the same row by the inverse root
 pub inverse_row : (m n w k : ℕ) (x : List ℕ) →
-    sum_below n (λ l. inverse_entry m n w k l * slice_index x l) % m
-    ≡ (inverse_mod m n * (sum_below n (λ l. entry_of Dft m (inverse_root m n w) k l * slice_index x l) % m)) % m
+    sum_below n (λ l. entry_of Idft m n w k l * slice_index x l) % m
+    ≡ (inverse_mod m n * (sum_below n (λ l. entry_of Dft m n (inverse_root m n w) k l * slice_index x l) % m)) % m
 inverse_row m n w k x =
     same-sum_below m n _ _ (λ l _.
     mul-mod_first (inverse_mod m n * power_mod m (inverse_root m n w) (k * l)) (slice_index x l) m
@@ -32,11 +31,11 @@ pub inverse_transform_is : InverseTransform
 inverse_transform_is m n w x =
     list_below-same n _ _ (λ k row.
     inverse_row m n w k x
-    ∙ ap (λ y. (inverse_mod m n * y) % m) (sym (at-matrix_times m n (entry_of Dft m (inverse_root m n w)) x k row)))
+    ∙ ap (λ y. (inverse_mod m n * y) % m) (sym (at-matrix_times m n (entry_of Dft m n (inverse_root m n w)) x k row)))
 
--- the size of an inverse has an inverse
-pub size_is_unit : (r : Request) → IsInRange r → r.direction ≡ Inverse → IsGcd r.size r.modulus 1
-size_is_unit r in_range inverse = (subst (λ d. AllowsDirection d r.kind r.size r.modulus) inverse in_range.direction).1
+-- the size of an inverse transform shares no factor with the modulus
+pub size_is_unit : (r : Request) → IsInRange r → r.kind ≡ Idft → IsGcd r.size r.modulus 1
+size_is_unit r in_range inverse = subst (λ kind. HasUnit kind r.modulus r.size) inverse in_range.unit
 
 pub inverse_root_is_root : InverseRoot
 inverse_root_is_root m n w root =

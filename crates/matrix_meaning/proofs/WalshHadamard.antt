@@ -38,6 +38,10 @@ wht-entry m k p q positive =
 
 pub split : Split
 split m r s w x positive (k, e) =
-    matrix_times-same m (r * s) (entry_of Wht m w) (λ p q. entry_of Wht m w (p / s) (q / s) * entry_of Wht m w (p % s) (q % s)) x
-    (λ p q _ _. subst (λ n. entry_of Wht m w p q % m ≡ (entry_of Wht m w (p / n) (q / n) * entry_of Wht m w (p % n) (q % n)) % m) (sym e) (wht-entry m k p q positive))
-    ∙ sym (on_columns-on_blocks m r s (entry_of Wht m w) (entry_of Wht m w) x)
+    matrix_times-same m (r * s) (entry_of Wht m (r * s) w)
+    (λ p q. entry_of Wht m r w (p / s) (q / s) * entry_of Wht m s w (p % s) (q % s)) x
+    (λ p q _ _.
+    subst (λ n. entry_of Wht m (r * s) w p q % m
+    ≡ (entry_of Wht m r w (p / n) (q / n) * entry_of Wht m s w (p % n) (q % n)) % m)
+    (sym e) (wht-entry m k p q positive))
+    ∙ sym (on_columns-on_blocks m r s (entry_of Wht m r w) (entry_of Wht m s w) x)

@@ -1,5 +1,9 @@
-pub mod Inverse
 pub mod Kind
-pub mod Laws
+pub mod Dimensions
+pub mod Parts
 pub mod Valid
 pub mod Asked
+pub mod Laws
+pub mod Convolution
+pub mod Undoing
+pub mod Convolving

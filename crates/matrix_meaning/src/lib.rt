@@ -1,20 +1,21 @@
-//! The transforms: what a request asks for, the entries of their matrices, their plain products with a list, and the
-//! laws by which large ones are made of small ones.
+//! The transforms: what a request asks for, the entries of their matrices, their plain products
+//! with a list, and the laws by which large ones are made of small ones.
 #![tactic(auto)]
 
+mod convolution;
 mod laws;
+mod methods;
 mod plain;
 
-ghost use Rattle.std.specs.Prelude.{◌≡◌, ℕ, ◌*◌, ◌%◌, ◌^◌, ◌<◌, ◌≤◌, length, slice_index, vec_len, IfOk, All};
-ghost use Rattle.matrix_meaning.specs.Kind.{entry_of, transform};
+ghost use Rattle.std.specs.Prelude.{◌≡◌, ℕ, ◌*◌, ◌%◌, ◌<◌, ◌≤◌};
 ghost use Rattle.matrix_meaning.specs.Laws.{twiddle};
-ghost use Rattle.operators.specs.Sum.{sum_below};
 
-pub use laws::{cooley_tukey, good_thomas, inverse_transform, split};
-use memory::NoMemory;
-pub use plain::asked_plain;
+pub use convolution::{conv_plain, convolution_by_transforms, first_bad_power, inverse_undoes};
+pub use laws::{
+    asked_of_requests, cooley_tukey, dimension_by_dimension, good_thomas, inverse_transform, split,
+};
+pub use plain::{entry, times_plain};
 use ring_mod::Modulus;
-use std::alloc::Global;
 
 /// Which transform.
 #[derive(Clone, Copy, PartialEq, Eq, Debug)]
@@ -23,25 +24,35 @@ pub enum Kind {
     Dft,
     /// The transform of Walsh and Hadamard, with 1 and m - 1 as its entries.
     Wht,
+    /// The inverse of the Fourier transform: that by the inverse root, divided by its size.
+    Idft,
 }
 
-/// Whether a transform is asked for, or the inverse of one.
+/// One dimension: how many places it has, and its root.
 #[derive(Clone, Copy, PartialEq, Eq, Debug)]
-pub enum Direction {
-    /// The transform.
-    Forward,
-    /// The Fourier transform by the inverse root, divided by its size.
-    Inverse,
+pub struct Dimension {
+    pub size: u64,
+    pub root: u64,
 }
 
-/// What a request line asks for. `root` is 0 for the Walsh-Hadamard transform.
+/// The dimensions of a request, where there are several: the last one is fastest.
+#[derive(Clone, Copy, PartialEq, Eq, Debug)]
+pub enum Dimensions {
+    One,
+    Two(Dimension, Dimension),
+    Three(Dimension, Dimension, Dimension),
+    Four(Dimension, Dimension, Dimension, Dimension),
+}
+
+/// What a request line asks for. `root` is 0 for the Walsh-Hadamard transform. With several
+/// dimensions `size` is their product and `root` is 1.
 #[derive(Clone, Copy, PartialEq, Eq, Debug)]
 pub struct Request {
     pub kind: Kind,
-    pub direction: Direction,
     pub size: u64,
     pub modulus: u64,
     pub root: u64,
+    pub dimensions: Dimensions,
     pub procs: u64,
     pub line: u64,
     pub lanes: u64,
@@ -50,32 +61,8 @@ pub struct Request {
     pub weight: u64,
 }
 
-/// The entry in row `k` and column `l` of the transform of size `n` modulo `m`.
-#[tactic(auto, using(ring_mod::proofs::Powers::power_mod_of_power))]
-pub fn entry(kind: Kind, n: u64, w: u64, m: u64, k: u64, l: u64) -> u64
-    requires modulus { (2 ≤ m) × (m < 2 ^ 62) }
-    requires root { w < m }
-    requires row { k < n }
-    requires column { l < n }
-    ensures value { result ≡ entry_of kind m w k l }
-    ensures residue { result < m }
-{
-    let _ = n;
-    let modulus = Modulus::new(m).unwrap();
-    match kind {
-        Kind::Dft => modulus.pow(modulus.pow(w, k), l),
-        Kind::Wht => {
-            if (k & l).count_ones() % 2 == 0 {
-                1
-            } else {
-                m - 1
-            }
-        }
-    }
-}
-
-/// The twiddle factor at the place `p` of the diagonal between two steps of a Fourier transform, where the second step
-/// has the size `s`: `w` to the power `(p / s) * (p % s)`.
+/// The twiddle factor at the place `p` of the diagonal between two steps of a Fourier transform,
+/// where the second step has the size `s`: `w` to the power `(p / s) * (p % s)`.
 #[tactic(auto, using(operators::proofs::Places::twiddle_exponent_below))]
 pub fn twiddle_factor(modulus: &Modulus, s: u64, w: u64, p: u64) -> u64
     requires size { 1 ≤ s }
@@ -84,47 +71,4 @@ pub fn twiddle_factor(modulus: &Modulus, s: u64, w: u64, p: u64) -> u64
     ensures residue { result < modulus.now }
 {
     modulus.pow(w, (p / s) * (p % s))
-}
-
-// One item of the product: the row `k` times `x`.
-fn row_times(kind: Kind, n: u64, w: u64, m: u64, k: u64, x: &[u64]) -> u64
-    requires modulus { (2 ≤ m) × (m < 2 ^ 62) }
-    requires root { w < m }
-    requires row { k < n }
-    requires size { length x.now ≡ n }
-    requires residues { All (λ v. v < m) x.now }
-    ensures value { result ≡ sum_below n (λ l. entry_of kind m w k l * slice_index x.now l) % m }
-    ensures residue { result < m }
-{
-    let modulus = Modulus::new(m).unwrap();
-    let mut sum = 0;
-    for l in 0..n {
-        let term = modulus.mul(entry(kind, n, w, m, k, l), x[l as usize]);
-        sum = modulus.add(sum, term);
-    }
-    sum
-}
-
-/// The matrix times `x`, by its plain sums.
-pub fn times_plain(
-    alloc: Global,
-    kind: Kind,
-    n: u64,
-    w: u64,
-    m: u64,
-    x: &[u64],
-) -> Result<Vec<u64>, NoMemory>
-    requires modulus { (2 ≤ m) × (m < 2 ^ 62) }
-    requires root { w < m }
-    requires size { length x.now ≡ n }
-    requires residues { All (λ v. v < m) x.now }
-    ensures value { IfOk result (λ y. y.items ≡ transform kind m n w x.now) }
-    ensures size { IfOk result (λ y. vec_len y ≡ n) }
-    ensures residues { IfOk result (λ y. All (λ v. v < m) y.items) }
-{
-    Ok(
-        (0..n)
-            .map(|k| row_times(kind, n, w, m, k, x))
-            .collect(alloc)?,
-    )
 }

@@ -20,7 +20,7 @@ use Rattle.passes.specs.Copies.{loops_of, all_stored}
 use Rattle.passes.specs.Nest.{PlainMultiplier, PlainNest, load_place, store_place, copies_of, multiplied_on, nests_on}
 use Rattle.passes.specs.Work.{PlainWork, kernel, rows, horner, tile, copy, work_size, work_on, vectors_of}
 use Rattle.tensor_paths.specs.Path as paths
-use Rattle.rooted_trees.proofs.Products.{trees-below}
+use Rattle.tree_model.proofs.TreeProducts.{trees-below}
 
 pub words_apart : (n source target i o a : ℕ) → AreApart n source target → i < n → o < n → a ≡ source + i → a ≡ target + o → ⊥
 words_apart n source target i o a (inl before) low high is meant = omega (arith, before, low, high, is, meant)

@@ -26,7 +26,7 @@ use Rattle.pass_actions.proofs.Tasks.{Task, IsReady}
 use Rattle.pass_actions.proofs.TileCopies.{turned, tile-computes}
 use Rattle.passes.specs.Nest.{PlainNest, load_place}
 use Rattle.passes.specs.Work.{PlainWork, kernel, rows, horner, tile, copy, vectors_of}
-use Rattle.rooted_trees.specs.Trees.{PlainTrees, trees_size, trees_on}
+use Rattle.tree_model.specs.Trees.{PlainTrees, trees_size, trees_on}
 
 -- the same loops round other work
 abbrev pub working : PlainNest → PlainWork → PlainNest

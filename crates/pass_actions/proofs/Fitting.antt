@@ -24,7 +24,7 @@ use Rattle.pass_actions.proofs.Rows.{row_acts}
 use Rattle.pass_actions.proofs.StraightCopies.{ends_of, copy_body, finish-few}
 use Rattle.passes.specs.Nest.{PlainMultiplier, PlainNest, factor_at}
 use Rattle.passes.specs.Work.{PlainWork, kernel, rows, horner, tile, copy}
-use Rattle.rooted_trees.specs.Trees.{trees_size}
+use Rattle.tree_model.specs.Trees.{trees_size}
 
 module _ (regs lanes m : ℕ) where
   abbrev Fit : List Action → Type 0

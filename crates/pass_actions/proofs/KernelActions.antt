@@ -11,7 +11,7 @@ use Rattle.kernel_gen.specs.declared.straight.Instruction.TheVariants.{Add, Sub,
 use Rattle.kernel_gen.proofs.Instructions.{actions-operations, factors-fit}
 use Rattle.kernel_gen.proofs.Products.{trees-does}
 use Rattle.pass_actions.specs.Laws.{IsFit}
-use Rattle.rooted_trees.specs.Trees.{PlainTrees, trees_size}
+use Rattle.tree_model.specs.Trees.{PlainTrees, trees_size}
 
 -- ---- code whose registers are among those that there are
 

@@ -22,7 +22,7 @@ use Rattle.passes.specs.Counts.{copies_in, multiplier_cost, nest_cost}
 use Rattle.passes.specs.Nest.{PlainMultiplier, PlainNest, copies_of}
 use Rattle.passes.specs.Work.{PlainWork, kernel, rows, horner, tile, copy, work_size}
 use Rattle.passes.proofs.Counting.{items_of, items-once}
-use Rattle.rooted_trees.specs.Trees.{trees_size}
+use Rattle.tree_model.specs.Trees.{trees_size}
 
 products-are : (weight : ℕ) (o : Option PlainMultiplier) (w : PlainWork) → multiplier_cost weight o w ≡ work_size w * products_of weight o
 products-are weight None w = omega arith

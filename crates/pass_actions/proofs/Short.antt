@@ -21,7 +21,7 @@ use Rattle.pass_actions.proofs.Rows.{row_acts}
 use Rattle.pass_actions.proofs.StraightCopies.{ends_of, copy_body}
 use Rattle.passes.specs.Nest.{PlainMultiplier, PlainNest}
 use Rattle.passes.specs.Work.{PlainWork, kernel, rows, horner, tile, copy}
-use Rattle.rooted_trees.specs.Trees.{trees_size}
+use Rattle.tree_model.specs.Trees.{trees_size}
 
 module _ (lanes : ℕ) (some : 0 < lanes) where
   -- the bound of a list

@@ -22,7 +22,7 @@ use Rattle.pass_actions.proofs.StraightCopies.{finish-few}
 use Rattle.passes.specs.Merge.{limits_of}
 use Rattle.passes.specs.Nest.{PlainMultiplier, PlainNest}
 use Rattle.passes.specs.Work.{PlainWork, kernel, rows, horner, tile, copy}
-use Rattle.rooted_trees.specs.Trees.{trees_size}
+use Rattle.tree_model.specs.Trees.{trees_size}
 
 places-within : (cs : ℕ → ℕ) (f : PlainFrame) (n open_loops : ℕ) (sums : List Sum) → n ≤ length sums → AreWithin cs f open_loops sums → ArePlaces f n open_loops sums
 places-within cs f n open_loops sums enough h i below = h.within i (constant 0) (omega arith)

@@ -18,7 +18,7 @@ use Rattle.index_fn.specs.Index.{mapping_of}
 use Rattle.passes.specs.declared.work.Work.{Work}
 use Rattle.passes.specs.declared.work.Work.TheVariants.{Kernel, Rows, Horner, Tile, Copy}
 use Rattle.perm_algebra.specs.Views.{plain_sum}
-use Rattle.rooted_trees.specs.Trees.{plain_trees}
+use Rattle.tree_model.specs.Trees.{plain_trees}
 
 abbrev pub plain_work : Work → PlainWork
 plain_work (Kernel trees) = kernel (plain_trees trees)

@@ -5,7 +5,7 @@ use Rattle.matrix_meaning.specs.Kind.{transform}
 use Rattle.operators.specs.Identities.{turn}
 use Rattle.operators.specs.Operator.{Operator}
 use Rattle.operators.specs.Sum.{list_below}
-use Rattle.rooted_trees.specs.Trees.{PlainTrees, trees_size, trees_on, AreWords}
+use Rattle.tree_model.specs.Trees.{PlainTrees, trees_size, trees_on, AreWords}
 
 pub data PlainWork : Type 0 where
   -- the tensor product of the trees' transforms, in straight-line code

@@ -4,8 +4,8 @@ ghost use Rattle.passes.specs.Views.{plain_work};
 ghost use Rattle.passes.specs.Work.{HasWords, is_straight, vectors_of, work_size};
 
 use memory::NoMemory;
-use rooted_trees::RootedTrees;
 use std::alloc::Global;
+use tree_model::RootedTrees;
 
 /// The work of a nest on each of its copies. It carries all that its meaning rests on but the modulus.
 #[derive(Drop)]

@@ -22,7 +22,7 @@ use Rattle.passes.proofs.Natural.{at-natural}
 use Rattle.plain_terms.specs.Copies.{copy_size, copy_on}
 use Rattle.plain_terms.specs.Shape.{Fits}
 use Rattle.plain_terms.proofs.Vectors.{Keeps, reduced, under_keeps, trees_keep, term_vector}
-use Rattle.rooted_trees.specs.Trees.{PlainTrees, single, tensor, trees_size, trees_on}
+use Rattle.tree_model.specs.Trees.{PlainTrees, single, tensor, trees_size, trees_on}
 use Rattle.spl_ast.specs.Meaning.{IsVector}
 use Rattle.spl_ast.proofs.Vectors.{residue_at, list_vector, take_vector, drop_vector}
 use Rattle.tensor_paths.specs.Loop.{loop_at}
@@ -45,7 +45,7 @@ blocks_read r s a x =
     ap (λ y. slice_index (a y) (p % s)) (list_below-same s _ _ (λ j within. at-list_below (r * s) (slice_index x) (p / s * s + j) (place_below (p / s) j r s (div_below p s r some below) within))))
 
 trees_read : (m : ℕ) (trees : PlainTrees) → Reads (trees_size trees) (trees_on m trees)
-trees_read m (single kind root tree) x = matrix_reads m (size_of tree) (entry_of kind m root) x
+trees_read m (single kind root tree) x = matrix_reads m (size_of tree) (entry_of kind m (size_of tree) root) x
 trees_read m (tensor kind root tree others) x = ap (on_columns (size_of tree) (trees_size others) (transform kind m (size_of tree) root)) (blocks_read (size_of tree) (trees_size others) (trees_on m others) x)
 
 gather_reads : (n : ℕ) (f : ℕ → ℕ) → ((i : ℕ) → i < n → f i < n) → Reads n (gather n f)
@@ -56,8 +56,8 @@ turn_inside v i below = (stride_below v v i below).1
 
 work_reads : (m : ℕ) (w : PlainWork) → Reads (work_size w) (work_on m w)
 work_reads m (kernel trees) x = trees_read m trees x
-work_reads m (rows root size) x = matrix_reads m size (entry_of Dft m root) x
-work_reads m (horner root size) x = matrix_reads m size (entry_of Dft m root) x
+work_reads m (rows root size) x = matrix_reads m size (entry_of Dft m size root) x
+work_reads m (horner root size) x = matrix_reads m size (entry_of Dft m size root) x
 work_reads m (tile lanes) x = gather_reads (lanes * lanes) (stride lanes lanes) (turn_inside lanes) x
 work_reads m (copy size) x = list_below-same size _ _ (λ i below. at-list_below size (slice_index x) i below)
 

@@ -13,7 +13,7 @@ use Rattle.passes.specs.Sigma.{terms_on}
 use Rattle.passes.specs.Term.{PlainTerm, same, gath, scat, diag, nest, move, product, beside, term_on}
 use Rattle.passes.proofs.CopiesMerge.{low, high}
 use Rattle.plain_terms.specs.Shape.{AllFit, Fits}
-use Rattle.rooted_trees.specs.Trees.{PlainTrees, single, tensor, trees_size, trees_on}
+use Rattle.tree_model.specs.Trees.{PlainTrees, single, tensor, trees_size, trees_on}
 use Rattle.spl_ast.specs.Meaning.{IsVector}
 use Rattle.spl_ast.proofs.Vectors.{residue_at, list_vector, column_vector, block_vector}
 use Rattle.tensor_paths.specs.declared.Tensor.TheVariants.{Blocks, Columns}

@@ -7,7 +7,7 @@ use Rattle.passes.specs.Copies.{both}
 use Rattle.passes.specs.Nest.{PlainFactors, factor_at, factor_count, inner_of}
 use Rattle.passes.specs.Term.{PlainTerm, nest, move, product, beside, term_on}
 use Rattle.passes.specs.Work.{work_size, work_on}
-use Rattle.rooted_trees.specs.Trees.{PlainTrees, single, tensor, trees_on, trees_size}
+use Rattle.tree_model.specs.Trees.{PlainTrees, single, tensor, trees_on, trees_size}
 use Rattle.tensor_paths.specs.Path.{Path, size_under, under}
 
 -- how many items a copy has

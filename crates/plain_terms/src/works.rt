@@ -3,7 +3,7 @@ ghost use Rattle.std.specs.Prelude.{◌≡◌, ◌*◌, IfOk};
 ghost use Rattle.passes.specs.Views.{plain_work};
 ghost use Rattle.passes.specs.Work.{HasWords, work_on, work_size};
 ghost use Rattle.plain_terms.specs.Copies.{trees_columns, trees_rows};
-ghost use Rattle.rooted_trees.specs.Trees.{alone, plain_trees, trees_on, trees_size, AreWords};
+ghost use Rattle.tree_model.specs.Trees.{alone, plain_trees, trees_on, trees_size, AreWords};
 ghost use Rattle.spl_ast.specs.Meaning.{IsVector};
 ghost use Rattle.spl_ast.specs.Shape.{IsSize};
 
@@ -11,9 +11,9 @@ use matrix_meaning::Kind;
 use memory::NoMemory;
 use passes::Work;
 use ring_mod::Modulus;
-use rooted_trees::{RootedTree, RootedTrees};
 use spl_ast::{transformed, turned};
 use std::alloc::Global;
+use tree_model::{RootedTree, RootedTrees};
 
 /// The work on the items of a copy.
 #[tactic(auto, using(crate::proofs::Copies::copied))]

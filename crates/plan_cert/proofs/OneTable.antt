@@ -8,7 +8,7 @@ use Rattle.tree_model.specs.Admissible.{IsChosenFor}
 use Rattle.tree_model.specs.Breakdown.{Breakdown, leaf, node}
 use Rattle.tree_model.specs.Cost.{cost_of}
 use Rattle.plan_cert.specs.declared.certificate.Row.{Row}
-use Rattle.plan_cert.specs.Found.{extra_at}
+use Rattle.plan_cert.specs.Found.{closing_at}
 use Rattle.plan_cert.specs.Table.{IsRootOf, IsChosenRow, IsTable}
 use Rattle.plan_search.proofs.OneTree.{chosen_once}
 
@@ -19,10 +19,12 @@ roots_same (node rule x y) a b r s u v p q = (p.0 ∙ sym q.0, p.1 ∙ sym q.1, 
 abbrev row : ℕ → ℕ → Option Rule → ℕ → ℕ → Row
 row size cost rule left right = record { size = size; cost = cost; rule = rule; left = left; right = right }
 
-row_once : (c : Request) (x y : Row) → x.size ≡ y.size → IsChosenRow c x → IsChosenRow c y → x ≡ y
-row_once c x y same p q =
+row_once : (c : Request) (closing : ℕ) (x y : Row) → x.size ≡ y.size → IsChosenRow c closing x
+    → IsChosenRow c closing y → x ≡ y
+row_once c closing x y same p q =
     let trees : p.0 ≡ q.0 = chosen_once c x.size p.0 q.0 p.1.chosen (subst (λ n. IsChosenFor c n q.0) (sym same) q.1.chosen) in
-    let costs : x.cost ≡ y.cost = p.1.cost ∙ ap₂ (λ (t : Breakdown) d. cost_of c t + extra_at c d) trees same ∙ sym q.1.cost in
+    let costs : x.cost ≡ y.cost =
+    p.1.cost ∙ ap₂ (λ (t : Breakdown) d. cost_of c t + closing_at c closing d) trees same ∙ sym q.1.cost in
     let roots = roots_same q.0 x.rule y.rule x.left x.right y.left y.right (subst (λ (t : Breakdown). IsRootOf t x.rule x.left x.right) trees p.1.root) q.1.root in
     ap (λ n. row n x.cost x.rule x.left x.right) same
     ∙ ap (λ n. row y.size n x.rule x.left x.right) costs
@@ -71,19 +73,22 @@ tail_covered x y xs ys same h covered k d l =
     cases (inl e) = let low = rising_head x xs h k d l in absurd (omega (arith, low, e, same))
     cases (inr found) = found
 
-rows_once : (c : Request) (xs ys : List Row) → IsRising xs → IsRising ys → IsCovered xs ys → IsCovered ys xs → All (IsChosenRow c) xs → All (IsChosenRow c) ys → xs ≡ ys
-rows_once c [] [] hx hy cx cy px py = refl
-rows_once c [] (y ∷ ys) hx hy cx cy px py = let found = cy 0 y (omega arith) in absurd (omega (arith, found.2))
-rows_once c (x ∷ xs) [] hx hy cx cy px py = let found = cx 0 x (omega arith) in absurd (omega (arith, found.2))
-rows_once c (x ∷ xs) (y ∷ ys) hx hy cx cy px py =
+rows_once : (c : Request) (closing : ℕ) (xs ys : List Row) → IsRising xs → IsRising ys → IsCovered xs ys
+    → IsCovered ys xs → All (IsChosenRow c closing) xs → All (IsChosenRow c closing) ys → xs ≡ ys
+rows_once c closing [] [] hx hy cx cy px py = refl
+rows_once c closing [] (y ∷ ys) hx hy cx cy px py = let found = cy 0 y (omega arith) in absurd (omega (arith, found.2))
+rows_once c closing (x ∷ xs) [] hx hy cx cy px py = let found = cx 0 x (omega arith) in absurd (omega (arith, found.2))
+rows_once c closing (x ∷ xs) (y ∷ ys) hx hy cx cy px py =
     let same : x.size ≡ y.size =
     heads_same x y xs ys hx hy (any_split (λ (z : Row). z.size ≡ x.size) y ys (cx 0 x (omega arith))) (any_split (λ (z : Row). z.size ≡ y.size) x xs (cy 0 y (omega arith))) in
-    let first : x ≡ y = row_once c x y same (px 0 x (omega arith)) (py 0 y (omega arith)) in
+    let first : x ≡ y = row_once c closing x y same (px 0 x (omega arith)) (py 0 y (omega arith)) in
     let rest : xs ≡ ys =
-    rows_once c xs ys (rising_tail x xs hx) (rising_tail y ys hy) (tail_covered x y xs ys same hx cx) (tail_covered y x ys xs (sym same) hy cy)
+    rows_once c closing xs ys (rising_tail x xs hx) (rising_tail y ys hy) (tail_covered x y xs ys same hx cx)
+    (tail_covered y x ys xs (sym same) hy cy)
     (λ k d l. px (suc k) d (omega (arith, l))) (λ k d l. py (suc k) d (omega (arith, l))) in
     ap₂ (λ (z : Row) (zs : List Row). z ∷ zs) first rest
 
-pub table_once : (c : Request) (xs ys : List Row) → IsTable c xs → IsTable c ys → xs ≡ ys
-table_once c xs ys p q =
-    rows_once c xs ys p.wanted.rising q.wanted.rising (λ k d l. q.wanted.whole _ (p.wanted.wanted k d l)) (λ k d l. p.wanted.whole _ (q.wanted.wanted k d l)) p.chosen q.chosen
+pub table_once : (c : Request) (closing : ℕ) (xs ys : List Row) → IsTable c closing xs → IsTable c closing ys → xs ≡ ys
+table_once c closing xs ys p q =
+    rows_once c closing xs ys p.wanted.rising q.wanted.rising (λ k d l. q.wanted.whole _ (p.wanted.wanted k d l))
+    (λ k d l. p.wanted.whole _ (q.wanted.wanted k d l)) p.chosen q.chosen

@@ -1,15 +1,21 @@
 -- A text has one verdict.
-use Rattle.std.proofs.Common.{◌≡◌, ℕ, ◌+◌, ◌≤◌, List, get_or, None, Some, refl, sym, ap, ◌∙◌, subst, inl, inr, arith}
-use Rattle.serde_json.specs.Data.{Data}
+use Rattle.std.proofs.Common.{◌≡◌, ℕ, ◌+◌, ◌≤◌, List, [], ◌∷◌, get_or, Option, None, Some, refl, sym, ap, ap₂, ◌∙◌, subst, inl, inr, arith}
+use Rattle.serde_json.specs.Data.{Data, Items, no_items, item}
+use Rattle.serde_json.specs.Find.{as_array}
+use Rattle.matrix_meaning.specs.declared.Dimensions.{Dimensions}
+use Rattle.matrix_meaning.specs.declared.Dimensions.TheVariants.{One, Two, Three, Four}
 use Rattle.matrix_meaning.specs.declared.Request.{Request}
+use Rattle.matrix_meaning.specs.Parts.{forward_of, parts_of}
+use Rattle.tree_model.specs.Chosen.{closing_cost}
 use Rattle.plan_cert.specs.declared.certificate.Row.{Row}
 use Rattle.plan_cert.specs.declared.certificate.WrongRow.{WrongRow}
 use Rattle.plan_cert.specs.declared.verdict.Verdict.{Verdict}
 use Rattle.plan_cert.specs.declared.verdict.Verdict.TheVariants.{Least, Unread, Wrong}
-use Rattle.plan_cert.specs.Found.{extra_at, IsFound, IsRowCost}
+use Rattle.plan_cert.specs.Found.{closing_at, IsFound, IsRowCost}
 use Rattle.plan_cert.specs.Certificate.{cost_at, IsRightRow, IsWrong, HasFirstWrong}
 use Rattle.plan_cert.specs.Document.{IsCertificate, IsJson}
-use Rattle.plan_cert.specs.Verdict.{IsRightCertificate, IsWrongCertificate, IsValueVerdict, IsTextVerdict, IsVerdict}
+use Rattle.plan_cert.specs.Laws.{VerdictsAreOne}
+use Rattle.plan_cert.specs.Verdict.{joined, size_of_all, IsItemsVerdict, IsOptionVerdict, IsRightCertificate, IsTextVerdict, IsValueVerdict, IsWholeVerdict, IsWrongCertificate}
 use Rattle.plan_cert.proofs.RightRows.{three_cases}
 
 found_once : (c : Request) (costs : ℕ → ℕ) (d x y : ℕ) → IsFound c costs d x → IsFound c costs d y → x ≡ y
@@ -18,18 +24,26 @@ found_once c costs d x y h k =
     let other : y ≤ x = k.bound x h.reached in
     omega arith
 
-cost_once : (c : Request) (costs : ℕ → ℕ) (d x y : ℕ) → IsRowCost c costs d x → IsRowCost c costs d y → x ≡ y
-cost_once c costs d x y (a, h, e) (b, k, f) = e ∙ ap (λ n. n + extra_at c d) (found_once c costs d a b h k) ∙ sym f
+cost_once : (c : Request) (closing : ℕ) (costs : ℕ → ℕ) (d x y : ℕ) → IsRowCost c closing costs d x
+    → IsRowCost c closing costs d y → x ≡ y
+cost_once c closing costs d x y (a, h, e) (b, k, f) =
+    e ∙ ap (λ n. n + closing_at c closing d) (found_once c costs d a b h k) ∙ sym f
 
-not_both : (c : Request) (costs : ℕ → ℕ) (row : Row) (w : WrongRow) → IsWrong c costs row w → IsRightRow c costs row → ⊥
-not_both c costs row w (size, given, other, inl found) h = other (cost_once c costs row.size w.found row.cost found h.found)
-not_both c costs row w (size, given, other, inr (found, e)) h = other (e ∙ h.chosen)
+not_both : (c : Request) (closing : ℕ) (costs : ℕ → ℕ) (row : Row) (w : WrongRow) → IsWrong c closing costs row w
+    → IsRightRow c closing costs row → ⊥
+not_both c closing costs row w (size, given, other, inl found) h =
+    other (cost_once c closing costs row.size w.found row.cost found h.found)
+not_both c closing costs row w (size, given, other, inr (found, e)) h = other (e ∙ h.chosen)
 
-found_same : (c : Request) (costs : ℕ → ℕ) (row : Row) (v w : WrongRow) → IsWrong c costs row v → IsWrong c costs row w → v.found ≡ w.found
-found_same c costs row v w (_, _, other_v, inl f) (_, _, other_w, inl g) = cost_once c costs row.size v.found w.found f g
-found_same c costs row v w (_, _, other_v, inl f) (_, _, other_w, inr (g, e)) = absurd (other_v (cost_once c costs row.size v.found row.cost f g))
-found_same c costs row v w (_, _, other_v, inr (f, e)) (_, _, other_w, inl g) = absurd (other_w (cost_once c costs row.size w.found row.cost g f))
-found_same c costs row v w (_, _, other_v, inr (f, e)) (_, _, other_w, inr (g, k)) = e ∙ sym k
+found_same : (c : Request) (closing : ℕ) (costs : ℕ → ℕ) (row : Row) (v w : WrongRow)
+    → IsWrong c closing costs row v → IsWrong c closing costs row w → v.found ≡ w.found
+found_same c closing costs row v w (_, _, other_v, inl f) (_, _, other_w, inl g) =
+    cost_once c closing costs row.size v.found w.found f g
+found_same c closing costs row v w (_, _, other_v, inl f) (_, _, other_w, inr (g, e)) =
+    absurd (other_v (cost_once c closing costs row.size v.found row.cost f g))
+found_same c closing costs row v w (_, _, other_v, inr (f, e)) (_, _, other_w, inl g) =
+    absurd (other_w (cost_once c closing costs row.size w.found row.cost g f))
+found_same c closing costs row v w (_, _, other_v, inr (f, e)) (_, _, other_w, inr (g, k)) = e ∙ sym k
 
 abbrev wrong_row : ℕ → ℕ → ℕ → WrongRow
 wrong_row size given found = record { size = size; given = given; found = found }
@@ -38,17 +52,22 @@ same_wrong : (v w : WrongRow) → v.size ≡ w.size → v.given ≡ w.given → 
 same_wrong v w e f g =
     ap (λ (n : ℕ). wrong_row n v.given v.found) e ∙ ap (λ (n : ℕ). wrong_row w.size n v.found) f ∙ ap (λ (n : ℕ). wrong_row w.size w.given n) g
 
-first_once : (c : Request) (rows : List Row) (v w : WrongRow) → HasFirstWrong c rows v → HasFirstWrong c rows w → v ≡ w
-first_once c rows v w (i, h) (j, k) =
+first_once : (c : Request) (closing : ℕ) (rows : List Row) (v w : WrongRow) → HasFirstWrong c closing rows v
+    → HasFirstWrong c closing rows w → v ≡ w
+first_once c closing rows v w (i, h) (j, k) =
     let blank : Row = record { size = 0; cost = 0; rule = None; left = 0; right = 0 } in
     elim (three_cases i j) [
-      | inl before ↦ absurd (not_both c (cost_at rows) (get_or rows i blank) v (h.here blank) (k.before i blank before))
+      | inl before ↦
+          absurd (not_both c closing (cost_at rows) (get_or rows i blank) v (h.here blank) (k.before i blank before))
       | inr other ↦ elim other [
         | inl same ↦
-            let wrong : IsWrong c (cost_at rows) (get_or rows i blank) w = subst (λ (n : ℕ). IsWrong c (cost_at rows) (get_or rows n blank) w) (sym same) (k.here blank) in
+            let wrong : IsWrong c closing (cost_at rows) (get_or rows i blank) w =
+            subst (λ (n : ℕ). IsWrong c closing (cost_at rows) (get_or rows n blank) w) (sym same) (k.here blank) in
             let right = h.here blank in
-            same_wrong v w (right.0 ∙ sym wrong.0) (right.1 ∙ sym wrong.1) (found_same c (cost_at rows) (get_or rows i blank) v w right wrong)
-        | inr after ↦ absurd (not_both c (cost_at rows) (get_or rows j blank) w (k.here blank) (h.before j blank after))
+            same_wrong v w (right.0 ∙ sym wrong.0) (right.1 ∙ sym wrong.1)
+            (found_same c closing (cost_at rows) (get_or rows i blank) v w right wrong)
+        | inr after ↦
+            absurd (not_both c closing (cost_at rows) (get_or rows j blank) w (k.here blank) (h.before j blank after))
       ]
     ]
 
@@ -58,8 +77,11 @@ rows_once c d rows others h k = let same : Some rows ≡ Some others = sym h.rea
 right_not_wrong : (c : Request) (d : Data) (cost : ℕ) (w : WrongRow) (rows others : List Row) → IsRightCertificate c d cost rows → IsWrongCertificate c d w others → ⊥
 right_not_wrong c d cost w rows others h k =
     let blank : Row = record { size = 0; cost = 0; rule = None; left = 0; right = 0 } in
-    let first : HasFirstWrong c rows w = subst (λ (r : List Row). HasFirstWrong c r w) (sym (rows_once c d rows others h.certificate k.certificate)) k.first in
-    not_both c (cost_at rows) (get_or rows first.0 blank) w (first.1.here blank) (h.right first.0 blank first.1.within)
+    let first : HasFirstWrong (forward_of c) (closing_cost c) rows w =
+    subst (λ (r : List Row). HasFirstWrong (forward_of c) (closing_cost c) r w)
+    (sym (rows_once c d rows others h.certificate k.certificate)) k.first in
+    not_both (forward_of c) (closing_cost c) (cost_at rows) (get_or rows first.0 blank) w (first.1.here blank)
+    (h.right first.0 blank first.1.within)
 
 -- the verdict on a wrong row
 abbrev wrong_of : WrongRow → Verdict
@@ -77,7 +99,9 @@ value_verdict c d Unread (Wrong n y z) h (rows, k) = absurd (h rows k.certificat
 value_verdict c d (Wrong n x z) (Least y) (rows, h) (others, k) = absurd (right_not_wrong c d y (wrong_row n x z) others rows k h)
 value_verdict c d (Wrong n y z) Unread (rows, h) k = absurd (k rows h.certificate)
 value_verdict c d (Wrong n y z) (Wrong n' y' z') (rows, h) (others, k) =
-    ap wrong_of (first_once c rows (wrong_row n y z) (wrong_row n' y' z') h.first (subst (λ (r : List Row). HasFirstWrong c r (wrong_row n' y' z')) (sym (rows_once c d rows others h.certificate k.certificate)) k.first))
+    ap wrong_of (first_once (forward_of c) (closing_cost c) rows (wrong_row n y z) (wrong_row n' y' z') h.first
+    (subst (λ (r : List Row). HasFirstWrong (forward_of c) (closing_cost c) r (wrong_row n' y' z'))
+    (sym (rows_once c d rows others h.certificate k.certificate)) k.first))
 
 -- a text is one value
 json_once : (text : List ℕ) (x y : Data) → IsJson text x → IsJson text y → x ≡ y
@@ -105,5 +129,27 @@ module _ (judged : Data → Verdict → Type 0) (once : (d : Data) (v w : Verdic
   text_verdict (Wrong n x z) Unread (d, h, p) k = once d (Wrong n x z) Unread p (k d h)
   text_verdict (Wrong n x z) (Wrong n' x' z') (d, h, p) (e, k, q) = both_read d e (Wrong n x z) (Wrong n' x' z') h k p q
 
-pub one_verdict : (c : Request) (text : List ℕ) (v w : Verdict) → IsVerdict c text v → IsVerdict c text w → v ≡ w
-one_verdict c text v w h k = text_verdict (IsValueVerdict c) (value_verdict c) text v w h k
+-- ---- of several dimensions
+
+items_verdict : (ps : List Request) (xs : Items) (v w : Verdict) → IsItemsVerdict ps xs v → IsItemsVerdict ps xs w
+    → v ≡ w
+items_verdict [] no_items v w e f = e ∙ sym f
+items_verdict [] (item x xs) v w e f = e ∙ sym f
+items_verdict (p ∷ ps) no_items v w e f = e ∙ sym f
+items_verdict (p ∷ ps) (item x xs) v w (a, b, h, k, e) (a', b', h', k', f) =
+    e ∙ ap₂ (joined p.size (size_of_all ps)) (value_verdict p x a a' h h') (items_verdict ps xs b b' k k') ∙ sym f
+
+option_verdict : (ps : List Request) (o : Option Items) (v w : Verdict) → IsOptionVerdict ps o v
+    → IsOptionVerdict ps o w → v ≡ w
+option_verdict ps None v w e f = e ∙ sym f
+option_verdict ps (Some xs) v w h k = items_verdict ps xs v w h k
+
+whole_verdict : (c : Request) (ds : Dimensions) (d : Data) (v w : Verdict) → IsWholeVerdict c ds d v
+    → IsWholeVerdict c ds d w → v ≡ w
+whole_verdict c One d v w h k = value_verdict c d v w h k
+whole_verdict c (Two p q) d v w h k = option_verdict (parts_of c) (as_array d) v w h k
+whole_verdict c (Three p q r) d v w h k = option_verdict (parts_of c) (as_array d) v w h k
+whole_verdict c (Four p q r s) d v w h k = option_verdict (parts_of c) (as_array d) v w h k
+
+pub one_verdict : VerdictsAreOne
+one_verdict c text v w h k = text_verdict (IsWholeVerdict c c.dimensions) (whole_verdict c c.dimensions) text v w h k

@@ -1,14 +1,14 @@
-// Certificates, row by row.
+// The rows of a certificate of one size. The request is the forward one; `closing` is what the products at its end cost.
 ghost use Rattle.std.specs.Prelude.{◌≡◌, ℕ, ◌+◌, ◌*◌, ◌%◌, ◌<◌, ◌≤◌, ◌⊎◌, ◌↔◌, IsTrue, IfOk, IfErr, OnOk, All};
 ghost use Rattle.tree_model.specs.declared.tree.Rule.{Rule};
-ghost use Rattle.tree_model.specs.Admissible.{AllowsLeafAt, IsLeastWhole};
+ghost use Rattle.tree_model.specs.Admissible.{AllowsLeafAt};
 ghost use Rattle.tree_model.specs.Cost.{leaf_cost, IsModest};
-ghost use Rattle.plan_cert.specs.Found.{extra_at, HasNodeCost, IsChoiceCost, IsFound};
-ghost use Rattle.plan_cert.specs.Certificate.{cost_at, AllowsChoice, choice_cost, HasModestParts, IsRightRow, IsWrong, HasRows, HasFirstWrong};
+ghost use Rattle.plan_cert.specs.Found.{closing_at, HasNodeCost, IsChoiceCost, IsFound};
+ghost use Rattle.plan_cert.specs.Certificate.{cost_at, AllowsChoice, choice_cost, HasModestParts, IsRightRow, IsWrong, HasRows, HasFirstWrong, IsClosedLeast, IsSmall};
 
 use operators::MAX_SIZE;
 use plan_search::best_rule;
-use tree_model::{Ctx, Rule, allows_leaf, extra_cost, leaf_cost, node_cost};
+use tree_model::{Ctx, Rule, allows_leaf, leaf_cost, node_cost};
 
 /// The cost of a node of this size, and a choice of that cost: a rule with the sizes of its parts, or a leaf.
 #[derive(Clone, Copy, PartialEq, Eq, Debug)]
@@ -132,33 +132,40 @@ pub(crate) fn leaf_allowed(c: &Ctx, d: u64) -> bool
     allows_leaf(request.kind, d) && (d != request.size || c.is_plain())
 }
 
-/// The cost of a row of size `d` whose choice costs `cost`: in that of the whole size the inverse costs more.
-#[tactic(auto, using(crate::proofs::Extra::modest_fits))]
-pub(crate) fn row_cost(c: &Ctx, d: u64, cost: u64) -> u64
+/// The cost of a row of size `d` whose choice costs `cost`: that of the whole size has the products at the end.
+#[tactic(auto, using(crate::proofs::Closing::modest_fits))]
+pub(crate) fn row_cost(c: &Ctx, closing: u64, d: u64, cost: u64) -> u64
+    requires closing { closing ≤ 1000 * c.now.size }
     requires high { d ≤ c.now.size }
     requires modest { IsModest d cost }
-    ensures value { result ≡ cost + extra_at c.now d }
+    ensures value { result ≡ cost + closing_at c.now closing d }
     ensures modest { d < c.now.size → IsModest d result }
+    ensures small { IsSmall d result }
 {
     prove!(c.request().size <= MAX_SIZE);
-    if d == c.request().size {
-        cost + extra_cost(c)
-    } else {
-        cost
-    }
+    cost + closing_at(c, closing, d)
 }
 
-/// Nothing is wrong with the row, or this is.
-pub fn check_row(c: &Ctx, rows: &[Row], row: &Row) -> Result<(), WrongRow>
+// What the products at the end cost in a row of size `d`.
+fn closing_at(c: &Ctx, closing: u64, d: u64) -> u64
+    ensures { result ≡ closing_at c.now closing d }
+{
+    if d == c.request().size { closing } else { 0 }
+}
+
+// Nothing is wrong with the row, or this is.
+fn check_row(c: &Ctx, closing: u64, rows: &[Row], row: &Row) -> Result<(), WrongRow>
+    requires closing { closing ≤ 1000 * c.now.size }
     requires low { 1 ≤ row.now.size }
     requires high { row.now.size ≤ c.now.size }
     requires allowed { AllowsChoice c.now row.now.size row.now.rule row.now.left row.now.right }
     requires parts { HasModestParts (cost_at rows.now) row.now.size }
-    ensures ok { OnOk result (IsRightRow c.now (cost_at rows.now) row.now) }
+    ensures ok { OnOk result (IsRightRow c.now closing (cost_at rows.now) row.now) }
     ensures modest { OnOk result (row.now.size < c.now.size → IsModest row.now.size row.now.cost) }
-    ensures err { IfErr result (IsWrong c.now (cost_at rows.now) row.now) }
+    ensures small { OnOk result (IsSmall row.now.size row.now.cost) }
+    ensures err { IfErr result (IsWrong c.now closing (cost_at rows.now) row.now) }
 {
-    let found = row_cost(c, row.size, found_cost(c, rows, row));
+    let found = row_cost(c, closing, row.size, found_cost(c, rows, row));
     if found != row.cost {
         return Err(WrongRow {
             size: row.size,
@@ -166,7 +173,7 @@ pub fn check_row(c: &Ctx, rows: &[Row], row: &Row) -> Result<(), WrongRow>
             found,
         });
     }
-    let chosen = row_cost(c, row.size, row_choice_cost(c, rows, row));
+    let chosen = row_cost(c, closing, row.size, row_choice_cost(c, rows, row));
     if chosen != row.cost {
         return Err(WrongRow {
             size: row.size,
@@ -178,16 +185,18 @@ pub fn check_row(c: &Ctx, rows: &[Row], row: &Row) -> Result<(), WrongRow>
 }
 
 /// The least cost, where no row is wrong, and else the first wrong row.
-pub fn check_rows(c: &Ctx, rows: &[Row]) -> Result<u64, WrongRow>
-    requires { HasRows c.now rows.now }
-    ensures right { OnOk result (All (IsRightRow c.now (cost_at rows.now)) rows.now) }
+pub(crate) fn check_rows(c: &Ctx, closing: u64, rows: &[Row]) -> Result<u64, WrongRow>
+    requires closing { closing ≤ 1000 * c.now.size }
+    requires rows { HasRows c.now rows.now }
+    ensures right { OnOk result (All (IsRightRow c.now closing (cost_at rows.now)) rows.now) }
     ensures cost { IfOk result (λ cost. cost ≡ cost_at rows.now c.now.size) }
-    ensures least { IfOk result (IsLeastWhole c.now) }
-    ensures wrong { IfErr result (HasFirstWrong c.now rows.now) }
+    ensures least { IfOk result (IsClosedLeast c.now closing) }
+    ensures small { IfOk result (IsSmall c.now.size) }
+    ensures wrong { IfErr result (HasFirstWrong c.now closing rows.now) }
 {
     let size = c.request().size;
     for row in rows {
-        if let Err(wrong) = check_row(c, rows, row) {
+        if let Err(wrong) = check_row(c, closing, rows, row) {
             return Err(wrong);
         }
     }

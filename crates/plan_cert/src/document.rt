@@ -11,7 +11,7 @@ use std::alloc::Global;
 use tree_model::Rule;
 
 /// The value that a text is, if it is JSON.
-pub fn json_value(alloc: Global, text: &[u8]) -> Result<Option<Value>, NoMemory>
+pub(crate) fn json_value(alloc: Global, text: &[u8]) -> Result<Option<Value>, NoMemory>
     ensures some { IfOk result (λ o. IfSome o (λ v. IsJson text.now (view v))) }
     ensures none { IfOk result (λ o. IfNone o ((d : Data) → IsJson text.now d → ⊥)) }
 {
@@ -153,6 +153,7 @@ fn choice_named(name: &str) -> Option<Option<Rule>>
         "gt" => Some(Some(Rule::Gt)),
         "ct" => Some(Some(Rule::Ct)),
         "split" => Some(Some(Rule::Split)),
+        "dim" => Some(Some(Rule::Dim)),
         _ => None,
     }
 }

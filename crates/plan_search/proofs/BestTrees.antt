@@ -1,11 +1,13 @@
 -- A best tree for each size that has a tree.
-use Rattle.std.proofs.Common.{◌≡◌, ◌⊎◌, ℕ, zero, suc, ◌+◌, ◌*◌, ◌/◌, ◌%◌, ◌<◌, ◌≤◌, refl, sym, ap, ◌∙◌, subst, inl, inr, arith}
+use Rattle.std.proofs.Common.{◌≡◌, ◌≢◌, ◌⊎◌, ℕ, zero, suc, ◌+◌, ◌*◌, ◌/◌, ◌%◌, ◌<◌, ◌≤◌}
+use Rattle.std.proofs.Common.{refl, sym, ap, ◌∙◌, subst, inl, inr, arith}
 use Rattle.std.proofs.lemmas.Bool.{cases_lt, cases_eq, cases_order}
 use Rattle.std.specs.declared.cmp.Ordering.{Ordering}
 use Rattle.std.specs.declared.cmp.Ordering.TheVariants.{Less, Equal, Greater}
 use Rattle.std.specs.Ordering.{is_gt, ordering_reverse}
+use Rattle.matrix_meaning.specs.declared.Kind.TheVariants.{Idft}
 use Rattle.matrix_meaning.specs.declared.Request.{Request}
-use Rattle.matrix_meaning.specs.Valid.{IsValid}
+use Rattle.matrix_meaning.specs.Valid.{HasShape, IsValid}
 use Rattle.tree_model.specs.declared.tree.Rule.{Rule}
 use Rattle.tree_model.specs.Breakdown.{Breakdown, leaf, node, size_of}
 use Rattle.tree_model.specs.Cost.{cost_of}
@@ -147,17 +149,24 @@ best_within c (suc n) d less high = best_from_smaller c d high (λ k below. best
 
 -- ---- the laws
 
-pub chosen_exists : (c : Request) → IsValid c → CanDivide c → (t : Breakdown) × IsChosen c t
-chosen_exists c valid can = elim (best_within c (suc c.size) c.size (omega arith) (omega arith)) [
+pub chosen_of_shape : (c : Request) → c.kind ≢ Idft → 1 ≤ c.size → HasShape c.kind c.size → CanDivide c →
+    (t : Breakdown) × IsChosen c t
+chosen_of_shape c proper low shape can = elim (best_within c (suc c.size) c.size (omega arith) (omega arith)) [
   | inl h ↦ (h.0, chosen_of_tree c c.size h.0 h.1)
-  | inr none ↦ let tree = some_tree c valid.in_range.size.0 valid.in_range.shape can in absurd (none tree.0 tree.1 tt)
+  | inr none ↦ let tree = some_tree c proper low shape can in absurd (none tree.0 tree.1 tt)
 ]
 
+pub chosen_exists : (c : Request) → IsValid c → c.kind ≢ Idft → CanDivide c → (t : Breakdown) × IsChosen c t
+chosen_exists c valid proper can = chosen_of_shape c proper valid.in_range.size.0 valid.in_range.shape can
+
 -- so has each smaller divisor of the size
-pub chosen_at_divisor : (c : Request) (d : ℕ) → IsValid c → 1 ≤ d → d < c.size → c.size % d ≡ 0 → (t : Breakdown) × IsChosenFor c d t
-chosen_at_divisor c d valid low less divides = elim (best_within c (suc d) d (omega arith) (omega arith)) [
+pub chosen_at_divisor : (c : Request) (d : ℕ) → IsValid c → c.kind ≢ Idft → 1 ≤ d → d < c.size → c.size % d ≡ 0 →
+    (t : Breakdown) × IsChosenFor c d t
+chosen_at_divisor c d valid proper low less divides = elim (best_within c (suc d) d (omega arith) (omega arith)) [
   | inl h ↦ (h.0, chosen_of_tree c d h.0 h.1)
-  | inr none ↦ let tree = inner_tree c d (c.size / d) low (product_div c.size d divides) less valid.in_range.shape in absurd (none tree.0 tree.1 tt)
+  | inr none ↦
+      let tree = inner_tree c d (c.size / d) proper low (product_div c.size d divides) less valid.in_range.shape in
+      absurd (none tree.0 tree.1 tt)
 ]
 
 -- the chosen tree has the least cost

@@ -4,10 +4,10 @@ use Rattle.std.specs.Int.{IsGcd}
 use Rattle.std.proofs.lemmas.Bool.{cases_lt, cases_eq, cases_Bool}
 use Rattle.std.proofs.lemmas.Nat.Gcd.{same_from_IsGcd}
 use Rattle.matrix_meaning.specs.declared.Kind.{Kind}
-use Rattle.matrix_meaning.specs.declared.Kind.TheVariants.{Dft, Wht}
+use Rattle.matrix_meaning.specs.declared.Kind.TheVariants.{Dft, Wht, Idft}
 use Rattle.matrix_meaning.specs.declared.Request.{Request}
 use Rattle.tree_model.specs.declared.tree.Rule.{Rule}
-use Rattle.tree_model.specs.declared.tree.Rule.TheVariants.{Gt, Ct, Split}
+use Rattle.tree_model.specs.declared.tree.Rule.TheVariants.{Gt, Ct, Split, Dim}
 use Rattle.tree_model.specs.Breakdown.{AllowsLeaf, AllowsRule}
 use Rattle.tree_model.specs.Cost.{is_plain, rule_cost}
 use Rattle.tree_model.specs.Order.{rule_rank}
@@ -90,6 +90,7 @@ decided_divide c = elim (cases_Bool (is_plain c)) [
 decided_leaf_of : (kind : Kind) (d : ℕ) → IsDecidable (AllowsLeaf kind d)
 decided_leaf_of Dft d = decided_le 1 d
 decided_leaf_of Wht d = decided_both (decided_le 1 d) (decided_le d 2)
+decided_leaf_of Idft d = inr (λ none. none)
 
 pub decided_leaf : (c : Request) (d : ℕ) → IsDecidable (AllowsLeafAt c d)
 decided_leaf c d =
@@ -100,14 +101,18 @@ decided_rule : (kind : Kind) (rule : Rule) (r s : ℕ) → IsDecidable (AllowsRu
 decided_rule Dft Gt r s = decided_coprime r s
 decided_rule Dft Ct r s = inl tt
 decided_rule Dft Split r s = inr (λ none. none)
+decided_rule Dft Dim r s = inr (λ none. none)
 decided_rule Wht Gt r s = inr (λ none. none)
 decided_rule Wht Ct r s = inr (λ none. none)
 decided_rule Wht Split r s = inl tt
+decided_rule Wht Dim r s = inr (λ none. none)
+decided_rule Idft rule r s = inr (λ none. none)
 
 decided_root : (c : Request) (rule : Rule) (r s : ℕ) → IsDecidable (RuleFits c rule r s)
 decided_root c Gt r s = inr (λ none. none)
 decided_root c Ct r s = decided_fits c r s
 decided_root c Split r s = decided_fits c r s
+decided_root c Dim r s = decided_fits c r s
 
 decided_node : (c : Request) (rule : Rule) (r s : ℕ) → IsDecidable (AllowsNodeAt c rule r s)
 decided_node c rule r s =
@@ -121,11 +126,19 @@ decided_node c rule r s =
 one_of_two : (kind : Kind) (r s : ℕ) → AllowsRule kind Ct r s → AllowsRule kind Split r s → ⊥
 one_of_two Dft r s h k = k
 one_of_two Wht r s h k = h
+one_of_two Idft r s h k = h
+
+-- dim takes no transform of one size apart
+no_dim : (kind : Kind) (r s : ℕ) → AllowsRule kind Dim r s → ⊥
+no_dim Dft r s h = h
+no_dim Wht r s h = h
+no_dim Idft r s h = h
 
 rank_of_gt : (rule : Rule) → 1 ≤ rule_rank rule
 rank_of_gt Gt = omega arith
 rank_of_gt Ct = omega arith
 rank_of_gt Split = omega arith
+rank_of_gt Dim = omega arith
 
 gt_is_best : (c : Request) (r s : ℕ) → AllowsNodeAt c Gt r s → IsBestRule c r s Gt
 gt_is_best c r s h = record { allowed = h; first = λ other k. rank_of_gt other; cheapest = λ other k. omega arith }
@@ -134,16 +147,19 @@ first_but_gt : (c : Request) (r s : ℕ) (rule : Rule) → (AllowsNodeAt c Gt r 
 first_but_gt c r s rule no_gt low Gt k = absurd (no_gt k)
 first_but_gt c r s rule no_gt low Ct k = omega arith
 first_but_gt c r s rule no_gt low Split k = omega arith
+first_but_gt c r s rule no_gt low Dim k = omega arith
 
 ct_is_cheapest : (c : Request) (r s : ℕ) → (AllowsNodeAt c Gt r s → ⊥) → AllowsNodeAt c Ct r s → (other : Rule) → AllowsNodeAt c other r s → rule_cost c Ct r s ≤ rule_cost c other r s
 ct_is_cheapest c r s no_gt h Gt k = absurd (no_gt k)
 ct_is_cheapest c r s no_gt h Ct k = omega arith
 ct_is_cheapest c r s no_gt h Split k = absurd (one_of_two c.kind r s h.split.allowed k.split.allowed)
+ct_is_cheapest c r s no_gt h Dim k = absurd (no_dim c.kind r s k.split.allowed)
 
 none_of_three : (c : Request) (r s : ℕ) → (AllowsNodeAt c Gt r s → ⊥) → (AllowsNodeAt c Ct r s → ⊥) → (AllowsNodeAt c Split r s → ⊥) → (rule : Rule) → AllowsNodeAt c rule r s → ⊥
 none_of_three c r s no_gt no_ct no_split Gt = no_gt
 none_of_three c r s no_gt no_ct no_split Ct = no_ct
 none_of_three c r s no_gt no_ct no_split Split = no_split
+none_of_three c r s no_gt no_ct no_split Dim = λ h. no_dim c.kind r s h.split.allowed
 
 -- the best rule for these parts, or none
 pub best_rule_of : (c : Request) (r s : ℕ) → ((rule : Rule) × IsBestRule c r s rule) ⊎ ((rule : Rule) → AllowsNodeAt c rule r s → ⊥)

@@ -1,9 +1,10 @@
 -- Where the request divides, there is a tree.
-use Rattle.std.proofs.Common.{◌≡◌, ℕ, zero, suc, ◌+◌, ◌*◌, ◌^◌, ◌<◌, ◌≤◌, Bool, true, false, refl, sym, ap, ◌∙◌, subst, inl, inr, arith, mul-zero}
+use Rattle.std.proofs.Common.{◌≡◌, ◌≢◌, ℕ, zero, suc, ◌+◌, ◌*◌, ◌^◌, ◌<◌, ◌≤◌, Bool, true, false}
+use Rattle.std.proofs.Common.{refl, sym, ap, ◌∙◌, subst, inl, inr, arith, mul-zero}
 use Rattle.std.proofs.Math.Nat.{mul_comm, pow-succ', zero-mul, mul-le-mul_left}
 use Rattle.std.proofs.lemmas.Nat.{pow_pos}
 use Rattle.matrix_meaning.specs.declared.Kind.{Kind}
-use Rattle.matrix_meaning.specs.declared.Kind.TheVariants.{Dft, Wht}
+use Rattle.matrix_meaning.specs.declared.Kind.TheVariants.{Dft, Wht, Idft}
 use Rattle.matrix_meaning.specs.declared.Request.{Request}
 use Rattle.matrix_meaning.specs.Valid.{HasShape}
 use Rattle.tree_model.proofs.PowerOfTwo.{even_or_odd, power_of_two, is_power_of_power}
@@ -38,11 +39,13 @@ walsh_well_formed (suc (suc k)) =
     let low : 2 ≤ 2 ^ suc k = two_le_power k in
     (record { left = omega arith; right = omega arith; allowed = tt }, (omega arith, omega arith), walsh_well_formed (suc k))
 
--- a tree of each size that has the kind's shape
-pub tree_of_shape : (kind : Kind) (n : ℕ) → 1 ≤ n → HasShape kind n → (t : Breakdown) × IsWellFormed kind t × (size_of t ≡ n)
-tree_of_shape Dft n low shape = (leaf n, low, refl)
-tree_of_shape Wht n low shape =
+-- a tree of each size that has the kind's shape; an inverse kind has none
+pub tree_of_shape : (kind : Kind) (n : ℕ) → kind ≢ Idft → 1 ≤ n → HasShape kind n →
+    (t : Breakdown) × IsWellFormed kind t × (size_of t ≡ n)
+tree_of_shape Dft n proper low shape = (leaf n, low, refl)
+tree_of_shape Wht n proper low shape =
     let power = power_of_two n shape in (walsh_tree power.0, walsh_well_formed power.0, size_of-walsh_tree power.0 ∙ sym power.1)
+tree_of_shape Idft n proper low shape = absurd (proper refl)
 
 half_left : (r s q p : ℕ) → r ≡ 2 * q → r * s ≡ 2 * p → q * s ≡ p
 half_left r s q p e h = let whole : 2 * q * s ≡ 2 * p = ap (λ n. n * s) (sym e) ∙ h in omega arith
@@ -78,6 +81,7 @@ power_of_factor (suc k) r s e =
 
 shape_of_left : (kind : Kind) (n r s : ℕ) → r * s ≡ n → HasShape kind n → HasShape kind r
 shape_of_left Dft n r s e shape = tt
+shape_of_left Idft n r s e shape = tt
 shape_of_left Wht n r s e shape =
     let power = power_of_two n shape in
     let left = power_of_factor power.0 r s (e ∙ power.1) in
@@ -90,16 +94,19 @@ shape_of_right kind n r s e shape = shape_of_left kind n s r (mul_comm s r ∙ e
 root_rule : Kind → Rule
 root_rule Dft = Ct
 root_rule Wht = Split
+root_rule Idft = Ct
 
-root_allowed : (kind : Kind) (r s : ℕ) → AllowsRule kind (root_rule kind) r s
+root_allowed : (kind : Kind) (r s : ℕ) → kind ≢ Idft → AllowsRule kind (root_rule kind) r s
 unfolding root_rule
-root_allowed Dft r s = tt
-root_allowed Wht r s = tt
+root_allowed Dft r s proper = tt
+root_allowed Wht r s proper = tt
+root_allowed Idft r s proper = absurd (proper refl)
 
 root_fits : (c : Request) (kind : Kind) (r s : ℕ) → Fits c r s → RuleFits c (root_rule kind) r s
 unfolding root_rule
 root_fits c Dft r s h = h
 root_fits c Wht r s h = h
+root_fits c Idft r s h = h
 
 inner_candidate : (c : Request) (d : ℕ) (t : Breakdown) → IsWellFormed c.kind t → size_of t ≡ d → d < c.size → IsCandidate c d t
 inner_candidate c d t h e less = record { well_formed = h; size = e; root = λ full spread. absurd (omega arith) }
@@ -107,15 +114,18 @@ inner_candidate c d t h e less = record { well_formed = h; size = e; root = λ f
 clash : {b : Bool} → b ≡ true → b ≡ false → ⊥
 clash e f = let both : true ≡ false = sym e ∙ f in grind arith
 
-pub some_tree : (c : Request) → 1 ≤ c.size → HasShape c.kind c.size → CanDivide c → (t : Breakdown) × IsCandidate c c.size t
-some_tree c low shape (inl plain) =
-    let whole = tree_of_shape c.kind c.size low shape in
+pub some_tree : (c : Request) → c.kind ≢ Idft → 1 ≤ c.size → HasShape c.kind c.size → CanDivide c →
+    (t : Breakdown) × IsCandidate c c.size t
+some_tree c proper low shape (inl plain) =
+    let whole = tree_of_shape c.kind c.size proper low shape in
     (whole.0, record { well_formed = whole.1; size = whole.2; root = λ full spread. absurd (clash plain spread) })
-some_tree c low shape (inr (r, s, fits)) =
-    let a = tree_of_shape c.kind r (omega (arith, fits.left)) (shape_of_left c.kind c.size r s fits.product shape) in
-    let b = tree_of_shape c.kind s (omega (arith, fits.right)) (shape_of_right c.kind c.size r s fits.product shape) in
+some_tree c proper low shape (inr (r, s, fits)) =
+    let left_shape = shape_of_left c.kind c.size r s fits.product shape in
+    let right_shape = shape_of_right c.kind c.size r s fits.product shape in
+    let a = tree_of_shape c.kind r proper (omega (arith, fits.left)) left_shape in
+    let b = tree_of_shape c.kind s proper (omega (arith, fits.right)) right_shape in
     let allowed : AllowsNodeAt c (root_rule c.kind) r s = record {
-      split = record { left = fits.left; right = fits.right; allowed = root_allowed c.kind r s };
+      split = record { left = fits.left; right = fits.right; allowed = root_allowed c.kind r s proper };
       root = λ full spread. root_fits c c.kind r s fits;
     } in
     let left : IsCandidate c r a.0 = inner_candidate c r a.0 a.1 a.2 (below_product c.size r s fits.right fits.product (omega (arith, fits.left))) in
@@ -123,7 +133,8 @@ some_tree c low shape (inr (r, s, fits)) =
     (node (root_rule c.kind) a.0 b.0, subst (λ (n : ℕ). IsCandidate c n (node (root_rule c.kind) a.0 b.0)) fits.product (candidate_of c r s (root_rule c.kind) a.0 b.0 allowed left right))
 
 -- a tree for each smaller divisor of the size
-pub inner_tree : (c : Request) (d s : ℕ) → 1 ≤ d → d * s ≡ c.size → d < c.size → HasShape c.kind c.size → (t : Breakdown) × IsCandidate c d t
-inner_tree c d s low product less shape =
-    let whole = tree_of_shape c.kind d low (shape_of_left c.kind c.size d s product shape) in
+pub inner_tree : (c : Request) (d s : ℕ) → c.kind ≢ Idft → 1 ≤ d → d * s ≡ c.size → d < c.size →
+    HasShape c.kind c.size → (t : Breakdown) × IsCandidate c d t
+inner_tree c d s proper low product less shape =
+    let whole = tree_of_shape c.kind d proper low (shape_of_left c.kind c.size d s product shape) in
     (whole.0, inner_candidate c d whole.0 whole.1 whole.2 less)

@@ -31,6 +31,7 @@ pub fn best_rule(c: &Ctx, r: u64, s: u64) -> Option<Rule>
         Kind::Dft if !spread_root && is_coprime(r, s) => Some(Rule::Gt),
         Kind::Dft => Some(Rule::Ct),
         Kind::Wht => Some(Rule::Split),
+        Kind::Idft => None,
     }
 }
 
@@ -61,6 +62,7 @@ pub(crate) fn join(alloc: Global, rule: Rule, a: Tree, b: Tree) -> Result<Tree, 
         Rule::Gt => Ok(Tree::Gt(a, b)),
         Rule::Ct => Ok(Tree::Ct(a, b)),
         Rule::Split => Ok(Tree::Split(a, b)),
+        Rule::Dim => Ok(Tree::Dim(a, b)),
     }
 }
 
@@ -112,7 +114,7 @@ pub(crate) fn better(c: &Ctx, best: Option<Plan>, next: Option<Plan>) -> Option<
 }
 
 /// Whether the first of two plans for the same node is better.
-#[tactic(auto, using(crate::proofs::NoWorse::plan_rules))]
+#[tactic(auto, using(crate::proofs::NoWorse::plan_rules, tree_model::proofs::Sizes::tree_from))]
 fn beats(c: &Ctx, next: &Plan, best: &Plan) -> bool
     requires next_plan { IsPlan c.now (size_of (breakdown_of next.now.tree)) next.now }
     requires best_plan { IsPlan c.now (size_of (breakdown_of next.now.tree)) best.now }

@@ -1,11 +1,12 @@
 // The search by a table over the divisors of the size.
-ghost use Rattle.std.specs.Prelude.{◌≡◌, ℕ, ◌%◌, ◌<◌, ◌≤◌, IfOk, IsSome, All, Any};
+ghost use Rattle.std.specs.Prelude.{◌≡◌, ◌≢◌, ℕ, ◌%◌, ◌<◌, ◌≤◌, IfOk, IsSome, All, Any};
 ghost use Rattle.tree_model.specs.Admissible.{CanDivide};
 ghost use Rattle.plan_search.specs.Search.{IsBestOf, AnyTree};
 ghost use Rattle.plan_search.specs.Table.{IsRow, IsTable, SamePlan};
 
 use crate::plan::Plan;
 use crate::search::{better, leaf_plan, split_plan};
+use matrix_meaning::Kind;
 use memory::NoMemory;
 use std::alloc::Global;
 use tree_model::Ctx;
@@ -67,10 +68,10 @@ pub fn best_row(alloc: Global, c: &Ctx, rows: &[Row], d: u64) -> Result<Option<P
     Ok(best)
 }
 
-/// The best plan for the whole request, if it admits a tree.
+/// The best plan for a node of the request's size, if there is a tree for it.
 pub(crate) fn best_whole(alloc: Global, c: &Ctx) -> Result<Option<Plan>, NoMemory>
     ensures best { IfOk result (IsBestOf c.now c.now.size AnyTree) }
-    ensures found { CanDivide c.now → IfOk result (λ plan. IsSome plan) }
+    ensures found { CanDivide c.now → c.now.kind ≢ Kind.Idft → IfOk result (λ plan. IsSome plan) }
 {
     let size = c.request().size;
     let mut rows = Vec::new(alloc);

@@ -5,21 +5,19 @@
 use plan_cert::{Verdict, certify, check_cert};
 use plan_search::best;
 use request_text::read_request;
-use ring_mod::Modulus;
 use std::io::BufRead;
 use std::time::Instant;
 use tree_model::{Ctx, divides};
 
 const ANY_BUDGET: u64 = 1_000_000_000_000;
 
-/// The request of the line, if it is one and its root to the power of its size is 1.
+/// The request of the line, if it is one and each root to the power of its size is 1.
 fn valid_request(line: &str) -> Option<Ctx> {
     let request = read_request(line.as_bytes()).ok()?;
-    let modulus = Modulus::new(request.modulus)?;
-    if modulus.pow(request.root, request.size) != 1 {
-        return None;
+    match request.bad_power() {
+        None => Some(Ctx::new(&request)),
+        Some(_) => None,
     }
-    Some(Ctx::new(&request))
 }
 
 fn main(rt: HostRuntime) -> anyhow::Result<()> {

@@ -15,7 +15,7 @@ use Rattle.passes.specs.Nest.{PlainFactors, values, twiddles, repeated, spread, 
 use Rattle.passes.specs.Views.{plain_nest}
 use Rattle.passes.specs.Work.{PlainWork, kernel, work_size}
 use Rattle.passes.specs.declared.nest.Nest.{Nest}
-use Rattle.rooted_trees.specs.Trees.{PlainTrees, trees_size, AreWords}
+use Rattle.tree_model.specs.Trees.{PlainTrees, trees_size, AreWords}
 use Rattle.program_emit.specs.Conditions.{CanEmit, CanEmitAll, CanEmitPhases, CanList, HasFactors}
 use Rattle.program_emit.proofs.Diagonals.{columns-some, inner-some}
 

@@ -19,7 +19,7 @@ use Rattle.pass_actions.proofs.Fillings.{working}
 use Rattle.pass_actions.proofs.Rows.{row_acts}
 use Rattle.passes.specs.Nest.{PlainMultiplier, PlainNest}
 use Rattle.passes.specs.Work.{PlainWork, kernel, rows, horner, tile, copy, vectors_of}
-use Rattle.rooted_trees.specs.Trees.{trees_size}
+use Rattle.tree_model.specs.Trees.{trees_size}
 
 -- a property of actions that the arithmetic has
 pub record IsFree (P : Action → Type 0) : Type 0 where

@@ -5,15 +5,14 @@ use Rattle.std.proofs.KnownBytes.{Appends-nil}
 use Rattle.std.specs.List.{All}
 use Rattle.std.specs.declared.option.Option.{Option}
 use Rattle.std.specs.Io.KnownBytes.{Appends, Consumes, IsAtEnd}
-use Rattle.transform_requests.specs.declared.TransformRequest.{TransformRequest}
-use Rattle.transform_requests.specs.Range.{IsRequestInRange}
-use Rattle.transform_requests.specs.Fields.{modulus_of, procs_of, size_of}
+use Rattle.matrix_meaning.specs.declared.Request.{Request}
+use Rattle.matrix_meaning.specs.Valid.{IsInRange}
 use Rattle.icode.specs.Machine.{Code, State, results, runs}
 use Rattle.io_edge.specs.Feed.{Fed, limit}
 use Rattle.io_edge.specs.Taken.{AppendsPrefix}
-use Rattle.plan_faults.specs.declared.generating.GenerateFault.{GenerateFault}
-use Rattle.plan_faults.specs.declared.generating.GenerateFault.TheVariants as generate
-use Rattle.transform_code.specs.Planned.{IsAdmitted, IsBarred}
+use Rattle.plan_search.specs.declared.generating.GenerateFault.{GenerateFault}
+use Rattle.plan_search.specs.declared.generating.GenerateFault.TheVariants as generate
+use Rattle.generate.specs.Planned.{IsAdmitted, IsBarred}
 use Rattle.icode.specs.Program.{plain_program, code_of}
 use Rattle.listing_text.specs.Listing.{listing_of}
 use Rattle.input_rest.specs.declared.RestFault.{RestFault}
@@ -21,7 +20,7 @@ use Rattle.input_rest.specs.declared.RestFault.TheVariants as rest_fault
 use Rattle.input_rest.specs.Rest.{GivesRest}
 use Rattle.plan_cert.specs.declared.verdict.Verdict.{Verdict}
 use Rattle.plan_cert.specs.declared.verdict.Verdict.TheVariants as verdict
-use Rattle.transform_certs.specs.Judged.{IsVerdict}
+use Rattle.plan_cert.specs.Verdict.{IsVerdict}
 use Rattle.spiral_words.specs.declared.Command.{Command}
 use Rattle.spiral_words.specs.declared.Command.TheVariants as command
 use Rattle.spiral_words.specs.declared.Order.{Order}
@@ -54,11 +53,11 @@ generate_refusal generate.NoDivide = record { success = λ e. cc; read = λ e. c
 generate_refusal (generate.OverBudget cost budget) = record { success = λ e. cc; read = λ e. cc; write = λ e. cc; usage = λ e. cc }
 generate_refusal generate.NoMemory = record { success = λ e. cc; read = λ e. cc; write = λ e. cc; usage = λ e. cc }
 
-pub generate_barred : (request : TransformRequest) (fault : GenerateFault) → IsBarred request fault → IsShutOut request (status_of_generate fault)
+pub generate_barred : (request : Request) (fault : GenerateFault) → IsBarred request fault → IsShutOut request (status_of_generate fault)
 generate_barred request fault barred = (fault, barred, refl)
 
 -- a command that reads no certificate wants a plan
-pub plan_accepted : (wanted : Command) (request : TransformRequest) → reads_certificate wanted ≡ false → IsAffordable request → IsAccepted wanted request
+pub plan_accepted : (wanted : Command) (request : Request) → reads_certificate wanted ≡ false → IsAffordable request → IsAccepted wanted request
 plan_accepted command.Plan request other p = p
 plan_accepted command.Formula request other p = p
 plan_accepted command.Code request other p = p
@@ -73,7 +72,7 @@ plan_accepted (command.Apply modulus schedule) request other p = p
 plan_accepted (command.Exec schedule) request other p = p
 plan_accepted (command.Convolve schedule as_code) request other p = p
 
-pub plan_declined : (wanted : Command) (request : TransformRequest) (status : Status) → reads_certificate wanted ≡ false → IsRefused request status → IsDeclined wanted request status
+pub plan_declined : (wanted : Command) (request : Request) (status : Status) → reads_certificate wanted ≡ false → IsRefused request status → IsDeclined wanted request status
 plan_declined command.Plan request status other p = p
 plan_declined command.Formula request status other p = p
 plan_declined command.Code request status other p = p
@@ -105,18 +104,18 @@ text_alone (command.Exec schedule) h = refl
 text_alone (command.Convolve schedule as_code) h = refl
 
 -- a command that a refusal ends before its output
-pub performs_refused : (wanted : Command) (request : TransformRequest) (room : ℕ) (bytes : List ℕ) (left out : Option (List ℕ)) (status : Status)
+pub performs_refused : (wanted : Command) (request : Request) (room : ℕ) (bytes : List ℕ) (left out : Option (List ℕ)) (status : Status)
     → (IsDefined status → IsDeclined wanted request status) → IsRefusal status → Meets (request_outcomes wanted request room) bytes left out out status
 performs_refused wanted request room bytes left out status p r = meets_nothing (request_outcomes wanted request room) bytes left out status (λ d. inl (p d, refl)) r.read r.write
 
-pub told_refused : (wanted : Command) (request : TransformRequest) (room : ℕ) (before left out : Option (List ℕ)) (status : Status)
+pub told_refused : (wanted : Command) (request : Request) (room : ℕ) (before left out : Option (List ℕ)) (status : Status)
     → (IsDefined status → IsDeclined wanted request status) → IsRefusal status → ToldMeets (request_outcomes wanted request room) before left out out status
 told_refused wanted request room None left out status p r = tt
 told_refused wanted request room (Some bytes) left out status p r = performs_refused wanted request room bytes left out status p r
 
 -- Texts of the request alone
 
-pub performs_text : (wanted : Command) (request : TransformRequest) (room : ℕ) (bytes : List ℕ) (left out out' : Option (List ℕ)) (text : List ℕ)
+pub performs_text : (wanted : Command) (request : Request) (room : ℕ) (bytes : List ℕ) (left out out' : Option (List ℕ)) (text : List ℕ)
     → IsAccepted wanted request → IsTextOf wanted request text → Appends out out' text → Meets (request_outcomes wanted request room) bytes left out out' Success
 performs_text wanted request room bytes left out out' text p l w = record {
   answer = λ d. (text, inr (p, inr (inl (refl, l))), w);
@@ -124,7 +123,7 @@ performs_text wanted request room bytes left out out' text p l w = record {
   write_fault = λ e. absurd (cc);
 }
 
-pub performs_cut : (wanted : Command) (request : TransformRequest) (room : ℕ) (bytes : List ℕ) (out out' : Option (List ℕ)) (text : List ℕ)
+pub performs_cut : (wanted : Command) (request : Request) (room : ℕ) (bytes : List ℕ) (out out' : Option (List ℕ)) (text : List ℕ)
     → IsAccepted wanted request → IsTextOf wanted request text → AppendsPrefix out out' text → Meets (request_outcomes wanted request room) bytes (Some bytes) out out' WriteFault
 performs_cut wanted request room bytes out out' text p l w = record {
   answer = λ d. absurd (d.write refl);
@@ -135,25 +134,25 @@ performs_cut wanted request room bytes out out' text p l w = record {
 -- The lines of a run
 
 -- the machine's lines are those of the matrix
-pub good_lines : (request : TransformRequest) (code : Code) (turns : List ℕ) (vectors : List (List ℕ)) → IsGoodCode request code → 0 < modulus_of request → All (λ q. q < procs_of request) turns
-    → (ts : List (List ℕ)) × (vectors_of (size_of request) (modulus_of request) ts ≡ vectors) → lines (λ x. results code x turns) vectors ≡ lines (product request) vectors
+pub good_lines : (request : Request) (code : Code) (turns : List ℕ) (vectors : List (List ℕ)) → IsGoodCode request code → 0 < request.modulus → All (λ q. q < request.procs) turns
+    → (ts : List (List ℕ)) × (vectors_of request.size request.modulus ts ≡ vectors) → lines (λ x. results code x turns) vectors ≡ lines (product request) vectors
 good_lines request code turns vectors good some there made =
     let apart = good.1.2.good.product in
     let f : List ℕ → List ℕ = λ x. results code x turns in
-    let same : (x : List ℕ) → length x ≡ size_of request → All (λ v. v < modulus_of request) x → f x ≡ product request x =
+    let same : (x : List ℕ) → length x ≡ request.size → All (λ v. v < request.modulus) x → f x ≡ product request x =
     λ x full below. ap (λ k. results k x turns) good.2 ∙ apart x turns (record { size = full; residues = below }) there in
     subst (λ (v : List (List ℕ)). lines f v ≡ lines (product request) v) made.1
-    (lines_equal (size_of request) (modulus_of request) f (product request) same some (length made.0 / size_of request) made.0 (div-mul-le_self (length made.0) (size_of request)))
+    (lines_equal request.size request.modulus f (product request) same some (length made.0 / request.size) made.0 (div-mul-le_self (length made.0) request.size))
 
 -- Runs over the data
 
 -- behind the front, the texts of whole vectors are the text of the command
-abbrev pub IsTextFor : Command → TransformRequest → List ℕ → (List ℕ → List ℕ) → Type 0
-IsTextFor wanted request front text = (ts : List (List ℕ)) → IsTextOfData wanted request (vectors_of (size_of request) (modulus_of request) ts) (front ++ texts text (vectors_of (size_of request) (modulus_of request) ts))
+abbrev pub IsTextFor : Command → Request → List ℕ → (List ℕ → List ℕ) → Type 0
+IsTextFor wanted request front text = (ts : List (List ℕ)) → IsTextOfData wanted request (vectors_of request.size request.modulus ts) (front ++ texts text (vectors_of request.size request.modulus ts))
 
 -- a run over the data is what the command for the request performs
-data_performed : (wanted : Command) (request : TransformRequest) (room : ℕ) (bytes : List ℕ) (left out out' : Option (List ℕ)) (status : Status)
-    → IsAccepted wanted request → RunsOver (IsTextOfData wanted request) (size_of request) (modulus_of request) room bytes left out out' status
+data_performed : (wanted : Command) (request : Request) (room : ℕ) (bytes : List ℕ) (left out out' : Option (List ℕ)) (status : Status)
+    → IsAccepted wanted request → RunsOver (IsTextOfData wanted request) request.size request.modulus room bytes left out out' status
     → Meets (request_outcomes wanted request room) bytes left out out' status
 data_performed wanted request room bytes left out out' status there r = record {
   answer = λ d. let found = r.answer d in (found.0, inr (there, inl (found.1, found.2)), found.3);
@@ -161,73 +160,73 @@ data_performed wanted request room bytes left out out' status there r = record {
   write_fault = λ e. let found = r.write_fault e in (found.0, [], found.1, found.2, found.3, found.4, (there, inl (found.5, found.6, found.7)), found.8);
 }
 
-pub performs_stream : {S : Type 0} (wanted : Command) (request : TransformRequest) (front : List ℕ) (text : List ℕ → List ℕ) (leaves : List ℕ → S) (old new : Fed) (before after start out out' : Option (List ℕ)) (first last : S)
+pub performs_stream : {S : Type 0} (wanted : Command) (request : Request) (front : List ℕ) (text : List ℕ → List ℕ) (leaves : List ℕ → S) (old new : Fed) (before after start out out' : Option (List ℕ)) (first last : S)
     (result : Result (Unit {0}) StreamFault)
     → IsAccepted wanted request → IsTextFor wanted request front text → Appends start out front → old.taken ≤ limit → (result ≢ Err stream.TooLong → new.taken ≤ limit)
-    → Streams text leaves (size_of request) (modulus_of request) old new before after out out' first last result
+    → Streams text leaves request.size request.modulus old new before after out out' first last result
     → ToldMeets (request_outcomes wanted request (limit - old.taken)) before after start out' (status_of_stream result)
 performs_stream wanted request front text leaves old new None after start out out' first last result there writes begun within ends s = tt
 performs_stream wanted request front text leaves old new (Some bytes) None start out out' first last result there writes begun within ends s = absurd s.consumed
 performs_stream wanted request front text leaves old new (Some bytes) (Some rest) start out out' first last result there writes begun within ends s =
     data_performed wanted request (limit - old.taken) bytes (Some rest) start out' (status_of_stream result) there
-    (runs_over (IsTextOfData wanted request) (size_of request) (modulus_of request) front text leaves old new bytes rest start out out' first last result writes begun within ends s)
+    (runs_over (IsTextOfData wanted request) request.size request.modulus front text leaves old new bytes rest start out out' first last result writes begun within ends s)
 
 -- the stream of a good program is one of the request
-pub stream_of_request : {S : Type 0} (request : TransformRequest) (code : Code) (text : List ℕ → List ℕ) (leaves : List ℕ → S) (old new : Fed) (before after out out' : Option (List ℕ)) (first last : S) (result : Result (Unit {0}) StreamFault)
-    → code.size ≡ size_of request → code.modulus ≡ modulus_of request
-    → Streams text leaves code.size code.modulus old new before after out out' first last result → Streams text leaves (size_of request) (modulus_of request) old new before after out out' first last result
+pub stream_of_request : {S : Type 0} (request : Request) (code : Code) (text : List ℕ → List ℕ) (leaves : List ℕ → S) (old new : Fed) (before after out out' : Option (List ℕ)) (first last : S) (result : Result (Unit {0}) StreamFault)
+    → code.size ≡ request.size → code.modulus ≡ request.modulus
+    → Streams text leaves code.size code.modulus old new before after out out' first last result → Streams text leaves request.size request.modulus old new before after out out' first last result
 stream_of_request request code text leaves old new before after out out' first last result size modulus s =
-    subst (λ n. Streams text leaves (size_of request) n old new before after out out' first last result) modulus
+    subst (λ n. Streams text leaves request.size n old new before after out out' first last result) modulus
     (subst (λ n. Streams text leaves n code.modulus old new before after out out' first last result) size s)
 
-pub performs_run : (order : Order) (request : TransformRequest) (code : Code) (turns : List ℕ) (old new : Fed) (before after out out' : Option (List ℕ)) (first last : State) (result : Result (Unit {0}) StreamFault)
-    → IsGoodCode request code → IsRequestInRange request → All (λ q. q < procs_of request) turns → old.taken ≤ limit → (result ≢ Err stream.TooLong → new.taken ≤ limit)
+pub performs_run : (order : Order) (request : Request) (code : Code) (turns : List ℕ) (old new : Fed) (before after out out' : Option (List ℕ)) (first last : State) (result : Result (Unit {0}) StreamFault)
+    → IsGoodCode request code → IsInRange request → All (λ q. q < request.procs) turns → old.taken ≤ limit → (result ≢ Err stream.TooLong → new.taken ≤ limit)
     → Streams (run_text false code turns) (λ x. runs code x turns) code.size code.modulus old new before after out out' first last result
     → ToldMeets (request_outcomes (command.Run order) request (limit - old.taken)) before after out out' (status_of_stream result)
 performs_run order request code turns old new before after out out' first last result good in_range there within ends s =
-    let size : code.size ≡ size_of request = ap (λ (k : Code). k.size) good.2 ∙ good.1.2.good.header.size in
-    let modulus : code.modulus ≡ modulus_of request = ap (λ (k : Code). k.modulus) good.2 ∙ good.1.2.good.header.modulus in
+    let size : code.size ≡ request.size = ap (λ (k : Code). k.size) good.2 ∙ good.1.2.good.header.size in
+    let modulus : code.modulus ≡ request.modulus = ap (λ (k : Code). k.modulus) good.2 ∙ good.1.2.good.header.modulus in
     let sized = stream_of_request request code (run_text false code turns) (λ x. runs code x turns) old new before after out out' first last result size modulus s in
     let writes : IsTextFor (command.Run order) request [] (run_text false code turns) =
-    λ ts. good_lines request code turns (vectors_of (size_of request) (modulus_of request) ts) good (limits request in_range).modulus there (ts, refl) in
+    λ ts. good_lines request code turns (vectors_of request.size request.modulus ts) good (limits request in_range).modulus there (ts, refl) in
     performs_stream (command.Run order) request [] (run_text false code turns) (λ x. runs code x turns) old new before after out out out' first last result (good.1.0, good.1.1) writes (Appends-nil out) within ends sized
 
-traced_affordable : (request : TransformRequest) (listing : List ℕ) (code : Code) → IsTraced request listing code → IsAffordable request
+traced_affordable : (request : Request) (listing : List ℕ) (code : Code) → IsTraced request listing code → IsAffordable request
 traced_affordable request listing code made = (made.1.0, made.1.1)
 
-traced_procs : (request : TransformRequest) (listing : List ℕ) (code : Code) → IsTraced request listing code → code.procs ≡ procs_of request
+traced_procs : (request : Request) (listing : List ℕ) (code : Code) → IsTraced request listing code → code.procs ≡ request.procs
 traced_procs request listing code made = ap (λ (k : Code). k.procs) made.3 ∙ made.1.2.good.header.procs
 
-pub traced_stranger : (names : List ℕ) (request : TransformRequest) (listing : List ℕ) (code : Code) → IsTraced request listing code → first_stranger names (procs_of request) ≡ None → first_stranger names code.procs ≡ None
+pub traced_stranger : (names : List ℕ) (request : Request) (listing : List ℕ) (code : Code) → IsTraced request listing code → first_stranger names request.procs ≡ None → first_stranger names code.procs ≡ None
 traced_stranger names request listing code made none = subst (λ p. first_stranger names p ≡ None) (sym (traced_procs request listing code made)) none
 
-traced_writes : (order : Order) (request : TransformRequest) (listing : List ℕ) (code : Code) → IsTraced request listing code
+traced_writes : (order : Order) (request : Request) (listing : List ℕ) (code : Code) → IsTraced request listing code
     → IsTextFor (command.Trace order) request listing (traced_text order code.procs code)
 traced_writes order request listing code made ts =
-    let vectors = vectors_of (size_of request) (modulus_of request) ts in
-    let same : traced_text order code.procs code ≡ traced_text order (procs_of request) (code_of made.0) =
-    ap (λ n. traced_text order n code) (traced_procs request listing code made) ∙ ap (λ (k : Code). traced_text order (procs_of request) k) made.3 in
+    let vectors = vectors_of request.size request.modulus ts in
+    let same : traced_text order code.procs code ≡ traced_text order request.procs (code_of made.0) =
+    ap (λ n. traced_text order n code) (traced_procs request listing code made) ∙ ap (λ (k : Code). traced_text order request.procs k) made.3 in
     (made.0, made.1, ap (λ l. l ++ texts (traced_text order code.procs code) vectors) made.2 ∙ ap (λ (f : List ℕ → List ℕ). listing_of (plain_program made.0) ++ texts f vectors) same)
 
-pub performs_trace : {S : Type 0} (order : Order) (request : TransformRequest) (listing : List ℕ) (code : Code) (leaves : List ℕ → S) (old new : Fed) (before after start out out' : Option (List ℕ)) (first last : S) (result : Result (Unit {0}) StreamFault)
+pub performs_trace : {S : Type 0} (order : Order) (request : Request) (listing : List ℕ) (code : Code) (leaves : List ℕ → S) (old new : Fed) (before after start out out' : Option (List ℕ)) (first last : S) (result : Result (Unit {0}) StreamFault)
     → IsTraced request listing code → Appends start out listing → old.taken ≤ limit → (result ≢ Err stream.TooLong → new.taken ≤ limit)
     → Streams (traced_text order code.procs code) leaves code.size code.modulus old new before after out out' first last result
     → ToldMeets (request_outcomes (command.Trace order) request (limit - old.taken)) before after start out' (status_of_stream result)
 performs_trace order request listing code leaves old new before after start out out' first last result made begun within ends s =
-    let size : code.size ≡ size_of request = ap (λ (k : Code). k.size) made.3 ∙ made.1.2.good.header.size in
-    let modulus : code.modulus ≡ modulus_of request = ap (λ (k : Code). k.modulus) made.3 ∙ made.1.2.good.header.modulus in
+    let size : code.size ≡ request.size = ap (λ (k : Code). k.size) made.3 ∙ made.1.2.good.header.size in
+    let modulus : code.modulus ≡ request.modulus = ap (λ (k : Code). k.modulus) made.3 ∙ made.1.2.good.header.modulus in
     let text = traced_text order code.procs code in
     let sized = stream_of_request request code text leaves old new before after out out' first last result size modulus s in
     performs_stream (command.Trace order) request listing text leaves old new before after start out out' first last result (traced_affordable request listing code made) (traced_writes order request listing code made) begun within ends sized
 
 -- a trace whose listing is not written whole
-pub listing_cut : (order : Order) (request : TransformRequest) (listing : List ℕ) (code : Code) (room : ℕ) (before out out' : Option (List ℕ))
-    → IsTraced request listing code → IsRequestInRange request → AppendsPrefix out out' listing → ToldMeets (request_outcomes (command.Trace order) request room) before before out out' WriteFault
+pub listing_cut : (order : Order) (request : Request) (listing : List ℕ) (code : Code) (room : ℕ) (before out out' : Option (List ℕ))
+    → IsTraced request listing code → IsInRange request → AppendsPrefix out out' listing → ToldMeets (request_outcomes (command.Trace order) request room) before before out out' WriteFault
 listing_cut order request listing code room None out out' made in_range w = tt
 listing_cut order request listing code room (Some bytes) out out' made in_range w =
     let text = traced_text order code.procs code in
-    let none : vectors_of (size_of request) (modulus_of request) [] ≡ [] = vectors_few (size_of request) (modulus_of request) [] (limits request in_range).size in
-    let alone : listing ++ texts text (vectors_of (size_of request) (modulus_of request) []) ≡ listing = ap (λ (v : List (List ℕ)). listing ++ texts text v) none ∙ append-nil listing in
+    let none : vectors_of request.size request.modulus [] ≡ [] = vectors_few request.size request.modulus [] (limits request in_range).size in
+    let alone : listing ++ texts text (vectors_of request.size request.modulus []) ≡ listing = ap (λ (v : List (List ℕ)). listing ++ texts text v) none ∙ append-nil listing in
     record {
       answer = λ d. absurd (d.write refl);
       read_fault = λ e. absurd (cc);
@@ -240,7 +239,7 @@ listing_cut order request listing code room (Some bytes) out out' made in_range 
         refl,
         (
           traced_affordable request listing code made,
-          inl (record { few = omega arith; good = refl }, inl refl, subst (IsTextOfData (command.Trace order) request (vectors_of (size_of request) (modulus_of request) [])) alone (traced_writes order request listing code made [])),
+          inl (record { few = omega arith; good = refl }, inl refl, subst (IsTextOfData (command.Trace order) request (vectors_of request.size request.modulus [])) alone (traced_writes order request listing code made [])),
         ),
         w,
       );
@@ -249,10 +248,10 @@ listing_cut order request listing code room (Some bytes) out out' made in_range 
 -- Certificates
 
 -- a command that has no memory
-performs_nothing : (wanted : Command) (request : TransformRequest) (room : ℕ) (bytes : List ℕ) (left out : Option (List ℕ)) → Meets (request_outcomes wanted request room) bytes left out out NoMemory
+performs_nothing : (wanted : Command) (request : Request) (room : ℕ) (bytes : List ℕ) (left out : Option (List ℕ)) → Meets (request_outcomes wanted request room) bytes left out out NoMemory
 performs_nothing wanted request room bytes left out = record { answer = λ d. absurd (d.memory refl); read_fault = λ e. absurd (cc); write_fault = λ e. absurd (cc) }
 
-judged_performs : (request : TransformRequest) (room : ℕ) (bytes : List ℕ) (left out out' : Option (List ℕ)) (found : Verdict)
+judged_performs : (request : Request) (room : ℕ) (bytes : List ℕ) (left out out' : Option (List ℕ)) (found : Verdict)
     → IsAdmitted request → length bytes ≤ certificate_limit → IsVerdict request bytes found → Appends out out' (verdict_text found)
     → Meets (request_outcomes command.Check request room) bytes left out out' (status_of_verdict found)
 judged_performs request room bytes left out out' (verdict.Least cost) there few judged w = record {
@@ -272,7 +271,7 @@ judged_performs request room bytes left out out' (verdict.Wrong size given found
 }
 
 -- a check whose input has no rest that can be judged
-pub performs_unread : (request : TransformRequest) (room : ℕ) (before after out : Option (List ℕ)) (read : List ℕ) (fault : RestFault)
+pub performs_unread : (request : Request) (room : ℕ) (before after out : Option (List ℕ)) (read : List ℕ) (fault : RestFault)
     → IsAdmitted request → Consumes before after read → GivesRest certificate_limit read (IsAtEnd after) (Err fault) → ToldMeets (request_outcomes command.Check request room) before after out out (status_of_rest fault)
 performs_unread request room None after out read fault there consumed given = tt
 performs_unread request room (Some bytes) None out read fault there consumed given = absurd consumed
@@ -292,12 +291,14 @@ performs_unread request room (Some bytes) (Some rest) out read rest_fault.ReadFa
 performs_unread request room (Some bytes) (Some rest) out read rest_fault.NoMemory there consumed given = performs_nothing command.Check request room bytes (Some rest) out
 
 -- the verdict on the bytes, as it was found
-pub judged_of : (request : TransformRequest) (text seen : List ℕ) (found other : Verdict) → seen ≡ text → other ≡ found → IsVerdict request seen other → IsVerdict request text found
-judged_of request text seen found other q e judged =
-    subst (λ (v : Verdict). IsVerdict request text v) e (subst (λ (l : List ℕ). IsVerdict request l other) q judged)
+pub judged_of : (request context : Request) (text seen : List ℕ) (found other : Verdict)
+    → context ≡ request → seen ≡ text → other ≡ found → IsVerdict context seen other → IsVerdict request text found
+judged_of request context text seen found other c q e judged =
+    subst (λ (v : Verdict). IsVerdict request text v) e
+    (subst (λ (l : List ℕ). IsVerdict request l other) q (subst (λ (r : Request). IsVerdict r seen other) c judged))
 
 -- a rest that was judged
-pub performs_judged : (request : TransformRequest) (room : ℕ) (before after out out' : Option (List ℕ)) (read text : List ℕ) (found : Verdict)
+pub performs_judged : (request : Request) (room : ℕ) (before after out out' : Option (List ℕ)) (read text : List ℕ) (found : Verdict)
     → IsAdmitted request → Consumes before after read → text ≡ read → IsAtEnd after → length read ≤ certificate_limit → IsVerdict request text found → Appends out out' (verdict_text found)
     → ToldMeets (request_outcomes command.Check request room) before after out out' (status_of_verdict found)
 performs_judged request room None after out out' read text found there consumed same end short judged w = tt
@@ -309,7 +310,7 @@ performs_judged request room (Some bytes) (Some rest) out out' read text found t
     judged_performs request room bytes (Some rest) out out' found there few here w
 
 -- a rest that was judged right, and the line that says so was not written whole
-pub performs_judged_cut : (request : TransformRequest) (room : ℕ) (before after out out' : Option (List ℕ)) (read text : List ℕ) (cost : ℕ)
+pub performs_judged_cut : (request : Request) (room : ℕ) (before after out out' : Option (List ℕ)) (read text : List ℕ) (cost : ℕ)
     → IsAdmitted request → Consumes before after read → text ≡ read → IsAtEnd after → length read ≤ certificate_limit → IsVerdict request text (verdict.Least cost) → AppendsPrefix out out' (least_line cost)
     → ToldMeets (request_outcomes command.Check request room) before after out out' WriteFault
 performs_judged_cut request room None after out out' read text cost there consumed same end short judged w = tt
@@ -330,7 +331,7 @@ performs_judged_cut request room (Some bytes) (Some rest) out out' read text cos
 }
 
 -- the performance of a command that reads no data
-pub told_any : (wanted : Command) (request : TransformRequest) (room : ℕ) (before out out' : Option (List ℕ)) (status : Status)
+pub told_any : (wanted : Command) (request : Request) (room : ℕ) (before out out' : Option (List ℕ)) (status : Status)
     → ((room : ℕ) (bytes : List ℕ) → Meets (request_outcomes wanted request room) bytes (Some bytes) out out' status) → ToldMeets (request_outcomes wanted request room) before before out out' status
 told_any wanted request room None out out' status p = tt
 told_any wanted request room (Some bytes) out out' status p = p room bytes

@@ -7,10 +7,9 @@ use Rattle.std.specs.List.{range_with_len}
 use Rattle.operators.specs.Sum.{sum_below}
 use Rattle.operators.proofs.Sums.{sum_below-same, sum_below_more}
 use Rattle.operators.proofs.Lists.{length-list_below}
-use Rattle.transform_requests.specs.declared.TransformRequest.{TransformRequest}
-use Rattle.transform_requests.specs.Range.{IsRequestInRange}
-use Rattle.transform_requests.specs.Fields.{modulus_of, procs_of, size_of, weight_of}
-use Rattle.transform_requests.specs.Trees.{cost_of}
+use Rattle.matrix_meaning.specs.declared.Request.{Request}
+use Rattle.matrix_meaning.specs.Valid.{IsInRange}
+use Rattle.tree_model.specs.Chosen.{whole_cost}
 use Rattle.icode.specs.declared.action.Action.{Action}
 use Rattle.icode.specs.declared.action.Counts.{Counts}
 use Rattle.icode.specs.Machine.{Code, State, IsCode, IsApart, results, runs, counts_of, counts_so_far, weighted, whole_counts}
@@ -20,14 +19,14 @@ use Rattle.icode.proofs.Runs.{counts_of_runs}
 use Rattle.par_machine.proofs.Executed.{AreSmall, counts_small}
 use Rattle.request_text.specs.Schedule.{Plan}
 use Rattle.request_text.specs.Turns.{next_state, state_after, turns_of}
-use Rattle.transform_code.specs.Good.{IsVector}
-use Rattle.transform_code.specs.Lean.{loads_of, stores_of}
-use Rattle.request_commands.specs.Settled.{product, IsSampleText}
+use Rattle.generate.specs.Good.{IsVector}
+use Rattle.tree_model.specs.WholePasses.{whole_loads, whole_stores}
+use Rattle.request_commands.specs.Settled.{product, sample_sum, IsSampleText}
 use Rattle.request_commands.specs.Sample.{sample_vector, weighted_sum, sample_text, AreCountable}
 use Rattle.request_commands.specs.Performed.{IsGoodCode}
 use Rattle.runs.specs.Stream.{HasNoStranger}
 use Rattle.request_commands.proofs.CountLemmas.{whole-of, within_word}
-use Rattle.request_commands.proofs.Requests.{limits, lean_loads, lean_stores, within_budget}
+use Rattle.request_commands.proofs.Requests.{limits}
 use Rattle.request_commands.proofs.RunLemmas.{good_turns}
 
 -- the generator goes on
@@ -53,14 +52,14 @@ pub sample_below : (modulus size seed : ℕ) → 0 < modulus → All (λ v. v < 
 sample_below modulus size seed some = All-map (λ v. v < modulus) (λ i. state_after (i + 1) seed % modulus) (range_with_len 0 size) (λ k d _. mod-lt _ some)
 
 -- and they are residues of a good program's machine
-pub sample_residues : (request : TransformRequest) (code : Code) (m n seed : ℕ) (xs : List ℕ) → IsGoodCode request code → IsRequestInRange request → m ≡ code.modulus → xs ≡ sample_vector m n seed → All (λ v. v < code.modulus) xs
+pub sample_residues : (request : Request) (code : Code) (m n seed : ℕ) (xs : List ℕ) → IsGoodCode request code → IsInRange request → m ≡ code.modulus → xs ≡ sample_vector m n seed → All (λ v. v < code.modulus) xs
 sample_residues request code m n seed xs good in_range same is =
-    let of_request : code.modulus ≡ modulus_of request = ap (λ (k : Code). k.modulus) good.2 ∙ good.1.2.good.header.modulus in
+    let of_request : code.modulus ≡ request.modulus = ap (λ (k : Code). k.modulus) good.2 ∙ good.1.2.good.header.modulus in
     let some : 0 < code.modulus = omega (arith, of_request, (limits request in_range).modulus) in
     rw (is, same) (sample_below code.modulus n seed some)
 
 -- a finished run of a good program is counted in 64 bits
-pub good_counts : (request : TransformRequest) (code : Code) (state : State) (vector turns : List ℕ) → IsGoodCode request code → IsRequestInRange request → state ≡ runs code vector turns → AreCountable code state
+pub good_counts : (request : Request) (code : Code) (state : State) (vector turns : List ℕ) → IsGoodCode request code → IsInRange request → state ≡ runs code vector turns → AreCountable code state
 good_counts request code state vector turns good in_range ran =
     let p = plain_program good.0 in
     let header = good.1.2.good.header in
@@ -80,14 +79,14 @@ good_counts request code state vector turns good in_range ran =
     }
 
 -- the vector of a seed is one of the request
-pub sample_is : (request : TransformRequest) (code : Code) (m n seed : ℕ) → IsGoodCode request code → m ≡ code.modulus → n ≡ code.size → sample_vector m n seed ≡ sample_vector (modulus_of request) (size_of request) seed
+pub sample_is : (request : Request) (code : Code) (m n seed : ℕ) → IsGoodCode request code → m ≡ code.modulus → n ≡ code.size → sample_vector m n seed ≡ sample_vector request.modulus request.size seed
 sample_is request code m n seed good modulus size =
     ap₂ (λ k l. sample_vector k l seed) (modulus ∙ ap (λ (k : Code). k.modulus) good.2 ∙ good.1.2.good.header.modulus) (size ∙ ap (λ (k : Code). k.size) good.2 ∙ good.1.2.good.header.size)
 
-sample_fits : (request : TransformRequest) (seed : ℕ) → IsRequestInRange request → IsVector request (sample_vector (modulus_of request) (size_of request) seed)
+sample_fits : (request : Request) (seed : ℕ) → IsInRange request → IsVector request (sample_vector request.modulus request.size seed)
 sample_fits request seed in_range = record {
-  size = length-list_below (size_of request) (λ i. state_after (i + 1) seed % modulus_of request);
-  residues = sample_below (modulus_of request) (size_of request) seed (limits request in_range).modulus;
+  size = length-list_below request.size (λ i. state_after (i + 1) seed % request.modulus);
+  residues = sample_below request.modulus request.size seed (limits request in_range).modulus;
 }
 
 -- the operations of all, where a multiplication counts as several
@@ -100,63 +99,63 @@ sum-weighted weight (suc n) f =
     more-weighted : (more o m p n : ℕ) → o + more * m + (p + more * n) ≡ o + p + more * (m + n)
     more-weighted more o m p n = omega arith
 
--- all processors together have executed exactly what the chosen trees cost
-pub costs : (request : TransformRequest) (code after : Code) (vector turns : List ℕ) (state : State) (counts : Counts) → (good : IsGoodCode request code) → IsRequestInRange request → after ≡ code → state ≡ runs code vector turns
+-- all processors together have executed exactly what the chosen tree costs
+pub costs : (request : Request) (code after : Code) (vector turns : List ℕ) (state : State) (counts : Counts) → (good : IsGoodCode request code) → IsInRange request → after ≡ code → state ≡ runs code vector turns
     → counts.operations ≡ sum_below after.procs (λ q. (counts_so_far after state q).operations)
     → counts.muls ≡ sum_below after.procs (λ q. (counts_so_far after state q).muls)
-    → weighted (weight_of request) counts ≡ cost_of request good.1.0
+    → weighted request.weight counts ≡ whole_cost request good.1.0
 costs request code after vector turns state counts good in_range same ran operations muls =
     let program = good.0 in
     let is : IsCode code = subst IsCode (sym good.2) (code_is (plain_program program)) in
     let apart : (phase : ℕ) → IsApart code phase = λ phase. subst (λ (k : Code). IsApart k phase) (sym good.2) (good.1.2.good.apart phase) in
     let whole : (q : ℕ) → counts_so_far code state q ≡ whole_counts code q = λ q. ap (λ s. counts_so_far code s q) ran ∙ counts_of_runs code is vector turns q in
     let some : 0 < (code_of program).procs = omega (arith, good.1.2.good.header.procs, (limits request in_range).procs) in
-    let share : (q : ℕ) → q < (code_of program).procs → (code_of program).procs * weighted (weight_of request) (whole_counts (code_of program) q) ≡ cost_of request good.1.0 =
-    λ q below. ap (λ n. n * weighted (weight_of request) (whole_counts (code_of program) q)) good.1.2.good.header.procs ∙ good.1.2.good.operations q (subst (λ n. q < n) good.1.2.good.header.procs below) in
-    ap₂ (λ o m. o + (weight_of request - 1) * m) operations muls
-    ∙ sym (sum-weighted (weight_of request) after.procs (λ q. counts_so_far after state q))
-    ∙ ap (λ (k : Code). sum_below k.procs (λ q. weighted (weight_of request) (counts_so_far k state q))) same
-    ∙ sum_below-same code.procs _ _ (λ q _. ap (weighted (weight_of request)) (whole q))
-    ∙ ap (λ (k : Code). sum_below k.procs (λ q. weighted (weight_of request) (whole_counts k q))) good.2
-    ∙ whole-of (code_of program).procs (cost_of request good.1.0) (λ q. weighted (weight_of request) (whole_counts (code_of program) q)) some share
+    let share : (q : ℕ) → q < (code_of program).procs → (code_of program).procs * weighted request.weight (whole_counts (code_of program) q) ≡ whole_cost request good.1.0 =
+    λ q below. ap (λ n. n * weighted request.weight (whole_counts (code_of program) q)) good.1.2.good.header.procs ∙ good.1.2.good.operations q (subst (λ n. q < n) good.1.2.good.header.procs below) in
+    ap₂ (λ o m. o + (request.weight - 1) * m) operations muls
+    ∙ sym (sum-weighted request.weight after.procs (λ q. counts_so_far after state q))
+    ∙ ap (λ (k : Code). sum_below k.procs (λ q. weighted request.weight (counts_so_far k state q))) same
+    ∙ sum_below-same code.procs _ _ (λ q _. ap (weighted request.weight) (whole q))
+    ∙ ap (λ (k : Code). sum_below k.procs (λ q. weighted request.weight (whole_counts k q))) good.2
+    ∙ whole-of (code_of program).procs (whole_cost request good.1.0) (λ q. weighted request.weight (whole_counts (code_of program) q)) some share
 
 -- which is counted in 64 bits
-pub cost_fits : (request : TransformRequest) (code : Code) (n : ℕ) → (good : IsGoodCode request code) → IsRequestInRange request → n ≡ cost_of request good.1.0 → n < 2 ^ 64
-cost_fits request code n good in_range is = let within = within_budget request good.1.0 good.1.1 in let high = (limits request in_range).budget in omega arith
+pub cost_fits : (request : Request) (code : Code) (n : ℕ) → (good : IsGoodCode request code) → IsInRange request → n ≡ whole_cost request good.1.0 → n < 2 ^ 64
+cost_fits request code n good in_range is = let within = good.1.1.2 in let high = (limits request in_range).budget in omega arith
 
 -- what the parts of a sample come to
-pub sampled : (request : TransformRequest) (code after : Code) (plan : Plan) (m n seed : ℕ) (vector y : List ℕ) (state : State) (sum : ℕ) (counts : Counts) (text : List ℕ)
-    → IsGoodCode request code → IsRequestInRange request → HasNoStranger plan (procs_of request)
+pub sampled : (request : Request) (code after : Code) (plan : Plan) (m n seed : ℕ) (vector y : List ℕ) (state : State) (sum : ℕ) (counts : Counts) (text : List ℕ)
+    → IsGoodCode request code → IsInRange request → HasNoStranger plan request.procs
     → after ≡ code → m ≡ code.modulus → n ≡ code.size → vector ≡ sample_vector m n seed
     → y ≡ results code vector (turns_of plan code.procs) → state ≡ runs code vector (turns_of plan code.procs) → sum ≡ weighted_sum m y
     → counts.operations ≡ sum_below after.procs (λ q. (counts_so_far after state q).operations)
     → counts.muls ≡ sum_below after.procs (λ q. (counts_so_far after state q).muls)
     → counts.loads ≡ sum_below after.procs (λ q. (counts_so_far after state q).loads)
     → counts.stores ≡ sum_below after.procs (λ q. (counts_so_far after state q).stores)
-    → text ≡ sample_text sum (weighted (weight_of request) counts) counts.loads counts.stores
+    → text ≡ sample_text sum (weighted request.weight counts) counts.loads counts.stores
     → IsSampleText request seed text
 sampled request code after plan m n seed vector y state sum counts text good in_range none same modulus size v run ran s operations muls loads stores t =
     let turns = turns_of plan code.procs in
     let program = good.0 in
     let is : IsCode code = subst IsCode (sym good.2) (code_is (plain_program program)) in
     let apart : (phase : ℕ) → IsApart code phase = λ phase. subst (λ (k : Code). IsApart k phase) (sym good.2) (good.1.2.good.apart phase) in
-    let here : vector ≡ sample_vector (modulus_of request) (size_of request) seed = v ∙ sample_is request code m n seed good modulus size in
+    let here : vector ≡ sample_vector request.modulus request.size seed = v ∙ sample_is request code m n seed good modulus size in
     let fits : IsVector request vector = subst (IsVector request) (sym here) (sample_fits request seed in_range) in
     let times : y ≡ product request vector = run ∙ ap (λ k. results k vector turns) good.2 ∙ good.1.2.good.product vector turns fits (good_turns plan request code good in_range none) in
-    let of_request : m ≡ modulus_of request = modulus ∙ ap (λ (k : Code). k.modulus) good.2 ∙ good.1.2.good.header.modulus in
+    let of_request : m ≡ request.modulus = modulus ∙ ap (λ (k : Code). k.modulus) good.2 ∙ good.1.2.good.header.modulus in
     let whole : (q : ℕ) → counts_so_far code state q ≡ whole_counts code q = λ q. ap (λ s. counts_so_far code s q) ran ∙ counts_of_runs code is vector turns q in
     let sum_is = s ∙ ap₂ weighted_sum of_request (times ∙ ap (product request) here) in
-    let operations_is : weighted (weight_of request) counts ≡ cost_of request good.1.0 = costs request code after vector turns state counts good in_range same ran operations muls in
-    let loads_is : counts.loads ≡ loads_of request good.1.0 =
+    let operations_is : weighted request.weight counts ≡ whole_cost request good.1.0 = costs request code after vector turns state counts good in_range same ran operations muls in
+    let loads_is : counts.loads ≡ whole_loads request good.1.0 =
     loads ∙ ap (λ (k : Code). sum_below k.procs (λ q. (counts_so_far k state q).loads)) same
     ∙ sum_below-same code.procs _ _ (λ q _. ap (λ (c : Counts). c.loads) (whole q)) ∙ ap (λ (k : Code). sum_below k.procs (λ q. (whole_counts k q).loads)) good.2
-    ∙ ap (λ n. sum_below n (λ q. (whole_counts (code_of program) q).loads)) good.1.2.good.header.procs ∙ lean_loads request good.1.0 program good.1.2.lean in
-    let stores_is : counts.stores ≡ stores_of request good.1.0 =
+    ∙ ap (λ n. sum_below n (λ q. (whole_counts (code_of program) q).loads)) good.1.2.good.header.procs ∙ good.1.2.lean.loads in
+    let stores_is : counts.stores ≡ whole_stores request good.1.0 =
     stores ∙ ap (λ (k : Code). sum_below k.procs (λ q. (counts_so_far k state q).stores)) same
     ∙ sum_below-same code.procs _ _ (λ q _. ap (λ (c : Counts). c.stores) (whole q)) ∙ ap (λ (k : Code). sum_below k.procs (λ q. (whole_counts k q).stores)) good.2
-    ∙ ap (λ n. sum_below n (λ q. (whole_counts (code_of program) q).stores)) good.1.2.good.header.procs ∙ lean_stores request good.1.0 program good.1.2.lean in
+    ∙ ap (λ n. sum_below n (λ q. (whole_counts (code_of program) q).stores)) good.1.2.good.header.procs ∙ good.1.2.lean.stores in
     let text_is =
-    t ∙ ap (λ k. sample_text k (weighted (weight_of request) counts) counts.loads counts.stores) sum_is
-    ∙ ap (λ k. sample_text (weighted_sum (modulus_of request) (product request (sample_vector (modulus_of request) (size_of request) seed))) k counts.loads counts.stores) operations_is
-    ∙ ap₂ (sample_text (weighted_sum (modulus_of request) (product request (sample_vector (modulus_of request) (size_of request) seed))) (cost_of request good.1.0)) loads_is stores_is in
+    t ∙ ap (λ k. sample_text k (weighted request.weight counts) counts.loads counts.stores) sum_is
+    ∙ ap (λ k. sample_text (sample_sum request seed) k counts.loads counts.stores) operations_is
+    ∙ ap₂ (sample_text (sample_sum request seed) (whole_cost request good.1.0)) loads_is stores_is in
     (good.1.0, good.1.1, text_is)

@@ -1,10 +1,10 @@
 -- What `check` answers for the bytes behind the first line.
 use Rattle.std.specs.Prelude.{◌≡◌, ◌⊎◌, ℕ, ◌<◌, ◌≤◌, List, [], ◌∷◌, length, codes, decimal}
 use Rattle.std.specs.List.{concat}
-use Rattle.transform_requests.specs.declared.TransformRequest.{TransformRequest}
+use Rattle.matrix_meaning.specs.declared.Request.{Request}
 use Rattle.plan_cert.specs.declared.verdict.Verdict.{Verdict}
 use Rattle.plan_cert.specs.declared.verdict.Verdict.TheVariants as verdict
-use Rattle.transform_certs.specs.Judged.{IsVerdict}
+use Rattle.plan_cert.specs.Verdict.{IsVerdict}
 use Rattle.spiral_status.specs.declared.status.Status.{Status}
 use Rattle.spiral_status.specs.declared.status.Status.TheVariants.{Success, TooLong, Unread, Wrong}
 
@@ -26,7 +26,7 @@ verdict_text (verdict.Least cost) = least_line cost
 verdict_text _ = []
 
 -- the status and the text that the bytes' verdict calls for
-abbrev pub IsJudged : TransformRequest → List ℕ → Status → List ℕ → Type 0
+abbrev pub IsJudged : Request → List ℕ → Status → List ℕ → Type 0
 IsJudged request bytes status text = (found : Verdict) × IsVerdict request bytes found × (status ≡ status_of_verdict found) × (text ≡ verdict_text found)
 
 -- bytes that are no certificate by their number alone
@@ -34,5 +34,5 @@ abbrev pub IsOverlong : List ℕ → Status → List ℕ → Type 0
 IsOverlong bytes status text = (certificate_limit < length bytes) × (status ≡ TooLong certificate_limit) × (text ≡ [])
 
 -- the status and the text for the bytes
-abbrev pub IsChecked : TransformRequest → List ℕ → Status → List ℕ → Type 0
+abbrev pub IsChecked : Request → List ℕ → Status → List ℕ → Type 0
 IsChecked request bytes status text = IsOverlong bytes status text ⊎ ((length bytes ≤ certificate_limit) × IsJudged request bytes status text)

@@ -1,9 +1,10 @@
 pub mod Checked
 pub mod Performed
+pub mod PlanText
 pub mod Sample
 pub mod Settled
 pub mod Traced
-pub use Rattle.transform_code.specs.Good
-pub use Rattle.transform_code.specs.Lean
-pub use Rattle.transform_code.specs.Letters
-pub use Rattle.transform_code.specs.Planned
+pub use Rattle.generate.specs.Good
+pub use Rattle.generate.specs.Lean
+pub use Rattle.generate.specs.Letters
+pub use Rattle.generate.specs.Planned

@@ -1,7 +1,7 @@
 // The command that judges a certificate.
 ghost use Rattle.std.specs.Prelude.{◌≡◌, ◌-◌, ◌≤◌};
 ghost use Rattle.std.specs.Io.KnownBytes.{IsAtEnd};
-ghost use Rattle.transform_requests.specs.Range.{IsRequestInRange};
+ghost use Rattle.matrix_meaning.specs.Valid.{IsInRange};
 ghost use Rattle.io_edge.specs.Faults.{HasCause};
 ghost use Rattle.io_edge.specs.Feed.{to_come, limit};
 ghost use Rattle.io_edge.specs.Taken.{WritesAll};
@@ -11,15 +11,16 @@ ghost use Rattle.spiral_input.specs.Ends.{EndsCleanly};
 ghost use Rattle.spiral_input.specs.Outcomes.{ToldMeets};
 ghost use Rattle.request_commands.specs.Performed.{request_outcomes};
 
+use generate::admit;
 use input_rest::read_rest;
 use io_edge::{Feed, Sink, Source, WriteFault, write_parts};
 use itoa::Buffer;
+use matrix_meaning::Request;
+use plan_cert::{Verdict, check_cert};
 use spiral_status::{CERTIFICATE_LIMIT, Status};
 use spiral_words::Command;
 use std::alloc::Global;
-use transform_certs::{Verdict, check_certificate};
-use transform_code::admit_request;
-use transform_requests::TransformRequest;
+use tree_model::Ctx;
 
 // Writes the line of a right certificate.
 fn write_least<O: Sink>(output: &mut O, cost: u64) -> Result<(), WriteFault>
@@ -33,12 +34,12 @@ fn write_least<O: Sink>(output: &mut O, cost: u64) -> Result<(), WriteFault>
 /// Reads the rest of the input, and says of it as a certificate what is to be said.
 pub(crate) fn check<I: Source, O: Sink>(
     alloc: Global,
-    request: &TransformRequest,
+    request: &Request,
     feed: &mut Feed,
     input: &mut I,
     output: &mut O,
 ) -> Result<(), Status>
-    requires in_range { IsRequestInRange request.now }
+    requires in_range { IsInRange request.now }
     requires line { feed.old.taken ≤ 257 }
     ensures told { ToldMeets (request_outcomes Command.Check request.now (limit - feed.old.taken))
         (to_come feed.old (I.left input.old)) (to_come feed.new (I.left input.new))
@@ -49,9 +50,9 @@ pub(crate) fn check<I: Source, O: Sink>(
         (I.faults input.old) (I.faults input.new) (O.faults output.old) (O.faults output.new)
         (O.taken output.old) (O.taken output.new) }
 {
-    admit_request(request)?;
+    admit(request)?;
     let text = read_rest(alloc, feed, input, CERTIFICATE_LIMIT)?;
-    match check_certificate(alloc, request, &text)? {
+    match check_cert(alloc, &Ctx::new(request), &text)? {
         Verdict::Least(cost) => {
             write_least(output, cost)?;
             Ok(())

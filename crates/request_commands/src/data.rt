@@ -1,8 +1,7 @@
 // The commands that go over the vectors of the data.
 ghost use Rattle.std.specs.Prelude.{◌≡◌, ◌-◌, ◌≤◌};
 ghost use Rattle.std.specs.Io.KnownBytes.{IsAtEnd};
-ghost use Rattle.transform_requests.specs.Fields.{procs_of};
-ghost use Rattle.transform_requests.specs.Range.{IsRequestInRange};
+ghost use Rattle.matrix_meaning.specs.Valid.{IsInRange};
 ghost use Rattle.io_edge.specs.Feed.{to_come, limit};
 ghost use Rattle.spiral_input.specs.Commands.{NamesNoStranger};
 ghost use Rattle.spiral_input.specs.Stage.{status_of};
@@ -15,24 +14,24 @@ use crate::events::{run_events, trace_events};
 use crate::texts::{engine, traced_engine};
 use buffer_machine::Events;
 use io_edge::{Feed, Sink, Source, write_all};
+use matrix_meaning::Request;
 use request_text::Schedule;
 use runs::run_stream;
 use spiral_status::Status;
 use spiral_words::{Command, Order};
 use std::alloc::Global;
-use transform_requests::TransformRequest;
 
 /// Writes the line of each vector's transform.
 pub(crate) fn run<I: Source, O: Sink>(
     alloc: Global,
-    request: &TransformRequest,
+    request: &Request,
     order: &Order,
     feed: &mut Feed,
     input: &mut I,
     output: &mut O,
 ) -> Result<(), Status>
-    requires in_range { IsRequestInRange request.now }
-    requires turns { NamesNoStranger (Command.Run order.now) (procs_of request.now) }
+    requires in_range { IsInRange request.now }
+    requires turns { NamesNoStranger (Command.Run order.now) request.now.procs }
     requires within { feed.old.taken ≤ limit }
     ensures told { ToldMeets
         (request_outcomes (Command.Run order.now) request.now (limit - feed.old.taken))
@@ -56,14 +55,14 @@ pub(crate) fn run<I: Source, O: Sink>(
 // Runs the machine without store buffers.
 fn run_turns<I: Source, O: Sink>(
     alloc: Global,
-    request: &TransformRequest,
+    request: &Request,
     schedule: &Schedule,
     feed: &mut Feed,
     input: &mut I,
     output: &mut O,
 ) -> Result<(), Status>
-    requires in_range { IsRequestInRange request.now }
-    requires turns { HasNoStranger schedule.now (procs_of request.now) }
+    requires in_range { IsInRange request.now }
+    requires turns { HasNoStranger schedule.now request.now.procs }
     requires within { feed.old.taken ≤ limit }
     ensures told { ToldMeets
         (request_outcomes (Command.Run (Order.Turns schedule.now)) request.now
@@ -92,14 +91,14 @@ fn run_turns<I: Source, O: Sink>(
 /// Writes the listing, and then for each vector the lines of its turns and drains and the line of its transform.
 pub(crate) fn trace<I: Source, O: Sink>(
     alloc: Global,
-    request: &TransformRequest,
+    request: &Request,
     order: &Order,
     feed: &mut Feed,
     input: &mut I,
     output: &mut O,
 ) -> Result<(), Status>
-    requires in_range { IsRequestInRange request.now }
-    requires turns { NamesNoStranger (Command.Trace order.now) (procs_of request.now) }
+    requires in_range { IsInRange request.now }
+    requires turns { NamesNoStranger (Command.Trace order.now) request.now.procs }
     requires within { feed.old.taken ≤ limit }
     ensures told { ToldMeets
         (request_outcomes (Command.Trace order.now) request.now (limit - feed.old.taken))
@@ -123,14 +122,14 @@ pub(crate) fn trace<I: Source, O: Sink>(
 // Traces the machine without store buffers.
 fn trace_turns<I: Source, O: Sink>(
     alloc: Global,
-    request: &TransformRequest,
+    request: &Request,
     schedule: &Schedule,
     feed: &mut Feed,
     input: &mut I,
     output: &mut O,
 ) -> Result<(), Status>
-    requires in_range { IsRequestInRange request.now }
-    requires turns { HasNoStranger schedule.now (procs_of request.now) }
+    requires in_range { IsInRange request.now }
+    requires turns { HasNoStranger schedule.now request.now.procs }
     requires within { feed.old.taken ≤ limit }
     ensures told { ToldMeets
         (request_outcomes (Command.Trace (Order.Turns schedule.now)) request.now

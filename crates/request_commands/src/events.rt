@@ -1,8 +1,7 @@
 // The commands that go over the vectors of the data, with store buffers.
 ghost use Rattle.std.specs.Prelude.{◌≡◌, ◌-◌, ◌<◌, ◌≤◌, IfOk, IfErr, OnOk, vec_len};
 ghost use Rattle.std.specs.Io.KnownBytes.{IsAtEnd};
-ghost use Rattle.transform_requests.specs.Fields.{procs_of};
-ghost use Rattle.transform_requests.specs.Range.{IsRequestInRange};
+ghost use Rattle.matrix_meaning.specs.Valid.{IsInRange};
 ghost use Rattle.io_edge.specs.Feed.{to_come, limit};
 ghost use Rattle.buffer_machine.specs.Listed.{HasNoStranger};
 ghost use Rattle.request_commands.specs.Traced.{order_of};
@@ -18,18 +17,15 @@ use crate::texts::good_product;
 use buffer_machine::{BufMachine, Events};
 use io_edge::{Feed, Sink, Source, write_all};
 use listing_text::print_listing;
+use matrix_meaning::Request;
 use runs::run_buffered;
 use spiral_status::Status;
 use spiral_words::Command;
 use std::alloc::Global;
-use transform_requests::TransformRequest;
 
 // A machine with store buffers and a good program for the request, and room for a vector.
-fn buffered_engine(
-    alloc: Global,
-    request: &TransformRequest,
-) -> Result<(BufMachine, Vec<u64>), Status>
-    requires in_range { IsRequestInRange request.now }
+fn buffered_engine(alloc: Global, request: &Request) -> Result<(BufMachine, Vec<u64>), Status>
+    requires in_range { IsInRange request.now }
     ensures affordable { OnOk result (IsAffordable request.now) }
     ensures machine { IfOk result (λ made. IsGoodCode request.now made.0.code) }
     ensures room { IfOk result (λ made. vec_len made.1 ≡ made.0.code.size) }
@@ -38,7 +34,7 @@ fn buffered_engine(
     ensures refusal { IfErr result IsRefusal }
 {
     let product = good_product(alloc, request)?;
-    let vector = vec![in alloc; 0; request.size() as usize]?;
+    let vector = vec![in alloc; 0; request.size as usize]?;
     let machine = BufMachine::new(alloc, &product.program)?;
     Ok((machine, vector))
 }
@@ -46,9 +42,9 @@ fn buffered_engine(
 // The listing of a good program for the request, a machine with store buffers and the program, and room for a vector.
 fn traced_buffered_engine(
     alloc: Global,
-    request: &TransformRequest,
+    request: &Request,
 ) -> Result<(Vec<u8>, BufMachine, Vec<u64>), Status>
-    requires in_range { IsRequestInRange request.now }
+    requires in_range { IsInRange request.now }
     ensures program { IfOk result (λ made. IsTraced request.now made.0.items made.1.code) }
     ensures room { IfOk result (λ made. vec_len made.2 ≡ made.1.code.size) }
     ensures some { IfOk result (λ made. 0 < vec_len made.2) }
@@ -57,7 +53,7 @@ fn traced_buffered_engine(
 {
     let product = good_product(alloc, request)?;
     let text = print_listing(alloc, &product.program)?;
-    let vector = vec![in alloc; 0; request.size() as usize]?;
+    let vector = vec![in alloc; 0; request.size as usize]?;
     let machine = BufMachine::new(alloc, &product.program)?;
     Ok((text, machine, vector))
 }
@@ -65,14 +61,14 @@ fn traced_buffered_engine(
 /// Runs the machine with store buffers.
 pub(crate) fn run_events<I: Source, O: Sink>(
     alloc: Global,
-    request: &TransformRequest,
+    request: &Request,
     events: Events,
     feed: &mut Feed,
     input: &mut I,
     output: &mut O,
 ) -> Result<(), Status>
-    requires in_range { IsRequestInRange request.now }
-    requires turns { HasNoStranger events (procs_of request.now) }
+    requires in_range { IsInRange request.now }
+    requires turns { HasNoStranger events request.now.procs }
     requires within { feed.old.taken ≤ limit }
     ensures told { ToldMeets
         (request_outcomes (Command.Run (order_of events.entry)) request.now
@@ -101,14 +97,14 @@ pub(crate) fn run_events<I: Source, O: Sink>(
 /// Traces the machine with store buffers.
 pub(crate) fn trace_events<I: Source, O: Sink>(
     alloc: Global,
-    request: &TransformRequest,
+    request: &Request,
     events: Events,
     feed: &mut Feed,
     input: &mut I,
     output: &mut O,
 ) -> Result<(), Status>
-    requires in_range { IsRequestInRange request.now }
-    requires turns { HasNoStranger events (procs_of request.now) }
+    requires in_range { IsInRange request.now }
+    requires turns { HasNoStranger events request.now.procs }
     requires within { feed.old.taken ≤ limit }
     ensures told { ToldMeets
         (request_outcomes (Command.Trace (order_of events.entry)) request.now

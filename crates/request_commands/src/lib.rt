@@ -3,8 +3,7 @@
 
 ghost use Rattle.std.specs.Prelude.{◌≡◌, ◌≢◌, ◌-◌, ◌≤◌, ℕ, List, [], Ok, true};
 ghost use Rattle.std.specs.Io.KnownBytes.{Appends, IsAtEnd};
-ghost use Rattle.transform_requests.specs.Fields.{procs_of};
-ghost use Rattle.transform_requests.specs.Range.{IsRequestInRange};
+ghost use Rattle.matrix_meaning.specs.Valid.{IsInRange};
 ghost use Rattle.io_edge.specs.Faults.{Reports};
 ghost use Rattle.io_edge.specs.Feed.{to_come, limit};
 ghost use Rattle.spiral_input.specs.Commands.{reads_rest, takes_request, has_text, NamesNoStranger};
@@ -22,21 +21,21 @@ mod texts;
 
 use data::{run, trace};
 use io_edge::{Feed, Sink, Source, write_all};
+use matrix_meaning::Request;
 use spiral_status::Status;
 use spiral_words::Command;
 use std::alloc::Global;
 use texts::text_of;
-use transform_requests::TransformRequest;
 
 // Writes the text of a command that needs no data.
 fn write_text<O: Sink>(
     alloc: Global,
     command: &Command,
-    request: &TransformRequest,
+    request: &Request,
     output: &mut O,
 ) -> Result<(), Status>
-    requires in_range { IsRequestInRange request.now }
-    requires turns { NamesNoStranger command.now (procs_of request.now) }
+    requires in_range { IsInRange request.now }
+    requires turns { NamesNoStranger command.now request.now.procs }
     requires textual { has_text command.now ≡ true }
     ensures told { (room : ℕ) (bytes : List ℕ) →
         Meets (request_outcomes command.now request.now room) bytes (Some bytes)
@@ -57,13 +56,13 @@ fn write_text<O: Sink>(
 pub fn perform<I: Source, O: Sink>(
     alloc: Global,
     command: &Command,
-    request: &TransformRequest,
+    request: &Request,
     feed: &mut Feed,
     input: &mut I,
     output: &mut O,
 ) -> Result<(), Status>
-    requires in_range { IsRequestInRange request.now }
-    requires turns { NamesNoStranger command.now (procs_of request.now) }
+    requires in_range { IsInRange request.now }
+    requires turns { NamesNoStranger command.now request.now.procs }
     requires line { feed.old.taken ≤ 257 }
     requires request { takes_request command.now ≡ true }
     ensures told { ToldMeets (request_outcomes command.now request.now (limit - feed.old.taken))

@@ -1,7 +1,6 @@
 // One vector of the generator: the sum of its transform, and what a run on it counts.
 ghost use Rattle.std.specs.Prelude.{◌≡◌, ◌<◌, ◌≤◌, ◌^◌, length, Ok, IfOk, IfErr, OnOk};
-ghost use Rattle.transform_requests.specs.Fields.{procs_of, weight_of};
-ghost use Rattle.transform_requests.specs.Range.{IsRequestInRange};
+ghost use Rattle.matrix_meaning.specs.Valid.{IsInRange};
 ghost use Rattle.icode.specs.Machine.{weighted};
 ghost use Rattle.request_commands.specs.Settled.{IsRefused, IsAffordable, IsSampleText};
 ghost use Rattle.request_commands.specs.Sample.{AreCountable, AreTotals};
@@ -13,6 +12,7 @@ ghost use Rattle.runs.specs.Stream.{HasNoStranger};
 use crate::texts::engine;
 use icode::action::Counts;
 use listing_text::put;
+use matrix_meaning::Request;
 use memory::NoMemory;
 use par_machine::Machine;
 use request_text::{Schedule, next_state};
@@ -20,7 +20,6 @@ use ring_mod::Modulus;
 use runs::transform;
 use spiral_status::Status;
 use std::alloc::Global;
-use transform_requests::TransformRequest;
 
 // Puts the vector of the seed into the slice.
 fn fill(vector: &mut [u64], modulus: Modulus, seed: u64)
@@ -79,16 +78,6 @@ fn weighted(counts: &Counts, weight: u64) -> u64
     counts.operations + (weight - 1) * counts.muls
 }
 
-// As how many operations a multiplication counts.
-fn weight_of(request: &TransformRequest) -> u64
-    ensures { result ≡ weight_of request.now }
-{
-    match request {
-        TransformRequest::One(request) => request.weight,
-        TransformRequest::Several(request) => request.weight,
-    }
-}
-
 fn sample_text(
     alloc: Global,
     sum: u64,
@@ -110,12 +99,12 @@ fn sample_text(
 /// The sum of the transform of the seed's vector, run under the schedule, and what the run counts.
 pub(crate) fn sample(
     alloc: Global,
-    request: &TransformRequest,
+    request: &Request,
     seed: u64,
     schedule: &Schedule,
 ) -> Result<Vec<u8>, Status>
-    requires in_range { IsRequestInRange request.now }
-    requires turns { HasNoStranger schedule.now (procs_of request.now) }
+    requires in_range { IsInRange request.now }
+    requires turns { HasNoStranger schedule.now request.now.procs }
     ensures affordable { OnOk result (IsAffordable request.now) }
     ensures text { IfOk result (λ text. IsSampleText request.now seed text.items) }
     ensures refused { IfErr result (λ status. IsDefined status → IsRefused request.now status) }
@@ -127,7 +116,7 @@ pub(crate) fn sample(
     transform(&mut machine, schedule, &mut vector);
     let sum = weighted_sum(modulus, &vector);
     let counts = all_counts(&machine);
-    let operations = weighted(&counts, weight_of(request));
+    let operations = weighted(&counts, request.weight);
     let text = sample_text(alloc, sum, operations, &counts)?;
     Ok(text)
 }

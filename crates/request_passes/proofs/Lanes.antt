@@ -7,7 +7,7 @@ use Rattle.matrix_meaning.specs.declared.Request.{Request}
 use Rattle.matrix_meaning.specs.Valid.{IsValid}
 use Rattle.tree_model.specs.Admissible.{Fits, IsAdmissible, RootFits}
 use Rattle.tree_model.specs.Breakdown.{Breakdown, leaf, node, size_of}
-use Rattle.tree_model.specs.declared.tree.Rule.TheVariants.{Gt, Ct, Split}
+use Rattle.tree_model.specs.declared.tree.Rule.TheVariants.{Gt, Ct, Split, Dim}
 
 not-plain : (procs lanes : ℕ) → 1 < lanes → (procs == 1 && lanes == 1) ≡ false
 not-plain procs lanes several = grind (arith, nat_tests)
@@ -29,6 +29,7 @@ module _ (c : Request) (several : 1 < c.lanes) where
   root-lanes (node Gt a b) f = absurd f
   root-lanes (node Ct a b) f = fits-lanes (size_of a) (size_of b) f
   root-lanes (node Split a b) f = fits-lanes (size_of a) (size_of b) f
+  root-lanes (node Dim a b) f = fits-lanes (size_of a) (size_of b) f
 
 pub lanes-le : (c : Request) (t : Breakdown) → IsValid c → IsAdmissible c t → c.lanes ≤ c.size
 lanes-le c t valid h =

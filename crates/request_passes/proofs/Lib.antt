@@ -1,5 +1,4 @@
-pub mod Small
-pub mod Lanes
-pub mod Counting
-pub mod Directed
+mod Closing
+mod Lanes
 pub mod Requests
+pub mod Small

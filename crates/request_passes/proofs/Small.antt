@@ -25,7 +25,7 @@ use Rattle.steps.specs.Targets.{target_of}
 use Rattle.steps.specs.declared.target.Target.{Target}
 use Rattle.tree_model.specs.Admissible.{IsAdmissible}
 use Rattle.tree_model.specs.Breakdown.{Breakdown}
-use Rattle.tree_model.specs.declared.tree.Rule.TheVariants.{Gt, Ct, Split}
+use Rattle.tree_model.specs.declared.tree.Rule.TheVariants.{Gt, Ct, Split, Dim}
 use Rattle.tree_passes.specs.Laws.{machine_of}
 use Rattle.tree_passes.proofs.Bounds.{actions-few}
 use Rattle.tree_passes.proofs.Few.{few_merged}
@@ -64,6 +64,10 @@ tiled-plain (by Ct root a b) =
     plain-after (passes_of (layout_size a) b) (tiles true ∷ passes_of (layout_size b) a)
     (plain-behind (tiles true) (passes_of (layout_size b) a) (passes-plain (layout_size b) a))
 tiled-plain (by Split root a b) =
+    plain-behind (tiles false) (passes_of (layout_size a) b ++ (tiles false ∷ passes_of (layout_size b) a))
+    (plain-after (passes_of (layout_size a) b) (tiles false ∷ passes_of (layout_size b) a)
+    (plain-behind (tiles false) (passes_of (layout_size b) a) (passes-plain (layout_size b) a)))
+tiled-plain (by Dim root a b) =
     plain-behind (tiles false) (passes_of (layout_size a) b ++ (tiles false ∷ passes_of (layout_size b) a))
     (plain-after (passes_of (layout_size a) b) (tiles false ∷ passes_of (layout_size b) a)
     (plain-behind (tiles false) (passes_of (layout_size b) a) (passes-plain (layout_size b) a)))

@@ -1,28 +1,27 @@
--- What the programs of a request's merged passes do.
-use Rattle.icode.specs.Actions.{plain_code}
-use Rattle.icode.specs.Plain.{PlainProgram}
-use Rattle.matrix_meaning.specs.Asked.{asked_transform}
+-- What the merged passes of a request do and count, and that a program can be made of them.
+use Rattle.std.specs.Prelude.{◌≡◌, ℕ, List}
+use Rattle.dimension_passes.specs.Laws.{CountsRequest}
+use Rattle.matrix_meaning.specs.Asked.{asked_of}
 use Rattle.matrix_meaning.specs.declared.Request.{Request}
 use Rattle.matrix_meaning.specs.Valid.{IsValid}
-use Rattle.pass_programs.specs.Contract.{CanProgram, Performs}
+use Rattle.pass_programs.specs.Contract.{CanProgram}
+use Rattle.passes.specs.Good.{IsVector}
+use Rattle.passes.specs.Merged.{merged_on}
 use Rattle.request_passes.specs.Merged.{request_merged}
-use Rattle.tree_model.specs.Admissible.{IsAdmissible}
 use Rattle.tree_model.specs.Breakdown.{Breakdown}
-use Rattle.tree_model.specs.Cost.{extra_cost, whole_cost}
-use Rattle.tree_passes.specs.Computes.{Computes}
+use Rattle.tree_model.specs.Chosen.{IsWholeTree}
 use Rattle.tree_passes.specs.Laws.{machine_of}
-use Rattle.tree_passes.specs.Lean.{IsLeanCode}
 
 -- a program can be made of them
 abbrev pub RequestsCanProgram : Type 0
-RequestsCanProgram = (r : Request) (t : Breakdown) → IsValid r → IsAdmissible r t → CanProgram (machine_of r) (request_merged r t)
+RequestsCanProgram = (r : Request) (t : Breakdown) → IsValid r → IsWholeTree r t → CanProgram (machine_of r) (request_merged r t)
 
--- it does what the request asks for, for the whole cost
-abbrev pub RequestsCompute : Type 0
-RequestsCompute = (r : Request) (t : Breakdown) (p : PlainProgram) → IsValid r → IsAdmissible r t → Performs (machine_of r) (request_merged r t) p →
-    Computes r t (asked_transform r) (whole_cost r t) p
+-- they do what the request asks for
+abbrev pub RequestsMean : Type 0
+RequestsMean =
+    (r : Request) (t : Breakdown) (x : List ℕ) → IsValid r → IsWholeTree r t → IsVector r.modulus r.size x →
+    merged_on r.modulus (request_merged r t) x ≡ asked_of r x
 
--- and is lean
-abbrev pub RequestsAreLean : Type 0
-RequestsAreLean = (r : Request) (t : Breakdown) (p : PlainProgram) → IsValid r → IsAdmissible r t → Performs (machine_of r) (request_merged r t) p →
-    IsLeanCode r t (extra_cost r) (plain_code p)
+-- pass by pass they count what the cost model does
+abbrev pub RequestsCount : Type 0
+RequestsCount = (r : Request) (t : Breakdown) → IsValid r → IsWholeTree r t → CountsRequest r t (request_merged r t)

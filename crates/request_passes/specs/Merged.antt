@@ -1,9 +1,10 @@
--- The merged passes of a request.
-use Rattle.formula_lower.specs.Merged.{tree_merged}
-use Rattle.inverse_requests.specs.Inverted.{inverted}
-use Rattle.matrix_meaning.specs.declared.Direction.{Direction}
-use Rattle.matrix_meaning.specs.declared.Direction.TheVariants.{Forward, Inverse}
+-- The merged passes of a request: those of its tree, of which the last divides by the size where the request is an inverse.
+use Rattle.std.specs.Prelude.{ℕ}
+use Rattle.dimension_passes.specs.Merged.{trees_merged}
+use Rattle.matrix_meaning.specs.declared.Kind.{Kind}
+use Rattle.matrix_meaning.specs.declared.Kind.TheVariants.{Dft, Wht, Idft}
 use Rattle.matrix_meaning.specs.declared.Request.{Request}
+use Rattle.matrix_meaning.specs.Parts.{forward_of}
 use Rattle.multiplied_passes.specs.Multiplied.{multiplied}
 use Rattle.multiplied_passes.specs.declared.Pick.TheVariants.{First}
 use Rattle.passes.specs.Merged.{PlainMerged}
@@ -15,14 +16,10 @@ use Rattle.tree_model.specs.Breakdown.{Breakdown}
 abbrev pub division_by_size : Request → PlainFactors
 division_by_size r = repeated (inverse_mod r.modulus r.size) r.size
 
--- the passes by the inverse root, and a division by the size of each item that the last one stores
-abbrev pub inverse_merged : Request → Breakdown → PlainMerged
-inverse_merged r t = multiplied First (division_by_size r) (tree_merged (inverted r) t)
-
--- those of a direction
-abbrev pub directed_merged : Direction → Request → Breakdown → PlainMerged
-directed_merged Forward r t = tree_merged r t
-directed_merged Inverse r t = inverse_merged r t
+abbrev pub closed_merged : Kind → Request → PlainMerged → PlainMerged
+closed_merged Dft r g = g
+closed_merged Wht r g = g
+closed_merged Idft r g = multiplied First (division_by_size r) g
 
 abbrev pub request_merged : Request → Breakdown → PlainMerged
-request_merged r t = directed_merged r.direction r t
+request_merged r t = closed_merged r.kind r (trees_merged (forward_of r) t)

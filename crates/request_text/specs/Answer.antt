@@ -1,23 +1,35 @@
 -- What is answered for a line.
-use Rattle.std.specs.Prelude.{ℕ, List, Result, Ok, Err}
+use Rattle.std.specs.Prelude.{◌≡◌, ℕ, List, Result, Ok, Err}
 use Rattle.matrix_meaning.specs.declared.Request.{Request}
+use Rattle.matrix_meaning.specs.Convolving.{IsConvRequest}
 use Rattle.matrix_meaning.specs.Valid.{IsInRange}
 use Rattle.grammar.specs.Grammar.{IsStuck}
 use Rattle.request_text.specs.declared.fault.RequestFault.{RequestFault}
 use Rattle.request_text.specs.declared.fault.RequestFault.TheVariants.{Syntax, Range, Shape, LanesLine, NotUnit}
+use Rattle.request_text.specs.ConvLine.{conv_line}
+use Rattle.request_text.specs.Limits.{judged, judged_conv}
 use Rattle.request_text.specs.Line.{request_line}
-use Rattle.request_text.specs.Limits.{IsJudged}
 
 -- some request has this line and this first fault
-abbrev pub IsFaultOf : List ℕ → RequestFault → Type 0
-IsFaultOf text fault = (r : Request) × request_line text r × IsJudged r.direction r (Err fault)
+abbrev pub HasFault : (List ℕ → Request → Type 0) → (Request → Result Request RequestFault) → List ℕ → RequestFault →
+    Type 0
+HasFault spells judge text fault = (r : Request) × spells text r × (judge r ≡ Err fault)
 
--- Ok: the line spells the request, which is in range. Syntax: the line spells no request, and the longest front of
--- it with which some spelling begins has this length. Else: it spells a request whose first fault this is.
+-- Ok: the line spells the request, which fits. Syntax: the line spells no request, and the longest front of it with
+-- which some spelling begins has this length. Else: it spells a request whose first fault this is.
+abbrev pub AnswersBy : (List ℕ → Request → Type 0) → (Request → Result Request RequestFault) → (Request → Type 0) →
+    List ℕ → Result Request RequestFault → Type 0
+AnswersBy spells judge Fits text (Ok r) = spells text r × Fits r
+AnswersBy spells judge Fits text (Err (Syntax at)) = IsStuck spells text at
+AnswersBy spells judge Fits text (Err (Range field value)) = HasFault spells judge text (Range field value)
+AnswersBy spells judge Fits text (Err (Shape size)) = HasFault spells judge text (Shape size)
+AnswersBy spells judge Fits text (Err (LanesLine lanes line)) = HasFault spells judge text (LanesLine lanes line)
+AnswersBy spells judge Fits text (Err (NotUnit gcd)) = HasFault spells judge text (NotUnit gcd)
+
+-- the answer for a request line
 abbrev pub Answers : List ℕ → Result Request RequestFault → Type 0
-Answers text (Ok r) = request_line text r × IsInRange r
-Answers text (Err (Syntax at)) = IsStuck request_line text at
-Answers text (Err (Range field value)) = IsFaultOf text (Range field value)
-Answers text (Err (Shape size)) = IsFaultOf text (Shape size)
-Answers text (Err (LanesLine lanes line)) = IsFaultOf text (LanesLine lanes line)
-Answers text (Err (NotUnit gcd)) = IsFaultOf text (NotUnit gcd)
+Answers = AnswersBy request_line judged IsInRange
+
+-- the answer for the line of a convolution
+abbrev pub ConvAnswers : List ℕ → Result Request RequestFault → Type 0
+ConvAnswers = AnswersBy conv_line judged_conv IsConvRequest

@@ -1,30 +1,31 @@
 // The line of a cyclic convolution.
-ghost use Rattle.grammar.specs.Cursor.{Gives, GivesAll};
+ghost use Rattle.std.specs.Prelude.{◌≡◌};
 ghost use Rattle.grammar.specs.Reading.{whole};
+ghost use Rattle.request_text.specs.Answer.{ConvAnswers};
 ghost use Rattle.request_text.specs.ConvLine.{conv_line};
 ghost use Rattle.request_text.specs.ConvReading.{conv_at};
-ghost use Rattle.request_text.specs.ConvAnswer.{ConvAnswers};
-ghost use Rattle.request_text.specs.Limits.{IsJudged};
+ghost use Rattle.request_text.specs.Few.{spelt};
+ghost use Rattle.request_text.specs.Limits.{judged_conv};
+ghost use Rattle.request_text.specs.Reading.{GivesBy, GivesAllBy};
 
 use crate::fault::RequestFault;
-use crate::request::{BUDGET, UNROLL, WEIGHT, checked};
+use crate::few::Few;
+use crate::judge::{checked, coprime};
+use crate::spelling::{BUDGET, Fields, UNROLL, WEIGHT, dimension};
 use grammar::{Cursor, Stuck};
-use matrix_meaning::{Direction, Kind, Request};
+use matrix_meaning::{Kind, Request};
 
 #[tactic(auto, unfolding(crate::specs::ConvReading::conv_at))]
-fn conv_of(cursor: &mut Cursor) -> Result<Request, Stuck>
-    ensures { Gives result cursor.new (conv_at cursor.old) }
+fn conv_of(cursor: &mut Cursor) -> Result<Fields, Stuck>
+    ensures { GivesBy spelt result cursor.new (conv_at cursor.old) }
 {
-    cursor.word(b"conv ")?;
-    let size = cursor.number(u64::MAX)?;
+    let size = cursor.named_number(b"conv ", u64::MAX)?;
     let modulus = cursor.named_number(b" mod ", u64::MAX)?;
-    let root = cursor.named_number(b" root ", u64::MAX)?;
-    Ok(Request {
+    let only = dimension(cursor, b" root ", size)?;
+    Ok(Fields {
         kind: Kind::Dft,
-        direction: Direction::Forward,
-        size,
+        dimensions: Few::One(only),
         modulus,
-        root,
         procs: 1,
         line: 1,
         lanes: 1,
@@ -34,23 +35,32 @@ fn conv_of(cursor: &mut Cursor) -> Result<Request, Stuck>
     })
 }
 
-fn whole_conv(text: &[u8]) -> Result<Request, Stuck>
-    ensures { GivesAll result (whole conv_at text.now) }
+fn whole_conv(text: &[u8]) -> Result<Fields, Stuck>
+    ensures { GivesAllBy spelt result (whole conv_at text.now) }
 {
     let mut cursor = Cursor::new(text);
-    let request = conv_of(&mut cursor)?;
+    let fields = conv_of(&mut cursor)?;
     cursor.end()?;
+    Ok(fields)
+}
+
+/// The request, or its first fault. A convolution divides by its size, as an inverse does.
+fn checked_conv(fields: &Fields) -> Result<Request, RequestFault>
+    ensures { result ≡ judged_conv (spelt fields.now) }
+{
+    let request = checked(fields)?;
+    coprime(request.size, request.modulus)?;
     Ok(request)
 }
 
-/// The request that the line of a cyclic convolution spells, for the Fourier transform by which to convolve. It is judged
-/// as an inverse is, since a convolution takes one, too. The line is without its end.
+/// The request that the line of a cyclic convolution spells, for the Fourier transform by which to
+/// convolve. The line is without its end.
 pub fn read_conv(line: &[u8]) -> Result<Request, RequestFault>
     ensures answer { ConvAnswers line.now result }
-    ensures only { (r : Request) → conv_line line.now r → IsJudged Direction.Inverse r result }
+    ensures only { (r : Request) → conv_line line.now r → result ≡ judged_conv r }
 {
     match whole_conv(line) {
-        Ok(request) => checked(request, Direction::Inverse),
+        Ok(fields) => checked_conv(&fields),
         Err(stuck) => Err(RequestFault::Syntax {
             at: (line.len() - stuck.left) as u64,
         }),

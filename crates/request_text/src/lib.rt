@@ -1,17 +1,35 @@
 //! The texts of a request: its line, and the word that names a schedule.
 #![tactic(auto)]
 
+ghost use Rattle.request_text.specs.Answer.{Answers, ConvAnswers};
+ghost use Rattle.request_text.specs.ConvLine.{conv_line};
+ghost use Rattle.request_text.specs.Laws.{SpellsOnce, HasOneAnswer, HasSomeAnswer};
+ghost use Rattle.request_text.specs.Line.{request_line};
+
 mod conv;
 mod fault;
+mod few;
 mod generator;
+mod judge;
 mod mix;
 mod request;
 mod schedule;
+mod spelling;
 
 pub use conv::read_conv;
 pub use fault::{Field, RequestFault};
 pub use generator::next_state;
 pub use icode::event::Event;
 pub use mix::{Mix, MixFault, read_mix};
-pub use request::{BUDGET, UNROLL, WEIGHT, below, divided, read_request, within};
+pub use request::read_request;
 pub use schedule::{Schedule, ScheduleFault, read_schedule};
+
+/// A line spells one request at most, and has an answer and no other.
+pub fn lines_have_one_answer()
+    ensures spelt { SpellsOnce request_line }
+    ensures answer { HasOneAnswer Answers }
+    ensures some { HasSomeAnswer Answers }
+    ensures conv_spelt { SpellsOnce conv_line }
+    ensures conv_answer { HasOneAnswer ConvAnswers }
+    ensures conv_some { HasSomeAnswer ConvAnswers }
+{}

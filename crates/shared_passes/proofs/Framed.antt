@@ -22,7 +22,7 @@ use Rattle.steps.specs.Step.{steps_of}
 use Rattle.tensor_paths.specs.declared.Tensor.TheVariants.{Blocks, Columns}
 use Rattle.tensor_paths.specs.Path.{Path, size_under}
 use Rattle.tree_model.specs.declared.tree.Rule.{Rule}
-use Rattle.tree_model.specs.declared.tree.Rule.TheVariants.{Gt, Ct, Split}
+use Rattle.tree_model.specs.declared.tree.Rule.TheVariants.{Gt, Ct, Split, Dim}
 use Rattle.smp_rewrite.specs.Fits.{HasParts, RootHasParts, CanShareLayout}
 use Rattle.steps.specs.Layout.{Layout, work, by, layout_size, IsGoodLayout, IsGoodWork}
 use Rattle.steps.specs.Targets.{is_alone}
@@ -187,6 +187,18 @@ first-laned c Split w a b good =
     let two = merged one steps in
     let last : Laned c (FitsRoot c (r * s)) (merged two tiles) = after-laned c (r * s) r s two (right-laned c r b one good (before-laned c r s nothing (tt, tt))) in
     let whole = merged-append nothing (tiled_before c.procs c.lanes r s) (steps ++ tiles) ∙ merged-append one steps tiles in
+    subst (Ready c) (sym whole) (laned-weaken c (FitsRoot c (r * s)) Whatever (merged two tiles) (λ w e. tt) last)
+first-laned c Dim w a b good =
+    let r = layout_size a in
+    let s = layout_size b in
+    let steps = map lowered (steps_of (right_path c.procs c.lanes r) b) in
+    let tiles = tiled_after c.procs c.lanes r s in
+    let one = merged nothing (tiled_before c.procs c.lanes r s) in
+    let two = merged one steps in
+    let last : Laned c (FitsRoot c (r * s)) (merged two tiles) =
+    after-laned c (r * s) r s two (right-laned c r b one good (before-laned c r s nothing (tt, tt))) in
+    let whole =
+    merged-append nothing (tiled_before c.procs c.lanes r s) (steps ++ tiles) ∙ merged-append one steps tiles in
     subst (Ready c) (sym whole) (laned-weaken c (FitsRoot c (r * s)) Whatever (merged two tiles) (λ w e. tt) last)
 
 framed-append : (c : Target) (ps qs : List PlainPass) → AllFramed c ps → AllFramed c qs → AllFramed c (ps ++ qs)

@@ -10,7 +10,7 @@ use Rattle.tensor_paths.specs.declared.Tensor.TheVariants.{Blocks, Columns}
 use Rattle.tensor_paths.specs.Path.{Path, size_under}
 use Rattle.tensor_paths.proofs.Under.{size_under-push}
 use Rattle.tree_model.specs.declared.tree.Rule.{Rule}
-use Rattle.tree_model.specs.declared.tree.Rule.TheVariants.{Gt, Ct, Split}
+use Rattle.tree_model.specs.declared.tree.Rule.TheVariants.{Gt, Ct, Split, Dim}
 use Rattle.passes.specs.Work.{PlainWork, work_size}
 use Rattle.steps.specs.Layout.{Layout, work, by, layout_size, IsGoodLayout, IsGoodWork}
 
@@ -80,6 +80,10 @@ finish-rule m pre n emit Ready Done Ct path r s w left right k e on_left on_righ
     let done : Done third = k.twiddled path r s w second e (on_right first (k.turned path r s st e h)) in
     subst Done (sym (after-append emit first right (step (pre ++ path) (twiddles r s w) ∷ left))) (on_left third (k.ready third done))
 finish-rule m pre n emit Ready Done Split path r s w left right k e on_left on_right =
+    λ st h.
+    let second = after emit st right in
+    subst Done (sym (after-append emit st right left)) (on_left second (k.ready second (on_right st h)))
+finish-rule m pre n emit Ready Done Dim path r s w left right k e on_left on_right =
     λ st h.
     let second = after emit st right in
     subst Done (sym (after-append emit st right left)) (on_left second (k.ready second (on_right st h)))

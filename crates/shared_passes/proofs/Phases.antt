@@ -25,7 +25,7 @@ use Rattle.steps.specs.Step.{steps_of}
 use Rattle.tensor_paths.specs.declared.Tensor.TheVariants.{Blocks, Columns}
 use Rattle.tensor_paths.specs.Path.{Path, size_under, place}
 use Rattle.tree_model.specs.declared.tree.Rule.{Rule}
-use Rattle.tree_model.specs.declared.tree.Rule.TheVariants.{Gt, Ct, Split}
+use Rattle.tree_model.specs.declared.tree.Rule.TheVariants.{Gt, Ct, Split, Dim}
 use Rattle.smp_rewrite.specs.Fits.{RuleHasParts, RootHasParts, CanShareLayout}
 use Rattle.steps.specs.Layout.{Layout, work, by, layout_size, IsGoodLayout}
 use Rattle.vec_rewrite.proofs.StepFollows.{unequal, within-wide}
@@ -173,6 +173,18 @@ first-root c Split w a b fits good h =
     let two = merged one steps in
     let whole = merged-append nothing before (steps ++ tiles) ∙ merged-append one steps tiles in
     subst (First c owner) (sym whole) (first-after c r s two h (first-steps c r b one good h (first-before c r s nothing h (tt, tt))))
+first-root c Dim w a b fits good h =
+    let owner = block_owner c in
+    let r = layout_size a in
+    let s = layout_size b in
+    let before = tiled_before c.procs c.lanes r s in
+    let steps = map lowered (steps_of (right_path c.procs c.lanes r) b) in
+    let tiles = tiled_after c.procs c.lanes r s in
+    let one = merged nothing before in
+    let two = merged one steps in
+    let whole = merged-append nothing before (steps ++ tiles) ∙ merged-append one steps tiles in
+    subst (First c owner) (sym whole)
+    (first-after c r s two h (first-steps c r b one good h (first-before c r s nothing h (tt, tt))))
 
 -- ---- the second phase: s / p columns of each row
 

@@ -16,7 +16,7 @@ use Rattle.tensor_paths.specs.declared.Tensor.TheVariants.{Blocks, Columns}
 use Rattle.tensor_paths.specs.Path.{Path, size_under, place, AreInRange}
 use Rattle.tensor_paths.proofs.PathPlaces.{place-below}
 use Rattle.tree_model.specs.declared.tree.Rule.{Rule}
-use Rattle.tree_model.specs.declared.tree.Rule.TheVariants.{Gt, Ct, Split}
+use Rattle.tree_model.specs.declared.tree.Rule.TheVariants.{Gt, Ct, Split, Dim}
 use Rattle.smp_rewrite.specs.Fits.{HasParts, RuleHasParts, CanShareLayout}
 use Rattle.steps.specs.Layout.{Layout}
 use Rattle.vec_rewrite.proofs.Following.{IsWide}
@@ -27,6 +27,7 @@ pub fits-of : (c : Target) (rule : Rule) (r s : ℕ) → RuleHasParts c rule r s
 fits-of c Gt r s h = absurd h
 fits-of c Ct r s h = h
 fits-of c Split r s h = h
+fits-of c Dim r s h = h
 
 -- several processors have equal shares of the rows and columns, each of whole lines and vectors
 pub record AreShares (c : Target) (r s : ℕ) : Type 0 where

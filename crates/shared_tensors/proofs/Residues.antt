@@ -13,7 +13,7 @@ use Rattle.passes.specs.Good.{AreGoodNests, AreGoodPasses, IsGoodPass}
 use Rattle.passes.specs.Merged.{phase_on}
 use Rattle.passes.specs.Nest.{PlainMultiplier, PlainNest, copies_of, multiplied_on, nests_on}
 use Rattle.passes.specs.Work.{PlainWork, kernel, rows, horner, tile, copy, work_on, work_size}
-use Rattle.rooted_trees.proofs.Products.{trees-same}
+use Rattle.tree_model.proofs.TreeProducts.{trees-same}
 use Rattle.tensor_paths.specs.Loop.{nest_sum}
 use Rattle.tensor_paths.specs.Path.{Path, AreInRange, count_of}
 

@@ -9,7 +9,7 @@ use Rattle.tensor_paths.specs.declared.Tensor.{Tensor}
 use Rattle.tensor_paths.specs.declared.Tensor.TheVariants.{Blocks, Columns}
 use Rattle.tensor_paths.specs.Path.{Path, count_of}
 use Rattle.tree_model.specs.declared.tree.Rule.{Rule}
-use Rattle.tree_model.specs.declared.tree.Rule.TheVariants.{Gt, Ct, Split}
+use Rattle.tree_model.specs.declared.tree.Rule.TheVariants.{Gt, Ct, Split, Dim}
 use Rattle.steps.specs.Layout.{Layout, work, by, layout_size}
 use Rattle.sigma_lower.specs.Root.{right_path, left_path, whole_path}
 
@@ -26,6 +26,7 @@ rule-behind front Gt path r s w left right =
     ap (λ ss. step (front ++ path) (thomas_in r s) ∷ ss) (ap (λ ss. map (behind front) right ++ ss) (sym (map-append (behind front) left last)) ∙ sym (map-append (behind front) right (left ++ last)))
 rule-behind front Ct path r s w left right = ap (λ ss. step (front ++ path) (turns r s) ∷ ss) (sym (map-append (behind front) right (step path (twiddles r s w) ∷ left)))
 rule-behind front Split path r s w left right = sym (map-append (behind front) right left)
+rule-behind front Dim path r s w left right = sym (map-append (behind front) right left)
 
 -- more tensors round a part are more tensors round its steps
 steps-append : (front path : Path) (l : Layout) → steps_of (front ++ path) l ≡ map (behind front) (steps_of path l)
@@ -55,6 +56,7 @@ rule-step : (rule : Rule) (path : Path) (r s w : ℕ) (left right : List PlainSt
 rule-step Gt path r s w left right h = tt
 rule-step Ct path r s w left right h = tt
 rule-step Split path r s w left right h = append-step right left h
+rule-step Dim path r s w left right h = append-step right left h
 
 pub has_step : (path : Path) (l : Layout) → HasStep (steps_of path l)
 has_step path (work w) = tt

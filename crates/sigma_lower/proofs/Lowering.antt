@@ -16,7 +16,7 @@ use Rattle.operators.proofs.Scatters.{gather_as_scatter}
 use Rattle.ring_mod.proofs.Inverses.{AreInverses, inverse_of_s, inverse_of_r, inverses_of}
 use Rattle.kernel_gen.specs.Kernel.{CanMake}
 use Rattle.passes.specs.Work.{PlainWork, kernel, rows, horner, tile, copy, work_size, work_on}
-use Rattle.rooted_trees.specs.Trees.{PlainTrees, single, tensor, trees_size, AreWords}
+use Rattle.tree_model.specs.Trees.{PlainTrees, single, tensor, trees_size, AreWords}
 use Rattle.steps.specs.Layout.{Layout, work, by, layout_size, IsGoodWork, IsGoodRule, IsGoodLayout}
 use Rattle.steps.specs.declared.target.Target.{Target}
 use Rattle.smp_rewrite.proofs.Cores.{core-reads, core-gives}
@@ -29,7 +29,7 @@ use Rattle.tensor_paths.specs.Path.{Path, size_under, under, place}
 use Rattle.tensor_paths.proofs.Under.{size_under-push, under-size}
 use Rattle.tensor_paths.proofs.PathLoops.{loop_is_under}
 use Rattle.tree_model.specs.declared.tree.Rule.{Rule}
-use Rattle.tree_model.specs.declared.tree.Rule.TheVariants.{Gt, Ct, Split}
+use Rattle.tree_model.specs.declared.tree.Rule.TheVariants.{Gt, Ct, Split, Dim}
 use Rattle.tree_model.specs.Breakdown.{size_of}
 use Rattle.tree_model.proofs.Sizes.{one_le_size_of}
 use Rattle.vec_rewrite.specs.Vectors.{PlainFactor, lanes, diagonals, move_before, move_after, tiles, factor_step}
@@ -58,6 +58,7 @@ good_rule n Ct path r s w left right e good on_left on_right =
     let g : 2 ≤ s = good.right in
     (record { size = e; core = (omega (arith, h), omega (arith, g)) }, good-append n right _ on_right (record { size = e; core = tt }, on_left))
 good_rule n Split path r s w left right e good on_left on_right = good-append n right left on_right on_left
+good_rule n Dim path r s w left right e good on_left on_right = good-append n right left on_right on_left
 
 -- trees that can be made, of few items, have words for sizes
 trees-some : (m : ℕ) (trees : PlainTrees) → CanMake m trees → 1 ≤ trees_size trees

@@ -16,7 +16,7 @@ use Rattle.smp_rewrite.proofs.Factors.{rows_of}
 use Rattle.steps.specs.Step.{turns, twiddles, PlainStep, step, rule_steps, steps_of}
 use Rattle.tensor_paths.specs.declared.Tensor.TheVariants.{Blocks, Columns}
 use Rattle.tree_model.specs.declared.tree.Rule.{Rule}
-use Rattle.tree_model.specs.declared.tree.Rule.TheVariants.{Gt, Ct, Split}
+use Rattle.tree_model.specs.declared.tree.Rule.TheVariants.{Gt, Ct, Split, Dim}
 use Rattle.smp_rewrite.specs.Fits.{HasParts, RuleHasParts, RootHasParts, CanShareLayout}
 use Rattle.steps.specs.Layout.{Layout, work, by, layout_size, IsGoodLayout}
 use Rattle.steps.specs.Targets.{is_alone}
@@ -109,22 +109,26 @@ abbrev rule_right : ℕ → ℕ → Rule → ℕ → ℕ → ℕ → List PlainS
 rule_right p v Gt r s w es = []
 rule_right p v Ct r s w es = turned_in p v r s ++ (right_all p v r es ++ (tiled_after p v r s ++ diag [] r s w ∷ []))
 rule_right p v Split r s w es = tiled_before p v r s ++ (right_all p v r es ++ tiled_after p v r s)
+rule_right p v Dim r s w es = tiled_before p v r s ++ (right_all p v r es ++ tiled_after p v r s)
 
 -- the steps of the right part with what stands round it, before those of the left part
 abbrev rule_front : Rule → ℕ → ℕ → ℕ → List PlainStep → List PlainStep
 rule_front Gt r s w es = []
 rule_front Ct r s w es = step [] (turns r s) ∷ (rights r es ++ step [] (twiddles r s w) ∷ [])
 rule_front Split r s w es = rights r es
+rule_front Dim r s w es = rights r es
 
 abbrev IsShared : Rule → Type 0
 IsShared Gt = ⊥
 IsShared Ct = Unit {0}
 IsShared Split = Unit {0}
+IsShared Dim = Unit {0}
 
 rule_parts : (rule : Rule) (r s w : ℕ) (es ls : List PlainStep) → IsShared rule → rule_steps rule [] r s w ls (rights r es) ≡ rule_front rule r s w es ++ ls
 rule_parts Gt r s w es ls h = absurd h
 rule_parts Ct r s w es ls h = ap (λ ss. step [] (turns r s) ∷ ss) (sym (append_assoc (rights r es) (step [] (twiddles r s w) ∷ []) ls))
 rule_parts Split r s w es ls h = refl
+rule_parts Dim r s w es ls h = refl
 
 -- one phase for both parts
 both-terms : (divide : Cutter) (from : Former) (g : Grid) (p v r s w : ℕ) (rule : Rule) (es ls : List PlainStep) → IsShared rule → HasStep es → HasStep ls → Cuts divide from g p v r s →
@@ -135,6 +139,9 @@ both-terms divide from g p v r s w Ct es ls shared some more h =
     ∙ ct-right divide from g p v r s w es (lefts s ls) h
     ∙ ap (λ ts. rule_right p v Ct r s w es ++ ts) (lefts-next divide from g p v r s ls h)
 both-terms divide from g p v r s w Split es ls shared some more h = split-right divide from g p v r s es (lefts s ls) (left_terms p v r s ls) some h (lefts-first divide from g p v r s ls more h)
+both-terms divide from g p v r s w Dim es ls shared some more h =
+    split-right divide from g p v r s es (lefts s ls) (left_terms p v r s ls) some h
+    (lefts-first divide from g p v r s ls more h)
 
 -- a phase for the right part alone
 front-terms : (divide : Cutter) (from : Former) (g : Grid) (p v r s w : ℕ) (rule : Rule) (es : List PlainStep) → IsShared rule → HasStep es → Cuts divide from g p v r s →
@@ -146,6 +153,10 @@ front-terms divide from g p v r s w Split es shared some h =
     ap (λ ss. from None (flat_map divide ss)) (sym (append-nil (rights r es)))
     ∙ split-right divide from g p v r s es [] [] some h (h.ends ∙ sym (append-nil (tiled_after p v r s)))
     ∙ append-nil (rule_right p v Split r s w es)
+front-terms divide from g p v r s w Dim es shared some h =
+    ap (λ ss. from None (flat_map divide ss)) (sym (append-nil (rights r es)))
+    ∙ split-right divide from g p v r s es [] [] some h (h.ends ∙ sym (append-nil (tiled_after p v r s)))
+    ∙ append-nil (rule_right p v Dim r s w es)
 
 -- ---- the phases
 
@@ -186,6 +197,7 @@ front-right : (rule : Rule) (r s w : ℕ) (es : List PlainStep) → AreRight (ru
 front-right Gt r s w es = tt
 front-right Ct r s w es = (refl, rights-right r es (step [] (twiddles r s w) ∷ []) (refl, tt))
 front-right Split r s w es = subst AreRight (append-nil (rights r es)) (rights-right r es [] tt)
+front-right Dim r s w es = subst AreRight (append-nil (rights r es)) (rights-right r es [] tt)
 
 count-left : (s : ℕ) (ls : List PlainStep) → right_count (lefts s ls) ≡ 0
 count-left s [] = refl
@@ -320,11 +332,13 @@ rule-shared : (h : Target) (rule : Rule) (r s : ℕ) → RuleHasParts h rule r s
 rule-shared h Gt r s k = k
 rule-shared h Ct r s k = tt
 rule-shared h Split r s k = tt
+rule-shared h Dim r s k = tt
 
 rule-fits : (h : Target) (rule : Rule) (r s : ℕ) → RuleHasParts h rule r s → HasParts h r s
 rule-fits h Gt r s k = absurd k
 rule-fits h Ct r s k = k
 rule-fits h Split r s k = k
+rule-fits h Dim r s k = k
 
 right-same : (p v : ℕ) (rule : Rule) (w : ℕ) (a b : Layout) → rule_right p v rule (layout_size a) (layout_size b) w (steps_of [] b) ≡ right_terms p v rule w a b
 right-same p v Gt w a b = refl
@@ -334,6 +348,11 @@ right-same p v Ct w a b =
 right-same p v Split w a b =
     let r = layout_size a in
     let s = layout_size b in ap (λ ss. tiled_before p v r s ++ (map lowered ss ++ tiled_after p v r s)) (sym (steps-behind (right_path p v r) b))
+right-same p v Dim w a b =
+    let r = layout_size a in
+    let s = layout_size b in
+    ap (λ ss. tiled_before p v r s ++ (map lowered ss ++ tiled_after p v r s))
+    (sym (steps-behind (right_path p v r) b))
 
 -- the steps of a root
 root-steps : (rule : Rule) (w : ℕ) (a b : Layout) → IsShared rule →

@@ -12,7 +12,7 @@ use Rattle.steps.specs.Step.{PlainCore, piece, turns, twiddles, thomas_in, thoma
 use Rattle.tensor_paths.specs.declared.Tensor.TheVariants.{Blocks, Columns}
 use Rattle.tensor_paths.specs.Path.{Path}
 use Rattle.tree_model.specs.declared.tree.Rule.{Rule}
-use Rattle.tree_model.specs.declared.tree.Rule.TheVariants.{Gt, Ct, Split}
+use Rattle.tree_model.specs.declared.tree.Rule.TheVariants.{Gt, Ct, Split, Dim}
 use Rattle.sigma_lower.specs.Term.{PlainTerm, gath, scat, diag, nest, lowered, lowered_of}
 use Rattle.sigma_lower.specs.Wrapped.{wrapped, unit_of}
 
@@ -88,6 +88,10 @@ right_terms p v Ct w a b =
     ++ (map lowered (steps_of (right_path p v (layout_size a)) b) ++ (tiled_after p v (layout_size a) (layout_size b) ++ diag [] (layout_size a) (layout_size b) w ∷ []))
 right_terms p v Split w a b =
     tiled_before p v (layout_size a) (layout_size b) ++ (map lowered (steps_of (right_path p v (layout_size a)) b) ++ tiled_after p v (layout_size a) (layout_size b))
+right_terms p v Dim w a b =
+    tiled_before p v (layout_size a) (layout_size b)
+    ++ (map lowered (steps_of (right_path p v (layout_size a)) b)
+    ++ tiled_after p v (layout_size a) (layout_size b))
 
 -- in phases: one processor has one, several have one for each part
 abbrev pub in_phases : ℕ → List PlainTerm → List PlainTerm → List (List PlainTerm)

@@ -10,7 +10,7 @@ use Rattle.operators.proofs.Lists.{at-list_below, list_below-same, length-list_b
 use Rattle.operators.proofs.Places.{stride_below}
 use Rattle.operators.proofs.Sums.{sum_below-same}
 use Rattle.passes.specs.Work.{PlainWork, kernel, rows, horner, tile, copy, work_size, work_on}
-use Rattle.rooted_trees.specs.Trees.{PlainTrees, single, tensor, trees_size, trees_on}
+use Rattle.tree_model.specs.Trees.{PlainTrees, single, tensor, trees_size, trees_on}
 use Rattle.steps.specs.Meaning.{core_size, core_on}
 use Rattle.steps.specs.Step.{PlainCore, piece, turns, twiddles, thomas_in, thomas_out}
 use Rattle.smp_rewrite.specs.Laws.{IsPermutation}
@@ -21,7 +21,7 @@ use Rattle.tree_model.specs.Breakdown.{size_of}
 
 reads-transform : (kind : Kind) (m n w : ℕ) → Reads n (transform kind m n w)
 reads-transform kind m n w x =
-    list_below-same n _ _ (λ k row. ap (λ y. y % m) (sum_below-same n _ _ (λ l below. ap (λ y. entry_of kind m w k l * y) (at-list_below n (slice_index x) l below))))
+    list_below-same n _ _ (λ k row. ap (λ y. y % m) (sum_below-same n _ _ (λ l below. ap (λ y. entry_of kind m n w k l * y) (at-list_below n (slice_index x) l below))))
 
 reads-gather : (n : ℕ) (f : ℕ → ℕ) → ((i : ℕ) → i < n → f i < n) → Reads n (gather n f)
 reads-gather n f h x = list_below-same n _ _ (λ i below. at-list_below n (slice_index x) (f i) (h i below))

@@ -7,7 +7,7 @@ use Rattle.tensor_paths.specs.declared.Tensor.{Tensor}
 use Rattle.tensor_paths.specs.declared.Tensor.TheVariants.{Blocks, Columns}
 use Rattle.tensor_paths.specs.Path.{Path}
 use Rattle.tree_model.specs.declared.tree.Rule.{Rule}
-use Rattle.tree_model.specs.declared.tree.Rule.TheVariants.{Gt, Ct, Split}
+use Rattle.tree_model.specs.declared.tree.Rule.TheVariants.{Gt, Ct, Split, Dim}
 use Rattle.tree_model.specs.Admissible.{DividesBoth}
 use Rattle.smp_rewrite.specs.Fits.{HasParts, RuleHasParts, RootHasParts, CanShareLayout}
 use Rattle.steps.specs.Layout.{Layout, work, by, layout_size}
@@ -50,6 +50,7 @@ dealt-rule : (p line : ℕ) (rule : Rule) (t : Tensor) (path : Path) (r s w : �
 dealt-rule p line Gt t path r s w left right e h k = (e, dealt-append p line right _ k (dealt-append p line left _ h (e, tt)))
 dealt-rule p line Ct t path r s w left right e h k = (e, dealt-append p line right _ k (e, h))
 dealt-rule p line Split t path r s w left right e h k = dealt-append p line right left k h
+dealt-rule p line Dim t path r s w left right e h k = dealt-append p line right left k h
 
 dealt-part : (p line : ℕ) (t : Tensor) (path : Path) (l : Layout) → IsDealtTensor p line t → AreDealt p line (steps_of (t ∷ path) l)
 dealt-part p line t path (work w) h = (h, tt)
@@ -89,6 +90,12 @@ dealt-root h Split root a b low several fits =
     let cols : IsDealt h.procs h.line (layout_size b) = is_dealt h.procs h.line (layout_size b) (omega (arith, several)) low both.1 in
     dealt-append h.procs h.line (steps_of (Blocks (layout_size a) ∷ []) b) _ (dealt-part h.procs h.line (Blocks (layout_size a)) [] b rows)
     (dealt-part h.procs h.line (Columns (layout_size b)) [] a cols)
+dealt-root h Dim root a b low several fits =
+    let both : DividesBoth (h.procs * h.line) (layout_size a) (layout_size b) = fits.procs several in
+    let rows : IsDealt h.procs h.line (layout_size a) = is_dealt h.procs h.line (layout_size a) (omega (arith, several)) low both.0 in
+    let cols : IsDealt h.procs h.line (layout_size b) = is_dealt h.procs h.line (layout_size b) (omega (arith, several)) low both.1 in
+    dealt-append h.procs h.line (steps_of (Blocks (layout_size a) ∷ []) b) _ (dealt-part h.procs h.line (Blocks (layout_size a)) [] b rows)
+    (dealt-part h.procs h.line (Columns (layout_size b)) [] a cols)
 
 dealt-layout : (h : Target) (l : Layout) → 0 < h.line → 1 < h.procs → RootHasParts h l → AreDealt h.procs h.line (steps_of [] l)
 dealt-layout h (work w) low several fits = absurd fits
@@ -109,6 +116,7 @@ rule-dealt : (h : Target) (rule : Rule) (r s : ℕ) → 0 < h.line → 1 < h.pro
 rule-dealt h Gt r s low several e fits = absurd fits
 rule-dealt h Ct r s low several e fits = size-dealt h r s low several e fits
 rule-dealt h Split r s low several e fits = size-dealt h r s low several e fits
+rule-dealt h Dim r s low several e fits = size-dealt h r s low several e fits
 
 layout-dealt : (h : Target) (l : Layout) → 0 < h.line → 1 < h.procs → layout_size l ≡ h.size → RootHasParts h l → h.size ≡ h.procs * (h.size / h.procs)
 layout-dealt h (work w) low several e fits = absurd fits

@@ -6,7 +6,7 @@ use Rattle.tensor_paths.specs.declared.Tensor.TheVariants.{Blocks, Columns}
 use Rattle.tensor_paths.specs.Path.{Path, size_under}
 use Rattle.tensor_paths.proofs.Under.{size_under-push}
 use Rattle.tree_model.specs.declared.tree.Rule.{Rule}
-use Rattle.tree_model.specs.declared.tree.Rule.TheVariants.{Gt, Ct, Split}
+use Rattle.tree_model.specs.declared.tree.Rule.TheVariants.{Gt, Ct, Split, Dim}
 use Rattle.steps.specs.Layout.{Layout, work, by, layout_size}
 use Rattle.steps.specs.declared.target.Target.{Target}
 use Rattle.steps.specs.Step.{PlainStep, rule_steps, steps_of}
@@ -26,6 +26,7 @@ of_size-rule : (n : ℕ) (rule : Rule) (path : Path) (r s w : ℕ) (left right :
 of_size-rule n Gt path r s w left right e h k = (e, of_size-append n right _ k (of_size-append n left _ h (e, tt)))
 of_size-rule n Ct path r s w left right e h k = (e, of_size-append n right _ k (e, h))
 of_size-rule n Split path r s w left right e h k = of_size-append n right left k h
+of_size-rule n Dim path r s w left right e h k = of_size-append n right left k h
 
 pub of_size : (n : ℕ) (path : Path) (l : Layout) → size_under path (layout_size l) ≡ n → AreOfSize n (steps_of path l)
 of_size n path (work w) e = (e, tt)

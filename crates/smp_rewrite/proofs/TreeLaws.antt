@@ -9,7 +9,7 @@ use Rattle.steps.specs.Step.{steps_of}
 use Rattle.steps.specs.Targets.{target_of}
 use Rattle.steps.specs.declared.target.Target.{Target}
 use Rattle.passes.specs.Work.{kernel}
-use Rattle.rooted_trees.specs.Trees.{PlainTrees, tensor, trees_size}
+use Rattle.tree_model.specs.Trees.{PlainTrees, tensor, trees_size}
 use Rattle.steps.specs.Dims.{part_of, together, dims_layout}
 use Rattle.steps.proofs.Dims.{dims_have_size, dims_do, dims_are_priced}
 use Rattle.steps.proofs.Layouts.{layouts_have_size}
@@ -19,7 +19,7 @@ use Rattle.tree_model.specs.Admissible.{RuleFits, RootFits}
 use Rattle.tree_model.specs.Breakdown.{Breakdown, leaf, node, size_of}
 use Rattle.tree_model.specs.Cost.{is_plain, is_kernel, node_root}
 use Rattle.tree_model.specs.declared.tree.Rule.{Rule}
-use Rattle.tree_model.specs.declared.tree.Rule.TheVariants.{Gt, Ct, Split}
+use Rattle.tree_model.specs.declared.tree.Rule.TheVariants.{Gt, Ct, Split, Dim}
 use Rattle.smp_rewrite.specs.Fits.{HasParts, RuleHasParts, RootHasParts, CanShareLayout}
 use Rattle.smp_rewrite.specs.Laws.{SmpTransforms, SmpCosts, SmpShaped, LayoutsFit, DimsFit, SmpOfDims}
 use Rattle.smp_rewrite.proofs.Dealt.{dealt_steps, dealt_size}
@@ -61,6 +61,7 @@ rule-parts : (c : Request) (rule : Rule) (r s : ℕ) → RuleFits c rule r s →
 rule-parts c Gt r s fits = absurd fits
 rule-parts c Ct r s fits = record { procs = fits.procs; lanes = fits.lanes }
 rule-parts c Split r s fits = record { procs = fits.procs; lanes = fits.lanes }
+rule-parts c Dim r s fits = record { procs = fits.procs; lanes = fits.lanes }
 
 root-pick : (h : Target) (b : Bool) (l k : Layout) → b ≡ false → RootHasParts h k → RootHasParts h (if b then l else k)
 root-pick h true l k e g = absurd (cc)

@@ -6,7 +6,7 @@ use Rattle.steps.specs.Targets.{is_alone}
 use Rattle.steps.specs.declared.target.Target.{Target}
 use Rattle.tree_model.specs.Admissible.{DividesBoth}
 use Rattle.tree_model.specs.declared.tree.Rule.{Rule}
-use Rattle.tree_model.specs.declared.tree.Rule.TheVariants.{Gt, Ct, Split}
+use Rattle.tree_model.specs.declared.tree.Rule.TheVariants.{Gt, Ct, Split, Dim}
 
 -- sizes of the root's parts: the processors and the lanes have equal parts of both
 pub record HasParts (h : Target) (r s : ℕ) : Type 0 where
@@ -18,6 +18,7 @@ abbrev pub RuleHasParts : Target → Rule → ℕ → ℕ → Type 0
 RuleHasParts h Gt r s = ⊥
 RuleHasParts h Ct r s = HasParts h r s
 RuleHasParts h Split r s = HasParts h r s
+RuleHasParts h Dim r s = HasParts h r s
 
 abbrev pub RootHasParts : Target → Layout → Type 0
 RootHasParts h (work w) = ⊥

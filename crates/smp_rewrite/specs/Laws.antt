@@ -13,7 +13,7 @@ use Rattle.steps.specs.Step.{PlainCore, piece, turns, twiddles, thomas_in, thoma
 use Rattle.tensor_paths.specs.declared.Tensor.TheVariants.{Blocks, Columns}
 use Rattle.tensor_paths.specs.Path.{Path, size_under}
 use Rattle.tree_model.specs.Admissible.{IsAdmissible}
-use Rattle.rooted_trees.specs.Trees.{PlainTrees, tensor, trees_size, trees_on}
+use Rattle.tree_model.specs.Trees.{PlainTrees, tensor, trees_size, trees_on}
 use Rattle.steps.specs.Dims.{dims_layout, dims_cost, AreDimensions}
 use Rattle.tree_model.specs.Breakdown.{Breakdown, size_of}
 use Rattle.tree_model.specs.Cost.{is_plain}

@@ -3,6 +3,7 @@ use Rattle.std.proofs.Common.{◌≡◌, ◌<◌, ◌≤◌, ℕ, zero, suc, Boo
 use Rattle.std.proofs.lemmas.Grind.{common_steps}
 use Rattle.std.specs.declared.option.Option.{Option}
 use Rattle.std.specs.Io.KnownBytes.{Consumes, IsAtEnd}
+use Rattle.matrix_meaning.specs.declared.Request.{Request}
 use Rattle.request_text.specs.declared.RequestFault.{RequestFault}
 use Rattle.request_text.specs.declared.RequestFault.TheVariants as request
 use Rattle.io_edge.specs.declared.FeedFault.{FeedFault}
@@ -32,16 +33,16 @@ line_long bytes long =
     ap (λ b. cond {A = Result (List ℕ) Status} b (Ok (first_line bytes)) (Err (TooLong 256))) test
 
 -- the first line can't be read
-pub asked_line_fault : {R : Type 0} (procs : R → ℕ) (spells : List ℕ → Stage R) (command : Command) (before after : Option (List ℕ)) (taken : ℕ) (read buffer : List ℕ) (ended : Type 0) (fault : FeedFault)
-    → Consumes before after read → GivesLine read ended taken buffer (Err fault) → Asks procs spells command before after taken (Err (status_of_line fault))
-asked_line_fault procs spells command None after taken read buffer ended fault consumed given = tt
-asked_line_fault procs spells command (Some bytes) None taken read buffer ended fault consumed given = consumed
-asked_line_fault procs spells command (Some bytes) (Some rest) taken read buffer ended feed.ReadFault consumed given = (
+pub asked_line_fault : (spells : List ℕ → Stage Request) (command : Command) (before after : Option (List ℕ)) (taken : ℕ) (read buffer : List ℕ) (ended : Type 0) (fault : FeedFault)
+    → Consumes before after read → GivesLine read ended taken buffer (Err fault) → Asks spells command before after taken (Err (status_of_line fault))
+asked_line_fault spells command None after taken read buffer ended fault consumed given = tt
+asked_line_fault spells command (Some bytes) None taken read buffer ended fault consumed given = consumed
+asked_line_fault spells command (Some bytes) (Some rest) taken read buffer ended feed.ReadFault consumed given = (
   read,
   consumed,
   (λ d. absurd (d.read refl), λ _. given),
 )
-asked_line_fault procs spells command (Some bytes) (Some rest) taken read buffer ended feed.TooLong consumed given = (
+asked_line_fault spells command (Some bytes) (Some rest) taken read buffer ended feed.TooLong consumed given = (
   read,
   consumed,
   (λ _. inl (sym (line_long (read ++ rest) (given rest))), λ e. absurd (cc)),
@@ -55,12 +56,12 @@ request_fault_other (request.LanesLine lanes line) e = absurd (cc)
 request_fault_other (request.NotUnit gcd) e = absurd (cc)
 
 -- the line spells no request that can be served
-pub asked_request_fault : {R : Type 0} (procs : R → ℕ) (spells : List ℕ → Stage R) (command : Command) (before after : Option (List ℕ)) (taken : ℕ) (read line : List ℕ) (fault : RequestFault)
+pub asked_request_fault : (spells : List ℕ → Stage Request) (command : Command) (before after : Option (List ℕ)) (taken : ℕ) (read line : List ℕ) (fault : RequestFault)
     → Consumes before after read → IsWholeLine read (IsAtEnd after) line → length line ≤ 256 → spells line (Err (status_of_request fault))
-    → Asks procs spells command before after taken (Err (status_of_request fault))
-asked_request_fault procs spells command None after taken read line fault consumed whole short answer = tt
-asked_request_fault procs spells command (Some bytes) None taken read line fault consumed whole short answer = consumed
-asked_request_fault procs spells command (Some bytes) (Some rest) taken read line fault consumed whole short answer =
+    → Asks spells command before after taken (Err (status_of_request fault))
+asked_request_fault spells command None after taken read line fault consumed whole short answer = tt
+asked_request_fault spells command (Some bytes) None taken read line fault consumed whole short answer = consumed
+asked_request_fault spells command (Some bytes) (Some rest) taken read line fault consumed whole short answer =
     let there = line_short (read ++ rest) line (whole rest (λ e. e)).0 short in (
       read,
       consumed,
@@ -68,12 +69,12 @@ asked_request_fault procs spells command (Some bytes) (Some rest) taken read lin
     )
 
 -- a turn is of a processor that is not there
-pub asked_turn_fault : {R : Type 0} (procs : R → ℕ) (spells : List ℕ → Stage R) (command : Command) (before after : Option (List ℕ)) (taken : ℕ) (read line : List ℕ) (wanted : R) (q : ℕ)
+pub asked_turn_fault : (spells : List ℕ → Stage Request) (command : Command) (before after : Option (List ℕ)) (taken : ℕ) (read line : List ℕ) (wanted : Request) (q : ℕ)
     → Consumes before after read → IsWholeLine read (IsAtEnd after) line → length line ≤ 256 → spells line (Ok wanted)
-    → first_stranger (procs_named command) (procs wanted) ≡ Some q → Asks procs spells command before after taken (Err (Turn q (procs wanted)))
-asked_turn_fault procs spells command None after taken read line wanted q consumed whole short answer found = tt
-asked_turn_fault procs spells command (Some bytes) None taken read line wanted q consumed whole short answer found = consumed
-asked_turn_fault procs spells command (Some bytes) (Some rest) taken read line wanted q consumed whole short answer found =
+    → first_stranger (procs_named command) wanted.procs ≡ Some q → Asks spells command before after taken (Err (Turn q wanted.procs))
+asked_turn_fault spells command None after taken read line wanted q consumed whole short answer found = tt
+asked_turn_fault spells command (Some bytes) None taken read line wanted q consumed whole short answer found = consumed
+asked_turn_fault spells command (Some bytes) (Some rest) taken read line wanted q consumed whole short answer found =
     let there = line_short (read ++ rest) line (whole rest (λ e. e)).0 short in (
       read,
       consumed,
@@ -81,19 +82,19 @@ asked_turn_fault procs spells command (Some bytes) (Some rest) taken read line w
         λ _. inr (record {
           value = line;
           before = sym there;
-          behind = inr (record { value = wanted; before = answer; behind = sym (ap (λ o. admitted o (procs wanted) wanted) found) });
+          behind = inr (record { value = wanted; before = answer; behind = sym (ap (λ o. admitted o wanted.procs wanted) found) });
         }),
         λ e. absurd (cc),
       ),
     )
 
 -- the request
-pub asked_request : {R : Type 0} (procs : R → ℕ) (spells : List ℕ → Stage R) (command : Command) (before after : Option (List ℕ)) (taken : ℕ) (read line : List ℕ) (wanted : R)
+pub asked_request : (spells : List ℕ → Stage Request) (command : Command) (before after : Option (List ℕ)) (taken : ℕ) (read line : List ℕ) (wanted : Request)
     → Consumes before after read → taken ≡ length read → IsWholeLine read (IsAtEnd after) line → length line ≤ 256 → spells line (Ok wanted)
-    → first_stranger (procs_named command) (procs wanted) ≡ None → Asks procs spells command before after taken (Ok wanted)
-asked_request procs spells command None after taken read line wanted consumed count whole short answer none_found = tt
-asked_request procs spells command (Some bytes) None taken read line wanted consumed count whole short answer none_found = consumed
-asked_request procs spells command (Some bytes) (Some rest) taken read line wanted consumed count whole short answer none_found = (
+    → first_stranger (procs_named command) wanted.procs ≡ None → Asks spells command before after taken (Ok wanted)
+asked_request spells command None after taken read line wanted consumed count whole short answer none_found = tt
+asked_request spells command (Some bytes) None taken read line wanted consumed count whole short answer none_found = consumed
+asked_request spells command (Some bytes) (Some rest) taken read line wanted consumed count whole short answer none_found = (
   read,
   consumed,
   (
@@ -103,7 +104,7 @@ asked_request procs spells command (Some bytes) (Some rest) taken read line want
           record {
             value = line;
             before = sym (line_short (read ++ more) line parts.0 short);
-            behind = record { value = wanted; before = answer; behind = sym (ap (λ o. admitted o (procs wanted) wanted) none_found) };
+            behind = record { value = wanted; before = answer; behind = sym (ap (λ o. admitted o wanted.procs wanted) none_found) };
           },
           parts.1,
         ),

@@ -3,8 +3,7 @@
 #![tactic(auto)]
 
 ghost use Rattle.std.specs.Prelude.{◌≡◌, ◌≤◌, ℕ, Some, None, Err, IfOk, IfErr, OnOk, map, string_bytes};
-ghost use Rattle.transform_requests.specs.Fields.{procs_of};
-ghost use Rattle.transform_requests.specs.Range.{IsRequestInRange};
+ghost use Rattle.matrix_meaning.specs.Valid.{IsInRange};
 ghost use Rattle.io_edge.specs.Feed.{to_come};
 ghost use Rattle.spiral_words.specs.Asked.{IsAsked};
 ghost use Rattle.spiral_input.specs.Ends.{ReadsCleanly};
@@ -18,31 +17,26 @@ mod line;
 
 use io_edge::{Feed, Source};
 pub use line::read_line;
+use matrix_meaning::Request;
+use request_text::read_request;
 use spiral_status::{LINE_LIMIT, Status};
 use spiral_words::{Command, Order, Refusal, command_of};
 use std::alloc::Global;
-use transform_lines::read_transform;
-use transform_requests::TransformRequest;
 
 /// The request that the first line of the input spells, for the command.
-pub fn ask<I: Source>(
-    command: &Command,
-    feed: &mut Feed,
-    input: &mut I,
-) -> Result<TransformRequest, Status>
+pub fn ask<I: Source>(command: &Command, feed: &mut Feed, input: &mut I) -> Result<Request, Status>
     requires fresh { feed.old.taken ≡ 0 }
-    ensures told { Asks procs_of spelt command.now (to_come feed.old (I.left input.old))
+    ensures told { Asks spelt command.now (to_come feed.old (I.left input.old))
         (to_come feed.new (I.left input.new)) feed.new.taken result }
     ensures within { OnOk result (feed.new.taken ≤ 257) }
-    ensures request { IfOk result IsRequestInRange }
-    ensures turns { IfOk result (λ request. NamesNoStranger command.now (procs_of request)) }
+    ensures request { IfOk result IsInRange }
+    ensures turns { IfOk result (λ request. NamesNoStranger command.now request.procs) }
     ensures ends { ReadsCleanly result feed.new.held (I.faults input.old) (I.faults input.new) }
 {
     let mut line = [0; LINE_LIMIT];
     let count = read_line(feed, input, &mut line)?;
-    let request = read_transform(&line[..count])?;
-    let procs = request.procs();
-    check_turns(stranger(command, procs), procs)?;
+    let request = read_request(&line[..count])?;
+    check_turns(stranger(command, request.procs), request.procs)?;
     Ok(request)
 }
 

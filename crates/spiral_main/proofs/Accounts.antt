@@ -3,8 +3,7 @@ use Rattle.std.proofs.Common.{◌≡◌, ◌≢◌, ◌+◌, ◌-◌, ℕ, List,
 use Rattle.std.proofs.KnownBytes.{Appends-nil, Consumes-trans}
 use Rattle.std.specs.declared.option.Option.{Option}
 use Rattle.std.specs.Io.KnownBytes.{Consumes, IsAtEnd}
-use Rattle.transform_requests.specs.declared.TransformRequest.{TransformRequest}
-use Rattle.transform_requests.specs.Fields.{procs_of}
+use Rattle.matrix_meaning.specs.declared.Request.{Request}
 use Rattle.request_text.specs.Schedule.{Plan}
 use Rattle.io_edge.specs.Feed.{limit}
 use Rattle.spiral_words.specs.Asked.{IsAsked}
@@ -36,8 +35,10 @@ pub goes_by_request : (wanted : Command) → takes_listing wanted ≡ false → 
 goes_by_request wanted listing formula convolution = rw (listing, formula, convolution)
 
 -- what a command does after the first line accounts for the whole call
-accounts_after : (words : List (List ℕ)) (bytes read rest : List ℕ) (taken : ℕ) (wanted : Command) (request : TransformRequest) (left out out' : Option (List ℕ)) (status : Status)
-    → commanded words (Ok wanted) → bytes ≡ read ++ rest → AsksBy procs_of spelt wanted read rest taken (Ok request) → Meets (request_outcomes wanted request (limit - taken)) rest left out out' status
+accounts_after : (words : List (List ℕ)) (bytes read rest : List ℕ) (taken : ℕ) (wanted : Command) (request : Request)
+    (left out out' : Option (List ℕ)) (status : Status)
+    → commanded words (Ok wanted) → bytes ≡ read ++ rest → AsksBy spelt wanted read rest taken (Ok request)
+    → Meets (request_outcomes wanted request (limit - taken)) rest left out out' status
     → Meets (call_outcomes words) bytes left out out' status
 accounts_after words bytes read rest taken wanted request left out out' status named whole asked p =
     let here = asked.1 rest (λ e. e) in
@@ -102,8 +103,11 @@ accounts_after words bytes read rest taken wanted request left out out' status n
           );
     }
 
-pub accounted : (words : List (List ℕ)) (before mid left : Option (List ℕ)) (taken : ℕ) (wanted : Command) (request : TransformRequest) (out out' : Option (List ℕ)) (status : Status)
-    → commanded words (Ok wanted) → Asks procs_of spelt wanted before mid taken (Ok request) → ToldMeets (request_outcomes wanted request (limit - taken)) mid left out out' status → ToldMeets (call_outcomes words) before left out out' status
+pub accounted : (words : List (List ℕ)) (before mid left : Option (List ℕ)) (taken : ℕ) (wanted : Command)
+    (request : Request) (out out' : Option (List ℕ)) (status : Status)
+    → commanded words (Ok wanted) → Asks spelt wanted before mid taken (Ok request)
+    → ToldMeets (request_outcomes wanted request (limit - taken)) mid left out out' status
+    → ToldMeets (call_outcomes words) before left out out' status
 accounted words None mid left taken wanted request out out' status named a p = tt
 accounted words (Some bytes) None left taken wanted request out out' status named a p = absurd a
 accounted words (Some bytes) (Some rest) left taken wanted request out out' status named a p = accounts_after words bytes a.0 rest taken wanted request left out out' status named a.1 a.2 p
@@ -117,7 +121,8 @@ accounted_words words (Some bytes) left out status refused early =
 
 -- a call that ends with the first line
 pub accounted_line : (words : List (List ℕ)) (before after left : Option (List ℕ)) (taken : ℕ) (wanted : Command) (out : Option (List ℕ)) (status : Status)
-    → commanded words (Ok wanted) → Asks procs_of spelt wanted before after taken (Err status) → status ≢ WriteFault → (status ≡ ReadFault → after ≡ left) → ToldMeets (call_outcomes words) before left out out status
+    → commanded words (Ok wanted) → Asks spelt wanted before after taken (Err status) → status ≢ WriteFault
+    → (status ≡ ReadFault → after ≡ left) → ToldMeets (call_outcomes words) before left out out status
 accounted_line words None after left taken wanted out status named a w same = tt
 accounted_line words (Some bytes) None left taken wanted out status named a w same = absurd a
 accounted_line words (Some bytes) (Some rest) left taken wanted out status named a w same = record {

@@ -3,7 +3,6 @@ use Rattle.std.proofs.Common.{ℕ, true, List, [], ◌∷◌}
 use Rattle.request_text.specs.Schedule.{Plan as Turns}
 use Rattle.request_text.specs.Turns.{named}
 use Rattle.spl_ast.specs.Formula.{Formula}
-use Rattle.transform_requests.specs.Fields.{modulus_of, size_of}
 use Rattle.spiral_words.specs.declared.Order.{Order}
 use Rattle.formula_commands.specs.Compiled.{written, IsFormulaListing}
 use Rattle.spiral_input.specs.Orders.{procs_in}
@@ -44,9 +43,10 @@ good_c = front_within (line 256) (planned []) (planned []) (λ (plan : Planned).
 
 pub good_trace : (order : Order) → Within (trace_outcomes order) (good_trace_outcomes order)
 good_trace order = front_within (line 256) (planned (procs_in order)) (planned (procs_in order))
-    (λ (plan : Planned). mapping all (size_of plan.request) (modulus_of plan.request) (IsTrace order plan))
-    (λ (plan : Planned). mapping all (size_of plan.request) (modulus_of plan.request) (IsGoodTrace order plan)) (λ text r p. p)
-    (λ plan room. more_mapped all (size_of plan.request) (modulus_of plan.request) (IsTrace order plan) (IsGoodTrace order plan) room
+    (λ (plan : Planned). mapping all plan.request.size plan.request.modulus (IsTrace order plan))
+    (λ (plan : Planned). mapping all plan.request.size plan.request.modulus (IsGoodTrace order plan)) (λ text r p. p)
+    (λ plan room. more_mapped all plan.request.size plan.request.modulus (IsTrace order plan)
+    (IsGoodTrace order plan) room
     (λ vectors t p. (p.0, record { good = p.1.good; lean = p.1.lean }, p.2)))
 
 pub good_compile : (m : ℕ) → Within (compile_outcomes m) (good_compile_outcomes m)

@@ -2,7 +2,7 @@
 use Rattle.std.proofs.Common.{◌≡◌, IfSome, None, Some, ℕ, true, List, Ok, refl, subst, inl, inr}
 use Rattle.std.specs.declared.option.Option.{Option}
 use Rattle.request_text.specs.Schedule.{Plan as Turns}
-use Rattle.transform_requests.specs.declared.TransformRequest.{TransformRequest}
+use Rattle.matrix_meaning.specs.declared.Request.{Request}
 use Rattle.spiral_words.specs.Asked.{IsAsked}
 use Rattle.spiral_words.specs.declared.Command.{Command}
 use Rattle.spiral_words.specs.declared.Command.TheVariants as command
@@ -31,13 +31,13 @@ use Rattle.spiral_main.proofs.Others.{apply_to, apply_from, compile_to, compile_
 abbrev Settled : List ℕ → Job → Status → List ℕ → Type 0
 Settled bytes job = Settles job.command job.request (room_behind bytes) (data_of bytes)
 
-ends_of : (wanted : Command) (r : TransformRequest) (bytes : List ℕ) (s : Status) (t : List ℕ)
+ends_of : (wanted : Command) (r : Request) (bytes : List ℕ) (s : Status) (t : List ℕ)
     → IsAnswerBy (accepted wanted r) (Settled bytes) s t
     → Ends wanted r (room_behind bytes) (data_of bytes) s t
 ends_of wanted r bytes s t (inl p) = inl p
 ends_of wanted r bytes s t (inr (job, is, p)) = inr (is.0, subst (λ (j : Job). Settled bytes j s t) is.1 p)
 
-of_ends : (wanted : Command) (r : TransformRequest) (bytes : List ℕ) (s : Status) (t : List ℕ)
+of_ends : (wanted : Command) (r : Request) (bytes : List ℕ) (s : Status) (t : List ℕ)
     → Ends wanted r (room_behind bytes) (data_of bytes) s t
     → IsAnswerBy (accepted wanted r) (Settled bytes) s t
 of_ends wanted r bytes s t (inl p) = inl p
@@ -47,16 +47,20 @@ request_part : (wanted : Command) (bytes : List ℕ) (s : Status) (t : List ℕ)
     → IsAnswerBy (requested wanted bytes >>= accepted wanted) (Settled bytes) s t
     → (by_request wanted).answer bytes s t
 request_part wanted bytes s t p =
-    answer_map (requested wanted bytes) (requested wanted bytes) (λ (r : TransformRequest). IsAnswerBy (accepted wanted r) (Settled bytes))
-    (λ (r : TransformRequest). Ends wanted r (room_behind bytes) (data_of bytes)) s t (λ r q. q) (λ r q. ends_of wanted r bytes s t q)
+    answer_map (requested wanted bytes) (requested wanted bytes)
+    (λ (r : Request). IsAnswerBy (accepted wanted r) (Settled bytes))
+    (λ (r : Request). Ends wanted r (room_behind bytes) (data_of bytes)) s t (λ r q. q)
+    (λ r q. ends_of wanted r bytes s t q)
     (nested (requested wanted bytes) (accepted wanted) (Settled bytes) s t p)
 
 part_request : (wanted : Command) (bytes : List ℕ) (s : Status) (t : List ℕ) → (by_request wanted).answer bytes s t
     → IsAnswerBy (requested wanted bytes >>= accepted wanted) (Settled bytes) s t
 part_request wanted bytes s t p =
     unnested (requested wanted bytes) (accepted wanted) (Settled bytes) s t
-    (answer_map (requested wanted bytes) (requested wanted bytes) (λ (r : TransformRequest). Ends wanted r (room_behind bytes) (data_of bytes))
-    (λ (r : TransformRequest). IsAnswerBy (accepted wanted r) (Settled bytes)) s t (λ r q. q) (λ r q. of_ends wanted r bytes s t q) p)
+    (answer_map (requested wanted bytes) (requested wanted bytes)
+    (λ (r : Request). Ends wanted r (room_behind bytes) (data_of bytes))
+    (λ (r : Request). IsAnswerBy (accepted wanted r) (Settled bytes)) s t (λ r q. q)
+    (λ r q. of_ends wanted r bytes s t q) p)
 
 request_answer : (words : List (List ℕ)) (bytes : List ℕ) (s : Status) (t : List ℕ)
     → landed.IsAnswerToRequest words bytes s t → IsOutcome words bytes s t
@@ -146,10 +150,10 @@ accounts_to words bytes left before after s m = meets_within (landed.call_outcom
 abbrev pub asked_request : List (List ℕ) → Outcomes
 asked_request words = record { answer = landed.IsAnswerToRequest words; broken = landed.IsBrokenRequest words; cut = landed.IsCutRequest words }
 
-abbrev job_of : Command → TransformRequest → Job
+abbrev job_of : Command → Request → Job
 job_of wanted r = record { command = wanted; request = r }
 
-ordered_by : (words : List (List ℕ)) (bytes : List ℕ) (wanted : Command) (r : TransformRequest)
+ordered_by : (words : List (List ℕ)) (bytes : List ℕ) (wanted : Command) (r : Request)
     → IsAsked words wanted → takes_request wanted ≡ true → requested wanted bytes (Ok r)
     → IsAccepted wanted r → landed.ordered words bytes (Ok (job_of wanted r))
 ordered_by words bytes wanted r asked takes spells there =

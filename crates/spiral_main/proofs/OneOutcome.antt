@@ -1,15 +1,14 @@
 -- The words and the bytes of a call determine its status.
 use Rattle.std.proofs.Common.{◌≡◌, ◌⊎◌, ℕ, Bool, true, false, List, Ok, Err, Result, refl, sym, ap, subst, ◌∙◌, arith, inl, inr}
-use Rattle.transform_requests.specs.declared.TransformRequest.{TransformRequest}
-use Rattle.transform_requests.specs.Fields.{procs_of}
+use Rattle.matrix_meaning.specs.declared.Request.{Request}
 use Rattle.request_text.specs.declared.RequestFault.{RequestFault}
 use Rattle.request_text.specs.Schedule.{Plan}
 use Rattle.spiral_words.specs.Asked.{IsAsked}
 use Rattle.spiral_words.specs.declared.Command.{Command}
 use Rattle.spiral_words.specs.declared.Command.TheVariants as command
 use Rattle.spiral_words.proofs.Usage.{usage_nothing}
-use Rattle.transform_certs.proofs.OneVerdict.{one_verdict}
-use Rattle.transform_lines.proofs.Once.{one_answer}
+use Rattle.plan_cert.proofs.OneVerdict.{one_verdict}
+use Rattle.request_text.proofs.OneAnswer.{one_answer}
 use Rattle.spiral_status.specs.declared.status.Status.{Status}
 use Rattle.request_commands.specs.Checked.{IsChecked, status_of_verdict}
 use Rattle.spiral_input.specs.Commands.{reads_certificate, takes_formula, takes_request, takes_convolution, commanded, scheduled, AskForFormula, AskForConvolution}
@@ -37,19 +36,19 @@ commanded_decided words (Ok a) (Err t) p q = absurd (usage_nothing words a q.1 p
 commanded_decided words (Err s) (Ok b) p q = absurd (usage_nothing words b p.1 q.0)
 commanded_decided words (Err s) (Err t) p q = ap ended (p.0 ∙ sym q.0)
 
-abbrev read : TransformRequest → Result TransformRequest RequestFault
+abbrev read : Request → Result Request RequestFault
 read request = Ok request
 
-abbrev faulty : RequestFault → Result TransformRequest RequestFault
+abbrev faulty : RequestFault → Result Request RequestFault
 faulty fault = Err fault
 
-read_same : (r s : TransformRequest) → read r ≡ read s → r ≡ s
+read_same : (r s : Request) → read r ≡ read s → r ≡ s
 read_same r s e = cc
 
 faulty_same : (f g : RequestFault) → faulty f ≡ faulty g → f ≡ g
 faulty_same f g e = cc
 
-read_faulty : (r : TransformRequest) (fault : RequestFault) → read r ≡ faulty fault → ⊥
+read_faulty : (r : Request) (fault : RequestFault) → read r ≡ faulty fault → ⊥
 read_faulty r fault e = absurd (cc)
 
 spelt_decided : (line : List ℕ) → IsDecided (spelt line)
@@ -62,20 +61,21 @@ spelt_decided line (Err s) (Err t) p q =
 requested_decided : (command : Command) (bytes : List ℕ) → IsDecided (requested command bytes)
 requested_decided command bytes =
     bind_decided (given (line_of bytes)) _ (given_decided (line_of bytes)) (λ line.
-    bind_decided (spelt line) _ (spelt_decided line) (λ request. given_decided (scheduled command (procs_of request) request)))
+    bind_decided (spelt line) _ (spelt_decided line)
+    (λ request. given_decided (scheduled command request.procs request)))
 
 -- The request for the command
 
 two_values : (b : Bool) → b ≡ true → b ≡ false → ⊥
 two_values b p q = absurd (cc)
 
-refused_once : (r : TransformRequest) (s t : Status) → IsRefused r s → IsRefused r t → s ≡ t
+refused_once : (r : Request) (s t : Status) → IsRefused r s → IsRefused r t → s ≡ t
 refused_once r s t p q = p.2 ∙ ap status_of_generate (refusal_once r p.0 q.0 p.1 q.1) ∙ sym q.2
 
-shut_out_once : (r : TransformRequest) (s t : Status) → IsShutOut r s → IsShutOut r t → s ≡ t
+shut_out_once : (r : Request) (s t : Status) → IsShutOut r s → IsShutOut r t → s ≡ t
 shut_out_once r s t p q = p.2 ∙ ap status_of_generate (bar_once r p.0 q.0 p.1 q.1) ∙ sym q.2
 
-accepted_clash : (wanted : Command) (r : TransformRequest) (s : Status) → IsAccepted wanted r → IsDeclined wanted r s → ⊥
+accepted_clash : (wanted : Command) (r : Request) (s : Status) → IsAccepted wanted r → IsDeclined wanted r s → ⊥
 accepted_clash command.Plan r s p q = plan_clash r p.0 q.0 p.1 q.1
 accepted_clash command.Formula r s p q = plan_clash r p.0 q.0 p.1 q.1
 accepted_clash command.Code r s p q = plan_clash r p.0 q.0 p.1 q.1
@@ -90,7 +90,7 @@ accepted_clash (command.Apply modulus schedule) r s p q = plan_clash r p.0 q.0 p
 accepted_clash (command.Exec schedule) r s p q = plan_clash r p.0 q.0 p.1 q.1
 accepted_clash (command.Convolve schedule as_code) r s p q = plan_clash r p.0 q.0 p.1 q.1
 
-declined_once : (wanted : Command) (r : TransformRequest) (s t : Status) → IsDeclined wanted r s → IsDeclined wanted r t → s ≡ t
+declined_once : (wanted : Command) (r : Request) (s t : Status) → IsDeclined wanted r s → IsDeclined wanted r t → s ≡ t
 declined_once command.Plan r s t p q = refused_once r s t p q
 declined_once command.Formula r s t p q = refused_once r s t p q
 declined_once command.Code r s t p q = refused_once r s t p q
@@ -105,7 +105,7 @@ declined_once (command.Apply modulus schedule) r s t p q = refused_once r s t p 
 declined_once (command.Exec schedule) r s t p q = refused_once r s t p q
 declined_once (command.Convolve schedule as_code) r s t p q = refused_once r s t p q
 
-accepted_decided : (wanted : Command) (r : TransformRequest) → IsDecided (accepted wanted r)
+accepted_decided : (wanted : Command) (r : Request) → IsDecided (accepted wanted r)
 accepted_decided wanted r (Ok a) (Ok b) p q = ap done (p.1 ∙ sym q.1)
 accepted_decided wanted r (Ok a) (Err t) p q = absurd (accepted_clash wanted r t p.0 q)
 accepted_decided wanted r (Err s) (Ok b) p q = absurd (accepted_clash wanted r s q.0 p)
@@ -118,7 +118,8 @@ ordered_decided words bytes =
 
 -- The job
 
-pub data_or_text : (wanted : Command) (r : TransformRequest) (vectors : List (List ℕ)) (s t : List ℕ) → IsTextOfData wanted r vectors s → IsTextOf wanted r t → ⊥
+pub data_or_text : (wanted : Command) (r : Request) (vectors : List (List ℕ)) (s t : List ℕ)
+    → IsTextOfData wanted r vectors s → IsTextOf wanted r t → ⊥
 data_or_text command.Plan r vectors s t p q = p
 data_or_text command.Formula r vectors s t p q = p
 data_or_text command.Code r vectors s t p q = p
@@ -133,7 +134,8 @@ data_or_text (command.Apply modulus schedule) r vectors s t p q = p
 data_or_text (command.Exec schedule) r vectors s t p q = p
 data_or_text (command.Convolve schedule as_code) r vectors s t p q = p
 
-pub data_or_check : (wanted : Command) (r : TransformRequest) (vectors : List (List ℕ)) (s : List ℕ) → IsTextOfData wanted r vectors s → reads_certificate wanted ≡ true → ⊥
+pub data_or_check : (wanted : Command) (r : Request) (vectors : List (List ℕ)) (s : List ℕ)
+    → IsTextOfData wanted r vectors s → reads_certificate wanted ≡ true → ⊥
 data_or_check (command.Run order) r vectors s p q = absurd (cc)
 data_or_check (command.Trace order) r vectors s p q = absurd (cc)
 data_or_check command.Plan r vectors s p q = p
@@ -148,7 +150,8 @@ data_or_check (command.Apply modulus schedule) r vectors s p q = p
 data_or_check (command.Exec schedule) r vectors s p q = p
 data_or_check (command.Convolve schedule as_code) r vectors s p q = p
 
-pub text_or_check : (wanted : Command) (r : TransformRequest) (s : List ℕ) → IsTextOf wanted r s → reads_certificate wanted ≡ true → ⊥
+pub text_or_check : (wanted : Command) (r : Request) (s : List ℕ) → IsTextOf wanted r s
+    → reads_certificate wanted ≡ true → ⊥
 text_or_check command.Plan r s p q = absurd (cc)
 text_or_check command.Formula r s p q = absurd (cc)
 text_or_check command.Code r s p q = absurd (cc)
@@ -163,13 +166,14 @@ text_or_check (command.Apply modulus schedule) r s p q = p
 text_or_check (command.Exec schedule) r s p q = p
 text_or_check (command.Convolve schedule as_code) r s p q = p
 
-checked_once : (r : TransformRequest) (bytes : List ℕ) (a b : Status) (s t : List ℕ) → IsChecked r bytes a s → IsChecked r bytes b t → a ≡ b
+checked_once : (r : Request) (bytes : List ℕ) (a b : Status) (s t : List ℕ) → IsChecked r bytes a s
+    → IsChecked r bytes b t → a ≡ b
 checked_once r bytes a b s t (inl p) (inl q) = p.1 ∙ sym q.1
 checked_once r bytes a b s t (inl p) (inr q) = absurd (omega (arith, p.0, q.0))
 checked_once r bytes a b s t (inr p) (inl q) = absurd (omega (arith, p.0, q.0))
 checked_once r bytes a b s t (inr p) (inr q) = p.1.2 ∙ ap status_of_verdict (one_verdict r bytes p.1.0 q.1.0 p.1.1 q.1.1) ∙ sym q.1.2
 
-settled_once : (wanted : Command) (r : TransformRequest) (room : ℕ) (bytes : List ℕ) (a b : Status) (s t : List ℕ)
+settled_once : (wanted : Command) (r : Request) (room : ℕ) (bytes : List ℕ) (a b : Status) (s t : List ℕ)
     → Settles wanted r room bytes a s → Settles wanted r room bytes b t → a ≡ b
 settled_once wanted r room bytes a b s t (inl p) (inl q) = p.0 ∙ sym q.0
 settled_once wanted r room bytes a b s t (inl p) (inr (inl q)) = absurd (data_or_text wanted r _ s t p.1 q.1)

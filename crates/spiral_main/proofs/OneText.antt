@@ -1,6 +1,6 @@
 -- The words and the bytes of a call determine its text.
 use Rattle.std.proofs.Common.{◌≡◌, ℕ, List, [], ◌∷◌, ◌++◌, sym, ap, subst, ◌∙◌, arith, inl, inr}
-use Rattle.transform_requests.specs.declared.TransformRequest.{TransformRequest}
+use Rattle.matrix_meaning.specs.declared.Request.{Request}
 use Rattle.request_text.specs.Schedule.{Plan}
 use Rattle.spiral_words.specs.declared.Command.{Command}
 use Rattle.spiral_words.specs.declared.Command.TheVariants as command
@@ -13,15 +13,14 @@ use Rattle.icode.specs.Program.{plain_program}
 use Rattle.icode.specs.declared.program.Program.{Program}
 use Rattle.listing_text.specs.Listing.{listing_of}
 use Rattle.runs.specs.Stream.{texts}
-use Rattle.request_commands.specs.Lean.{loads_of, stores_of}
-use Rattle.request_commands.specs.Letters.{HasLetters}
-use Rattle.transform_requests.specs.Fields.{modulus_of, procs_of, size_of}
-use Rattle.transform_requests.specs.Trees.{cost_of}
-use Rattle.transform_texts.specs.Formulas.{trees_expansion}
-use Rattle.transform_texts.specs.Texts.{plan_text}
+use Rattle.tree_model.specs.WholePasses.{whole_loads, whole_stores}
+use Rattle.request_commands.specs.Letters.{program_for}
+use Rattle.tree_model.specs.Chosen.{whole_cost}
+use Rattle.breakdown.specs.Expansion.{formula_of}
+use Rattle.request_commands.specs.PlanText.{plan_text}
 use Rattle.spl_text.specs.Spelling.{spelling}
-use Rattle.transform_certs.proofs.OneText.{one_certificate}
-use Rattle.transform_certs.proofs.OneVerdict.{one_verdict}
+use Rattle.plan_cert.proofs.OneText.{one_certificate}
+use Rattle.plan_cert.proofs.OneVerdict.{one_verdict}
 use Rattle.spiral_status.specs.declared.status.Status.{Status}
 use Rattle.request_commands.specs.Checked.{IsChecked, verdict_text}
 use Rattle.formula_commands.specs.Compiled.{IsFormulaAnswer}
@@ -35,7 +34,7 @@ use Rattle.request_commands.specs.Traced.{traced_text}
 use Rattle.request_commands.specs.Sample.{sample_vector, weighted_sum, sample_text}
 use Rattle.spiral_words.proofs.OneCommand.{asked_once}
 use Rattle.spiral_main.specs.Programs.{IsCodeListed}
-use Rattle.spiral_main.proofs.OnePlan.{letters_once, planned_once}
+use Rattle.spiral_main.proofs.OnePlan.{planned_once}
 use Rattle.convolution_commands.proofs.OneConvolution.{conv_text_once}
 use Rattle.listing_commands.proofs.OneExecution.{execution_text_once}
 use Rattle.formula_commands.proofs.OneFormula.{formula_text_once}
@@ -43,18 +42,22 @@ use Rattle.spiral_main.proofs.OneOutcome.{ordered_decided, data_or_text, data_or
 use Rattle.spiral_input.proofs.Stages.{of_answers}
 
 -- the program of a request is one
-pub program_once : (r : TransformRequest) (p q : Program) → IsProgramFor r p → IsProgramFor r q → plain_program p ≡ plain_program q
+pub program_once : (r : Request) (p q : Program) → IsProgramFor r p → IsProgramFor r q
+    → plain_program p ≡ plain_program q
 program_once r p q mine other =
-    letters_once r other.0 (plain_program p) (plain_program q)
-    (subst (λ (trees : List Breakdown). HasLetters r trees (plain_program p)) (planned_once r mine.0 other.0 mine.1 other.1) mine.2.letters) other.2.letters
+    mine.2.letters ∙ ap (program_for r) (planned_once r mine.0 other.0 mine.1 other.1) ∙ sym other.2.letters
 
 -- and the machine's code is that of the program that is listed
-pub code_listed : (r : TransformRequest) (code : Code) (listing : List ℕ) → IsGoodCode r code → IsListing r listing → IsCodeListed code listing
+pub code_listed : (r : Request) (code : Code) (listing : List ℕ) → IsGoodCode r code → IsListing r listing
+    → IsCodeListed code listing
 code_listed r code listing good listed = (plain_program good.0, good.2, listed.2 ∙ ap listing_of (program_once r listed.0 good.0 listed.1 good.1))
 
-text_once : (wanted : Command) (r : TransformRequest) (s t : List ℕ) → IsTextOf wanted r s → IsTextOf wanted r t → s ≡ t
+text_once : (wanted : Command) (r : Request) (s t : List ℕ) → IsTextOf wanted r s → IsTextOf wanted r t → s ≡ t
 text_once command.Plan r s t p q = p.2 ∙ ap (plan_text r) (planned_once r p.0 q.0 p.1 q.1) ∙ sym q.2
-text_once command.Formula r s t p q = p.2 ∙ ap (λ (trees : List Breakdown). spelling (trees_expansion r trees) ++ 10 ∷ []) (planned_once r p.0 q.0 p.1 q.1) ∙ sym q.2
+text_once command.Formula r s t p q =
+    p.2
+    ∙ ap (λ (tree : Breakdown). spelling (formula_of r tree) ++ 10 ∷ []) (planned_once r p.0 q.0 p.1 q.1)
+    ∙ sym q.2
 text_once command.Code r s t p q = p.2 ∙ ap listing_of (program_once r p.0 q.0 p.1 q.1) ∙ sym q.2
 text_once command.C r s t p q = p.2 ∙ ap c_text_of (program_once r p.0 q.0 p.1 q.1) ∙ sym q.2
 text_once (command.Run order) r s t p q = absurd p
@@ -67,15 +70,17 @@ text_once (command.Exec schedule) r s t p q = absurd p
 text_once (command.Convolve schedule as_code) r s t p q = absurd p
 text_once (command.Sample seed schedule) r s t p q =
     p.2
-    ∙ ap (λ (trees : List Breakdown). sample_text (weighted_sum (modulus_of r) (product r (sample_vector (modulus_of r) (size_of r) seed))) (cost_of r trees) (loads_of r trees) (stores_of r trees)) (planned_once r p.0 q.0 p.1 q.1)
+    ∙ ap (λ (tree : Breakdown). sample_text (weighted_sum r.modulus (product r (sample_vector r.modulus r.size seed)))
+    (whole_cost r tree) (whole_loads r tree) (whole_stores r tree)) (planned_once r p.0 q.0 p.1 q.1)
     ∙ sym q.2
 
-data_text_once : (wanted : Command) (r : TransformRequest) (vectors : List (List ℕ)) (s t : List ℕ)
+data_text_once : (wanted : Command) (r : Request) (vectors : List (List ℕ)) (s t : List ℕ)
     → IsTextOfData wanted r vectors s → IsTextOfData wanted r vectors t → s ≡ t
 data_text_once (command.Run order) r vectors s t p q = p ∙ sym q
 data_text_once (command.Trace order) r vectors s t p q =
     p.2
-    ∙ ap (λ (program : PlainProgram). listing_of program ++ texts (traced_text order (procs_of r) (plain_code program)) vectors) (program_once r p.0 q.0 p.1 q.1)
+    ∙ ap (λ (program : PlainProgram). listing_of program
+    ++ texts (traced_text order r.procs (plain_code program)) vectors) (program_once r p.0 q.0 p.1 q.1)
     ∙ sym q.2
 data_text_once command.Plan r vectors s t p q = absurd p
 data_text_once command.Formula r vectors s t p q = absurd p
@@ -89,13 +94,14 @@ data_text_once (command.Apply modulus schedule) r vectors s t p q = absurd p
 data_text_once (command.Exec schedule) r vectors s t p q = absurd p
 data_text_once (command.Convolve schedule as_code) r vectors s t p q = absurd p
 
-checked_text_once : (r : TransformRequest) (bytes : List ℕ) (a b : Status) (s t : List ℕ) → IsChecked r bytes a s → IsChecked r bytes b t → s ≡ t
+checked_text_once : (r : Request) (bytes : List ℕ) (a b : Status) (s t : List ℕ) → IsChecked r bytes a s
+    → IsChecked r bytes b t → s ≡ t
 checked_text_once r bytes a b s t (inl p) (inl q) = p.2 ∙ sym q.2
 checked_text_once r bytes a b s t (inl p) (inr q) = absurd (omega (arith, p.0, q.0))
 checked_text_once r bytes a b s t (inr p) (inl q) = absurd (omega (arith, p.0, q.0))
 checked_text_once r bytes a b s t (inr p) (inr q) = p.1.3 ∙ ap verdict_text (one_verdict r bytes p.1.0 q.1.0 p.1.1 q.1.1) ∙ sym q.1.3
 
-settled_text_once : (wanted : Command) (r : TransformRequest) (room : ℕ) (bytes : List ℕ) (a b : Status) (s t : List ℕ)
+settled_text_once : (wanted : Command) (r : Request) (room : ℕ) (bytes : List ℕ) (a b : Status) (s t : List ℕ)
     → Settles wanted r room bytes a s → Settles wanted r room bytes b t → s ≡ t
 settled_text_once wanted r room bytes a b s t (inl p) (inl q) = data_text_once wanted r _ s t p.1 q.1
 settled_text_once wanted r room bytes a b s t (inl p) (inr (inl q)) = absurd (data_or_text wanted r _ s t p.1 q.1)

@@ -2,7 +2,7 @@
 use Rattle.std.proofs.Common.{◌≡◌, ℕ, Bool, true, false, List, [], ◌∷◌, Ok, Result, refl, sym, subst, ◌∙◌, inl, inr}
 use Rattle.convolution_commands.specs.Convolution.{convolution}
 use Rattle.data_stream.specs.Data.{tokens, closed_part}
-use Rattle.convolution_commands.specs.Planned.{IsConvPlanned}
+use Rattle.convolution_commands.specs.ConvPlanned.{IsConvPlanned}
 use Rattle.matrix_meaning.specs.declared.Request.{Request}
 use Rattle.request_text.specs.Schedule.{Plan as Turns}
 use Rattle.request_text.specs.Turns.{named}

@@ -2,9 +2,7 @@
 use Rattle.std.proofs.Common.{◌≡◌, ◌≢◌, ◌⊎◌, ℕ, true, false, List, Ok, refl, ap, subst, ◌∙◌, arith, inl, inr}
 use Rattle.std.specs.declared.option.Option.{Option}
 use Rattle.matrix_meaning.specs.declared.Request.{Request}
-use Rattle.transform_requests.specs.declared.TransformRequest.{TransformRequest}
-use Rattle.transform_requests.specs.Fields as requests
-use Rattle.transform_certs.proofs.OneVerdict.{one_verdict}
+use Rattle.plan_cert.proofs.OneVerdict.{one_verdict}
 use Rattle.plan_cert.specs.declared.verdict.Verdict.TheVariants.{Least}
 use Rattle.icode.specs.Plain.{PlainProgram}
 use Rattle.input_rest.specs.Part.{second_part}
@@ -38,10 +36,13 @@ use Rattle.spiral_main.proofs.OneOutcome.{ordered_decided, no_order, no_answer, 
 use Rattle.spiral_input.proofs.Stages.{answer_for}
 use Rattle.runs.proofs.StreamLemmas.{right_answer}
 
-data_right : (wanted : Command) (r : TransformRequest) (room : ℕ) (bytes : List ℕ) (vectors : List (List ℕ)) (text : List ℕ) → IsRightRest wanted r room bytes → IsTextOfData wanted r vectors text
-    → data_answer (requests.size_of r) room bytes ≡ Ok tt
-data_right (command.Run order) r room bytes vectors text right p = right_answer (requests.size_of r) room bytes right.few right.good right.whole
-data_right (command.Trace order) r room bytes vectors text right p = right_answer (requests.size_of r) room bytes right.few right.good right.whole
+data_right : (wanted : Command) (r : Request) (room : ℕ) (bytes : List ℕ) (vectors : List (List ℕ)) (text : List ℕ)
+    → IsRightRest wanted r room bytes → IsTextOfData wanted r vectors text
+    → data_answer r.size room bytes ≡ Ok tt
+data_right (command.Run order) r room bytes vectors text right p =
+    right_answer r.size room bytes right.few right.good right.whole
+data_right (command.Trace order) r room bytes vectors text right p =
+    right_answer r.size room bytes right.few right.good right.whole
 data_right command.Plan r room bytes vectors text right p = absurd p
 data_right command.Formula r room bytes vectors text right p = absurd p
 data_right command.Code r room bytes vectors text right p = absurd p
@@ -54,7 +55,8 @@ data_right (command.Apply modulus schedule) r room bytes vectors text right p = 
 data_right (command.Exec schedule) r room bytes vectors text right p = absurd p
 data_right (command.Convolve schedule as_code) r room bytes vectors text right p = absurd p
 
-check_right : (wanted : Command) (r : TransformRequest) (room : ℕ) (bytes : List ℕ) (s : Status) (text : List ℕ) → IsRightRest wanted r room bytes → reads_certificate wanted ≡ true → IsChecked r bytes s text → s ≡ Success
+check_right : (wanted : Command) (r : Request) (room : ℕ) (bytes : List ℕ) (s : Status) (text : List ℕ)
+    → IsRightRest wanted r room bytes → reads_certificate wanted ≡ true → IsChecked r bytes s text → s ≡ Success
 check_right command.Check r room bytes s text right h (inl p) = absurd (omega (arith, p.0, right.few))
 check_right command.Check r room bytes s text right h (inr p) = p.1.2 ∙ ap status_of_verdict (one_verdict r bytes p.1.0 (Least right.cost) p.1.1 right.judged)
 check_right (command.Run order) r room bytes s text right h p = absurd (cc)
@@ -70,7 +72,8 @@ check_right (command.Apply modulus schedule) r room bytes s text right h p = abs
 check_right (command.Exec schedule) r room bytes s text right h p = absurd (cc)
 check_right (command.Convolve schedule as_code) r room bytes s text right h p = absurd (cc)
 
-settled_right : (wanted : Command) (r : TransformRequest) (room : ℕ) (bytes : List ℕ) (s : Status) (text : List ℕ) → IsRightRest wanted r room bytes → Settles wanted r room bytes s text → s ≡ Success
+settled_right : (wanted : Command) (r : Request) (room : ℕ) (bytes : List ℕ) (s : Status) (text : List ℕ)
+    → IsRightRest wanted r room bytes → Settles wanted r room bytes s text → s ≡ Success
 settled_right wanted r room bytes s text right (inl p) = p.0 ∙ ap status_of_stream (data_right wanted r room bytes _ text right p.1)
 settled_right wanted r room bytes s text right (inr (inl p)) = p.0
 settled_right wanted r room bytes s text right (inr (inr p)) = check_right wanted r room bytes s text right p.0 p.1

@@ -14,7 +14,6 @@ use Rattle.spl_ast.specs.Formula as spl
 use Rattle.spl_ast.specs.Meaning as formulas
 use Rattle.runs.specs.Stream.{lines, vectors_of, bad_after, vectors_seen, data_vectors}
 use Rattle.runs.proofs.StreamLemmas.{bad_behind, right_answer}
-use Rattle.transform_requests.specs.Fields.{modulus_of, procs_of, size_of}
 use Rattle.spiral_words.specs.declared.Command.TheVariants as command
 use Rattle.spiral_status.specs.Fault.{status_of_stream}
 use Rattle.spiral_status.specs.declared.status.Status.{Status}
@@ -76,7 +75,7 @@ orders_plan names bytes plan right = record {
   before = record {
     value = plan.request;
     before = right.spells;
-    behind = sym (ap (λ stranger. admitted stranger (procs_of plan.request) plan.request) right.turns);
+    behind = sym (ap (λ stranger. admitted stranger plan.request.procs plan.request) right.turns);
   };
   behind = (refl, right.planned);
 }
@@ -96,11 +95,13 @@ text_is_right names bytes IsText plan t right is = line_answer names bytes (λ (
 
 pub data_are_right : (names bytes : List ℕ) (IsText : Planned → List (List ℕ) → List ℕ → Type 0) (plan : Planned)
     (t : List ℕ) → IsRightLine names bytes plan
-    → HasWholeVectors (line 256) (size_of plan.request) bytes → IsText plan (request_vectors plan bytes) t
-    → (by_front (line 256) (planned names) (λ (p : Planned). mapping all (size_of p.request) (modulus_of p.request) (IsText p))).answer bytes Success t
+    → HasWholeVectors (line 256) plan.request.size bytes → IsText plan (request_vectors plan bytes) t
+    → (by_front (line 256) (planned names)
+    (λ (p : Planned). mapping all p.request.size p.request.modulus (IsText p))).answer bytes Success t
 data_are_right names bytes IsText plan t right vectors is =
-    line_answer names bytes (λ (p : Planned). mapping all (size_of p.request) (modulus_of p.request) (IsText p)) plan t right
-    (whole_answer (size_of plan.request) (modulus_of plan.request) (IsText plan) (room_behind (line 256) bytes) ((line 256).behind bytes) t vectors is)
+    line_answer names bytes (λ (p : Planned). mapping all p.request.size p.request.modulus (IsText p)) plan t right
+    (whole_answer plan.request.size plan.request.modulus (IsText plan) (room_behind (line 256) bytes)
+    ((line 256).behind bytes) t vectors is)
 
 -- By a formula or a listing
 

@@ -1,60 +1,78 @@
 -- A request that is valid, admits a tree and has the budget for its least cost is one for its command.
-use Rattle.std.proofs.Common.{◌≡◌, ℕ, ◌+◌, ◌≤◌, true, List, [], ◌∷◌, Ok, ap, ◌∙◌, arith, inl, inr, refl, subst}
-use Rattle.std.proofs.lemmas.Bool.{and_from, cases_Bool, eq-eqb}
-use Rattle.convolution_commands.specs.Request.{IsConvRequest}
+use Rattle.std.proofs.Common.{◌≡◌, ◌≢◌, ℕ, ◌≤◌, List, [], ◌∷◌, None, Some, Ok, ap, ◌∙◌, refl, sym, subst}
+use Rattle.std.specs.Prelude.{All, if◌then◌else◌, map}
+use Rattle.std.proofs.lemmas.Bool.{and_from, eq-eqb}
+use Rattle.std.proofs.lemmas.List.Elements.{All-head, All-tail}
+use Rattle.convolution_commands.specs.Convolving.{IsConvRequest}
 use Rattle.convolution_commands.specs.Convolved.{IsConvolvable, conv_in}
-use Rattle.convolution_commands.specs.Planned.{HasPrincipalRoot, both_halves}
-use Rattle.dimension_plans.proofs.Existence.{chosen_are_least, chosen_trees}
-use Rattle.dimension_plans.specs.Several.{CanShare, IsSeveralRequest, several_cost}
-use Rattle.dimension_plans.specs.declared.SeveralRequest.{SeveralRequest}
-use Rattle.dimensions.specs.Transform.{listed}
-use Rattle.request_commands.proofs.Existence.{valid_of_rooted}
-use Rattle.request_commands.specs.Planned.{IsRooted, has_root, root_power}
+use Rattle.convolution_commands.specs.ConvPlanned.{HasPrincipalRoot, both_halves}
+use Rattle.matrix_meaning.specs.Parts.{bad_power_by, first_bad, part_of, parts_in, root_power}
 use Rattle.matrix_meaning.specs.Valid.{HasRoot, IsInRange, IsValid}
+use Rattle.matrix_meaning.specs.declared.Dimension.{Dimension}
+use Rattle.matrix_meaning.specs.declared.Dimensions.{Dimensions}
+use Rattle.matrix_meaning.specs.declared.Dimensions.TheVariants.{One, Two, Three, Four}
 use Rattle.matrix_meaning.specs.declared.Kind.{Kind}
-use Rattle.matrix_meaning.specs.declared.Kind.TheVariants.{Dft, Wht}
+use Rattle.matrix_meaning.specs.declared.Kind.TheVariants.{Dft, Wht, Idft}
 use Rattle.matrix_meaning.specs.declared.Request.{Request}
-use Rattle.plan_search.proofs.BestTrees.{chosen_exists, chosen_is_least, least_once}
+use Rattle.matrix_meaning.proofs.Requests.{valid_by_powers}
+use Rattle.matrix_meaning.proofs.Roots.{HasItsRoot}
+use Rattle.plan_search.proofs.WholeChosen.{divides_plain, whole_divides, whole_exists, whole_is_least, whole_least_once}
+use Rattle.request_commands.specs.Planned.{IsAdmitted, IsRooted}
 use Rattle.request_commands.specs.Settled.{IsAccepted, IsAffordable}
 use Rattle.spiral_words.specs.declared.Command.{Command}
 use Rattle.spiral_words.specs.declared.Command.TheVariants as command
-use Rattle.request_commands.specs.Planned.{ArePlanned, HasRoots, IsAdmitted, IsOnePlanned}
-use Rattle.transform_requests.specs.Range.{AreInRange, IsRequestInRange, IsRequestValid}
-use Rattle.transform_requests.specs.declared.TransformRequest.{TransformRequest}
-use Rattle.transform_requests.specs.declared.TransformRequest.TheVariants.{One, Several}
-use Rattle.tree_model.specs.Admissible.{CanDivide, IsAdmissible, RootFits}
-use Rattle.tree_model.specs.Breakdown.{Breakdown, leaf, node, size_of}
-use Rattle.tree_model.specs.Cost.{cost_of, extra_cost, is_plain, whole_cost}
-use Rattle.tree_model.specs.declared.tree.Rule.TheVariants.{Gt, Ct, Split}
+use Rattle.tree_model.specs.Chosen.{CanDivideWhole, whole_cost}
 use Rattle.spiral_main.specs.Families.{Job, ordered}
-use Rattle.spiral_main.specs.Right.{AdmitsTrees, HasBudgetFor, IsRightConvolution, IsRightRequest, IsWithinBudget, IsWithinConvBudget}
+use Rattle.spiral_main.specs.Right.{HasBudgetFor, IsRightConvolution, IsRightRequest}
+use Rattle.spiral_main.specs.Right.{IsWithinBudget, IsWithinConvBudget}
 
-rooted_from : (kind : Kind) (r : Request) → HasRoot kind r.modulus r.root r.size → has_root kind (root_power r) ≡ true
-rooted_from Dft r h = eq-eqb (root_power r) 1 h
-rooted_from Wht r h = refl
+-- ---- the roots of a valid request are right
 
-roots_from : (r : SeveralRequest) → IsSeveralRequest r → HasRoots r
-roots_from r valid = λ k d within. (valid.parts k d within).1.root
+-- a right power is passed over
+first_right : (p : Request) (ps : List Request) → root_power p ≡ 1 → first_bad (p ∷ ps) ≡ first_bad ps
+first_right p ps right = ap (λ b. if b then first_bad ps else Some (root_power p)) (eq-eqb (root_power p) 1 right)
 
-admitted : (r : TransformRequest) → IsRequestValid r → AdmitsTrees r → IsAdmitted r
-admitted (One r) valid can = (rooted_from r.kind r valid.root, can)
-admitted (Several r) valid can = (roots_from r valid, can)
+parts_right : (r : Request) (ds : List Dimension) → All HasItsRoot (map (part_of r) ds)
+    → first_bad (map (part_of r) ds) ≡ None
+parts_right r [] h = refl
+parts_right r (d ∷ ds) h =
+    first_right (part_of r d) (map (part_of r) ds) (All-head HasItsRoot (part_of r d) (map (part_of r) ds) h)
+    ∙ parts_right r ds (All-tail HasItsRoot (part_of r d) (map (part_of r) ds) h)
 
-affordable : (r : TransformRequest) → IsRequestValid r → AdmitsTrees r → IsWithinBudget r → IsAffordable r
-affordable (One r) valid can pays =
-    let tree = chosen_exists r valid can in
-    let same : pays.1.0 ≡ cost_of r tree.0 = least_once r pays.1.0 (cost_of r tree.0) pays.1.1 (chosen_is_least r tree.0 tree.1) in
-    let whole : pays.0 ≡ whole_cost r tree.0 = pays.1.2 ∙ ap (λ k. k + extra_cost r) same in
-    (tree.0 ∷ [], (rooted_from r.kind r valid.root, tree.1, subst (λ k. k ≤ r.budget) whole pays.2))
-affordable (Several r) valid can pays =
-    let trees = chosen_trees r valid can in
-    let reached = pays.1.1.reached in
-    let least : several_cost r (listed r.dimensions) trees.0 ≤ pays.0 =
-    subst (λ k. several_cost r (listed r.dimensions) trees.0 ≤ k) reached.2 (trees.1.1.least reached.0 reached.1) in
-    let budget : pays.0 ≤ r.budget = pays.2 in
-    (trees.0, (roots_from r valid, trees.1, omega (arith, least, budget)))
+-- of one size the root is its own, unless it is not looked at
+one_right : (kind : Kind) (r : Request) → kind ≢ Wht → HasRoot kind r.modulus r.root r.size → root_power r ≡ 1
+one_right Dft r other root = root
+one_right Wht r other root = absurd (other refl)
+one_right Idft r other root = root
 
-accepts : (wanted : Command) (r : TransformRequest) → IsRequestValid r → AdmitsTrees r → HasBudgetFor wanted r → IsAccepted wanted r
+none_bad : (r : Request) (ds : Dimensions) → r.kind ≢ Wht → All HasItsRoot (parts_in r ds)
+    → first_bad (parts_in r ds) ≡ None
+none_bad r One other h = first_right r [] (one_right r.kind r other (All-head HasItsRoot r [] h))
+none_bad r (Two a b) other h = parts_right r (a ∷ b ∷ []) h
+none_bad r (Three a b c) other h = parts_right r (a ∷ b ∷ c ∷ []) h
+none_bad r (Four a b c d) other h = parts_right r (a ∷ b ∷ c ∷ d ∷ []) h
+
+rooted_by : (kind : Kind) (r : Request) → r.kind ≡ kind → IsValid r → bad_power_by kind r ≡ None
+rooted_by Dft r is valid = none_bad r r.dimensions (λ wht. let clash : Dft ≡ Wht = sym is ∙ wht in cc) valid.parts
+rooted_by Wht r is valid = refl
+rooted_by Idft r is valid = none_bad r r.dimensions (λ wht. let clash : Idft ≡ Wht = sym is ∙ wht in cc) valid.parts
+
+rooted : (r : Request) → IsValid r → IsRooted r
+rooted r valid = rooted_by r.kind r refl valid
+
+-- ---- a right request is accepted
+
+admitted : (r : Request) → IsValid r → CanDivideWhole r → IsAdmitted r
+admitted r valid can = (rooted r valid, can)
+
+affordable : (r : Request) → IsValid r → CanDivideWhole r → IsWithinBudget r → IsAffordable r
+affordable r valid can pays =
+    let tree = whole_exists r valid.in_range can in
+    let same : pays.0 ≡ whole_cost r tree.0 =
+    whole_least_once r pays.0 (whole_cost r tree.0) pays.1 (whole_is_least r tree.0 tree.1) in
+    (tree.0, (rooted r valid, tree.1, subst (λ k. k ≤ r.budget) same pays.2))
+
+accepts : (wanted : Command) (r : Request) → IsValid r → CanDivideWhole r → HasBudgetFor wanted r → IsAccepted wanted r
 accepts command.Check r valid can pays = admitted r valid can
 accepts command.Plan r valid can pays = affordable r valid can pays
 accepts command.Formula r valid can pays = affordable r valid can pays
@@ -70,11 +88,12 @@ accepts (command.Exec schedule) r valid can pays = affordable r valid can pays
 accepts (command.Convolve schedule as_code) r valid can pays = affordable r valid can pays
 
 convolvable_by : (r : Request) → IsConvRequest r → IsRooted r → HasPrincipalRoot r → IsWithinConvBudget r → IsConvolvable r
-convolvable_by r able rooted principal pays =
+convolvable_by r able right principal pays =
     let plain = and_from _ _ (eq-eqb r.procs 1 able.procs) (eq-eqb r.lanes 1 able.lanes) in
-    let tree = chosen_exists r (valid_of_rooted r able.in_range rooted) (inl plain) in
-    let same : pays.0 ≡ cost_of r tree.0 = least_once r pays.0 (cost_of r tree.0) pays.1 (chosen_is_least r tree.0 tree.1) in
-    (tree.0, (rooted, principal, tree.1, subst (λ k. both_halves r k ≤ r.budget) same pays.2))
+    let tree = whole_exists r able.in_range (divides_plain r plain) in
+    let same : pays.0 ≡ whole_cost r tree.0 =
+    whole_least_once r pays.0 (whole_cost r tree.0) pays.1 (whole_is_least r tree.0 tree.1) in
+    (tree.0, (right, principal, tree.1, subst (λ k. both_halves r k ≤ r.budget) same pays.2))
 
 -- what a right call by a request orders
 abbrev pub job_of : (words : List (List ℕ)) (bytes : List ℕ) → IsRightRequest words bytes → Job
@@ -101,39 +120,9 @@ orders_request words bytes right = record {
 
 -- ---- a request that has a plan is right
 
-root_divides : (c : Request) (t : Breakdown) → RootFits c t → CanDivide c
-root_divides c (leaf d) h = absurd h
-root_divides c (node Gt a b) h = absurd h
-root_divides c (node Ct a b) h = inr (size_of a, size_of b, h)
-root_divides c (node Split a b) h = inr (size_of a, size_of b, h)
-
-tree_divides : (c : Request) (t : Breakdown) → IsAdmissible c t → CanDivide c
-tree_divides c t h = elim (cases_Bool (is_plain c)) [
-  | inl plain ↦ inl plain
-  | inr shared ↦ root_divides c t (h.root refl shared)
-]
-
-one_is_right : (r : Request) (ts : List Breakdown) → IsInRange r → IsOnePlanned r (Ok ts) → IsValid r × CanDivide r × IsWithinBudget (One r)
-one_is_right r [] range planned = absurd planned
-one_is_right r (t ∷ []) range planned = (
-  valid_of_rooted r range planned.0,
-  tree_divides r t planned.1.candidate,
-  (whole_cost r t, (cost_of r t, chosen_is_least r t planned.1, refl), planned.2),
+pub planned_is_right : (r : Request) → IsInRange r → IsAffordable r → IsValid r × CanDivideWhole r × IsWithinBudget r
+planned_is_right r range (t, planned) = (
+  valid_by_powers r range planned.0,
+  whole_divides r t planned.1.tree,
+  (whole_cost r t, whole_is_least r t planned.1, planned.2),
 )
-one_is_right r (t ∷ u ∷ ts) range planned = absurd planned
-
-several_are_right : (r : SeveralRequest) (ts : List Breakdown) → AreInRange r → ArePlanned r (Ok ts)
-    → IsSeveralRequest r × CanShare r × IsWithinBudget (Several r)
-several_are_right r ts range planned = (
-  record {
-    several = range.several;
-    parts = λ k d within. ((range.parts k d within).0, record { in_range = (range.parts k d within).1; root = planned.0 k d within });
-    whole = range.whole;
-  },
-  planned.1.0,
-  (several_cost r (listed r.dimensions) ts, chosen_are_least r ts planned.1, planned.2),
-)
-
-pub planned_is_right : (r : TransformRequest) → IsRequestInRange r → IsAffordable r → IsRequestValid r × AdmitsTrees r × IsWithinBudget r
-planned_is_right (One r) range planned = one_is_right r planned.0 range planned.1
-planned_is_right (Several r) range planned = several_are_right r planned.0 range planned.1

@@ -1,18 +1,17 @@
 -- Each call has an outcome.
 use Rattle.std.proofs.Common.{◌≡◌, ℕ, ◌++◌, ◌∷◌, [], true, false, List, Option, Result, Ok, Err, Some, None, refl, sym, subst, inl, inr}
-use Rattle.plan_faults.specs.declared.generating.GenerateFault.{GenerateFault}
+use Rattle.plan_search.specs.declared.generating.GenerateFault.{GenerateFault}
 use Rattle.request_text.specs.declared.RequestFault.{RequestFault}
-use Rattle.transform_lines.specs.Answer.{TransformAnswers}
-use Rattle.transform_lines.proofs.Existence.{line_answered}
-use Rattle.transform_requests.specs.declared.TransformRequest.{TransformRequest}
-use Rattle.transform_requests.specs.Fields.{modulus_of, procs_of, size_of}
-use Rattle.transform_requests.specs.Range.{IsRequestInRange}
-use Rattle.transform_requests.specs.Trees.{cost_of}
-use Rattle.request_commands.specs.Lean.{loads_of, stores_of}
+use Rattle.request_text.specs.Answer.{Answers}
+use Rattle.request_text.proofs.OneAnswer.{line_answered}
+use Rattle.matrix_meaning.specs.declared.Request.{Request}
+use Rattle.matrix_meaning.specs.Valid.{IsInRange}
+use Rattle.tree_model.specs.Chosen.{whole_cost}
+use Rattle.tree_model.specs.WholePasses.{whole_loads, whole_stores}
 use Rattle.request_commands.specs.Planned.{IsPlanned}
-use Rattle.request_commands.proofs.Existence.{plan_of_request}
-use Rattle.transform_texts.specs.Formulas.{trees_expansion}
-use Rattle.transform_texts.specs.Texts.{plan_text}
+use Rattle.request_commands.proofs.Existence.{plan_exists}
+use Rattle.breakdown.specs.Expansion.{formula_of}
+use Rattle.request_commands.specs.PlanText.{plan_text}
 use Rattle.tree_model.specs.Breakdown.{Breakdown}
 use Rattle.spl_text.specs.Spelling.{spelling}
 use Rattle.runs.specs.Stream.{lines, data_answer, data_vectors}
@@ -24,8 +23,7 @@ use Rattle.request_text.specs.Schedule.{Plan as Turns}
 use Rattle.spl_ast.specs.Formula.{Formula}
 use Rattle.spl_ast.specs.Formula as formulas
 use Rattle.spl_ast.specs.Meaning as meanings
-use Rattle.matrix_meaning.specs.declared.Request.{Request}
-use Rattle.convolution_commands.specs.Convolved.{IsConvText, conv_in, conv_lines, conv_procs, conv_spelt, conv_status}
+use Rattle.convolution_commands.specs.Convolved.{IsConvText, conv_in, conv_lines, conv_spelt, conv_status}
 use Rattle.convolution_commands.proofs.Existence.{conv_spelt_has, convolvable_has}
 use Rattle.formula_commands.specs.Compiled.{formula_in, formula_line}
 use Rattle.formula_commands.proofs.Written.{formula_written}
@@ -65,49 +63,53 @@ both_have first next (Err status, before) later = (Err status, inl before)
 spelt_has : (line : List ℕ) → HasAnswer (spelt line)
 spelt_has line = by (line_answered line)
   where
-    by : (answer : Result TransformRequest RequestFault) × TransformAnswers line answer → HasAnswer (spelt line)
+    by : (answer : Result Request RequestFault) × Answers line answer → HasAnswer (spelt line)
     by (Ok request, h) = (Ok request, h)
     by (Err fault, h) = (Err (status_of_request fault), (fault, h, refl))
 
 -- a line that spells something in each case has an answer for the command
-asked_has : {R : Type 0} (procs : R → ℕ) (spells : List ℕ → Stage R) → ((line : List ℕ) → HasAnswer (spells line)) → (wanted : Command) (bytes : List ℕ) → HasAnswer (asked_by procs spells wanted bytes)
-asked_has procs spells each wanted bytes =
+asked_has : (spells : List ℕ → Stage Request) → ((line : List ℕ) → HasAnswer (spells line)) → (wanted : Command)
+    (bytes : List ℕ) → HasAnswer (asked_by spells wanted bytes)
+asked_has spells each wanted bytes =
     both_have _ _ (given_has (line_of bytes)) (λ line is.
-    both_have _ _ (each line) (λ request h. given_has (scheduled wanted (procs request) request)))
+    both_have _ _ (each line) (λ request h. given_has (scheduled wanted request.procs request)))
 
-admitted_same : {R : Type 0} (stranger : Option ℕ) (procs : ℕ) (a b : R) → done b ≡ admitted stranger procs a → a ≡ b
+admitted_same : (stranger : Option ℕ) (procs : ℕ) (a b : Request) → done b ≡ admitted stranger procs a → a ≡ b
 admitted_same None procs a b is = done_same a b (sym is)
 admitted_same (Some q) procs a b is = absurd (done_ended b (Turn q procs) is)
 
 -- what is asked for is what a line spells
-asked_spelt : {R : Type 0} (procs : R → ℕ) (spells : List ℕ → Stage R) (wanted : Command) (bytes : List ℕ) (request : R) → asked_by procs spells wanted bytes (Ok request) → (line : List ℕ) × spells line (Ok request)
-asked_spelt {R} procs spells wanted bytes request h =
+asked_spelt : (spells : List ℕ → Stage Request) (wanted : Command) (bytes : List ℕ) (request : Request)
+    → asked_by spells wanted bytes (Ok request) → (line : List ℕ) × spells line (Ok request)
+asked_spelt spells wanted bytes request h =
     let spelling = h.behind in
-    let count : ℕ = procs spelling.value in
+    let count : ℕ = spelling.value.procs in
     let same : spelling.value ≡ request = admitted_same (first_stranger (procs_named wanted) count) count spelling.value request spelling.behind in
-    (h.value, subst (λ (r : R). spells h.value (Ok r)) same spelling.before)
+    (h.value, subst (λ (r : Request). spells h.value (Ok r)) same spelling.before)
 
 requested_has : (wanted : Command) (bytes : List ℕ) → HasAnswer (requested wanted bytes)
-requested_has wanted bytes = asked_has procs_of spelt spelt_has wanted bytes
+requested_has wanted bytes = asked_has spelt spelt_has wanted bytes
 
-requested_in_range : (wanted : Command) (bytes : List ℕ) (request : TransformRequest) → requested wanted bytes (Ok request) → IsRequestInRange request
-requested_in_range wanted bytes request h = let spelling = asked_spelt procs_of spelt wanted bytes request h in spelling.1.1
+requested_in_range : (wanted : Command) (bytes : List ℕ) (request : Request) → requested wanted bytes (Ok request)
+    → IsInRange request
+requested_in_range wanted bytes request h = let spelling = asked_spelt spelt wanted bytes request h in spelling.1.1
 
 -- ---- what the command does with it
 
--- what a command for a request answers is an equation in the request, its trees and the data
+-- what a command for a request answers is an equation in the request, its tree and the data
 record GoesByEquation (wanted : Command) : Type 0 where
   takes : takes_request wanted ≡ true
-  accepts : (r : TransformRequest) → IsAffordable r → IsAccepted wanted r
-  declines : (r : TransformRequest) (status : Status) → IsRefused r status → IsDeclined wanted r status
-  settles : (r : TransformRequest) (trees : List Breakdown) (room : ℕ) (bytes : List ℕ) → IsPlanned r (Ok trees) → (status : Status) × (text : List ℕ) × Settles wanted r room bytes status text
+  accepts : (r : Request) → IsAffordable r → IsAccepted wanted r
+  declines : (r : Request) (status : Status) → IsRefused r status → IsDeclined wanted r status
+  settles : (r : Request) (tree : Breakdown) (room : ℕ) (bytes : List ℕ) → IsPlanned r (Ok tree)
+      → (status : Status) × (text : List ℕ) × Settles wanted r room bytes status text
 
 plan_goes : GoesByEquation command.Plan
 plan_goes = record {
   takes = refl;
   accepts = λ r h. h;
   declines = λ r status h. h;
-  settles = λ r trees room bytes planned. (Success, plan_text r trees, inr (inl (refl, (trees, planned, refl))));
+  settles = λ r tree room bytes planned. (Success, plan_text r tree, inr (inl (refl, (tree, planned, refl))));
 }
 
 formula_goes : GoesByEquation command.Formula
@@ -115,7 +117,8 @@ formula_goes = record {
   takes = refl;
   accepts = λ r h. h;
   declines = λ r status h. h;
-  settles = λ r trees room bytes planned. (Success, spelling (trees_expansion r trees) ++ 10 ∷ [], inr (inl (refl, (trees, planned, refl))));
+  settles = λ r tree room bytes planned.
+      (Success, spelling (formula_of r tree) ++ 10 ∷ [], inr (inl (refl, (tree, planned, refl))));
 }
 
 run_goes : (order : Order) → GoesByEquation (command.Run order)
@@ -123,8 +126,9 @@ run_goes order = record {
   takes = refl;
   accepts = λ r h. h;
   declines = λ r status h. h;
-  settles = λ r trees room bytes planned.
-      (status_of_stream (data_answer (size_of r) room bytes), lines (product r) (data_vectors (size_of r) (modulus_of r) room bytes), inl (refl, refl));
+  settles = λ r tree room bytes planned.
+      let vectors = data_vectors r.size r.modulus room bytes in
+      (status_of_stream (data_answer r.size room bytes), lines (product r) vectors, inl (refl, refl));
 }
 
 sample_goes : (seed : ℕ) (schedule : Turns) → GoesByEquation (command.Sample seed schedule)
@@ -132,9 +136,10 @@ sample_goes seed schedule = record {
   takes = refl;
   accepts = λ r h. h;
   declines = λ r status h. h;
-  settles = λ r trees room bytes planned.
-      let sum = weighted_sum (modulus_of r) (product r (sample_vector (modulus_of r) (size_of r) seed)) in
-      (Success, sample_text sum (cost_of r trees) (loads_of r trees) (stores_of r trees), inr (inl (refl, (trees, planned, refl))));
+  settles = λ r tree room bytes planned.
+      let sum = weighted_sum r.modulus (product r (sample_vector r.modulus r.size seed)) in
+      let lines = sample_text sum (whole_cost r tree) (whole_loads r tree) (whole_stores r tree) in
+      (Success, lines, inr (inl (refl, (tree, planned, refl))));
 }
 
 -- ---- the call
@@ -143,19 +148,21 @@ abbrev HasOutcome : List (List ℕ) → List ℕ → Type 0
 HasOutcome words bytes = (status : Status) × (text : List ℕ) × IsOutcome words bytes status text
 
 module _ (words : List (List ℕ)) (bytes : List ℕ) (wanted : Command) (asked : IsAsked words wanted) (goes : GoesByEquation wanted) where
-  of_trees : (request : TransformRequest) (trees : List Breakdown) → requested wanted bytes (Ok request) → IsPlanned request (Ok trees) → HasOutcome words bytes
-  of_trees request trees gives planned =
+  of_tree : (request : Request) (tree : Breakdown) → requested wanted bytes (Ok request) → IsPlanned request (Ok tree)
+      → HasOutcome words bytes
+  of_tree request tree gives planned =
       let job : Job = record { command = wanted; request = request } in
-      let accepts : accepted wanted request (Ok job) = (goes.accepts request (trees, planned), refl) in
+      let accepts : accepted wanted request (Ok job) = (goes.accepts request (tree, planned), refl) in
       let orders : ordered words bytes (Ok job) = record {
         value = wanted;
         before = (asked, goes.takes);
         behind = record { value = request; before = gives; behind = accepts };
       } in
-      let settled = goes.settles request trees (room_behind bytes) (data_of bytes) planned in
+      let settled = goes.settles request tree (room_behind bytes) (data_of bytes) planned in
       (settled.0, settled.1, inl (inr (job, orders, settled.2)))
 
-  of_refusal : (request : TransformRequest) (fault : GenerateFault) → requested wanted bytes (Ok request) → IsPlanned request (Err fault) → HasOutcome words bytes
+  of_refusal : (request : Request) (fault : GenerateFault) → requested wanted bytes (Ok request)
+      → IsPlanned request (Err fault) → HasOutcome words bytes
   of_refusal request fault gives planned =
       let status : Status = status_of_generate fault in
       let orders : ordered words bytes (Err status) = inr (record {
@@ -170,12 +177,15 @@ module _ (words : List (List ℕ)) (bytes : List ℕ) (wanted : Command) (asked 
       let orders : ordered words bytes (Err status) = inr (record { value = wanted; before = (asked, goes.takes); behind = inl gives }) in
       (status, [], inl (inl (orders, refl)))
 
-  of_plan : (request : TransformRequest) (answer : Result (List Breakdown) GenerateFault) → requested wanted bytes (Ok request) → IsPlanned request answer → HasOutcome words bytes
-  of_plan request (Ok trees) gives planned = of_trees request trees gives planned
+  of_plan : (request : Request) (answer : Result Breakdown GenerateFault) → requested wanted bytes (Ok request)
+      → IsPlanned request answer → HasOutcome words bytes
+  of_plan request (Ok tree) gives planned = of_tree request tree gives planned
   of_plan request (Err fault) gives planned = of_refusal request fault gives planned
 
-  of_request : (answer : Result TransformRequest Status) → requested wanted bytes answer → HasOutcome words bytes
-  of_request (Ok request) gives = let plan = plan_of_request request (requested_in_range wanted bytes request gives) in of_plan request plan.0 gives plan.1
+  of_request : (answer : Result Request Status) → requested wanted bytes answer → HasOutcome words bytes
+  of_request (Ok request) gives =
+      let plan = plan_exists request (requested_in_range wanted bytes request gives) in
+      of_plan request plan.0 gives plan.1
   of_request (Err status) gives = of_fault status gives
 
   of_command : HasOutcome words bytes
@@ -201,8 +211,8 @@ of_apply words bytes modulus schedule asked (Err status) gives = (status, [], in
 
 conv_has : (wanted : Command) (bytes : List ℕ) → HasAnswer (conv_in wanted bytes)
 conv_has wanted bytes =
-    both_have _ _ (asked_has conv_procs conv_spelt conv_spelt_has wanted bytes) (λ request h.
-    let spelling = asked_spelt conv_procs conv_spelt wanted bytes request h in convolvable_has request spelling.1.1)
+    both_have _ _ (asked_has conv_spelt conv_spelt_has wanted bytes) (λ request h.
+    let spelling = asked_spelt conv_spelt wanted bytes request h in convolvable_has request spelling.1.1)
 
 conv_text : (schedule : Turns) (request : Request) (vectors : List (List ℕ)) → (text : List ℕ) × IsConvText (command.Convolve schedule false) request vectors text
 conv_text schedule request [] = ([], refl)

@@ -3,7 +3,7 @@ use Rattle.std.specs.Prelude.{Bool, true, false}
 use Rattle.spiral_words.specs.declared.Command.{Command}
 use Rattle.spiral_words.specs.declared.Command.TheVariants as command
 
--- the commands whose text is an equation in what the input spells, its chosen trees and its data
+-- the commands whose text is an equation in what the input spells, its chosen tree and its data
 abbrev pub is_by_equation : Command → Bool
 is_by_equation command.Plan = true
 is_by_equation command.Formula = true

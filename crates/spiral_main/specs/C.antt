@@ -10,10 +10,10 @@ use Rattle.spiral_main.specs.Works.{writing}
 use Rattle.spiral_main.specs.Orders.{Planned, planned}
 use Rattle.spiral_main.specs.Code.{IsGoodProgram}
 
--- the text is the C text of the program of the trees
+-- the text is the C text of the program of the tree
 abbrev pub IsCText : Planned → List ℕ → Type 0
 IsCText plan text =
-    (program : Program) × IsProgramOf plan.request plan.trees program × (text ≡ c_text_of (plain_program program))
+    (program : Program) × IsProgramOf plan.request plan.tree program × (text ≡ c_text_of (plain_program program))
 
 abbrev pub c_outcomes : Outcomes
 c_outcomes = by_front (line 256) (planned []) (λ (plan : Planned). writing (IsCText plan))

@@ -1,9 +1,9 @@
 -- What is right for `check`.
 use Rattle.std.specs.Prelude.{◌≡◌, Ok, Err}
-use Rattle.plan_faults.specs.declared.generating.GenerateFault.{GenerateFault}
-use Rattle.transform_certs.specs.Judged.{IsVerdict}
+use Rattle.plan_search.specs.declared.generating.GenerateFault.{GenerateFault}
+use Rattle.plan_cert.specs.Verdict.{IsVerdict}
 use Rattle.request_commands.specs.Planned.{IsAdmitted, IsBarred}
-use Rattle.transform_requests.specs.declared.TransformRequest.{TransformRequest}
+use Rattle.matrix_meaning.specs.declared.Request.{Request}
 use Rattle.spiral_status.specs.Fault.{status_of_generate}
 use Rattle.spiral_input.specs.Asking.{spelt}
 use Rattle.spiral_input.specs.Outcomes.{Outcomes}
@@ -11,12 +11,12 @@ use Rattle.spiral_input.specs.Stage.{Stage, ◌>>=◌}
 use Rattle.spiral_main.specs.Front.{line, by_front}
 use Rattle.spiral_main.specs.Works.{judging}
 
--- the request, if its roots are right and some trees fit, whatever they cost
-abbrev pub fitting : TransformRequest → Stage TransformRequest
+-- the request, if its roots are right and some tree fits, whatever it costs
+abbrev pub fitting : Request → Stage Request
 fitting request (Ok same) = (same ≡ request) × IsAdmitted request
 fitting request (Err status) = (fault : GenerateFault) × IsBarred request fault × (status ≡ status_of_generate fault)
 
 -- the verdict on the certificate
 abbrev pub check_outcomes : Outcomes
 check_outcomes = by_front (line 256) (λ text. spelt text >>= fitting)
-    (λ (request : TransformRequest). judging (IsVerdict request))
+    (λ (request : Request). judging (IsVerdict request))

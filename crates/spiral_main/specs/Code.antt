@@ -6,26 +6,26 @@ use Rattle.listing_text.specs.Listing.{listing_of}
 use Rattle.request_commands.specs.Settled.{IsProgramOf}
 use Rattle.request_commands.specs.Good.{IsGood}
 use Rattle.request_commands.specs.Lean.{IsLean}
-use Rattle.transform_requests.specs.Trees.{cost_of}
+use Rattle.tree_model.specs.Chosen.{whole_cost}
 use Rattle.spiral_input.specs.Outcomes.{Outcomes}
 use Rattle.spiral_main.specs.Front.{line, by_front}
 use Rattle.spiral_main.specs.Works.{writing}
 use Rattle.spiral_main.specs.Orders.{Planned, planned}
 
--- the text is the listing of the program of the trees
+-- the text is the listing of the program of the tree
 abbrev pub IsListing : Planned → List ℕ → Type 0
 IsListing plan text =
-    (program : Program) × IsProgramOf plan.request plan.trees program × (text ≡ listing_of (plain_program program))
+    (program : Program) × IsProgramOf plan.request plan.tree program × (text ≡ listing_of (plain_program program))
 
 abbrev pub code_outcomes : Outcomes
 code_outcomes = by_front (line 256) (planned []) (λ (plan : Planned). writing (IsListing plan))
 
 -- What is left where the statements are forgotten
 
--- good for the request, and it executes, loads and stores exactly what the trees do
+-- good for the request, and it executes, loads and stores exactly what the tree does
 pub record IsGoodProgram (plan : Planned) (program : Program) : Type 0 where
-  pub good : IsGood plan.request (cost_of plan.request plan.trees) program
-  pub lean : IsLean plan.request plan.trees program
+  pub good : IsGood plan.request (whole_cost plan.request plan.tree) program
+  pub lean : IsLean plan.request plan.tree program
 
 -- the text is the listing of such a program
 abbrev pub IsGoodListing : Planned → List ℕ → Type 0

@@ -2,13 +2,13 @@
 use Rattle.std.specs.Prelude.{◌≡◌, ℕ, Bool, true, false, List, Ok, Err}
 use Rattle.convolution_commands.specs.Convolution.{convolution}
 use Rattle.convolution_commands.specs.Convolver.{IsConvolver}
-use Rattle.convolution_commands.specs.Letters.{conv_program}
-use Rattle.convolution_commands.specs.Planned.{IsConvPlanned}
+use Rattle.convolution_commands.specs.ConvLetters.{conv_program}
+use Rattle.convolution_commands.specs.ConvPlanned.{IsConvPlanned}
 use Rattle.icode.specs.declared.program.Program.{Program}
 use Rattle.icode.specs.Program.{plain_program}
 use Rattle.listing_text.specs.Listing.{listing_of}
 use Rattle.matrix_meaning.specs.declared.Request.{Request}
-use Rattle.plan_faults.specs.declared.convolving.ConvFault.{ConvFault}
+use Rattle.plan_search.specs.declared.convolving.ConvFault.{ConvFault}
 use Rattle.request_text.specs.Schedule.{Plan as Turns}
 use Rattle.request_text.specs.Turns.{named}
 use Rattle.spiral_status.specs.Fault.{status_of_conv}

@@ -1,7 +1,7 @@
 -- What the families of commands say together of a call: the contracts of the commands go by these words.
 use Rattle.std.specs.Prelude.{◌≡◌, ◌⊎◌, ℕ, List, [], Ok, Err}
 use Rattle.std.specs.declared.option.Option.{Option}
-use Rattle.transform_requests.specs.declared.TransformRequest.{TransformRequest}
+use Rattle.matrix_meaning.specs.declared.Request.{Request}
 use Rattle.request_text.specs.Schedule.{Plan as Turns}
 use Rattle.spiral_words.specs.Asked.{IsAsked}
 use Rattle.spiral_words.specs.declared.Command.{Command}
@@ -22,9 +22,9 @@ use Rattle.request_commands.specs.Settled.{IsAccepted, IsDeclined, Settles, Brea
 -- what is to be done
 pub record Job : Type 0 where
   pub command : Command
-  pub request : TransformRequest
+  pub request : Request
 
-abbrev pub accepted : Command → TransformRequest → Stage Job
+abbrev pub accepted : Command → Request → Stage Job
 accepted wanted request (Ok job) = IsAccepted wanted request × (job ≡ record { command = wanted; request = request })
 accepted wanted request (Err status) = IsDeclined wanted request status
 

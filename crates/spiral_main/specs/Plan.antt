@@ -1,12 +1,12 @@
 -- What is right for `plan`.
 use Rattle.std.specs.Prelude.{◌≡◌, []}
-use Rattle.transform_texts.specs.Texts.{plan_text}
+use Rattle.request_commands.specs.PlanText.{plan_text}
 use Rattle.spiral_input.specs.Outcomes.{Outcomes}
 use Rattle.spiral_main.specs.Front.{line, by_front}
 use Rattle.spiral_main.specs.Works.{writing}
 use Rattle.spiral_main.specs.Orders.{Planned, planned}
 
--- the trees, their cost, the phases and each processor's operations
+-- the tree, its cost, the phases and each processor's operations
 abbrev pub plan_outcomes : Outcomes
 plan_outcomes = by_front (line 256) (planned [])
-    (λ (plan : Planned). writing (λ text. text ≡ plan_text plan.request plan.trees))
+    (λ (plan : Planned). writing (λ text. text ≡ plan_text plan.request plan.tree))

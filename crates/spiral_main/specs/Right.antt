@@ -3,17 +3,13 @@ use Rattle.std.specs.Prelude.{◌≡◌, ◌⊎◌, ℕ, ◌≤◌, false, List,
 use Rattle.std.specs.declared.option.Option.{Option}
 use Rattle.std.specs.Io.KnownBytes.{Appends}
 use Rattle.matrix_meaning.specs.declared.Request.{Request}
-use Rattle.transform_requests.specs.declared.TransformRequest.{TransformRequest}
-use Rattle.transform_requests.specs.declared.TransformRequest.TheVariants.{One, Several}
-use Rattle.transform_requests.specs.Fields as requests
-use Rattle.transform_requests.specs.Range.{IsRequestValid}
-use Rattle.convolution_commands.specs.Request.{IsConvRequest}
-use Rattle.convolution_commands.specs.Planned.{HasPrincipalRoot, both_halves}
-use Rattle.dimension_plans.specs.Several.{CanShare, IsLeastOf}
+use Rattle.matrix_meaning.specs.Valid.{IsValid}
+use Rattle.convolution_commands.specs.Convolving.{IsConvRequest}
+use Rattle.convolution_commands.specs.ConvPlanned.{HasPrincipalRoot, both_halves}
 use Rattle.request_commands.specs.Planned.{IsRooted}
-use Rattle.tree_model.specs.Admissible.{CanDivide, IsLeast, IsLeastWhole}
+use Rattle.tree_model.specs.Chosen.{CanDivideWhole, IsWholeLeast}
 use Rattle.plan_cert.specs.declared.verdict.Verdict.TheVariants.{Least}
-use Rattle.transform_certs.specs.Judged.{IsVerdict}
+use Rattle.plan_cert.specs.Verdict.{IsVerdict}
 use Rattle.icode.specs.Plain.{PlainProgram}
 use Rattle.input_rest.specs.Part.{second_part}
 use Rattle.request_text.specs.Schedule.{Plan as Turns}
@@ -27,7 +23,7 @@ use Rattle.request_commands.specs.Checked.{certificate_limit}
 use Rattle.spiral_input.specs.Asking.{asked_by, requested}
 use Rattle.spiral_input.specs.Commands.{commanded, AskForFormula, AskForConvolution}
 use Rattle.formula_commands.specs.Compiled.{formula_in}
-use Rattle.convolution_commands.specs.Convolved.{conv_procs, conv_spelt}
+use Rattle.convolution_commands.specs.Convolved.{conv_spelt}
 use Rattle.spiral_input.specs.Line.{data_of, room_behind}
 use Rattle.runs.specs.Stream.{data_vectors}
 use Rattle.listing_commands.specs.Listed.{runnable, room_behind_listing}
@@ -35,30 +31,24 @@ use Rattle.spiral_main.specs.Outcome.{IsOutcome}
 use Rattle.spiral_main.specs.RightFront.{AreWholeVectors}
 
 -- a certificate that proves a least cost, and not too long
-pub record IsRightCertificate (request : TransformRequest) (bytes : List ℕ) : Type 0 where
+pub record IsRightCertificate (request : Request) (bytes : List ℕ) : Type 0 where
   pub few : length bytes ≤ certificate_limit
   pub cost : ℕ
   pub judged : IsVerdict request bytes (Least cost)
 
 -- what stands behind the first line is right for the command, of which so many bytes may come
-abbrev pub IsRightRest : Command → TransformRequest → ℕ → List ℕ → Type 0
-IsRightRest (command.Run order) request room bytes = AreWholeVectors (requests.size_of request) room bytes
-IsRightRest (command.Trace order) request room bytes = AreWholeVectors (requests.size_of request) room bytes
+abbrev pub IsRightRest : Command → Request → ℕ → List ℕ → Type 0
+IsRightRest (command.Run order) request room bytes = AreWholeVectors request.size room bytes
+IsRightRest (command.Trace order) request room bytes = AreWholeVectors request.size room bytes
 IsRightRest command.Check request room bytes = IsRightCertificate request bytes
 IsRightRest _ request room bytes = Unit {0}
 
--- some tree is admitted, which processors and lanes can share
-abbrev pub AdmitsTrees : TransformRequest → Type 0
-AdmitsTrees (One r) = CanDivide r
-AdmitsTrees (Several r) = CanShare r
-
--- the least cost of the trees is within the budget
-abbrev pub IsWithinBudget : TransformRequest → Type 0
-IsWithinBudget (One r) = (cost : ℕ) × IsLeastWhole r cost × (cost ≤ r.budget)
-IsWithinBudget (Several r) = (cost : ℕ) × IsLeastOf r cost × (cost ≤ r.budget)
+-- the least cost of the request's trees is within the budget
+abbrev pub IsWithinBudget : Request → Type 0
+IsWithinBudget r = (cost : ℕ) × IsWholeLeast r cost × (cost ≤ r.budget)
 
 -- `check` asks for no budget
-abbrev pub HasBudgetFor : Command → TransformRequest → Type 0
+abbrev pub HasBudgetFor : Command → Request → Type 0
 HasBudgetFor command.Check request = Unit {0}
 HasBudgetFor _ request = IsWithinBudget request
 
@@ -67,10 +57,10 @@ HasBudgetFor _ request = IsWithinBudget request
 pub record IsRightRequest (words : List (List ℕ)) (bytes : List ℕ) : Type 0 where
   pub wanted : Command
   pub asked : commanded words (Ok wanted)
-  pub request : TransformRequest
+  pub request : Request
   pub orders : requested wanted bytes (Ok request)
-  pub valid : IsRequestValid request
-  pub divides : AdmitsTrees request
+  pub valid : IsValid request
+  pub divides : CanDivideWhole request
   pub budget : HasBudgetFor wanted request
   pub rest : IsRightRest wanted request (room_behind bytes) (data_of bytes)
 
@@ -106,7 +96,7 @@ AreRightVectors _ request room bytes = Unit {0}
 
 -- two transforms of the least cost, and a multiplication for each item between them, are within the budget
 abbrev pub IsWithinConvBudget : Request → Type 0
-IsWithinConvBudget r = (least : ℕ) × IsLeast r least × (both_halves r least ≤ r.budget)
+IsWithinConvBudget r = (least : ℕ) × IsWholeLeast r least × (both_halves r least ≤ r.budget)
 
 -- The words ask for `convolve`, the first line spells a request for convolutions, and the schedule names the one processor alone. The root
 -- is one of the size, its power sums are 0, and the least cost is within the budget. The data begin with a list and are right
@@ -114,7 +104,7 @@ pub record IsRightConvolution (words : List (List ℕ)) (bytes : List ℕ) : Typ
   pub wanted : Command
   pub asked : AskForConvolution words wanted
   pub request : Request
-  pub orders : asked_by conv_procs conv_spelt wanted bytes (Ok request)
+  pub orders : asked_by conv_spelt wanted bytes (Ok request)
   pub able : IsConvRequest request
   pub rooted : IsRooted request
   pub principal : HasPrincipalRoot request

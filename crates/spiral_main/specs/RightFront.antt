@@ -6,7 +6,6 @@ use Rattle.spiral_input.specs.Asking.{spelt}
 use Rattle.spiral_input.specs.Commands.{first_stranger}
 use Rattle.runs.specs.Stream.{vectors_of}
 use Rattle.request_commands.specs.Planned.{IsPlanned}
-use Rattle.transform_requests.specs.Fields.{modulus_of, procs_of, size_of}
 use Rattle.spiral_main.specs.Front.{Front, line, room_behind}
 use Rattle.spiral_main.specs.Orders.{Planned}
 
@@ -16,13 +15,13 @@ pub record AreWholeVectors (size room : ℕ) (bytes : List ℕ) : Type 0 where
   pub good : list_all is_good (tokens bytes) ≡ true
   pub whole : length (tokens bytes) % size ≡ 0
 
--- the first line is not too long and spells the request, which has each processor that the words name; these trees are
+-- the first line is not too long and spells the request, which has each processor that the words name; this tree is
 -- chosen for it, so the least cost is within the budget
 pub record IsRightLine (names bytes : List ℕ) (plan : Planned) : Type 0 where
   pub short : length ((line 256).first bytes) ≤ 256
   pub spells : spelt ((line 256).first bytes) (Ok plan.request)
-  pub turns : first_stranger names (procs_of plan.request) ≡ None
-  pub planned : IsPlanned plan.request (Ok plan.trees)
+  pub turns : first_stranger names plan.request.procs ≡ None
+  pub planned : IsPlanned plan.request (Ok plan.tree)
 
 -- behind a front there are whole vectors
 abbrev pub HasWholeVectors : Front → ℕ → List ℕ → Type 0
@@ -34,4 +33,4 @@ vectors_behind front size modulus bytes = vectors_of size modulus (tokens (front
 
 -- those behind the line of a request
 abbrev pub request_vectors : Planned → List ℕ → List (List ℕ)
-request_vectors plan bytes = vectors_behind (line 256) (size_of plan.request) (modulus_of plan.request) bytes
+request_vectors plan bytes = vectors_behind (line 256) plan.request.size plan.request.modulus bytes

@@ -1,6 +1,6 @@
 -- What is right for `run`.
 use Rattle.std.specs.Prelude.{◌≡◌}
-use Rattle.transform_requests.specs.Fields.{asked_of, modulus_of, size_of}
+use Rattle.matrix_meaning.specs.Asked.{asked_of}
 use Rattle.spiral_words.specs.declared.Order.{Order}
 use Rattle.runs.specs.Stream.{lines}
 use Rattle.spiral_input.specs.Orders.{procs_in}
@@ -12,5 +12,5 @@ use Rattle.spiral_main.specs.Orders.{Planned, planned}
 -- a line for each vector, of the request's matrix times it
 abbrev pub run_outcomes : Order → Outcomes
 run_outcomes order = by_front (line 256) (planned (procs_in order))
-    (λ (plan : Planned). mapping all (size_of plan.request) (modulus_of plan.request)
+    (λ (plan : Planned). mapping all plan.request.size plan.request.modulus
     (λ vectors text. text ≡ lines (asked_of plan.request) vectors))

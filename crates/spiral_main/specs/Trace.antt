@@ -3,7 +3,6 @@ use Rattle.std.specs.Prelude.{◌≡◌, ◌++◌, List, ℕ}
 use Rattle.icode.specs.declared.program.Program.{Program}
 use Rattle.icode.specs.Program.{plain_program, code_of}
 use Rattle.listing_text.specs.Listing.{listing_of}
-use Rattle.transform_requests.specs.Fields.{modulus_of, procs_of, size_of}
 use Rattle.spiral_words.specs.declared.Order.{Order}
 use Rattle.runs.specs.Stream.{texts}
 use Rattle.request_commands.specs.Settled.{IsProgramOf}
@@ -15,22 +14,22 @@ use Rattle.spiral_main.specs.Works.{all, mapping}
 use Rattle.spiral_main.specs.Orders.{Planned, planned}
 use Rattle.spiral_main.specs.Code.{IsGoodProgram}
 
--- the listing of the program of the trees, and for each vector the lines of its run in the order and of its results
+-- the listing of the program of the tree, and for each vector the lines of its run in the order and of its results
 abbrev pub IsTrace : Order → Planned → List (List ℕ) → List ℕ → Type 0
-IsTrace order plan vectors text = (program : Program) × IsProgramOf plan.request plan.trees program
+IsTrace order plan vectors text = (program : Program) × IsProgramOf plan.request plan.tree program
     × (text ≡ listing_of (plain_program program)
-    ++ texts (traced_text order (procs_of plan.request) (code_of program)) vectors)
+    ++ texts (traced_text order plan.request.procs (code_of program)) vectors)
 
 abbrev pub trace_outcomes : Order → Outcomes
 trace_outcomes order = by_front (line 256) (planned (procs_in order))
-    (λ (plan : Planned). mapping all (size_of plan.request) (modulus_of plan.request) (IsTrace order plan))
+    (λ (plan : Planned). mapping all plan.request.size plan.request.modulus (IsTrace order plan))
 
 -- the same of a program that is good for the request
 abbrev pub IsGoodTrace : Order → Planned → List (List ℕ) → List ℕ → Type 0
 IsGoodTrace order plan vectors text = (program : Program) × IsGoodProgram plan program
     × (text ≡ listing_of (plain_program program)
-    ++ texts (traced_text order (procs_of plan.request) (code_of program)) vectors)
+    ++ texts (traced_text order plan.request.procs (code_of program)) vectors)
 
 abbrev pub good_trace_outcomes : Order → Outcomes
 good_trace_outcomes order = by_front (line 256) (planned (procs_in order))
-    (λ (plan : Planned). mapping all (size_of plan.request) (modulus_of plan.request) (IsGoodTrace order plan))
+    (λ (plan : Planned). mapping all plan.request.size plan.request.modulus (IsGoodTrace order plan))

@@ -121,7 +121,7 @@ pub fn convolve_answers()
 {}
 
 /// A listing that `code` prints is that of a program that is good for the request, executes exactly the operations of its
-/// trees, and loads and stores what they do.
+/// tree, and loads and stores what the tree does.
 pub fn code_is_good()
     ensures { (words : List (List ℕ)) (bytes : List ℕ)
         (status : SpecStatus) (text : List ℕ) → IsAsked words command.Code

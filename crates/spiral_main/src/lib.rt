@@ -8,8 +8,8 @@ ghost use Rattle.icode.specs.Program.{plain_program};
 ghost use Rattle.icode.specs.declared.program.Program.{Program as SpecProgram};
 ghost use Rattle.request_commands.specs.Performed.{IsGoodCode};
 ghost use Rattle.request_commands.specs.Settled.{IsAffordable, IsListing, IsProgramFor};
-ghost use Rattle.transform_requests.specs.Range.{IsRequestInRange, IsRequestValid};
-ghost use Rattle.transform_requests.specs.declared.TransformRequest.{TransformRequest as SpecRequest};
+ghost use Rattle.matrix_meaning.specs.Valid.{IsInRange, IsValid};
+ghost use Rattle.matrix_meaning.specs.declared.Request.{Request as SpecRequest};
 ghost use Rattle.spiral_words.specs.Asked.{IsAsked};
 ghost use Rattle.spiral_words.specs.declared.Command.{Command as SpecCommand};
 ghost use Rattle.spiral_status.specs.declared.status.Status.{Status as SpecStatus};
@@ -18,7 +18,8 @@ ghost use Rattle.spiral_main.specs.Families as families;
 ghost use Rattle.spiral_main.specs.Always.{is_by_equation};
 ghost use Rattle.spiral_main.specs.Outcome.{Accounts, IsOutcome};
 ghost use Rattle.spiral_main.specs.Programs.{IsCodeListed};
-ghost use Rattle.spiral_main.specs.Right.{AdmitsTrees, IsRightCall, IsWithinBudget, Succeeds};
+ghost use Rattle.spiral_main.specs.Right.{IsRightCall, IsWithinBudget, Succeeds};
+ghost use Rattle.tree_model.specs.Chosen.{CanDivideWhole};
 
 pub mod answers;
 pub mod rights;
@@ -41,8 +42,8 @@ pub fn calls_have_one_text()
         IsOutcome words bytes a s → IsOutcome words bytes b t → s ≡ t }
 {}
 
-/// The trees of a request determine its program: what `code`, `c` and `trace` print, and what `run`, `trace` and `sample`
-/// run, is one program.
+/// The tree of a request determines its program: what `code`, `c` and `trace` print, and what `run`, `trace` and
+/// `sample` run, is one program.
 pub fn requests_have_one_program()
     ensures program { (request : SpecRequest) (p q : SpecProgram) →
         IsProgramFor request p → IsProgramFor request q → plain_program p ≡ plain_program q }
@@ -63,8 +64,8 @@ pub fn right_calls_succeed()
 /// What a right call asks of a request is no more than that it has a plan: a request in range that has one is valid, admits a
 /// tree, and its least cost is within the budget.
 pub fn planned_requests_are_right()
-    ensures { (request : SpecRequest) → IsRequestInRange request → IsAffordable request
-        → IsRequestValid request × AdmitsTrees request × IsWithinBudget request }
+    ensures { (request : SpecRequest) → IsInRange request → IsAffordable request
+        → IsValid request × CanDivideWhole request × IsWithinBudget request }
 {}
 
 /// A call of `plan`, `formula`, `run`, `sample`, `apply` or `convolve` without `--code`, and one whose words are no

@@ -27,10 +27,10 @@ ghost use Rattle.spl_text.specs.Spelling.{spelling};
 ghost use Rattle.std.specs.Io.KnownBytes.{Appends};
 ghost use Rattle.std.specs.declared.option.Option.{Option};
 ghost use Rattle.runs.specs.Stream.{lines};
-ghost use Rattle.transform_certs.specs.Certified.{IsCertificateText};
-ghost use Rattle.transform_requests.specs.Fields.{asked_of, size_of};
-ghost use Rattle.transform_texts.specs.Formulas.{trees_expansion};
-ghost use Rattle.transform_texts.specs.Texts.{plan_text};
+ghost use Rattle.plan_cert.specs.Table.{IsTableText};
+ghost use Rattle.matrix_meaning.specs.Asked.{asked_of};
+ghost use Rattle.breakdown.specs.Expansion.{formula_of};
+ghost use Rattle.request_commands.specs.PlanText.{plan_text};
 
 /// An outcome that is Success is what a call comes to, unless a read or a write fails or memory runs out.
 pub fn outcomes_come()
@@ -41,28 +41,28 @@ pub fn outcomes_come()
         → (status ≡ Success) × Appends before after text }
 {}
 
-/// A right call of `plan` has the outcome Success with the trees that are chosen for the request.
+/// A right call of `plan` has the outcome Success with the tree that is chosen for the request.
 pub fn plan_is_right()
     ensures { (words : List (List ℕ)) (bytes : List ℕ) (plan : Planned) → IsAsked words command.Plan
         → IsRightLine [] bytes plan
-        → IsOutcome words bytes Success (plan_text plan.request plan.trees) }
+        → IsOutcome words bytes Success (plan_text plan.request plan.tree) }
 {}
 
-/// A right call of `formula` has the outcome Success with the formula of these trees.
+/// A right call of `formula` has the outcome Success with the formula of this tree.
 pub fn formula_is_right()
     ensures { (words : List (List ℕ)) (bytes : List ℕ) (plan : Planned) → IsAsked words command.Formula
         → IsRightLine [] bytes plan
-        → IsOutcome words bytes Success (spelling (trees_expansion plan.request plan.trees) ++ 10 ∷ []) }
+        → IsOutcome words bytes Success (spelling (formula_of plan.request plan.tree) ++ 10 ∷ []) }
 {}
 
-/// A right call of `code` has the outcome Success with the listing of the trees' program.
+/// A right call of `code` has the outcome Success with the listing of the tree's program.
 pub fn code_is_right()
     ensures { (words : List (List ℕ)) (bytes : List ℕ) (plan : Planned) (text : List ℕ) →
         IsAsked words command.Code → IsRightLine [] bytes plan → IsListing plan text
         → IsOutcome words bytes Success text }
 {}
 
-/// A right call of `c` has the outcome Success with the C text of the trees' program.
+/// A right call of `c` has the outcome Success with the C text of the tree's program.
 pub fn c_is_right()
     ensures { (words : List (List ℕ)) (bytes : List ℕ) (plan : Planned) (text : List ℕ) →
         IsAsked words command.C → IsRightLine [] bytes plan → IsCText plan text
@@ -72,7 +72,7 @@ pub fn c_is_right()
 /// A right call of `cert` has the outcome Success with the certificate of the request.
 pub fn cert_is_right()
     ensures { (words : List (List ℕ)) (bytes : List ℕ) (plan : Planned) (text : List ℕ) →
-        IsAsked words command.Cert → IsRightLine [] bytes plan → IsCertificateText plan.request text
+        IsAsked words command.Cert → IsRightLine [] bytes plan → IsTableText plan.request text
         → IsOutcome words bytes Success text }
 {}
 
@@ -87,7 +87,7 @@ pub fn sample_is_right()
 pub fn run_is_right()
     ensures { (words : List (List ℕ)) (bytes : List ℕ) (order : SpecOrder) (plan : Planned) →
         IsAsked words (command.Run order) → IsRightLine (procs_in order) bytes plan
-        → HasWholeVectors (line 256) (size_of plan.request) bytes
+        → HasWholeVectors (line 256) plan.request.size bytes
         → IsOutcome words bytes Success (lines (asked_of plan.request) (request_vectors plan bytes)) }
 {}
 
@@ -95,7 +95,7 @@ pub fn run_is_right()
 pub fn trace_is_right()
     ensures { (words : List (List ℕ)) (bytes : List ℕ) (order : SpecOrder) (plan : Planned) (text : List ℕ) →
         IsAsked words (command.Trace order) → IsRightLine (procs_in order) bytes plan
-        → HasWholeVectors (line 256) (size_of plan.request) bytes
+        → HasWholeVectors (line 256) plan.request.size bytes
         → IsTrace order plan (request_vectors plan bytes) text
         → IsOutcome words bytes Success text }
 {}

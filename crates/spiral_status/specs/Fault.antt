@@ -12,10 +12,10 @@ use Rattle.spl_text.specs.declared.reading.SplFault.{SplFault}
 use Rattle.spl_text.specs.declared.reading.SplFault.TheVariants as spl
 use Rattle.code_check.specs.declared.fault.CheckFault.{CheckFault}
 use Rattle.code_check.specs.declared.fault.CheckFault.TheVariants as check
-use Rattle.plan_faults.specs.declared.convolving.ConvFault.{ConvFault}
-use Rattle.plan_faults.specs.declared.convolving.ConvFault.TheVariants as conv
-use Rattle.plan_faults.specs.declared.generating.GenerateFault.{GenerateFault}
-use Rattle.plan_faults.specs.declared.generating.GenerateFault.TheVariants as generate
+use Rattle.plan_search.specs.declared.convolving.ConvFault.{ConvFault}
+use Rattle.plan_search.specs.declared.convolving.ConvFault.TheVariants as conv
+use Rattle.plan_search.specs.declared.generating.GenerateFault.{GenerateFault}
+use Rattle.plan_search.specs.declared.generating.GenerateFault.TheVariants as generate
 use Rattle.runs.specs.declared.stream.StreamFault.{StreamFault}
 use Rattle.runs.specs.declared.stream.StreamFault.TheVariants as stream
 use Rattle.spiral_status.specs.declared.status.Status.{Status}

@@ -5,7 +5,7 @@ use input_rest::RestFault;
 use io_edge::{Feed, FeedFault, WriteFault};
 use listing_text::ListingFault;
 use memory::NoMemory;
-use plan_faults::{ConvFault, GenerateFault};
+use plan_search::{ConvFault, GenerateFault};
 use request_text::RequestFault;
 use runs::StreamFault;
 use spl_text::SplFault;

@@ -119,7 +119,7 @@ pub fn transformed(
     requires { IsVector m.now size x.now }
     ensures { IfOk result (λ y. y.items ≡ transform kind m.now size root x.now) }
 {
-    let y = times_plain(alloc, kind, size, m.reduce(root), m.get(), x)?;
+    let y = times_plain(alloc, kind, &[size], &[m.reduce(root)], m.get(), x)?;
     Ok(y)
 }
 

@@ -11,7 +11,7 @@ use Rattle.matrix_meaning.specs.Valid.{IsValid}
 use Rattle.matrix_meaning.specs.declared.Kind.{Kind}
 use Rattle.matrix_meaning.specs.declared.Request.{Request}
 use Rattle.ring_mod.specs.Residue.{power_mod}
-use Rattle.rooted_trees.specs.Trees.{PlainTrees, single, tensor, trees_size, trees_on}
+use Rattle.tree_model.specs.Trees.{PlainTrees, single, tensor, trees_size, trees_on}
 use Rattle.steps.specs.Dims.{part_of, together, dims_layout, dims_cost, IsDimension, AreDimensions, DimsHaveSize, DimsDo, DimsCost, DimsAreGood}
 use Rattle.steps.specs.Layout.{by, layout_size, layout_on, layout_cost, layout_of, rule_on, IsGoodRule}
 use Rattle.steps.proofs.Layouts.{layouts_have_size, layouts_do, layouts_cost, layouts_are_good, rule_on-same, size-pick, do-pick, cost-pick, layout-pick}

@@ -11,7 +11,7 @@ use Rattle.kernel_gen.proofs.RequestNodes.{any-root, root-of}
 use Rattle.matrix_meaning.specs.Kind.{transform, IsPowerOfTwo}
 use Rattle.matrix_meaning.specs.Valid.{IsValid, HasRoot}
 use Rattle.matrix_meaning.specs.declared.Kind.{Kind}
-use Rattle.matrix_meaning.specs.declared.Kind.TheVariants.{Dft, Wht}
+use Rattle.matrix_meaning.specs.declared.Kind.TheVariants.{Dft, Wht, Idft}
 use Rattle.matrix_meaning.specs.declared.Request.{Request}
 use Rattle.matrix_meaning.proofs.CooleyTukey.{cooley_tukey}
 use Rattle.matrix_meaning.proofs.GoodThomas.{good_thomas}
@@ -21,7 +21,7 @@ use Rattle.operators.specs.Sizes.{max_size}
 use Rattle.passes.specs.Work.{kernel, work_size, work_on}
 use Rattle.ring_mod.specs.Residue.{power_mod}
 use Rattle.ring_mod.proofs.Powers.{power_mod_of_power}
-use Rattle.rooted_trees.specs.Trees.{single}
+use Rattle.tree_model.specs.Trees.{single}
 use Rattle.steps.specs.Layout.{Layout, work, by, layout_size, layout_on, layout_cost, layout_of, node_work, long_work, rule_on, work_cost, IsGoodWork, CanPart, IsGoodRule, IsGoodLayout}
 use Rattle.steps.specs.Layout as layouts
 use Rattle.steps.specs.Meaning.{transform_of, LayoutsHaveSize, LayoutsDo, LayoutsCost, LayoutsAreGood, TreesHaveSteps}
@@ -34,7 +34,7 @@ use Rattle.tree_model.specs.Cost as trees
 use Rattle.tree_model.proofs.Sizes.{one_le_size_of}
 use Rattle.tree_model.proofs.Splits.{below_product, other_below}
 use Rattle.tree_model.specs.declared.tree.Rule.{Rule}
-use Rattle.tree_model.specs.declared.tree.Rule.TheVariants.{Gt, Ct, Split}
+use Rattle.tree_model.specs.declared.tree.Rule.TheVariants.{Gt, Ct, Split, Dim}
 
 -- ---- sizes
 
@@ -45,6 +45,7 @@ work-size c t = pick (is_kernel c (size_of t)) c.kind
     pick true kind = refl
     pick false Dft = refl
     pick false Wht = refl
+    pick false Idft = refl
 
 -- a choice between a work and parts
 pub size-pick : (b : Bool) (l k : Layout) (n : ℕ) → layout_size l ≡ n → layout_size k ≡ n → layout_size (if b then l else k) ≡ n
@@ -86,6 +87,7 @@ power_shape Wht (leaf d) h e = elim (cases_eq d 1) [ inl one ↦ (0, one) | inr 
 power_shape Wht (node rule a b) h e =
     let left = power_shape Wht a h.1 e in
     let right = power_shape Wht b h.2 e in (left.0 + right.0, ap₂ (λ x y. x * y) left.1 right.1 ∙ sym (pow-add 2 left.0 right.0))
+power_shape Idft t h e = absurd (cc)
 
 div-product : (n r s : ℕ) → 0 < r → r * s ≡ n → n / r ≡ s
 div-product n r s h e = ap (λ x. x / r) (sym e) ∙ mul-div_right s h
@@ -125,9 +127,12 @@ rule_law Dft Ct m w n q r s x allowed shape root p =
     (node_root-part m w n q r s (r * s) p.left p.product refl p.whole)
     (node_root-part m w n q s r (r * s) p.right p.product (mul_comm s r) p.whole)
 rule_law Dft Split m w n q r s x allowed shape root p = absurd allowed
+rule_law Dft Dim m w n q r s x allowed shape root p = absurd allowed
 rule_law Wht Gt m w n q r s x allowed shape root p = absurd allowed
 rule_law Wht Ct m w n q r s x allowed shape root p = absurd allowed
 rule_law Wht Split m w n q r s x allowed shape root p = split m r s (power_mod m w (n / (r * s))) x (omega (arith, p.modulus)) (shape refl)
+rule_law Wht Dim m w n q r s x allowed shape root p = absurd allowed
+rule_law Idft rule m w n q r s x allowed shape root p = absurd allowed
 
 -- ---- what a layout does
 
@@ -136,6 +141,7 @@ module _ (m root : ℕ) (t : Breakdown) where
   does-pick true kind x = refl
   does-pick false Dft x = refl
   does-pick false Wht x = refl
+  does-pick false Idft x = refl
 
 -- a work does the transform of its node
 work-does : (c : Request) (t : Breakdown) (x : List ℕ) → work_on c.modulus (node_work c t) x ≡ transform_of c (size_of t) x
@@ -185,6 +191,7 @@ kernel-priced c t q valid formed whole short =
 rows-cost : (weight m root d : ℕ) (kind : Kind) → AllowsLeaf kind d → 2 < d → work_cost weight m (long_work kind root (leaf d)) ≡ d * d * (1 + weight)
 rows-cost weight m root d Dft h more = omega arith
 rows-cost weight m root d Wht h more = absurd (omega (arith, h.1, more))
+rows-cost weight m root d Idft h more = absurd h
 
 pub leaf-priced : (c : Request) (d q : ℕ) → IsValid c → AllowsLeaf c.kind d → q * d ≡ c.size → (d ≡ c.size → is_plain c ≡ false → ⊥) → work_cost c.weight c.modulus (node_work c (leaf d)) ≡ cost_of c (leaf d)
 leaf-priced c d q valid formed whole root = pick (is_kernel c d) refl
@@ -206,6 +213,7 @@ outer_rule_cost : (c : Request) (rule : Rule) (r s : ℕ) → is_kernel c (r * s
 outer_rule_cost c Gt r s e = refl
 outer_rule_cost c Ct r s e = ap (λ (b : Bool). if b then products_cost c Dft 1 (node_root c (r * s)) r s else c.weight * (r * s)) e
 outer_rule_cost c Split r s e = refl
+outer_rule_cost c Dim r s e = refl
 
 pub cost-pick : (b : Bool) (weight m n : ℕ) (l k : Layout) → (b ≡ true → layout_cost weight m l ≡ n) → (b ≡ false → layout_cost weight m k ≡ n) → layout_cost weight m (if b then l else k) ≡ n
 cost-pick true weight m n l k h g = h refl
@@ -241,6 +249,7 @@ good-pick : (m root : ℕ) (t : Breakdown) (b : Bool) (kind : Kind) → (b ≡ f
 good-pick m root t true kind two formed allowed is = (formed, allowed)
 good-pick m root t false Dft two formed allowed is = (two refl, is)
 good-pick m root t false Wht two formed allowed is = (formed, allowed)
+good-pick m root t false Idft two formed allowed is = (formed, allowed)
 
 work-good : (c : Request) (t : Breakdown) (q : ℕ) → IsValid c → IsWellFormed c.kind t → q * size_of t ≡ c.size → (is_kernel c (size_of t) ≡ false → 2 ≤ size_of t) → IsGoodLayout c.modulus (work (node_work c t))
 work-good c t q valid formed whole two =
@@ -258,9 +267,12 @@ can-part : (kind : Kind) (rule : Rule) (r s : ℕ) → AllowsRule kind rule r s 
 can-part Dft Gt r s h = h
 can-part Dft Ct r s h = tt
 can-part Dft Split r s h = tt
+can-part Dft Dim r s h = tt
 can-part Wht Gt r s h = absurd h
 can-part Wht Ct r s h = tt
 can-part Wht Split r s h = tt
+can-part Wht Dim r s h = tt
+can-part Idft rule r s h = absurd h
 
 -- a leaf that is no kernel is longer than the limit, since the root of a shared request is no leaf
 long-leaf : (c : Request) (d : ℕ) → IsValid c → (d ≡ c.size → is_plain c ≡ false → ⊥) → is_kernel c d ≡ false → 2 ≤ d

@@ -11,7 +11,7 @@ use Rattle.tensor_paths.specs.Path.{Path, under}
 use Rattle.tensor_paths.specs.declared.Tensor.TheVariants.{Blocks, Columns}
 use Rattle.tensor_paths.proofs.Under.{under-push, under-product}
 use Rattle.tree_model.specs.declared.tree.Rule.{Rule}
-use Rattle.tree_model.specs.declared.tree.Rule.TheVariants.{Gt, Ct, Split}
+use Rattle.tree_model.specs.declared.tree.Rule.TheVariants.{Gt, Ct, Split, Dim}
 
 pub all_on-append : (m : ℕ) (ss ts : List PlainStep) (x : List ℕ) → all_on m (ss ++ ts) x ≡ all_on m ts (all_on m ss x)
 all_on-append m [] ts x = refl
@@ -45,6 +45,11 @@ rule_steps_on m Ct path r s w a b left right x on_left on_right =
     (under-product path n d (λ y. on_blocks r s b (l y)) x (λ y. length-list_below _ _)
     ∙ ap (under path n d) (under-product path n (on_blocks r s b) l x (λ y. length-list_below _ _))))
 rule_steps_on m Split path r s w a b left right x on_left on_right =
+    all_on-append m right left x
+    ∙ on_left (all_on m right x)
+    ∙ ap (under path (r * s) (on_columns r s a)) (on_right x)
+    ∙ sym (under-product path (r * s) (on_columns r s a) (on_blocks r s b) x (λ y. length-list_below _ _))
+rule_steps_on m Dim path r s w a b left right x on_left on_right =
     all_on-append m right left x
     ∙ on_left (all_on m right x)
     ∙ ap (under path (r * s) (on_columns r s a)) (on_right x)

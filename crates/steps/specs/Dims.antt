@@ -1,11 +1,12 @@
 -- Trees of several dimensions: above their kernels their layout is a split, whose parts have roots of their own.
 use Rattle.std.specs.Prelude.{◌≡◌, ℕ, ◌+◌, ◌*◌, ◌≤◌, List, if◌then◌else◌}
 use Rattle.matrix_meaning.specs.Valid.{IsValid}
+use Rattle.matrix_meaning.specs.declared.Dimensions.TheVariants.{One}
 use Rattle.matrix_meaning.specs.declared.Kind.{Kind}
 use Rattle.matrix_meaning.specs.declared.Request.{Request}
 use Rattle.operators.specs.Sizes.{max_size}
 use Rattle.passes.specs.Work.{kernel}
-use Rattle.rooted_trees.specs.Trees.{PlainTrees, single, tensor, trees_size, trees_on}
+use Rattle.tree_model.specs.Trees.{PlainTrees, single, tensor, trees_size, trees_on}
 use Rattle.steps.specs.Layout.{Layout, work, by, layout_size, layout_on, layout_cost, layout_of, IsGoodLayout}
 use Rattle.tree_model.specs.Breakdown.{Breakdown, size_of, IsWellFormed}
 use Rattle.tree_model.specs.Cost.{is_kernel, cost_of}
@@ -13,7 +14,7 @@ use Rattle.tree_model.specs.declared.tree.Rule.TheVariants.{Split}
 
 -- the request for one dimension, on one processor and one lane
 abbrev pub part_of : Request → Kind → ℕ → ℕ → Request
-part_of c kind root n = record c { kind = kind; size = n; root = root; procs = 1; line = 1; lanes = 1 }
+part_of c kind root n = record c { kind = kind; size = n; root = root; dimensions = One; procs = 1; line = 1; lanes = 1 }
 
 -- the request for dimensions of n words together, on one processor and one lane
 abbrev pub together : Request → ℕ → Request

@@ -4,18 +4,18 @@ use Rattle.std.specs.Int.{IsGcd}
 use Rattle.kernel_gen.specs.Kernel.{CanMake, trees_cost}
 use Rattle.matrix_meaning.specs.Laws.{twiddle}
 use Rattle.matrix_meaning.specs.declared.Kind.{Kind}
-use Rattle.matrix_meaning.specs.declared.Kind.TheVariants.{Dft, Wht}
+use Rattle.matrix_meaning.specs.declared.Kind.TheVariants.{Dft, Wht, Idft}
 use Rattle.matrix_meaning.specs.declared.Request.{Request}
 use Rattle.operators.specs.Identities.{turn}
 use Rattle.operators.specs.Operator.{Operator, gather, scale, on_columns, on_blocks, good_thomas_in, good_thomas_out}
 use Rattle.operators.specs.Sizes.{max_size}
 use Rattle.passes.specs.Work.{PlainWork, kernel, rows, horner, tile, copy, work_size, work_on}
 use Rattle.ring_mod.specs.Residue.{power_mod}
-use Rattle.rooted_trees.specs.Trees.{single}
+use Rattle.tree_model.specs.Trees.{single}
 use Rattle.tree_model.specs.Breakdown.{Breakdown, leaf, node, size_of}
 use Rattle.tree_model.specs.Cost.{is_kernel, node_root}
 use Rattle.tree_model.specs.declared.tree.Rule.{Rule}
-use Rattle.tree_model.specs.declared.tree.Rule.TheVariants.{Gt, Ct, Split}
+use Rattle.tree_model.specs.declared.tree.Rule.TheVariants.{Gt, Ct, Split, Dim}
 
 pub data Layout : Type 0 where
   work : (w : PlainWork) → Layout
@@ -30,6 +30,7 @@ abbrev pub rule_on : Rule → ℕ → ℕ → ℕ → ℕ → Operator → Opera
 rule_on Gt m r s w a b x = gather (r * s) (good_thomas_out r s) (on_columns r s a (on_blocks r s b (gather (r * s) (good_thomas_in r s) x)))
 rule_on Ct m r s w a b x = on_columns r s a (scale m (r * s) (twiddle m s w) (on_blocks r s b (turn r s x)))
 rule_on Split m r s w a b x = on_columns r s a (on_blocks r s b x)
+rule_on Dim m r s w a b x = on_columns r s a (on_blocks r s b x)
 
 -- what a layout does to a list, modulo m
 abbrev pub layout_on : ℕ → Layout → Operator
@@ -49,6 +50,7 @@ abbrev pub rule_cost : ℕ → Rule → ℕ → ℕ
 rule_cost weight Gt n = 0
 rule_cost weight Ct n = weight * n
 rule_cost weight Split n = 0
+rule_cost weight Dim n = 0
 
 -- the operations of a layout
 abbrev pub layout_cost : ℕ → ℕ → Layout → ℕ
@@ -69,6 +71,7 @@ abbrev pub CanPart : Rule → ℕ → ℕ → Type 0
 CanPart Gt r s = IsGcd r s 1
 CanPart Ct r s = Unit {0}
 CanPart Split r s = Unit {0}
+CanPart Dim r s = Unit {0}
 
 -- two parts, of sizes r and s, by a rule
 pub record IsGoodRule (rule : Rule) (r s : ℕ) : Type 0 where
@@ -87,6 +90,7 @@ IsGoodLayout m (by rule root a b) = IsGoodRule rule (layout_size a) (layout_size
 abbrev pub long_work : Kind → ℕ → Breakdown → PlainWork
 long_work Dft root t = rows root (size_of t)
 long_work Wht root t = kernel (single Wht root t)
+long_work Idft root t = kernel (single Idft root t)
 
 -- the work of a node
 abbrev pub node_work : Request → Breakdown → PlainWork

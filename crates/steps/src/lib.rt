@@ -16,10 +16,9 @@ ghost use Rattle.tree_model.specs.Breakdown.{breakdown_of, size_of, HasWordSizes
 use matrix_meaning::Kind;
 use memory::NoMemory;
 use passes::Work;
-use rooted_trees::{RootedTree, RootedTrees};
 use std::alloc::Global;
 use tensor_paths::Tensor;
-use tree_model::{Ctx, Tree, is_kernel, node_root};
+use tree_model::{Ctx, RootedTree, RootedTrees, Tree, is_kernel, node_root};
 
 mod target;
 
@@ -98,6 +97,14 @@ fn add_steps(
             add_part(alloc, c, steps, path, Tensor::Columns(cols), a)
         }
         Tree::Split(a, b) => {
+            let (rows, cols) = (a.size(), b.size());
+            if is_kernel(c, rows * cols) {
+                return add_piece(alloc, c, steps, path, tree);
+            }
+            add_part(alloc, c, steps, path, Tensor::Blocks(rows), b)?;
+            add_part(alloc, c, steps, path, Tensor::Columns(cols), a)
+        }
+        Tree::Dim(a, b) => {
             let (rows, cols) = (a.size(), b.size());
             if is_kernel(c, rows * cols) {
                 return add_piece(alloc, c, steps, path, tree);

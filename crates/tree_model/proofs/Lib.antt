@@ -6,3 +6,17 @@ pub mod OrderLaws
 pub mod PassLaws
 pub mod PowerOfTwo
 pub mod TrafficLaws
+pub mod InverseTrees
+pub mod InversePowers
+pub mod InverseCosts
+pub mod InverseTraffic
+pub mod TreeProducts
+pub mod FlatTrees
+pub mod WholeTrees
+pub mod SeveralParts
+pub mod Sharing
+pub mod WholeTraffic
+pub mod Standing
+pub mod ChosenParts
+pub mod NodesAsked
+pub mod WholeCosts

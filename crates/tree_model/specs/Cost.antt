@@ -1,7 +1,5 @@
 -- How many operations a tree costs.
 use Rattle.std.specs.Prelude.{ℕ, ◌+◌, ◌-◌, ◌*◌, ◌/◌, ◌≤◌, ◌==◌, ◌&&◌, Bool, true, false, if◌then◌else◌, nat_le}
-use Rattle.matrix_meaning.specs.declared.Direction.{Direction}
-use Rattle.matrix_meaning.specs.declared.Direction.TheVariants.{Forward, Inverse}
 use Rattle.matrix_meaning.specs.declared.Kind.{Kind}
 use Rattle.matrix_meaning.specs.declared.Kind.TheVariants.{Dft}
 use Rattle.matrix_meaning.specs.declared.Request.{Request}
@@ -9,7 +7,7 @@ use Rattle.operators.specs.Sum.{sum_below}
 use Rattle.ring_mod.specs.Residue.{power_mod}
 use Rattle.matrix_meaning.specs.Kind.{entry_of}
 use Rattle.tree_model.specs.declared.tree.Rule.{Rule}
-use Rattle.tree_model.specs.declared.tree.Rule.TheVariants.{Gt, Ct, Split}
+use Rattle.tree_model.specs.declared.tree.Rule.TheVariants.{Gt, Ct, Split, Dim}
 use Rattle.tree_model.specs.Breakdown.{Breakdown, leaf, node, size_of}
 
 -- one processor and one lane
@@ -35,7 +33,7 @@ product_cost c minus x = if x == 1 then 0 else (if x == c.modulus - 1 then minus
 -- the products by the entries in the first rows and columns of a matrix
 abbrev pub products_cost : Request → Kind → ℕ → ℕ → ℕ → ℕ → ℕ
 products_cost c kind minus root rows columns =
-    sum_below rows (λ k. sum_below columns (λ l. product_cost c minus (entry_of kind c.modulus root k l)))
+    sum_below rows (λ k. sum_below columns (λ l. product_cost c minus (entry_of kind c.modulus rows root k l)))
 
 -- In straight-line code an entry -1 takes a subtraction in place of an addition. Longer leaves multiply by each entry.
 abbrev pub leaf_cost : Request → ℕ → ℕ
@@ -47,11 +45,13 @@ abbrev pub rule_cost : Request → Rule → ℕ → ℕ → ℕ
 rule_cost c Gt r s = 0
 rule_cost c Ct r s = if is_kernel c (r * s) then products_cost c Dft 1 (node_root c (r * s)) r s else mul_cost_of c * (r * s)
 rule_cost c Split r s = 0
+rule_cost c Dim r s = 0
 
 -- s parts of size r and cost x, and r parts of size s and cost y
 abbrev pub node_cost : Request → Rule → ℕ → ℕ → ℕ → ℕ → ℕ
 node_cost c rule r s x y = s * x + r * y + rule_cost c rule r s
 
+-- what a tree of one size costs
 abbrev pub cost_of : Request → Breakdown → ℕ
 cost_of c (leaf d) = leaf_cost c d
 cost_of c (node rule a b) = node_cost c rule (size_of a) (size_of b) (cost_of c a) (cost_of c b)
@@ -59,15 +59,3 @@ cost_of c (node rule a b) = node_cost c rule (size_of a) (size_of b) (cost_of c 
 -- a cost that a node of size d may have, where a multiplication costs at most 1000
 abbrev pub IsModest : ℕ → ℕ → Type 0
 IsModest d x = x + 1000 * d ≤ 2001 * (d * d)
-
--- what the inverse costs beside its tree: each item is multiplied once more
-abbrev pub extra_in : Direction → ℕ → ℕ
-extra_in Forward products = 0
-extra_in Inverse products = products
-
-abbrev pub extra_cost : Request → ℕ
-extra_cost c = extra_in c.direction (mul_cost_of c * c.size)
-
--- what a request costs by a tree
-abbrev pub whole_cost : Request → Breakdown → ℕ
-whole_cost c t = cost_of c t + extra_cost c

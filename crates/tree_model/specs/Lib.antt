@@ -1,6 +1,12 @@
 pub mod Breakdown
 pub mod Cost
 pub mod Order
+pub mod Text
+pub mod Trees
 pub mod Admissible
 pub mod Passes
-pub mod Text
+pub mod Inverses
+pub mod Whole
+pub mod Chosen
+pub mod WholePasses
+pub mod Laws

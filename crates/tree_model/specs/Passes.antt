@@ -1,8 +1,8 @@
--- The passes that a tree becomes.
+-- The passes that a tree of one size becomes.
 use Rattle.std.specs.Prelude.{ℕ, ◌+◌, ◌*◌, Bool, true, false, if◌then◌else◌, nat_le, List, [], ◌∷◌, ◌++◌, length}
 use Rattle.matrix_meaning.specs.declared.Request.{Request}
 use Rattle.tree_model.specs.declared.tree.Rule.{Rule}
-use Rattle.tree_model.specs.declared.tree.Rule.TheVariants.{Gt, Ct, Split}
+use Rattle.tree_model.specs.declared.tree.Rule.TheVariants.{Gt, Ct, Split, Dim}
 use Rattle.tree_model.specs.Breakdown.{Breakdown, leaf, node, size_of}
 use Rattle.tree_model.specs.Cost.{is_kernel, mul_cost_of, cost_of}
 
@@ -25,6 +25,7 @@ abbrev pub twiddle_by : Rule → List Pass → List Pass
 twiddle_by Gt ps = ps
 twiddle_by Ct ps = twiddle_last ps
 twiddle_by Split ps = ps
+twiddle_by Dim ps = ps
 
 -- the passes of a node that stands so many times: one of a kernel or a leaf, else those of the right part and then of the left one
 abbrev pub passes_of : Request → ℕ → Breakdown → List Pass
@@ -48,6 +49,7 @@ tiled_passes c (leaf d) = passes_of c 1 (leaf d)
 tiled_passes c (node Gt a b) = passes_of c 1 (node Gt a b)
 tiled_passes c (node Ct a b) = passes_of c (size_of a) b ++ (tiles true ∷ passes_of c (size_of b) a)
 tiled_passes c (node Split a b) = tiles false ∷ (passes_of c (size_of a) b ++ (tiles false ∷ passes_of c (size_of b) a))
+tiled_passes c (node Dim a b) = tiles false ∷ (passes_of c (size_of a) b ++ (tiles false ∷ passes_of c (size_of b) a))
 
 -- the passes of the whole tree
 abbrev pub whole_passes : Request → Breakdown → List Pass

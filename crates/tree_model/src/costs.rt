@@ -2,23 +2,43 @@
 ghost use Rattle.std.specs.Prelude.{◌≡◌, ℕ, ◌+◌, ◌*◌, ◌^◌, ◌<◌, ◌≤◌};
 ghost use Rattle.operators.specs.Sum.{sum_below};
 ghost use Rattle.ring_mod.specs.Residue.{power_mod};
-ghost use Rattle.tree_model.specs.Breakdown.{breakdown_of, size_of, IsWellFormed};
-ghost use Rattle.tree_model.specs.Cost.{is_kernel, extra_cost, mul_cost_of, node_root, product_cost, products_cost, leaf_cost, rule_cost, node_cost, cost_of, IsModest};
+ghost use Rattle.tree_model.specs.Breakdown.{breakdown_of, size_of, AllowsLeaf};
+ghost use Rattle.tree_model.specs.Chosen.{closing_cost, whole_cost, StandsIn};
+ghost use Rattle.tree_model.specs.Cost.{is_kernel, mul_cost_of, node_root, product_cost, products_cost, leaf_cost, rule_cost, node_cost, IsModest};
+ghost use Rattle.tree_model.specs.Whole.{cost_in, IsTreeOf};
 
 use crate::context::Ctx;
 use crate::tree::{Rule, Tree};
-use matrix_meaning::{Direction, Kind};
+use matrix_meaning::Kind;
 use operators::MAX_SIZE;
 use ring_mod::Modulus;
 
-/// The cost of a tree that stands for a node of its size.
+/// What the request costs by a tree. A part of a tree has no products at its end.
 pub fn cost(c: &Ctx, t: &Tree) -> u64
-    requires tree { IsWellFormed c.now.kind (breakdown_of t.now) }
-    requires size { size_of (breakdown_of t.now) ≤ c.now.size }
-    ensures value { result ≡ cost_of c.now (breakdown_of t.now) }
-    ensures modest { IsModest (size_of (breakdown_of t.now)) result }
+    requires { StandsIn c.now (breakdown_of t.now) }
+    ensures value { result ≡ whole_cost c.now (breakdown_of t.now) }
+    ensures small { result ≤ 2001 * (c.now.size * c.now.size) }
 {
-    sized_cost(c, t).cost
+    let request = c.request();
+    let tree = sized_cost(&c.forward(), t);
+    if tree.size == request.size {
+        tree.cost + closing_cost(c)
+    } else {
+        tree.cost
+    }
+}
+
+/// What the products at the end of an inverse cost: a multiplication for each item. Nothing for other transforms.
+pub fn closing_cost(c: &Ctx) -> u64
+    ensures value { result ≡ closing_cost c.now }
+    ensures high { result ≤ 1000 * c.now.size }
+{
+    let request = c.request();
+    match request.kind {
+        Kind::Dft => 0,
+        Kind::Wht => 0,
+        Kind::Idft => mul_cost(c) * request.size,
+    }
 }
 
 /// A tree's size and cost.
@@ -29,10 +49,10 @@ struct SizedCost {
 }
 
 fn sized_cost(c: &Ctx, t: &Tree) -> SizedCost
-    requires tree { IsWellFormed c.now.kind (breakdown_of t.now) }
+    requires tree { IsTreeOf c.now (breakdown_of t.now) }
     requires size { size_of (breakdown_of t.now) ≤ c.now.size }
     ensures size { result.size ≡ size_of (breakdown_of t.now) }
-    ensures cost { result.cost ≡ cost_of c.now (breakdown_of t.now) }
+    ensures cost { result.cost ≡ cost_in c.now (breakdown_of t.now) }
     ensures modest { IsModest result.size result.cost }
 {
     match t {
@@ -43,6 +63,10 @@ fn sized_cost(c: &Ctx, t: &Tree) -> SizedCost
         Tree::Gt(a, b) => join(c, Rule::Gt, sized_cost(c, a), sized_cost(c, b)),
         Tree::Ct(a, b) => join(c, Rule::Ct, sized_cost(c, a), sized_cost(c, b)),
         Tree::Split(a, b) => join(c, Rule::Split, sized_cost(c, a), sized_cost(c, b)),
+        Tree::Dim(a, b) => {
+            let (first, others) = c.both();
+            join(c, Rule::Dim, sized_cost(&first, a), sized_cost(&others, b))
+        }
     }
 }
 
@@ -70,17 +94,6 @@ pub fn mul_cost(c: &Ctx) -> u64
     ensures high { result ≤ 1000 }
 {
     c.request().weight
-}
-
-/// What the inverse costs beside its tree: a multiplication for each item. Nothing for the transform itself.
-pub fn extra_cost(c: &Ctx) -> u64
-    ensures value { result ≡ extra_cost c.now }
-    ensures high { result ≤ 1000 * c.now.size }
-{
-    match c.request().direction {
-        Direction::Forward => 0,
-        Direction::Inverse => mul_cost(c) * c.request().size,
-    }
 }
 
 /// Whether a node of size `d` becomes straight-line code.
@@ -117,7 +130,7 @@ fn rule_cost(c: &Ctx, rule: Rule, r: u64, s: u64) -> u64
 {
     prove!(c.request().size <= MAX_SIZE);
     match rule {
-        Rule::Gt | Rule::Split => 0,
+        Rule::Gt | Rule::Split | Rule::Dim => 0,
         Rule::Ct => {
             let size = r * s;
             if is_kernel(c, size) {
@@ -132,7 +145,7 @@ fn rule_cost(c: &Ctx, rule: Rule, r: u64, s: u64) -> u64
 /// The cost of a leaf of size `d`.
 #[tactic(auto, using(crate::proofs::CostBounds::modest_short, crate::proofs::CostBounds::modest_long))]
 pub fn leaf_cost(c: &Ctx, d: u64) -> u64
-    requires low { 1 ≤ d }
+    requires allowed { AllowsLeaf c.now.kind d }
     requires high { d ≤ c.now.size }
     ensures value { result ≡ leaf_cost c.now d }
     ensures modest { IsModest d result }
@@ -158,7 +171,7 @@ pub fn node_root(c: &Ctx, d: u64) -> u64
 // What the products by the entries of a leaf's matrix cost. The entries of the Walsh-Hadamard transform are 1 and -1 alone.
 #[tactic(auto, using(crate::proofs::Products::signs_are_free))]
 fn leaf_products_cost(c: &Ctx, d: u64) -> u64
-    requires low { 1 ≤ d }
+    requires allowed { AllowsLeaf c.now.kind d }
     requires high { d ≤ c.now.unroll }
     ensures value { result ≡ products_cost c.now c.now.kind 0 (node_root c.now d) d d }
     ensures bound { result ≤ 1000 * (d * d) }
@@ -166,6 +179,7 @@ fn leaf_products_cost(c: &Ctx, d: u64) -> u64
     match c.request().kind {
         Kind::Dft => powers_cost(c, 0, node_root(c, d), d, d),
         Kind::Wht => 0,
+        Kind::Idft => 0,
     }
 }
 

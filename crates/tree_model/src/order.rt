@@ -28,9 +28,9 @@ fn compare(a: &Tree, b: &Tree) -> Ordering
             Tree::Leaf(_) => Ordering::Equal,
             _ => Ordering::Less,
         },
-        Tree::Gt(p, q) | Tree::Ct(p, q) | Tree::Split(p, q) => match b {
+        Tree::Gt(p, q) | Tree::Ct(p, q) | Tree::Split(p, q) | Tree::Dim(p, q) => match b {
             Tree::Leaf(_) => Ordering::Greater,
-            Tree::Gt(x, y) | Tree::Ct(x, y) | Tree::Split(x, y) => {
+            Tree::Gt(x, y) | Tree::Ct(x, y) | Tree::Split(x, y) | Tree::Dim(x, y) => {
                 let by_rule = rank(a).cmp(&rank(b));
                 if by_rule.is_ne() {
                     return by_rule;
@@ -55,6 +55,6 @@ fn rank(t: &Tree) -> u8
     match t {
         Tree::Leaf(_) => 0,
         Tree::Gt(_, _) => 1,
-        Tree::Ct(_, _) | Tree::Split(_, _) => 2,
+        Tree::Ct(_, _) | Tree::Split(_, _) | Tree::Dim(_, _) => 2,
     }
 }

@@ -13,6 +13,7 @@ pub enum Rule {
     Gt,
     Ct,
     Split,
+    Dim,
 }
 
 /// How a transform is taken apart: by its definition, or by a rule into two parts.
@@ -22,6 +23,7 @@ pub enum Tree {
     Gt(Box<Tree>, Box<Tree>),
     Ct(Box<Tree>, Box<Tree>),
     Split(Box<Tree>, Box<Tree>),
+    Dim(Box<Tree>, Box<Tree>),
 }
 
 impl Tree {
@@ -46,6 +48,11 @@ impl Tree {
                 let b = Box::new(alloc, b.copied(alloc)?)?;
                 Ok(Tree::Split(a, b))
             }
+            Tree::Dim(a, b) => {
+                let a = Box::new(alloc, a.copied(alloc)?)?;
+                let b = Box::new(alloc, b.copied(alloc)?)?;
+                Ok(Tree::Dim(a, b))
+            }
         }
     }
 
@@ -55,7 +62,9 @@ impl Tree {
     {
         match self {
             Tree::Leaf(size) => *size,
-            Tree::Gt(a, b) | Tree::Ct(a, b) | Tree::Split(a, b) => a.size() * b.size(),
+            Tree::Gt(a, b) | Tree::Ct(a, b) | Tree::Split(a, b) | Tree::Dim(a, b) => {
+                a.size() * b.size()
+            }
         }
     }
 }
@@ -69,6 +78,7 @@ impl fmt::Display for Tree {
             Tree::Gt(a, b) => write!(f, "gt({a},{b})"),
             Tree::Ct(a, b) => write!(f, "ct({a},{b})"),
             Tree::Split(a, b) => write!(f, "split({a},{b})"),
+            Tree::Dim(a, b) => write!(f, "dim({a},{b})"),
         }
     }
 }

@@ -16,7 +16,7 @@ use Rattle.passes.specs.Good.{IsVector}
 use Rattle.passes.specs.Loops.{nest_of, one_nest}
 use Rattle.passes.specs.Nest.{PlainMultiplier, PlainNest, copies_of, factor_at, multiplied_on, nests_on, store_place}
 use Rattle.passes.specs.Work.{PlainWork, kernel, rows, horner, tile, copy, work_on, work_size}
-use Rattle.rooted_trees.proofs.Products.{trees-same}
+use Rattle.tree_model.proofs.TreeProducts.{trees-same}
 use Rattle.ring_mod.proofs.Congruence.{same-mul}
 use Rattle.tensor_paths.specs.Path as paths
 use Rattle.tensor_paths.specs.Path.{AreInRange}

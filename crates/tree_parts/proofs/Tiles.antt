@@ -19,7 +19,7 @@ use Rattle.tree_model.specs.Admissible.{IsAdmissible}
 use Rattle.tree_model.specs.Breakdown.{Breakdown}
 use Rattle.tree_model.specs.Passes as trees
 use Rattle.tree_model.specs.declared.tree.Rule.{Rule}
-use Rattle.tree_model.specs.declared.tree.Rule.TheVariants.{Gt, Ct, Split}
+use Rattle.tree_model.specs.declared.tree.Rule.TheVariants.{Gt, Ct, Split, Dim}
 use Rattle.tree_passes.proofs.Owned.{nests_in}
 
 -- ---- as they are counted
@@ -49,6 +49,7 @@ works-by : (rule : Rule) (ps : List Counted) → AreOfWorks ps → AreOfWorks (t
 works-by Gt ps h = h
 works-by Ct ps h = works-last ps h
 works-by Split ps h = h
+works-by Dim ps h = h
 
 passes-of-works : (n : ℕ) (l : Layout) → AreOfWorks (passes_of n l)
 passes-of-works n (work w) = (tt, tt)

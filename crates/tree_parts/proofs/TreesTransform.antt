@@ -22,7 +22,7 @@ use Rattle.tree_model.specs.Breakdown.{Breakdown}
 use Rattle.tree_model.specs.Cost.{node_root}
 use Rattle.tree_passes.proofs.Few.{few_merged}
 use Rattle.tree_passes.proofs.Known.{AllKnown, tree-known}
-use Rattle.tree_passes.proofs.Lean.{root-whole}
+use Rattle.tree_passes.proofs.Transforms.{root-whole}
 use Rattle.tree_passes.proofs.Owned.{nests_in}
 use Rattle.tree_passes.proofs.TreesCanProgram.{counts, passes-are}
 use Rattle.tree_parts.specs.Parts.{IsForPart, TreesTransform}
@@ -72,7 +72,7 @@ module _ (c : Request) (t : Breakdown) (h : IsForPart c) (admissible : IsAdmissi
       ∙ sym (merged-is reduced)
       ∙ trees_keep host l reduced is.machine is.shares is.good (residues-vector c.modulus c.size x (omega (arith, large)))
       ∙ tree_does c t reduced h.valid admissible
-      ∙ sym (matrix_times-residues c.modulus c.size (entry_of c.kind c.modulus (node_root c c.size)) x)
+      ∙ sym (matrix_times-residues c.modulus c.size (entry_of c.kind c.modulus c.size (node_root c c.size)) x)
 
 pub trees_transform : TreesTransform
 trees_transform c t x h admissible = transforms c t h admissible x ∙ ap (λ w. transform c.kind c.modulus c.size w x) (root-whole c h.valid)

@@ -17,7 +17,7 @@ use Rattle.tensor_paths.specs.Path.{Path, copies_of, count_of}
 use Rattle.tensor_paths.proofs.Under.{size_under-copies}
 use Rattle.kernel_gen.proofs.KernelSizes.{trees-few}
 use Rattle.loop_merge.proofs.Shaped.{IsShapedWork}
-use Rattle.rooted_trees.specs.Trees.{trees_size}
+use Rattle.tree_model.specs.Trees.{trees_size}
 use Rattle.tree_passes.specs.Laws.{machine_of}
 use Rattle.tree_passes.proofs.Known.{AllKnown}
 use Rattle.tree_passes.proofs.Owned.{nests_in}

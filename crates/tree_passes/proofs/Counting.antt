@@ -1,5 +1,5 @@
 -- The merged passes of a tree count what its passes do in the cost model.
-use Rattle.std.proofs.Common.{◌≡◌, ℕ, zero, suc, ◌+◌, ◌*◌, Bool, true, false, List, [], ◌∷◌, length, map, refl, sym, ap, ap₂, ◌∙◌, arith, subst, Option, Some, None, if◌then◌else◌}
+use Rattle.std.proofs.Common.{◌≡◌, ℕ, ◌+◌, ◌*◌, Bool, true, false, List, [], ◌∷◌, map, refl, sym, ap, ap₂, ◌∙◌, arith, Option, Some, None, if◌then◌else◌}
 use Rattle.std.specs.Option.{option_map}
 use Rattle.formula_lower.proofs.TreeLayouts.{tree_layout}
 use Rattle.index_fn.specs.Mapping.{Mapping}
@@ -21,7 +21,9 @@ use Rattle.steps.specs.Targets.{target_of}
 use Rattle.tensor_paths.specs.Path.{Path, copies_of, count_of}
 use Rattle.tensor_paths.proofs.Under.{size_under-copies}
 use Rattle.tree_model.specs.Passes.{Pass, whole_passes}
-use Rattle.tree_passes.specs.Counts.{AllCount, CountsAs, TreesCount, extra_before}
+use Rattle.tree_model.specs.Passes as trees
+use Rattle.formula_lower.specs.Merged.{tree_merged}
+use Rattle.tree_passes.specs.Counts.{TreesCount}
 use Rattle.tree_passes.proofs.Bounds.{copies-are}
 use Rattle.tree_passes.proofs.Known.{AllKnown, tree-known}
 use Rattle.tree_passes.proofs.Owned.{nests_in}
@@ -81,29 +83,34 @@ pass-counts c p known =
     work-counts c p.path p.befores p.afters p.diagonal p.work
     (ap (λ x. x * work_size p.work) (copies-are p.path) ∙ sym (size_under-copies p.path (work_size p.work)) ∙ known.shaped.fills)
 
--- where there are no extra operations, no pass has any
-pub none-before : (behind : ℕ) → extra_before 0 behind ≡ 0
-none-before zero = refl
-none-before (suc behind) = refl
+-- pass by pass
+costs-are : (c : Request) (ps : List PlainPass) (qs : List Pass) → AllKnown c ps → laws.AllCount c (map counted ps) qs →
+    map (pass_cost c.weight c.modulus) (nests_in c ps) ≡ map (trees.pass_cost c c.size) qs
+costs-are c [] [] known h = refl
+costs-are c [] (q ∷ qs) known h = absurd h
+costs-are c (p ∷ ps) [] known h = absurd h
+costs-are c (p ∷ ps) (q ∷ qs) known h =
+    ap₂ (λ x xs. x ∷ xs) ((pass-counts c p known.0).operations ∙ h.0.operations) (costs-are c ps qs known.1 h.1)
 
-counts-as : (c : Request) (behind : ℕ) (p : PlainPass) (q : Pass) → IsKnown c p → laws.CountsAs c (counted p) q → CountsAs c (extra_before 0 behind) (one_nest (loop_of p)) q
-counts-as c behind p q known h =
-    let here = pass-counts c p known in
-    let operations = here.operations ∙ h.operations in
-    let none = none-before behind in
-    record { operations = omega (arith, operations, none); loads = here.loads ∙ h.loads }
-
-all-count : (c : Request) (ps : List PlainPass) (qs : List Pass) → AllKnown c ps → laws.AllCount c (map counted ps) qs → AllCount c 0 (nests_in c ps) qs
-all-count c [] [] known h = tt
-all-count c [] (q ∷ qs) known h = absurd h
-all-count c (p ∷ ps) [] known h = absurd h
-all-count c (p ∷ ps) (q ∷ qs) known h = (counts-as c (length qs) p q known.0 h.0, all-count c ps qs known.1 h.1)
+loads-are : (c : Request) (ps : List PlainPass) (qs : List Pass) → AllKnown c ps → laws.AllCount c (map counted ps) qs →
+    map pass_loads (nests_in c ps) ≡ map (trees.pass_loads c c.size) qs
+loads-are c [] [] known h = refl
+loads-are c [] (q ∷ qs) known h = absurd h
+loads-are c (p ∷ ps) [] known h = absurd h
+loads-are c (p ∷ ps) (q ∷ qs) known h =
+    ap₂ (λ x xs. x ∷ xs) ((pass-counts c p known.0).loads ∙ h.0.loads) (loads-are c ps qs known.1 h.1)
 
 pub trees_count : TreesCount
 trees_count c t valid h =
     let host = target_of c in
     let l = layout_of c t in
     let is = tree_layout c t valid h in
-    let passes = all-count c (merged_of host l) (whole_passes c t) (tree-known c t valid h) (counts c valid t h) in
-    subst (λ (g : PlainMerged). AllCount c 0 (all_passes g.phases) (whole_passes c t)) (sym (tree_nests host l is.machine is.shares is.good))
-    (subst (λ (ps : List (List PlainNest)). AllCount c 0 ps (whole_passes c t)) (sym (passes-are c (merged_phases host l))) passes)
+    let ps = merged_of host l in
+    let known = tree-known c t valid h in
+    let all = counts c valid t h in
+    let nests : all_passes (tree_merged c t).phases ≡ nests_in c ps =
+    ap (λ (g : PlainMerged). all_passes g.phases) (tree_nests host l is.machine is.shares is.good) ∙ passes-are c (merged_phases host l) in
+    record {
+      costs = ap (map (pass_cost c.weight c.modulus)) nests ∙ costs-are c ps (whole_passes c t) known all;
+      loads = ap (map pass_loads) nests ∙ loads-are c ps (whole_passes c t) known all;
+    }

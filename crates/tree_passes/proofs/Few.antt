@@ -11,10 +11,10 @@ use Rattle.matrix_meaning.specs.Valid.{IsValid}
 use Rattle.tree_model.specs.Admissible.{IsAdmissible}
 use Rattle.tree_model.specs.Breakdown.{Breakdown, leaf, node, size_of, IsWellFormed}
 use Rattle.tree_model.specs.declared.tree.Rule.{Rule}
-use Rattle.tree_model.specs.declared.tree.Rule.TheVariants.{Gt, Ct, Split}
+use Rattle.tree_model.specs.declared.tree.Rule.TheVariants.{Gt, Ct, Split, Dim}
 use Rattle.tree_model.specs.Cost.{is_kernel}
 use Rattle.tree_model.specs.Passes.{Pass, passes_of, tiled_passes, whole_passes}
-use Rattle.tree_model.proofs.TrafficLaws.{node_passes}
+use Rattle.tree_model.proofs.TrafficLaws.{passes_at}
 
 pub record HasPasses (c : Request) (t : Breakdown) : Type 0 where
   pub number : ℕ
@@ -48,7 +48,7 @@ has_passes c (node rule a b) formed =
     let two_s = formed.0.right in
     record {
       number = parts_number kernel left.number right.number;
-      is = node_passes c rule a b left.number right.number left.is right.is;
+      is = passes_at c (node rule a b) rule a b (size_of a) (size_of b) left.number right.number _ refl refl refl left.is right.is refl;
       some = either-some kernel left.number right.number left.some;
       few = λ two. either-few kernel (size_of a) (size_of b) left.number right.number two_r two_s (left.few two_r) (right.few two_s);
       small = λ one. let both = mul-le 2 2 (size_of a) (size_of b) two_r two_s in absurd (omega arith);
@@ -100,6 +100,10 @@ few_tiled c (node Ct a b) formed high =
     record { some = omega arith; few = omega arith }
 few_tiled c (node Split a b) formed high =
     let few = few_parts c Split a b formed high in
+    let all = length-append (passes_of c (size_of a) b) (Pass.tiles false ∷ passes_of c (size_of b) a) in
+    record { some = omega arith; few = omega arith }
+few_tiled c (node Dim a b) formed high =
+    let few = few_parts c Dim a b formed high in
     let all = length-append (passes_of c (size_of a) b) (Pass.tiles false ∷ passes_of c (size_of b) a) in
     record { some = omega arith; few = omega arith }
 

@@ -11,7 +11,7 @@ pub mod Few
 pub mod TreesCanProgram
 pub mod Counting
 pub mod Adding
-pub mod Parts
-pub mod Lean
+pub mod Transforms
 pub mod Merged
+mod Chain
 pub use Rattle.loop_merge.proofs.LoopLimits

@@ -15,7 +15,7 @@ use Rattle.tree_model.specs.Admissible.{IsAdmissible}
 use Rattle.tree_model.specs.Breakdown.{Breakdown}
 use Rattle.tree_passes.specs.Merged.{TreesAreMerged}
 use Rattle.tree_passes.proofs.Counting.{trees_count}
-use Rattle.tree_passes.proofs.Lean.{trees-count-like, trees-transform}
+use Rattle.tree_passes.proofs.Transforms.{phases-count, trees-transform}
 use Rattle.tree_passes.proofs.TreesCanProgram.{trees_can_program}
 
 phases-are : (c : Request) (t : Breakdown) → IsValid c → IsAdmissible c t → ArePhases c.lanes c.size (tree_merged c t).phases
@@ -33,7 +33,7 @@ trees_are_merged c t valid h =
       procs = refl;
       lanes = refl;
       meaning = λ x vector. trees-transform c t x valid h vector;
-      phases = (trees-count-like c t valid h).phases;
+      phases = phases-count c t;
       counts = trees_count c t valid h;
       stores = phases-are c t valid h;
       owners = (trees_can_program c t valid h).shared;

@@ -6,11 +6,11 @@ use Rattle.kernel_gen.proofs.NodeCosts.{kernel-short}
 use Rattle.loop_merge.proofs.Shaped.{HasWorks, IsShapedWork}
 use Rattle.matrix_meaning.specs.Valid.{IsValid}
 use Rattle.matrix_meaning.specs.declared.Kind.{Kind}
-use Rattle.matrix_meaning.specs.declared.Kind.TheVariants.{Dft, Wht}
+use Rattle.matrix_meaning.specs.declared.Kind.TheVariants.{Dft, Wht, Idft}
 use Rattle.matrix_meaning.specs.declared.Request.{Request}
 use Rattle.pass_actions.specs.Laws.{CanWork}
 use Rattle.passes.specs.Work.{PlainWork, kernel, rows, horner, tile, copy}
-use Rattle.rooted_trees.specs.Trees.{single, trees_size}
+use Rattle.tree_model.specs.Trees.{single, trees_size}
 use Rattle.shared_passes.specs.Shared.{HasLanes}
 use Rattle.steps.specs.Layout.{Layout, work, by, layout_of, long_work}
 use Rattle.steps.specs.Targets.{target_of}
@@ -40,6 +40,7 @@ short-size d unroll short low = grind (arith, nat_tests)
 small-long : (kind : Kind) (root d : ℕ) → AllowsLeaf kind d → IsSmallWork (long_work kind root (leaf d))
 small-long Dft root d h = tt
 small-long Wht root d h = omega (arith, h.1)
+small-long Idft root d h = absurd h
 
 small-kernel : (c : Request) (t : Breakdown) → IsValid c → is_kernel c (size_of t) ≡ true → size_of t ≤ 64
 small-kernel c t valid short = short-size (size_of t) c.unroll (kernel-short c (size_of t) short) valid.in_range.unroll.1

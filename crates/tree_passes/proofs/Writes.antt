@@ -31,7 +31,7 @@ use Rattle.passes.proofs.Natural.{names-out, ranged, values-are}
 use Rattle.passes.proofs.Nests.{names-simplified}
 use Rattle.passes.proofs.Within.{carries-all}
 use Rattle.perm_algebra.specs.Affine.{Sum, constant, variable, value, simplified}
-use Rattle.rooted_trees.specs.Trees.{PlainTrees, trees_size}
+use Rattle.tree_model.specs.Trees.{PlainTrees, trees_size}
 use Rattle.shared_passes.specs.Shared.{HasLanes, IsFramed}
 use Rattle.steps.specs.Targets.{target_of}
 use Rattle.tensor_paths.specs.Path.{Path, AreInRange, count_of, place, size_under}

@@ -4,24 +4,25 @@ use Rattle.formula_lower.specs.Merged.{tree_merged}
 use Rattle.matrix_meaning.specs.Kind.{transform}
 use Rattle.matrix_meaning.specs.declared.Request.{Request}
 use Rattle.matrix_meaning.specs.Valid.{IsValid}
-use Rattle.pass_programs.specs.Contract.{ArePhasesShared, all_passes}
+use Rattle.pass_programs.specs.Contract.{ArePhasesShared}
 use Rattle.passes.specs.Good.{IsVector}
 use Rattle.passes.specs.Merged.{PlainMerged, merged_on}
 use Rattle.passes.specs.Sigma.{ArePhases}
 use Rattle.tree_model.specs.Admissible.{IsAdmissible}
 use Rattle.tree_model.specs.Breakdown.{Breakdown}
-use Rattle.tree_model.specs.Passes.{whole_passes}
-use Rattle.tree_passes.specs.Counts.{AllCount}
+use Rattle.tree_passes.specs.Counts.{CountsTree}
 use Rattle.tree_passes.specs.Laws.{machine_of}
 
--- They do the request's transform. There is one phase, or there are two where there are several processors, and pass by pass the operations and loads are those of the cost model. Each pass stores each word once, at places within the limits of programs, and in each phase each line has one owner
+-- They do the request's transform. There is one phase, or there are two where there are several processors, and pass by pass the
+-- operations and loads are those of the cost model. Each pass stores each word once, at places within the limits of programs, and in
+-- each phase each line has one owner
 pub record IsMergedTree (c : Request) (t : Breakdown) (g : PlainMerged) : Type 0 where
   pub size : g.size ≡ c.size
   pub procs : g.procs ≡ c.procs
   pub lanes : g.lanes ≡ c.lanes
   pub meaning : (x : List ℕ) → IsVector c.modulus c.size x → merged_on c.modulus g x ≡ transform c.kind c.modulus c.size c.root x
   pub phases : length g.phases ≡ (if c.procs == 1 then 1 else 2)
-  pub counts : AllCount c 0 (all_passes g.phases) (whole_passes c t)
+  pub counts : CountsTree c t g
   pub stores : ArePhases g.lanes g.size g.phases
   pub owners : ArePhasesShared (machine_of c) g.phases
 

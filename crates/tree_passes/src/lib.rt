@@ -1,11 +1,13 @@
-//! The merged passes of trees: what they count, and that programs of them compute the tree's transform.
+//! The merged passes of trees: what they do and count, and that a program can be made of them.
 #![tactic(auto)]
 
-ghost use Rattle.tree_passes.specs.Computes.{TreesCompute};
+mod merging;
+
 ghost use Rattle.tree_passes.specs.Counts.{TreesCount};
 ghost use Rattle.tree_passes.specs.Laws.{TreesCanProgram};
-ghost use Rattle.tree_passes.specs.Lean.{TreesAreLean};
 ghost use Rattle.tree_passes.specs.Merged.{TreesAreMerged};
+
+pub use merging::merge_tree;
 
 /// A program can be made of the merged passes of every valid request and admissible tree, for any processors, line and lanes: a
 /// law of the definitions.
@@ -16,16 +18,6 @@ pub fn trees_can_program()
 /// Pass by pass they have the operations and loads of the cost model: a law of the definitions.
 pub fn trees_count()
     ensures { TreesCount }
-{}
-
-/// A program that performs them computes the transform, in equal shares of the tree's operations: a law of the definitions.
-pub fn trees_compute()
-    ensures { TreesCompute }
-{}
-
-/// Each processor's actions are one part for each pass of the tree, with its share of the pass's counts: a law of the definitions.
-pub fn trees_are_lean()
-    ensures { TreesAreLean }
 {}
 
 /// They do the transform in the tree's operations, at places within the limits, and in each phase each line has one owner: a law

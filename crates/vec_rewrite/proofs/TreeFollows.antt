@@ -16,7 +16,7 @@ use Rattle.tensor_paths.specs.declared.Tensor.{Tensor}
 use Rattle.tensor_paths.specs.declared.Tensor.TheVariants.{Blocks, Columns}
 use Rattle.tensor_paths.specs.Path.{Path}
 use Rattle.tree_model.specs.declared.tree.Rule.{Rule}
-use Rattle.tree_model.specs.declared.tree.Rule.TheVariants.{Gt, Ct, Split}
+use Rattle.tree_model.specs.declared.tree.Rule.TheVariants.{Gt, Ct, Split, Dim}
 use Rattle.smp_rewrite.specs.Fits.{HasParts, RuleHasParts, RootHasParts, CanShareLayout}
 use Rattle.steps.specs.Layout.{Layout, work, by, layout_size}
 use Rattle.steps.specs.Targets.{is_alone}
@@ -36,6 +36,7 @@ head-rule : (rule : Rule) (t : Tensor) (path : Path) (r s w : ℕ) (left right :
 head-rule Gt t path r s w left right h k = (refl, head-append t right _ k (head-append t left _ h (refl, tt)))
 head-rule Ct t path r s w left right h k = (refl, head-append t right _ k (refl, h))
 head-rule Split t path r s w left right h k = head-append t right left k h
+head-rule Dim t path r s w left right h k = head-append t right left k h
 
 head-part : (t : Tensor) (path : Path) (l : Layout) → HaveHead t (steps_of (t ∷ path) l)
 head-part t path (work w) = (refl, tt)
@@ -123,6 +124,14 @@ root-both h r s u w Split left right laned columns rows sized apart =
           among-both h d s right left many (right-heads r right rows) columns
           (subst (λ ss. AllFollow d None (flat_map (factors_of h.size h.procs) ss)) (append-nil right) (split-follows d h.size r s u right [] laned rows sized tt)) (left-all d h.size r s u left laned columns None)
     ]
+root-both h r s u w Dim left right laned columns rows sized apart =
+    let d = deal_of h in
+    elim (cases_eq h.procs 1) [
+      | inl one ↦ alone-both h d (right ++ left) one (split-follows d h.size r s u right left laned rows sized columns)
+      | inr many ↦
+          among-both h d s right left many (right-heads r right rows) columns
+          (subst (λ ss. AllFollow d None (flat_map (factors_of h.size h.procs) ss)) (append-nil right) (split-follows d h.size r s u right [] laned rows sized tt)) (left-all d h.size r s u left laned columns None)
+    ]
 
 -- an equal part of something is something
 part_positive : (p k : ℕ) → 0 < k → k ≡ p * (k / p) → 0 < k / p
@@ -172,6 +181,11 @@ both-rule h Split root a b shares several fits =
     let s = layout_size b in
     let laned = laned_root h (by Split root a b) r s shares several shares.size fits in
     root-both h r s laned.0 root Split (steps_of (Columns s ∷ []) a) (steps_of (Blocks r ∷ []) b) laned.1 (head-part (Columns s) [] a) (head-part (Blocks r) [] b) (of_size h.size (Blocks r ∷ []) b shares.size) (λ no. absurd (cc))
+both-rule h Dim root a b shares several fits =
+    let r = layout_size a in
+    let s = layout_size b in
+    let laned = laned_root h (by Dim root a b) r s shares several shares.size fits in
+    root-both h r s laned.0 root Dim (steps_of (Columns s ∷ []) a) (steps_of (Blocks r ∷ []) b) laned.1 (head-part (Columns s) [] a) (head-part (Blocks r) [] b) (of_size h.size (Blocks r ∷ []) b shares.size) (λ no. absurd (cc))
 
 both-layout : (h : Target) (l : Layout) → CanShareLayout h l → 1 < h.lanes → RootHasParts h l → BothFollow (deal_of h) (smp_of h l)
 both-layout h (work w) shares several fits = absurd fits

@@ -238,6 +238,11 @@ wht 256 mod 4611686018427387903 procs 2 line 8 lanes 2: 2048 1536 1536
 dft 48 mod 97 root 25 procs 2 line 2 lanes 2 unroll 3: 496 288 288
 dft 100 mod 101 root 2 procs 5 line 2: 1740 400 400
 wht 1024 mod 1024 procs 16 line 2 lanes 2 unroll 4: 10240 10240 10240
+idft 4 mod 17 root 4: 13 4 4
+idft 4 mod 17 root 4 procs 2: 16 8 8
+idft 1 mod 17 root 1 weight 3: 3 1 1
+idft 16 mod 17 root 3 procs 2 line 2 lanes 2: 104 48 48
+idft 6 mod 7 root 3 unroll 2 weight 5: 144 24 12
 ";
 
 // The first `size` states of the generator behind the seed, as residues.
@@ -275,7 +280,7 @@ fn plain_sum(alloc: Global, request: &Request, seed: u64) -> Result<u64, Fail> {
     let m = Modulus::new(request.modulus).ok_or("a modulus")?;
     let root = m.reduce(request.root);
     let x = vector_of_seed(alloc, &m, request.size, seed)?;
-    let y = times_plain(alloc, request.kind, request.size, root, m.get(), &x)?;
+    let y = times_plain(alloc, request.kind, &[request.size], &[root], m.get(), &x)?;
     Ok(weighted_sum(&m, &y))
 }
 

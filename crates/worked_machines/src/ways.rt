@@ -15,10 +15,9 @@ use ring_mod::Modulus;
 use spl_ast::Spl;
 use spl_text::{print_spl, read_spl};
 use std::alloc::Global;
-use std::process::Abort;
 use std::test::Fail;
 use tree_model::Ctx;
-use worked_rows::check;
+use worked_rows::{check, joined};
 
 /// The request of the line.
 pub(crate) fn request_of(line: &[u8]) -> Result<Request, Fail>
@@ -31,7 +30,7 @@ pub(crate) fn request_of(line: &[u8]) -> Result<Request, Fail>
 }
 
 // The formula of the chosen tree.
-#[tactic(auto, using(crate::proofs::Plans::whole_divides))]
+#[tactic(auto, using(crate::proofs::Plans::planned_stands))]
 fn formula(alloc: Global, request: &Request) -> Result<Spl, Fail>
     requires { IsInRange request.now }
     ensures { IfOk result IsPrintable }
@@ -90,32 +89,46 @@ fn results(alloc: Global, machine: &Machine) -> Result<Vec<u64>, Fail> {
     Ok(results)
 }
 
-// The transform modulo 17 with the root 4, by its formula, by the text of its formula, and on the machine.
-fn agree(rt: &impl Abort, alloc: Global, line: &[u8]) -> Result<(), Fail> {
-    let x = [1, 2, 3, 4];
-    let wanted = [10, 7, 15, 6].as_slice();
-    let request = request_of(line)?;
+// A request of size 4 modulo 17, and its transform of 1 2 3 4. Those of the inverse and of two
+// dimensions are by the reference in reference/.
+const WAYS: &str = "\
+dft 4 mod 17 root 4|10 7 15 6
+dft 4 mod 17 root 4 procs 2 line 1|10 7 15 6
+dft 4 mod 17 root 4 lanes 2|10 7 15 6
+dft 4 mod 17 root 4 procs 2 unroll 4 budget 12|10 7 15 6
+idft 4 mod 17 root 4|11 10 8 6
+idft 4 mod 17 root 4 procs 2 unroll 2|11 10 8 6
+dft 2x2 mod 17 root 16x16|10 15 13 0
+dft 2x2 mod 17 root 16x16 procs 2 line 1|10 15 13 0
+";
+
+// The transform by its formula, where that by the text of its formula and that on the machine are the same.
+fn by_all(alloc: Global, request: &Request, x: &[u64]) -> Result<String, Fail>
+    requires in_range { IsInRange request.now }
+    requires size { length x.now ≡ request.now.size }
+    requires residues { All (λ v. v < request.now.modulus) x.now }
+{
+    let first = by_formula(alloc, request, x)?;
+    if by_text(alloc, request, x)?.as_slice() != first.as_slice() {
+        return Ok("another by the text".to_string(alloc)?);
+    }
+    if by_machine(alloc, request, x)?.as_slice() != first.as_slice() {
+        return Ok("another on the machine".to_string(alloc)?);
+    }
+    joined(alloc, &first)
+}
+
+fn ways_answer(alloc: Global, line: &str) -> Result<String, Fail> {
+    let request = request_of(line.as_bytes())?;
     if request.size != 4 || request.modulus != 17 {
         Err("the size 4 and the modulus 17")?
     }
-    same(rt, by_formula(alloc, &request, &x)?.as_slice(), wanted);
-    same(rt, by_text(alloc, &request, &x)?.as_slice(), wanted);
-    same(rt, by_machine(alloc, &request, &x)?.as_slice(), wanted);
-    Ok(())
+    by_all(alloc, &request, &[1, 2, 3, 4])
 }
 
 #[test]
 fn ways_agree(rt: HostRuntime) -> Result<(), Fail> {
-    let lines: [&[u8]; 4] = [
-        b"dft 4 mod 17 root 4",
-        b"dft 4 mod 17 root 4 procs 2 line 1",
-        b"dft 4 mod 17 root 4 lanes 2",
-        b"dft 4 mod 17 root 4 procs 2 unroll 4 budget 12",
-    ];
-    for line in lines {
-        agree(&rt, rt.alloc(), line)?;
-    }
-    Ok(())
+    check(rt.alloc(), WAYS, ways_answer)
 }
 
 // The product of (DFT(2,16) tensor I_2) and L(4,2) is read and applied.
@@ -181,6 +194,12 @@ dft 4 mod 17 root 4 budget 8|the least cost 9 is over the budget 8
 dft 11 mod 23 root 2 budget 242|leaf(11) 242 1 3
 dft 11 mod 23 root 2 budget 241|the least cost 242 is over the budget 241
 dft 4 mod 17 root 3 budget 1|the root to the power of the size is 13, not 1
+idft 4 mod 17 root 4|ct(leaf(2),leaf(2)) 13 0 17
+idft 4 mod 17 root 4 budget 12|the least cost 13 is over the budget 12
+dft 2x2 mod 17 root 16x16|dim(leaf(2),leaf(2)) 8 0 12
+dft 2x2 mod 17 root 16x16 budget 7|the least cost 8 is over the budget 7
+dft 2x2 mod 17 root 16x4 budget 1|the root to the power of the size is 16, not 1
+dft 2x3 mod 7 root 6x2 procs 2|no tree fits the processors, line and lanes
 ";
 
 fn described(alloc: Global, request: &Request) -> Result<String, Fail>

@@ -19,6 +19,11 @@ wht 8 mod 5 weight 5|24 24
 dft 11 mod 23 root 2 weight 5|726 726
 dft 4 mod 17 root 4 procs 2 line 1 weight 5|28 14 14
 dft 16 mod 17 root 3 procs 2 line 2 lanes 2 unroll 2 weight 5|304 152 152
+idft 4 mod 17 root 4 weight 5|33 33
+idft 16 mod 17 root 3 procs 2 line 2 lanes 2 weight 5|264 132 132
+dft 2x3 mod 7 root 6x2 weight 5|58 58
+dft 4x2x2 mod 17 root 4x16x1 procs 2 weight 5|84 42 42
+dft 4x4 mod 17 root 4x13 procs 2 line 2 lanes 2 unroll 2 weight 5|224 112 112
 ";
 
 // The operations of each processor, where a multiplication counts for so many more.

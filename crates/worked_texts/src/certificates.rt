@@ -9,6 +9,9 @@ use worked_rows::{check, halves, spelled};
 
 // What is said of a text.
 fn verdict(alloc: Global, c: &Ctx, text: &str) -> Result<String, Fail> {
+    if !divides(c) {
+        return Ok("no divide".to_string(alloc)?);
+    }
     match check_cert(alloc, c, text.as_bytes())? {
         Verdict::Least(cost) => Ok(format!(in alloc; "least {cost}")?),
         Verdict::Unread => Ok(format!(in alloc; "unread")?),
@@ -31,6 +34,10 @@ dft 4 mod 17 root 4 weight 5|{\"rows\":[[2,2,\"leaf\",0,0],[4,13,\"ct\",2,2]],\"
 dft 6 mod 7 root 3 weight 5|{\"rows\":[[2,2,\"leaf\",0,0],[3,26,\"leaf\",0,0],[6,58,\"gt\",2,3]],\"size\":6,\"version\":2,\"weight\":5}~|least 58
 idft 4 mod 17 root 4|{\"rows\":[[2,2,\"leaf\",0,0],[4,13,\"ct\",2,2]],\"size\":4,\"version\":2,\"weight\":1}~|least 13
 idft 1 mod 17 root 1 weight 3|{\"rows\":[[1,3,\"leaf\",0,0]],\"size\":1,\"version\":2,\"weight\":3}~|least 3
+idft 12 mod 13 root 2 weight 2|{\"rows\":[[2,2,\"leaf\",0,0],[3,14,\"leaf\",0,0],[4,10,\"ct\",2,2],[6,34,\"gt\",2,3],[12,110,\"gt\",3,4]],\"size\":12,\"version\":2,\"weight\":2}~|least 110
+dft 2x2 mod 17 root 16x16|[{\"rows\":[[2,2,\"leaf\",0,0]],\"size\":2,\"version\":2,\"weight\":1},{\"rows\":[[2,2,\"leaf\",0,0]],\"size\":2,\"version\":2,\"weight\":1}]~|least 8
+dft 2x3 mod 7 root 6x2 weight 5|[{\"rows\":[[2,2,\"leaf\",0,0]],\"size\":2,\"version\":2,\"weight\":5},{\"rows\":[[3,26,\"leaf\",0,0]],\"size\":3,\"version\":2,\"weight\":5}]~|least 58
+dft 4x2x2 mod 17 root 4x16x1 procs 2|[{\"rows\":[[2,2,\"leaf\",0,0],[4,9,\"ct\",2,2]],\"size\":4,\"version\":2,\"weight\":1},{\"rows\":[[2,2,\"leaf\",0,0]],\"size\":2,\"version\":2,\"weight\":1},{\"rows\":[[2,2,\"leaf\",0,0]],\"size\":2,\"version\":2,\"weight\":1}]~|least 68
 ";
 
 // Whether the text is the certificate of the context.
@@ -129,6 +136,20 @@ dft 4 mod 17 root 4 weight 5|{\"rows\":[[2,2,\"leaf\",0,0],[4,13,\"ct\",2,2]],\"
 idft 4 mod 17 root 4|{\"rows\":[[2,2,\"leaf\",0,0],[4,9,\"ct\",2,2]],\"size\":4,\"version\":1}|wrong 4 9 13
 idft 4 mod 17 root 4|{\"rows\":[[2,4,\"leaf\",0,0],[4,13,\"ct\",2,2]],\"size\":4,\"version\":1}|wrong 2 4 2
 idft 4 mod 17 root 4|{\"rows\":[[2,2,\"leaf\",0,0],[4,13,\"leaf\",0,0]],\"size\":4,\"version\":1}|wrong 4 13 20
+dft 2x2 mod 17 root 16x16|[{\"rows\":[[2,2,\"leaf\",0,0]],\"size\":2,\"version\":1},{\"rows\":[[2,2,\"leaf\",0,0]],\"size\":2,\"version\":2,\"weight\":1}]|least 8
+dft 2x2 mod 17 root 16x16| [ {\"rows\":[[2,2,\"leaf\",0,0]],\"size\":2,\"version\":2,\"weight\":1} , {\"rows\":[[2,2,\"leaf\",0,0]],\"size\":2,\"version\":2,\"weight\":1} ] |least 8
+dft 2x2 mod 17 root 16x16 weight 5|[{\"rows\":[[2,2,\"leaf\",0,0]],\"size\":2,\"version\":1},{\"rows\":[[2,2,\"leaf\",0,0]],\"size\":2,\"version\":1}]|unread
+dft 2x2 mod 17 root 16x16|[{\"rows\":[[2,2,\"leaf\",0,0]],\"size\":2,\"version\":2,\"weight\":1}]|unread
+dft 2x2 mod 17 root 16x16|[{\"rows\":[[2,2,\"leaf\",0,0]],\"size\":2,\"version\":2,\"weight\":1},{\"rows\":[[2,2,\"leaf\",0,0]],\"size\":2,\"version\":2,\"weight\":1},{\"rows\":[[2,2,\"leaf\",0,0]],\"size\":2,\"version\":2,\"weight\":1}]|unread
+dft 2x2 mod 17 root 16x16|{\"rows\":[[2,2,\"leaf\",0,0]],\"size\":2,\"version\":2,\"weight\":1}|unread
+dft 4 mod 17 root 4|[{\"rows\":[[2,2,\"leaf\",0,0],[4,9,\"ct\",2,2]],\"size\":4,\"version\":2,\"weight\":1}]|unread
+dft 2x2 mod 17 root 16x16|[{\"rows\":[[2,2,\"leaf\",0,0]],\"size\":2,\"version\":2,\"weight\":1},{\"rows\":[[3,10,\"leaf\",0,0]],\"size\":3,\"version\":2,\"weight\":1}]|unread
+dft 2x2 mod 17 root 16x16|[{\"rows\":[[2,3,\"leaf\",0,0]],\"size\":2,\"version\":2,\"weight\":1},{\"rows\":[[2,2,\"leaf\",0,0]],\"size\":2,\"version\":2,\"weight\":1}]|wrong 2 3 2
+dft 2x2 mod 17 root 16x16|[{\"rows\":[[2,2,\"leaf\",0,0]],\"size\":2,\"version\":2,\"weight\":1},{\"rows\":[[2,3,\"leaf\",0,0]],\"size\":2,\"version\":2,\"weight\":1}]|wrong 2 3 2
+dft 2x2 mod 17 root 16x16|[{\"rows\":[[2,3,\"leaf\",0,0]],\"size\":2,\"version\":2,\"weight\":1},1]|unread
+dft 2x3 mod 7 root 6x2|[{\"rows\":[[2,2,\"leaf\",0,0]],\"size\":2,\"version\":2,\"weight\":1},{\"rows\":[[3,10,\"leaf\",0,0]],\"size\":3,\"version\":2,\"weight\":1}]|least 26
+dft 2x3 mod 7 root 6x2|[{\"rows\":[[3,10,\"leaf\",0,0]],\"size\":3,\"version\":2,\"weight\":1},{\"rows\":[[2,2,\"leaf\",0,0]],\"size\":2,\"version\":2,\"weight\":1}]|unread
+dft 2x3 mod 7 root 6x2 lanes 2|[{\"rows\":[[2,2,\"leaf\",0,0]],\"size\":2,\"version\":2,\"weight\":1},{\"rows\":[[3,10,\"leaf\",0,0]],\"size\":3,\"version\":2,\"weight\":1}]|no divide
 ";
 
 fn four_answer(alloc: Global, question: &str) -> Result<String, Fail> {

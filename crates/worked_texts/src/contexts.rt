@@ -1,98 +1,85 @@
 // Requests by their lines, as contexts of trees, and trees by their leaves.
 
-ghost use Rattle.std.specs.Prelude.{IsTrue};
-ghost use Rattle.matrix_meaning.specs.Valid.{AllowsDirection, IsBetween, HasShape, IsInRange, IsValid};
+ghost use Rattle.std.specs.Prelude.{◌≡◌, ◌≢◌, IfOk, IsTrue};
+ghost use Rattle.matrix_meaning.specs.Valid.{IsInRange};
+ghost use Rattle.tree_model.specs.Admissible.{IsAdmissible};
+ghost use Rattle.tree_model.specs.Breakdown.{breakdown_of};
 
-use matrix_meaning::{Direction, Kind, Request};
+use matrix_meaning::{Dimensions, Kind, Request};
 use request_text::read_request;
-use ring_mod::{Modulus, is_coprime};
 use std::alloc::Global;
 use std::test::Fail;
-use tree_model::{Ctx, Tree};
+use tree_model::{Ctx, Tree, admissible};
 use worked_rows::numbers;
 
-fn is_between(low: u64, high: u64, x: u64) -> bool
-    ensures { IsTrue result → IsBetween low high x }
+/// The request of a line.
+pub(crate) fn request(line: &str) -> Result<Request, Fail>
+    ensures { IfOk result IsInRange }
 {
-    low <= x && x <= high
+    match read_request(line.as_bytes()) {
+        Ok(request) => Ok(request),
+        Err(_) => Err("a request")?,
+    }
 }
 
-fn has_shape(kind: Kind, size: u64) -> bool
-    ensures { IsTrue result → HasShape kind size }
+/// The context of the request, where its roots are right.
+pub(crate) fn valid_context(request: &Request) -> Option<Ctx>
+    requires { IsInRange request.now }
+{
+    match request.bad_power() {
+        None => Some(Ctx::new(request)),
+        Some(_) => None,
+    }
+}
+
+/// The context of the line's request, where it is valid.
+pub(crate) fn context(text: &str) -> Result<Ctx, Fail> {
+    let request = request(text)?;
+    Ok(valid_context(&request).ok_or("a valid request")?)
+}
+
+fn is_forward(kind: Kind) -> bool
+    ensures { IsTrue result → kind ≢ Kind.Idft }
 {
     match kind {
         Kind::Dft => true,
-        Kind::Wht => size.is_power_of_two(),
-    }
-}
-
-fn allows_direction(r: &Request) -> bool
-    ensures { IsTrue result → AllowsDirection r.now.direction r.now.kind r.now.size r.now.modulus }
-{
-    match r.direction {
-        Direction::Forward => true,
-        Direction::Inverse => r.kind == Kind::Dft && is_coprime(r.size, r.modulus),
-    }
-}
-
-fn is_in_range(r: &Request) -> bool
-    ensures { IsTrue result → IsInRange r.now }
-{
-    allows_direction(r) && has_limits(r)
-}
-
-fn has_limits(r: &Request) -> bool
-    requires { AllowsDirection r.now.direction r.now.kind r.now.size r.now.modulus }
-    ensures { IsTrue result → IsInRange r.now }
-{
-    is_between(1, 1_048_576, r.size)
-        && is_between(2, 4_611_686_018_427_387_903, r.modulus)
-        && r.root < r.modulus
-        && is_between(1, 16, r.procs)
-        && is_between(1, 64, r.line)
-        && is_between(1, 16, r.lanes)
-        && is_between(2, 64, r.unroll)
-        && is_between(1, 1_000_000_000_000, r.budget)
-        && is_between(1, 1000, r.weight)
-        && has_shape(r.kind, r.size)
-        && (r.procs == 1 || r.line % r.lanes == 0)
-}
-
-/// Whether the request is in its limits and has a root.
-pub(crate) fn is_valid(r: &Request) -> bool
-    ensures { IsTrue result → IsValid r.now }
-{
-    if !is_in_range(r) {
-        return false;
-    }
-    match r.kind {
-        Kind::Dft => Modulus::new(r.modulus).unwrap().pow(r.root, r.size) == 1,
         Kind::Wht => true,
+        Kind::Idft => false,
     }
 }
 
-/// The request of a line.
-pub(crate) fn request(line: &str) -> Result<Request, Fail> {
-    Ok(read_request(line.as_bytes()).ok().ok_or("a request")?)
+// Whether the request is for one size, and no inverse.
+fn is_of_one(c: &Ctx) -> bool
+    ensures one { IsTrue result → c.now.dimensions ≡ Dimensions.One }
+    ensures kind { IsTrue result → c.now.kind ≢ Kind.Idft }
+{
+    c.is_one() && is_forward(c.request().kind)
 }
 
-/// The context of the request, where it is valid.
-pub(crate) fn context(text: &str) -> Result<Ctx, Fail> {
-    let request = request(text)?;
-    if !is_valid(&request) {
-        Err("a valid request")?
-    }
-    Ok(Ctx::new(&request))
+// Such a request admits the trees of its node.
+fn admits_flat(c: &Ctx, tree: &Tree) -> bool
+    requires one { c.now.dimensions ≡ Dimensions.One }
+    requires kind { c.now.kind ≢ Kind.Idft }
+    ensures { IsTrue result → IsAdmissible c.now (breakdown_of tree.now) }
+{
+    admissible(c, tree)
 }
 
-/// The tree of the rule, with a leaf of this size on its left.
-fn grown(alloc: Global, rule: &str, size: u64, tree: Tree) -> Result<Tree, Fail> {
-    let right = Box::new(alloc, tree)?;
-    let left = Box::new(alloc, Tree::Leaf(size))?;
+/// Whether the request is for one size, no inverse, and admits the tree.
+pub(crate) fn admits_of_one(c: &Ctx, tree: &Tree) -> bool
+    ensures { IsTrue result → IsAdmissible c.now (breakdown_of tree.now) }
+{
+    is_of_one(c) && admits_flat(c, tree)
+}
+
+/// The node of the rule with these parts.
+pub(crate) fn node(alloc: Global, rule: &str, a: Tree, b: Tree) -> Result<Tree, Fail> {
+    let (a, b) = (Box::new(alloc, a)?, Box::new(alloc, b)?);
     Ok(match rule {
-        "gt" => Tree::Gt(left, right),
-        "ct" => Tree::Ct(left, right),
-        _ => Tree::Split(left, right),
+        "gt" => Tree::Gt(a, b),
+        "ct" => Tree::Ct(a, b),
+        "dim" => Tree::Dim(a, b),
+        _ => Tree::Split(a, b),
     })
 }
 
@@ -100,7 +87,7 @@ fn tree_on(alloc: Global, rule: &str, sizes: &[u64]) -> Result<Tree, Fail> {
     let (last, front) = sizes.split_last().ok_or("a leaf")?;
     let mut tree = Tree::Leaf(*last);
     for size in front.iter().rev() {
-        tree = grown(alloc, rule, *size, tree)?;
+        tree = node(alloc, rule, Tree::Leaf(*size), tree)?;
     }
     Ok(tree)
 }

@@ -1,16 +1,15 @@
 // The factors of a transform of size 16, by hand from the identities: a step by four rows of four words. Behind `^` stands the root
 // of a transform or a diagonal: 3 for the whole, and 3^4 modulo 17, which is 13, for its parts.
 
-use crate::contexts::{context, tree_of};
+use crate::contexts::{admits_of_one, context, tree_of};
 use passes::Work;
-use rooted_trees::RootedTrees;
 use smp_rewrite::{Factor, SmpSpl, to_smp};
 use std::alloc::{AllocError, Global};
 use std::fmt::Write;
 use std::test::Fail;
 use steps::{Core, Step};
 use tensor_paths::Tensor;
-use tree_model::admissible;
+use tree_model::RootedTrees;
 use vec_rewrite::{VecFactor, VecSpl, vec_of_tree};
 use worked_rows::check;
 
@@ -123,7 +122,7 @@ fn lanes_text(alloc: Global, formula: &VecSpl) -> Result<String, AllocError> {
 fn for_processors(alloc: Global, request: &str) -> Result<String, Fail> {
     let c = context(request)?;
     let tree = tree_of(alloc, "ct 4 4")?;
-    if admissible(&c, &tree) {
+    if admits_of_one(&c, &tree) {
         Ok(blocks_text(alloc, &to_smp(alloc, &c, &tree)?)?)
     } else {
         Ok("not admissible".to_string(alloc)?)
@@ -133,7 +132,7 @@ fn for_processors(alloc: Global, request: &str) -> Result<String, Fail> {
 fn for_lanes(alloc: Global, request: &str) -> Result<String, Fail> {
     let c = context(request)?;
     let tree = tree_of(alloc, "ct 4 4")?;
-    if admissible(&c, &tree) {
+    if admits_of_one(&c, &tree) {
         Ok(lanes_text(alloc, &vec_of_tree(alloc, &c, &tree)?)?)
     } else {
         Ok("not admissible".to_string(alloc)?)

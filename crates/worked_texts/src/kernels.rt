@@ -1,11 +1,10 @@
 // Kernels: their code, the registers of their outputs, and how many registers they use.
 
-use crate::contexts::{context, tree_of};
+use crate::contexts::{admits_of_one, context, tree_of};
 use kernel_gen::{Instruction, Kernel, kernel};
 use std::alloc::{AllocError, Global};
 use std::fmt::Write;
 use std::test::Fail;
-use tree_model::admissible;
 use worked_rows::check;
 
 // A request, a tree of its size, and its kernel. The twiddle factors of a step by strides follow their row.
@@ -50,7 +49,7 @@ fn write_kernel(text: &mut String, made: &Kernel) -> Result<(), AllocError> {
 fn kernel_text(alloc: Global, request: &str, tree: &str) -> Result<String, Fail> {
     let c = context(request)?;
     let tree = tree_of(alloc, tree)?;
-    if !admissible(&c, &tree) {
+    if !admits_of_one(&c, &tree) {
         return Ok("not admissible".to_string(alloc)?);
     }
     let made = kernel(alloc, &c, &tree)?;

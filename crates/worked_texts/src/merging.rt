@@ -3,7 +3,7 @@
 ghost use Rattle.tree_model.specs.Admissible.{IsAdmissible};
 ghost use Rattle.tree_model.specs.Breakdown.{breakdown_of};
 
-use crate::contexts::{context, tree_of};
+use crate::contexts::{admits_of_one, context, tree_of};
 use formula_lower::lower;
 use memory::NoMemory;
 use passes::{Merged, Nest};
@@ -12,7 +12,7 @@ use std::alloc::{AllocError, Global};
 use std::fmt::Write;
 use std::test::Fail;
 use term_merge::merge;
-use tree_model::{Ctx, Tree, admissible};
+use tree_model::{Ctx, Tree};
 use vec_rewrite::vec_of_tree;
 use worked_rows::check;
 
@@ -74,7 +74,7 @@ fn listing(alloc: Global, merged: &Merged) -> Result<String, AllocError> {
 fn passes_text(alloc: Global, request: &str, tree: &str) -> Result<String, Fail> {
     let c = context(request)?;
     let tree = tree_of(alloc, tree)?;
-    if admissible(&c, &tree) {
+    if admits_of_one(&c, &tree) {
         Ok(listing(alloc, &merged_tree(alloc, &c, &tree)?)?)
     } else {
         Ok("not admissible".to_string(alloc)?)

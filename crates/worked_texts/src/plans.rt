@@ -1,71 +1,86 @@
 // Requests with known plans, and small requests whose trees are all tried.
 
-ghost use Rattle.tree_model.specs.Admissible.{IsAdmissible};
 ghost use Rattle.tree_model.specs.Breakdown.{breakdown_of};
+ghost use Rattle.tree_model.specs.Chosen.{IsWholeTree};
 
-use crate::contexts::{is_valid, request};
+use crate::contexts::{context, node, request, valid_context};
 use crate::same::{same, same_in};
-use matrix_meaning::Request;
-use operators::MAX_SIZE;
-use plan_search::{Plan, PlanError, best, best_by_recursion};
-use plan_text::write_tree;
+use plan_search::{Plan, PlanError, best};
 use ring_mod::Modulus;
 use std::alloc::Global;
 use std::fmt::Write;
 use std::process::Abort;
 use std::test::Fail;
-use tree_model::{Ctx, Rule, Tree, admissible, before, cost, loads, pass_count, stores};
-use worked_rows::check;
+use tree_model::{Ctx, Tree, admissible, before, cost, loads, stores};
+use worked_rows::{check, number};
 
-// A request, and its plan: the tree, its cost, its passes, and the words that they load and store.
+// A request, and its plan: the tree, its cost, and the words that its passes load and store. Those
+// of inverses and of several dimensions are by the reference in reference/.
 const PLANS: &str = "\
-dft 4 mod 17 root 4|ct(leaf(2),leaf(2)) 9 1 4 4
-dft 1 mod 2 root 1|leaf(1) 0 1 1 1
-dft 6 mod 7 root 3|gt(leaf(2),leaf(3)) 26 1 6 6
-wht 4 mod 5|split(leaf(2),leaf(2)) 8 1 4 4
-dft 8 mod 17 root 2|ct(leaf(2),ct(leaf(2),leaf(2))) 29 1 8 8
-dft 11 mod 23 root 2|leaf(11) 242 1 121 11
+dft 4 mod 17 root 4|ct(leaf(2),leaf(2)) 9 4 4
+dft 1 mod 2 root 1|leaf(1) 0 1 1
+dft 6 mod 7 root 3|gt(leaf(2),leaf(3)) 26 6 6
+wht 4 mod 5|split(leaf(2),leaf(2)) 8 4 4
+dft 8 mod 17 root 2|ct(leaf(2),ct(leaf(2),leaf(2))) 29 8 8
+dft 11 mod 23 root 2|leaf(11) 242 121 11
 dft 11 mod 23 root 2 budget 241|242 over 241
-dft 11 mod 23 root 2 budget 242|leaf(11) 242 1 121 11
+dft 11 mod 23 root 2 budget 242|leaf(11) 242 121 11
 dft 4 mod 17 root 4 budget 8|9 over 8
-dft 2 mod 15 root 4|leaf(2) 3 1 2 2
-dft 2 mod 4611686018427387903 root 4611686018427387902|leaf(2) 2 1 2 2
-dft 4 mod 10 root 9|ct(leaf(2),leaf(2)) 9 1 4 4
-dft 16 mod 17 root 3|ct(ct(leaf(2),leaf(2)),ct(leaf(2),leaf(2))) 88 2 32 32
-dft 16 mod 17 root 3 unroll 16|ct(leaf(2),ct(leaf(2),ct(leaf(2),leaf(2)))) 81 1 16 16
-dft 30 mod 31 root 3|gt(leaf(2),gt(leaf(3),leaf(5))) 346 3 90 90
-dft 65536 mod 65537 root 3|ct(ct(leaf(2),leaf(2)),ct(ct(leaf(2),leaf(2)),ct(ct(leaf(2),ct(leaf(2),leaf(2))),ct(ct(leaf(2),ct(leaf(2),leaf(2))),ct(ct(leaf(2),ct(leaf(2),leaf(2))),ct(leaf(2),ct(leaf(2),leaf(2)))))))) 1572864 6 393216 393216
+dft 2 mod 15 root 4|leaf(2) 3 2 2
+dft 2 mod 4611686018427387903 root 4611686018427387902|leaf(2) 2 2 2
+dft 4 mod 10 root 9|ct(leaf(2),leaf(2)) 9 4 4
+dft 16 mod 17 root 3|ct(ct(leaf(2),leaf(2)),ct(leaf(2),leaf(2))) 88 32 32
+dft 16 mod 17 root 3 unroll 16|ct(leaf(2),ct(leaf(2),ct(leaf(2),leaf(2)))) 81 16 16
+dft 30 mod 31 root 3|gt(leaf(2),gt(leaf(3),leaf(5))) 346 90 90
+dft 65536 mod 65537 root 3|ct(ct(leaf(2),leaf(2)),ct(ct(leaf(2),leaf(2)),ct(ct(leaf(2),ct(leaf(2),leaf(2))),ct(ct(leaf(2),ct(leaf(2),leaf(2))),ct(ct(leaf(2),ct(leaf(2),leaf(2))),ct(leaf(2),ct(leaf(2),leaf(2)))))))) 1572864 393216 393216
 dft 4 mod 17 root 3|not valid
-dft 4 mod 17 root 4 procs 2|ct(leaf(2),leaf(2)) 12 2 8 8
-dft 4 mod 17 root 4 line 2 lanes 2|ct(leaf(2),leaf(2)) 12 3 12 12
-wht 4 mod 5 line 2 lanes 2|split(leaf(2),leaf(2)) 8 4 16 16
+dft 4 mod 17 root 4 procs 2|ct(leaf(2),leaf(2)) 12 8 8
+dft 4 mod 17 root 4 line 2 lanes 2|ct(leaf(2),leaf(2)) 12 12 12
+wht 4 mod 5 line 2 lanes 2|split(leaf(2),leaf(2)) 8 16 16
 dft 6 mod 7 root 3 line 2 lanes 2|no divide
 dft 8 mod 17 root 2 procs 2 line 2|no divide
 dft 1 mod 2 root 1 procs 2|no divide
-dft 16 mod 17 root 3 procs 2 line 2|ct(ct(leaf(2),leaf(2)),ct(leaf(2),leaf(2))) 88 2 32 32
-dft 16 mod 17 root 3 procs 2 line 2 lanes 2|ct(ct(leaf(2),leaf(2)),ct(leaf(2),leaf(2))) 88 3 48 48
-dft 144 mod 31 root 30 procs 3 line 4 unroll 3|ct(gt(leaf(3),ct(leaf(2),leaf(2))),gt(leaf(3),ct(leaf(2),leaf(2)))) 1584 6 864 864
-wht 1024 mod 1024 procs 2 line 4 lanes 2|split(split(leaf(2),split(leaf(2),leaf(2))),split(leaf(2),split(leaf(2),split(leaf(2),split(leaf(2),split(leaf(2),split(leaf(2),leaf(2)))))))) 10240 8 8192 8192
-dft 4 mod 17 root 4 weight 5|ct(leaf(2),leaf(2)) 13 1 4 4
-dft 6 mod 7 root 3 weight 5|gt(leaf(2),leaf(3)) 58 1 6 6
-dft 4 mod 10 root 9 weight 5|ct(leaf(2),leaf(2)) 9 1 4 4
+dft 16 mod 17 root 3 procs 2 line 2|ct(ct(leaf(2),leaf(2)),ct(leaf(2),leaf(2))) 88 32 32
+dft 16 mod 17 root 3 procs 2 line 2 lanes 2|ct(ct(leaf(2),leaf(2)),ct(leaf(2),leaf(2))) 88 48 48
+dft 144 mod 31 root 30 procs 3 line 4 unroll 3|ct(gt(leaf(3),ct(leaf(2),leaf(2))),gt(leaf(3),ct(leaf(2),leaf(2)))) 1584 864 864
+wht 1024 mod 1024 procs 2 line 4 lanes 2|split(split(leaf(2),split(leaf(2),leaf(2))),split(leaf(2),split(leaf(2),split(leaf(2),split(leaf(2),split(leaf(2),split(leaf(2),leaf(2)))))))) 10240 8192 8192
+dft 4 mod 17 root 4 weight 5|ct(leaf(2),leaf(2)) 13 4 4
+dft 6 mod 7 root 3 weight 5|gt(leaf(2),leaf(3)) 58 6 6
+dft 4 mod 10 root 9 weight 5|ct(leaf(2),leaf(2)) 9 4 4
 dft 11 mod 23 root 2 budget 483 weight 3|484 over 483
-dft 16 mod 17 root 2 unroll 16|ct(leaf(2),ct(leaf(2),ct(leaf(2),leaf(2)))) 81 1 16 16
-dft 16 mod 17 root 2 unroll 16 weight 2|ct(ct(leaf(2),leaf(2)),ct(leaf(2),leaf(2))) 89 1 16 16
-dft 4 mod 17 root 4 procs 2 weight 1000|ct(leaf(2),leaf(2)) 4008 2 8 8
+dft 16 mod 17 root 2 unroll 16|ct(leaf(2),ct(leaf(2),ct(leaf(2),leaf(2)))) 81 16 16
+dft 16 mod 17 root 2 unroll 16 weight 2|ct(ct(leaf(2),leaf(2)),ct(leaf(2),leaf(2))) 89 16 16
+dft 4 mod 17 root 4 procs 2 weight 1000|ct(leaf(2),leaf(2)) 4008 8 8
+idft 4 mod 17 root 4|ct(leaf(2),leaf(2)) 13 4 4
+idft 4 mod 17 root 4 budget 12|13 over 12
+idft 4 mod 17 root 3|not valid
+idft 1 mod 17 root 1 weight 3|leaf(1) 3 1 1
+idft 4 mod 17 root 4 procs 2|ct(leaf(2),leaf(2)) 16 8 8
+idft 16 mod 17 root 3 procs 2 line 2 lanes 2|ct(ct(leaf(2),leaf(2)),ct(leaf(2),leaf(2))) 104 48 48
+idft 6 mod 7 root 3 unroll 2 weight 5|gt(leaf(2),leaf(3)) 144 24 12
+dft 2x2 mod 17 root 16x16|dim(leaf(2),leaf(2)) 8 4 4
+dft 2x2 mod 17 root 16x16 budget 7|8 over 7
+dft 2x2 mod 17 root 16x4|not valid
+dft 2x2 mod 17 root 16x16 procs 2|dim(leaf(2),leaf(2)) 8 8 8
+dft 2x3 mod 7 root 6x2|dim(leaf(2),leaf(3)) 26 6 6
+dft 2x3 mod 7 root 6x2 procs 2|no divide
+dft 8x2x2 mod 17 root 2x1x1 procs 4 line 2|no divide
+dft 3x4 mod 13 root 3x5 unroll 2|dim(leaf(3),ct(leaf(2),leaf(2))) 108 60 36
+dft 8x6 mod 7 root 6x3|dim(ct(leaf(2),ct(leaf(2),leaf(2))),gt(leaf(2),leaf(3))) 364 96 96
+dft 2x3x5 mod 31 root 30x5x2 weight 5|dim(leaf(2),dim(leaf(3),leaf(5))) 890 90 90
+dft 2x2x2x2 mod 15 root 4x11x14x1|dim(leaf(2),dim(leaf(2),dim(leaf(2),leaf(2)))) 80 32 32
+dft 4x4 mod 17 root 4x13 lanes 2 unroll 2|dim(ct(leaf(2),leaf(2)),ct(leaf(2),leaf(2))) 96 96 96
+dft 4x4 mod 17 root 4x13 procs 2 line 2 lanes 2|dim(ct(leaf(2),leaf(2)),ct(leaf(2),leaf(2))) 72 64 64
+dft 4x2x2 mod 17 root 4x16x1 procs 2|dim(ct(leaf(2),leaf(2)),dim(leaf(2),leaf(2))) 68 32 32
+dft 4x2x2 mod 17 root 4x16x1 lanes 2|dim(ct(leaf(2),leaf(2)),dim(leaf(2),leaf(2))) 68 64 64
 ";
 
-fn described(alloc: Global, request: &Request) -> Result<String, Fail> {
-    if !is_valid(request) {
-        return Ok(format!(in alloc; "not valid")?);
-    }
-    let c = Ctx::new(request);
-    match best(alloc, &c, request.budget) {
+fn described(alloc: Global, c: &Ctx, budget: u64) -> Result<String, Fail> {
+    match best(alloc, c, budget) {
         Ok(Plan { tree, cost }) => {
-            let passes = pass_count(&c, &tree);
-            let loaded = loads(&c, &tree);
-            let stored = stores(&c, &tree);
-            Ok(format!(in alloc; "{tree} {cost} {passes} {loaded} {stored}")?)
+            let loaded = loads(c, &tree);
+            let stored = stores(c, &tree);
+            Ok(format!(in alloc; "{tree} {cost} {loaded} {stored}")?)
         }
         Err(PlanError::OverBudget { cost, budget }) => {
             Ok(format!(in alloc; "{cost} over {budget}")?)
@@ -76,7 +91,11 @@ fn described(alloc: Global, request: &Request) -> Result<String, Fail> {
 }
 
 fn answer(alloc: Global, line: &str) -> Result<String, Fail> {
-    described(alloc, &request(line)?)
+    let request = request(line)?;
+    match valid_context(&request) {
+        Some(c) => described(alloc, &c, request.budget),
+        None => Ok("not valid".to_string(alloc)?),
+    }
 }
 
 #[test]
@@ -84,20 +103,10 @@ fn plans(rt: HostRuntime) -> Result<(), Fail> {
     check(rt.alloc(), PLANS, answer)
 }
 
-/// The node with these parts.
-fn node(alloc: Global, rule: Rule, a: Tree, b: Tree) -> Result<Tree, Fail> {
-    let (a, b) = (Box::new(alloc, a)?, Box::new(alloc, b)?);
-    Ok(match rule {
-        Rule::Gt => Tree::Gt(a, b),
-        Rule::Ct => Tree::Ct(a, b),
-        Rule::Split => Tree::Split(a, b),
-    })
-}
-
 fn add_node(
     alloc: Global,
     trees: &mut Vec<Tree>,
-    rule: Rule,
+    rule: &str,
     a: &Tree,
     b: &Tree,
 ) -> Result<(), Fail> {
@@ -115,7 +124,7 @@ fn add_nodes(
 ) -> Result<(), Fail> {
     for a in left {
         for b in right {
-            for rule in [Rule::Gt, Rule::Ct, Rule::Split] {
+            for rule in ["gt", "ct", "split", "dim"] {
                 add_node(alloc, trees, rule, a, b)?;
             }
         }
@@ -137,14 +146,20 @@ fn every_tree(alloc: Global, size: u64) -> Result<Vec<Tree>, Fail> {
     Ok(trees)
 }
 
-/// Whether a tree is cheaper than the plan, or as cheap and before it.
-#[tactic(auto, using(plan_search::proofs::NoWorse::admissible_rules))]
-fn is_better(c: &Ctx, tree: &Tree, plan: &Plan) -> bool
-    requires tree { IsAdmissible c.now (breakdown_of tree.now) }
-    requires plan { IsAdmissible c.now (breakdown_of plan.now.tree) }
+/// What a tree of the request costs.
+fn whole_cost(c: &Ctx, tree: &Tree) -> u64
+    requires { IsWholeTree c.now (breakdown_of tree.now) }
 {
-    prove!(c.request().size <= MAX_SIZE);
-    let cost = cost(c, tree);
+    cost(c, tree)
+}
+
+/// Whether a tree is cheaper than the plan, or as cheap and before it.
+fn is_better(c: &Ctx, tree: &Tree, plan: &Plan) -> bool
+    requires tree { IsWholeTree c.now (breakdown_of tree.now) }
+    requires plan { IsWholeTree c.now (breakdown_of plan.now.tree) }
+{
+    let _request = c.request();
+    let cost = whole_cost(c, tree);
     cost < plan.cost || cost == plan.cost && before(tree, &plan.tree)
 }
 
@@ -162,7 +177,7 @@ fn is_plan(alloc: Global, plan: &Plan, tree: &Tree, cost: u64) -> Result<bool, F
 /// Whether the plan is among these trees, with its cost.
 fn is_among(alloc: Global, c: &Ctx, plan: &Plan, trees: &[Tree]) -> Result<bool, Fail> {
     for tree in trees {
-        if admissible(c, tree) && is_plan(alloc, plan, tree, cost(c, tree))? {
+        if admissible(c, tree) && is_plan(alloc, plan, tree, whole_cost(c, tree))? {
             return Ok(true);
         }
     }
@@ -171,7 +186,7 @@ fn is_among(alloc: Global, c: &Ctx, plan: &Plan, trees: &[Tree]) -> Result<bool,
 
 /// Whether one of these trees is better than the plan.
 fn is_beaten(c: &Ctx, plan: &Plan, trees: &[Tree]) -> bool
-    requires { IsAdmissible c.now (breakdown_of plan.now.tree) }
+    requires { IsWholeTree c.now (breakdown_of plan.now.tree) }
 {
     for tree in trees {
         if admissible(c, tree) && is_better(c, tree, plan) {
@@ -181,74 +196,28 @@ fn is_beaten(c: &Ctx, plan: &Plan, trees: &[Tree]) -> bool
     false
 }
 
-/// Whether the recursion finds the plan.
-fn is_by_recursion(alloc: Global, c: &Ctx, plan: &Plan) -> Result<bool, Fail> {
-    match best_by_recursion(alloc, c)? {
-        Some(other) => is_plan(alloc, plan, &other.tree, other.cost),
-        None => Ok(false),
-    }
-}
-
-/// Whether the request admits none of these trees, and the recursion finds none.
-fn has_none(alloc: Global, c: &Ctx, trees: &[Tree]) -> Result<bool, Fail> {
-    Ok(best_by_recursion(alloc, c)?.is_none() && !trees.iter().any(|tree| admissible(c, tree)))
-}
-
-/// Whether the plan is the first of the cheapest of these trees, and the recursion finds it too.
+/// Whether the plan is the first of the cheapest of these trees.
 fn is_first_and_cheapest(alloc: Global, c: &Ctx, trees: &[Tree]) -> Result<bool, Fail> {
     match best(alloc, c, u64::MAX) {
-        Ok(plan) => Ok(
-            !is_beaten(c, &plan, trees)
-                && is_among(alloc, c, &plan, trees)?
-                && is_by_recursion(alloc, c, &plan)?,
-        ),
-        Err(PlanError::NoDivide) => has_none(alloc, c, trees),
+        Ok(plan) => Ok(!is_beaten(c, &plan, trees) && is_among(alloc, c, &plan, trees)?),
+        Err(PlanError::NoDivide) => Ok(!trees.iter().any(|tree| admissible(c, tree))),
         Err(_) => Err(Fail::from("a plan")),
     }
 }
 
-/// The request on other processors and lanes, with other limits.
-fn variants(request: &Request) -> [Request; 10] {
-    let r = *request;
-    [
-        r,
-        Request { unroll: 2, ..r },
-        Request {
-            unroll: 64,
-            weight: 1000,
-            ..r
-        },
-        Request { weight: 5, ..r },
-        Request { procs: 2, ..r },
-        Request {
-            procs: 3,
-            weight: 2,
-            ..r
-        },
-        Request {
-            procs: 2,
-            line: 2,
-            unroll: 2,
-            ..r
-        },
-        Request {
-            line: 2,
-            lanes: 2,
-            ..r
-        },
-        Request {
-            line: 3,
-            lanes: 3,
-            ..r
-        },
-        Request {
-            procs: 2,
-            line: 2,
-            lanes: 2,
-            ..r
-        },
-    ]
-}
+/// What may stand behind a request: other processors and lanes, and other limits.
+const OPTIONS: [&str; 10] = [
+    "",
+    " unroll 2",
+    " unroll 64 weight 1000",
+    " weight 5",
+    " procs 2",
+    " procs 3 weight 2",
+    " procs 2 line 2 unroll 2",
+    " line 2 lanes 2",
+    " line 3 lanes 3",
+    " procs 2 line 2 lanes 2",
+];
 
 const SIZES: [u64; 20] = [
     1, 2, 3, 4, 5, 6, 7, 8, 9, 10, 11, 12, 14, 15, 16, 18, 20, 24, 30, 36,
@@ -278,17 +247,17 @@ fn small_requests(alloc: Global, size: u64) -> Result<String, Fail> {
 }
 
 // Every tree of these sizes, against the plan.
-fn agrees(alloc: Global, variant: &Request, trees: &[Tree]) -> Result<bool, Fail> {
-    if is_valid(variant) {
-        is_first_and_cheapest(alloc, &Ctx::new(variant), trees)
-    } else {
-        Ok(true)
+fn agrees(alloc: Global, line: &str, trees: &[Tree]) -> Result<bool, Fail> {
+    match valid_context(&request(line)?) {
+        Some(c) => is_first_and_cheapest(alloc, &c, trees),
+        None => Ok(true),
     }
 }
 
 fn variants_agree(rt: &impl Abort, alloc: Global, line: &str, trees: &[Tree]) -> Result<(), Fail> {
-    for variant in variants(&request(line)?) {
-        same_in(rt, agrees(alloc, &variant, trees)?, true, line);
+    for options in OPTIONS {
+        let variant = format!(in alloc; "{line}{options}")?;
+        same_in(rt, agrees(alloc, &variant, trees)?, true, variant.as_str());
     }
     Ok(())
 }
@@ -309,15 +278,51 @@ fn every_small_tree(rt: HostRuntime) -> Result<(), Fail> {
     Ok(())
 }
 
+// The sizes of inverses and of several dimensions, multiplied, and their requests.
+const WHOLE: &str = "\
+1|idft 1 mod 2 root 1
+4|idft 4 mod 17 root 4
+6|idft 6 mod 7 root 3
+12|idft 12 mod 13 root 2
+16|idft 16 mod 17 root 3
+4|dft 2x2 mod 17 root 16x16
+6|dft 2x3 mod 7 root 6x2
+6|dft 3x2 mod 7 root 2x6
+8|dft 4x2 mod 17 root 4x16
+8|dft 2x2x2 mod 15 root 4x11x14
+12|dft 3x4 mod 13 root 3x5
+12|dft 2x2x3 mod 13 root 12x1x9
+16|dft 4x4 mod 17 root 4x13
+16|dft 8x2 mod 17 root 2x16
+16|dft 2x2x4 mod 17 root 16x1x13
+16|dft 2x2x2x2 mod 15 root 4x11x14x1
+24|dft 6x4 mod 13 root 4x5
+36|dft 6x6 mod 7 root 3x5
+";
+
+fn row_agrees(rt: &impl Abort, alloc: Global, row: &str) -> Result<(), Fail> {
+    let (size, line) = row.split_once('|').ok_or("a size")?;
+    context(line)?;
+    variants_agree(rt, alloc, line, &every_tree(alloc, number(size)?)?)
+}
+
+#[test]
+fn every_small_tree_of_whole_requests(rt: HostRuntime) -> Result<(), Fail> {
+    for row in WHOLE.lines() {
+        row_agrees(&rt, rt.alloc(), row)?;
+    }
+    Ok(())
+}
+
 // A tree's text, by hand.
 #[test]
 fn text_of_a_tree(rt: HostRuntime) -> Result<(), Fail> {
     let alloc = rt.alloc();
-    let six = node(alloc, Rule::Gt, Tree::Leaf(2), Tree::Leaf(3))?;
-    let tree = node(alloc, Rule::Ct, six, Tree::Leaf(10))?;
-    let mut text = Vec::new(alloc);
-    write_tree(&mut text, &tree)?;
-    let wanted = b"ct(gt(leaf(2),leaf(3)),leaf(10))";
-    same(&rt, text.as_slice(), wanted.as_slice());
+    let six = node(alloc, "gt", Tree::Leaf(2), Tree::Leaf(3))?;
+    let sixty = node(alloc, "ct", six, Tree::Leaf(10))?;
+    let tree = node(alloc, "dim", sixty, Tree::Leaf(4))?;
+    let text = format!(in alloc; "{tree}")?;
+    let wanted = "dim(ct(gt(leaf(2),leaf(3)),leaf(10)),leaf(4))";
+    same(&rt, text.as_str(), wanted);
     Ok(())
 }

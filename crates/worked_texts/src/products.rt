@@ -1,15 +1,18 @@
 // Products of vectors: by the definition, by the formula of a tree, and by its terms.
 
 ghost use Rattle.std.specs.Prelude.{◌≡◌, ◌<◌, ◌↔◌, vec_len, All, IfOk, IsTrue};
+ghost use Rattle.matrix_meaning.specs.Dimensions.{roots_of, sizes_of};
+ghost use Rattle.matrix_meaning.specs.Valid.{IsInRange};
 ghost use Rattle.spl_ast.specs.Meaning.{IsVector};
 ghost use Rattle.steps.specs.Meaning.{transform_of};
 ghost use Rattle.tree_model.specs.Admissible.{IsAdmissible};
 ghost use Rattle.tree_model.specs.Breakdown.{breakdown_of};
+ghost use Rattle.tree_model.specs.Chosen.{IsWholeTree};
 
-use crate::contexts::{context, tree_of};
-use breakdown::{expand, expand_request};
+use crate::contexts::{admits_of_one, context, tree_of};
+use breakdown::expand;
 use formula_lower::lower;
-use matrix_meaning::times_plain;
+use matrix_meaning::{Dimensions, Request, times_plain};
 use memory::NoMemory;
 use plain_terms::apply_plain;
 use ring_mod::Modulus;
@@ -66,15 +69,39 @@ dft 21 mod 21 root 4; gt 3 7; 5 4 7 6 1 0 3 2 13 12 15 14 9 8 11 10 0 20 2 1 17|
 wht 8 mod 12; split 2 2 2; 5 4 7 6 1 0 3 2|4 4 4 0 4 0 0 0
 ";
 
-fn by_definition(alloc: Global, c: &Ctx, x: &[u64]) -> Result<Vec<u64>, Fail>
-    requires { IsVector c.now.modulus c.now.size x.now }
+fn sizes_in(alloc: Global, r: &Request) -> Result<Vec<u64>, Fail>
+    ensures { IfOk result (λ sizes. sizes.items ≡ sizes_of r.now) }
 {
-    let r = c.request();
-    Ok(times_plain(alloc, r.kind, r.size, r.root, r.modulus, x)?)
+    match r.dimensions {
+        Dimensions::One => Ok(vec![in alloc; r.size]?),
+        Dimensions::Two(a, b) => Ok(vec![in alloc; a.size, b.size]?),
+        Dimensions::Three(a, b, c) => Ok(vec![in alloc; a.size, b.size, c.size]?),
+        Dimensions::Four(a, b, c, d) => Ok(vec![in alloc; a.size, b.size, c.size, d.size]?),
+    }
+}
+
+fn roots_in(alloc: Global, r: &Request) -> Result<Vec<u64>, Fail>
+    ensures { IfOk result (λ roots. roots.items ≡ roots_of r.now) }
+{
+    match r.dimensions {
+        Dimensions::One => Ok(vec![in alloc; r.root]?),
+        Dimensions::Two(a, b) => Ok(vec![in alloc; a.root, b.root]?),
+        Dimensions::Three(a, b, c) => Ok(vec![in alloc; a.root, b.root, c.root]?),
+        Dimensions::Four(a, b, c, d) => Ok(vec![in alloc; a.root, b.root, c.root, d.root]?),
+    }
+}
+
+fn by_definition(alloc: Global, r: &Request, x: &[u64]) -> Result<Vec<u64>, Fail>
+    requires in_range { IsInRange r.now }
+    requires vector { IsVector r.now.modulus r.now.size x.now }
+{
+    let sizes = sizes_in(alloc, r)?;
+    let roots = roots_in(alloc, r)?;
+    Ok(times_plain(alloc, r.kind, &sizes, &roots, r.modulus, x)?)
 }
 
 fn by_formula(alloc: Global, c: &Ctx, tree: &Tree, x: &[u64]) -> Result<Vec<u64>, Fail>
-    requires { IsAdmissible c.now (breakdown_of tree.now) }
+    requires { IsWholeTree c.now (breakdown_of tree.now) }
 {
     let formula = expand(alloc, c, tree)?;
     applied(alloc, c, &formula, x)
@@ -89,34 +116,46 @@ fn applied(alloc: Global, c: &Ctx, formula: &Spl, x: &[u64]) -> Result<Vec<u64>,
     Ok(Spl::apply_plain(alloc, &m, formula, x)?)
 }
 
-fn by_terms(alloc: Global, c: &Ctx, tree: &Tree, x: &[u64]) -> Result<Vec<u64>, Fail>
+// The product by the definition, where that by the formula is the same.
+fn by_both(alloc: Global, c: &Ctx, tree: &Tree, x: &[u64]) -> Result<String, Fail>
+    requires tree { IsWholeTree c.now (breakdown_of tree.now) }
+    requires vector { IsVector c.now.modulus c.now.size x.now }
+{
+    let first = by_definition(alloc, &c.request(), x)?;
+    if by_formula(alloc, c, tree, x)?.as_slice() == first.as_slice() {
+        joined(alloc, &first)
+    } else {
+        Ok("another by the formula".to_string(alloc)?)
+    }
+}
+
+fn by_terms(alloc: Global, c: &Ctx, tree: &Tree, x: &[u64]) -> Result<String, Fail>
     requires admissible { IsAdmissible c.now (breakdown_of tree.now) }
     requires vector { IsVector c.now.modulus c.now.size x.now }
 {
-    Ok(times(alloc, c, tree, x)?)
+    joined(alloc, &times(alloc, c, tree, x)?)
 }
 
-fn agreed(alloc: Global, c: &Ctx, tree: &Tree, x: &[u64]) -> Result<String, Fail>
-    requires admissible { IsAdmissible c.now (breakdown_of tree.now) }
+// The product by the definition, by the formula, and for one size and no inverse by terms.
+fn by_all(alloc: Global, c: &Ctx, tree: &Tree, x: &[u64]) -> Result<String, Fail>
+    requires tree { IsWholeTree c.now (breakdown_of tree.now) }
     requires vector { IsVector c.now.modulus c.now.size x.now }
 {
-    let first = by_definition(alloc, c, x)?;
-    if by_formula(alloc, c, tree, x)?.as_slice() != first.as_slice() {
-        return Ok("another by the formula".to_string(alloc)?);
+    let text = by_both(alloc, c, tree, x)?;
+    if admits_of_one(c, tree) && by_terms(alloc, c, tree, x)?.as_str() != text.as_str() {
+        Ok("another by terms".to_string(alloc)?)
+    } else {
+        Ok(text)
     }
-    if by_terms(alloc, c, tree, x)?.as_slice() != first.as_slice() {
-        return Ok("another by terms".to_string(alloc)?);
-    }
-    joined(alloc, &first)
 }
 
-// The product by each of the three ways, where the tree is admissible.
+// The product, where the tree is admissible.
 fn product(alloc: Global, c: &Ctx, tree: &Tree, x: &[u64]) -> Result<String, Fail> {
     let request = c.request();
     if !admissible(c, tree) || !is_vector(request.modulus, request.size, x) {
         return Err(Fail::from("an admissible tree and a vector"));
     }
-    agreed(alloc, c, tree, x)
+    by_all(alloc, c, tree, x)
 }
 
 fn answer(alloc: Global, question: &str) -> Result<String, Fail> {
@@ -142,24 +181,23 @@ idft 16 mod 17 root 3 procs 2 line 2; ct 4 4; 1 3 9 10 13 5 15 11 16 14 8 7 4 12
 idft 2 mod 15 root 4; leaf 2; 1 1|1 10
 ";
 
-// The product by the formula of the request, where the tree is admissible.
-fn inverse(alloc: Global, c: &Ctx, tree: &Tree, x: &[u64]) -> Result<String, Fail> {
-    if !admissible(c, tree) {
-        return Err(Fail::from("an admissible tree"));
-    }
-    let formula = expand_request(alloc, c, tree)?;
-    joined(alloc, &applied(alloc, c, &formula, x)?)
-}
-
-fn inverse_answer(alloc: Global, question: &str) -> Result<String, Fail> {
-    let (question, x) = question.rsplit_once("; ").ok_or("a vector")?;
-    let (request, leaves) = question.rsplit_once("; ").ok_or("a tree")?;
-    let c = context(request)?;
-    let tree = tree_of(alloc, leaves)?;
-    inverse(alloc, &c, &tree, &numbers(alloc, x)?)
-}
-
 #[test]
 fn inverses(rt: HostRuntime) -> Result<(), Fail> {
-    check(rt.alloc(), INVERSES, inverse_answer)
+    check(rt.alloc(), INVERSES, answer)
+}
+
+// The same for several dimensions, by the reference in reference/.
+const DIMENSIONS: &str = "\
+dft 2x2 mod 17 root 16x16; dim 2 2; 1 2 3 4|10 15 13 0
+dft 2x2 mod 17 root 16x16 procs 2 line 1; dim 2 2; 1 2 3 4|10 15 13 0
+dft 2x3 mod 7 root 6x2; dim 2 3; 1 2 3 4 5 6|0 6 2 5 0 0
+dft 3x2 mod 7 root 2x6; dim 3 2; 1 2 3 4 5 6|0 4 5 0 4 0
+dft 4x2 mod 17 root 4x16 unroll 2; dim 4 2; 1 2 3 4 5 6 7 8|2 13 11 0 9 0 7 0
+dft 2x3x2 mod 7 root 6x2x6; dim 2 3 2; 1 2 3 4 5 6 0 1 2 3 4 6|2 0 0 3 3 5 5 1 3 4 5 2
+dft 2x2x2x2 mod 15 root 4x11x14x1; dim 2 2 2 2; 1 2 3 4 5 6 7 8 9 10 11 12 13 14 0 1|1 1 14 14 1 1 9 9 1 1 5 5 1 1 0 0
+";
+
+#[test]
+fn dimensions(rt: HostRuntime) -> Result<(), Fail> {
+    check(rt.alloc(), DIMENSIONS, answer)
 }

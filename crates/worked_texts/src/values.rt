@@ -1,9 +1,8 @@
 // Arithmetic modulo a number, index functions, and sums of loop variables.
 
 use crate::same::same;
-use convolution::{conv_plain, first_bad_power};
 use index_fn::{Index, compose};
-use matrix_meaning::twiddle_factor;
+use matrix_meaning::{conv_plain, first_bad_power, twiddle_factor};
 use perm_algebra::{Affine, simplify};
 use quick_mod::QuickModulus;
 use ring_mod::{Modulus, gcd};

@@ -1,8 +1,8 @@
 use Rattle.std.proofs.Common.{◌≡◌, ◌<◌, ◌-◌, All, length, ap, subst, sym, ◌∙◌}
 use Rattle.std.proofs.lemmas.Result.{err_from_is_err_and}
 use Rattle.std.proofs.lemmas.List.{with_items_is}
-use Rattle.convolver.specs.Convolver.{IsConvolver}
-use Rattle.convolver.specs.Letters.{conv_program}
+use Rattle.generate.specs.Convolver.{IsConvolver}
+use Rattle.generate.specs.ConvLetters.{conv_program}
 use Rattle.tree_model.specs.Breakdown.{breakdown_of}
 use Rattle.io_edge.specs.Feed.{to_come, limit}
 use Rattle.spiral_status.specs.Fault.{status_of_conv}

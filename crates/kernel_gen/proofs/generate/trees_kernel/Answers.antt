@@ -3,7 +3,7 @@ use Rattle.operators.specs.Sum.{list_below}
 use Rattle.kernel_gen.specs.Kernel.{trees_make}
 use Rattle.kernel_gen.proofs.Parts.{kernel_written}
 use Rattle.kernel_gen.proofs.generate.trees_kernel.Goals as goal
-use Rattle.rooted_trees.specs.Trees.{plain_trees, trees_size}
+use Rattle.tree_model.specs.Trees.{plain_trees, trees_size}
 
 pub returns-clause-code : goal.returns-clause-code
 returns-clause-code c =

@@ -1,5 +1,5 @@
 use Rattle.std.proofs.Common.{◌∙◌, refl}
-use Rattle.rooted_trees.specs.Trees.{alone, plain_trees, trees_on, trees_size}
+use Rattle.tree_model.specs.Trees.{alone, plain_trees, trees_on, trees_size}
 use Rattle.plain_terms.proofs.Copies.{trees_sized}
 use Rattle.plain_terms.proofs.Steps.{one_block}
 use Rattle.plain_terms.proofs.Vectors.{rows_vector, rows_joined}

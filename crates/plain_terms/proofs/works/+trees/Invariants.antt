@@ -1,7 +1,7 @@
 use Rattle.std.proofs.Common.{◌≡◌, ◌+◌, ◌*◌}
 use Rattle.operators.specs.Operator.{on_blocks}
 use Rattle.plain_terms.specs.Copies.{others_in}
-use Rattle.rooted_trees.specs.Trees.{plain_trees, trees_on}
+use Rattle.tree_model.specs.Trees.{plain_trees, trees_on}
 use Rattle.plain_terms.proofs.works.+trees.Given as goal
 
 -- the rows so far

@@ -1,6 +1,6 @@
 use Rattle.std.proofs.Common.{◌≡◌, ◌∙◌, ap₂, refl, arith}
 use Rattle.operators.specs.Operator.{on_blocks}
-use Rattle.rooted_trees.specs.Trees.{alone, trees_on, trees_size}
+use Rattle.tree_model.specs.Trees.{alone, trees_on, trees_size}
 use Rattle.plain_terms.proofs.Copies.{trees_sized}
 use Rattle.plain_terms.proofs.Steps.{one_block}
 use Rattle.plain_terms.proofs.works.on_each_row.Goals as goal

@@ -1,6 +1,6 @@
 use Rattle.std.proofs.Common.{◌≡◌}
 use Rattle.operators.specs.Operator.{on_blocks}
-use Rattle.rooted_trees.specs.Trees.{alone, trees_on}
+use Rattle.tree_model.specs.Trees.{alone, trees_on}
 use Rattle.plain_terms.proofs.works.on_each_row.Given as goal
 
 -- the rows so far

@@ -1,7 +1,7 @@
 use Rattle.std.proofs.Common.{length, sym, ap, ◌∙◌}
 use Rattle.kernel_gen.specs.Making.{Made}
 use Rattle.passes.specs.Views.{plain_nest, plain_work}
-use Rattle.rooted_trees.specs.Trees.{plain_trees}
+use Rattle.tree_model.specs.Trees.{plain_trees}
 use Rattle.program_emit.specs.Views.{plain_host}
 use Rattle.program_emit.proofs.Works.{kernel-sized, kernel-small, kernel-words}
 use Rattle.program_emit.proofs.work.emit_work.Goals as goal

@@ -6,7 +6,7 @@ use Rattle.spiral_words.specs.declared.Command.TheVariants as command
 use Rattle.spiral_words.specs.declared.Order.TheVariants as order
 use Rattle.request_commands.proofs.PerformedLemmas.{told_refused, performs_run}
 use Rattle.spiral_input.proofs.StatusLemmas.{fault_success, run_ends}
-use Rattle.request_commands.proofs.RunLemmas.{good_turns}
+use Rattle.request_commands.proofs.RunLemmas.{good_turns, passed_ends}
 use Rattle.request_commands.proofs.data.run_turns.Goals as goal
 
 pub returns-in_err-run_stream-clause-told : goal.returns-in_err-run_stream-clause-told
@@ -53,3 +53,11 @@ returns-in_err-run_stream-clause-ends g c =
     let p = err_from_is_err_and c.from_residual-in_err-run_stream.result c.from_residual-in_err-run_stream.ensures.1 in
     rw (p.1, p.2) (run_ends c.in_err-run_stream.field-0.0 c.run_stream.new.feed.held (read c.args.input.now) (read c.args.input.now) (read c.run_stream.new.input)
     (write c.args.output.now) (write c.args.output.now) (write c.run_stream.new.output) (taken c.args.output.now) (taken c.run_stream.new.output) refl refl run.empty run.read run.write)
+
+pub returns-clause-ends : goal.returns-clause-ends
+returns-clause-ends g c =
+    let run = c.in_ok-run_stream.ensures in
+    passed_ends c.run_stream.new.feed.held
+    (g.I.Source.faults c.args.input.now) (g.I.Source.faults c.run_stream.new.input)
+    (g.O.Sink.faults c.args.output.now) (g.O.Sink.faults c.run_stream.new.output)
+    (g.O.Sink.taken c.args.output.now) (g.O.Sink.taken c.run_stream.new.output) run.read run.write

@@ -2,7 +2,6 @@ use Rattle.std.proofs.Common.{◌≡◌, ap, sym, subst, ◌∙◌, length}
 use Rattle.std.proofs.lemmas.List.{with_items_is}
 use Rattle.std.specs.Vec.{with_items}
 use Rattle.icode.specs.Machine.{Code, weighted}
-use Rattle.transform_requests.specs.Fields.{weight_of}
 use Rattle.request_text.specs.Turns.{turns_of}
 use Rattle.request_commands.specs.Sample.{sample_text, weighted_sum, AreCountable}
 use Rattle.request_commands.proofs.SampleLemmas.{sample_residues, good_counts, costs, cost_fits, sampled}
@@ -24,7 +23,7 @@ all_counts-counts-requires c =
 pub weighted-operations-requires-clause-room : goal.weighted-operations-requires-clause-room
 weighted-operations-requires-clause-room c =
     let code = c.in_ok-machine.machine.code in
-    rw c.weight_of.ensures (cost_fits c.args.request.now code (weighted (weight_of c.args.request.now) c.all_counts-counts.result) c.in_ok-machine.ensures.machine c.requires.in_range
+    (cost_fits c.args.request.now code (weighted c.args.request.now.weight c.all_counts-counts.result) c.in_ok-machine.ensures.machine c.requires.in_range
     (costs c.args.request.now code c.transform.new.machine.code c.deref_mut-2.result.now (turns_of c.args.schedule.now code.procs) c.transform.new.machine.state c.all_counts-counts.result
     c.in_ok-machine.ensures.machine c.requires.in_range c.transform.ensures.code c.transform.ensures.state c.all_counts-counts.ensures.operations c.all_counts-counts.ensures.muls))
 
@@ -45,4 +44,4 @@ returns-clause-text c =
     c.transform.ensures.vector c.transform.ensures.state (c.weighted_sum-sum.ensures ∙ ap (weighted_sum m) seen)
     c.all_counts-counts.ensures.operations c.all_counts-counts.ensures.muls c.all_counts-counts.ensures.loads c.all_counts-counts.ensures.stores
     (c.in_ok-text.ensures ∙ ap (λ k. sample_text c.weighted_sum-sum.result k c.all_counts-counts.result.loads c.all_counts-counts.result.stores)
-    (c.weighted-operations.ensures ∙ ap (λ w. weighted w c.all_counts-counts.result) c.weight_of.ensures))
+    c.weighted-operations.ensures)

@@ -1,9 +1,9 @@
 use Rattle.std.proofs.Common.{◌≡◌, [], refl, inr}
-use Rattle.transform_texts.specs.Texts.{plan_text}
+use Rattle.request_commands.specs.PlanText.{plan_text}
 use Rattle.spiral_words.specs.declared.Command.TheVariants as command
 use Rattle.spiral_main.proofs.RightFront.{text_is_right}
 use Rattle.spiral_main.proofs.rights.plan_is_right.Goals as goal
 
 pub returns : goal.returns
 returns c = λ words bytes plan asked right.
-    inr (command.Plan, asked, text_is_right [] bytes (λ p t. t ≡ plan_text p.request p.trees) plan _ right refl)
+    inr (command.Plan, asked, text_is_right [] bytes (λ p t. t ≡ plan_text p.request p.tree) plan _ right refl)

@@ -6,7 +6,6 @@ use Rattle.spiral_words.specs.declared.Command.{Command}
 use Rattle.spiral_input.specs.Stage.{status_of}
 use Rattle.spiral_input.specs.Asking.{Asks, spelt}
 use Rattle.convolution_commands.specs.Convolved.{conv_outcomes}
-use Rattle.transform_requests.specs.Fields.{procs_of}
 use Rattle.formula_commands.specs.Compiled.{formula_outcomes}
 use Rattle.listing_commands.specs.Listed.{exec_outcomes}
 use Rattle.request_commands.specs.Performed.{request_outcomes}
@@ -107,7 +106,8 @@ returns-in_err-request-clause-told g c =
     let command = c.in_ok-command.command in
     let fault = c.in_err-request.field-0.0 in
     let start : to_come c.in_ok-feed.feed left ≡ left = ap (λ f. to_come f left) c.in_ok-feed.ensures ∙ prepend_nothing left in
-    let told = subst (λ b. Asks procs_of spelt command b reached c.ask.new.feed.taken (Err fault)) start c.in_err-request.ensures.told in
+    let told =
+    subst (λ b. Asks spelt command b reached c.ask.new.feed.taken (Err fault)) start c.in_err-request.ensures.told in
     let p = err_from_is_err_and c.from_residual-in_err-request.result c.from_residual-in_err-request.ensures.1 in
     rw (p.1, p.2) (accounted_line words left reached now c.ask.new.feed.taken command (g.O.Sink.taken c.args.output.now) fault (c.in_ok-command.ensures.command, goes_by_request command c.in_default.ensures (sym c.takes_formula.ensures ∙ c.if-takes_formula.false) (sym c.takes_convolution.ensures ∙ c.if-takes_convolution.false)) told c.in_err-request.ensures.ends.others.write
     (λ e. nothing_held c.ask.new.feed now (c.in_err-request.ensures.ends.empty (ap (λ s. Err s) e))))
@@ -129,7 +129,8 @@ returns-clause-told g c =
     let command = c.in_ok-command.command in
     let request = c.in_ok-request.request in
     let start : to_come c.in_ok-feed.feed left ≡ left = ap (λ f. to_come f left) c.in_ok-feed.ensures ∙ prepend_nothing left in
-    let told = subst (λ b. Asks procs_of spelt command b reached c.ask.new.feed.taken (Ok request)) start c.in_ok-request.ensures.told in
+    let told =
+    subst (λ b. Asks spelt command b reached c.ask.new.feed.taken (Ok request)) start c.in_ok-request.ensures.told in
     let now = g.I.Source.left c.perform.new.input in
     let status = status_of c.perform.result in
     let performed = meets_by_source (request_outcomes command request (limit - c.ask.new.feed.taken)) reached c.perform.new.feed now (taken c.args.output.now) (taken c.perform.new.output) status c.perform.ensures.ends.empty c.perform.ensures.told in

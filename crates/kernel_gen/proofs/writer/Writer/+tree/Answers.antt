@@ -3,11 +3,11 @@ use Rattle.std.proofs.lemmas.Nat.{row_fits}
 use Rattle.operators.proofs.Places.{between-block}
 use Rattle.ring_mod.specs.Residue.{power_mod}
 use Rattle.tree_model.specs.Breakdown.{breakdown_of, node, size_of}
-use Rattle.tree_model.specs.declared.tree.Rule.TheVariants.{Gt, Ct, Split}
+use Rattle.tree_model.specs.declared.tree.Rule.TheVariants.{Gt, Ct, Split, Dim}
 use Rattle.kernel_gen.specs.Making.{diagonal_make}
 use Rattle.kernel_gen.specs.Writing.{make_of, twiddled_of}
 use Rattle.kernel_gen.proofs.Writes.{wrote-row, wrote-then, wrote-diagonal}
-use Rattle.kernel_gen.proofs.Parts.{wrote_ct, wrote_split, wrote_gt}
+use Rattle.kernel_gen.proofs.Parts.{wrote_ct, wrote_split, wrote_dim, wrote_gt}
 use Rattle.kernel_gen.proofs.writer.Writer.+tree.Goals as goal
 
 pub put_rows-loop-i-preserved : goal.put_rows-loop-i-preserved
@@ -66,6 +66,20 @@ put_tree-returns-in_ok-outs-in-Split-clause-code t c =
     })
     (rw c.deref-in-Split-5.ensures.value c.in_ok-inner-in-Split.ensures.code)
     c.in_ok-outs-in-Split.ensures.code
+
+pub put_tree-returns-in_ok-outs-in-Dim-clause-code : goal.put_tree-returns-in_ok-outs-in-Dim-clause-code
+put_tree-returns-in_ok-outs-in-Dim-clause-code t c =
+    wrote_dim c.args.transform.now c.part-left-in-Dim.result c.part-right-in-Dim.result (breakdown_of c.args.tree.now) (breakdown_of c.deref-in-Dim-4.result.now) (breakdown_of c.deref-in-Dim-3.result.now) c.of_parts-grid-in-Dim.result.rows c.of_parts-grid-in-Dim.result.columns
+    c.args.self.now c.put_rows-in-Dim.new.self c.put_columns-in-Dim.new.self c.args.ins.now c.deref-in-Dim-5.result.now c.in_ok-outs-in-Dim.outs.items
+    (record {
+      tree_is = ap breakdown_of c.in-Dim.is ∙ ap₂ (node Dim) (ap breakdown_of (sym c.deref-in-Dim-4.ensures)) (ap breakdown_of (sym c.deref-in-Dim-3.ensures));
+      r_is = c.of_parts-grid-in-Dim.ensures.rows ∙ ap (λ z. size_of (breakdown_of z)) (c.deref-in-Dim.ensures ∙ sym c.deref-in-Dim-4.ensures);
+      s_is = c.of_parts-grid-in-Dim.ensures.columns ∙ ap (λ z. size_of (breakdown_of z)) (c.deref-in-Dim-2.ensures ∙ sym c.deref-in-Dim-3.ensures);
+      left_is = c.part-left-in-Dim.ensures.value;
+      right_is = c.part-right-in-Dim.ensures.value;
+    })
+    (rw c.deref-in-Dim-5.ensures.value c.in_ok-inner-in-Dim.ensures.code)
+    c.in_ok-outs-in-Dim.ensures.code
 
 pub put_tree-returns-in_ok-outs-in-Gt-clause-code : goal.put_tree-returns-in_ok-outs-in-Gt-clause-code
 put_tree-returns-in_ok-outs-in-Gt-clause-code t c =

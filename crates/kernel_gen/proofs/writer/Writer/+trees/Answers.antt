@@ -5,7 +5,7 @@ use Rattle.kernel_gen.specs.Kernel.{trees_make}
 use Rattle.kernel_gen.proofs.Parts.{wrote_single, wrote_tensor}
 use Rattle.kernel_gen.proofs.Writes.{wrote-row}
 use Rattle.kernel_gen.proofs.writer.Writer.+trees.Goals as goal
-use Rattle.rooted_trees.specs.Trees.{plain_trees, tensor, trees_size}
+use Rattle.tree_model.specs.Trees.{plain_trees, tensor, trees_size}
 use Rattle.tree_model.specs.Breakdown.{breakdown_of}
 
 pub put_trees_in_rows-loop-i-preserved : goal.put_trees_in_rows-loop-i-preserved

@@ -3,7 +3,7 @@ use Rattle.kernel_gen.specs.Making.{rows_make}
 use Rattle.kernel_gen.specs.Kernel.{trees_make}
 use Rattle.kernel_gen.specs.Writing.{Wrote}
 use Rattle.kernel_gen.proofs.writer.Writer.+trees.Given as goal
-use Rattle.rooted_trees.specs.Trees.{plain_trees}
+use Rattle.tree_model.specs.Trees.{plain_trees}
 
 -- the rows so far
 abbrev pub invariant-put_trees_in_rows-loop-i : goal.invariant-put_trees_in_rows-loop-i

@@ -1,4 +1,0 @@
-use Rattle.convolution.proofs.+geometric_sum.Given as goal
-
-abbrev pub decreases-geometric_sum : goal.decreases-geometric_sum
-decreases-geometric_sum l = l.n

@@ -1,4 +1,0 @@
-pub mod ConvolutionLaw
-mod GeometricSums
-mod PowerSums
-pub mod Undoing

@@ -1,6 +1,0 @@
-use Rattle.std.proofs.Common.{◌≡◌, ℕ, ◌<◌, ◌≤◌}
-use Rattle.convolution.specs.Convolution.{power_sum}
-use Rattle.convolution.proofs.first_bad_power.Given as goal
-
-abbrev pub invariant-loop-k : goal.invariant-loop-k
-invariant-loop-k l = (j : ℕ) → 1 ≤ j → j < l.k → power_sum l.modulus l.n l.w j ≡ 0

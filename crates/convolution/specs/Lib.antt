@@ -1,3 +1,0 @@
-pub mod Convolution
-pub mod Request
-pub mod Undoing

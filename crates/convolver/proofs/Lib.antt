@@ -1,6 +1,0 @@
-pub mod Factors
-pub mod Totals
-pub mod Meaning
-pub mod Goodness
-pub mod Chain
-pub mod Existence

@@ -1,4 +1,0 @@
-pub mod Planned
-pub mod Factors
-pub mod Convolver
-pub mod Letters

@@ -1,4 +1,0 @@
-pub mod ChosenLaws
-pub mod Examples
-pub mod Existence
-pub mod Plans

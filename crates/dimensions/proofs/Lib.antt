@@ -1,4 +1,0 @@
-pub mod Digits
-pub mod Examples
-pub mod Parts
-pub mod Tensors

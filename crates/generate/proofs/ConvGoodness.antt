@@ -1,0 +1,109 @@
+-- A program of a tree's joined passes is one for convolutions.
+use Rattle.std.proofs.Common.{◌≡◌, ℕ, ◌+◌, ◌*◌, ◌<◌, List, [], All, length, refl, sym, ap, ap₂, ◌∙◌, arith}
+use Rattle.std.proofs.lemmas.List.{length-map}
+use Rattle.matrix_meaning.specs.Convolution.{IsPrincipal}
+use Rattle.matrix_meaning.specs.Convolving.{IsConvRequest}
+use Rattle.formula_lower.specs.Merged.{tree_merged}
+use Rattle.icode.specs.declared.program.Program.{Program}
+use Rattle.icode.specs.Machine.{padded, results, words_at}
+use Rattle.icode.specs.Program.{code_of, plain_program}
+use Rattle.icode.proofs.Lists.{code_is}
+use Rattle.icode.proofs.Runs.{memory_of_runs}
+use Rattle.matrix_meaning.specs.Parts.{inverted}
+use Rattle.tree_model.proofs.InverseCosts.{inverse_costs}
+use Rattle.tree_model.proofs.InverseTrees.{inverse_admits}
+use Rattle.tree_model.proofs.InverseTraffic.{inverse_loads, whole-same}
+use Rattle.joined_passes.specs.Joined.{with_values}
+use Rattle.joined_passes.specs.Laws.{CountsBoth, JoinedCanProgram, JoinedCounts, JoinedMeans}
+use Rattle.matrix_meaning.specs.declared.Kind.TheVariants.{Dft}
+use Rattle.matrix_meaning.specs.declared.Request.{Request}
+use Rattle.matrix_meaning.specs.Valid.{IsValid}
+use Rattle.pass_programs.specs.Contract.{CanProgram, Performs}
+use Rattle.passes.specs.Good as passes
+use Rattle.request_passes.proofs.Small.{tree-small}
+use Rattle.tree_model.specs.Admissible.{IsAdmissible}
+use Rattle.tree_model.specs.Breakdown.{Breakdown}
+use Rattle.tree_model.specs.Chosen.{whole_cost}
+use Rattle.tree_model.specs.Cost.{cost_of}
+use Rattle.tree_model.specs.Passes.{whole_passes}
+use Rattle.tree_passes.specs.Laws.{machine_of}
+use Rattle.tree_passes.proofs.TreesCanProgram.{trees_can_program}
+use Rattle.generate.specs.Convolver.{IsConvolver}
+use Rattle.generate.specs.Factors.{factors_of}
+use Rattle.generate.specs.ConvLetters.{conv_merged}
+use Rattle.generate.proofs.ConvTrees.{conv_inverse_valid}
+use Rattle.generate.proofs.ConvMeaning.{joined-convolve}
+use Rattle.generate.proofs.Totals.{tree-totals}
+
+module _ (r : Request) (t : Breakdown) (ds : List ℕ) (request : IsConvRequest r) (valid : IsValid r) (h : IsAdmissible r t) where
+  valid' : IsValid (inverted r)
+  valid' = conv_inverse_valid r request valid
+
+  h' : IsAdmissible (inverted r) t
+  h' = (inverse_admits r t request.kind).1 h
+
+  pub can-convolve : JoinedCanProgram → length ds ≡ r.size → All (λ d. d < r.modulus) ds → CanProgram (machine_of r) (conv_merged r t ds)
+  can-convolve can size residues =
+      let first = tree-small r valid t h in
+      let second = tree-small (inverted r) valid' t h' in
+      let few = first.nests in
+      let few' = second.nests in
+      let low = first.actions in
+      let low' = second.actions in
+      let most = request.in_range.size.1 in
+      can (machine_of r) (tree_merged r t) (tree_merged (inverted r) t) ds (record {
+        procs = request.procs;
+        lanes = request.lanes;
+        first = trees_can_program r t valid h;
+        second = trees_can_program (inverted r) t valid' h';
+        free = first.free;
+        size = size;
+        residues = residues;
+        registers = first.registers (with_values ds) (λ z. refl);
+        actions = omega (arith, low, low', most);
+        tables = omega (arith, few, few');
+      })
+
+  module _ (ls : List ℕ) (p : Program) (performs : Performs (machine_of r) (conv_merged r t ds) (plain_program p)) where
+    any-turns : (x turns : List ℕ) → results (code_of p) x turns ≡ results (code_of p) x []
+    any-turns x turns =
+        let first = memory_of_runs (code_of p) (code_is (plain_program p)) performs.apart x turns in
+        let none = memory_of_runs (code_of p) (code_is (plain_program p)) performs.apart x [] in
+        ap (λ memory. words_at p.size memory (padded (code_of p))) (first ∙ sym none)
+
+    counts-both : JoinedCounts → CountsBoth (machine_of r) (tree_merged r t) (tree_merged (inverted r) t) (plain_program p)
+    counts-both counts =
+        (counts (tree_merged r t) (tree_merged (inverted r) t) ds (machine_of r) (trees_can_program r t valid h)
+        (tree-small r valid t h).free).program (plain_program p) request.procs performs
+
+    pub is-convolver : whole_cost r t ≡ cost_of r t → JoinedMeans → JoinedCounts → IsPrincipal r.modulus r.size r.root → ds ≡ factors_of r ls → IsConvolver r t ls p
+    is-convolver cost means counts principal listed =
+        let both = counts-both counts in
+        let first = tree-totals r t valid h in
+        let second = tree-totals (inverted r) t valid' h' in
+        let weight = valid.in_range.weight.0 in
+        record {
+          header = record { size = performs.size; modulus = performs.modulus; procs = performs.procs; line = performs.line; lanes = performs.lanes };
+          limits = performs.limits;
+          fits = performs.fits;
+          phases = length-map _ _ ∙ performs.phases;
+          apart = performs.apart;
+          product = λ x turns vector _.
+              let items : passes.IsVector r.modulus r.size x = record { size = vector.size; residues = λ i low. vector.residues i 0 (let size = vector.size in omega (arith, low, size)) } in
+              any-turns x turns ∙ performs.results x items ∙ joined-convolve r t ls ds request valid h principal means listed x items;
+          operations =
+              let all = both.operations r.weight (omega (arith, weight)) in
+              let one = first.operations in
+              let other = second.operations ∙ inverse_costs r t request.kind valid in
+              let whole = cost in
+              omega (arith, all, one, other, whole);
+          loads =
+              let all = both.loads in
+              let one = first.loads in
+              let other = second.loads ∙ inverse_loads r t in
+              omega (arith, all, one, other);
+          stores = both.stores ∙ ap₂ (λ a b. r.size * (a + b)) first.number (second.number ∙ ap length (whole-same r Dft (inverted r).root t)) ∙ twice r.size (length (whole_passes r t));
+        }
+      where
+        twice : (n k : ℕ) → n * (k + k) ≡ 2 * (n * k)
+        twice n k = omega arith

@@ -1,0 +1,20 @@
+-- The program of a convolution, statement by statement.
+use Rattle.std.specs.Prelude.{ℕ, List}
+use Rattle.formula_lower.specs.Merged.{tree_merged}
+use Rattle.icode.specs.Plain.{PlainProgram}
+use Rattle.matrix_meaning.specs.Parts.{inverted}
+use Rattle.joined_passes.specs.Joined.{joined}
+use Rattle.matrix_meaning.specs.declared.Request.{Request}
+use Rattle.pass_programs.specs.Program.{program_of}
+use Rattle.passes.specs.Merged.{PlainMerged}
+use Rattle.tree_model.specs.Breakdown.{Breakdown}
+use Rattle.tree_passes.specs.Laws.{machine_of}
+use Rattle.generate.specs.Factors.{factors_of}
+
+-- the passes of the tree, a diagonal, and the passes of the tree by the inverse root
+abbrev pub conv_merged : Request → Breakdown → List ℕ → PlainMerged
+conv_merged r t ds = joined (tree_merged r t) ds (tree_merged (inverted r) t)
+
+-- the program of these passes, where the diagonal is that of the list
+abbrev pub conv_program : Request → Breakdown → List ℕ → PlainProgram
+conv_program r t h = program_of (machine_of r) (conv_merged r t (factors_of r h))

@@ -1,0 +1,56 @@
+-- What the processors execute pass by pass, and what all of them load and store.
+use Rattle.std.specs.Prelude.{◌≡◌, ℕ, suc, ◌*◌, ◌==◌, ◌<◌, if◌then◌else◌, List, [], ◌∷◌, flat_map, length, All}
+use Rattle.std.specs.List.{range_with_len}
+use Rattle.icode.specs.Actions.{array_start}
+use Rattle.icode.specs.declared.action.Action.{Action}
+use Rattle.icode.specs.declared.program.Array.{Array}
+use Rattle.icode.specs.declared.program.Array.TheVariants.{X}
+use Rattle.icode.specs.declared.program.Program.{Program}
+use Rattle.icode.specs.Machine.{Code, acts, counts_of, weighted, whole_counts, whole_lines}
+use Rattle.icode.specs.Program.{code_of}
+use Rattle.matrix_meaning.specs.declared.Request.{Request}
+use Rattle.operators.specs.Sum.{sum_below}
+use Rattle.pass_programs.specs.Contract.{Stays, joined}
+use Rattle.pass_programs.specs.Program.{target_of}
+use Rattle.tree_model.specs.Breakdown.{Breakdown}
+use Rattle.tree_model.specs.WholePasses.{RequestPass, cost_of_pass, loads_of_pass, request_passes, whole_loads, whole_stores}
+
+-- a processor's part of a pass, between arrays that begin at these words: an equal share of its counts, where a multiplication
+-- counts as the request's weight
+pub record IsPart (r : Request) (pass : RequestPass) (source target : ℕ) (actions : List Action) : Type 0 where
+  pub stays : All (Stays r.size r.lanes source target) actions
+  pub operations : r.procs * weighted r.weight (counts_of r.lanes actions) ≡ cost_of_pass r.size pass
+  pub loads : r.procs * (counts_of r.lanes actions).loads ≡ loads_of_pass r.size pass
+  pub stores : r.procs * (counts_of r.lanes actions).stores ≡ r.size
+
+-- the array of this number, from the first to the last, as its first word
+abbrev pub start_of : Request → Array → ℕ
+start_of r array = array_start (whole_lines r.size r.line) array
+
+-- a part for each pass, of which the first has number t and reads the source: the others read what the one before wrote
+abbrev pub AreParts : Request → ℕ → Array → List RequestPass → List (List Action) → Type 0
+AreParts r t source [] [] = Unit {0}
+AreParts r t source [] (part ∷ parts) = ⊥
+AreParts r t source (pass ∷ passes) [] = ⊥
+AreParts r t source (pass ∷ passes) (part ∷ parts) =
+    IsPart r pass (start_of r source) (start_of r (target_of t (length passes))) part
+    × AreParts r (suc t) (target_of t (length passes)) passes parts
+
+-- the actions are one part for each pass of the tree, in order
+pub record IsLeanList (r : Request) (t : Breakdown) (actions : List Action) : Type 0 where
+  pub parts : List (List Action)
+  pub whole : joined parts ≡ actions
+  pub each : AreParts r 0 X (request_passes r t) parts
+
+-- there is one phase, or there are two where there are several processors, and over all phases the list of each processor is lean
+pub record IsLeanCode (r : Request) (t : Breakdown) (code : Code) : Type 0 where
+  pub phases : length code.lists ≡ (if r.procs == 1 then 1 else 2)
+  pub lists : (q : ℕ) → q < r.procs →
+      IsLeanList r t (flat_map (λ phase. acts code phase q) (range_with_len 0 (length code.lists)))
+
+-- The actions of each processor are one part for each pass of the tree; all processors together load and store exactly what the
+-- passes do
+pub record IsLean (r : Request) (t : Breakdown) (p : Program) : Type 0 where
+  pub parts : IsLeanCode r t (code_of p)
+  pub loads : sum_below r.procs (λ q. (whole_counts (code_of p) q).loads) ≡ whole_loads r t
+  pub stores : sum_below r.procs (λ q. (whole_counts (code_of p) q).stores) ≡ whole_stores r t

@@ -1,4 +1,0 @@
-pub mod Requests
-pub mod Powers
-pub mod Costs
-pub mod Traffic

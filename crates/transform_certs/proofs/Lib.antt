@@ -1,7 +1,0 @@
-pub mod Examples
-pub mod Small
-pub mod Listed
-pub mod Members
-pub mod OneVerdict
-pub mod Right
-pub mod OneText

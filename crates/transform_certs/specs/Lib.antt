@@ -1,4 +1,0 @@
-pub mod Certified
-pub mod Judged
-pub mod Laws
-pub mod Least

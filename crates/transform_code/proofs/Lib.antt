@@ -1,5 +1,0 @@
-pub mod Costs
-pub mod Parts
-pub mod Goodness
-pub mod Chain
-pub mod Existence

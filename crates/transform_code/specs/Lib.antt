@@ -1,5 +1,0 @@
-pub mod Planned
-pub mod Good
-pub mod Lean
-pub mod Views
-pub mod Letters

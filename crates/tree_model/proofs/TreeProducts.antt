@@ -1,0 +1,55 @@
+-- The laws of the tensor product of transforms: how many items it has, and that it looks at residues and leaves residues.
+use Rattle.std.proofs.Common.{◌≡◌, ℕ, ◌+◌, ◌*◌, ◌/◌, ◌%◌, ◌<◌, sym, ap, ◌∙◌, List, length, mod-lt, div-lt_iff_lt-mul}
+use Rattle.std.specs.Prelude.{slice_index}
+use Rattle.std.proofs.lemmas.Nat.{mul-mod_second}
+use Rattle.matrix_meaning.specs.declared.Kind.{Kind}
+use Rattle.matrix_meaning.specs.Kind.{entry_of, transform}
+use Rattle.operators.specs.Operator.{column, block, on_blocks, on_columns}
+use Rattle.operators.proofs.Lists.{length-list_below, at-list_below, list_below-same, place_below, factor_positive, by_rows, at-on_columns}
+use Rattle.operators.proofs.Matrices.{at-matrix_times}
+use Rattle.operators.proofs.Sums.{same-sum_below}
+use Rattle.tree_model.specs.Breakdown.{size_of}
+use Rattle.tree_model.specs.Trees.{PlainTrees, single, tensor, trees_size, trees_on}
+
+-- the lists have the same residues in the first n places
+abbrev AreAlike : ℕ → ℕ → List ℕ → List ℕ → Type 0
+AreAlike m n x y = (i : ℕ) → i < n → slice_index x i % m ≡ slice_index y i % m
+
+transform-below : (kind : Kind) (m n root : ℕ) (x : List ℕ) (k : ℕ) → 0 < m → k < n → slice_index (transform kind m n root x) k < m
+transform-below kind m n root x k modulus below = rw (at-matrix_times m n (entry_of kind m n root) x k below) (mod-lt _ modulus)
+
+transform-same : (kind : Kind) (m n root : ℕ) (x y : List ℕ) → AreAlike m n x y → transform kind m n root x ≡ transform kind m n root y
+transform-same kind m n root x y h =
+    list_below-same n _ _ (λ k below. same-sum_below m n _ _ (λ l within.
+    let c = entry_of kind m n root k l in
+    sym (mul-mod_second c (slice_index x l) m) ∙ ap (λ z. (c * z) % m) (h l within) ∙ mul-mod_second c (slice_index y l) m))
+
+pub trees-length : (m : ℕ) (trees : PlainTrees) (x : List ℕ) → length (trees_on m trees x) ≡ trees_size trees
+trees-length m (single kind root tree) x = length-list_below (size_of tree) _
+trees-length m (tensor kind root tree others) x = length-list_below (size_of tree * trees_size others) _
+
+pub trees-below : (m : ℕ) (trees : PlainTrees) (x : List ℕ) (k : ℕ) → 0 < m → k < trees_size trees → slice_index (trees_on m trees x) k < m
+trees-below m (single kind root tree) x k modulus below = transform-below kind m (size_of tree) root x k modulus below
+trees-below m (tensor kind root tree others) x k modulus below =
+    let r = size_of tree in
+    let s = trees_size others in
+    let inner = on_blocks r s (trees_on m others) x in
+    by_rows r s (λ p. slice_index (on_columns r s (transform kind m r root) inner) p < m)
+    (λ a b row within.
+    rw (at-on_columns r s (transform kind m r root) inner a b row within)
+    (transform-below kind m r root (column r s b inner) a modulus row))
+    k below
+
+pub trees-same : (m : ℕ) (trees : PlainTrees) (x y : List ℕ) → ((i : ℕ) → i < trees_size trees → slice_index x i % m ≡ slice_index y i % m) → trees_on m trees x ≡ trees_on m trees y
+trees-same m (single kind root tree) x y h = transform-same kind m (size_of tree) root x y h
+trees-same m (tensor kind root tree others) x y h =
+    let r = size_of tree in
+    let s = trees_size others in
+    ap (on_columns r s (transform kind m r root))
+    (list_below-same (r * s) _ _ (λ p below.
+    let row : p / s < r = (div-lt_iff_lt-mul (factor_positive r s p below)).1 below in
+    ap (λ z. slice_index z (p % s))
+    (trees-same m others (block s (p / s) x) (block s (p / s) y) (λ j within.
+    ap (λ z. z % m) (at-list_below s _ j within)
+    ∙ h (p / s * s + j) (place_below (p / s) j r s row within)
+    ∙ ap (λ z. z % m) (sym (at-list_below s _ j within))))))
