@@ -11,7 +11,7 @@ use Rattle.grammar.proofs.Parts.{Anything, one_of_reader}
 use Rattle.grammar.proofs.Whole.{again}
 use Rattle.listing_text.specs.Listing.{sum_text, array_text}
 use Rattle.listing_text.specs.Reading.{above_all, sum_at}
-use Rattle.listing_text.specs.Acts.{PlainAct, Open, Close, Do}
+use Rattle.listing_text.specs.Wording.{PlainAct, Open, Close, Do}
 use Rattle.listing_text.proofs.ReadBack.{Back, then_back, first_digit, word_back, number_back, named_back, small_fits, place_back}
 use Rattle.listing_text.proofs.ActsBack.{IsActWithin}
 use Rattle.c_print.specs.declared.lines.Word.{Word}

@@ -5,11 +5,13 @@ use Rattle.grammar.specs.declared.token.ReadError.TheVariants as errors
 use Rattle.grammar.specs.Cursor.{TellsAll}
 use Rattle.grammar.specs.Reading.{whole}
 use Rattle.listing_text.specs.Reading.{above_all}
-use Rattle.listing_text.specs.Acts.{PlainAct, plain_act, Open, Close, Do, ActFits}
+use Rattle.listing_text.specs.Wording.{PlainAct, Open, Close, Do}
+use Rattle.listing_text.specs.Acts.{plain_act, ActFits}
 use Rattle.listing_text.proofs.ActsBack.{IsActWithin}
 use Rattle.c_print.specs.CText.{loop_text}
 use Rattle.c_print.specs.CLines.{c_line_at}
-use Rattle.c_print.specs.CLineTexts.{c_line_text, MayStand, IsLineOf}
+use Rattle.c_print.specs.CText.{c_line_text}
+use Rattle.c_print.specs.CLineTexts.{MayStand, IsLineOf}
 use Rattle.c_print.proofs.CSpelt.{ended_text, c_line_spelt}
 use Rattle.c_print.proofs.CBack.{c_line_back}
 

@@ -1,13 +1,14 @@
 -- The lines of a C text, and that no line ends inside of one.
 use Rattle.std.proofs.Common.{◌≡◌, ℕ, ◌*◌, true, List, [], ◌∷◌, ◌++◌, length, codes, decimal, refl, sym, ap, subst, ◌∙◌, append_assoc}
 use Rattle.std.proofs.lemmas.List.{append-nil}
-use Rattle.icode.specs.Plain.{PlainOp, PlainProgram, Load, Store, Zero, Add, Sub, Neg, MulConst, MulTable, Tile}
+use Rattle.icode.specs.Plain.{PlainOp, PlainBody, Load, Store, Zero, Add, Sub, Neg, MulConst, MulTable, Tile}
 use Rattle.listing_text.specs.Lines.{is_open, IsLine}
-use Rattle.listing_text.specs.Listing.{header_text}
-use Rattle.listing_text.specs.Acts.{PlainAct, Open, Close, Do}
-use Rattle.listing_text.proofs.OpenLines.{IsOpen, ◌&◌, literal, number_open, numbers_open, sum_open, array_open, ends_line}
-use Rattle.c_print.specs.CText.{lane_loop, tile_loops, lane_text, becomes_text, c_op_text, c_header_text, numbered_text, front_text, joined_text, c_table_text, add_text, sub_text, mul_text, functions_text, phase_start_text}
-use Rattle.c_print.specs.CLineTexts.{c_line_text}
+use Rattle.listing_text.specs.declared.draft.Header.{Header}
+use Rattle.listing_text.specs.Wording.{PlainAct, Open, Close, Do}
+use Rattle.listing_text.specs.Progress.{begin_text}
+use Rattle.listing_text.proofs.OpenLines.{IsOpen, ◌&◌, literal, number_open, numbers_open, sum_open, array_open, ends_line, header_open, HasLines, HasFirst, first_behind}
+use Rattle.listing_text.specs.Numbers.{numbered_text}
+use Rattle.c_print.specs.CText.{lane_loop, tile_loops, lane_text, becomes_text, c_op_text, c_line_text, c_header_text, front_text, joined_text, c_table_text, add_text, sub_text, mul_text, functions_text, phase_start_text, c_wording}
 use Rattle.c_print.proofs.CSpelt.{c_act_text}
 use Rattle.c_print.proofs.CLineLaws.{line_text_is}
 
@@ -44,14 +45,8 @@ act_is_line act = subst IsLine (line_text_is act) (ends_line (c_act_text act) (a
 
 -- ---- the other lines
 
-pub header_is_line : (p : PlainProgram) → IsLine (c_header_text p)
-header_is_line p =
-    subst IsLine (append_assoc (codes "/* " ++ header_text p) (codes " */") (codes "\n"))
-    (ends_line _
-    (literal (codes "/* ") refl
-    & (literal (codes "program size ") refl & number_open p.size & literal (codes " mod ") refl & number_open p.modulus & literal (codes " procs ") refl & number_open p.procs & literal (codes " line ") refl & number_open p.line
-    & literal (codes " lanes ") refl & number_open p.lanes & literal (codes " regs ") refl & number_open p.regs)
-    & literal (codes " */") refl))
+pub header_is_line : (h : Header) → IsLine (c_header_text h)
+header_is_line h = header_open (codes "/* program size ") (codes " */") h (literal (codes "/* program size ") refl) (literal (codes " */") refl)
 
 joined_open : (entries : List ℕ) → IsOpen (joined_text entries)
 joined_open [] = literal [] refl
@@ -71,20 +66,6 @@ numbered_line before number after h k = subst IsLine (append_assoc (before ++ de
 
 -- ---- texts of whole lines
 
-abbrev pub joined : List (List ℕ) → List ℕ
-joined [] = []
-joined (line ∷ lines) = line ++ joined lines
-
-abbrev pub AreLines : List (List ℕ) → Type 0
-AreLines [] = Unit {0}
-AreLines (line ∷ lines) = IsLine line × AreLines lines
-
--- the text is these lines
-pub record HasLines (text first : List ℕ) (others : List (List ℕ)) : Type 0 where
-  pub whole : text ≡ joined (first ∷ others)
-  pub line : IsLine first
-  pub lines : AreLines others
-
 literal_line : (front : List ℕ) → is_open front ≡ true → IsLine (front ++ codes "\n")
 literal_line front h = ends_line front (literal front h)
 
@@ -96,36 +77,39 @@ eight_right a b c d e f g h =
 three_right : (a b c : List ℕ) → a ++ b ++ c ≡ a ++ (b ++ (c ++ []))
 three_right a b c = append_assoc a b c ∙ ap (λ y. a ++ (b ++ y)) (sym (append-nil c))
 
-abbrev pub include_line : List ℕ
+abbrev include_line : List ℕ
 include_line = codes "#include <stdint.h>\n"
 
-abbrev pub front_lines : ℕ → ℕ → ℕ → List (List ℕ)
+abbrev front_lines : ℕ → ℕ → ℕ → List (List ℕ)
 front_lines modulus lanes words =
     numbered_text (codes "#define M ") modulus (codes "ULL\n") ∷ numbered_text (codes "#define V ") lanes (codes "\n")
     ∷ codes "#define X (W + 0)\n" ∷ numbered_text (codes "#define Y (W + ") words (codes ")\n") ∷ numbered_text (codes "#define A (W + ") (2 * words) (codes ")\n")
     ∷ numbered_text (codes "#define B (W + ") (3 * words) (codes ")\n") ∷ numbered_text (codes "static uint64_t W[") (4 * words) (codes "];\n") ∷ []
 
-pub front_has_lines : (modulus lanes words : ℕ) → HasLines (front_text modulus lanes words) include_line (front_lines modulus lanes words)
+pub front_has_lines : (modulus lanes words : ℕ) → HasLines (front_text modulus lanes words)
 unfolding front_text
 front_has_lines modulus lanes words = record {
+  lines = include_line ∷ front_lines modulus lanes words;
   whole = eight_right include_line (numbered_text (codes "#define M ") modulus (codes "ULL\n")) (numbered_text (codes "#define V ") lanes (codes "\n")) (codes "#define X (W + 0)\n")
       (numbered_text (codes "#define Y (W + ") words (codes ")\n")) (numbered_text (codes "#define A (W + ") (2 * words) (codes ")\n")) (numbered_text (codes "#define B (W + ") (3 * words) (codes ")\n")) (numbered_text (codes "static uint64_t W[") (4 * words) (codes "];\n"));
-  line = literal_line (codes "#include <stdint.h>") refl;
-  lines = (
-    numbered_line (codes "#define M ") modulus (codes "ULL") refl refl,
+  are = (
+    literal_line (codes "#include <stdint.h>") refl,
     (
-      numbered_line (codes "#define V ") lanes [] refl refl,
+      numbered_line (codes "#define M ") modulus (codes "ULL") refl refl,
       (
-        literal_line (codes "#define X (W + 0)") refl,
+        numbered_line (codes "#define V ") lanes [] refl refl,
         (
-          numbered_line (codes "#define Y (W + ") words (codes ")") refl refl,
+          literal_line (codes "#define X (W + 0)") refl,
           (
-            numbered_line (codes "#define A (W + ") (2 * words) (codes ")") refl refl,
+            numbered_line (codes "#define Y (W + ") words (codes ")") refl refl,
             (
-              numbered_line (codes "#define B (W + ") (3 * words) (codes ")") refl refl,
+              numbered_line (codes "#define A (W + ") (2 * words) (codes ")") refl refl,
               (
-                numbered_line (codes "static uint64_t W[") (4 * words) (codes "];") refl refl,
-                tt,
+                numbered_line (codes "#define B (W + ") (3 * words) (codes ")") refl refl,
+                (
+                  numbered_line (codes "static uint64_t W[") (4 * words) (codes "];") refl refl,
+                  tt,
+                ),
               ),
             ),
           ),
@@ -135,27 +119,30 @@ front_has_lines modulus lanes words = record {
   );
 }
 
-pub functions_have_lines : HasLines functions_text add_text (sub_text ∷ mul_text ∷ [])
+functions_first : HasFirst functions_text
 unfolding functions_text add_text sub_text mul_text
-functions_have_lines = record {
+functions_first = record {
+  first = add_text;
+  others = sub_text ∷ mul_text ∷ [];
   whole = three_right add_text sub_text mul_text;
-  line = literal_line (codes "static uint64_t add(uint64_t a, uint64_t b) { uint64_t c = a + b; return c >= M ? c - M : c; }") refl;
-  lines = (
+  is = literal_line (codes "static uint64_t add(uint64_t a, uint64_t b) { uint64_t c = a + b; return c >= M ? c - M : c; }") refl;
+  are = (
     literal_line (codes "static uint64_t sub(uint64_t a, uint64_t b) { return a >= b ? a - b : a + M - b; }") refl,
     (literal_line (codes "static uint64_t mul(uint64_t a, uint64_t b) { return (uint64_t)((unsigned __int128)a * b % M); }") refl, tt),
   );
 }
 
-abbrev pub phase_line : ℕ → List ℕ
-phase_line number = numbered_text (codes "void phase") number (codes "(uint64_t q) {\n")
-
-abbrev pub phase_lines : ℕ → List (List ℕ)
-phase_lines regs = numbered_text (codes "uint64_t r[") regs (codes "][V];\n") ∷ codes "(void)q;\n" ∷ []
-
-pub phase_start_has_lines : (regs number : ℕ) → HasLines (phase_start_text regs number) (phase_line number) (phase_lines regs)
+phase_first : (regs number : ℕ) → HasFirst (phase_start_text regs number)
 unfolding phase_start_text
-phase_start_has_lines regs number = record {
-  whole = three_right (phase_line number) (numbered_text (codes "uint64_t r[") regs (codes "][V];\n")) (codes "(void)q;\n");
-  line = numbered_line (codes "void phase") number (codes "(uint64_t q) {") refl refl;
-  lines = (numbered_line (codes "uint64_t r[") regs (codes "][V];") refl refl, (literal_line (codes "(void)q;") refl, tt));
+phase_first regs number = record {
+  first = numbered_text (codes "void phase") number (codes "(uint64_t q) {\n");
+  others = numbered_text (codes "uint64_t r[") regs (codes "][V];\n") ∷ codes "(void)q;\n" ∷ [];
+  whole = three_right (numbered_text (codes "void phase") number (codes "(uint64_t q) {\n")) (numbered_text (codes "uint64_t r[") regs (codes "][V];\n")) (codes "(void)q;\n");
+  is = numbered_line (codes "void phase") number (codes "(uint64_t q) {") refl refl;
+  are = (numbered_line (codes "uint64_t r[") regs (codes "][V];") refl refl, (literal_line (codes "(void)q;") refl, tt));
 }
+
+-- the functions stand before the first phase
+pub begin_first : (h : Header) (phases : List PlainBody) → HasFirst (begin_text c_wording h phases)
+begin_first h [] = first_behind functions_text (phase_start_text h.regs 0) functions_first (phase_first h.regs 0)
+begin_first h (b ∷ phases) = phase_first h.regs (length (b ∷ phases))

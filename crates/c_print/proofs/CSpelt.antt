@@ -8,7 +8,8 @@ use Rattle.grammar.specs.Grammar.{one_of}
 use Rattle.grammar.specs.Reading.{Place, start, whole}
 use Rattle.listing_text.specs.Listing.{sum_text, array_text}
 use Rattle.listing_text.specs.Reading.{sum_at}
-use Rattle.listing_text.specs.Acts.{PlainAct, Open, Close, Do, ActFits}
+use Rattle.listing_text.specs.Wording.{PlainAct, Open, Close, Do}
+use Rattle.listing_text.specs.Acts.{ActFits}
 use Rattle.listing_text.proofs.Spelt.{Spelt, spelt_then, word_then, number_then, named_then, key_then, place_spelt}
 use Rattle.listing_text.proofs.ActsSpelt.{whole_spelt}
 use Rattle.c_print.specs.declared.lines.Word.{Word}

@@ -4,9 +4,6 @@ pub mod CBack
 pub mod CLineLaws
 pub mod CTableLaws
 pub mod CHeaderLaws
-pub mod COwed
 pub mod COpenLines
-pub mod CFrames
-pub mod CDraftLaws
-pub mod CDraftReads
+pub mod CReads
 pub mod CCalls

@@ -1,15 +1,9 @@
--- The text of a line of a phase in C, and which lines a program may have.
-use Rattle.std.specs.Prelude.{◌≡◌, ℕ, ◌<◌, ◌≤◌, List, ◌++◌, true, codes}
+-- Which lines of a phase a C text may have.
+use Rattle.std.specs.Prelude.{◌≡◌, ℕ, ◌<◌, ◌≤◌, List, true}
 use Rattle.icode.specs.Limits.{is_op_within}
 use Rattle.listing_text.specs.Reading.{above_all}
-use Rattle.listing_text.specs.Acts.{PlainAct, Open, Close, Do}
-use Rattle.c_print.specs.CText.{c_op_text, loop_text}
-
--- a loop's begin, an end, or an operation, as these stand in the C text of a program
-abbrev pub c_line_text : PlainAct → List ℕ
-c_line_text (Open depth count) = loop_text depth count
-c_line_text Close = codes "}\n"
-c_line_text (Do op) = c_op_text op ++ codes "\n"
+use Rattle.listing_text.specs.Wording.{PlainAct, Open, Close, Do}
+use Rattle.c_print.specs.CText.{c_line_text}
 
 -- an operation within the limits of a program with this modulus, inside so many loops; a loop's numbers are words
 abbrev pub MayStand : ℕ → ℕ → PlainAct → Type 0

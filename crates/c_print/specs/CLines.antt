@@ -5,7 +5,7 @@ use Rattle.icode.specs.declared.program.Array.TheVariants as arrays
 use Rattle.icode.specs.Plain.{Load, Store, Zero, Add, Sub, Neg, MulConst, MulTable, Tile}
 use Rattle.grammar.specs.Reading.{Place, ◌>>=◌, pure_at, word_at, one_of_at, number_at, named_number_at}
 use Rattle.listing_text.specs.Reading.{above_all, sum_at, refuse}
-use Rattle.listing_text.specs.Acts.{PlainAct, Open, Close, Do}
+use Rattle.listing_text.specs.Wording.{PlainAct, Open, Close, Do}
 use Rattle.c_print.specs.declared.lines.Word.{Word}
 use Rattle.c_print.specs.declared.lines.Word.TheVariants as words
 use Rattle.c_print.specs.declared.lines.Value.{Value}

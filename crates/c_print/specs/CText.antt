@@ -1,7 +1,10 @@
 -- The C text of a program: its statements and expressions are those of the listing, each in the words of C.
-use Rattle.std.specs.Prelude.{ℕ, ◌+◌, ◌*◌, List, [], ◌∷◌, ◌++◌, length, codes, decimal, flat_map}
-use Rattle.icode.specs.Plain.{PlainOp, PlainStmt, PlainBody, PlainProgram, Load, Store, Zero, Add, Sub, Neg, MulConst, MulTable, Tile, Loop, Do, NoStmts, AndStmts}
+use Rattle.std.specs.Prelude.{ℕ, ◌*◌, List, [], ◌∷◌, ◌++◌, length, codes, decimal, flat_map}
+use Rattle.icode.specs.Plain.{PlainOp, PlainProgram, Load, Store, Zero, Add, Sub, Neg, MulConst, MulTable, Tile}
 use Rattle.icode.specs.Machine.{whole_lines}
+use Rattle.listing_text.specs.declared.draft.Header.{Header}
+use Rattle.listing_text.specs.Wording.{PlainAct, Open, Close, Do, Wording, text_of}
+use Rattle.listing_text.specs.Numbers.{numbered_text}
 use Rattle.listing_text.specs.Listing.{sum_text, array_text, header_text}
 
 -- for each lane l, the rest of the line
@@ -35,26 +38,15 @@ c_op_text (Tile register source) = tile_loops ++ codes "r[" ++ decimal register 
 unfoldable pub loop_text : ℕ → ℕ → List ℕ
 loop_text depth count = codes "for (uint64_t v" ++ decimal depth ++ codes " = 0; v" ++ decimal depth ++ codes " < " ++ decimal count ++ codes "; v" ++ decimal depth ++ codes "++) {\n"
 
-abbrev mutual
-  pub c_stmt_text : ℕ → PlainStmt → List ℕ
-  c_stmt_text depth (Loop count body) = loop_text depth count ++ c_body_text (depth + 1) body ++ codes "}\n"
-  c_stmt_text depth (Do op) = c_op_text op ++ codes "\n"
-
-  pub c_body_text : ℕ → PlainBody → List ℕ
-  c_body_text depth NoStmts = []
-  c_body_text depth (AndStmts stmt rest) = c_stmt_text depth stmt ++ c_body_text depth rest
-
--- the words of an array
-abbrev pub array_words : PlainProgram → ℕ
-array_words p = whole_lines p.size p.line
+-- a line of a phase: a loop's begin, an end, or an operation
+abbrev pub c_line_text : PlainAct → List ℕ
+c_line_text (Open depth count) = loop_text depth count
+c_line_text Close = codes "}\n"
+c_line_text (Do op) = c_op_text op ++ codes "\n"
 
 -- the first line: the header of the listing, in a comment
-abbrev pub c_header_text : PlainProgram → List ℕ
-c_header_text p = codes "/* " ++ header_text p ++ codes " */\n"
-
--- a number between two texts
-abbrev pub numbered_text : List ℕ → ℕ → List ℕ → List ℕ
-numbered_text before number after = before ++ decimal number ++ after
+abbrev pub c_header_text : Header → List ℕ
+c_header_text h = codes "/* " ++ header_text h ++ codes " */\n"
 
 -- the modulus, the lanes, and the memory with its four arrays of so many words
 unfoldable pub front_text : ℕ → ℕ → ℕ → List ℕ
@@ -69,11 +61,6 @@ joined_text (c ∷ cs) = decimal c ++ flat_map (λ c. codes "," ++ decimal c) cs
 
 unfoldable pub c_table_text : ℕ → List ℕ → List ℕ
 c_table_text number entries = codes "static const uint64_t t" ++ decimal number ++ codes "[" ++ decimal (length entries) ++ codes "] = {" ++ joined_text entries ++ codes "};\n"
-
--- the tables from this number on
-abbrev pub c_tables_text : ℕ → List (List ℕ) → List ℕ
-c_tables_text number [] = []
-c_tables_text number (entries ∷ tables) = c_table_text number entries ++ c_tables_text (number + 1) tables
 
 -- the sum, the difference and the product of two residues
 unfoldable pub add_text : List ℕ
@@ -92,10 +79,15 @@ functions_text = add_text ++ sub_text ++ mul_text
 unfoldable pub phase_start_text : ℕ → ℕ → List ℕ
 phase_start_text regs number = numbered_text (codes "void phase") number (codes "(uint64_t q) {\n") ++ numbered_text (codes "uint64_t r[") regs (codes "][V];\n") ++ codes "(void)q;\n"
 
--- the phases from this number on
-abbrev pub c_phases_text : ℕ → ℕ → List PlainBody → List ℕ
-c_phases_text regs number [] = []
-c_phases_text regs number (body ∷ phases) = phase_start_text regs number ++ c_body_text 0 body ++ codes "}\n" ++ c_phases_text regs (number + 1) phases
+abbrev pub c_wording : Wording
+c_wording = record {
+  header = c_header_text;
+  front = λ h. front_text h.modulus h.lanes (whole_lines h.size h.line);
+  table = c_table_text;
+  between = functions_text;
+  phase = phase_start_text;
+  line = c_line_text;
+}
 
 abbrev pub c_text_of : PlainProgram → List ℕ
-c_text_of p = c_header_text p ++ front_text p.modulus p.lanes (array_words p) ++ c_tables_text 0 p.tables ++ functions_text ++ c_phases_text p.regs 0 p.phases
+c_text_of p = text_of c_wording p

@@ -3,5 +3,5 @@ pub mod CLines
 pub mod CLineTexts
 pub mod CTables
 pub mod CHeaders
-pub mod CDrafts
+pub mod CGrammar
 pub mod CTexts

@@ -1,8 +1,6 @@
 //! The C text of a program: printing it, and reading it line by line.
 #![tactic(auto)]
 
-mod draft;
-mod drafts;
 mod header;
 mod lines;
 mod printing;

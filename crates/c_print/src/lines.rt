@@ -3,9 +3,11 @@
 ghost use Rattle.std.specs.Prelude.{◌≡◌, ℕ, IfOk, IsOkUnless};
 ghost use Rattle.grammar.specs.Cursor.{Gives, Tells, TellsAll};
 ghost use Rattle.grammar.specs.Reading.{one_of_at, whole};
-ghost use Rattle.listing_text.specs.Acts.{PlainAct, plain_act, ActFits};
+ghost use Rattle.listing_text.specs.Acts.{plain_act, ActFits};
+ghost use Rattle.listing_text.specs.Wording.{PlainAct};
 ghost use Rattle.c_print.specs.CLines.{c_words, target_words, value_words, factor_words, same_loop, loop_at, tile_at, c_factor_at, value_at, target_at, c_operands_at, c_act_at, c_line_at};
-ghost use Rattle.c_print.specs.CLineTexts.{c_line_text, IsLineOf};
+ghost use Rattle.c_print.specs.CText.{c_line_text};
+ghost use Rattle.c_print.specs.CLineTexts.{IsLineOf};
 
 use grammar::{Cursor, ReadError, Stuck};
 use icode::program::{Array, Op};

@@ -1,22 +1,21 @@
-ghost use Rattle.std.specs.Prelude.{◌≡◌, ◌++◌, ◌+◌, ◌*◌, ◌≤◌, ◌<◌, ◌^◌, ℕ, IsTrue, IfOk, OnOk, codes, decimal, flat_map};
-ghost use Rattle.std.specs.List.{list_all};
-ghost use Rattle.icode.specs.Plain.{Zero, Neg, MulConst, Tile, plain_expr, plain_op, plain_stmt, plain_body, plain_tables, plain_phases};
+ghost use Rattle.std.specs.Prelude.{◌≡◌, ◌++◌, ◌+◌, ◌*◌, ◌<◌, ◌^◌, ℕ, IfOk, OnOk, codes, decimal};
+ghost use Rattle.icode.specs.Plain.{Zero, Neg, MulConst, Tile, plain_expr, plain_op};
 ghost use Rattle.icode.specs.Program.{plain_program};
-ghost use Rattle.icode.specs.Machine.{whole_lines};
 ghost use Rattle.listing_text.specs.Listing.{array_text, sum_text};
-ghost use Rattle.listing_text.specs.Nests.{is_nest_within, are_nests_within};
-ghost use Rattle.c_print.specs.CText.{lane_loop, tile_loops, lane_text, becomes_text, loop_text, c_op_text, c_stmt_text, c_body_text, c_header_text, numbered_text, front_text, functions_text, joined_text, c_table_text, c_tables_text, add_text, sub_text, mul_text, phase_start_text, c_phases_text, c_text_of};
+ghost use Rattle.c_print.specs.CGrammar.{c_grammar};
+ghost use Rattle.c_print.specs.CText.{lane_loop, tile_loops, lane_text, becomes_text, c_op_text, front_text, joined_text, add_text, sub_text, mul_text, c_wording, c_text_of};
 
-use icode::program::{Array, Expr, Op, Program, Stmt};
-use listing_text::{put, put_array, put_expr, put_header};
+use crate::header::read_c_header;
+use crate::lines::read_c_line;
+use crate::tables::read_c_table;
+use grammar::{ReadError, Stuck};
+use icode::program::{Array, Expr, Op, Program};
+use listing_text::{
+    Act, Header, Language, array_words, print, put, put_array, put_expr, put_header, put_numbered,
+    put_word,
+};
 use memory::NoMemory;
 use std::alloc::{AllocError, Global};
-
-fn put_word(out: &mut Vec<u8>, word: &[u8]) -> Result<(), AllocError>
-    ensures { OnOk result (out.new.items ≡ out.old.items ++ word.now) }
-{
-    out.extend_from_slice(word)
-}
 
 #[tactic(auto, unfolding(crate::specs::CText::lane_loop))]
 fn put_lane_loop(out: &mut Vec<u8>) -> Result<(), AllocError>
@@ -203,81 +202,8 @@ fn put_op(out: &mut Vec<u8>, op: &Op) -> Result<(), AllocError>
     }
 }
 
-fn put_loop(out: &mut Vec<u8>, depth: u64, count: u64) -> Result<(), AllocError>
-    ensures { OnOk result (out.new.items ≡ out.old.items ++ loop_text depth count) }
-{
-    put(out, b"for (uint64_t v", depth)?;
-    put(out, b" = 0; v", depth)?;
-    put(out, b" < ", count)?;
-    put(out, b"; v", depth)?;
-    put_word(out, b"++) {\n")
-}
-
-// A statement inside so many loops.
-fn put_stmt(out: &mut Vec<u8>, stmt: &Stmt, depth: u64) -> Result<(), AllocError>
-    requires { IsTrue (is_nest_within (plain_stmt stmt.now) depth) }
-    ensures { OnOk result (out.new.items
-        ≡ out.old.items ++ c_stmt_text depth (plain_stmt stmt.now)) }
-{
-    match stmt {
-        Stmt::Loop { count, body } => {
-            put_loop(out, depth, *count)?;
-            for inner in body {
-                put_stmt(out, inner, depth + 1)?;
-            }
-            out.extend_from_slice(b"}\n")
-        }
-        Stmt::Do(op) => {
-            put_op(out, op)?;
-            out.extend_from_slice(b"\n")
-        }
-    }
-}
-
-fn put_body(out: &mut Vec<u8>, body: &[Stmt]) -> Result<(), AllocError>
-    requires { IsTrue (are_nests_within (plain_body body.now) 0) }
-    ensures { OnOk result (out.new.items ≡ out.old.items ++ c_body_text 0 (plain_body body.now)) }
-{
-    for stmt in body {
-        put_stmt(out, stmt, 0)?;
-    }
-    Ok(())
-}
-
-fn put_c_header(out: &mut Vec<u8>, program: &Program) -> Result<(), AllocError>
-    ensures { OnOk result (out.new.items
-        ≡ out.old.items ++ c_header_text (plain_program program.now)) }
-{
-    put_word(out, b"/* ")?;
-    put_header(out, program)?;
-    put_word(out, b" */\n")
-}
-
-fn put_numbered(
-    out: &mut Vec<u8>,
-    before: &[u8],
-    number: u64,
-    after: &[u8],
-) -> Result<(), AllocError>
-    ensures { OnOk result (out.new.items
-        ≡ out.old.items ++ numbered_text before.now number after.now) }
-{
-    put(out, before, number)?;
-    out.extend_from_slice(after)
-}
-
-/// The number of words of an array.
-pub fn array_words(size: u64, line: u64) -> u64
-    requires size { size ≤ 1048576 }
-    requires line { (1 ≤ line) × (line ≤ 64) }
-    ensures value { result ≡ whole_lines size line }
-    ensures bound { result < 2 ^ 32 }
-{
-    (size + (line - 1)) / line * line
-}
-
-/// Writes what stands between the first line and the tables.
-pub fn put_front(out: &mut Vec<u8>, modulus: u64, lanes: u64, words: u64) -> Result<(), AllocError>
+// What stands between the first line and the tables.
+fn put_front(out: &mut Vec<u8>, modulus: u64, lanes: u64, words: u64) -> Result<(), AllocError>
     requires { words < 2 ^ 32 }
     ensures { OnOk result (out.new.items ≡ out.old.items ++ front_text modulus lanes words) }
 {
@@ -304,27 +230,6 @@ fn put_joined(out: &mut Vec<u8>, entries: &[u64]) -> Result<(), AllocError>
             Ok(())
         }
     }
-}
-
-#[tactic(auto, unfolding(crate::specs::CText::c_table_text))]
-fn put_table(out: &mut Vec<u8>, number: u64, entries: &[u64]) -> Result<(), AllocError>
-    ensures { OnOk result (out.new.items ≡ out.old.items ++ c_table_text number entries.now) }
-{
-    put(out, b"static const uint64_t t", number)?;
-    put(out, b"[", entries.len() as u64)?;
-    out.extend_from_slice(b"] = {")?;
-    put_joined(out, entries)?;
-    out.extend_from_slice(b"};\n")
-}
-
-fn put_tables(out: &mut Vec<u8>, tables: &[Vec<u64>]) -> Result<(), AllocError>
-    ensures { OnOk result (out.new.items
-        ≡ out.old.items ++ c_tables_text 0 (plain_tables tables.now)) }
-{
-    for (number, entries) in tables.iter().enumerate() {
-        put_table(out, number as u64, entries)?;
-    }
-    Ok(())
 }
 
 #[tactic(auto, unfolding(crate::specs::CText::add_text))]
@@ -354,47 +259,79 @@ fn put_mul(out: &mut Vec<u8>) -> Result<(), AllocError>
     )
 }
 
-/// Writes what stands between the tables and the phases.
-pub fn put_functions(out: &mut Vec<u8>) -> Result<(), AllocError>
-    ensures { OnOk result (out.new.items ≡ out.old.items ++ functions_text) }
-{
-    put_add(out)?;
-    put_sub(out)?;
-    put_mul(out)
-}
+/// The words of C.
+pub struct C;
 
-/// Writes how the phase of this number begins.
-pub fn put_phase_start(out: &mut Vec<u8>, regs: u64, number: u64) -> Result<(), AllocError>
-    ensures { OnOk result (out.new.items ≡ out.old.items ++ phase_start_text regs number) }
-{
-    put_numbered(out, b"void phase", number, b"(uint64_t q) {\n")?;
-    put_numbered(out, b"uint64_t r[", regs, b"][V];\n")?;
-    put_word(out, b"(void)q;\n")
-}
+impl Language for C {
+    ghost wording = { c_wording };
 
-fn put_phases(out: &mut Vec<u8>, regs: u64, phases: &[Vec<Stmt>]) -> Result<(), AllocError>
-    requires { IsTrue (list_all (λ body. are_nests_within body 0) (plain_phases phases.now)) }
-    ensures { OnOk result (out.new.items
-        ≡ out.old.items ++ c_phases_text regs 0 (plain_phases phases.now)) }
-{
-    for (number, body) in phases.iter().enumerate() {
-        put_phase_start(out, regs, number as u64)?;
-        put_body(out, body)?;
-        out.extend_from_slice(b"}\n")?;
+    ghost grammar = { c_grammar };
+
+    fn put_first(out: &mut Vec<u8>, header: &Header) -> Result<(), AllocError> {
+        put_word(out, b"/* ")?;
+        put_header(out, header)?;
+        put_word(out, b" */\n")
     }
-    Ok(())
+
+    fn put_front(out: &mut Vec<u8>, header: &Header) -> Result<(), AllocError> {
+        let words = array_words(header.size, header.line);
+        put_front(out, header.modulus, header.lanes, words)
+    }
+
+    #[tactic(auto, unfolding(crate::specs::CText::c_table_text))]
+    fn put_table(out: &mut Vec<u8>, number: u64, entries: &[u64]) -> Result<(), AllocError> {
+        put(out, b"static const uint64_t t", number)?;
+        put(out, b"[", entries.len() as u64)?;
+        put_word(out, b"] = {")?;
+        put_joined(out, entries)?;
+        put_word(out, b"};\n")
+    }
+
+    fn put_between(out: &mut Vec<u8>) -> Result<(), AllocError> {
+        put_add(out)?;
+        put_sub(out)?;
+        put_mul(out)
+    }
+
+    fn put_phase(out: &mut Vec<u8>, regs: u64, number: u64) -> Result<(), AllocError> {
+        put_numbered(out, b"void phase", number, b"(uint64_t q) {\n")?;
+        put_numbered(out, b"uint64_t r[", regs, b"][V];\n")?;
+        put_word(out, b"(void)q;\n")
+    }
+
+    fn put_loop(out: &mut Vec<u8>, depth: u64, count: u64) -> Result<(), AllocError> {
+        put(out, b"for (uint64_t v", depth)?;
+        put(out, b" = 0; v", depth)?;
+        put(out, b" < ", count)?;
+        put(out, b"; v", depth)?;
+        put_word(out, b"++) {\n")
+    }
+
+    fn put_end(out: &mut Vec<u8>) -> Result<(), AllocError> {
+        put_word(out, b"}\n")
+    }
+
+    fn put_op(out: &mut Vec<u8>, op: &Op) -> Result<(), AllocError> {
+        put_op(out, op)?;
+        put_word(out, b"\n")
+    }
+
+    fn read_header(line: &[u8]) -> Result<Header, Stuck> {
+        read_c_header(line)
+    }
+
+    fn read_table(alloc: Global, line: &[u8]) -> Result<(u64, Vec<u64>), ReadError> {
+        read_c_table(alloc, line)
+    }
+
+    fn read_act(alloc: Global, line: &[u8]) -> Result<Act, ReadError> {
+        read_c_line(alloc, line)
+    }
 }
 
 /// The C text of a program.
 pub fn print_c(alloc: Global, program: &Program) -> Result<Vec<u8>, NoMemory>
     ensures { IfOk result (λ text. text.items ≡ c_text_of (plain_program program.now)) }
 {
-    let mut out = Vec::new(alloc);
-    put_c_header(&mut out, program)?;
-    let words = array_words(program.size, program.line);
-    put_front(&mut out, program.modulus, program.lanes, words)?;
-    put_tables(&mut out, &program.tables)?;
-    put_functions(&mut out)?;
-    put_phases(&mut out, program.regs, &program.phases)?;
-    Ok(out)
+    print::<C>(alloc, program)
 }

@@ -11,11 +11,11 @@ use Rattle.grammar.proofs.Parts.{Anything, one_of_reader}
 use Rattle.grammar.proofs.Whole.{again}
 use Rattle.listing_text.specs.declared.acts.Word.{Word}
 use Rattle.listing_text.specs.declared.acts.Word.TheVariants as words
-use Rattle.listing_text.specs.Listing.{sum_text, array_text, place_text}
+use Rattle.listing_text.specs.Listing.{sum_text, array_text, place_text, act_text, line_text}
 use Rattle.listing_text.specs.Reading.{above_all, sum_at}
-use Rattle.listing_text.specs.Acts.{PlainAct, Open, Close, Do, act_text, act_words, array_words, factor_words, operands_at, act_at, act_line_at}
+use Rattle.listing_text.specs.Wording.{PlainAct, Open, Close, Do}
+use Rattle.listing_text.specs.Acts.{act_words, array_words, factor_words, operands_at, act_at, act_line_at}
 use Rattle.listing_text.proofs.ReadBack.{Back, then_back, first_digit, word_back, number_back, named_back, small_fits, place_back}
-use Rattle.listing_text.proofs.ActsSpelt.{line_text}
 
 -- the act may stand inside so many loops
 abbrev pub IsActWithin : ℕ → ℕ → PlainAct → Type 0

@@ -8,9 +8,10 @@ use Rattle.grammar.specs.Grammar.{one_of}
 use Rattle.grammar.specs.Reading.{Place, start, ended, to_end, whole}
 use Rattle.listing_text.specs.declared.acts.Word.{Word}
 use Rattle.listing_text.specs.declared.acts.Word.TheVariants as words
-use Rattle.listing_text.specs.Listing.{sum_text, array_text, place_text}
+use Rattle.listing_text.specs.Listing.{sum_text, array_text, place_text, act_text, line_text}
 use Rattle.listing_text.specs.Reading.{sum_at}
-use Rattle.listing_text.specs.Acts.{PlainAct, ActFits, act_text, act_words, array_words, factor_words, factor_at, operands_at, act_at, act_line_at}
+use Rattle.listing_text.specs.Wording.{PlainAct}
+use Rattle.listing_text.specs.Acts.{ActFits, act_words, array_words, factor_words, factor_at, operands_at, act_at, act_line_at}
 use Rattle.listing_text.proofs.Spelt.{Spelt, spelt_then, word_then, number_then, named_then, key_then, place_spelt}
 
 array_is : (t : List ℕ) (array : Array) → one_of array_words t array → t ≡ array_text array ++ codes "["
@@ -137,9 +138,6 @@ unfolding act_at
 act_spelt place = key_then act_words ActFits act_text place.rest place _ (λ word q t e l. operands_spelt place.rest word q t e l)
 
 -- ---- a whole line
-
-abbrev pub line_text : PlainAct → List ℕ
-line_text act = act_text act ++ codes "\n"
 
 pub whole_spelt : {A : Type 0} (fits : A → Type 0) (text : A → List ℕ) (line : List ℕ) (r : Result (A × Place ℕ) ℕ) (x : A) → Spelt fits text line r → to_end r ≡ Ok x → fits x × (line ≡ text x)
 whole_spelt {A} fits text line (Ok y) x h e = cases (y.1.rest) e h.1

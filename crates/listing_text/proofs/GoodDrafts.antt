@@ -1,15 +1,15 @@
 -- Drafts that stay within the limits of programs.
 use Rattle.std.proofs.Common.{◌≡◌, ℕ, suc, ◌+◌, ◌-◌, ◌<◌, ◌≤◌, ◌^◌, Bool, true, false, cond, eqb, ltb, leb, ◌&&◌, List, [], ◌∷◌, ◌++◌, length, Some, None, refl, sym, ap, subst, ◌∙◌, arith}
 use Rattle.std.specs.List.{list_all}
-use Rattle.std.proofs.lemmas.Bool.{ltb-true, leb-true, lt-ltb, and_parts, and_from, eqb-true}
+use Rattle.std.proofs.lemmas.Bool.{ltb-true, leb-true, lt-ltb, le-leb, and_parts, and_from, eqb-true}
 use Rattle.std.proofs.lemmas.List.{length-append}
-use Rattle.icode.specs.Plain.{PlainStmt, PlainBody, Loop, NoStmts, AndStmts, body_of}
+use Rattle.icode.specs.Plain.{PlainStmt, PlainBody, Loop, body_of}
 use Rattle.icode.specs.Plain as plain
 use Rattle.icode.specs.Limits.{is_small_positive, is_stmt_within, is_body_within, is_op_within, are_tables_within, IsHeaderWithin, IsWithinLimits}
 use Rattle.listing_text.specs.declared.draft.Header.{Header}
 use Rattle.listing_text.specs.Reading.{above_all}
-use Rattle.listing_text.specs.Acts.{PlainAct, Open, Close, Do}
-use Rattle.listing_text.specs.Drafts.{PlainLevel, PlainDraft, program_of, is_between, is_header_within, blank, with_body, opened, closed, may_open, act_step, is_empty, table_step, entered, header_step}
+use Rattle.listing_text.specs.Wording.{PlainAct, Open, Close, Do, program_of}
+use Rattle.listing_text.specs.Drafts.{PlainLevel, PlainDraft, is_between, is_header_within, blank, with_body, opened, closed, may_open, act_step, is_empty, table_step, entered, header_step}
 
 -- ---- limits of statements
 
@@ -195,6 +195,17 @@ header_limits h w =
       of_lanes = between 1 16 h.lanes e.0;
       of_regs = ltb-true h.regs (2 ^ 20) e.1;
     }
+
+between_from : (low high n : ℕ) → (low ≤ n) × (n ≤ high) → is_between low high n ≡ true
+between_from low high n h = and_from (leb low n) (leb n high) (le-leb low n h.0) (le-leb n high h.1)
+
+pub within_from : (h : Header) → IsHeaderWithin h.size h.modulus h.procs h.line h.lanes h.regs → is_header_within h ≡ true
+within_from h w =
+    and_from (is_between 1 1048576 h.size) (is_between 2 (2 ^ 62 - 1) h.modulus && (is_between 1 16 h.procs && (is_between 1 64 h.line && (is_between 1 16 h.lanes && ltb h.regs (2 ^ 20))))) (between_from 1 1048576 h.size w.of_size)
+    (and_from (is_between 2 (2 ^ 62 - 1) h.modulus) (is_between 1 16 h.procs && (is_between 1 64 h.line && (is_between 1 16 h.lanes && ltb h.regs (2 ^ 20)))) (between_from 2 (2 ^ 62 - 1) h.modulus (w.of_modulus.0, omega (arith, w.of_modulus.1)))
+    (and_from (is_between 1 16 h.procs) (is_between 1 64 h.line && (is_between 1 16 h.lanes && ltb h.regs (2 ^ 20))) (between_from 1 16 h.procs w.of_procs)
+    (and_from (is_between 1 64 h.line) (is_between 1 16 h.lanes && ltb h.regs (2 ^ 20)) (between_from 1 64 h.line w.of_line)
+    (and_from (is_between 1 16 h.lanes) (ltb h.regs (2 ^ 20)) (between_from 1 16 h.lanes w.of_lanes) (lt-ltb h.regs (2 ^ 20) w.of_regs)))))
 
 pub with_phase : (d : PlainDraft) (body : PlainBody) → GoodDraft d → is_body_within d.header.modulus body 0 ≡ true → IsWithinLimits (program_of d.header d.tables (d.phases ++ body ∷ []))
 with_phase d body g w = record {

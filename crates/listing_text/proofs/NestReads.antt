@@ -1,18 +1,21 @@
--- The lines of a phase lead from its begin to its end, whatever their texts are.
-use Rattle.std.proofs.Common.{◌≡◌, ℕ, suc, ◌+◌, ◌<◌, ◌≤◌, true, false, eqb, ltb, ◌&&◌, List, [], ◌∷◌, ◌++◌, length, Option, Some, Ok, refl, sym, ap, subst, append_assoc, arith}
+-- The lines of a phase lead from its begin to its end, and those of all phases and tables to a program, in any language.
+use Rattle.std.proofs.Common.{◌≡◌, ℕ, suc, ◌+◌, ◌<◌, ◌≤◌, true, false, eqb, ltb, ◌&&◌, List, [], ◌∷◌, ◌++◌, length, Option, Some, Ok, refl, sym, ap, subst, ◌∙◌, append_assoc, arith}
+use Rattle.std.specs.Prelude.{Bool}
+use Rattle.std.specs.List.{list_all}
 use Rattle.std.proofs.lemmas.Bool.{ltb-true, lt-ltb, eq-eqb, and_parts, and_from}
-use Rattle.std.proofs.lemmas.List.{append-nil}
+use Rattle.std.proofs.lemmas.List.{append-nil, length-append}
 use Rattle.icode.specs.Plain.{PlainStmt, PlainBody, PlainOp, Loop, NoStmts, AndStmts, body_of}
 use Rattle.icode.specs.Plain as plain
-use Rattle.icode.specs.Limits.{is_small_positive, is_stmt_within, is_body_within, is_op_within}
+use Rattle.icode.specs.Limits.{is_small_positive, is_stmt_within, is_body_within, is_op_within, are_tables_within}
 use Rattle.listing_text.specs.declared.draft.Header.{Header}
-use Rattle.listing_text.specs.Lines.{read_lines}
+use Rattle.listing_text.specs.Lines.{read_lines, valued}
 use Rattle.listing_text.specs.Reading.{above_all}
-use Rattle.listing_text.specs.Acts.{PlainAct, Open, Close, Do}
-use Rattle.listing_text.specs.Drafts.{PlainLevel, PlainDraft, may_open, act_step}
+use Rattle.listing_text.specs.Wording.{PlainAct, Open, Close, Do, Wording, stmt_lines, body_lines, tables_text, phases_text}
+use Rattle.listing_text.specs.Drafts.{PlainLevel, PlainDraft, may_open, act_step, is_empty}
+use Rattle.listing_text.specs.Progress.{between_if, begin_text}
+use Rattle.listing_text.proofs.LineReaders.{read_rest}
 use Rattle.listing_text.proofs.ReadBack.{positive_fits}
 use Rattle.listing_text.proofs.ActsBack.{IsActWithin}
-use Rattle.listing_text.proofs.NestTexts.{stmt_lines, body_lines}
 
 -- inside a phase, and between two
 abbrev pub inside : Header → List (List ℕ) → List PlainBody → List PlainLevel → List PlainStmt → PlainDraft
@@ -29,6 +32,10 @@ body_of-stmts_of : (b : PlainBody) → body_of (stmts_of b) ≡ b
 unfolding stmts_of
 body_of-stmts_of NoStmts = refl
 body_of-stmts_of (AndStmts s rest) = ap (AndStmts s) (body_of-stmts_of rest)
+
+pub some_pushed : (phases : List PlainBody) (b : PlainBody) → is_empty (phases ++ b ∷ []) ≡ false
+some_pushed [] b = refl
+some_pushed (x ∷ phases) b = refl
 
 -- the line of what may stand in a draft leads to what it makes of it
 abbrev pub LeadsOn : {T A : Type 0} → (T → List ℕ → Option T) → (T → Option A) → (PlainAct → List ℕ) → (PlainDraft → T) → Type 0
@@ -109,3 +116,97 @@ module _ {T A : Type 0} (step : T → List ℕ → Option T) (finish : T → Opt
   phase_lines_read b rest p w r =
       body_reads b [] [] (line Close ++ rest) p w (omega arith)
       (act_leads [] (stmts_of b) Close (between h tables (phases ++ b ∷ [])) rest p (omega arith) tt (ap (λ x. Some (between h tables (phases ++ x ∷ []))) (body_of-stmts_of b)) r)
+
+module _ {T A : Type 0} (step : T → List ℕ → Option T) (finish : T → Option A) (w : Wording) (state : PlainDraft → T)
+    (h : Header) (below : h.modulus ≤ above_all) where
+  AreRead : PlainDraft → List ℕ → A → Type 0
+  AreRead d text p = read_lines step finish (state d) [] text ≡ Ok p
+
+  phase_right : (between phase body end rest : List ℕ)
+      → between ++ (phase ++ body ++ end ++ rest) ≡ (between ++ phase) ++ (body ++ (end ++ rest))
+  phase_right between phase body end rest = simp append_assoc
+
+  -- how a phase begins leads into it
+  abbrev pub BeginsLead : List (List ℕ) → Type 0
+  BeginsLead tables =
+      (phases : List PlainBody) (rest : List ℕ) (p : A)
+      → read_lines step finish (state (inside h tables phases [] [])) [] rest ≡ Ok p
+      → read_lines step finish (state (between h tables phases)) [] (begin_text w h phases ++ rest) ≡ Ok p
+
+  module _ (tables : List (List ℕ)) (leads : LeadsOn step finish w.line state) (begins : BeginsLead tables) where
+    phase_reads : (phases : List PlainBody) (b : PlainBody) (rest : List ℕ) (p : A)
+        → is_body_within h.modulus b 0 ≡ true
+        → AreRead (between h tables (phases ++ b ∷ [])) rest p
+        → AreRead (between h tables phases)
+        (between_if w (is_empty phases) ++
+        (w.phase h.regs (length phases) ++ body_lines w.line 0 b ++ w.line Close ++ rest)) p
+    unfolding AreRead
+    phase_reads phases b rest p within r =
+        subst (λ t. AreRead (between h tables phases) t p)
+        (sym (phase_right (between_if w (is_empty phases)) (w.phase h.regs (length phases)) (body_lines w.line 0 b)
+        (w.line Close) rest))
+        (begins phases (body_lines w.line 0 b ++ (w.line Close ++ rest)) p
+        (phase_lines_read step finish w.line state leads h tables phases below b rest p within r))
+
+    -- all phases that are left
+    pub phases_read : (program : List PlainBody → A)
+        → ((phases : List PlainBody) → is_empty phases ≡ false
+        → finish (state (between h tables phases)) ≡ Some (program phases))
+        → (left phases : List PlainBody) → list_all (λ b. is_body_within h.modulus b 0) left ≡ true
+        → is_empty (phases ++ left) ≡ false
+        → read_lines step finish (state (between h tables phases)) []
+        (between_if w (is_empty phases) ++ phases_text w h.regs (length phases) left) ≡ Ok (program (phases ++ left))
+    unfolding AreRead
+    phases_read program ends [] phases within some =
+        let all = append-nil phases in
+        let is_some : is_empty phases ≡ false = ap is_empty (sym all) ∙ some in
+        ap (λ k. read_lines step finish (state (between h tables phases)) [] (between_if w k ++ [])) is_some
+        ∙ read_rest step finish (state (between h tables phases)) [] refl
+        ∙ ap valued (ends phases is_some) ∙ ap (λ x. Ok (program x)) (sym all)
+    phases_read program ends (b ∷ left) phases within some =
+        let limits = and_parts (is_body_within h.modulus b 0)
+        (list_all (λ b. is_body_within h.modulus b 0) left) within in
+        let more = phases ++ b ∷ [] in
+        let moved : more ++ left ≡ phases ++ b ∷ left = append_assoc phases (b ∷ []) left in
+        let counted : length more ≡ length phases + 1 = omega (arith, length-append phases (b ∷ [])) in
+        let others : AreRead (between h tables more)
+        (between_if w (is_empty more) ++ phases_text w h.regs (length more) left) (program (more ++ left)) =
+        phases_read program ends left more limits.1 (ap is_empty moved ∙ some) in
+        phase_reads phases b (phases_text w h.regs (length phases + 1) left) (program (phases ++ b ∷ left)) limits.0
+        (subst (λ n. AreRead (between h tables more) (phases_text w h.regs n left)
+        (program (phases ++ b ∷ left))) counted
+        (subst (λ x. AreRead (between h tables more) (phases_text w h.regs (length more) left) (program x)) moved
+        (subst (λ k. AreRead (between h tables more) (between_if w k ++ phases_text w h.regs (length more) left)
+        (program (more ++ left))) (some_pushed phases b) others)))
+
+  -- the line of a table that passes the test leads on
+  abbrev pub TablesLead : (List ℕ → Bool) → Type 0
+  TablesLead test =
+      (tables : List (List ℕ)) (entries rest : List ℕ) (p : A) → length tables < above_all → test entries ≡ true
+      → (ltb 0 (length entries) && list_all (λ c. ltb c h.modulus) entries) ≡ true
+      → read_lines step finish (state (between h (tables ++ entries ∷ []) [])) [] rest ≡ Ok p
+      → read_lines step finish (state (between h tables [])) [] (w.table (length tables) entries ++ rest) ≡ Ok p
+
+  -- all tables that are left
+  pub tables_read : (test : List ℕ → Bool) → TablesLead test → (left tables : List (List ℕ)) (rest : List ℕ) (p : A)
+      → length (tables ++ left) ≤ above_all → list_all test left ≡ true → are_tables_within h.modulus left ≡ true
+      → read_lines step finish (state (between h (tables ++ left) [])) [] rest ≡ Ok p
+      → read_lines step finish (state (between h tables [])) [] (tables_text w (length tables) left ++ rest) ≡ Ok p
+  unfolding AreRead
+  tables_read test leads [] tables rest p fits passed within r =
+      subst (λ x. AreRead (between h x []) rest p) (append-nil tables) r
+  tables_read test leads (entries ∷ left) tables rest p fits passed within r =
+      let limits = and_parts (ltb 0 (length entries) && list_all (λ c. ltb c h.modulus) entries)
+      (are_tables_within h.modulus left) within in
+      let tests = and_parts (test entries) (list_all test left) passed in
+      let more = tables ++ entries ∷ [] in
+      let moved : more ++ left ≡ tables ++ entries ∷ left = append_assoc tables (entries ∷ []) left in
+      let counted : length more ≡ length tables + 1 = omega (arith, length-append tables (entries ∷ [])) in
+      let others : AreRead (between h more []) (tables_text w (length tables + 1) left ++ rest) p =
+      subst (λ n. AreRead (between h more []) (tables_text w n left ++ rest) p) counted
+      (tables_read test leads left more rest p (omega (arith, fits, ap length moved)) tests.1 limits.1
+      (subst (λ x. AreRead (between h x []) rest p) (sym moved) r)) in
+      subst (λ t. AreRead (between h tables []) t p)
+      (sym (append_assoc (w.table (length tables) entries) (tables_text w (length tables + 1) left) rest))
+      (leads tables entries (tables_text w (length tables + 1) left ++ rest) p
+      (omega (arith, fits, length-append tables (entries ∷ left))) tests.0 limits.0 others)

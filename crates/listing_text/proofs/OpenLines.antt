@@ -1,14 +1,15 @@
 -- No line ends inside the text of a line.
-use Rattle.std.proofs.Common.{◌≡◌, ℕ, zero, suc, ◌+◌, ◌/◌, ◌%◌, ◌<◌, Bool, true, false, cond, eqb, List, [], ◌∷◌, ◌++◌, flat_map, codes, decimal, refl, arith}
+use Rattle.std.proofs.Common.{◌≡◌, ℕ, zero, suc, ◌+◌, ◌/◌, ◌%◌, ◌<◌, Bool, true, false, cond, eqb, List, [], ◌∷◌, ◌++◌, flat_map, codes, decimal, refl, sym, ap, subst, ◌∙◌, append_assoc, arith}
 use Rattle.std.specs.Fmt.{digits, digits_onto, digit_glyph}
 use Rattle.std.proofs.lemmas.Bool.{ne_eqb, lt-ltb}
 use Rattle.icode.specs.declared.program.Array.{Array}
 use Rattle.icode.specs.declared.program.Array.TheVariants as arrays
 use Rattle.icode.specs.Plain.{PlainExpr, PlainPart, PlainParts, PlainOp, Sum, NoParts, AndParts, Proc, Var, Product, Rem, Quot, Load, Store, Zero, Add, Sub, Neg, MulConst, MulTable, Tile}
 use Rattle.listing_text.specs.Lines.{is_open, IsLine}
-use Rattle.listing_text.specs.Listing.{sum_text, parts_text, part_text, array_text, place_text, op_text}
-use Rattle.listing_text.specs.Acts.{PlainAct, Open, Close, Do, act_text}
-use Rattle.listing_text.proofs.ActsSpelt.{line_text}
+use Rattle.listing_text.specs.declared.draft.Header.{Header}
+use Rattle.listing_text.specs.Wording.{PlainAct, Open, Close, Do}
+use Rattle.listing_text.proofs.OutsideLines.{header_line}
+use Rattle.listing_text.specs.Listing.{sum_text, parts_text, part_text, array_text, place_text, op_text, act_text, line_text}
 
 -- texts in which no line ends
 pub record IsOpen (text : List ℕ) : Type 0 where
@@ -105,9 +106,52 @@ numbers_open separator h (c ∷ entries) = h & number_open c & numbers_open sepa
 pub table_open : (number : ℕ) (entries : List ℕ) → IsLine (codes "table " ++ decimal number ++ codes " values" ++ flat_map (λ c. codes " " ++ decimal c) entries ++ codes "\n")
 table_open number entries = ends_line _ (literal (codes "table ") refl & number_open number & literal (codes " values") refl & numbers_open (codes " ") (literal (codes " ") refl) entries)
 
-pub header_open : (size modulus procs line lanes regs : ℕ)
-    → IsLine (codes "program size " ++ decimal size ++ codes " mod " ++ decimal modulus ++ codes " procs " ++ decimal procs ++ codes " line " ++ decimal line ++ codes " lanes " ++ decimal lanes ++ codes " regs " ++ decimal regs ++ codes "\n")
-header_open size modulus procs line lanes regs =
-    ends_line _
-    (literal (codes "program size ") refl & number_open size & literal (codes " mod ") refl & number_open modulus & literal (codes " procs ") refl & number_open procs & literal (codes " line ") refl & number_open line & literal (codes " lanes ") refl & number_open lanes
-    & literal (codes " regs ") refl & number_open regs)
+pub header_open : (before behind : List ℕ) (h : Header) → IsOpen before → IsOpen behind → IsLine (header_line before (behind ++ codes "\n") h)
+header_open before behind h first last =
+    subst IsLine (append_assoc _ behind (codes "\n"))
+    (ends_line _
+    (first & number_open h.size & literal (codes " mod ") refl & number_open h.modulus & literal (codes " procs ") refl & number_open h.procs & literal (codes " line ") refl & number_open h.line & literal (codes " lanes ") refl & number_open h.lanes
+    & literal (codes " regs ") refl & number_open h.regs & last))
+
+-- ---- texts of whole lines
+
+abbrev pub joined : List (List ℕ) → List ℕ
+joined [] = []
+joined (line ∷ lines) = line ++ joined lines
+
+abbrev pub AreLines : List (List ℕ) → Type 0
+AreLines [] = Unit {0}
+AreLines (line ∷ lines) = IsLine line × AreLines lines
+
+-- the text is these lines, or none
+pub record HasLines (text : List ℕ) : Type 0 where
+  pub lines : List (List ℕ)
+  pub whole : text ≡ joined lines
+  pub are : AreLines lines
+
+-- the text is this line and others
+pub record HasFirst (text : List ℕ) : Type 0 where
+  pub first : List ℕ
+  pub others : List (List ℕ)
+  pub whole : text ≡ first ++ joined others
+  pub is : IsLine first
+  pub are : AreLines others
+
+joined-append : (xs ys : List (List ℕ)) → joined (xs ++ ys) ≡ joined xs ++ joined ys
+joined-append [] ys = refl
+joined-append (x ∷ xs) ys = ap (λ y. x ++ y) (joined-append xs ys) ∙ sym (append_assoc x (joined xs) (joined ys))
+
+are-append : (xs ys : List (List ℕ)) → AreLines xs → AreLines ys → AreLines (xs ++ ys)
+are-append [] ys a b = b
+are-append (x ∷ xs) ys a b = (a.0, are-append xs ys a.1 b)
+
+-- one text behind another
+pub first_behind : (text more : List ℕ) → HasFirst text → HasFirst more → HasFirst (text ++ more)
+first_behind text more h k = record {
+  first = h.first;
+  others = h.others ++ k.first ∷ k.others;
+  whole = ap (λ y. y ++ more) h.whole ∙ append_assoc h.first (joined h.others) more
+      ∙ ap (λ y. h.first ++ y) (ap (λ y. joined h.others ++ y) k.whole ∙ sym (joined-append h.others (k.first ∷ k.others)));
+  is = h.is;
+  are = are-append h.others (k.first ∷ k.others) h.are (k.is, k.are);
+}

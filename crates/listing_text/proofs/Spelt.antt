@@ -1,5 +1,5 @@
 -- What is read of a place stands in the text.
-use Rattle.std.proofs.Common.{◌≡◌, ℕ, zero, suc, ◌≤◌, Bool, true, false, List, [], ◌∷◌, ◌++◌, codes, decimal, Option, Some, None, Result, Ok, Err, refl, sym, ap, subst, ◌∙◌, append_assoc, arith, inl, inr}
+use Rattle.std.proofs.Common.{◌≡◌, ℕ, zero, suc, ◌<◌, ◌≤◌, Bool, true, false, List, [], ◌∷◌, ◌++◌, codes, decimal, Option, Some, None, Result, Ok, Err, refl, sym, ap, subst, ◌∙◌, append_assoc, arith, inl, inr}
 use Rattle.icode.specs.Plain.{PlainExpr, PlainPart, parts_of}
 use Rattle.icode.specs.Limits.{sum_depth, parts_depth, part_depth}
 use Rattle.grammar.specs.Grammar.{word, one_of, number, named_number}
@@ -41,11 +41,15 @@ pub number_then : {B : Type 0} (fits : B → Type 0) (text : B → List ℕ) (st
 number_then fits text start place next k =
     reader_cases NoDigit (number above_all) fits text start place (number_at above_all place) next ((number_reader above_all (omega arith) (omega arith)).each place) (λ x q t e l. k x q (e ∙ ap (λ y. y ++ q.rest) l.1))
 
+pub named_below_then : {B : Type 0} (fits : B → Type 0) (text : B → List ℕ) (start : List ℕ) (w : List ℕ) (place : Place ℕ) (next : ℕ → Place ℕ → Result (B × Place ℕ) ℕ)
+    → ((n : ℕ) (q : Place ℕ) → n < above_all → place.rest ≡ w ++ (decimal n ++ q.rest) → Spelt fits text start (next n q)) → Spelt fits text start (and_then (named_number_at w above_all place) next)
+named_below_then fits text start w place next k =
+    reader_cases NoDigit (named_number w above_all) fits text start place (named_number_at w above_all place) next ((named_number_reader w above_all (omega arith) (omega arith)).each place)
+    (λ x q t e l. k x q l.ends.0 (e ∙ ap (λ y. y ++ q.rest) (l.whole ∙ ap (λ y. y ++ l.rest) l.begins ∙ ap (λ y. w ++ y) l.ends.1) ∙ append_assoc w (decimal x) q.rest))
+
 pub named_then : {B : Type 0} (fits : B → Type 0) (text : B → List ℕ) (start : List ℕ) (w : List ℕ) (place : Place ℕ) (next : ℕ → Place ℕ → Result (B × Place ℕ) ℕ)
     → ((n : ℕ) (q : Place ℕ) → place.rest ≡ w ++ (decimal n ++ q.rest) → Spelt fits text start (next n q)) → Spelt fits text start (and_then (named_number_at w above_all place) next)
-named_then fits text start w place next k =
-    reader_cases NoDigit (named_number w above_all) fits text start place (named_number_at w above_all place) next ((named_number_reader w above_all (omega arith) (omega arith)).each place)
-    (λ x q t e l. k x q (e ∙ ap (λ y. y ++ q.rest) (l.whole ∙ ap (λ y. y ++ l.rest) l.begins ∙ ap (λ y. w ++ y) l.ends.1) ∙ append_assoc w (decimal x) q.rest))
+named_then fits text start w place next k = named_below_then fits text start w place next (λ n q below e. k n q e)
 
 -- ---- one of several words
 

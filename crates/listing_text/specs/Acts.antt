@@ -1,5 +1,5 @@
 -- The lines of a phase, and reading them.
-use Rattle.std.specs.Prelude.{ℕ, ◌≤◌, List, [], ◌∷◌, ◌++◌, Bool, true, false, codes, decimal, Result}
+use Rattle.std.specs.Prelude.{ℕ, ◌≤◌, List, [], ◌∷◌, Bool, true, false, codes, Result}
 use Rattle.icode.specs.declared.program.Array.{Array}
 use Rattle.icode.specs.declared.program.Array.TheVariants as arrays
 use Rattle.icode.specs.Plain.{PlainOp, Load, Store, Zero, Add, Sub, Neg, MulConst, MulTable, Tile, plain_op}
@@ -9,24 +9,13 @@ use Rattle.listing_text.specs.declared.acts.Word.{Word}
 use Rattle.listing_text.specs.declared.acts.Word.TheVariants as words
 use Rattle.listing_text.specs.declared.acts.Act.{Act}
 use Rattle.listing_text.specs.declared.acts.Act.TheVariants as acts
-use Rattle.listing_text.specs.Listing.{op_text}
 use Rattle.listing_text.specs.Reading.{above_all, sum_at}
-
--- a line of a phase: a loop's begin, an end, or an operation
-pub data PlainAct : Type 0 where
-  Open : (depth count : ℕ) → PlainAct
-  Close : PlainAct
-  Do : (op : PlainOp) → PlainAct
+use Rattle.listing_text.specs.Wording.{PlainAct, Open, Close, Do}
 
 abbrev pub plain_act : Act → PlainAct
 plain_act (acts.Open depth count) = Open depth count
 plain_act acts.Close = Close
 plain_act (acts.Do op) = Do (plain_op op)
-
-abbrev pub act_text : PlainAct → List ℕ
-act_text (Open depth count) = codes "for v" ++ decimal depth ++ codes " " ++ decimal count
-act_text Close = codes "end"
-act_text (Do op) = op_text op
 
 abbrev pub act_words : List (List ℕ × Word)
 act_words =

@@ -1,32 +1,33 @@
--- A program as it is read, line by line.
-use Rattle.std.specs.Prelude.{◌≡◌, ℕ, ◌-◌, ◌^◌, List, [], ◌∷◌, ◌++◌, length, reverse, map, Bool, true, false, ◌&&◌, ◌||◌, ◌==◌, nat_lt, nat_le, codes, Option, Some, None, Result, Ok, Err, if◌then◌else◌}
+-- A program as it is read, line by line, and the lines of a listing outside of phases.
+use Rattle.std.specs.Prelude.{◌≡◌, ℕ, ◌-◌, ◌^◌, List, [], ◌∷◌, ◌++◌, length, reverse, map, Bool, true, false, ◌&&◌, ◌==◌, nat_lt, nat_le, codes, Option, Some, None, Result, Ok, Err, if◌then◌else◌}
 use Rattle.std.specs.List.{list_all}
-use Rattle.icode.specs.Plain.{PlainStmt, PlainBody, PlainProgram, Loop, body_of, plain_stmt, plain_tables, plain_phases}
+use Rattle.icode.specs.Plain.{PlainStmt, PlainBody, Loop, body_of, plain_stmt, plain_tables, plain_phases}
 use Rattle.icode.specs.Plain as plain
 use Rattle.icode.specs.Limits.{is_small_positive, is_op_within}
 use Rattle.grammar.specs.declared.token.ReadError.{ReadError}
 use Rattle.grammar.specs.declared.token.ReadError.TheVariants as errors
-use Rattle.grammar.specs.Reading.{Place, ◌>>=◌, pure_at, word_at, one_of_at, number_at, named_number_at, numbers_at, whole}
+use Rattle.grammar.specs.Reading.{Place, ◌>>=◌, pure_at, word_at, named_number_at, numbers_at}
 use Rattle.listing_text.specs.declared.draft.Header.{Header}
 use Rattle.listing_text.specs.declared.draft.Level.{Level}
 use Rattle.listing_text.specs.declared.draft.Draft.{Draft}
 use Rattle.listing_text.specs.declared.drafts.Refusal.{Refusal}
 use Rattle.listing_text.specs.declared.drafts.Refusal.TheVariants as refusals
 use Rattle.listing_text.specs.Reading.{above_all}
-use Rattle.listing_text.specs.Acts.{PlainAct, Open, Close, Do, act_line_at}
+use Rattle.listing_text.specs.Wording.{PlainAct, Open, Close, Do}
 use Rattle.operators.specs.Sizes.{max_size}
 
 -- ---- the lines outside of phases
 
-abbrev pub header_at : Place ℕ → Result (Header × Place ℕ) ℕ
-header_at = do
-  size ← named_number_at (codes "program size ") above_all
+-- the numbers of a header, the first behind this word and the last before that one
+abbrev pub header_at : List ℕ → List ℕ → Place ℕ → Result (Header × Place ℕ) ℕ
+header_at before behind = do
+  size ← named_number_at before above_all
   modulus ← named_number_at (codes " mod ") above_all
   procs ← named_number_at (codes " procs ") above_all
   line ← named_number_at (codes " line ") above_all
   lanes ← named_number_at (codes " lanes ") above_all
   regs ← named_number_at (codes " regs ") above_all
-  _ ← word_at (codes "\n")
+  _ ← word_at behind
   pure_at record { size = size; modulus = modulus; procs = procs; line = line; lanes = lanes; regs = regs }
 
 abbrev pub is_between : ℕ → ℕ → ℕ → Bool
@@ -36,23 +37,14 @@ abbrev pub is_header_within : Header → Bool
 is_header_within h =
     is_between 1 max_size h.size && (is_between 2 (2 ^ 62 - 1) h.modulus && (is_between 1 16 h.procs && (is_between 1 64 h.line && (is_between 1 16 h.lanes && nat_lt h.regs (2 ^ 20)))))
 
-abbrev pub outside_words : List (List ℕ × Bool)
-outside_words = (codes "phase\n", true) ∷ (codes "table ", false) ∷ []
-
--- the line that begins a phase, or a table's number and its entries, of which there are up to so many more than one
-abbrev pub outside_by : ℕ → Bool → Place ℕ → Result (Option (ℕ × List ℕ) × Place ℕ) ℕ
-outside_by count true = pure_at None
-outside_by count false = do
-  number ← number_at above_all
+-- a table's number and its entries, of which there are up to so many more than one
+abbrev pub table_at : ℕ → Place ℕ → Result ((ℕ × List ℕ) × Place ℕ) ℕ
+table_at most = do
+  number ← named_number_at (codes "table ") above_all
   _ ← word_at (codes " values ")
-  entries ← numbers_at (codes " ") above_all count
+  entries ← numbers_at (codes " ") above_all most
   _ ← word_at (codes "\n")
-  pure_at (Some (number, entries))
-
-abbrev pub outside_at : ℕ → Place ℕ → Result (Option (ℕ × List ℕ) × Place ℕ) ℕ
-outside_at count = do
-  is_phase ← one_of_at outside_words
-  outside_by count is_phase
+  pure_at (number, entries)
 
 -- ---- what was read so far
 
@@ -82,9 +74,6 @@ plain_draft d = record {
   open_loops = reverse (map plain_level d.open_loops.items);
   body = map plain_stmt d.body.items;
 }
-
-abbrev pub program_of : Header → List (List ℕ) → List PlainBody → PlainProgram
-program_of h tables phases = record { size = h.size; modulus = h.modulus; procs = h.procs; line = h.line; lanes = h.lanes; regs = h.regs; tables = tables; phases = phases }
 
 -- ---- one line more
 
@@ -136,31 +125,8 @@ table_step d table =
 abbrev pub entered : PlainDraft → PlainDraft
 entered d = record { header = d.header; tables = d.tables; phases = d.phases; is_inside = true; open_loops = []; body = [] }
 
-abbrev pub outside_step : PlainDraft → Option (ℕ × List ℕ) → Option PlainDraft
-outside_step d None = Some (entered d)
-outside_step d (Some table) = table_step d table
-
-abbrev pub draft_step : PlainDraft → List ℕ → Option PlainDraft
-draft_step d line = if d.is_inside then read_step (act_step d) (whole act_line_at line) else read_step (outside_step d) (whole (outside_at (length line)) line)
-
 abbrev pub header_step : Header → Option PlainDraft
 header_step h = if is_header_within h then Some (blank h) else None
-
--- ---- all lines
-
-abbrev pub kept : {A : Type 0} → Option A → Option (Option A)
-kept None = None
-kept (Some d) = Some (Some d)
-
--- the first line is the header
-abbrev pub step : Option PlainDraft → List ℕ → Option (Option PlainDraft)
-step None line = kept (read_step header_step (whole header_at line))
-step (Some d) line = kept (draft_step d line)
-
--- a whole program has a phase, and ends behind one
-abbrev pub finish : Option PlainDraft → Option PlainProgram
-finish None = None
-finish (Some d) = if d.is_inside || is_empty d.phases then None else Some (program_of d.header d.tables d.phases)
 
 -- ---- what calls answer
 
@@ -169,10 +135,6 @@ abbrev pub Makes : Result Draft Refusal → Option PlainDraft → Type 0
 Makes (Ok d) step = step ≡ Some (plain_draft d)
 Makes (Err refusals.Line) step = step ≡ None
 Makes (Err refusals.NoMemory) step = Unit {0}
-
-abbrev pub plain_draft_or_none : Option Draft → Option PlainDraft
-plain_draft_or_none None = None
-plain_draft_or_none (Some d) = Some (plain_draft d)
 
 abbrev pub refusal_of : ReadError → Refusal
 refusal_of (errors.Stuck stuck) = refusals.Line

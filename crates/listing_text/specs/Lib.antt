@@ -1,9 +1,12 @@
+pub mod Wording
 pub mod Listing
 pub mod Nests
 pub mod Lines
 pub mod Reading
 pub mod Acts
 pub mod Drafts
+pub mod Progress
+pub mod ListingGrammar
 pub mod Texts
 pub mod Reads
 pub mod Numbers

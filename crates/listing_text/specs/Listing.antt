@@ -1,24 +1,39 @@
 -- The listing of a program.
-use Rattle.std.specs.Prelude.{ℕ, ◌+◌, List, [], ◌∷◌, ◌++◌, codes, decimal, flat_map}
+use Rattle.std.specs.Prelude.{ℕ, List, [], ◌++◌, codes, decimal, flat_map}
 use Rattle.icode.specs.declared.program.Array.{Array}
 use Rattle.icode.specs.declared.program.Array.TheVariants as arrays
-use Rattle.icode.specs.Plain.{PlainExpr, PlainParts, PlainPart, PlainOp, PlainStmt, PlainBody, PlainProgram, Sum, NoParts, AndParts, Proc, Var, Product, Rem, Quot, Load, Store, Zero, Add, Sub, Neg, MulConst, MulTable, Tile, Loop, Do, NoStmts, AndStmts}
+use Rattle.icode.specs.Plain.{PlainExpr, PlainParts, PlainPart, PlainOp, PlainProgram, Sum, NoParts, AndParts, Proc, Var, Product, Rem, Quot, Load, Store, Zero, Add, Sub, Neg, MulConst, MulTable, Tile}
+use Rattle.listing_text.specs.declared.draft.Header.{Header}
+use Rattle.listing_text.specs.Wording.{PlainAct, Open, Close, Do, Wording, text_of}
 
--- a place: its constant and its parts
+-- a place: its constant and its parts, with a mark behind each constant
 abbrev mutual
-  pub sum_text : PlainExpr → List ℕ
-  sum_text (Sum constant parts) = decimal constant ++ parts_text parts
+  pub sum_with : List ℕ → PlainExpr → List ℕ
+  sum_with mark (Sum constant parts) = decimal constant ++ (mark ++ parts_with mark parts)
 
-  pub parts_text : PlainParts → List ℕ
-  parts_text NoParts = []
-  parts_text (AndParts part rest) = part_text part ++ parts_text rest
+  pub parts_with : List ℕ → PlainParts → List ℕ
+  parts_with mark NoParts = []
+  parts_with mark (AndParts part rest) = part_with mark part ++ parts_with mark rest
 
-  pub part_text : PlainPart → List ℕ
-  part_text (Proc factor) = codes "+q*" ++ decimal factor
-  part_text (Var depth factor) = codes "+v" ++ decimal depth ++ codes "*" ++ decimal factor
-  part_text (Product outer inner factor) = codes "+v" ++ decimal outer ++ codes "*v" ++ decimal inner ++ codes "*" ++ decimal factor
-  part_text (Rem of divisor factor) = codes "+(" ++ sum_text of ++ codes ")%" ++ decimal divisor ++ codes "*" ++ decimal factor
-  part_text (Quot of divisor factor) = codes "+(" ++ sum_text of ++ codes ")/" ++ decimal divisor ++ codes "*" ++ decimal factor
+  pub part_with : List ℕ → PlainPart → List ℕ
+  part_with mark (Proc factor) = codes "+q*" ++ decimal factor
+  part_with mark (Var depth factor) = codes "+v" ++ decimal depth ++ codes "*" ++ decimal factor
+  part_with mark (Product outer inner factor) =
+      codes "+v" ++ decimal outer ++ codes "*v" ++ decimal inner ++ codes "*" ++ decimal factor
+  part_with mark (Rem of divisor factor) =
+      codes "+(" ++ sum_with mark of ++ codes ")%" ++ decimal divisor ++ codes "*" ++ decimal factor
+  part_with mark (Quot of divisor factor) =
+      codes "+(" ++ sum_with mark of ++ codes ")/" ++ decimal divisor ++ codes "*" ++ decimal factor
+
+-- in a listing there is none
+abbrev pub sum_text : PlainExpr → List ℕ
+sum_text place = sum_with [] place
+
+abbrev pub parts_text : PlainParts → List ℕ
+parts_text parts = parts_with [] parts
+
+abbrev pub part_text : PlainPart → List ℕ
+part_text part = part_with [] part
 
 abbrev pub array_text : Array → List ℕ
 array_text arrays.X = codes "X"
@@ -41,19 +56,19 @@ op_text (MulTable register source table place step) =
     codes "mul r" ++ decimal register ++ codes " r" ++ decimal source ++ codes " t" ++ decimal table ++ codes "[" ++ sum_text place ++ codes "] step " ++ decimal step
 op_text (Tile register source) = codes "tile r" ++ decimal register ++ codes " r" ++ decimal source
 
--- statements inside so many loops
-abbrev mutual
-  pub stmt_text : ℕ → PlainStmt → List ℕ
-  stmt_text depth (Loop count body) = codes "for v" ++ decimal depth ++ codes " " ++ decimal count ++ codes "\n" ++ body_text (depth + 1) body ++ codes "end\n"
-  stmt_text depth (Do op) = op_text op ++ codes "\n"
+abbrev pub header_text : Header → List ℕ
+header_text h =
+    codes "program size " ++ decimal h.size ++ codes " mod " ++ decimal h.modulus ++ codes " procs " ++ decimal h.procs
+    ++ codes " line " ++ decimal h.line ++ codes " lanes " ++ decimal h.lanes ++ codes " regs " ++ decimal h.regs
 
-  pub body_text : ℕ → PlainBody → List ℕ
-  body_text depth NoStmts = []
-  body_text depth (AndStmts stmt rest) = stmt_text depth stmt ++ body_text depth rest
+-- a line of a phase, without its end and with it
+abbrev pub act_text : PlainAct → List ℕ
+act_text (Open depth count) = codes "for v" ++ decimal depth ++ codes " " ++ decimal count
+act_text Close = codes "end"
+act_text (Do op) = op_text op
 
-abbrev pub header_text : PlainProgram → List ℕ
-header_text p =
-    codes "program size " ++ decimal p.size ++ codes " mod " ++ decimal p.modulus ++ codes " procs " ++ decimal p.procs ++ codes " line " ++ decimal p.line ++ codes " lanes " ++ decimal p.lanes ++ codes " regs " ++ decimal p.regs
+abbrev pub line_text : PlainAct → List ℕ
+line_text act = act_text act ++ codes "\n"
 
 abbrev pub values_text : List ℕ → List ℕ
 values_text entries = flat_map (λ c. codes " " ++ decimal c) entries
@@ -61,13 +76,15 @@ values_text entries = flat_map (λ c. codes " " ++ decimal c) entries
 abbrev pub table_text : ℕ → List ℕ → List ℕ
 table_text number entries = codes "table " ++ decimal number ++ codes " values" ++ values_text entries ++ codes "\n"
 
--- the tables from this number on
-abbrev pub tables_text : ℕ → List (List ℕ) → List ℕ
-tables_text number [] = []
-tables_text number (entries ∷ tables) = table_text number entries ++ tables_text (number + 1) tables
-
-abbrev pub phase_text : PlainBody → List ℕ
-phase_text body = codes "phase\n" ++ body_text 0 body ++ codes "end\n"
+abbrev pub listing_wording : Wording
+listing_wording = record {
+  header = λ h. header_text h ++ codes "\n";
+  front = λ h. [];
+  table = table_text;
+  between = [];
+  phase = λ regs number. codes "phase\n";
+  line = line_text;
+}
 
 abbrev pub listing_of : PlainProgram → List ℕ
-listing_of p = header_text p ++ codes "\n" ++ tables_text 0 p.tables ++ flat_map phase_text p.phases
+listing_of p = text_of listing_wording p

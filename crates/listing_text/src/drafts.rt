@@ -1,18 +1,16 @@
 //! A program as it is read, line by line.
 
-ghost use Rattle.std.specs.Prelude.{◌≡◌, ◌≤◌, ◌&&◌, length, nat_lt, false, None, Some, IfOk};
-ghost use Rattle.std.specs.Option.{option_map};
+ghost use Rattle.std.specs.Prelude.{◌≡◌, ◌≤◌, ◌&&◌, length, nat_lt, false};
 ghost use Rattle.std.specs.List.{list_all};
 ghost use Rattle.grammar.specs.Cursor.{Gives, GivesAll, Tells, TellsAll};
-ghost use Rattle.grammar.specs.Reading.{one_of_at, whole};
-ghost use Rattle.grammar.specs.declared.token.ReadError.TheVariants as read_errors;
+ghost use Rattle.grammar.specs.Reading.{whole};
 ghost use Rattle.icode.specs.Plain.{plain_op, plain_phases};
 ghost use Rattle.listing_text.specs.Acts.{plain_act, ActFits, OpFits};
-ghost use Rattle.listing_text.specs.Acts as plain;
-ghost use Rattle.listing_text.specs.Drafts.{header_at, is_between, is_header_within, outside_words, outside_by, outside_at, plain_draft, may_open, act_step, is_empty, may_hold, table_step, outside_step, draft_step, header_step, read_step, Makes, refusal_of};
+ghost use Rattle.listing_text.specs.Drafts.{header_at, table_at, is_between, is_header_within, plain_draft, may_open, act_step, is_empty, may_hold, table_step, entered, header_step, Makes, refusal_of};
+ghost use Rattle.listing_text.specs.Wording as plain;
 ghost use Rattle.listing_text.specs.declared.drafts.Refusal.TheVariants as refusals;
 
-use crate::acts::{Act, read_act};
+use crate::acts::Act;
 use crate::draft::{Draft, Header, Level};
 use crate::limits::{is_op_within, is_small_positive};
 use grammar::{Cursor, ReadError, Stuck};
@@ -63,16 +61,16 @@ impl<T: Drop> From<AllocFailed<T>> for Refusal {
     }
 }
 
-fn header_of(cursor: &mut Cursor) -> Result<Header, Stuck>
-    ensures { Gives result cursor.new (header_at cursor.old) }
+fn header_of(cursor: &mut Cursor, before: &[u8], behind: &[u8]) -> Result<Header, Stuck>
+    ensures { Gives result cursor.new (header_at before.now behind.now cursor.old) }
 {
-    let size = cursor.named_number(b"program size ", u64::MAX)?;
+    let size = cursor.named_number(before, u64::MAX)?;
     let modulus = cursor.named_number(b" mod ", u64::MAX)?;
     let procs = cursor.named_number(b" procs ", u64::MAX)?;
     let line = cursor.named_number(b" line ", u64::MAX)?;
     let lanes = cursor.named_number(b" lanes ", u64::MAX)?;
     let regs = cursor.named_number(b" regs ", u64::MAX)?;
-    cursor.word(b"\n")?;
+    cursor.word(behind)?;
     Ok(Header {
         size,
         modulus,
@@ -83,11 +81,12 @@ fn header_of(cursor: &mut Cursor) -> Result<Header, Stuck>
     })
 }
 
-fn read_header(line: &[u8]) -> Result<Header, Stuck>
-    ensures { GivesAll result (whole header_at line.now) }
+/// The numbers in a first line, behind the one word and before the other. Their limits are not tested.
+pub fn read_header(line: &[u8], before: &[u8], behind: &[u8]) -> Result<Header, Stuck>
+    ensures { GivesAll result (whole (header_at before.now behind.now) line.now) }
 {
     let mut cursor = Cursor::new(line);
-    let header = header_of(&mut cursor)?;
+    let header = header_of(&mut cursor, before, behind)?;
     cursor.end()?;
     Ok(header)
 }
@@ -125,60 +124,26 @@ pub fn blank(alloc: Global, header: Header) -> Result<Draft, Refusal>
     })
 }
 
-/// What the first line says.
-pub fn begun(alloc: Global, line: &[u8]) -> Result<Draft, Refusal>
-    ensures { Makes result (read_step header_step (whole header_at line.now)) }
+fn table_of(alloc: Global, cursor: &mut Cursor, most: u64) -> Result<(u64, Vec<u64>), ReadError>
+    ensures { Tells (λ table. (table.0, table.1.items)) result cursor.new
+        (table_at most cursor.old) }
 {
-    let header = read_header(line)?;
-    blank(alloc, header)
-}
-
-// The line begins a phase.
-fn is_phase(cursor: &mut Cursor) -> Result<bool, Stuck>
-    ensures { Gives result cursor.new (one_of_at outside_words cursor.old) }
-{
-    cursor.one_of(&[(b"phase\n", true), (b"table ", false)])
-}
-
-fn table_of(
-    alloc: Global,
-    cursor: &mut Cursor,
-    most: u64,
-) -> Result<Option<(u64, Vec<u64>)>, ReadError>
-    ensures { Tells (λ table. option_map (λ t. (t.0, t.1.items)) table) result cursor.new
-        (outside_by most false cursor.old) }
-{
-    let number = cursor.number(u64::MAX)?;
+    let number = cursor.named_number(b"table ", u64::MAX)?;
     cursor.word(b" values ")?;
     let entries = cursor.numbers(alloc, b" ", u64::MAX, most)?;
     cursor.word(b"\n")?;
-    Ok(Some((number, entries)))
+    Ok((number, entries))
 }
 
-fn outside_of(
-    alloc: Global,
-    cursor: &mut Cursor,
-    most: u64,
-) -> Result<Option<(u64, Vec<u64>)>, ReadError>
-    ensures { Tells (λ table. option_map (λ t. (t.0, t.1.items)) table) result cursor.new
-        (outside_at most cursor.old) }
-{
-    let is_phase = is_phase(cursor)?;
-    if is_phase {
-        return Ok(None);
-    }
-    table_of(alloc, cursor, most)
-}
-
-// A line outside of phases: a table's number and its entries, or the begin of a phase.
-fn read_outside(alloc: Global, line: &[u8]) -> Result<Option<(u64, Vec<u64>)>, ReadError>
-    ensures { TellsAll (λ table. option_map (λ t. (t.0, t.1.items)) table) result
-        (whole (outside_at (length line.now)) line.now) }
+/// The number and the entries of a listing's table.
+pub fn read_table(alloc: Global, line: &[u8]) -> Result<(u64, Vec<u64>), ReadError>
+    ensures { TellsAll (λ table. (table.0, table.1.items)) result
+        (whole (table_at (length line.now)) line.now) }
 {
     let mut cursor = Cursor::new(line);
-    let outside = outside_of(alloc, &mut cursor, line.len() as u64)?;
+    let table = table_of(alloc, &mut cursor, line.len() as u64)?;
     cursor.end()?;
-    Ok(outside)
+    Ok(table)
 }
 
 // The same number of loops are open, and one more may be.
@@ -275,7 +240,8 @@ pub fn with_act(alloc: Global, draft: Draft, act: Act) -> Result<Draft, Refusal>
     }
 }
 
-fn has_none(phases: &[Vec<Stmt>]) -> bool
+/// There are no phases.
+pub fn has_none(phases: &[Vec<Stmt>]) -> bool
     ensures { result ≡ is_empty (plain_phases phases.now) }
 {
     match phases {
@@ -324,7 +290,7 @@ pub fn with_table(
 
 /// What was read, with the begin of one phase more.
 pub fn entered(alloc: Global, draft: Draft) -> Draft
-    ensures { outside_step (plain_draft draft) None ≡ Some (plain_draft result) }
+    ensures { plain_draft result ≡ entered (plain_draft draft) }
 {
     Draft {
         header: draft.header,
@@ -333,19 +299,5 @@ pub fn entered(alloc: Global, draft: Draft) -> Draft
         is_inside: true,
         open_loops: Vec::new(alloc),
         body: Vec::new(alloc),
-    }
-}
-
-/// What was read with one line more.
-pub fn with_line(alloc: Global, draft: Draft, line: &[u8]) -> Result<Draft, Refusal>
-    ensures { Makes result (draft_step (plain_draft draft) line.now) }
-{
-    if draft.is_inside {
-        let act = read_act(alloc, line)?;
-        return with_act(alloc, draft, act);
-    }
-    match read_outside(alloc, line)? {
-        None => Ok(entered(alloc, draft)),
-        Some((number, entries)) => with_table(alloc, draft, number, entries),
     }
 }

@@ -1,52 +1,37 @@
-ghost use Rattle.std.specs.Prelude.{◌≡◌, ◌++◌, ◌≤◌, ℕ, IsTrue, IfOk, OnOk, codes, decimal, flat_map, map};
-ghost use Rattle.std.specs.List.{list_all};
-ghost use Rattle.icode.specs.Plain.{Load, Store, MulConst, MulTable, plain_expr, plain_part, plain_op, plain_stmt, plain_body, plain_tables, plain_phases};
-ghost use Rattle.listing_text.specs.Listing.{sum_text, part_text, array_text, op_text, stmt_text, body_text, values_text, table_text, tables_text, phase_text, header_text, listing_of};
+ghost use Rattle.std.specs.Prelude.{◌≡◌, ◌++◌, ℕ, IfOk, OnOk, codes, decimal};
+ghost use Rattle.icode.specs.Plain.{Load, Store, MulConst, MulTable, plain_expr, plain_part, plain_op};
+ghost use Rattle.listing_text.specs.Listing.{sum_text, sum_with, part_with, array_text, op_text, header_text, listing_wording, listing_of};
 ghost use Rattle.icode.specs.Program.{plain_program};
 ghost use Rattle.listing_text.specs.Texts.{is_listing};
-ghost use Rattle.listing_text.specs.Nests.{is_nest_within, are_nests_within};
-ghost use Rattle.listing_text.specs.Numbers.{numbers_behind};
+ghost use Rattle.listing_text.specs.ListingGrammar.{listing_grammar};
 
-use icode::program::{Array, Expr, Op, Part, Program, Stmt};
-use itoa::Buffer;
+use crate::acts::{Act, read_act};
+use crate::draft::Header;
+use crate::drafts::{read_header, read_table};
+use crate::language::{Language, print};
+use crate::pieces::{put, put_numbered, put_numbers};
+use grammar::{ReadError, Stuck};
+use icode::program::{Array, Expr, Op, Part, Program};
 use memory::NoMemory;
 use std::alloc::{AllocError, Global};
 
-/// Writes a word and a number behind it.
-pub fn put(out: &mut Vec<u8>, word: &[u8], number: u64) -> Result<(), AllocError>
-    ensures { OnOk result (out.new.items ≡ out.old.items ++ word.now ++ decimal number) }
-{
-    let mut buffer = Buffer::new();
-    out.extend_from_slice(word)?;
-    out.extend_from_slice(buffer.format(number).as_bytes())
-}
-
-/// Writes words, each with a number behind it.
-pub fn put_numbers(out: &mut Vec<u8>, numbers: &[(&[u8], u64)]) -> Result<(), AllocError>
+/// Writes a place, with a mark behind each constant.
+#[cycle(printing)]
+pub fn put_sum(out: &mut Vec<u8>, place: &Expr, mark: &[u8]) -> Result<(), AllocError>
     ensures { OnOk result (out.new.items
-        ≡ numbers_behind out.old.items (map (λ p. (p.0.now, p.1)) numbers.now)) }
+        ≡ out.old.items ++ sum_with mark.now (plain_expr place.now)) }
 {
-    for (word, number) in numbers {
-        put(out, word, *number)?;
-    }
-    Ok(())
-}
-
-/// Writes a place.
-#[cycle(printing)]
-pub fn put_expr(out: &mut Vec<u8>, place: &Expr) -> Result<(), AllocError>
-    ensures { OnOk result (out.new.items ≡ out.old.items ++ sum_text (plain_expr place.now)) }
-{
-    put(out, b"", place.constant)?;
+    put_numbered(out, b"", place.constant, mark)?;
     for part in &place.parts {
-        put_part(out, part)?;
+        put_part(out, part, mark)?;
     }
     Ok(())
 }
 
 #[cycle(printing)]
-fn put_part(out: &mut Vec<u8>, part: &Part) -> Result<(), AllocError>
-    ensures { OnOk result (out.new.items ≡ out.old.items ++ part_text (plain_part part.now)) }
+fn put_part(out: &mut Vec<u8>, part: &Part, mark: &[u8]) -> Result<(), AllocError>
+    ensures { OnOk result (out.new.items
+        ≡ out.old.items ++ part_with mark.now (plain_part part.now)) }
 {
     match part {
         Part::Proc { factor } => put(out, b"+q*", *factor),
@@ -65,7 +50,7 @@ fn put_part(out: &mut Vec<u8>, part: &Part) -> Result<(), AllocError>
             factor,
         } => {
             out.extend_from_slice(b"+(")?;
-            put_expr(out, of)?;
+            put_sum(out, of, mark)?;
             put(out, b")%", *divisor)?;
             put(out, b"*", *factor)
         }
@@ -75,11 +60,18 @@ fn put_part(out: &mut Vec<u8>, part: &Part) -> Result<(), AllocError>
             factor,
         } => {
             out.extend_from_slice(b"+(")?;
-            put_expr(out, of)?;
+            put_sum(out, of, mark)?;
             put(out, b")/", *divisor)?;
             put(out, b"*", *factor)
         }
     }
+}
+
+/// Writes a place.
+pub fn put_expr(out: &mut Vec<u8>, place: &Expr) -> Result<(), AllocError>
+    ensures { OnOk result (out.new.items ≡ out.old.items ++ sum_text (plain_expr place.now)) }
+{
+    put_sum(out, place, b"")
 }
 
 /// Writes the letter of an array.
@@ -224,99 +216,84 @@ fn put_op(out: &mut Vec<u8>, op: &Op) -> Result<(), AllocError>
     }
 }
 
-// A statement inside so many loops.
-fn put_stmt(out: &mut Vec<u8>, stmt: &Stmt, depth: u64) -> Result<(), AllocError>
-    requires { IsTrue (is_nest_within (plain_stmt stmt.now) depth) }
-    ensures { OnOk result (out.new.items ≡ out.old.items ++ stmt_text depth (plain_stmt stmt.now)) }
-{
-    match stmt {
-        Stmt::Loop { count, body } => {
-            put(out, b"for v", depth)?;
-            put(out, b" ", *count)?;
-            out.extend_from_slice(b"\n")?;
-            for inner in body {
-                put_stmt(out, inner, depth + 1)?;
-            }
-            out.extend_from_slice(b"end\n")
-        }
-        Stmt::Do(op) => {
-            put_op(out, op)?;
-            out.extend_from_slice(b"\n")
-        }
-    }
-}
-
 /// Writes the header, without its line's end.
-pub fn put_header(out: &mut Vec<u8>, program: &Program) -> Result<(), AllocError>
+pub fn put_header(out: &mut Vec<u8>, header: &Header) -> Result<(), AllocError>
     ensures { OnOk result (out.new.items
-        ≡ out.old.items ++ header_text (plain_program program.now)) }
+        ≡ out.old.items ++ header_text header.now) }
 {
     put_numbers(
         out,
         &[
-            (b"program size ", program.size),
-            (b" mod ", program.modulus),
-            (b" procs ", program.procs),
-            (b" line ", program.line),
-            (b" lanes ", program.lanes),
-            (b" regs ", program.regs),
+            (b"program size ", header.size),
+            (b" mod ", header.modulus),
+            (b" procs ", header.procs),
+            (b" line ", header.line),
+            (b" lanes ", header.lanes),
+            (b" regs ", header.regs),
         ],
     )
 }
 
-fn put_table(out: &mut Vec<u8>, number: u64, entries: &[u64]) -> Result<(), AllocError>
-    ensures { OnOk result (out.new.items ≡ out.old.items ++ table_text number entries.now) }
-{
-    put(out, b"table ", number)?;
-    out.extend_from_slice(b" values")?;
-    for entry in entries {
-        put(out, b" ", *entry)?;
-    }
-    out.extend_from_slice(b"\n")
-}
+/// The words of listings.
+pub struct Listing;
 
-fn put_tables(out: &mut Vec<u8>, tables: &[Vec<u64>]) -> Result<(), AllocError>
-    ensures { OnOk result (out.new.items
-        ≡ out.old.items ++ tables_text 0 (plain_tables tables.now)) }
-{
-    for (number, entries) in tables.iter().enumerate() {
-        put_table(out, number as u64, entries)?;
-    }
-    Ok(())
-}
+impl Language for Listing {
+    ghost wording = { listing_wording };
 
-// Statements that stand in no loop, of which none is deeper than a program's may be.
-fn put_body(out: &mut Vec<u8>, body: &[Stmt]) -> Result<(), AllocError>
-    requires { IsTrue (are_nests_within (plain_body body.now) 0) }
-    ensures { OnOk result (out.new.items ≡ out.old.items ++ body_text 0 (plain_body body.now)) }
-{
-    for stmt in body {
-        put_stmt(out, stmt, 0)?;
-    }
-    Ok(())
-}
+    ghost grammar = { listing_grammar };
 
-fn put_phases(out: &mut Vec<u8>, phases: &[Vec<Stmt>]) -> Result<(), AllocError>
-    requires { IsTrue (list_all (λ body. are_nests_within body 0) (plain_phases phases.now)) }
-    ensures { OnOk result (out.new.items
-        ≡ out.old.items ++ flat_map phase_text (plain_phases phases.now)) }
-{
-    for body in phases {
-        out.extend_from_slice(b"phase\n")?;
-        put_body(out, body)?;
-        out.extend_from_slice(b"end\n")?;
+    fn put_first(out: &mut Vec<u8>, header: &Header) -> Result<(), AllocError> {
+        put_header(out, header)?;
+        out.extend_from_slice(b"\n")
     }
-    Ok(())
-}
 
-fn put_listing(out: &mut Vec<u8>, program: &Program) -> Result<(), AllocError>
-    ensures { OnOk result (out.new.items
-        ≡ out.old.items ++ listing_of (plain_program program.now)) }
-{
-    put_header(out, program)?;
-    out.extend_from_slice(b"\n")?;
-    put_tables(out, &program.tables)?;
-    put_phases(out, &program.phases)
+    fn put_front(_out: &mut Vec<u8>, _header: &Header) -> Result<(), AllocError> {
+        Ok(())
+    }
+
+    fn put_table(out: &mut Vec<u8>, number: u64, entries: &[u64]) -> Result<(), AllocError> {
+        put(out, b"table ", number)?;
+        out.extend_from_slice(b" values")?;
+        for entry in entries {
+            put(out, b" ", *entry)?;
+        }
+        out.extend_from_slice(b"\n")
+    }
+
+    fn put_between(_out: &mut Vec<u8>) -> Result<(), AllocError> {
+        Ok(())
+    }
+
+    fn put_phase(out: &mut Vec<u8>, _regs: u64, _number: u64) -> Result<(), AllocError> {
+        out.extend_from_slice(b"phase\n")
+    }
+
+    fn put_loop(out: &mut Vec<u8>, depth: u64, count: u64) -> Result<(), AllocError> {
+        put(out, b"for v", depth)?;
+        put(out, b" ", count)?;
+        out.extend_from_slice(b"\n")
+    }
+
+    fn put_end(out: &mut Vec<u8>) -> Result<(), AllocError> {
+        out.extend_from_slice(b"end\n")
+    }
+
+    fn put_op(out: &mut Vec<u8>, op: &Op) -> Result<(), AllocError> {
+        put_op(out, op)?;
+        out.extend_from_slice(b"\n")
+    }
+
+    fn read_header(line: &[u8]) -> Result<Header, Stuck> {
+        read_header(line, b"program size ", b"\n")
+    }
+
+    fn read_table(alloc: Global, line: &[u8]) -> Result<(u64, Vec<u64>), ReadError> {
+        read_table(alloc, line)
+    }
+
+    fn read_act(alloc: Global, line: &[u8]) -> Result<Act, ReadError> {
+        read_act(alloc, line)
+    }
 }
 
 /// The listing of a program.
@@ -324,7 +301,5 @@ pub fn print_listing(alloc: Global, program: &Program) -> Result<Vec<u8>, NoMemo
     ensures text { IfOk result (λ text. text.items ≡ listing_of (plain_program program.now)) }
     ensures listing { IfOk result (λ text. is_listing text.items (plain_program program.now)) }
 {
-    let mut out = Vec::new(alloc);
-    put_listing(&mut out, program)?;
-    Ok(out)
+    print::<Listing>(alloc, program)
 }

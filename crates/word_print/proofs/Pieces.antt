@@ -1,6 +1,6 @@
 -- How pieces of text are put together, one behind the other.
 use Rattle.std.proofs.Common.{◌≡◌, ℕ, suc, ◌+◌, ◌-◌, ◌<◌, ◌≢◌, List, [], ◌++◌, append_assoc, codes, ap, sym, ◌∙◌, arith}
-use Rattle.word_print.specs.WordFront.{numbered_text}
+use Rattle.listing_text.specs.Numbers.{numbered_text}
 use Rattle.word_print.specs.FunctionText.{each_from}
 use Rattle.word_print.specs.WordText.{becomes_text, sources_text, targets_text}
 

@@ -1,5 +1,6 @@
 -- The first lines of a C text on words: words, registers, and what operations do to them.
-use Rattle.std.specs.Prelude.{ℕ, List, ◌++◌, Bool, true, false, codes, decimal}
+use Rattle.std.specs.Prelude.{ℕ, List, ◌++◌, Bool, true, false, codes}
+use Rattle.listing_text.specs.Numbers.{numbered_text}
 use Rattle.word_code.specs.Words.{Width}
 
 -- the words: their type, and the high half of a product
@@ -181,10 +182,6 @@ functions_text = word_text ++ one_lane_text ++ vector_text ++ vector_reduced_tex
 abbrev pub rough_text : Bool → List ℕ
 rough_text true = codes "#define ROUGH 1\n"
 rough_text false = codes "#define ROUGH 0\n"
-
--- a number between two texts
-abbrev pub numbered_text : List ℕ → ℕ → List ℕ → List ℕ
-numbered_text before number after = before ++ decimal number ++ after
 
 -- the modulus, the lanes and the width of words
 unfoldable pub sizes_text : Width → ℕ → ℕ → List ℕ

@@ -3,30 +3,20 @@
 use Rattle.std.specs.Prelude.{ℕ, zero, suc, ◌+◌, ◌==◌, List, [], ◌∷◌, ◌++◌, codes, decimal, flat_map, length, map, if◌then◌else◌}
 use Rattle.icode.specs.declared.program.Array.{Array}
 use Rattle.icode.specs.Machine.{whole_lines}
-use Rattle.icode.specs.Plain.{PlainExpr, PlainParts, PlainPart, PlainOp, Sum, NoParts, AndParts, Proc, Var, Product, Rem, Quot, Load, Store, Zero, Add, Sub, Neg, MulConst, MulTable, Tile}
-use Rattle.listing_text.specs.Listing.{array_text, header_text}
+use Rattle.icode.specs.Plain.{PlainExpr, PlainOp, Load, Store, Zero, Add, Sub, Neg, MulConst, MulTable, Tile}
+use Rattle.listing_text.specs.Listing.{sum_with, array_text, header_text}
+use Rattle.listing_text.specs.Wording.{header_of}
+use Rattle.listing_text.specs.Numbers.{numbered_text}
 use Rattle.word_code.specs.declared.program.Reduction.{Reduction}
 use Rattle.word_code.specs.WordProgram.{Note, WordStmt, WordBody, PlainWordProgram, Loop, Do, NoStmts, AndStmts}
-use Rattle.word_print.specs.WordFront.{functions_text, numbered_text, sizes_text, arrays_text}
+use Rattle.word_print.specs.WordFront.{functions_text, sizes_text, arrays_text}
 use Rattle.word_print.specs.TextForm.{TextForm, with_arrays, named_function, named_header}
 use Rattle.word_print.specs.FunctionText.{each_from, static_phase_text, parameters_text, functions_to_link_text, capital, guard_text, lengths_text, counts_text, asked_text, declared_functions_text, word_type_text, linkage_text}
 
 -- a place: its constant and its parts. The constant is unsigned, of 64 bits, and each sum has one, so sums and what is made of
 -- them wrap at the same base as in programs
-abbrev mutual
-  pub index_text : PlainExpr → List ℕ
-  index_text (Sum constant parts) = decimal constant ++ codes "ULL" ++ index_parts_text parts
-
-  pub index_parts_text : PlainParts → List ℕ
-  index_parts_text NoParts = []
-  index_parts_text (AndParts part rest) = index_part_text part ++ index_parts_text rest
-
-  pub index_part_text : PlainPart → List ℕ
-  index_part_text (Proc factor) = codes "+q*" ++ decimal factor
-  index_part_text (Var depth factor) = codes "+v" ++ decimal depth ++ codes "*" ++ decimal factor
-  index_part_text (Product outer inner factor) = codes "+v" ++ decimal outer ++ codes "*v" ++ decimal inner ++ codes "*" ++ decimal factor
-  index_part_text (Rem of divisor factor) = codes "+(" ++ index_text of ++ codes ")%" ++ decimal divisor ++ codes "*" ++ decimal factor
-  index_part_text (Quot of divisor factor) = codes "+(" ++ index_text of ++ codes ")/" ++ decimal divisor ++ codes "*" ++ decimal factor
+abbrev pub index_text : PlainExpr → List ℕ
+index_text place = sum_with (codes "ULL") place
 
 abbrev pub register_text : ℕ → List ℕ
 register_text register = codes "r" ++ decimal register
@@ -137,7 +127,7 @@ abbrev mutual
 
 -- the first line: the header of the listing, in a comment
 abbrev pub word_header_text : PlainWordProgram → List ℕ
-word_header_text p = codes "/* " ++ header_text p.frame ++ codes " */\n"
+word_header_text p = codes "/* " ++ header_text (header_of p.frame) ++ codes " */\n"
 
 unfoldable pub word_table_text : List ℕ → ℕ → List ℕ → List ℕ
 word_table_text name number entries =

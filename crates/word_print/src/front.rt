@@ -2,29 +2,10 @@
 
 ghost use Rattle.std.specs.Prelude.{◌≡◌, ◌++◌, OnOk};
 ghost use Rattle.word_code.specs.Words.{Width};
-ghost use Rattle.word_print.specs.WordFront.{word_text, one_lane_text, vector_text, vector_reduced_text, vector_fused_text, vector_product_text, exchange_text, vector_tile_text, lanes_text, functions_text, rough_text, numbered_text, sizes_text, arrays_text};
+ghost use Rattle.word_print.specs.WordFront.{word_text, one_lane_text, vector_text, vector_reduced_text, vector_fused_text, vector_product_text, exchange_text, vector_tile_text, lanes_text, functions_text, rough_text, sizes_text, arrays_text};
 
-use listing_text::put;
+use listing_text::{put_numbered, put_word};
 use std::alloc::AllocError;
-
-pub(crate) fn put_word(out: &mut Vec<u8>, word: &[u8]) -> Result<(), AllocError>
-    ensures { OnOk result (out.new.items ≡ out.old.items ++ word.now) }
-{
-    out.extend_from_slice(word)
-}
-
-pub(crate) fn put_numbered(
-    out: &mut Vec<u8>,
-    before: &[u8],
-    number: u64,
-    after: &[u8],
-) -> Result<(), AllocError>
-    ensures { OnOk result (out.new.items ≡ out.old.items
-        ++ numbered_text before.now number after.now) }
-{
-    put(out, before, number)?;
-    out.extend_from_slice(after)
-}
 
 // The words: their type, and the high half of a product.
 #[tactic(auto, unfolding(crate::specs::WordFront::word_text))]

@@ -3,7 +3,7 @@
 ghost use Rattle.std.specs.Prelude.{◌≡◌, ◌++◌, IfOk, OnOk};
 ghost use Rattle.word_print.specs.FunctionText.{static_phase_text, phase_call_text, case_text, turns_text, one_phase_text, whole_text, functions_to_link_text, each_from};
 
-use crate::front::{put_numbered, put_word};
+use listing_text::{put_numbered, put_word};
 use memory::NoMemory;
 use std::alloc::{AllocError, Global};
 

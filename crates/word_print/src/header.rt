@@ -3,7 +3,7 @@
 ghost use Rattle.std.specs.Prelude.{◌≡◌, ◌++◌, ◌+◌, ◌^◌, ◌<◌, IfOk, OnOk, [], ◌∷◌, map};
 ghost use Rattle.word_print.specs.FunctionText.{capital, macro_text, guard_text, lengths_text, counts_text, asked_text, word_type_text, arrays_asked_text, declared_functions_text, linkage_text};
 
-use crate::front::{put_numbered, put_word};
+use listing_text::{put_numbered, put_word};
 use memory::NoMemory;
 use std::alloc::{AllocError, Global};
 

@@ -6,10 +6,9 @@ ghost use Rattle.word_code.specs.View.{plain_note};
 ghost use Rattle.word_print.specs.WordText.{becomes_text, reduction_text, call_text, load_text, store_text, addition_text, subtraction_text, negation_text, const_product_text, entry_text, row_text, entries_text, table_product_text, sources_text, targets_text, tile_text, word_op_text};
 ghost use Rattle.word_print.specs.WordNests.{is_tile_small};
 
-use crate::front::{put_numbered, put_word};
 use crate::places::put_index;
 use icode::program::{Array, Expr, Op};
-use listing_text::{put, put_array};
+use listing_text::{put, put_array, put_numbered, put_word};
 use std::alloc::AllocError;
 use word_code::program::{Note, Reduction};
 

@@ -1,10 +1,9 @@
 // The C text of a program on words.
 
-ghost use Rattle.std.specs.Prelude.{◌≡◌, ◌++◌, ◌+◌, ◌^◌, ◌<◌, ◌≤◌, IsTrue, IfOk, OnOk, codes, decimal, flat_map};
+ghost use Rattle.std.specs.Prelude.{◌≡◌, ◌++◌, ◌+◌, ◌<◌, ◌≤◌, IsTrue, IfOk, OnOk};
 ghost use Rattle.icode.specs.Limits.{IsHeaderWithin};
-ghost use Rattle.icode.specs.Machine.{whole_lines};
 ghost use Rattle.icode.specs.Plain.{plain_tables};
-ghost use Rattle.listing_text.specs.Listing.{header_text};
+ghost use Rattle.listing_text.specs.Wording.{header_of};
 ghost use Rattle.word_code.specs.View.{plain_word_stmt, plain_word_body, plain_word_phases, plain_word_program};
 ghost use Rattle.word_print.specs.WordText.{loop_text, word_stmt_text, word_body_text, word_header_text, word_table_text, word_tables_text, declared_text, word_phase_text, all_phases_text, front_text, arrays_and_phases_text, named_function_text, named_header_text, words_text};
 ghost use Rattle.word_print.specs.FunctionText.{each_from};
@@ -12,11 +11,11 @@ ghost use Rattle.word_print.specs.TextForm.{text_form};
 ghost use Rattle.word_print.specs.WordNests.{is_word_nest_within, are_word_nests_within, are_word_phases_within};
 
 use crate::form::Form;
-use crate::front::{put_arrays, put_functions, put_numbered, put_sizes, put_word};
+use crate::front::{put_arrays, put_functions, put_sizes};
 use crate::function::{put_functions_to_link, static_phase};
 use crate::header::{in_capitals, put_counts, put_guard, put_lengths, put_linked};
 use crate::operations::{put_op, put_reductions};
-use listing_text::put;
+use listing_text::{Header, array_words, put_header, put_numbered, put_word};
 use memory::NoMemory;
 use std::alloc::{AllocError, Global};
 use word_code::program::{WordProgram, WordStmt};
@@ -65,25 +64,25 @@ fn put_body(out: &mut Vec<u8>, lanes: u64, body: &[WordStmt]) -> Result<(), Allo
     Ok(())
 }
 
-// Writes the header of the listing.
-fn put_numbers(out: &mut Vec<u8>, program: &WordProgram) -> Result<(), AllocError>
-    ensures { OnOk result (out.new.items ≡ out.old.items
-        ++ header_text (plain_word_program program.now).frame) }
+fn header_of(program: &WordProgram) -> Header
+    ensures { result ≡ header_of (plain_word_program program.now).frame }
 {
-    put(out, b"program size ", program.size)?;
-    put(out, b" mod ", program.modulus)?;
-    put(out, b" procs ", program.procs)?;
-    put(out, b" line ", program.line)?;
-    put(out, b" lanes ", program.lanes)?;
-    put(out, b" regs ", program.regs)
+    Header {
+        size: program.size,
+        modulus: program.modulus,
+        procs: program.procs,
+        line: program.line,
+        lanes: program.lanes,
+        regs: program.regs,
+    }
 }
 
-fn put_header(out: &mut Vec<u8>, program: &WordProgram) -> Result<(), AllocError>
+fn put_first(out: &mut Vec<u8>, program: &WordProgram) -> Result<(), AllocError>
     ensures { OnOk result (out.new.items ≡ out.old.items
         ++ word_header_text (plain_word_program program.now)) }
 {
     put_word(out, b"/* ")?;
-    put_numbers(out, program)?;
+    put_header(out, &header_of(program))?;
     put_word(out, b" */\n")
 }
 
@@ -157,22 +156,12 @@ fn put_phases(
     Ok(())
 }
 
-// The number of words of an array.
-fn array_words(size: u64, line: u64) -> u64
-    requires size { size ≤ 1048576 }
-    requires line { (1 ≤ line) × (line ≤ 64) }
-    ensures words { result ≡ whole_lines size line }
-    ensures few { result < 2 ^ 32 }
-{
-    (size + (line - 1)) / line * line
-}
-
 // What stands before the arrays and the phases.
 fn put_front(out: &mut Vec<u8>, program: &WordProgram) -> Result<(), AllocError>
     ensures { OnOk result (out.new.items ≡ out.old.items
         ++ front_text (plain_word_program program.now)) }
 {
-    put_header(out, program)?;
+    put_first(out, program)?;
     put_sizes(
         out,
         program.half,
@@ -241,7 +230,7 @@ fn print_header(alloc: Global, name: &[u8], program: &WordProgram) -> Result<Vec
     let capitals = in_capitals(alloc, name)?;
     let words = array_words(program.size, program.line);
     let phases = program.phases.len() as u64;
-    put_header(&mut out, program)?;
+    put_first(&mut out, program)?;
     put_guard(&mut out, &capitals)?;
     put_lengths(&mut out, &capitals, program.size, words)?;
     put_counts(&mut out, &capitals, program.modulus, program.procs, phases)?;

@@ -1,6 +1,7 @@
 use Rattle.std.proofs.Common.{◌*◌, codes}
 use Rattle.std.proofs.lemmas.Result.{IfOk-equal}
-use Rattle.c_print.specs.CText.{numbered_text, front_text}
+use Rattle.listing_text.specs.Numbers.{numbered_text}
+use Rattle.c_print.specs.CText.{front_text}
 use Rattle.c_print.proofs.Shapes.{eight_pieces}
 use Rattle.c_print.proofs.printing.put_front.Goals as goal
 

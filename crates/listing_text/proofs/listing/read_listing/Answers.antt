@@ -1,6 +1,6 @@
 use Rattle.std.proofs.Common.{Ok, sym}
 use Rattle.listing_text.specs.Reads.{drafted_program}
-use Rattle.listing_text.proofs.DraftReads.{listing_judges}
+use Rattle.listing_text.proofs.ListingReads.{listing_judges}
 use Rattle.listing_text.proofs.ListingCalls.{err_answers, err_only}
 use Rattle.listing_text.proofs.listing.read_listing.Goals as goal
 

@@ -1,6 +1,7 @@
 use Rattle.std.proofs.Common.{codes}
 use Rattle.std.proofs.lemmas.Result.{IfOk-equal}
-use Rattle.word_print.specs.WordFront.{numbered_text, arrays_text}
+use Rattle.listing_text.specs.Numbers.{numbered_text}
+use Rattle.word_print.specs.WordFront.{arrays_text}
 use Rattle.word_print.proofs.Pieces.{five_pieces}
 use Rattle.word_print.proofs.front.put_arrays.Goals as goal
 

@@ -1,7 +1,7 @@
 use Rattle.std.proofs.Common.{codes}
 use Rattle.std.proofs.lemmas.Result.{IfOk-equal}
 use Rattle.word_print.specs.FunctionText.{phase_call_text}
-use Rattle.word_print.specs.WordFront.{numbered_text}
+use Rattle.listing_text.specs.Numbers.{numbered_text}
 use Rattle.word_print.proofs.Pieces.{three_pieces}
 use Rattle.word_print.proofs.function.put_turns.Goals as goal
 

@@ -1,6 +1,6 @@
 use Rattle.std.proofs.Common.{[], codes}
 use Rattle.std.proofs.lemmas.Result.{IfOk-equal}
-use Rattle.word_print.specs.WordFront.{numbered_text}
+use Rattle.listing_text.specs.Numbers.{numbered_text}
 use Rattle.word_print.specs.WordText.{loop_text}
 use Rattle.word_print.proofs.Pieces.{four_pieces}
 use Rattle.word_print.proofs.printing.put_loop.Goals as goal
