@@ -15,7 +15,7 @@ use icode::program::Program;
 use joined_copies::join_copies;
 use memory::NoMemory;
 use passes::Merged;
-use program_emit::emit_on;
+use program_emit::emit_formula;
 use ring_mod::Modulus;
 use spl_ast::Spl;
 use std::alloc::Global;
@@ -46,7 +46,7 @@ fn code_of_formula(alloc: Global, modulus: &Modulus, formula: &Spl) -> Result<Pr
     let _modulus = modulus.get();
     let _rows = formula.rows();
     let merged = merge_formula(alloc, modulus, formula)?;
-    let program = emit_on(alloc, modulus, 1, &merged)?;
+    let program = emit_formula(alloc, modulus, &merged)?;
     Ok(program)
 }
 

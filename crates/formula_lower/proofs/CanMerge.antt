@@ -1,4 +1,4 @@
--- The terms of a tree can be merged.
+-- The terms of a whole can be merged.
 use Rattle.std.proofs.Common.{◌≡◌, ℕ, ◌*◌, ◌<◌, ◌≤◌, ◌==◌, Bool, true, false, arith, refl, sym, List, [], ◌∷◌, ◌++◌, subst, if◌then◌else◌}
 use Rattle.std.specs.Prelude.{map}
 use Rattle.std.proofs.lemmas.Bool.Decides.{nat_tests}
@@ -14,6 +14,7 @@ use Rattle.passes.specs.Work.{PlainWork, kernel, rows, horner, tile, copy, work_
 use Rattle.formula_lower.specs.Merged.{TreesCanMerge}
 use Rattle.formula_lower.specs.Shared.{embed, phase_term, AllEmbed}
 use Rattle.formula_lower.specs.Trees.{core_term}
+use Rattle.formula_lower.proofs.Closing.{closed-can}
 use Rattle.formula_lower.proofs.Embedded.{embed-core, sizes-of}
 use Rattle.formula_lower.proofs.Moves.{back-wrapped, left_positive, right_positive}
 use Rattle.formula_lower.proofs.Numbers.{numbers-wrapped, strided-closed, in-closed, out-closed}
@@ -24,13 +25,14 @@ use Rattle.sigma_lower.specs.Term as lowered
 use Rattle.sigma_lower.specs.Term.{lowered_after, factor_term, lowered_of}
 use Rattle.sigma_lower.specs.Wrapped.{wrapped}
 use Rattle.sigma_lower.proofs.Goods.{vec_good, phases_good}
-use Rattle.smp_rewrite.specs.Cut.{smp_of}
+use Rattle.smp_rewrite.specs.Cut.{layout_smp}
 use Rattle.smp_rewrite.specs.Smp.{within}
 use Rattle.steps.specs.Meaning.{core_size}
 use Rattle.steps.specs.Step as steps
 use Rattle.steps.specs.Step.{PlainCore, piece, turns, thomas_in, thomas_out, PlainStep, step}
 use Rattle.smp_rewrite.specs.Fits.{CanShareLayout}
 use Rattle.steps.specs.Layout.{Layout, IsGoodLayout}
+use Rattle.steps.specs.Whole.{only, IsGoodWhole}
 use Rattle.steps.specs.declared.target.Target.{Target}
 use Rattle.tensor_paths.specs.declared.Tensor.TheVariants.{Blocks, Columns}
 use Rattle.tensor_paths.specs.Path.{Path, size_under}
@@ -101,8 +103,9 @@ pick-phases c p v false first second valid all each = (phase-words c p v first v
 
 tree-words : (c : Target) (l : Layout) → IsMachine c → CanShareLayout c l → IsGoodLayout c.modulus l → AreWordPhases c (lowered_of c l)
 tree-words c l valid shares good =
-    let g = vec_of (smp_of c l) in
-    let is : IsVecOf c g = record { layout = l; shares = shares; good = good; form = refl } in
+    let g = vec_of (layout_smp c l) in
+    let whole : IsGoodWhole c.modulus (only l) = record { layout = good; factor = tt } in
+    let is : IsVecOf c g = record { whole = only l; shares = shares; good = whole; form = refl } in
     pick-phases c c.procs c.lanes (c.procs == 1) g.first g.second valid (vec_good c g is) (phases_good c g is)
 
 -- ---- several copies
@@ -136,9 +139,15 @@ all-can c (ts ∷ more) valid embeds tight words = (
 )
 
 pub trees_can_merge : TreesCanMerge
-trees_can_merge c l valid shares good =
+trees_can_merge c w can =
+    let l = w.layout in
+    let valid = can.machine in
+    let shares = can.shares in
+    let good = can.good.layout in
+    let embeds = trees_embed c l valid shares good in
+    let phases = all-can c (lowered_of c l) valid embeds (tree-tight c l shares good) (tree-words c l valid shares good) in
     record {
       some = valid.size.0;
       most = omega (arith, valid.size.1);
-      phases = all-can c (lowered_of c l) valid (trees_embed c l valid shares good) (tree-tight c l shares good) (tree-words c l valid shares good);
+      phases = closed-can c.lanes c.size w.factor (map phase_term (lowered_of c l)) phases;
     }

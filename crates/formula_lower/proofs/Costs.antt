@@ -1,7 +1,7 @@
 -- The terms of a formula for lanes have its operations: each processor has its share.
 use Rattle.std.proofs.Common.{◌≡◌, ℕ, ◌+◌, ◌*◌, ◌/◌, ◌%◌, ◌<◌, ◌==◌, Bool, true, false, arith, refl, sym, ap, ap₂, ◌∙◌, List, [], ◌∷◌, ◌++◌, subst, if◌then◌else◌}
-use Rattle.std.specs.Prelude.{All, map}
-use Rattle.std.proofs.Math.Nat.{mul-div_right}
+use Rattle.std.specs.Prelude.{All, map, Option, None, Some}
+use Rattle.std.proofs.Math.Nat.{mul-div_right, zero-div}
 use Rattle.std.proofs.lemmas.List.Elements.{All-head, All-tail}
 use Rattle.smp_rewrite.specs.Fits.{CanShareLayout}
 use Rattle.steps.specs.Layout.{Layout, work_cost}
@@ -9,16 +9,18 @@ use Rattle.steps.specs.declared.target.Target.{Target}
 use Rattle.passes.specs.Counts.{term_cost}
 use Rattle.passes.specs.Sigma.{sigma_cost, terms_cost}
 use Rattle.passes.specs.Term.{PlainTerm}
-use Rattle.formula_lower.specs.Merged.{sigma_of, layout_sigma, SigmaCosts}
+use Rattle.formula_lower.specs.Merged.{sigma_of, whole_sigma, SigmaCosts}
 use Rattle.formula_lower.specs.Shared.{embed, phase_term}
+use Rattle.formula_lower.proofs.Closing.{has_phase, closed-cost}
 use Rattle.formula_lower.proofs.SharedTrees.{all-left, all-right}
 use Rattle.sigma_lower.specs.Good.{IsVecOf}
-use Rattle.sigma_lower.specs.Term.{lowered_core, after_core, factor_term}
-use Rattle.smp_rewrite.specs.Cut.{smp_of}
-use Rattle.smp_rewrite.specs.Laws.{IsDiagonal, IsPermutation}
+use Rattle.sigma_lower.specs.Term.{lowered_core, after_core, factor_term, lowered_of, terms_in}
+use Rattle.smp_rewrite.specs.Cut.{layout_smp, smp_of}
+use Rattle.smp_rewrite.specs.Laws.{HasEqualParts, IsDiagonal, IsPermutation}
 use Rattle.smp_rewrite.specs.Smp.{within}
 use Rattle.smp_rewrite.proofs.Tensors.{copies-within}
 use Rattle.smp_rewrite.proofs.TreeLaws.{smp_costs}
+use Rattle.steps.specs.Whole.{Whole, only, closing_cost}
 use Rattle.steps.specs.Meaning.{core_size}
 use Rattle.steps.specs.Step.{PlainCore, piece, turns, twiddles, thomas_in, thomas_out, core_cost}
 use Rattle.tensor_paths.specs.declared.Tensor.TheVariants.{Blocks, Columns}
@@ -124,24 +126,50 @@ phases-cost weight c p v false first second all h k =
     let both = ap (λ n. p * n) (shares_in-append weight c.modulus p v first second) in
     let shared : p * (shares_in weight c.modulus p v first + shares_in weight c.modulus p v second) ≡ p * shares_in weight c.modulus p v first + p * shares_in weight c.modulus p v second = omega arith in omega (arith, h, k, both, shared)
 
-layout-costs : (weight : ℕ) (c : Target) (l : Layout) → CanShareLayout c l → sigma_cost weight (work_cost weight c.modulus) (layout_sigma c l) ≡ c.procs * vec_share weight c.modulus (vec_of (smp_of c l))
+layout-costs : (weight : ℕ) (c : Target) (l : Layout) → CanShareLayout c l →
+    terms_cost weight (work_cost weight c.modulus) c.size (map phase_term (lowered_of c l))
+    ≡ c.procs
+    * shares_in weight c.modulus c.procs c.lanes ((vec_of (layout_smp c l)).first ++ (vec_of (layout_smp c l)).second)
 layout-costs weight c l shares =
-    let g = vec_of (smp_of c l) in
+    let g = vec_of (layout_smp c l) in
     let p = c.procs in
     let v = c.lanes in
     let positive : 0 < p = omega (arith, shares.procs) in
     let Shaped : PlainFactor → Type 0 = HasLanes c.size p v in
-    let shaped : All Shaped (g.first ++ g.second) = vec_shaped c (smp_of c l) (record { layout = l; shares = shares; form = refl }) in
+    let shaped = (vec_shaped c (layout_smp c l) (record { whole = only l; shares = shares; form = refl })).0 in
     phases-cost weight c p v (p == 1) g.first g.second (phase-cost weight c p v (g.first ++ g.second) positive shaped)
     (phase-cost weight c p v g.first positive (all-left Shaped g.first g.second shaped))
     (phase-cost weight c p v g.second positive (all-right Shaped g.first g.second shaped))
 
+-- the products at the end, of which each processor has an equal part
+closing-exact : (weight n p : ℕ) (o : Option ℕ) → 0 < p → HasEqualParts n p o →
+    closing_cost weight n o ≡ p * (closing_cost weight n o / p)
+closing-exact weight n p None positive even = sym (ap (λ k. p * k) (zero-div p) ∙ omega arith)
+closing-exact weight n p (Some v) positive even = sym (share-exact p weight n positive even)
+
+whole-costs : (weight : ℕ) (c : Target) (w : Whole) → CanShareLayout c w.layout →
+    sigma_cost weight (work_cost weight c.modulus) (whole_sigma c w)
+    ≡ c.procs * vec_share weight c.modulus (vec_of (smp_of c w))
+whole-costs weight c w shares =
+    let g = vec_of (smp_of c w) in
+    let p = c.procs in
+    let even = (vec_shaped c (smp_of c w) (record { whole = w; shares = shares; form = refl })).1 in
+    let positive : 0 < p = omega (arith, shares.procs) in
+    closed-cost weight (work_cost weight c.modulus) c.size w.factor (map phase_term (terms_in g)) (has_phase g)
+    ∙ ap₂ (λ a b. a + b) (layout-costs weight c w.layout shares) (closing-exact weight c.size p w.factor positive even)
+    ∙ both p (shares_in weight c.modulus p c.lanes (g.first ++ g.second)) (closing_cost weight c.size w.factor / p)
+  where
+    both : (p a b : ℕ) → p * a + p * b ≡ p * (a + b)
+    both p a b = omega arith
+
 -- the processors do the operations of the terms in equal shares
 pub vec_costs : (weight : ℕ) (c : Target) (g : PlainVec) → IsVecOf c g → sigma_cost weight (work_cost weight c.modulus) (sigma_of g) ≡ c.procs * vec_share weight c.modulus g
-vec_costs weight c g h = subst (λ z. sigma_cost weight (work_cost weight c.modulus) (sigma_of z) ≡ c.procs * vec_share weight c.modulus z) (sym h.form) (layout-costs weight c h.layout h.shares)
+vec_costs weight c g h =
+    subst (λ z. sigma_cost weight (work_cost weight c.modulus) (sigma_of z) ≡ c.procs * vec_share weight c.modulus z)
+    (sym h.form) (whole-costs weight c h.whole h.shares)
 
--- which are the layout's
+-- which are those of the whole
 pub sigma_costs : SigmaCosts
-sigma_costs weight c l valid shares good =
-    let kept = (vec_keeps weight c.modulus c (smp_of c l) (record { layout = l; shares = shares; form = refl })).1 in
-    layout-costs weight c l shares ∙ ap (λ k. c.procs * k) kept ∙ smp_costs weight c l shares
+sigma_costs weight c w can =
+    let kept = vec_keeps weight c.modulus c (smp_of c w) (record { whole = w; shares = can.shares; form = refl }) in
+    whole-costs weight c w can.shares ∙ ap (λ k. c.procs * k) kept.1 ∙ smp_costs weight c w can.shares

@@ -4,7 +4,7 @@ use Rattle.std.proofs.lemmas.Bool.{cases_lt}
 use Rattle.std.proofs.lemmas.Bool.Decides.{nat_tests}
 use Rattle.index_fn.specs.Mapping.{Strided, ThomasIn, ThomasOut}
 use Rattle.matrix_meaning.specs.declared.Kind.TheVariants.{Dft}
-use Rattle.passes.specs.Term.{PlainTerm, nest}
+use Rattle.passes.specs.Term.{nest}
 use Rattle.passes.specs.Words.{AreWords, HasNumbers}
 use Rattle.passes.specs.Work.{kernel, horner}
 use Rattle.formula_lower.specs.Terms.{one_more, halvings, hadamard_term, fourier_term, term_of}

@@ -17,6 +17,7 @@ pub mod Costs
 pub mod Ordered
 pub mod HaveLoops
 pub mod TightPaths
+pub mod Closing
 pub mod CanMerge
 pub mod TreeLayouts
 pub mod FormulaWords

@@ -19,10 +19,11 @@ use Rattle.sigma_lower.specs.Term.{factor_term, lowered_of}
 use Rattle.sigma_lower.proofs.Both.{lowered_transforms}
 use Rattle.sigma_lower.proofs.Goods.{vec_good, phases_good}
 use Rattle.sigma_lower.proofs.Lowering.{factor_on}
-use Rattle.smp_rewrite.specs.Cut.{smp_of}
+use Rattle.smp_rewrite.specs.Cut.{layout_smp}
 use Rattle.smp_rewrite.specs.Smp as smp
 use Rattle.smp_rewrite.specs.Smp.{within}
 use Rattle.steps.specs.Step.{PlainCore, piece, turns, twiddles, thomas_in, thomas_out, step}
+use Rattle.steps.specs.Whole.{only, IsGoodWhole}
 use Rattle.tensor_paths.specs.declared.Tensor.TheVariants.{Blocks, Columns}
 use Rattle.tensor_paths.specs.Path.{Path}
 use Rattle.vec_rewrite.specs.declared.Deal.{Deal}
@@ -130,13 +131,14 @@ pick-phases c p v false first second all h k = (h, (k, tt))
 
 pub trees_embed : TreesEmbed
 trees_embed c l valid shares good =
-    let g = vec_of (smp_of c l) in
+    let g = vec_of (layout_smp c l) in
     let d = deal_of c in
     let P = HasLanes c.size c.procs c.lanes in
-    let is : IsVecOf c g = record { layout = l; shares = shares; good = good; form = refl } in
-    let shaped : All P (g.first ++ g.second) = vec_shaped c (smp_of c l) (record { layout = l; shares = shares; form = refl }) in
-    let first = phase-blocks d (smp_of c l).first in
-    let second = phase-blocks d (smp_of c l).second in
+    let whole : IsGoodWhole c.modulus (only l) = record { layout = good; factor = tt } in
+    let is : IsVecOf c g = record { whole = only l; shares = shares; good = whole; form = refl } in
+    let shaped = (vec_shaped c (layout_smp c l) (record { whole = only l; shares = shares; form = refl })).0 in
+    let first = phase-blocks d (layout_smp c l).first in
+    let second = phase-blocks d (layout_smp c l).second in
     let both = phases_good c g is in
     let all = vec_good c g is in
     pick-phases c c.procs c.lanes (c.procs == 1) g.first g.second (phase-embeds c c.procs c.lanes (g.first ++ g.second) valid shaped (All-append HasBlocks g.first g.second first second) all)

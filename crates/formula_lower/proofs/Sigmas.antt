@@ -7,21 +7,27 @@ use Rattle.steps.specs.declared.target.Target.{Target}
 use Rattle.formula_lower.specs.Machine.{IsMachine}
 use Rattle.passes.specs.Good.{IsVector}
 use Rattle.passes.specs.Merge.{unbounded, passes_within}
-use Rattle.passes.specs.Sigma.{IsGoodSigma, sigma_on, terms_on}
+use Rattle.passes.specs.Sigma.{PlainSigma, IsGoodSigma, sigma_on, terms_on}
 use Rattle.passes.specs.Term.{PlainTerm, same, product, term_on}
 use Rattle.passes.proofs.Keeps.{merge_keeps}
 use Rattle.passes.proofs.Walk.{passes-vector}
-use Rattle.formula_lower.specs.Merged.{sigma_of}
+use Rattle.formula_lower.specs.Merged.{sigma_of, CanLower, SigmaTransforms}
 use Rattle.formula_lower.specs.Shared.{embed, factors_before, phase_term, AllEmbed, PhaseEmbeds}
 use Rattle.formula_lower.proofs.CanMerge.{trees_can_merge}
+use Rattle.formula_lower.proofs.Closing.{has_phase, closed-on}
 use Rattle.formula_lower.proofs.SharedTrees.{trees_embed}
 use Rattle.sigma_lower.specs.Good.{IsVecOf}
 use Rattle.sigma_lower.specs.Term as lowered
 use Rattle.sigma_lower.specs.Term.{factor_term, phases_of, terms_in}
 use Rattle.sigma_lower.proofs.Both.{terms_mean}
+use Rattle.smp_rewrite.specs.Cut.{smp_of}
+use Rattle.smp_rewrite.proofs.TreeLaws.{smp_transforms}
+use Rattle.steps.specs.Whole.{closed_on}
 use Rattle.vec_rewrite.specs.declared.VecFactor.{VecFactor}
+use Rattle.vec_rewrite.specs.Turning.{vec_of}
 use Rattle.vec_rewrite.specs.Vectors.{PlainFactor, PlainVec, vec_on}
 use Rattle.vec_rewrite.specs.Views.{plain_vec_factor}
+use Rattle.vec_rewrite.proofs.LaneLaws.{vec_keeps}
 
 -- ---- phases
 
@@ -54,6 +60,9 @@ two-phases g left right several second first =
     ap₂ (λ t u. t ∷ u ∷ []) (first ∙ before-same g.target.procs g.target.lanes g.first) (second ∙ before-same g.target.procs g.target.lanes g.second)
     ∙ ap (λ fs. map phase_term (map (map (factor_term g.target.procs g.target.lanes)) fs)) (sym is)
 
+abbrev pub of_phases : Target → List PlainTerm → PlainSigma
+of_phases h ts = record { size = h.size; procs = h.procs; lanes = h.lanes; phases = ts }
+
 -- ---- what they do
 
 -- what the term of a phase leaves is a vector
@@ -69,7 +78,8 @@ phases-mean c (ts ∷ more) x valid h v =
     phases-mean c more (term_on c.modulus c.size (phase_term ts) x) valid h.1 (phase-vector c ts x valid h.0 v) ∙ ap (lowered.phases_on c more) (h.0.on x v)
 
 vec-embeds : (c : Target) (g : PlainVec) → IsMachine c → IsVecOf c g → AllEmbed c c.lanes (terms_in g)
-vec-embeds c g valid h = subst (λ z. AllEmbed c c.lanes (terms_in z)) (sym h.form) (trees_embed c h.layout valid h.shares h.good)
+vec-embeds c g valid h =
+    subst (λ z. AllEmbed c c.lanes (terms_in z)) (sym h.form) (trees_embed c h.whole.layout valid h.shares h.good.layout)
 
 target-is : (c : Target) (g : PlainVec) → IsVecOf c g → g.target ≡ c
 target-is c g h = ap (λ (z : PlainVec). z.target) h.form
@@ -77,9 +87,23 @@ target-is c g h = ap (λ (z : PlainVec). z.target) h.form
 -- they do what the formula for lanes does
 pub vec_means : (c : Target) (g : PlainVec) (x : List ℕ) → IsMachine c → IsVecOf c g → IsVector c.modulus c.size x → sigma_on c.modulus (sigma_of g) x ≡ vec_on c.modulus g x
 vec_means c g x valid h v =
-    ap (λ (z : Target). terms_on c.modulus z.size (map phase_term (terms_in g)) x) (target-is c g h)
-    ∙ phases-mean c (terms_in g) x valid (vec-embeds c g valid h) v ∙ terms_mean c g x h
+    let ts = map phase_term (terms_in g) in
+    closed-on c.modulus g.target.size g.closing ts x (has_phase g)
+    ∙ ap (closed_on c.modulus g.target.size g.closing)
+    (ap (λ (z : Target). terms_on c.modulus z.size ts x) (target-is c g h)
+    ∙ phases-mean c (terms_in g) x valid (vec-embeds c g valid h) v
+    ∙ terms_mean c g x h)
 
 -- and can be merged
 pub vec_can_merge : (c : Target) (g : PlainVec) → IsMachine c → IsVecOf c g → IsGoodSigma (sigma_of g)
-vec_can_merge c g valid h = subst (λ z. IsGoodSigma (sigma_of z)) (sym h.form) (trees_can_merge c h.layout valid h.shares h.good)
+vec_can_merge c g valid h =
+    let can : CanLower c h.whole = record { machine = valid; shares = h.shares; good = h.good } in
+    subst (λ z. IsGoodSigma (sigma_of z)) (sym h.form) (trees_can_merge c h.whole can)
+
+-- those of a whole do what it does
+pub sigma_transforms : SigmaTransforms
+sigma_transforms c w x can v =
+    let g = vec_of (smp_of c w) in
+    let is : IsVecOf c g = record { whole = w; shares = can.shares; good = can.good; form = refl } in
+    let kept = vec_keeps 1 c.modulus c (smp_of c w) (record { whole = w; shares = can.shares; form = refl }) in
+    vec_means c g x can.machine is v ∙ kept.0 x ∙ smp_transforms c w x can.shares

@@ -5,7 +5,8 @@ mod formula;
 mod tree;
 
 ghost use Rattle.formula_lower.specs.Compiled.{FormulasCompile};
-ghost use Rattle.formula_lower.specs.Merged.{PhasesHaveLoops, SigmaCosts, TreesCanMerge, TreesKeep};
+ghost use Rattle.formula_lower.specs.Merged.{PhasesHaveLoops, SigmaCosts, SigmaTransforms};
+ghost use Rattle.formula_lower.specs.Merged.{TreesCanLower, TreesCanMerge, TreesKeep};
 ghost use Rattle.formula_lower.specs.Operations.{LowerCounts};
 ghost use Rattle.formula_lower.specs.Terms.{LowerKeeps};
 ghost use Rattle.formula_lower.specs.Order.{TreesAreLoops, TreesOrdered};
@@ -44,14 +45,19 @@ pub fn shared_trees_merge()
     ensures { SharedTreesMerge }
 {}
 
-/// The merged passes of a tree do its transform: a law of the definitions.
+/// The merged passes of a layout do what it does: a law of the definitions.
 pub fn trees_keep()
     ensures { TreesKeep }
 {}
 
-/// The terms of a tree have as many operations as the tree costs: a law of the definitions.
+/// The terms of a whole have its operations: a law of the definitions.
 pub fn sigma_costs()
     ensures { SigmaCosts }
+{}
+
+/// They do what it does: a law of the definitions.
+pub fn sigma_transforms()
+    ensures { SigmaTransforms }
 {}
 
 /// The terms of layouts are in order, so their passes are their loops, one by one: a law of the definitions.
@@ -69,7 +75,12 @@ pub fn phases_have_loops()
     ensures { PhasesHaveLoops }
 {}
 
-/// The terms of a layout can be merged: a law of the definitions.
+/// The terms of a whole can be merged: a law of the definitions.
 pub fn trees_can_merge()
     ensures { TreesCanMerge }
+{}
+
+/// So can those of each tree that a request admits: a law of the definitions.
+pub fn trees_can_lower()
+    ensures { TreesCanLower }
 {}

@@ -1,6 +1,6 @@
 // The terms of a tree's formula for processors and lanes.
 ghost use Rattle.std.specs.Prelude.{◌≡◌, ◌*◌, ◌^◌, ◌<◌, All, IfOk, List, map, ℕ};
-ghost use Rattle.formula_lower.specs.Merged.{sigma_of};
+ghost use Rattle.formula_lower.specs.Merged.{closed_phases, closing_term, sigma_of};
 ghost use Rattle.formula_lower.specs.Room.{IsRoomy, IsRoomyCore};
 ghost use Rattle.formula_lower.specs.Shared.{embed, factors_before, phase_term};
 ghost use Rattle.index_fn.specs.Index.{mapping_of};
@@ -44,7 +44,9 @@ pub fn lower(alloc: Global, c: &Ctx, vectors: VecSpl) -> Result<Sigma, NoMemory>
 {
     let _request = c.request();
     let target = vectors.target;
-    let phases = phases(alloc, vectors)?;
+    let closing = vectors.closing;
+    let made = phases(alloc, vectors)?;
+    let phases = closed_phases(alloc, target.size, closing, made)?;
     Ok(Sigma {
         size: target.size,
         procs: target.procs,
@@ -68,6 +70,7 @@ fn phases(alloc: Global, vectors: VecSpl) -> Result<Vec<Term>, NoMemory>
         target,
         first,
         second,
+        closing: _,
     } = vectors;
     let (procs, lanes) = (target.procs, target.lanes);
     let mut phases = Vec::new(alloc);
@@ -81,6 +84,40 @@ fn phases(alloc: Global, vectors: VecSpl) -> Result<Vec<Term>, NoMemory>
     phases.push(right)?;
     phases.push(left)?;
     Ok(phases)
+}
+
+// The phases, where each word is multiplied by the factor of an inverse after the last one.
+fn closed_phases(
+    alloc: Global,
+    size: u64,
+    closing: Option<u64>,
+    phases: Vec<Term>,
+) -> Result<Vec<Term>, NoMemory>
+    ensures { IfOk result (λ ts.
+        map plain_term ts.items ≡ closed_phases size closing (map plain_term phases.items)) }
+{
+    let Some(value) = closing else {
+        return Ok(phases);
+    };
+    let mut phases = phases;
+    match phases.pop() {
+        None => Ok(phases),
+        Some(last) => {
+            let products = closing_term(alloc, size, value)?;
+            let closed = in_turn(alloc, last, products)?;
+            phases.push(closed)?;
+            Ok(phases)
+        }
+    }
+}
+
+// Each of `size` words times this value.
+fn closing_term(alloc: Global, size: u64, value: u64) -> Result<Term, NoMemory>
+    ensures { IfOk result (λ t. plain_term t ≡ closing_term size value) }
+{
+    let path = within(Tensor::Blocks(size), Vec::new(alloc))?;
+    let factors = Factors::Repeated { value, count: 1 };
+    Ok(Term::Diagonal { path, factors })
 }
 
 // The product of the terms of factors, the first of which is applied first, and then of this term.

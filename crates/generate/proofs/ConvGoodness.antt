@@ -1,5 +1,5 @@
 -- A program of a tree's joined passes is one for convolutions.
-use Rattle.std.proofs.Common.{◌≡◌, ℕ, ◌+◌, ◌*◌, ◌<◌, List, [], All, length, refl, sym, ap, ap₂, ◌∙◌, arith}
+use Rattle.std.proofs.Common.{◌≡◌, ℕ, ◌+◌, ◌*◌, ◌<◌, List, [], All, Ok, length, refl, ap, ap₂, ◌∙◌, arith, sym}
 use Rattle.std.proofs.lemmas.List.{length-map}
 use Rattle.matrix_meaning.specs.Convolution.{IsPrincipal}
 use Rattle.matrix_meaning.specs.Convolving.{IsConvRequest}
@@ -10,42 +10,62 @@ use Rattle.icode.specs.Program.{code_of, plain_program}
 use Rattle.icode.proofs.Lists.{code_is}
 use Rattle.icode.proofs.Runs.{memory_of_runs}
 use Rattle.matrix_meaning.specs.Parts.{inverted}
-use Rattle.tree_model.proofs.InverseCosts.{inverse_costs}
-use Rattle.tree_model.proofs.InverseTrees.{inverse_admits}
+use Rattle.matrix_meaning.proofs.Requests.{valid_by_powers}
 use Rattle.tree_model.proofs.InverseTraffic.{inverse_loads, whole-same}
-use Rattle.joined_passes.specs.Joined.{with_values}
+use Rattle.joined_passes.specs.Joined.{joined, with_values}
 use Rattle.joined_passes.specs.Laws.{CountsBoth, JoinedCanProgram, JoinedCounts, JoinedMeans}
 use Rattle.matrix_meaning.specs.declared.Kind.TheVariants.{Dft}
 use Rattle.matrix_meaning.specs.declared.Request.{Request}
 use Rattle.matrix_meaning.specs.Valid.{IsValid}
+use Rattle.operators.proofs.Lists.{length-list_below}
 use Rattle.pass_programs.specs.Contract.{CanProgram, Performs}
 use Rattle.passes.specs.Good as passes
-use Rattle.request_passes.proofs.Small.{tree-small}
-use Rattle.tree_model.specs.Admissible.{IsAdmissible}
+use Rattle.passes.specs.Merged.{PlainMerged}
 use Rattle.tree_model.specs.Breakdown.{Breakdown}
-use Rattle.tree_model.specs.Chosen.{whole_cost}
-use Rattle.tree_model.specs.Cost.{cost_of}
+use Rattle.tree_model.specs.Chosen.{IsWholeTree}
 use Rattle.tree_model.specs.Passes.{whole_passes}
-use Rattle.tree_passes.specs.Laws.{machine_of}
-use Rattle.tree_passes.proofs.TreesCanProgram.{trees_can_program}
+use Rattle.program_emit.specs.Machines.{machine_of}
+use Rattle.tree_passes.proofs.TreePrograms.{trees_can_program}
 use Rattle.generate.specs.Convolver.{IsConvolver}
 use Rattle.generate.specs.Factors.{factors_of}
 use Rattle.generate.specs.ConvLetters.{conv_merged}
-use Rattle.generate.proofs.ConvTrees.{conv_inverse_valid}
+use Rattle.generate.specs.ConvPlanned.{IsConvPlanned}
+use Rattle.generate.proofs.ConvTrees.{conv_small, inverse_cost, inverse_request, inverse_tree, inverse_valid}
 use Rattle.generate.proofs.ConvMeaning.{joined-convolve}
 use Rattle.generate.proofs.Totals.{tree-totals}
 
-module _ (r : Request) (t : Breakdown) (ds : List ℕ) (request : IsConvRequest r) (valid : IsValid r) (h : IsAdmissible r t) where
+-- a request that is planned is valid
+pub planned-valid : (r : Request) (t : Breakdown) → IsConvRequest r → IsConvPlanned r (Ok t) → IsValid r
+planned-valid r t request planned = valid_by_powers r request.in_range planned.0
+
+-- the passes that are joined are those of the request
+pub joined-same : (r c d : Request) (t : Breakdown) (ls ds : List ℕ) (f s g : PlainMerged) →
+    c ≡ r → d ≡ inverted r → ds ≡ factors_of c ls →
+    f ≡ tree_merged c t → s ≡ tree_merged d t → g ≡ joined f ds s → g ≡ conv_merged r t (factors_of r ls)
+joined-same r c d t ls ds f s g forward backward listed first second both =
+    both
+    ∙ ap₂ (λ x y. joined x ds y) first second
+    ∙ ap (λ fs. joined (tree_merged c t) fs (tree_merged d t)) listed
+    ∙ ap₂ (λ z y. joined (tree_merged z t) (factors_of z ls) (tree_merged y t)) forward backward
+
+module _ (r : Request) (t : Breakdown) (ls : List ℕ) (request : IsConvRequest r) (valid : IsValid r)
+    (h : IsWholeTree r t) where
+  abbrev ds : List ℕ
+  ds = factors_of r ls
+
+  request' : IsConvRequest (inverted r)
+  request' = inverse_request r request valid
+
   valid' : IsValid (inverted r)
-  valid' = conv_inverse_valid r request valid
+  valid' = inverse_valid r request valid
 
-  h' : IsAdmissible (inverted r) t
-  h' = (inverse_admits r t request.kind).1 h
+  h' : IsWholeTree (inverted r) t
+  h' = inverse_tree r request valid t h
 
-  pub can-convolve : JoinedCanProgram → length ds ≡ r.size → All (λ d. d < r.modulus) ds → CanProgram (machine_of r) (conv_merged r t ds)
-  can-convolve can size residues =
-      let first = tree-small r valid t h in
-      let second = tree-small (inverted r) valid' t h' in
+  pub can-convolve : JoinedCanProgram → All (λ d. d < r.modulus) ds → CanProgram (machine_of r) (conv_merged r t ds)
+  can-convolve can residues =
+      let first = conv_small r request t h valid in
+      let second = conv_small (inverted r) request' t h' valid' in
       let few = first.nests in
       let few' = second.nests in
       let low = first.actions in
@@ -57,14 +77,14 @@ module _ (r : Request) (t : Breakdown) (ds : List ℕ) (request : IsConvRequest 
         first = trees_can_program r t valid h;
         second = trees_can_program (inverted r) t valid' h';
         free = first.free;
-        size = size;
+        size = length-list_below r.size _;
         residues = residues;
         registers = first.registers (with_values ds) (λ z. refl);
         actions = omega (arith, low, low', most);
         tables = omega (arith, few, few');
       })
 
-  module _ (ls : List ℕ) (p : Program) (performs : Performs (machine_of r) (conv_merged r t ds) (plain_program p)) where
+  module _ (p : Program) (performs : Performs (machine_of r) (conv_merged r t ds) (plain_program p)) where
     any-turns : (x turns : List ℕ) → results (code_of p) x turns ≡ results (code_of p) x []
     any-turns x turns =
         let first = memory_of_runs (code_of p) (code_is (plain_program p)) performs.apart x turns in
@@ -74,13 +94,13 @@ module _ (r : Request) (t : Breakdown) (ds : List ℕ) (request : IsConvRequest 
     counts-both : JoinedCounts → CountsBoth (machine_of r) (tree_merged r t) (tree_merged (inverted r) t) (plain_program p)
     counts-both counts =
         (counts (tree_merged r t) (tree_merged (inverted r) t) ds (machine_of r) (trees_can_program r t valid h)
-        (tree-small r valid t h).free).program (plain_program p) request.procs performs
+        (conv_small r request t h valid).free).program (plain_program p) request.procs performs
 
-    pub is-convolver : whole_cost r t ≡ cost_of r t → JoinedMeans → JoinedCounts → IsPrincipal r.modulus r.size r.root → ds ≡ factors_of r ls → IsConvolver r t ls p
-    is-convolver cost means counts principal listed =
+    pub is-convolver : JoinedMeans → JoinedCounts → IsPrincipal r.modulus r.size r.root → IsConvolver r t ls p
+    is-convolver means counts principal =
         let both = counts-both counts in
-        let first = tree-totals r t valid h in
-        let second = tree-totals (inverted r) t valid' h' in
+        let first = tree-totals r t request valid h in
+        let second = tree-totals (inverted r) t request' valid' h' in
         let weight = valid.in_range.weight.0 in
         record {
           header = record { size = performs.size; modulus = performs.modulus; procs = performs.procs; line = performs.line; lanes = performs.lanes };
@@ -90,13 +110,14 @@ module _ (r : Request) (t : Breakdown) (ds : List ℕ) (request : IsConvRequest 
           apart = performs.apart;
           product = λ x turns vector _.
               let items : passes.IsVector r.modulus r.size x = record { size = vector.size; residues = λ i low. vector.residues i 0 (let size = vector.size in omega (arith, low, size)) } in
-              any-turns x turns ∙ performs.results x items ∙ joined-convolve r t ls ds request valid h principal means listed x items;
+              any-turns x turns
+              ∙ performs.results x items
+              ∙ joined-convolve r t ls request valid h principal means x items;
           operations =
               let all = both.operations r.weight (omega (arith, weight)) in
               let one = first.operations in
-              let other = second.operations ∙ inverse_costs r t request.kind valid in
-              let whole = cost in
-              omega (arith, all, one, other, whole);
+              let other = second.operations ∙ inverse_cost r request valid t h in
+              omega (arith, all, one, other);
           loads =
               let all = both.loads in
               let one = first.loads in

@@ -6,9 +6,7 @@ use Rattle.matrix_meaning.specs.Convolving.{IsConvRequest}
 use Rattle.matrix_meaning.proofs.ConvolutionLaw.{convolution_by_diagonal}
 use Rattle.formula_lower.specs.Merged.{tree_merged}
 use Rattle.matrix_meaning.specs.Parts.{inverted}
-use Rattle.tree_model.proofs.InverseTrees.{inverse_admits}
 use Rattle.matrix_meaning.proofs.Roots.{root-is}
-use Rattle.joined_passes.specs.Joined.{joined}
 use Rattle.joined_passes.specs.Laws.{JoinedMeans}
 use Rattle.matrix_meaning.specs.declared.Kind.TheVariants.{Dft}
 use Rattle.matrix_meaning.specs.declared.Request.{Request}
@@ -19,12 +17,13 @@ use Rattle.operators.specs.Sum.{list_below}
 use Rattle.operators.proofs.Lists.{at-list_below, length-list_below, list_below-same}
 use Rattle.passes.specs.Good.{IsVector}
 use Rattle.passes.specs.Merged.{merged_on}
-use Rattle.request_passes.proofs.Small.{tree-small}
-use Rattle.tree_model.specs.Admissible.{IsAdmissible}
 use Rattle.tree_model.specs.Breakdown.{Breakdown}
-use Rattle.tree_passes.proofs.Transforms.{trees-transform}
+use Rattle.tree_model.specs.Chosen.{IsWholeTree}
+use Rattle.tree_passes.proofs.Merged.{trees_are_merged}
+use Rattle.generate.specs.ConvLetters.{conv_merged}
 use Rattle.generate.specs.Factors.{factors_of}
-use Rattle.generate.proofs.ConvTrees.{conv_inverse_valid, conv_not_wht}
+use Rattle.generate.proofs.ConvTrees.{conv_asked, conv_not_wht, conv_small}
+use Rattle.generate.proofs.ConvTrees.{inverse_request, inverse_tree, inverse_valid}
 
 scale-vector : (m n : ℕ) (f : ℕ → ℕ) (x : List ℕ) → 0 < m → IsVector m n (scale m n f x)
 scale-vector m n f x some =
@@ -34,36 +33,39 @@ scale-vector m n f x some =
     }
 
 -- listed factors
-scale-listed : (m n : ℕ) (f : ℕ → ℕ) (ds x : List ℕ) → ds ≡ list_below n f → scale m n (slice_index ds) x ≡ scale m n f x
-scale-listed m n f ds x listed =
-    list_below-same n _ _ (λ i low. ap (λ v. (v * slice_index x i) % m) (ap (λ vs. slice_index vs i) listed ∙ at-list_below n f i low))
+scale-listed : (m n : ℕ) (f : ℕ → ℕ) (x : List ℕ) → scale m n (slice_index (list_below n f)) x ≡ scale m n f x
+scale-listed m n f x = list_below-same n _ _ (λ i low. ap (λ v. (v * slice_index x i) % m) (at-list_below n f i low))
 
 -- what a tree's passes do by the request's root
-tree-does : (c : Request) (t : Breakdown) (x : List ℕ) → IsValid c → c.kind ≡ Dft → IsAdmissible c t → IsVector c.modulus c.size x →
+tree-does : (c : Request) (t : Breakdown) (x : List ℕ) →
+    IsConvRequest c → IsValid c → IsWholeTree c t → IsVector c.modulus c.size x →
     merged_on c.modulus (tree_merged c t) x ≡ transform Dft c.modulus c.size c.root x
-tree-does c t x valid dft h vector =
-    trees-transform c t x valid h vector
-    ∙ ap (λ k. transform k c.modulus c.size c.root x) dft
+tree-does c t x request valid h vector =
+    (trees_are_merged c t valid h).meaning x vector
+    ∙ conv_asked c request x
+    ∙ ap (λ k. transform k c.modulus c.size c.root x) request.kind
 
-module _ (r : Request) (t : Breakdown) (ls ds : List ℕ) (request : IsConvRequest r) (valid : IsValid r) (h : IsAdmissible r t) (principal : IsPrincipal r.modulus r.size r.root) where
+module _ (r : Request) (t : Breakdown) (ls : List ℕ) (request : IsConvRequest r) (valid : IsValid r)
+    (h : IsWholeTree r t) (principal : IsPrincipal r.modulus r.size r.root) where
   abbrev factor : ℕ → ℕ
   factor = convolution_factor r.modulus r.size r.root ls
 
   some : 0 < r.modulus
   some = let two = request.in_range.modulus.0 in omega (arith, two)
 
-  pub joined-convolve : JoinedMeans → ds ≡ factors_of r ls → (x : List ℕ) → IsVector r.modulus r.size x →
-      merged_on r.modulus (joined (tree_merged r t) ds (tree_merged (inverted r) t)) x ≡ convolution r.modulus r.size ls x
-  joined-convolve means listed x vector =
+  pub joined-convolve : JoinedMeans → (x : List ℕ) → IsVector r.modulus r.size x →
+      merged_on r.modulus (conv_merged r t (factors_of r ls)) x ≡ convolution r.modulus r.size ls x
+  joined-convolve means x vector =
       let m = r.modulus in
       let n = r.size in
       let g = tree_merged r t in
       let k = tree_merged (inverted r) t in
-      let valid' = conv_inverse_valid r request valid in
+      let ds = factors_of r ls in
       let root = root-is r.kind m r.root n request.in_range.modulus.0 (conv_not_wht r request) valid.root in
-      means g k ds (tree-small r valid t h).free refl m x some
-      ∙ ap (λ y. merged_on m k (scale m n (slice_index ds) y)) (tree-does r t x valid request.kind h vector)
-      ∙ ap (merged_on m k) (scale-listed m n factor ds (transform Dft m n r.root x) listed)
-      ∙ tree-does (inverted r) t (scale m n factor (transform Dft m n r.root x)) valid' refl ((inverse_admits r t request.kind).1 h)
+      means g k ds (conv_small r request t h valid).free refl m x some
+      ∙ ap (λ y. merged_on m k (scale m n (slice_index ds) y)) (tree-does r t x request valid h vector)
+      ∙ ap (merged_on m k) (scale-listed m n factor (transform Dft m n r.root x))
+      ∙ tree-does (inverted r) t (scale m n factor (transform Dft m n r.root x))
+      (inverse_request r request valid) (inverse_valid r request valid) (inverse_tree r request valid t h)
       (scale-vector m n factor (transform Dft m n r.root x) some)
       ∙ convolution_by_diagonal m n r.root ls x some root request.unit principal

@@ -1,61 +1,94 @@
 -- Trees of a request for convolutions, which is of one size and no inverse.
-use Rattle.std.proofs.Common.{◌≡◌, ◌≢◌, ℕ, ◌+◌, List, Bool, true, false, refl, sym, ap, ap₂, ◌∙◌, arith, subst, if◌then◌else◌}
-use Rattle.std.specs.Prelude.{◌==◌}
+use Rattle.std.proofs.Common.{◌≡◌, ◌≢◌, ℕ, List, None, refl, sym, ap, ◌∙◌, subst}
+use Rattle.formula_lower.specs.Merged.{layout_merged, tree_merged}
 use Rattle.matrix_meaning.specs.Asked.{asked_of}
 use Rattle.matrix_meaning.specs.Convolving.{IsConvRequest}
+use Rattle.matrix_meaning.specs.declared.Kind.{Kind}
 use Rattle.matrix_meaning.specs.declared.Kind.TheVariants.{Dft, Wht, Idft}
 use Rattle.matrix_meaning.specs.declared.Request.{Request}
-use Rattle.matrix_meaning.specs.Parts.{forward_by, forward_of, inverted}
+use Rattle.matrix_meaning.specs.Parts.{inverted}
 use Rattle.matrix_meaning.specs.Valid.{IsValid}
 use Rattle.matrix_meaning.proofs.Asked.{asked_of_one}
 use Rattle.matrix_meaning.proofs.Requests.{inverse_is_valid}
-use Rattle.tree_model.specs.Admissible.{IsAdmissible}
-use Rattle.tree_model.specs.Breakdown.{Breakdown, size_of}
-use Rattle.tree_model.specs.Chosen.{IsWholeTree, closing_by, closing_cost, whole_cost}
+use Rattle.pass_programs.specs.Contract.{all_passes}
+use Rattle.passes.specs.Merged.{PlainMerged}
+use Rattle.steps.specs.Targets.{target_of}
+use Rattle.steps.specs.Whole.{factor_by, whole_of}
+use Rattle.tree_model.specs.Breakdown.{Breakdown}
+use Rattle.tree_model.specs.Chosen.{IsWholeTree, whole_cost}
 use Rattle.tree_model.specs.Cost.{cost_of}
-use Rattle.tree_model.specs.Whole.{IsTreeOf, cost_in}
+use Rattle.tree_model.specs.Whole.{IsTreeOf}
 use Rattle.tree_model.proofs.FlatTrees.{flat_costs}
+use Rattle.tree_model.proofs.InverseCosts.{inverse_costs}
 use Rattle.tree_model.proofs.InverseTrees.{inverse_admits}
-use Rattle.tree_model.proofs.WholeTrees.{whole_of_one}
+use Rattle.tree_model.proofs.WholeTrees.{admissible_is_whole, cost_itself, forward_itself, whole_is_admissible}
+use Rattle.program_emit.specs.Machines.{machine_of}
+use Rattle.formula_lower.proofs.TreeLayouts.{trees_can_lower}
+use Rattle.tree_passes.proofs.ClosedWholes.{wholes_merge}
+use Rattle.tree_passes.proofs.Small.{AreSmall, layout_small}
+use Rattle.tree_passes.proofs.TreeHosted.{tree_hosted}
 use Rattle.generate.specs.Factors.{root_transform}
+use Rattle.tree_passes.specs.Closed.{closed_merged}
 
-pub conv_forward : (r : Request) → IsConvRequest r → forward_of r ≡ r
-conv_forward r request = ap (λ kind. forward_by kind r) request.kind
+-- ---- one such request
 
-pub conv_not_wht : (r : Request) → IsConvRequest r → r.kind ≢ Wht
-conv_not_wht r request wht = let other : Dft ≡ Wht = sym request.kind ∙ wht in cc
+module _ (r : Request) (request : IsConvRequest r) where
+  pub conv_not_wht : r.kind ≢ Wht
+  conv_not_wht wht = let other : Dft ≡ Wht = sym request.kind ∙ wht in cc
 
-pub conv_inverse_valid : (r : Request) → IsConvRequest r → IsValid r → IsValid (inverted r)
-conv_inverse_valid r request valid = inverse_is_valid r (conv_not_wht r request) request.dimensions valid
+  conv_not_idft : r.kind ≢ Idft
+  conv_not_idft idft = let other : Dft ≡ Idft = sym request.kind ∙ idft in cc
 
-pub conv_admissible : (r : Request) (t : Breakdown) → IsConvRequest r → IsWholeTree r t → IsAdmissible r t
-conv_admissible r t request h =
-    subst (λ (c : Request). IsAdmissible c t) (conv_forward r request) ((whole_of_one r t request.dimensions).0 h)
+  -- what it asks for
+  pub conv_asked : (x : List ℕ) → asked_of r x ≡ root_transform r x
+  conv_asked x = asked_of_one r x request.dimensions
 
--- the same of a request that is this one
-pub conv_admits : (r c : Request) (t : Breakdown) → IsConvRequest r → IsWholeTree r t → c ≡ r → IsAdmissible c t
-conv_admits r c t request h is = subst (λ (z : Request). IsAdmissible z t) (sym is) (conv_admissible r t request h)
+  module _ (t : Breakdown) (h : IsWholeTree r t) where
+    pub conv_tree : IsTreeOf r t
+    conv_tree = subst (λ (c : Request). IsTreeOf c t) (forward_itself r conv_not_idft) h.tree
 
--- and of the one by the inverse root
-pub conv_admits_inverse : (r c : Request) (t : Breakdown) → IsConvRequest r → IsWholeTree r t → c ≡ inverted r → IsAdmissible c t
-conv_admits_inverse r c t request h is =
-    subst (λ (z : Request). IsAdmissible z t) (sym is) ((inverse_admits r t request.kind).1 (conv_admissible r t request h))
+    -- its tree costs the same by its words for one size
+    flat_cost : whole_cost r t ≡ cost_of r t
+    flat_cost = cost_itself r t conv_not_idft ∙ flat_costs r t request.dimensions conv_tree
 
--- what such a request asks for
-pub conv_asked : (r : Request) (x : List ℕ) → IsConvRequest r → asked_of r x ≡ root_transform r x
-conv_asked r x request = asked_of_one r x request.dimensions
+    -- its passes are those of the layout, which are few, and of which the last has no diagonal
+    pub conv_small : IsValid r → AreSmall (machine_of r) (all_passes (tree_merged r t).phases)
+    conv_small valid =
+        let whole = whole_of r t in
+        let open_passes : PlainMerged = layout_merged (target_of r) whole.layout in
+        let none : whole.factor ≡ None = ap (λ (kind : Kind). factor_by kind r) request.kind in
+        let same : tree_merged r t ≡ open_passes =
+        wholes_merge (target_of r) whole (trees_can_lower r t valid h)
+        ∙ ap (λ factor. closed_merged factor open_passes) none in
+        subst (λ (g : PlainMerged). AreSmall (machine_of r) (all_passes g.phases)) (sym same)
+        (layout_small (target_of r) whole.layout (tree_hosted r t valid h))
 
--- the whole costs what its tree does
-pub conv_whole_cost : (r : Request) (t : Breakdown) → IsConvRequest r → IsWholeTree r t → whole_cost r t ≡ cost_of r t
-conv_whole_cost r t request h =
-    let tree : IsTreeOf r t = subst (λ (c : Request). IsTreeOf c t) (conv_forward r request) h.tree in
-    let closing : closing_cost r ≡ 0 = ap (λ kind. closing_by kind r) request.kind in
-    let none : (n : ℕ) → n + 0 ≡ n = λ n. omega arith in
-    ap₂ (λ (c : Request) (k : ℕ). cost_in c t + (if size_of t == r.size then k else 0)) (conv_forward r request) closing
-    ∙ ap (λ (k : ℕ). cost_in r t + k) (either (size_of t == r.size))
-    ∙ none (cost_in r t)
-    ∙ flat_costs r t request.dimensions tree
-  where
-    either : (b : Bool) → ◌≡◌ {A = ℕ} (if b then 0 else 0) 0
-    either true = refl
-    either false = refl
+-- ---- the request by the inverse root
+
+module _ (r : Request) (request : IsConvRequest r) (valid : IsValid r) where
+  pub inverse_valid : IsValid (inverted r)
+  inverse_valid = inverse_is_valid r (conv_not_wht r request) request.dimensions valid
+
+  pub inverse_request : IsConvRequest (inverted r)
+  inverse_request = record {
+    in_range = inverse_valid.in_range;
+    kind = refl;
+    dimensions = request.dimensions;
+    procs = request.procs;
+    line = request.line;
+    lanes = request.lanes;
+    unit = request.unit;
+  }
+
+  -- it has the same trees, at the same cost
+  module _ (t : Breakdown) (h : IsWholeTree r t) where
+    pub inverse_tree : IsWholeTree (inverted r) t
+    inverse_tree =
+        admissible_is_whole (inverted r) t request.dimensions (conv_not_idft (inverted r) inverse_request)
+        ((inverse_admits r t request.kind).1 (whole_is_admissible r t request.dimensions (conv_not_idft r request) h))
+
+    pub inverse_cost : whole_cost (inverted r) t ≡ whole_cost r t
+    inverse_cost =
+        flat_cost (inverted r) inverse_request t inverse_tree
+        ∙ inverse_costs r t request.kind valid
+        ∙ sym (flat_cost r request t h)

@@ -6,7 +6,6 @@ use Rattle.matrix_meaning.specs.declared.Dimensions.TheVariants.{One, Two, Three
 use Rattle.matrix_meaning.specs.declared.Request.{Request}
 use Rattle.matrix_meaning.specs.Parts.{bad_power, first_of, rest_of}
 use Rattle.matrix_meaning.specs.Valid.{IsInRange}
-use Rattle.matrix_meaning.proofs.Requests.{valid_by_powers}
 use Rattle.plan_search.specs.declared.generating.GenerateFault.{GenerateFault}
 use Rattle.plan_search.specs.declared.generating.GenerateFault.TheVariants.{Root, NoDivide, OverBudget}
 use Rattle.plan_search.proofs.Decisions.{IsDecidable, decided_divide, decided_fits}

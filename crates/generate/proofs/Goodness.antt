@@ -2,6 +2,7 @@
 use Rattle.std.proofs.Common.{◌≡◌, ℕ, zero, suc, ◌+◌, ◌*◌, ◌/◌, ◌<◌, List, [], sym, ap, ◌∙◌, arith, subst, flat_map, length}
 use Rattle.std.proofs.Math.Nat.{mul-div_cancel_left}
 use Rattle.std.specs.List.{range_with_len}
+use Rattle.formula_lower.specs.Merged.{tree_merged}
 use Rattle.icode.specs.declared.program.Program.{Program}
 use Rattle.icode.specs.Machine.{acts, counts_of, padded, results, whole_counts, words_at}
 use Rattle.icode.specs.Program.{code_of, plain_program}
@@ -13,13 +14,13 @@ use Rattle.matrix_meaning.specs.Valid.{IsValid}
 use Rattle.operators.specs.Sum.{sum_below}
 use Rattle.pass_programs.specs.Contract.{Performs}
 use Rattle.passes.specs.Good as vectors
-use Rattle.request_passes.specs.Merged.{request_merged}
-use Rattle.request_passes.proofs.Requests.{requests_count, requests_mean}
 use Rattle.tree_model.specs.Breakdown.{Breakdown}
 use Rattle.tree_model.specs.Chosen.{IsWholeTree, whole_cost}
 use Rattle.tree_model.specs.WholePasses.{request_passes, whole_loads, whole_stores}
 use Rattle.tree_model.proofs.WholeCosts.{passes_do_the_cost}
-use Rattle.tree_passes.specs.Laws.{machine_of}
+use Rattle.program_emit.specs.Machines.{machine_of}
+use Rattle.tree_passes.specs.Merged.{IsMergedTree}
+use Rattle.tree_passes.proofs.Merged.{trees_are_merged}
 use Rattle.generate.specs.Good.{IsGood, IsVector}
 use Rattle.generate.specs.Lean.{IsLean, IsLeanCode}
 use Rattle.generate.proofs.Parts.{IsShare, lean-code, share-of}
@@ -38,14 +39,18 @@ shares-sum p whole f (suc n) each =
 whole-of : (p whole : ℕ) (f : ℕ → ℕ) → 0 < p → ((q : ℕ) → q < p → p * f q ≡ whole) → sum_below p f ≡ whole
 whole-of p whole f some each = sym (mul-div_cancel_left (sum_below p f) some) ∙ ap (λ n. n / p) (shares-sum p whole f p each) ∙ mul-div_cancel_left whole some
 
-module _ (r : Request) (t : Breakdown) (p : Program) (valid : IsValid r) (h : IsWholeTree r t) (performs : Performs (machine_of r) (request_merged r t) (plain_program p)) where
+module _ (r : Request) (t : Breakdown) (p : Program) (valid : IsValid r) (h : IsWholeTree r t)
+    (performs : Performs (machine_of r) (tree_merged r t) (plain_program p)) where
+  known : IsMergedTree r t (tree_merged r t)
+  known = trees_are_merged r t valid h
+
   some-procs : 0 < r.procs
   some-procs = let procs = valid.in_range.procs in omega (arith, procs)
 
   parts : IsLeanCode r t (code_of p)
   parts =
       let weight = valid.in_range.weight in
-      lean-code r t (request_merged r t) (plain_program p) (omega (arith, weight)) (requests_count r t valid h) performs
+      lean-code r t (tree_merged r t) (plain_program p) (omega (arith, weight)) known performs
 
   share : (q : ℕ) → q < r.procs → IsShare r (request_passes r t) (whole_counts (code_of p) q)
   share q low =
@@ -63,7 +68,7 @@ module _ (r : Request) (t : Breakdown) (p : Program) (valid : IsValid r) (h : Is
   transforms x vector =
       let size = vector.size in
       let same : vectors.IsVector r.modulus r.size x = record { size = size; residues = λ i low. vector.residues i 0 (omega (arith, low, size)) } in
-      performs.results x same ∙ requests_mean r t x valid h same
+      performs.results x same ∙ known.meaning x same
 
   pub good : IsGood r (whole_cost r t) p
   good =

@@ -1,5 +1,3 @@
-pub mod Chain
-pub mod ConvChain
 pub mod ConvExistence
 pub mod ConvGoodness
 pub mod ConvMeaning

@@ -3,7 +3,6 @@ use Rattle.std.proofs.Common.{◌≡◌, ℕ, suc, ◌+◌, ◌*◌, ◌<◌, Li
 use Rattle.std.specs.List.{range_with_len}
 use Rattle.std.proofs.lemmas.List.{length-map}
 use Rattle.std.proofs.lemmas.List.Sums.{sum_by-cons}
-use Rattle.dimension_passes.specs.Laws.{CountsRequest}
 use Rattle.icode.specs.Actions.{plain_code}
 use Rattle.icode.specs.Machine.{acts, counts_of, weighted}
 use Rattle.icode.specs.Plain.{PlainProgram}
@@ -20,7 +19,8 @@ use Rattle.passes.specs.Merged.{PlainMerged}
 use Rattle.passes.specs.Nest.{PlainNest}
 use Rattle.tree_model.specs.Breakdown.{Breakdown}
 use Rattle.tree_model.specs.WholePasses.{RequestPass, cost_of_pass, loads_of_pass, request_passes}
-use Rattle.tree_passes.specs.Laws.{machine_of}
+use Rattle.program_emit.specs.Machines.{machine_of}
+use Rattle.tree_passes.specs.Merged.{IsMergedTree}
 use Rattle.tree_passes.proofs.Adding.{adds}
 use Rattle.generate.specs.Lean.{AreParts, IsLeanCode, IsLeanList, IsPart, start_of}
 
@@ -112,7 +112,8 @@ module _ (r : Request) where
   pub share-of : (t : Breakdown) (actions : List Action) → IsLeanList r t actions → IsShare (request_passes r t) (counts_of r.lanes actions)
   share-of t actions lean = subst (λ list. IsShare (request_passes r t) (counts_of r.lanes list)) lean.whole (sums 0 X (request_passes r t) lean.parts lean.each)
 
-module _ (r : Request) (t : Breakdown) (g : PlainMerged) (p : PlainProgram) (some : 0 < r.weight) (counts : CountsRequest r t g) (performs : Performs (machine_of r) g p) where
+module _ (r : Request) (t : Breakdown) (g : PlainMerged) (p : PlainProgram) (some : 0 < r.weight)
+    (known : IsMergedTree r t g) (performs : Performs (machine_of r) g p) where
   lists-length : length (plain_code p).lists ≡ length g.phases
   lists-length = length-map p.phases _ ∙ performs.phases
 
@@ -123,8 +124,10 @@ module _ (r : Request) (t : Breakdown) (g : PlainMerged) (p : PlainProgram) (som
       record {
         parts = listed.parts;
         whole = listed.whole ∙ ap (λ n. flat_map (λ phase. acts (plain_code p) phase q) (range_with_len 0 n)) (sym lists-length);
-        each = parts-are r 0 X ps (request_passes r t) listed.parts some (all-count r ps (request_passes r t) counts.costs counts.loads) listed.each;
+        each =
+            parts-are r 0 X ps (request_passes r t) listed.parts some
+            (all-count r ps (request_passes r t) known.counts.costs known.counts.loads) listed.each;
       }
 
   pub lean-code : IsLeanCode r t (plain_code p)
-  lean-code = record { phases = lists-length ∙ counts.phases; lists = lean-list }
+  lean-code = record { phases = lists-length ∙ known.phases; lists = lean-list }

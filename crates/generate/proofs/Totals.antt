@@ -1,23 +1,31 @@
--- What the merged passes of a tree count together.
-use Rattle.std.proofs.Common.{◌≡◌, ℕ, ◌+◌, List, [], ◌∷◌, length, map, refl, sym, ap, ap₂, ◌∙◌, arith}
+-- What the merged passes of a request for convolutions count together.
+use Rattle.std.proofs.Common.{◌≡◌, ℕ, ◌+◌, List, [], ◌∷◌, length, map, refl, sym, ap, ◌∙◌}
 use Rattle.std.specs.Prelude.{sum_by}
 use Rattle.std.proofs.lemmas.List.{length-map}
 use Rattle.std.proofs.lemmas.List.Sums.{sum_by-cons}
 use Rattle.formula_lower.specs.Merged.{tree_merged}
+use Rattle.matrix_meaning.specs.Convolving.{IsConvRequest}
+use Rattle.matrix_meaning.specs.declared.Kind.{Kind}
 use Rattle.matrix_meaning.specs.declared.Request.{Request}
+use Rattle.matrix_meaning.specs.Parts.{forward_by}
 use Rattle.matrix_meaning.specs.Valid.{IsValid}
 use Rattle.pass_actions.specs.Costs.{pass_cost, pass_loads}
 use Rattle.pass_programs.specs.Contract.{all_passes}
 use Rattle.passes.specs.Nest.{PlainNest}
-use Rattle.tree_model.specs.Admissible.{IsAdmissible}
-use Rattle.tree_model.specs.Breakdown.{Breakdown}
-use Rattle.tree_model.specs.Cost.{cost_of}
-use Rattle.tree_model.specs.Passes.{Pass, loads_in, loads_of, passes_cost, whole_passes}
+use Rattle.tree_model.specs.declared.tree.Rule.TheVariants.{Gt, Ct, Split, Dim}
+use Rattle.tree_model.specs.Breakdown.{Breakdown, leaf, node}
+use Rattle.tree_model.specs.Chosen.{IsWholeTree, whole_cost}
+use Rattle.tree_model.specs.Passes.{Pass, loads_in, loads_of, whole_passes}
 use Rattle.tree_model.specs.Passes as trees
-use Rattle.tree_model.proofs.PassLaws.{whole_passes_cost}
-use Rattle.tree_passes.proofs.Counting.{trees_count}
+use Rattle.tree_model.specs.Whole.{IsTreeOf}
+use Rattle.tree_model.specs.WholePasses.{pass_of, closed_by, cost_of_pass, flat_passes, loads_of_pass, request_passes}
+use Rattle.tree_model.proofs.WholeCosts.{passes_do_the_cost}
+use Rattle.tree_passes.specs.Counts.{CountsTree}
+use Rattle.tree_passes.proofs.Merged.{trees_are_merged}
+use Rattle.generate.proofs.ConvTrees.{conv_tree}
 
--- the sum of listed numbers
+-- ---- what is listed alike has the same sum
+
 sum_list : List ℕ → ℕ
 sum_list [] = 0
 sum_list (x ∷ xs) = x + sum_list xs
@@ -27,28 +35,58 @@ unfolding sum_list
 sum-listed f [] = refl
 sum-listed f (x ∷ xs) = sum_by-cons f x xs ∙ ap (λ n. f x + n) (sum-listed f xs)
 
-costs-listed : (c : Request) (ps : List Pass) → sum_list (map (trees.pass_cost c c.size) ps) ≡ passes_cost c c.size ps
-unfolding sum_list
-costs-listed c [] = refl
-costs-listed c (pass ∷ ps) = ap (λ n. trees.pass_cost c c.size pass + n) (costs-listed c ps)
+sums-same : {A B : Type 0} (f : A → ℕ) (g : B → ℕ) (xs : List A) (ys : List B) → map f xs ≡ map g ys →
+    sum_by f xs ≡ sum_by g ys
+sums-same f g xs ys h = sum-listed f xs ∙ ap sum_list h ∙ sym (sum-listed g ys)
 
-loads-listed : (c : Request) (ps : List Pass) → sum_list (map (trees.pass_loads c c.size) ps) ≡ loads_in c ps
-unfolding sum_list
+-- ---- the passes of a tree of one size
+
+loads-listed : (c : Request) (ps : List Pass) → sum_by (loads_of_pass c.size) (map (pass_of c) ps) ≡ loads_in c ps
 loads-listed c [] = refl
-loads-listed c (pass ∷ ps) = ap (λ n. trees.pass_loads c c.size pass + n) (loads-listed c ps)
+loads-listed c (p ∷ ps) =
+    sum_by-cons (loads_of_pass c.size) (pass_of c p) (map (pass_of c) ps)
+    ∙ ap (λ n. trees.pass_loads c c.size p + n) (loads-listed c ps)
+
+module _ (c : Request) (request : IsConvRequest c) where
+  flat-are : (t : Breakdown) → flat_passes c t ≡ map (pass_of c) (whole_passes c t)
+  flat-are t =
+      ap (λ (kind : Kind). map (pass_of (forward_by kind c)) (closed_by kind (whole_passes (forward_by kind c) t)))
+      request.kind
+
+  passes-are : (t : Breakdown) → IsTreeOf c t → request_passes c t ≡ map (pass_of c) (whole_passes c t)
+  passes-are (leaf d) h = flat-are (leaf d)
+  passes-are (node Gt a b) h = flat-are (node Gt a b)
+  passes-are (node Ct a b) h = flat-are (node Ct a b)
+  passes-are (node Split a b) h = flat-are (node Split a b)
+  passes-are (node Dim a b) h = absurd (h.2.0 request.dimensions)
+
+-- ---- together
 
 -- the operations and loads of the cost model, and a pass for each of its passes
 pub record Totals (c : Request) (t : Breakdown) (ps : List (List PlainNest)) : Type 0 where
-  pub operations : sum_by (pass_cost c.weight c.modulus) ps ≡ cost_of c t
+  pub operations : sum_by (pass_cost c.weight c.modulus) ps ≡ whole_cost c t
   pub loads : sum_by pass_loads ps ≡ loads_of c t
   pub number : length ps ≡ length (whole_passes c t)
 
-pub tree-totals : (c : Request) (t : Breakdown) → IsValid c → IsAdmissible c t → Totals c t (all_passes (tree_merged c t).phases)
-tree-totals c t valid h =
+pub tree-totals : (c : Request) (t : Breakdown) → IsConvRequest c → IsValid c → IsWholeTree c t →
+    Totals c t (all_passes (tree_merged c t).phases)
+tree-totals c t request valid h =
     let ps = all_passes (tree_merged c t).phases in
-    let counts = trees_count c t valid h in
+    let qs = request_passes c t in
+    let counts : CountsTree c t (tree_merged c t) = (trees_are_merged c t valid h).counts in
+    let flat : qs ≡ map (pass_of c) (whole_passes c t) = passes-are c request t (conv_tree c request t h) in
     record {
-      operations = sum-listed (pass_cost c.weight c.modulus) ps ∙ ap sum_list counts.costs ∙ costs-listed c (whole_passes c t) ∙ whole_passes_cost c t h;
-      loads = sum-listed pass_loads ps ∙ ap sum_list counts.loads ∙ loads-listed c (whole_passes c t);
-      number = sym (length-map ps pass_loads) ∙ ap length counts.loads ∙ length-map (whole_passes c t) (trees.pass_loads c c.size);
+      operations =
+          sums-same (pass_cost c.weight c.modulus) (cost_of_pass c.size) ps qs counts.costs
+          ∙ passes_do_the_cost c t valid h;
+      loads =
+          sums-same pass_loads (loads_of_pass c.size) ps qs counts.loads
+          ∙ ap (sum_by (loads_of_pass c.size)) flat
+          ∙ loads-listed c (whole_passes c t);
+      number =
+          sym (length-map ps pass_loads)
+          ∙ ap length counts.loads
+          ∙ length-map qs (loads_of_pass c.size)
+          ∙ ap length flat
+          ∙ length-map (whole_passes c t) (pass_of c);
     }

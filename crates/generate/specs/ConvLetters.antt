@@ -8,7 +8,7 @@ use Rattle.matrix_meaning.specs.declared.Request.{Request}
 use Rattle.pass_programs.specs.Program.{program_of}
 use Rattle.passes.specs.Merged.{PlainMerged}
 use Rattle.tree_model.specs.Breakdown.{Breakdown}
-use Rattle.tree_passes.specs.Laws.{machine_of}
+use Rattle.program_emit.specs.Machines.{machine_of}
 use Rattle.generate.specs.Factors.{factors_of}
 
 -- the passes of the tree, a diagonal, and the passes of the tree by the inverse root

@@ -1,11 +1,11 @@
 -- The program of a request, statement by statement.
+use Rattle.formula_lower.specs.Merged.{tree_merged}
 use Rattle.icode.specs.Plain.{PlainProgram}
 use Rattle.matrix_meaning.specs.declared.Request.{Request}
 use Rattle.pass_programs.specs.Program.{program_of}
-use Rattle.request_passes.specs.Merged.{request_merged}
 use Rattle.tree_model.specs.Breakdown.{Breakdown}
-use Rattle.tree_passes.specs.Laws.{machine_of}
+use Rattle.program_emit.specs.Machines.{machine_of}
 
 -- the program of the tree's merged passes, on the request's machine
 abbrev pub program_for : Request → Breakdown → PlainProgram
-program_for r t = program_of (machine_of r) (request_merged r t)
+program_for r t = program_of (machine_of r) (tree_merged r t)

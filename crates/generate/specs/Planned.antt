@@ -1,5 +1,5 @@
 -- Which requests are refused, and the tree of the others.
-use Rattle.std.specs.Prelude.{◌≡◌, ℕ, ◌<◌, ◌≤◌, Result, Ok, Err, None, Some}
+use Rattle.std.specs.Prelude.{◌≡◌, ◌<◌, ◌≤◌, Result, Ok, Err, None, Some}
 use Rattle.matrix_meaning.specs.declared.Request.{Request}
 use Rattle.matrix_meaning.specs.Parts.{bad_power}
 use Rattle.plan_search.specs.declared.generating.GenerateFault.{GenerateFault}

@@ -17,7 +17,7 @@ use joined_passes::join;
 use matrix_meaning::Request;
 use memory::NoMemory;
 use plan_search::Plan;
-use program_emit::emit_on;
+use program_emit::emit_joined;
 use ring_mod::Modulus;
 use spl_ast::Spl;
 use std::alloc::Global;
@@ -45,8 +45,7 @@ pub fn generate_conv(
     let diagonal = list_factors(alloc, &forward, &plan.tree, h)?;
     let second = merge_tree(alloc, &backward, &plan.tree)?;
     let joined = join(alloc, first, diagonal, second)?;
-    let modulus = Modulus::new(request.modulus).unwrap();
-    let program = emit_on(alloc, &modulus, request.line, &joined)?;
+    let program = emit_joined(alloc, &forward, &backward, &joined)?;
     Ok(program)
 }
 

@@ -7,8 +7,7 @@ use Rattle.icode.specs.Machine.{counts_of, weighted}
 use Rattle.icode.specs.Plain.{PlainProgram}
 use Rattle.joined_passes.specs.Joined.{joined, with_values}
 use Rattle.joined_passes.specs.Laws.{CountBoth, CountsBoth, CountsJoined, IsFree, JoinedCounts, LastHas}
-use Rattle.multiplied_passes.specs.Multiplied.{multiplied_last}
-use Rattle.multiplied_passes.specs.declared.Pick.TheVariants.{Own}
+use Rattle.multiplied_passes.specs.Multiplied.{Own, multiplied_last}
 use Rattle.multiplied_passes.proofs.Adding.{CountsPasses, executed, performed-count}
 use Rattle.multiplied_passes.proofs.Counts.{last-costs, last-loads, most-last, sum-costs, sum-loads}
 use Rattle.multiplied_passes.proofs.Lasts.{length-last}

@@ -3,8 +3,7 @@ use Rattle.std.proofs.Common.{◌≡◌, ℕ, List, sym, ap, ◌∙◌}
 use Rattle.std.specs.Prelude.{slice_index}
 use Rattle.joined_passes.specs.Joined.{joined}
 use Rattle.joined_passes.specs.Laws.{AreInTurn, JoinedMeans}
-use Rattle.multiplied_passes.specs.Multiplied.{multiplied_last}
-use Rattle.multiplied_passes.specs.declared.Pick.TheVariants.{Own}
+use Rattle.multiplied_passes.specs.Multiplied.{Own, multiplied_last}
 use Rattle.multiplied_passes.proofs.Means.{last-scaled, one-phase, phase-append}
 use Rattle.operators.specs.Operator.{scale}
 use Rattle.pass_programs.specs.Contract.{all_passes}

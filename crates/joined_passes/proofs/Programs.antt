@@ -11,10 +11,10 @@ use Rattle.pass_programs.specs.Contract.{AllOwn, CanProgram, IsFirstShared, all_
 use Rattle.passes.specs.Merged.{PlainMerged}
 use Rattle.passes.specs.Nest.{PlainNest, values}
 use Rattle.joined_passes.specs.Joined.{joined, with_values}
-use Rattle.joined_passes.specs.Laws.{CanJoin, JoinedCanProgram}
+use Rattle.joined_passes.specs.Laws.{CanJoin, IsFree, JoinedCanProgram, LastHas}
 use Rattle.joined_passes.proofs.Counts.{most-joined}
-use Rattle.multiplied_passes.specs.Multiplied.{multiplied_last}
-use Rattle.multiplied_passes.specs.declared.Pick.TheVariants.{Own}
+use Rattle.multiplied_passes.specs.Laws.{SuitsPick}
+use Rattle.multiplied_passes.specs.Multiplied.{Own, multiplied_last}
 use Rattle.multiplied_passes.proofs.Cans.{last-can}
 use Rattle.multiplied_passes.proofs.Lasts.{length-last}
 use Rattle.multiplied_passes.proofs.Tables.{nests-last, passes-grown}
@@ -26,6 +26,12 @@ at-residues m ds some h i =
       | inl inside ↦ h i 0 inside
       | inr past ↦ subst (λ v. v < m) (sym (get_or_past ds i 0 past)) some
     ]
+
+-- a factor of the own place suits every pass
+any-suits : (ps : List (List PlainNest)) → LastHas IsFree ps → LastHas (SuitsPick Own) ps
+any-suits [] free = absurd free
+any-suits (zs ∷ []) free = tt
+any-suits (zs ∷ ys ∷ ps) free = any-suits (ys ∷ ps) free
 
 -- ---- all words are of the one processor
 
@@ -55,11 +61,12 @@ module _ (h : PlainMachine) (g k : PlainMerged) (ds : List ℕ) (can : CanJoin h
   all-can =
       let large = can.first.host.modulus in
       let range = can.first.host.size in
-      let lanes = can.lanes in
       let size = can.size in
       let residues = at-residues h.modulus ds (omega (arith, large)) can.residues in
       All-append (CanWritePass h) (multiplied_last Own (values ds) first) second
-      (last-can h (omega (arith, lanes)) (omega (arith, range)) Own (values ds) (record { enough = (can.lanes, can.size); number = omega (arith, size, range); residues = residues }) first can.registers can.first.passes)
+      (last-can h (omega (arith, range)) Own (values ds)
+      (record { enough = (can.lanes, can.size); number = omega (arith, size, range); residues = residues })
+      first (any-suits first can.free) can.registers can.first.passes)
       can.second.passes
 
   some : 0 < length passes

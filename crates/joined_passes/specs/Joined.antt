@@ -1,7 +1,6 @@
 -- Passes, a diagonal of listed values after the last of them, and then other passes.
 use Rattle.std.specs.Prelude.{ℕ, List, [], ◌∷◌, ◌++◌}
-use Rattle.multiplied_passes.specs.Multiplied.{multiplied_last, with_factors}
-use Rattle.multiplied_passes.specs.declared.Pick.TheVariants.{Own}
+use Rattle.multiplied_passes.specs.Multiplied.{Own, multiplied_last, with_factors}
 use Rattle.pass_programs.specs.Contract.{all_passes}
 use Rattle.passes.specs.Merged.{PlainMerged}
 use Rattle.passes.specs.Nest.{PlainNest, values}

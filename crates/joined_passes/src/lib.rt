@@ -9,7 +9,7 @@ ghost use Rattle.pass_programs.specs.Contract.{all_passes};
 ghost use Rattle.passes.specs.Views.{plain_merged};
 
 use memory::NoMemory;
-use multiplied_passes::{Pick, multiply_last_pass};
+use multiplied_passes::multiply_last_pass;
 use passes::{Factors, Merged, Nest};
 use std::alloc::Global;
 
@@ -37,7 +37,7 @@ pub fn join(
     } = first;
     let before = in_one_phase(alloc, phases)?;
     let factors = Factors::Values(diagonal);
-    let mut passes = multiply_last_pass(alloc, before, Pick::Own, factors)?;
+    let mut passes = multiply_last_pass(alloc, before, factors)?;
     let mut after = in_one_phase(alloc, second.phases)?;
     passes.append(&mut after)?;
     let mut phases = Vec::new(alloc);

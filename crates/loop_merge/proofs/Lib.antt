@@ -26,6 +26,7 @@ pub mod RootMerging
 pub mod Wholes
 pub mod RootDealt
 pub mod Counts
+pub mod FlatCounts
 pub mod LayoutCounts
 pub mod TreePlaces
 pub mod LoopItems

@@ -6,8 +6,7 @@ use Rattle.std.proofs.lemmas.List.Sums.{sum_by-cons}
 use Rattle.icode.specs.Machine.{counts_of, weighted}
 use Rattle.icode.specs.Plain.{PlainProgram}
 use Rattle.multiplied_passes.specs.Laws.{CountsMore, CountsMultiplied, IsFree, LastHas, MultipliedCounts, more_last}
-use Rattle.multiplied_passes.specs.Multiplied.{multiplied, multiplied_last, with_factors}
-use Rattle.multiplied_passes.specs.declared.Pick.{Pick}
+use Rattle.multiplied_passes.specs.Multiplied.{Pick, multiplied, multiplied_last, with_factors}
 use Rattle.multiplied_passes.proofs.Adding.{CountsPasses, executed, performed-count}
 use Rattle.multiplied_passes.proofs.Lasts.{length-last, phases-last}
 use Rattle.pass_actions.specs.Costs.{pass_cost, pass_loads, work_cost, work_loads}

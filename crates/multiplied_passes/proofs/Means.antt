@@ -3,9 +3,7 @@ use Rattle.std.proofs.Common.{◌≡◌, ℕ, ◌*◌, ◌%◌, ◌<◌, List, [
 use Rattle.std.specs.Prelude.{slice_index}
 use Rattle.std.proofs.lemmas.List.Elements.{All-head, All-tail}
 use Rattle.multiplied_passes.specs.Laws.{IsFree, IsRight, LastHas, MultipliedMeans}
-use Rattle.multiplied_passes.specs.Multiplied.{factor_places, multiplied, multiplied_last, with_factors}
-use Rattle.multiplied_passes.specs.declared.Pick.{Pick}
-use Rattle.multiplied_passes.specs.declared.Pick.TheVariants.{Own, First}
+use Rattle.multiplied_passes.specs.Multiplied.{First, Own, Pick, factor_places, multiplied, multiplied_last, with_factors}
 use Rattle.multiplied_passes.proofs.Lasts.{phases-last}
 use Rattle.operators.specs.Operator.{scale}
 use Rattle.operators.specs.Sum.{list_below}

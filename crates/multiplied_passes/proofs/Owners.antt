@@ -2,8 +2,7 @@
 use Rattle.std.proofs.Common.{◌≡◌, ℕ, ◌<◌, List, [], ◌∷◌, map, refl, subst}
 use Rattle.std.specs.Prelude.{Contains}
 use Rattle.std.proofs.lemmas.List.Elements.{All-contains, All-contains_itself, All-map, All-weaker}
-use Rattle.multiplied_passes.specs.Multiplied.{multiplied_last, on_last, with_factors}
-use Rattle.multiplied_passes.specs.declared.Pick.{Pick}
+use Rattle.multiplied_passes.specs.Multiplied.{Pick, multiplied_last, on_last, with_factors}
 use Rattle.pass_actions.specs.Laws.{IsCopyOf, IsLoadedBy, IsStoredBy}
 use Rattle.pass_actions.specs.Machine.{PlainMachine}
 use Rattle.pass_programs.specs.Contract.{AllOwn, AllShared, ArePhasesShared, FirstOwns}

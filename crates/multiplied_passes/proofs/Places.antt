@@ -1,29 +1,22 @@
 -- The places of factors where each item takes the first one.
-use Rattle.std.proofs.Common.{◌≡◌, ℕ, zero, suc, ◌+◌, ◌*◌, ◌%◌, ◌<◌, ◌≤◌, Bool, true, false, List, [], ◌∷◌, refl, sym, ap, ◌∙◌, arith, subst, mod-lt, IsTrue, if◌then◌else◌}
+use Rattle.std.proofs.Common.{◌≡◌, ℕ, zero, suc, ◌+◌, ◌*◌, ◌≤◌, Bool, true, false, List, [], ◌∷◌, refl, sym, ap, ◌∙◌, arith, subst, IsTrue, if◌then◌else◌}
 use Rattle.std.specs.Prelude.{slice_index, slice_index_or}
 use Rattle.std.proofs.lemmas.List.{length-map}
 use Rattle.std.proofs.lemmas.List.Elements.{All-map}
-use Rattle.std.proofs.lemmas.Nat.{mod-mul-add}
 use Rattle.icode.specs.Limits.{is_expr_within}
 use Rattle.icode.specs.Plain.{PlainExpr, PlainParts, Sum, NoParts}
-use Rattle.multiplied_passes.specs.Multiplied.{factor_places}
-use Rattle.multiplied_passes.specs.declared.Pick.TheVariants.{First}
-use Rattle.pass_actions.specs.Laws.{CanWork}
-use Rattle.pass_actions.specs.Machine.{PlainFrame, PlainMachine, item_of, lane_step}
+use Rattle.multiplied_passes.specs.Multiplied.{First, factor_places}
+use Rattle.pass_actions.specs.Machine.{PlainFrame, lane_step}
 use Rattle.pass_programs.specs.Conditions.{AreWithin, CanWrite, FitsWord}
 use Rattle.pass_programs.specs.Expressions.{expr_of, variables_of}
 use Rattle.passes.specs.Good.{AreSound, NamesItems, named}
+use Rattle.passes.specs.Merge.{is_tile}
 use Rattle.passes.specs.Nest.{store_place, sum_value}
 use Rattle.passes.specs.Work.{PlainWork, kernel, rows, horner, tile, copy}
 use Rattle.perm_algebra.specs.Affine as affine
 use Rattle.perm_algebra.specs.Affine.{constant, value}
 
 -- ---- their values
-
--- which of the factors an item takes
-abbrev pub first_place : PlainWork → ℕ → ℕ
-first_place (tile lanes) k = k % lanes
-first_place w k = 0
 
 first-sum : (sums : List affine.Sum) (i : ℕ) → slice_index_or (factor_places First sums) i (constant 0) ≡ constant 0
 first-sum [] i = refl
@@ -33,30 +26,21 @@ first-sum (e ∷ sums) (suc i) = first-sum sums i
 first-value : (sums : List affine.Sum) (i : ℕ) (vs : List ℕ) → sum_value (factor_places First sums) i vs ≡ 0
 first-value sums i vs = ap (λ e. value e (slice_index vs)) (first-sum sums i)
 
-pub first-is : (w : PlainWork) (sums : List affine.Sum) (vs : List ℕ) (k : ℕ) → store_place w (factor_places First sums) vs k ≡ first_place w k
-first-is (kernel trees) sums vs k = first-value sums k vs
-first-is (rows root size) sums vs k = first-value sums 0 _
-first-is (horner root size) sums vs k = first-value sums 0 _
-first-is (tile lanes) sums vs k = ap (λ v. v + k % lanes) (first-value sums _ vs) ∙ omega arith
-first-is (copy size) sums vs k = first-value sums k vs
+pub first-is : (w : PlainWork) (sums : List affine.Sum) (vs : List ℕ) (k : ℕ) → is_tile w ≡ false →
+    store_place w (factor_places First sums) vs k ≡ 0
+first-is (kernel trees) sums vs k whole = first-value sums k vs
+first-is (rows root size) sums vs k whole = first-value sums 0 _
+first-is (horner root size) sums vs k whole = first-value sums 0 _
+first-is (tile lanes) sums vs k whole = absurd (cc)
+first-is (copy size) sums vs k whole = first-value sums k vs
 
--- the lanes of a register take those of their lanes
-pub first-lane : (h : PlainMachine) (w : PlainWork) (lane k : ℕ) → CanWork h w → lane < h.lanes → first_place w (item_of w k lane) ≡ first_place w (item_of w k 0) + lane_step w * lane
-first-lane h (kernel trees) lane k can low = omega arith
-first-lane h (rows root size) lane k can low = omega arith
-first-lane h (horner root size) lane k can low = omega arith
-first-lane h (tile lanes) lane k can low =
-    let at : (k * lanes + lane) % lanes ≡ lane = mod-mul-add k lanes lane (omega (arith, can, low)) in
-    let first : (k * lanes + 0) % lanes ≡ 0 = mod-mul-add k lanes 0 (omega (arith, can, low)) in
-    at ∙ (let once : lane ≡ 0 + 1 * lane = omega arith in once) ∙ ap (λ v. v + 1 * lane) (sym first)
-first-lane h (copy size) lane k can low = omega arith
-
-pub first-below : (h : PlainMachine) (w : PlainWork) (k n : ℕ) → CanWork h w → 0 < h.lanes → h.lanes ≤ n → first_place w k < n
-first-below h (kernel trees) k n can some most = omega (arith, some, most)
-first-below h (rows root size) k n can some most = omega (arith, some, most)
-first-below h (horner root size) k n can some most = omega (arith, some, most)
-first-below h (tile lanes) k n can some most = let below : k % lanes < lanes = mod-lt k (omega (arith, can, some)) in omega (arith, below, can, most)
-first-below h (copy size) k n can some most = omega (arith, some, most)
+-- all lanes of a register take one
+pub one-step : (w : PlainWork) (lane : ℕ) → is_tile w ≡ false → lane_step w * lane ≡ 0
+one-step (kernel trees) lane whole = omega arith
+one-step (rows root size) lane whole = omega arith
+one-step (horner root size) lane whole = omega arith
+one-step (tile lanes) lane whole = absurd (cc)
+one-step (copy size) lane whole = omega arith
 
 -- ---- how they are written
 

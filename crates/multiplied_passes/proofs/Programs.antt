@@ -2,8 +2,7 @@
 use Rattle.std.proofs.Common.{◌≡◌, ◌^◌, ◌<◌, List, [], ◌∷◌, length, map, sym, ap, ◌∙◌, arith, subst, All}
 use Rattle.std.proofs.lemmas.List.Elements.{All-nil, All-cons, All-head, All-tail}
 use Rattle.multiplied_passes.specs.Laws.{CanMultiply, MultipliedCanProgram}
-use Rattle.multiplied_passes.specs.Multiplied.{multiplied, multiplied_last, on_last, with_factors}
-use Rattle.multiplied_passes.specs.declared.Pick.{Pick}
+use Rattle.multiplied_passes.specs.Multiplied.{Pick, multiplied, multiplied_last, on_last, with_factors}
 use Rattle.multiplied_passes.proofs.Cans.{last-can}
 use Rattle.multiplied_passes.proofs.Counts.{most-last}
 use Rattle.multiplied_passes.proofs.Lasts.{length-last, phases-last}
@@ -38,9 +37,8 @@ module _ (h : PlainMachine) (pick : Pick) (ds : PlainFactors) (g : PlainMerged) 
 
   all-can : All (CanWritePass h) changed
   all-can =
-      let lanes = can.passes.host.lanes in
       let size = can.passes.host.size in
-      last-can h (omega (arith, lanes)) (omega (arith, size)) pick ds can.factors passes can.registers can.passes.passes
+      last-can h (omega (arith, size)) pick ds can.factors passes can.suits can.registers can.passes.passes
 
   pub can-multiplied : CanProgram h (multiplied pick ds g)
   can-multiplied =

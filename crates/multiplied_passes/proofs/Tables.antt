@@ -3,8 +3,7 @@ use Rattle.std.proofs.Common.{◌≡◌, ℕ, ◌+◌, ◌*◌, ◌≤◌, List,
 use Rattle.std.specs.Prelude.{sum_by}
 use Rattle.std.proofs.lemmas.List.{length-map}
 use Rattle.std.proofs.lemmas.List.Sums.{sum_by-cons}
-use Rattle.multiplied_passes.specs.Multiplied.{multiplied_last, with_factors}
-use Rattle.multiplied_passes.specs.declared.Pick.{Pick}
+use Rattle.multiplied_passes.specs.Multiplied.{Pick, multiplied_last, with_factors}
 use Rattle.pass_programs.specs.Contract.{all_passes}
 use Rattle.pass_programs.specs.Program.{tables_of_phases, tables_through}
 use Rattle.pass_programs.specs.Statements.{diagonal_of, one_factor, powers_of, tables_after, tables_of_multiplier, tables_of_nest, tables_of_work, with_diagonal}

@@ -1,16 +1,15 @@
 -- What passes with a diagonal after the last of them do and count, and that a program can be made of them.
-use Rattle.std.specs.Prelude.{◌≡◌, ℕ, ◌+◌, ◌*◌, ◌^◌, ◌<◌, ◌≤◌, List, [], ◌∷◌, length, map, sum_by, All, None}
+use Rattle.std.specs.Prelude.{◌≡◌, ℕ, ◌+◌, ◌*◌, ◌^◌, ◌<◌, List, [], ◌∷◌, length, map, sum_by, All, None, false}
 use Rattle.icode.specs.Actions.{plain_code}
 use Rattle.icode.specs.Machine.{weighted, whole_counts}
 use Rattle.icode.specs.Plain.{PlainProgram}
-use Rattle.multiplied_passes.specs.Multiplied.{multiplied, on_last, with_factors}
-use Rattle.multiplied_passes.specs.declared.Pick.{Pick}
-use Rattle.multiplied_passes.specs.declared.Pick.TheVariants.{Own, First}
+use Rattle.multiplied_passes.specs.Multiplied.{First, Own, Pick, multiplied, on_last, with_factors}
 use Rattle.operators.specs.Operator.{scale}
 use Rattle.pass_actions.specs.Acts.{pass_registers}
 use Rattle.pass_actions.specs.Costs.{pass_cost, pass_loads}
 use Rattle.pass_actions.specs.Machine.{PlainMachine}
 use Rattle.pass_programs.specs.Contract.{CanProgram, Performs, all_passes, most_actions}
+use Rattle.passes.specs.Merge.{is_tile}
 use Rattle.passes.specs.Merged.{PlainMerged, merged_on}
 use Rattle.passes.specs.Nest.{PlainFactors, PlainNest, factor_at, factor_count}
 
@@ -23,6 +22,10 @@ LastHas P (zs ∷ ys ∷ ps) = LastHas P (ys ∷ ps)
 -- no nest multiplies its items
 abbrev pub IsFree : List PlainNest → Type 0
 IsFree zs = All (λ (z : PlainNest). z.multiplier ≡ None) zs
+
+-- no nest stores whole tiles, whose lanes have places side by side
+abbrev pub HasNoTile : List PlainNest → Type 0
+HasNoTile zs = All (λ (z : PlainNest). is_tile z.work ≡ false) zs
 
 -- ---- what they do
 
@@ -38,10 +41,15 @@ MultipliedMeans = (pick : Pick) (ds : PlainFactors) (g : PlainMerged) (m : ℕ) 
 
 -- ---- programs of them
 
--- there are as many factors as are taken: one for each place, which one lane alone can take, or one for each lane
+-- there are as many factors as are taken: one for each place, which one lane alone can take, or a first one
 abbrev pub HasFactors : Pick → PlainMachine → PlainFactors → Type 0
 HasFactors Own h ds = (h.lanes ≡ 1) × (factor_count ds ≡ h.size)
-HasFactors First h ds = h.lanes ≤ factor_count ds
+HasFactors First h ds = 0 < factor_count ds
+
+-- all lanes of a register take the first factor, but those of a tile would not
+abbrev pub SuitsPick : Pick → List PlainNest → Type 0
+SuitsPick Own zs = Unit {0}
+SuitsPick First zs = HasNoTile zs
 
 -- a diagonal that passes of this machine can take
 pub record CanFollow (h : PlainMachine) (pick : Pick) (ds : PlainFactors) : Type 0 where
@@ -53,6 +61,7 @@ pub record CanFollow (h : PlainMachine) (pick : Pick) (ds : PlainFactors) : Type
 pub record CanMultiply (h : PlainMachine) (pick : Pick) (ds : PlainFactors) (g : PlainMerged) : Type 0 where
   pub passes : CanProgram h g
   pub free : LastHas IsFree (all_passes g.phases)
+  pub suits : LastHas (SuitsPick pick) (all_passes g.phases)
   pub factors : CanFollow h pick ds
   pub registers : LastHas (λ zs. pass_registers h.modulus (map (with_factors pick ds) zs) < 2 ^ 20) (all_passes g.phases)
   pub actions : most_actions h (all_passes g.phases) + h.size < 2 ^ 59

@@ -1,10 +1,13 @@
 -- Passes whose last one multiplies each item that it stores by a factor of a diagonal.
 use Rattle.std.specs.Prelude.{List, [], ◌∷◌, map, Some}
-use Rattle.multiplied_passes.specs.declared.Pick.{Pick}
-use Rattle.multiplied_passes.specs.declared.Pick.TheVariants.{Own, First}
 use Rattle.passes.specs.Merged.{PlainMerged}
 use Rattle.passes.specs.Nest.{PlainFactors, PlainNest}
 use Rattle.perm_algebra.specs.Affine.{Sum, constant}
+
+-- which factor each item takes: that of the place where it is stored, or the first, where all are alike
+pub data Pick : Type 0 where
+  Own : Pick
+  First : Pick
 
 -- the last of them exchanged for what f makes of it
 abbrev pub on_last : {A : Type 0} → (A → A) → List A → List A

@@ -3,3 +3,4 @@ pub mod Conditions
 pub mod Bodies
 pub mod Additions
 pub mod Sequences
+pub mod Machines

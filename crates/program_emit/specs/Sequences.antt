@@ -10,7 +10,7 @@ use Rattle.passes.specs.Views.{plain_nest}
 use Rattle.passes.specs.declared.nest.Nest.{Nest}
 use Rattle.program_emit.specs.Additions.{Tables}
 use Rattle.program_emit.specs.Views.{plain_host, plain_passes, plain_phases, tables_in}
-use Rattle.program_emit.specs.declared.emit.Start.{Start}
+use Rattle.program_emit.specs.declared.program.Start.{Start}
 use Rattle.program_emit.specs.declared.host.Host.{Host}
 
 -- ---- statements

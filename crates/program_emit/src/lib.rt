@@ -2,7 +2,6 @@
 #![tactic(auto)]
 
 mod copy_statements;
-mod emit;
 mod factors;
 mod host;
 mod inputs;
@@ -12,6 +11,8 @@ mod loops;
 mod nest;
 mod outputs;
 mod places;
+mod program;
+mod requests;
 mod row_statements;
 mod site;
 mod statements;
@@ -19,6 +20,6 @@ mod tables;
 mod tile_statements;
 mod work;
 
-pub use emit::emit_on;
 pub use host::Frame;
 pub use places::place_expr;
+pub use requests::{emit, emit_formula, emit_joined};

@@ -8,7 +8,7 @@ use Rattle.sigma_lower.specs.Good.{IsVecOf}
 use Rattle.sigma_lower.specs.Term.{PlainTerm, lowered, factor_term, terms_on, terms_in, phases_on, LoweredTransforms, PlainTerms}
 use Rattle.sigma_lower.proofs.Goods.{vec_good, phases_good}
 use Rattle.sigma_lower.proofs.Lowering.{factors_on}
-use Rattle.smp_rewrite.specs.Cut.{factors_of, cut, smp_of}
+use Rattle.smp_rewrite.specs.Cut.{factors_of, cut, layout_smp}
 use Rattle.smp_rewrite.proofs.Factors.{cut-factors}
 use Rattle.smp_rewrite.proofs.TreeLaws.{smp_transforms}
 use Rattle.steps.specs.Meaning.{all_on}
@@ -17,21 +17,24 @@ use Rattle.steps.proofs.StepMeanings.{all_on-append}
 use Rattle.smp_rewrite.specs.Fits.{CanShareLayout}
 use Rattle.steps.specs.Layout.{Layout, layout_on}
 use Rattle.steps.specs.Targets.{is_alone}
+use Rattle.steps.specs.Whole.{only, IsGoodWhole}
 use Rattle.steps.specs.declared.target.Target.{Target}
 use Rattle.vec_rewrite.specs.Turning.{kept, vec_of}
-use Rattle.vec_rewrite.specs.Vectors.{PlainVec, factor_step, vec_on}
+use Rattle.vec_rewrite.specs.Vectors.{PlainVec, factor_step, vec_steps}
 use Rattle.vec_rewrite.proofs.LaneLaws.{vec_keeps}
 
 -- ---- one phase after the other
 
 -- what two lists of factors do, one after the other
-both-on : (m : ℕ) (g : PlainVec) (x : List ℕ) → vec_on m g x ≡ all_on m (map (factor_step g.target.procs g.target.lanes) g.second) (all_on m (map (factor_step g.target.procs g.target.lanes) g.first) x)
+both-on : (m : ℕ) (g : PlainVec) (x : List ℕ) → all_on m (vec_steps g) x
+    ≡ all_on m (map (factor_step g.target.procs g.target.lanes) g.second) (all_on m (map (factor_step g.target.procs g.target.lanes) g.first) x)
 both-on m g x =
     let step = factor_step g.target.procs g.target.lanes in
     ap (λ ss. all_on m ss x) (map-append step g.first g.second) ∙ all_on-append m (map step g.first) (map step g.second) x
 
 terms-pick : (h : Target) (g : PlainVec) (b : Bool) (x : List ℕ) → IsVecOf h g →
-    phases_on h (map (map (factor_term g.target.procs g.target.lanes)) (if b then (g.first ++ g.second) ∷ [] else g.first ∷ g.second ∷ [])) x ≡ vec_on h.modulus g x
+    phases_on h (map (map (factor_term g.target.procs g.target.lanes)) (if b then (g.first ++ g.second) ∷ [] else g.first ∷ g.second ∷ [])) x
+    ≡ all_on h.modulus (vec_steps g) x
 terms-pick h g true x k = factors_on h g.target.procs g.target.lanes (g.first ++ g.second) x (vec_good h g k)
 terms-pick h g false x k =
     let p = g.target.procs in
@@ -40,16 +43,24 @@ terms-pick h g false x k =
     factors_on h p v g.second (terms_on h (map (factor_term p v) g.first) x) both.1
     ∙ ap (all_on h.modulus (map (factor_step p v) g.second)) (factors_on h p v g.first x both.0) ∙ sym (both-on h.modulus g x)
 
-pub terms_mean : (h : Target) (g : PlainVec) (x : List ℕ) → IsVecOf h g → phases_on h (terms_in g) x ≡ vec_on h.modulus g x
+-- without the products at the end
+pub terms_mean : (h : Target) (g : PlainVec) (x : List ℕ) → IsVecOf h g →
+    phases_on h (terms_in g) x ≡ all_on h.modulus (vec_steps g) x
 terms_mean h g x k = terms-pick h g (g.target.procs == 1) x k
 
 -- ---- layouts
 
-layout-on : (h : Target) (l : Layout) (x : List ℕ) → CanShareLayout h l → vec_on h.modulus (vec_of (smp_of h l)) x ≡ layout_on h.modulus l x
-layout-on h l x shares = (vec_keeps 1 h.modulus h (smp_of h l) (record { layout = l; shares = shares; form = refl })).0 x ∙ smp_transforms h l x shares
+layout-on : (h : Target) (l : Layout) (x : List ℕ) → CanShareLayout h l →
+    all_on h.modulus (vec_steps (vec_of (layout_smp h l))) x ≡ layout_on h.modulus l x
+layout-on h l x shares =
+    (vec_keeps 1 h.modulus h (layout_smp h l) (record { whole = only l; shares = shares; form = refl })).0 x
+    ∙ smp_transforms h (only l) x shares
 
 pub lowered_transforms : LoweredTransforms
-lowered_transforms h l x shares good = terms_mean h (vec_of (smp_of h l)) x (record { layout = l; shares = shares; good = good; form = refl }) ∙ layout-on h l x shares
+lowered_transforms h l x shares good =
+    let whole : IsGoodWhole h.modulus (only l) = record { layout = good; factor = tt } in
+    terms_mean h (vec_of (layout_smp h l)) x (record { whole = only l; shares = shares; good = whole; form = refl })
+    ∙ layout-on h l x shares
 
 -- ---- one processor and one lane
 

@@ -4,7 +4,7 @@ use Rattle.std.specs.Prelude.{All, map, Option, None, Some, ◌==◌, take, drop
 use Rattle.std.specs.List.{flat_map}
 use Rattle.std.proofs.lemmas.List.{map-append}
 use Rattle.std.proofs.lemmas.List.Elements.{All-nil, All-cons, All-head, All-tail, All-append, All-take, All-drop}
-use Rattle.smp_rewrite.specs.Cut.{whole_factor, cut_factors, factors_of, first_count, smp_of}
+use Rattle.smp_rewrite.specs.Cut.{whole_factor, cut_factors, factors_of, first_count, layout_smp}
 use Rattle.smp_rewrite.specs.Smp as smp
 use Rattle.smp_rewrite.specs.Smp.{within}
 use Rattle.smp_rewrite.proofs.Tensors.{size-within}
@@ -16,6 +16,7 @@ use Rattle.tensor_paths.proofs.Under.{size_under-copies}
 use Rattle.passes.specs.Work.{PlainWork}
 use Rattle.smp_rewrite.specs.Fits.{CanShareLayout}
 use Rattle.steps.specs.Layout.{Layout, IsGoodLayout}
+use Rattle.steps.specs.Whole.{only}
 use Rattle.steps.specs.declared.target.Target.{Target}
 use Rattle.vec_rewrite.specs.declared.Deal.{Deal}
 use Rattle.vec_rewrite.specs.declared.Grid.{Grid}
@@ -181,14 +182,17 @@ module _ (Q : PlainWork → Type 0) where
   phase-apt d fs h = pick-lane (d.lanes == 1) (map kept fs) (laned_from d None fs) (kept-apt fs h) (from-apt d None fs h)
 
   -- the factors of a layout whose steps are apt
-  pub layout-apt : (h : Target) (l : Layout) → All (λ s. IsApt Q s.core) (steps_of [] l) → All (IsAptLane Q) ((vec_of (smp_of h l)).first ++ (vec_of (smp_of h l)).second)
+  pub layout-apt : (h : Target) (l : Layout) → All (λ s. IsApt Q s.core) (steps_of [] l) →
+      All (IsAptLane Q) ((vec_of (layout_smp h l)).first ++ (vec_of (layout_smp h l)).second)
   layout-apt h l apt =
       let ss = steps_of [] l in
       let k = first_count h.procs ss in
-      let g = vec_of (smp_of h l) in
+      let g = vec_of (layout_smp h l) in
       let d = deal_of h in
-      All-append (IsAptLane Q) g.first g.second (phase-apt d (smp_of h l).first (flat-apt h.size h.procs (take k ss) (All-take (λ s. IsApt Q s.core) k ss apt)))
-      (phase-apt d (smp_of h l).second (flat-apt h.size h.procs (drop k ss) (All-drop (λ s. IsApt Q s.core) k ss apt)))
+      let Q' : PlainStep → Type 0 = λ s. IsApt Q s.core in
+      All-append (IsAptLane Q) g.first g.second
+      (phase-apt d (layout_smp h l).first (flat-apt h.size h.procs (take k ss) (All-take Q' k ss apt)))
+      (phase-apt d (layout_smp h l).second (flat-apt h.size h.procs (drop k ss) (All-drop Q' k ss apt)))
 
 -- ---- all factors
 
@@ -218,16 +222,19 @@ good-factors n p v (f ∷ fs) some h apt = (
   good-factors n p v fs some (All-tail (HasLanes n p v) f fs h) (All-tail (IsAptLane IsGoodPiece) f fs apt),
 )
 
-layout-good : (h : Target) (l : Layout) → CanShareLayout h l → IsGoodLayout h.modulus l → AreGood h.size (vec_steps (vec_of (smp_of h l)))
+layout-good : (h : Target) (l : Layout) → CanShareLayout h l → IsGoodLayout h.modulus l →
+    AreGood h.size (vec_steps (vec_of (layout_smp h l)))
 layout-good h l shares good =
-    let g = vec_of (smp_of h l) in
+    let g = vec_of (layout_smp h l) in
     let some : 1 ≤ h.size = shares.some in
-    good-factors h.size h.procs h.lanes (g.first ++ g.second) (omega (arith, some)) (vec_shaped h (smp_of h l) (record { layout = l; shares = shares; form = refl }))
+    let shaped = vec_shaped h (layout_smp h l) (record { whole = only l; shares = shares; form = refl }) in
+    good-factors h.size h.procs h.lanes (g.first ++ g.second) (omega (arith, some)) shaped.0
     (layout-apt IsGoodPiece h l (apt-steps h.size (steps_of [] l) (good_steps h.modulus h.size [] l some shares.small good shares.size)))
 
 -- the steps of a formula for lanes are good
 pub vec_good : (h : Target) (g : PlainVec) → IsVecOf h g → AreGood h.size (vec_steps g)
-vec_good h g k = subst (λ g. AreGood h.size (vec_steps g)) (sym k.form) (layout-good h k.layout k.shares k.good)
+vec_good h g k =
+    subst (λ g. AreGood h.size (vec_steps g)) (sym k.form) (layout-good h k.whole.layout k.shares k.good.layout)
 
 -- those of each phase
 good-split : (n : ℕ) (ss ts : List PlainStep) → AreGood n (ss ++ ts) → AreGood n ss × AreGood n ts

@@ -22,7 +22,7 @@ use Rattle.steps.specs.declared.target.Target.{Target}
 use Rattle.smp_rewrite.proofs.Cores.{core-reads, core-gives}
 use Rattle.steps.specs.Meaning.{core_size, core_on, step_on, all_on}
 use Rattle.steps.specs.Step.{PlainCore, piece, turns, twiddles, thomas_in, thomas_out, PlainStep, rule_steps, steps_of}
-use Rattle.steps.proofs.WordSizes.{word_sizes}
+use Rattle.tree_model.proofs.Sizes.{word_sizes}
 use Rattle.tensor_paths.specs.declared.Tensor.TheVariants.{Blocks, Columns}
 use Rattle.tensor_paths.specs.Loop.{loop_on}
 use Rattle.tensor_paths.specs.Path.{Path, size_under, under, place}

@@ -5,7 +5,7 @@ use Rattle.operators.specs.Sizes.{max_size}
 use Rattle.passes.specs.Work.{PlainWork, tile, copy, HasWords}
 use Rattle.smp_rewrite.specs.Cut.{smp_of}
 use Rattle.smp_rewrite.specs.Fits.{CanShareLayout}
-use Rattle.steps.specs.Layout.{Layout, IsGoodLayout}
+use Rattle.steps.specs.Whole.{Whole, IsGoodWhole}
 use Rattle.steps.specs.declared.target.Target.{Target}
 use Rattle.steps.specs.Meaning.{core_size}
 use Rattle.steps.specs.Step.{PlainCore, piece, turns, twiddles, thomas_in, thomas_out, PlainStep}
@@ -40,9 +40,9 @@ abbrev pub AreGood : ℕ → List PlainStep → Type 0
 AreGood n [] = Unit {0}
 AreGood n (s ∷ ss) = IsGood n s × AreGood n ss
 
--- the formula for lanes of some good layout that the machine can share
+-- the formula for lanes of some good whole that the machine can share
 pub record IsVecOf (h : Target) (g : PlainVec) : Type 0 where
-  pub layout : Layout
-  pub shares : CanShareLayout h layout
-  pub good : IsGoodLayout h.modulus layout
-  pub form : g ≡ vec_of (smp_of h layout)
+  pub whole : Whole
+  pub shares : CanShareLayout h whole.layout
+  pub good : IsGoodWhole h.modulus whole
+  pub form : g ≡ vec_of (smp_of h whole)

@@ -4,7 +4,7 @@ use Rattle.index_fn.specs.Mapping.{Mapping, Strided, ThomasIn, ThomasBack, at}
 use Rattle.matrix_meaning.specs.Laws.{twiddle}
 use Rattle.operators.specs.Loop.{scatter}
 use Rattle.operators.specs.Operator.{Operator, gather, scale}
-use Rattle.smp_rewrite.specs.Cut.{smp_of}
+use Rattle.smp_rewrite.specs.Cut.{layout_smp}
 use Rattle.smp_rewrite.specs.Smp.{within}
 use Rattle.smp_rewrite.specs.Fits.{CanShareLayout}
 use Rattle.steps.specs.Layout.{Layout, layout_on, IsGoodLayout}
@@ -77,7 +77,7 @@ abbrev pub terms_in : PlainVec → List (List PlainTerm)
 terms_in g = map (map (factor_term g.target.procs g.target.lanes)) (phases_of g)
 
 abbrev pub lowered_of : Target → Layout → List (List PlainTerm)
-lowered_of h l = terms_in (vec_of (smp_of h l))
+lowered_of h l = terms_in (vec_of (layout_smp h l))
 
 -- the terms of all phases, one after the other
 abbrev pub phases_on : Target → List (List PlainTerm) → Operator

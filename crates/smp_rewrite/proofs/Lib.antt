@@ -7,3 +7,5 @@ pub mod Shares
 pub mod Shapes
 pub mod TreeLaws
 pub mod Moves
+pub mod Walks
+pub mod PartsWalked

@@ -9,7 +9,7 @@ use Rattle.steps.specs.Step.{PlainCore, piece, turns, twiddles, thomas_in, thoma
 use Rattle.tensor_paths.specs.declared.Tensor.TheVariants.{Blocks, Columns}
 use Rattle.tensor_paths.specs.Path.{Path, size_under, copies_of}
 use Rattle.tensor_paths.proofs.Under.{size_under-copies}
-use Rattle.smp_rewrite.specs.Smp.{PlainFactor, blocks, within, shares_in, smp_share}
+use Rattle.smp_rewrite.specs.Smp.{PlainFactor, blocks, within, shares_in}
 use Rattle.smp_rewrite.specs.Cut.{cut_factors, factors_of, cut}
 use Rattle.smp_rewrite.specs.Laws.{step_size}
 use Rattle.smp_rewrite.proofs.Dealt.{IsDealtStep}
@@ -68,6 +68,6 @@ flat-share weight m n p line (s ∷ ss) positive parts sized h =
     ap (λ k. p * k) both ∙ omega (arith, one, rest)
 
 pub cut_share : (weight m : ℕ) (h : Target) (ss : List PlainStep) → 0 < h.procs → (h.procs ≢ 1 → h.size ≡ h.procs * (h.size / h.procs)) → AreOfSize h.size ss → CanShare h.procs h.line ss →
-    h.procs * smp_share weight m (cut h ss) ≡ operations_in weight m ss
+    h.procs * shares_in weight m h.procs ((cut h ss).first ++ (cut h ss).second) ≡ operations_in weight m ss
 cut_share weight m h ss positive parts sized g =
     ap (λ fs. h.procs * shares_in weight m h.procs fs) (cut-factors h ss) ∙ flat-share weight m h.size h.procs h.line ss positive parts sized g

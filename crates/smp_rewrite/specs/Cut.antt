@@ -1,7 +1,8 @@
 -- How the steps of a layout are cut for p processors, on lists of n words (Franchetti et al., 2006).
-use Rattle.std.specs.Prelude.{ℕ, suc, ◌/◌, ◌==◌, Bool, true, false, if◌then◌else◌, List, [], ◌∷◌, length, take, drop}
+use Rattle.std.specs.Prelude.{ℕ, suc, ◌/◌, ◌==◌, Bool, true, false, if◌then◌else◌, List, [], ◌∷◌, length, take, drop, Option, None}
 use Rattle.std.specs.List.{flat_map}
 use Rattle.steps.specs.Layout.{Layout}
+use Rattle.steps.specs.Whole.{Whole}
 use Rattle.steps.specs.declared.target.Target.{Target}
 use Rattle.steps.specs.Step.{PlainCore, piece, turns, twiddles, thomas_in, thomas_out, PlainStep, step, steps_of}
 use Rattle.tensor_paths.specs.declared.Tensor.TheVariants.{Blocks, Columns}
@@ -48,14 +49,21 @@ right_count (s ∷ ss) = if is_left s.path then 0 else suc (right_count ss)
 abbrev pub first_count : ℕ → List PlainStep → ℕ
 first_count p ss = if p == 1 then length ss else right_count ss
 
--- the formula of steps for a machine
-abbrev pub cut : Target → List PlainStep → PlainSmp
-cut h ss = record {
+-- the formula of steps for a machine, with a factor at the end
+abbrev pub closed_cut : Target → List PlainStep → Option ℕ → PlainSmp
+closed_cut h ss factor = record {
   target = h;
   first = flat_map (factors_of h.size h.procs) (take (first_count h.procs ss) ss);
   second = flat_map (factors_of h.size h.procs) (drop (first_count h.procs ss) ss);
+  closing = factor;
 }
 
--- the formula of a layout
-abbrev pub smp_of : Target → Layout → PlainSmp
-smp_of h l = cut h (steps_of [] l)
+abbrev pub cut : Target → List PlainStep → PlainSmp
+cut h ss = closed_cut h ss None
+
+-- the formula of a layout, and that of a whole
+abbrev pub layout_smp : Target → Layout → PlainSmp
+layout_smp h l = cut h (steps_of [] l)
+
+abbrev pub smp_of : Target → Whole → PlainSmp
+smp_of h w = record (layout_smp h w.layout) { closing = w.factor }

@@ -1,4 +1,6 @@
 pub mod Smp
+pub mod Walk
+pub mod Appends
 pub mod Cut
 pub mod Views
 pub mod Fits

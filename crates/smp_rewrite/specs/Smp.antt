@@ -1,7 +1,8 @@
 -- Formulas for processors: a list of factors, each of which every processor has an equal part in.
-use Rattle.std.specs.Prelude.{ℕ, ◌+◌, ◌/◌, ◌==◌, if◌then◌else◌, List, [], ◌∷◌, ◌++◌, map}
+use Rattle.std.specs.Prelude.{ℕ, ◌+◌, ◌/◌, ◌==◌, if◌then◌else◌, List, [], ◌∷◌, ◌++◌, map, Option}
 use Rattle.operators.specs.Operator.{Operator}
 use Rattle.steps.specs.Meaning.{all_on}
+use Rattle.steps.specs.Whole.{closed_on, closing_cost}
 use Rattle.steps.specs.declared.target.Target.{Target}
 use Rattle.steps.specs.Step.{PlainStep, step, operations_of}
 use Rattle.tensor_paths.specs.declared.Tensor.{Tensor}
@@ -15,11 +16,12 @@ pub data PlainFactor : Type 0 where
   move_before : (whole : PlainStep) → PlainFactor
   move_after : (whole : PlainStep) → PlainFactor
 
--- the factors of the root's right part, and then those of its left part
+-- the factors of the root's right part, then those of its left part, and what each word is multiplied by at the end
 pub record PlainSmp : Type 0 where
   pub target : Target
   pub first : List PlainFactor
   pub second : List PlainFactor
+  pub closing : Option ℕ
 
 -- one more tensor around those of a path; a tensor of one copy is left out
 abbrev pub within : Tensor → Path → Path
@@ -37,7 +39,7 @@ smp_steps f = map (factor_step f.target.procs) (f.first ++ f.second)
 
 -- what a formula for processors does to a list
 abbrev pub smp_on : ℕ → PlainSmp → Operator
-smp_on m f = all_on m (smp_steps f)
+smp_on m f x = closed_on m f.target.size f.closing (all_on m (smp_steps f) x)
 
 -- the operations of each of p processors: a block's own, and its share of a diagonal's
 abbrev pub share_of : ℕ → ℕ → ℕ → PlainFactor → ℕ
@@ -51,4 +53,5 @@ shares_in weight m p [] = 0
 shares_in weight m p (f ∷ fs) = share_of weight m p f + shares_in weight m p fs
 
 abbrev pub smp_share : ℕ → ℕ → PlainSmp → ℕ
-smp_share weight m f = shares_in weight m f.target.procs (f.first ++ f.second)
+smp_share weight m f =
+    shares_in weight m f.target.procs (f.first ++ f.second) + closing_cost weight f.target.size f.closing / f.target.procs

@@ -1,25 +1,33 @@
-//! Formulas for processors: the steps of a tree, cut into blocks of equal size and moves of whole lines (Franchetti et al., SC 2006).
+//! Formulas for processors: the steps of a tree, by a walk over its formula, cut into blocks of equal size and moves of
+//! whole lines (Franchetti et al., SC 2006).
 #![tactic(auto)]
+
+mod closing;
+mod walk;
 
 ghost use Rattle.std.specs.Prelude.{◌≡◌, ◌+◌, ◌*◌, ◌<◌, ◌≤◌, [], ◌∷◌, ◌++◌, All, IfOk, List, OnOk, drop, length, map, ℕ};
 ghost use Rattle.std.specs.List.{flat_map};
-ghost use Rattle.steps.specs.Layout.{layout_of};
-ghost use Rattle.steps.specs.Meaning.{transform_of};
+ghost use Rattle.breakdown.specs.Expansion.{formula_of};
+ghost use Rattle.matrix_meaning.specs.Asked.{asked_of};
+ghost use Rattle.spl_ast.specs.Meaning.{apply};
 ghost use Rattle.steps.specs.Targets.{target_of};
 ghost use Rattle.steps.specs.Step.{step, turns};
 ghost use Rattle.steps.specs.Views.{plain_core, plain_step};
+ghost use Rattle.steps.specs.Whole.{whole_of};
 ghost use Rattle.tensor_paths.specs.declared.Tensor.TheVariants.{Columns};
-ghost use Rattle.tree_model.specs.Admissible.{IsAdmissible};
 ghost use Rattle.tree_model.specs.Breakdown.{breakdown_of};
-ghost use Rattle.tree_model.specs.Cost.{cost_of};
-ghost use Rattle.smp_rewrite.specs.Cut.{cut, cut_factors, factors_of, first_count, is_left, right_count, smp_of, whole_factor};
-ghost use Rattle.smp_rewrite.specs.Laws.{DimsFit, IsShaped, LayoutsFit, MovesLines, SmpCosts, SmpOfDims, SmpShaped, SmpTransforms, step_size};
+ghost use Rattle.tree_model.specs.Chosen.{IsWholeTree, whole_cost};
+ghost use Rattle.smp_rewrite.specs.Cut.{cut, closed_cut, cut_factors, factors_of, first_count, is_left, right_count, smp_of, whole_factor};
+ghost use Rattle.smp_rewrite.specs.Laws.{IsShaped, LayoutsFit, MovesLines, SmpCosts, SmpShaped, SmpTransforms, step_size};
 ghost use Rattle.smp_rewrite.specs.Smp.{PlainFactor, smp_on, smp_share, within};
 ghost use Rattle.smp_rewrite.specs.Views.{plain_factor, plain_smp};
 
+use crate::closing::{body_of, closing_in};
+use crate::walk::steps_by;
 use memory::NoMemory;
+use spl_ast::Spl;
 use std::alloc::Global;
-use steps::{Core, Step, Target, steps_of_tree, target_of};
+use steps::{Core, Step, Target, target_of};
 use tensor_paths::Tensor;
 use tree_model::{Ctx, Tree};
 
@@ -44,31 +52,42 @@ pub struct SmpSpl {
     pub first: Vec<Factor>,
     /// The factors of the root's left part.
     pub second: Vec<Factor>,
+    /// What each word is multiplied by at the end: the factor of an inverse.
+    pub closing: Option<u64>,
 }
 
-/// The formula of a tree for the request's processors.
-pub fn to_smp(alloc: Global, c: &Ctx, tree: &Tree) -> Result<SmpSpl, NoMemory>
-    requires { IsAdmissible c.now (breakdown_of tree.now) }
+/// The formula of a tree for the request's processors, by a walk over the tree's formula.
+pub fn to_smp(alloc: Global, c: &Ctx, tree: &Tree, formula: Spl) -> Result<SmpSpl, NoMemory>
+    requires tree { IsWholeTree c.now (breakdown_of tree.now) }
+    requires formula { formula ≡ formula_of c.now (breakdown_of tree.now) }
     ensures form { IfOk result (λ f. plain_smp f
-        ≡ smp_of (target_of c.now) (layout_of c.now (breakdown_of tree.now))) }
+        ≡ smp_of (target_of c.now) (whole_of c.now (breakdown_of tree.now))) }
     ensures meaning { IfOk result (λ f. (x : List ℕ) →
-        smp_on c.now.modulus (plain_smp f) x ≡ transform_of c.now c.now.size x) }
+        smp_on c.now.modulus (plain_smp f) x ≡ asked_of c.now x) }
+    ensures formula { IfOk result (λ f. (x : List ℕ) →
+        smp_on c.now.modulus (plain_smp f) x ≡ apply c.now.modulus formula x) }
     ensures operations { IfOk result
         (λ f. c.now.procs * smp_share c.now.weight c.now.modulus (plain_smp f)
-        ≡ cost_of c.now (breakdown_of tree.now)) }
+        ≡ whole_cost c.now (breakdown_of tree.now)) }
     ensures shape { IfOk result (λ f. IsShaped (plain_smp f)) }
 {
     let _request = c.request();
-    let steps = steps_of_tree(alloc, c, tree)?;
-    let formula = cut_steps(alloc, c, steps)?;
-    Ok(formula)
+    let closing = closing_in(&formula);
+    let steps = steps_by(alloc, &c.forward(), tree, body_of(&formula))?;
+    let smp = cut_steps(alloc, c, steps, closing)?;
+    Ok(smp)
 }
 
-// The formula of steps.
-fn cut_steps(alloc: Global, c: &Ctx, steps: Vec<Step>) -> Result<SmpSpl, NoMemory>
+// The formula of steps, with the factor at the end.
+fn cut_steps(
+    alloc: Global,
+    c: &Ctx,
+    steps: Vec<Step>,
+    closing: Option<u64>,
+) -> Result<SmpSpl, NoMemory>
     requires { All (λ s. step_size (plain_step s) ≡ c.now.size) steps.items }
     ensures { IfOk result
-        (λ f. plain_smp f ≡ cut (target_of c.now) (map plain_step steps.items)) }
+        (λ f. plain_smp f ≡ closed_cut (target_of c.now) (map plain_step steps.items) closing) }
 {
     let request = c.request();
     let mut right = steps;
@@ -79,6 +98,7 @@ fn cut_steps(alloc: Global, c: &Ctx, steps: Vec<Step>) -> Result<SmpSpl, NoMemor
         target: target_of(c),
         first,
         second,
+        closing,
     })
 }
 
@@ -234,30 +254,25 @@ pub fn within(tensor: Tensor, path: Vec<Tensor>) -> Result<Vec<Tensor>, NoMemory
     Ok(longer)
 }
 
-/// The formula of a layout does what the layout does: a law of the definitions.
+/// The formula of a whole does what the whole does: a law of the definitions.
 pub fn smp_transforms()
     ensures { SmpTransforms }
 {}
 
-/// The processors do a layout's operations in equal shares: a law of the definitions.
+/// The processors do a whole's operations in equal shares: a law of the definitions.
 pub fn smp_costs()
     ensures { SmpCosts }
 {}
 
-/// Each factor of a layout's formula is blocks of equal size, a diagonal of equal parts, or a move of whole lines: a law of the definitions.
+/// Each factor of a whole's formula is blocks of equal size, a diagonal of equal parts, or a move of whole lines: a law of
+/// the definitions.
 pub fn smp_shaped()
     ensures { SmpShaped }
 {}
 
-/// The layout of an admissible tree can be shared: a law of the definitions.
+/// The layout of a tree that a request admits can be shared: a law of the definitions.
 pub fn layouts_fit()
     ensures { LayoutsFit }
-{}
-
-/// The layout of several dimensions can be shared where its root can, and its formula does the tensor product of their transforms at their cost: a law of the definitions.
-pub fn dims_fit()
-    ensures fits { DimsFit }
-    ensures keeps { SmpOfDims }
 {}
 
 /// A move of a formula takes what goes to a line from a line: a law of the definitions.

@@ -1,15 +1,15 @@
 -- The layout of a tree: its size, what it does, what it costs, and that it can be made.
-use Rattle.std.proofs.Common.{◌≡◌, ℕ, zero, suc, ◌+◌, ◌*◌, ◌-◌, ◌/◌, ◌%◌, ◌<◌, ◌≤◌, Bool, true, false, List, [], ◌∷◌, ◌++◌, refl, sym, ap, ap₂, subst, ◌∙◌, arith, if◌then◌else◌, inl, inr, mul_comm, pow-add}
+use Rattle.std.proofs.Common.{◌≡◌, ℕ, ◌+◌, ◌*◌, ◌-◌, ◌/◌, ◌<◌, ◌≤◌, Bool, true, false, List, refl, sym, ap, ap₂, subst, ◌∙◌, arith, if◌then◌else◌, inl, inr, mul_comm}
 use Rattle.std.specs.Prelude.{nat_le}
-use Rattle.std.proofs.Math.Nat.{mul-div_right, mul-mod_right, mod-eq_of_lt}
-use Rattle.std.proofs.lemmas.Bool.{cases_eq, cases_lt}
+use Rattle.std.proofs.Math.Nat.{mod-eq_of_lt}
+use Rattle.std.proofs.lemmas.Bool.{cases_lt}
 use Rattle.std.proofs.lemmas.Bool.Decides.{nat_tests}
 use Rattle.std.proofs.lemmas.Nat.{mul-lt}
-use Rattle.kernel_gen.specs.Kernel.{IsRoot, AllowsRoot}
-use Rattle.kernel_gen.proofs.NodeCosts.{cost-same}
-use Rattle.kernel_gen.proofs.RequestNodes.{any-root, root-of}
+use Rattle.kernel_gen.specs.Kernel.{IsRoot, trees_cost}
+use Rattle.kernel_gen.proofs.RequestNodes.{root-of}
 use Rattle.matrix_meaning.specs.Kind.{transform, IsPowerOfTwo}
-use Rattle.matrix_meaning.specs.Valid.{IsValid, HasRoot}
+use Rattle.matrix_meaning.specs.Valid.{HasRoot}
+use Rattle.matrix_meaning.specs.declared.Dimensions.TheVariants.{One}
 use Rattle.matrix_meaning.specs.declared.Kind.{Kind}
 use Rattle.matrix_meaning.specs.declared.Kind.TheVariants.{Dft, Wht, Idft}
 use Rattle.matrix_meaning.specs.declared.Request.{Request}
@@ -18,82 +18,86 @@ use Rattle.matrix_meaning.proofs.GoodThomas.{good_thomas}
 use Rattle.matrix_meaning.proofs.WalshHadamard.{split}
 use Rattle.operators.specs.Operator.{Operator}
 use Rattle.operators.specs.Sizes.{max_size}
-use Rattle.passes.specs.Work.{kernel, work_size, work_on}
+use Rattle.passes.specs.Work.{PlainWork, kernel, work_size, work_on}
 use Rattle.ring_mod.specs.Residue.{power_mod}
 use Rattle.ring_mod.proofs.Powers.{power_mod_of_power}
-use Rattle.tree_model.specs.Trees.{single}
 use Rattle.steps.specs.Layout.{Layout, work, by, layout_size, layout_on, layout_cost, layout_of, node_work, long_work, rule_on, work_cost, IsGoodWork, CanPart, IsGoodRule, IsGoodLayout}
 use Rattle.steps.specs.Layout as layouts
-use Rattle.steps.specs.Meaning.{transform_of, LayoutsHaveSize, LayoutsDo, LayoutsCost, LayoutsAreGood, TreesHaveSteps}
-use Rattle.steps.specs.Step.{PlainStep, rule_steps, steps_of}
-use Rattle.tensor_paths.specs.Path.{Path}
-use Rattle.tensor_paths.specs.declared.Tensor.TheVariants.{Blocks, Columns}
+use Rattle.steps.specs.Meaning.{IsNodeTree, FitsWhole, LayoutsHaveSize, LayoutsDo, LayoutsCost, LayoutsAreGood}
+use Rattle.steps.proofs.NodeTrees.{left_tree, right_tree, left_fits, right_fits, left_fields, right_fields, left_less, times_size, size-le}
+use Rattle.steps.proofs.Rooted.{rooted_size, rooted_on, rooted_cost, rooted_made, flat_node}
 use Rattle.tree_model.specs.Breakdown.{Breakdown, leaf, node, size_of, AllowsLeaf, AllowsRule, IsWellFormed}
-use Rattle.tree_model.specs.Cost.{is_kernel, is_plain, node_root, cost_of, products_cost}
+use Rattle.tree_model.specs.Cost.{is_kernel, is_plain, node_root, products_cost}
 use Rattle.tree_model.specs.Cost as trees
+use Rattle.tree_model.specs.Whole.{left_of, right_of, AllowsRuleOf, IsTreeOf, cost_in, node_on, node_transform, rooted_of}
+use Rattle.tree_model.proofs.FlatTrees.{well_formed}
+use Rattle.tree_model.proofs.PowerOfTwo.{walsh_size}
 use Rattle.tree_model.proofs.Sizes.{one_le_size_of}
-use Rattle.tree_model.proofs.Splits.{below_product, other_below}
+use Rattle.tree_model.proofs.Splits.{div-product}
 use Rattle.tree_model.specs.declared.tree.Rule.{Rule}
 use Rattle.tree_model.specs.declared.tree.Rule.TheVariants.{Gt, Ct, Split, Dim}
 
 -- ---- sizes
 
-work-size : (c : Request) (t : Breakdown) → work_size (node_work c t) ≡ size_of t
-work-size c t = pick (is_kernel c (size_of t)) c.kind
+work-size : (p : Request) (t : Breakdown) → work_size (node_work p t) ≡ size_of t
+work-size p t = pick (is_kernel p (size_of t)) p.kind
   where
-    pick : (b : Bool) (kind : Kind) → work_size (if b then kernel (single c.kind (node_root c (size_of t)) t) else long_work kind (node_root c (size_of t)) t) ≡ size_of t
-    pick true kind = refl
+    pick : (b : Bool) (kind : Kind) →
+        work_size (if b then kernel (rooted_of p t) else long_work kind (node_root p (size_of t)) t) ≡ size_of t
+    pick true kind = rooted_size p t
     pick false Dft = refl
     pick false Wht = refl
     pick false Idft = refl
 
 -- a choice between a work and parts
-pub size-pick : (b : Bool) (l k : Layout) (n : ℕ) → layout_size l ≡ n → layout_size k ≡ n → layout_size (if b then l else k) ≡ n
+size-pick : (b : Bool) (l k : Layout) (n : ℕ) → layout_size l ≡ n → layout_size k ≡ n →
+    layout_size (if b then l else k) ≡ n
 size-pick true l k n h g = h
 size-pick false l k n h g = g
 
 pub layouts_have_size : LayoutsHaveSize
-layouts_have_size c (leaf d) = work-size c (leaf d)
-layouts_have_size c (node rule a b) =
-    size-pick (is_kernel c (size_of a * size_of b)) _ _ (size_of a * size_of b) (work-size c (node rule a b)) (ap₂ (λ x y. x * y) (layouts_have_size c a) (layouts_have_size c b))
+layouts_have_size p (leaf d) = work-size p (leaf d)
+layouts_have_size p (node rule a b) =
+    size-pick (is_kernel p (size_of a * size_of b)) _ _ (size_of a * size_of b) (work-size p (node rule a b))
+    (ap₂ (λ x y. x * y) (layouts_have_size (left_of rule p) a) (layouts_have_size (right_of rule p) b))
 
--- ---- steps
+-- ---- kernels, works and parts
 
-steps-pick : (b : Bool) (path : Path) (l k : Layout) (ss ts : List PlainStep) → ss ≡ steps_of path l → ts ≡ steps_of path k → (if b then ss else ts) ≡ steps_of path (if b then l else k)
-steps-pick true path l k ss ts h g = h
-steps-pick false path l k ss ts h g = g
+kernel-work : (p : Request) (t : Breakdown) → is_kernel p (size_of t) ≡ true → node_work p t ≡ kernel (rooted_of p t)
+kernel-work p t short =
+    ap (λ b. if b then kernel (rooted_of p t) else long_work p.kind (node_root p (size_of t)) t) short
 
--- a rule puts the same round the steps of parts whose sizes are equal
-rule-sized : (rule : Rule) (path : Path) (r s u v w : ℕ) (a b : Path → List PlainStep) (left right : List PlainStep) → u ≡ r → v ≡ s →
-    left ≡ a (path ++ Columns s ∷ []) → right ≡ b (path ++ Blocks r ∷ []) → rule_steps rule path r s w left right ≡ rule_steps rule path u v w (a (path ++ Columns v ∷ [])) (b (path ++ Blocks u ∷ []))
-rule-sized rule path r s u v w a b left right h g on_left on_right =
-    ap₂ (rule_steps rule path r s w) on_left on_right
-    ∙ ap₂ (λ x y. rule_steps rule path x y w (a (path ++ Columns y ∷ [])) (b (path ++ Blocks x ∷ []))) (sym h) (sym g)
+-- a node is a kernel, or has parts
+pub node-pick : (P : Layout → Type 0) (p : Request) (rule : Rule) (a b : Breakdown) →
+    (is_kernel p (size_of a * size_of b) ≡ true → P (work (kernel (rooted_of p (node rule a b))))) →
+    (is_kernel p (size_of a * size_of b) ≡ false →
+    P (by rule (node_root p (size_of a * size_of b)) (layout_of (left_of rule p) a) (layout_of (right_of rule p) b))) →
+    P (layout_of p (node rule a b))
+node-pick P p rule a b short long = pick (is_kernel p (size_of a * size_of b)) refl
+  where
+    pick : (c : Bool) → is_kernel p (size_of a * size_of b) ≡ c →
+        P (if c then work (node_work p (node rule a b))
+        else by rule (node_root p (size_of a * size_of b)) (layout_of (left_of rule p) a)
+        (layout_of (right_of rule p) b))
+    pick true is = subst (λ w. P (work w)) (sym (kernel-work p (node rule a b) is)) (short is)
+    pick false is = long is
 
-pub trees_have_steps : TreesHaveSteps
-trees_have_steps c path (leaf d) = refl
-trees_have_steps c path (node rule a b) =
-    let w = node_root c (size_of a * size_of b) in
-    steps-pick (is_kernel c (size_of a * size_of b)) path _ (by rule w (layout_of c a) (layout_of c b)) _ _ refl
-    (rule-sized rule path (size_of a) (size_of b) (layout_size (layout_of c a)) (layout_size (layout_of c b)) w
-    (λ p. steps_of p (layout_of c a)) (λ p. steps_of p (layout_of c b)) _ _ (layouts_have_size c a) (layouts_have_size c b)
-    (trees_have_steps c (path ++ Columns (size_of b) ∷ []) a) (trees_have_steps c (path ++ Blocks (size_of a) ∷ []) b))
+-- a leaf is a kernel, or a longer work
+leaf-pick : (P : PlainWork → Type 0) (p : Request) (d : ℕ) →
+    (is_kernel p d ≡ true → P (kernel (rooted_of p (leaf d)))) →
+    (is_kernel p d ≡ false → P (long_work p.kind (node_root p d) (leaf d))) → P (node_work p (leaf d))
+leaf-pick P p d short long = pick (is_kernel p d) refl
+  where
+    pick : (c : Bool) → is_kernel p d ≡ c →
+        P (if c then kernel (rooted_of p (leaf d)) else long_work p.kind (node_root p d) (leaf d))
+    pick true is = short is
+    pick false is = long is
 
 -- ---- the law of each rule
 
-power_shape : (kind : Kind) (t : Breakdown) → IsWellFormed kind t → kind ≡ Wht → IsPowerOfTwo (size_of t)
-power_shape Dft t h e = absurd (cc)
-power_shape Wht (leaf d) h e = elim (cases_eq d 1) [ inl one ↦ (0, one) | inr other ↦ (1, omega (arith, h.0, h.1, other)) ]
-power_shape Wht (node rule a b) h e =
-    let left = power_shape Wht a h.1 e in
-    let right = power_shape Wht b h.2 e in (left.0 + right.0, ap₂ (λ x y. x * y) left.1 right.1 ∙ sym (pow-add 2 left.0 right.0))
-power_shape Idft t h e = absurd (cc)
-
-div-product : (n r s : ℕ) → 0 < r → r * s ≡ n → n / r ≡ s
-div-product n r s h e = ap (λ x. x / r) (sym e) ∙ mul-div_right s h
-
 -- the root of a part is a power of that of the whole
-node_root-part : (m w n q r s t : ℕ) → 0 < r → 0 < t → r * s ≡ t → q * t ≡ n → power_mod m (power_mod m w (n / t)) s ≡ power_mod m w (n / r)
+node_root-part : (m w n q r s t : ℕ) → 0 < r → 0 < t → r * s ≡ t → q * t ≡ n →
+    power_mod m (power_mod m w (n / t)) s ≡ power_mod m w (n / r)
 node_root-part m w n q r s t h g e f =
     let outer : r * (q * s) ≡ q * (r * s) = omega arith in
     let part : r * (q * s) ≡ n = outer ∙ ap (λ x. q * x) e ∙ f in
@@ -103,7 +107,8 @@ node_root-part m w n q r s t h g e f =
 
 node_root-whole : (m w n q t : ℕ) → 0 < t → q * t ≡ n → power_mod m (power_mod m w (n / t)) t ≡ power_mod m w n
 node_root-whole m w n q t g f =
-    ap (λ x. power_mod m (power_mod m w x) t) (div-product n t q g (omega (arith, f))) ∙ power_mod_of_power m w q t ∙ ap (power_mod m w) f
+    ap (λ x. power_mod m (power_mod m w x) t) (div-product n t q g (omega (arith, f)))
+    ∙ power_mod_of_power m w q t ∙ ap (power_mod m w) f
 
 -- a part of a transform, as its rule takes it apart
 record IsPart (m w n q r s : ℕ) : Type 0 where
@@ -113,16 +118,20 @@ record IsPart (m w n q r s : ℕ) : Type 0 where
   product : 0 < r * s
   whole : q * (r * s) ≡ n
 
-rule_law : (kind : Kind) (rule : Rule) (m w n q r s : ℕ) (x : List ℕ) → AllowsRule kind rule r s → (kind ≡ Wht → IsPowerOfTwo s) → HasRoot kind m w n → IsPart m w n q r s →
+rule_law : (kind : Kind) (rule : Rule) (m w n q r s : ℕ) (x : List ℕ) → AllowsRule kind rule r s →
+    (kind ≡ Wht → IsPowerOfTwo s) → HasRoot kind m w n → IsPart m w n q r s →
     transform kind m (r * s) (power_mod m w (n / (r * s))) x
-    ≡ rule_on rule m r s (power_mod m w (n / (r * s))) (transform kind m r (power_mod m w (n / r))) (transform kind m s (power_mod m w (n / s))) x
+    ≡ rule_on rule m r s (power_mod m w (n / (r * s))) (transform kind m r (power_mod m w (n / r)))
+    (transform kind m s (power_mod m w (n / s))) x
 rule_law Dft Gt m w n q r s x allowed shape root p =
-    good_thomas m r s (power_mod m w (n / (r * s))) x (node_root-whole m w n q (r * s) p.product p.whole ∙ root ∙ sym (mod-eq_of_lt (omega (arith, p.modulus)))) allowed
+    good_thomas m r s (power_mod m w (n / (r * s))) x
+    (node_root-whole m w n q (r * s) p.product p.whole ∙ root ∙ sym (mod-eq_of_lt (omega (arith, p.modulus)))) allowed
     ∙ ap₂ (λ u v. rule_on Gt m r s (power_mod m w (n / (r * s))) (transform Dft m r u) (transform Dft m s v) x)
     (node_root-part m w n q r s (r * s) p.left p.product refl p.whole)
     (node_root-part m w n q s r (r * s) p.right p.product (mul_comm s r) p.whole)
 rule_law Dft Ct m w n q r s x allowed shape root p =
-    cooley_tukey m r s (power_mod m w (n / (r * s))) x (node_root-whole m w n q (r * s) p.product p.whole ∙ root ∙ sym (mod-eq_of_lt (omega (arith, p.modulus))))
+    cooley_tukey m r s (power_mod m w (n / (r * s))) x
+    (node_root-whole m w n q (r * s) p.product p.whole ∙ root ∙ sym (mod-eq_of_lt (omega (arith, p.modulus))))
     ∙ ap₂ (λ u v. rule_on Ct m r s (power_mod m w (n / (r * s))) (transform Dft m r u) (transform Dft m s v) x)
     (node_root-part m w n q r s (r * s) p.left p.product refl p.whole)
     (node_root-part m w n q s r (r * s) p.right p.product (mul_comm s r) p.whole)
@@ -130,172 +139,205 @@ rule_law Dft Split m w n q r s x allowed shape root p = absurd allowed
 rule_law Dft Dim m w n q r s x allowed shape root p = absurd allowed
 rule_law Wht Gt m w n q r s x allowed shape root p = absurd allowed
 rule_law Wht Ct m w n q r s x allowed shape root p = absurd allowed
-rule_law Wht Split m w n q r s x allowed shape root p = split m r s (power_mod m w (n / (r * s))) x (omega (arith, p.modulus)) (shape refl)
+rule_law Wht Split m w n q r s x allowed shape root p =
+    split m r s (power_mod m w (n / (r * s))) x (omega (arith, p.modulus)) (shape refl)
 rule_law Wht Dim m w n q r s x allowed shape root p = absurd allowed
 rule_law Idft rule m w n q r s x allowed shape root p = absurd allowed
 
+-- a rule makes the same of parts that do the same
+pub rule_on-same : (rule : Rule) (m r s w : ℕ) (a b f g : Operator) (x : List ℕ) → ((y : List ℕ) → a y ≡ f y) →
+    ((y : List ℕ) → b y ≡ g y) → rule_on rule m r s w a b x ≡ rule_on rule m r s w f g x
+rule_on-same rule m r s w a b f g x h k =
+    ap₂ (λ (u v : Operator). rule_on rule m r s w u v x) (λ i y. h y i) (λ i y. k y i)
+
 -- ---- what a layout does
 
-module _ (m root : ℕ) (t : Breakdown) where
-  does-pick : (b : Bool) (kind : Kind) (x : List ℕ) → work_on m (if b then kernel (single kind root t) else long_work kind root t) x ≡ transform kind m (size_of t) root x
-  does-pick true kind x = refl
-  does-pick false Dft x = refl
-  does-pick false Wht x = refl
-  does-pick false Idft x = refl
-
--- a work does the transform of its node
-work-does : (c : Request) (t : Breakdown) (x : List ℕ) → work_on c.modulus (node_work c t) x ≡ transform_of c (size_of t) x
-work-does c t x = does-pick c.modulus (node_root c (size_of t)) t (is_kernel c (size_of t)) c.kind x
-
--- a rule makes the same of parts that do the same
-pub rule_on-same : (rule : Rule) (m r s w : ℕ) (a b f g : Operator) (x : List ℕ) → ((y : List ℕ) → a y ≡ f y) → ((y : List ℕ) → b y ≡ g y) → rule_on rule m r s w a b x ≡ rule_on rule m r s w f g x
-rule_on-same rule m r s w a b f g x h k = ap₂ (λ (u v : Operator). rule_on rule m r s w u v x) (λ i y. h y i) (λ i y. k y i)
-
-pub do-pick : (b : Bool) (m : ℕ) (l k : Layout) (x y : List ℕ) → layout_on m l x ≡ y → layout_on m k x ≡ y → layout_on m (if b then l else k) x ≡ y
-do-pick true m l k x y h g = h
-do-pick false m l k x y h g = g
-
-pub layouts_do : LayoutsDo
-layouts_do c (leaf d) q x valid h e = work-does c (leaf d) x
-layouts_do c (node rule a b) q x valid h e =
+-- a node of one size does what its rule makes of its parts
+flat_rule : (p : Request) (rule : Rule) (a b : Breakdown) (x : List ℕ) → IsNodeTree p (node rule a b) →
+    p.dimensions ≡ One →
+    AllowsRule p.kind rule (size_of a) (size_of b) → IsTreeOf p a → IsTreeOf p b →
+    node_transform p (size_of a * size_of b) x
+    ≡ rule_on rule p.modulus (size_of a) (size_of b) (node_root p (size_of a * size_of b)) (node_on p a)
+    (node_on p b) x
+flat_rule p rule a b x h one allowed left right =
     let r = size_of a in
     let s = size_of b in
-    let w = node_root c (r * s) in
-    let two_r : 2 ≤ r = h.0.left in
-    let two_s : 2 ≤ s = h.0.right in
-    let two_m : 2 ≤ c.modulus = valid.in_range.modulus.0 in
-    let positive : 0 < r * s = mul-lt 0 0 r s (omega (arith, two_r)) (omega (arith, two_s)) in
-    let part : IsPart c.modulus c.root c.size q r s = record { modulus = two_m; left = omega (arith, two_r); right = omega (arith, two_s); product = positive; whole = e } in
-    let left = layout_on c.modulus (layout_of c a) in
-    let right = layout_on c.modulus (layout_of c b) in
-    do-pick (is_kernel c (r * s)) c.modulus _ (by rule w (layout_of c a) (layout_of c b)) x _ (work-does c (node rule a b) x)
-    (ap₂ (λ u v. rule_on rule c.modulus u v w left right x) (layouts_have_size c a) (layouts_have_size c b)
-    ∙ rule_on-same rule c.modulus r s w left right (transform_of c r) (transform_of c s) x
-    (λ y. layouts_do c a (q * s) y valid h.1 (omega (arith, e)))
-    (λ y. layouts_do c b (q * r) y valid h.2 (omega (arith, e)))
-    ∙ sym (rule_law c.kind rule c.modulus c.root c.size q r s x h.0.allowed (power_shape c.kind b h.2) valid.root part))
+    let two_r : 2 ≤ r = h.tree.0 in
+    let two_s : 2 ≤ s = h.tree.1 in
+    let two_m : 2 ≤ p.modulus = h.valid.in_range.modulus.0 in
+    let part : IsPart p.modulus p.root p.size (p.size / (r * s)) r s = record {
+      modulus = two_m;
+      left = omega (arith, two_r);
+      right = omega (arith, two_s);
+      product = mul-lt 0 0 r s (omega (arith, two_r)) (omega (arith, two_s));
+      whole = times_size p (node rule a b) h;
+    } in
+    rule_law p.kind rule p.modulus p.root p.size (p.size / (r * s)) r s x allowed
+    (λ wht. walsh_size b (subst (λ kind. IsWellFormed kind b) wht (well_formed p b one right))) h.valid.root part
+    ∙ rule_on-same rule p.modulus r s (node_root p (r * s)) (node_transform p r) (node_transform p s) (node_on p a)
+    (node_on p b) x
+    (λ y. sym (flat_node p a y one left)) (λ y. sym (flat_node p b y one right))
+
+-- so does every node
+node_by_rule : (p : Request) (rule : Rule) (a b : Breakdown) (x : List ℕ) → IsNodeTree p (node rule a b) →
+    node_on p (node rule a b) x
+    ≡ rule_on rule p.modulus (size_of a) (size_of b) (node_root p (size_of a * size_of b))
+    (node_on (left_of rule p) a) (node_on (right_of rule p) b) x
+node_by_rule p Gt a b x h = flat_rule p Gt a b x h h.tree.2.0 h.tree.2.1 h.tree.3 h.tree.4
+node_by_rule p Ct a b x h = flat_rule p Ct a b x h h.tree.2.0 h.tree.2.1 h.tree.3 h.tree.4
+node_by_rule p Split a b x h = flat_rule p Split a b x h h.tree.2.0 h.tree.2.1 h.tree.3 h.tree.4
+node_by_rule p Dim a b x h = refl
+
+long_does : (m root d : ℕ) (kind : Kind) (x : List ℕ) →
+    work_on m (long_work kind root (leaf d)) x ≡ transform kind m d root x
+long_does m root d Dft x = refl
+long_does m root d Wht x = refl
+long_does m root d Idft x = refl
+
+pub layouts_do : LayoutsDo
+layouts_do p (leaf d) x h =
+    leaf-pick (λ w. work_on p.modulus w x ≡ node_on p (leaf d) x) p d
+    (λ short. rooted_on p (leaf d) x h) (λ long. long_does p.modulus (node_root p d) d p.kind x)
+layouts_do p (node rule a b) x h =
+    let r = size_of a in
+    let s = size_of b in
+    let w = node_root p (r * s) in
+    let lp = left_of rule p in
+    let rp = right_of rule p in
+    let left = layout_on p.modulus (layout_of lp a) in
+    let right = layout_on p.modulus (layout_of rp b) in
+    node-pick (λ l. layout_on p.modulus l x ≡ node_on p (node rule a b) x) p rule a b
+    (λ short. rooted_on p (node rule a b) x h)
+    (λ long. ap₂ (λ u v. rule_on rule p.modulus u v w left right x) (layouts_have_size lp a) (layouts_have_size rp b)
+    ∙ rule_on-same rule p.modulus r s w left right (node_on lp a) (node_on rp b) x
+    (λ y. ap (λ m. layout_on m (layout_of lp a) y) (sym (left_fields p rule a b h).modulus)
+    ∙ layouts_do lp a y (left_tree p rule a b h))
+    (λ y. ap (λ m. layout_on m (layout_of rp b) y) (sym (right_fields p rule a b h).modulus)
+    ∙ layouts_do rp b y (right_tree p rule a b h))
+    ∙ sym (node_by_rule p rule a b x h))
 
 -- ---- what it costs
 
-whole-part : (c : Request) (n q : ℕ) → 0 < n → q * n ≡ c.size → n * (c.size / n) ≡ c.size
-whole-part c n q some whole = ap (λ k. n * k) (div-product c.size n q some (mul_comm n q ∙ whole)) ∙ mul_comm n q ∙ whole
-
 -- in straight-line code
-pub kernel-priced : (c : Request) (t : Breakdown) (q : ℕ) → IsValid c → IsWellFormed c.kind t → q * size_of t ≡ c.size → is_kernel c (size_of t) ≡ true → work_cost c.weight c.modulus (node_work c t) ≡ cost_of c t
-kernel-priced c t q valid formed whole short =
-    let n = size_of t in
-    ap (λ b. work_cost c.weight c.modulus (if b then kernel (single c.kind (node_root c n) t) else long_work c.kind (node_root c n) t)) short
-    ∙ cost-same c t (c.size / n) (omega (arith, valid.in_range.size.0)) formed (whole-part c n q (one_le_size_of c.kind t formed) whole) short
+pub kernel-priced : (p : Request) (t : Breakdown) → IsNodeTree p t → is_kernel p (size_of t) ≡ true →
+    trees_cost p.weight p.modulus (rooted_of p t) ≡ cost_in p t
+kernel-priced p t h short = rooted_cost p t h short
 
 -- and row by row
-rows-cost : (weight m root d : ℕ) (kind : Kind) → AllowsLeaf kind d → 2 < d → work_cost weight m (long_work kind root (leaf d)) ≡ d * d * (1 + weight)
+rows-cost : (weight m root d : ℕ) (kind : Kind) → AllowsLeaf kind d → 2 < d →
+    work_cost weight m (long_work kind root (leaf d)) ≡ d * d * (1 + weight)
 rows-cost weight m root d Dft h more = omega arith
 rows-cost weight m root d Wht h more = absurd (omega (arith, h.1, more))
 rows-cost weight m root d Idft h more = absurd h
 
-pub leaf-priced : (c : Request) (d q : ℕ) → IsValid c → AllowsLeaf c.kind d → q * d ≡ c.size → (d ≡ c.size → is_plain c ≡ false → ⊥) → work_cost c.weight c.modulus (node_work c (leaf d)) ≡ cost_of c (leaf d)
-leaf-priced c d q valid formed whole root = pick (is_kernel c d) refl
-  where
-    pick : (b : Bool) → is_kernel c d ≡ b → work_cost c.weight c.modulus (node_work c (leaf d)) ≡ cost_of c (leaf d)
-    pick true short = kernel-priced c (leaf d) q valid formed whole short
-    pick false long =
-        elim (cases_lt c.unroll d) [
-          | inl over ↦
-              let n : nat_le d c.unroll ≡ false = grind (arith, nat_tests) in
-              ap (λ b. work_cost c.weight c.modulus (if b then kernel (single c.kind (node_root c d) (leaf d)) else long_work c.kind (node_root c d) (leaf d))) long
-              ∙ rows-cost c.weight c.modulus (node_root c d) d c.kind formed (omega (arith, over, valid.in_range.unroll.0))
-              ∙ sym (ap (λ b. if b then d * (d - 1) + products_cost c c.kind 0 (node_root c d) d d else d * d * (1 + c.weight)) n)
-          | inr short ↦ let both : (d ≡ c.size) × (is_plain c ≡ false) = grind (arith, nat_tests, long, short) in absurd (root both.0 both.1)
-        ]
-
--- what a rule adds outside a kernel
-outer_rule_cost : (c : Request) (rule : Rule) (r s : ℕ) → is_kernel c (r * s) ≡ false → trees.rule_cost c rule r s ≡ layouts.rule_cost c.weight rule (r * s)
-outer_rule_cost c Gt r s e = refl
-outer_rule_cost c Ct r s e = ap (λ (b : Bool). if b then products_cost c Dft 1 (node_root c (r * s)) r s else c.weight * (r * s)) e
-outer_rule_cost c Split r s e = refl
-outer_rule_cost c Dim r s e = refl
-
-pub cost-pick : (b : Bool) (weight m n : ℕ) (l k : Layout) → (b ≡ true → layout_cost weight m l ≡ n) → (b ≡ false → layout_cost weight m k ≡ n) → layout_cost weight m (if b then l else k) ≡ n
-cost-pick true weight m n l k h g = h refl
-cost-pick false weight m n l k h g = g refl
-
-pub part-le : (q n size : ℕ) → q * n ≡ size → 0 < size → n ≤ size
-part-le zero n size e some = absurd (omega arith)
-part-le (suc q) n size e some = omega arith
-
-pub layouts_cost : LayoutsCost
-layouts_cost c (leaf d) q valid h e root = leaf-priced c d q valid h e root
-layouts_cost c (node rule a b) q valid h e root =
-    let r = size_of a in
-    let s = size_of b in
-    let w = node_root c (r * s) in
-    let two_r : 2 ≤ r = h.0.left in
-    let two_s : 2 ≤ s = h.0.right in
-    let high : r * s ≤ c.size = part-le q (r * s) c.size e valid.in_range.size.0 in
-    let r_less : r < r * s = below_product (r * s) r s two_s refl (omega (arith, two_r)) in
-    let s_less : s < r * s = other_below (r * s) r s two_r refl (omega (arith, two_s)) in
-    let left = layouts_cost c a (q * s) valid h.1 (omega (arith, e)) (λ is shared. absurd (omega (arith, is, r_less, high))) in
-    let right = layouts_cost c b (q * r) valid h.2 (omega (arith, e)) (λ is shared. absurd (omega (arith, is, s_less, high))) in
-    cost-pick (is_kernel c (r * s)) c.weight c.modulus (cost_of c (node rule a b)) _ (by rule w (layout_of c a) (layout_of c b))
-    (λ short. kernel-priced c (node rule a b) q valid h e short)
-    (λ outer.
-    ap₂ (λ u v. v * layout_cost c.weight c.modulus (layout_of c a) + u * layout_cost c.weight c.modulus (layout_of c b) + layouts.rule_cost c.weight rule (u * v)) (layouts_have_size c a) (layouts_have_size c b)
-    ∙ ap₂ (λ x y. s * x + r * y + layouts.rule_cost c.weight rule (r * s)) left right
-    ∙ ap (λ k. s * cost_of c a + r * cost_of c b + k) (sym (outer_rule_cost c rule r s outer)))
-
--- ---- a layout can be made
-
-good-pick : (m root : ℕ) (t : Breakdown) (b : Bool) (kind : Kind) → (b ≡ false → 2 ≤ size_of t) → IsWellFormed kind t → AllowsRoot m root kind t → IsRoot kind m (size_of t) root → IsGoodWork m (if b then kernel (single kind root t) else long_work kind root t)
-good-pick m root t true kind two formed allowed is = (formed, allowed)
-good-pick m root t false Dft two formed allowed is = (two refl, is)
-good-pick m root t false Wht two formed allowed is = (formed, allowed)
-good-pick m root t false Idft two formed allowed is = (formed, allowed)
-
-work-good : (c : Request) (t : Breakdown) (q : ℕ) → IsValid c → IsWellFormed c.kind t → q * size_of t ≡ c.size → (is_kernel c (size_of t) ≡ false → 2 ≤ size_of t) → IsGoodLayout c.modulus (work (node_work c t))
-work-good c t q valid formed whole two =
-    let some : 1 ≤ size_of t = one_le_size_of c.kind t formed in
-    let divides : c.size % size_of t ≡ 0 = ap (λ n. n % size_of t) (sym whole ∙ mul_comm q (size_of t)) ∙ mul-mod_right (size_of t) q in (
-      omega (arith, some, work-size c t),
-      good-pick c.modulus (node_root c (size_of t)) t (is_kernel c (size_of t)) c.kind two formed (any-root c t valid divides) (root-of c t valid divides),
-    )
-
-pub layout-pick : (m : ℕ) (b : Bool) (l k : Layout) → IsGoodLayout m l → IsGoodLayout m k → IsGoodLayout m (if b then l else k)
-layout-pick m true l k h g = h
-layout-pick m false l k h g = g
-
-can-part : (kind : Kind) (rule : Rule) (r s : ℕ) → AllowsRule kind rule r s → CanPart rule r s
-can-part Dft Gt r s h = h
-can-part Dft Ct r s h = tt
-can-part Dft Split r s h = tt
-can-part Dft Dim r s h = tt
-can-part Wht Gt r s h = absurd h
-can-part Wht Ct r s h = tt
-can-part Wht Split r s h = tt
-can-part Wht Dim r s h = tt
-can-part Idft rule r s h = absurd h
-
 -- a leaf that is no kernel is longer than the limit, since the root of a shared request is no leaf
-long-leaf : (c : Request) (d : ℕ) → IsValid c → (d ≡ c.size → is_plain c ≡ false → ⊥) → is_kernel c d ≡ false → 2 ≤ d
-long-leaf c d valid root long =
-    elim (cases_lt c.unroll d) [
-      | inl over ↦ omega (arith, over, valid.in_range.unroll.0)
-      | inr short ↦ let both : (d ≡ c.size) × (is_plain c ≡ false) = grind (arith, nat_tests, long, short) in absurd (root both.0 both.1)
+long-leaf : (p : Request) (d : ℕ) → FitsWhole p (leaf d) → is_kernel p d ≡ false → p.unroll < d
+long-leaf p d root long =
+    elim (cases_lt p.unroll d) [
+      | inl over ↦ over
+      | inr short ↦
+          let both : (d ≡ p.size) × (is_plain p ≡ false) = grind (arith, nat_tests, long, short) in
+          absurd (root both.0 both.1)
     ]
 
-pub layouts_are_good : LayoutsAreGood
-layouts_are_good c (leaf d) q valid h e root = work-good c (leaf d) q valid h e (long-leaf c d valid root)
-layouts_are_good c (node rule a b) q valid h e root =
+long-priced : (p : Request) (d : ℕ) → IsNodeTree p (leaf d) → p.unroll < d →
+    work_cost p.weight p.modulus (long_work p.kind (node_root p d) (leaf d)) ≡ cost_in p (leaf d)
+long-priced p d h over =
+    let low = h.valid.in_range.unroll.0 in
+    let n : nat_le d p.unroll ≡ false = grind (arith, nat_tests) in
+    rows-cost p.weight p.modulus (node_root p d) d p.kind h.tree.1 (omega (arith, over, low))
+    ∙ sym (ap (λ b. if b then d * (d - 1) + products_cost p p.kind 0 (node_root p d) d d else d * d * (1 + p.weight)) n)
+
+pub leaf-priced : (p : Request) (d : ℕ) → IsNodeTree p (leaf d) → FitsWhole p (leaf d) →
+    work_cost p.weight p.modulus (node_work p (leaf d)) ≡ cost_in p (leaf d)
+leaf-priced p d h root =
+    leaf-pick (λ w. work_cost p.weight p.modulus w ≡ cost_in p (leaf d)) p d
+    (λ short. kernel-priced p (leaf d) h short) (λ long. long-priced p d h (long-leaf p d root long))
+
+-- what a rule adds outside a kernel
+outer_rule_cost : (p : Request) (rule : Rule) (r s : ℕ) → is_kernel p (r * s) ≡ false →
+    trees.rule_cost p rule r s ≡ layouts.rule_cost p.weight rule (r * s)
+outer_rule_cost p Gt r s e = refl
+outer_rule_cost p Ct r s e =
+    ap (λ (b : Bool). if b then products_cost p Dft 1 (node_root p (r * s)) r s else p.weight * (r * s)) e
+outer_rule_cost p Split r s e = refl
+outer_rule_cost p Dim r s e = refl
+
+pub layouts_cost : LayoutsCost
+layouts_cost p (leaf d) h root = leaf-priced p d h root
+layouts_cost p (node rule a b) h root =
     let r = size_of a in
     let s = size_of b in
-    let high : r * s ≤ c.size = part-le q (r * s) c.size e valid.in_range.size.0 in
-    let two_r : 2 ≤ r = h.0.left in
-    let two_s : 2 ≤ s = h.0.right in
-    let r_less : r < r * s = below_product (r * s) r s two_s refl (omega (arith, two_r)) in
-    let s_less : s < r * s = other_below (r * s) r s two_r refl (omega (arith, two_s)) in
-    let most : c.size ≤ max_size = valid.in_range.size.1 in
-    let good : IsGoodRule rule r s = record { left = h.0.left; right = h.0.right; parts = can-part c.kind rule r s h.0.allowed; small = omega (arith, high, most) } in
-    layout-pick c.modulus (is_kernel c (r * s)) _ (by rule (node_root c (r * s)) (layout_of c a) (layout_of c b)) (work-good c (node rule a b) q valid h e (λ long. omega (arith, two_s, s_less))) (
-      subst (λ v. IsGoodRule rule (layout_size (layout_of c a)) v) (sym (layouts_have_size c b)) (subst (λ u. IsGoodRule rule u s) (sym (layouts_have_size c a)) good),
-      layouts_are_good c a (q * s) valid h.1 (omega (arith, e)) (λ is shared. absurd (omega (arith, is, r_less, high))),
-      layouts_are_good c b (q * r) valid h.2 (omega (arith, e)) (λ is shared. absurd (omega (arith, is, s_less, high))),
-    )
+    let lp = left_of rule p in
+    let rp = right_of rule p in
+    let left_same = left_fields p rule a b h in
+    let right_same = right_fields p rule a b h in
+    let left : layout_cost p.weight p.modulus (layout_of lp a) ≡ cost_in lp a =
+    sym (ap₂ (λ weight m. layout_cost weight m (layout_of lp a)) left_same.weight left_same.modulus)
+    ∙ layouts_cost lp a (left_tree p rule a b h) (left_fits p rule a b h) in
+    let right : layout_cost p.weight p.modulus (layout_of rp b) ≡ cost_in rp b =
+    sym (ap₂ (λ weight m. layout_cost weight m (layout_of rp b)) right_same.weight right_same.modulus)
+    ∙ layouts_cost rp b (right_tree p rule a b h) (right_fits p rule a b h) in
+    node-pick (λ l. layout_cost p.weight p.modulus l ≡ cost_in p (node rule a b)) p rule a b
+    (λ short. kernel-priced p (node rule a b) h short)
+    (λ outer.
+    ap₂ (λ u v. v * layout_cost p.weight p.modulus (layout_of lp a)
+    + u * layout_cost p.weight p.modulus (layout_of rp b) + layouts.rule_cost p.weight rule (u * v))
+    (layouts_have_size lp a) (layouts_have_size rp b)
+    ∙ ap₂ (λ x y. s * x + r * y + layouts.rule_cost p.weight rule (r * s)) left right
+    ∙ ap (λ k. s * cost_in lp a + r * cost_in rp b + k) (sym (outer_rule_cost p rule r s outer)))
+
+-- ---- it can be made
+
+kernel-good : (p : Request) (t : Breakdown) → IsNodeTree p t → 1 ≤ size_of t →
+    IsGoodLayout p.modulus (work (kernel (rooted_of p t)))
+kernel-good p t h some = let size = rooted_size p t in (omega (arith, some, size), rooted_made p t h)
+
+long-good : (m root d : ℕ) (kind : Kind) → 2 < d → AllowsLeaf kind d → IsRoot kind m d root →
+    IsGoodLayout m (work (long_work kind root (leaf d)))
+long-good m root d Dft more allowed is = (omega (arith, more), (omega (arith, more), is))
+long-good m root d Wht more allowed is = absurd (omega (arith, allowed.1, more))
+long-good m root d Idft more allowed is = absurd allowed
+
+can-part : (kind : Kind) (r s : ℕ) → AllowsRule kind Gt r s → CanPart Gt r s
+can-part Dft r s h = h
+can-part Wht r s h = absurd h
+can-part Idft r s h = absurd h
+
+can-part-of : (p : Request) (rule : Rule) (r s : ℕ) → AllowsRuleOf p rule r s → CanPart rule r s
+can-part-of p Gt r s h = can-part p.kind r s h.1
+can-part-of p Ct r s h = tt
+can-part-of p Split r s h = tt
+can-part-of p Dim r s h = tt
+
+pub layouts_are_good : LayoutsAreGood
+layouts_are_good p (leaf d) h root =
+    leaf-pick (λ w. IsGoodLayout p.modulus (work w)) p d
+    (λ short. kernel-good p (leaf d) h (one_le_size_of p.kind (leaf d) h.tree.1))
+    (λ long.
+    let over = long-leaf p d root long in
+    let low = h.valid.in_range.unroll.0 in
+    long-good p.modulus (node_root p d) d p.kind (omega (arith, over, low)) h.tree.1 (root-of p (leaf d) h.valid h.divides))
+layouts_are_good p (node rule a b) h root =
+    let r = size_of a in
+    let s = size_of b in
+    let lp = left_of rule p in
+    let rp = right_of rule p in
+    let high = size-le p (node rule a b) h in
+    let most : p.size ≤ max_size = h.valid.in_range.size.1 in
+    let less = left_less p rule a b h in
+    let good : IsGoodRule rule r s = record {
+      left = h.tree.0;
+      right = h.tree.1;
+      parts = can-part-of p rule r s h.tree.2;
+      small = omega (arith, high, most);
+    } in
+    node-pick (IsGoodLayout p.modulus) p rule a b (λ short. kernel-good p (node rule a b) h (omega (arith, less)))
+    (λ long. (
+      subst (λ v. IsGoodRule rule (layout_size (layout_of lp a)) v) (sym (layouts_have_size rp b))
+          (subst (λ u. IsGoodRule rule u s) (sym (layouts_have_size lp a)) good),
+      subst (λ m. IsGoodLayout m (layout_of lp a)) (left_fields p rule a b h).modulus
+          (layouts_are_good lp a (left_tree p rule a b h) (left_fits p rule a b h)),
+      subst (λ m. IsGoodLayout m (layout_of rp b)) (right_fields p rule a b h).modulus
+          (layouts_are_good rp b (right_tree p rule a b h) (right_fits p rule a b h)),
+    ))

@@ -16,6 +16,7 @@ use Rattle.tree_model.specs.Breakdown.{Breakdown, leaf, node, size_of}
 use Rattle.tree_model.specs.Cost.{is_kernel, node_root}
 use Rattle.tree_model.specs.declared.tree.Rule.{Rule}
 use Rattle.tree_model.specs.declared.tree.Rule.TheVariants.{Gt, Ct, Split, Dim}
+use Rattle.tree_model.specs.Whole.{left_of, right_of, rooted_of}
 
 pub data Layout : Type 0 where
   work : (w : PlainWork) → Layout
@@ -92,12 +93,14 @@ long_work Dft root t = rows root (size_of t)
 long_work Wht root t = kernel (single Wht root t)
 long_work Idft root t = kernel (single Idft root t)
 
--- the work of a node
+-- the work of a node of the request: short ones are straight-line code
 abbrev pub node_work : Request → Breakdown → PlainWork
-node_work c t = if is_kernel c (size_of t) then kernel (single c.kind (node_root c (size_of t)) t) else long_work c.kind (node_root c (size_of t)) t
+node_work p t =
+    if is_kernel p (size_of t) then kernel (rooted_of p t) else long_work p.kind (node_root p (size_of t)) t
 
+-- the layout of a tree of the request: the parts of a dim are of requests of their own
 abbrev pub layout_of : Request → Breakdown → Layout
-layout_of c (leaf d) = work (node_work c (leaf d))
-layout_of c (node rule a b) =
-    if is_kernel c (size_of a * size_of b) then work (node_work c (node rule a b))
-    else by rule (node_root c (size_of a * size_of b)) (layout_of c a) (layout_of c b)
+layout_of p (leaf d) = work (node_work p (leaf d))
+layout_of p (node rule a b) =
+    if is_kernel p (size_of a * size_of b) then work (node_work p (node rule a b))
+    else by rule (node_root p (size_of a * size_of b)) (layout_of (left_of rule p) a) (layout_of (right_of rule p) b)

@@ -1,6 +1,5 @@
 -- What steps do to a list.
-use Rattle.std.specs.Prelude.{◌≡◌, ℕ, ◌*◌, List, [], ◌∷◌, false}
-use Rattle.matrix_meaning.specs.Kind.{transform}
+use Rattle.std.specs.Prelude.{◌≡◌, ℕ, ◌*◌, ◌%◌, List, [], ◌∷◌, false}
 use Rattle.matrix_meaning.specs.Laws.{twiddle}
 use Rattle.matrix_meaning.specs.Valid.{IsValid}
 use Rattle.matrix_meaning.specs.declared.Request.{Request}
@@ -8,15 +7,12 @@ use Rattle.operators.specs.Identities.{turn}
 use Rattle.operators.specs.Operator.{Operator, gather, scale, good_thomas_in, good_thomas_out}
 use Rattle.passes.specs.Work.{work_size, work_on}
 use Rattle.steps.specs.Layout.{Layout, layout_size, layout_on, layout_cost, layout_of, IsGoodLayout}
-use Rattle.steps.specs.Step.{PlainCore, piece, turns, twiddles, thomas_in, thomas_out, PlainStep, steps_of, tree_steps, operations_in}
+use Rattle.steps.specs.Step.{PlainCore, piece, turns, twiddles, thomas_in, thomas_out, PlainStep, steps_of, operations_in}
 use Rattle.tensor_paths.specs.Path.{Path, copies_of, under}
 use Rattle.tree_model.specs.Admissible.{RootFits}
-use Rattle.tree_model.specs.Breakdown.{Breakdown, size_of, IsWellFormed}
-use Rattle.tree_model.specs.Cost.{is_plain, node_root, cost_of}
-
--- the transform that a node of size d stands for
-abbrev pub transform_of : Request → ℕ → Operator
-transform_of c d = transform c.kind c.modulus d (node_root c d)
+use Rattle.tree_model.specs.Breakdown.{Breakdown, size_of}
+use Rattle.tree_model.specs.Cost.{is_plain}
+use Rattle.tree_model.specs.Whole.{cost_in, node_on, IsTreeOf}
 
 abbrev pub core_size : PlainCore → ℕ
 core_size (piece w) = work_size w
@@ -48,28 +44,30 @@ StepsDo = (m : ℕ) (path : Path) (l : Layout) (x : List ℕ) → all_on m (step
 abbrev pub StepsCost : Type 0
 StepsCost = (weight m : ℕ) (path : Path) (l : Layout) → operations_in weight m (steps_of path l) ≡ copies_of path * layout_cost weight m l
 
--- the layout of a part of a tree has its size
+-- the layout of a tree has its size
 abbrev pub LayoutsHaveSize : Type 0
-LayoutsHaveSize = (c : Request) (t : Breakdown) → layout_size (layout_of c t) ≡ size_of t
+LayoutsHaveSize = (p : Request) (t : Breakdown) → layout_size (layout_of p t) ≡ size_of t
 
--- it does the transform of that size
+-- a tree of a valid request, or of a node of it
+pub record IsNodeTree (p : Request) (t : Breakdown) : Type 0 where
+  pub valid : IsValid p
+  pub tree : IsTreeOf p t
+  pub divides : p.size % size_of t ≡ 0
+
+-- its layout does what the tree does
 abbrev pub LayoutsDo : Type 0
-LayoutsDo =
-    (c : Request) (t : Breakdown) (q : ℕ) (x : List ℕ) → IsValid c → IsWellFormed c.kind t → q * size_of t ≡ c.size →
-    layout_on c.modulus (layout_of c t) x ≡ transform_of c (size_of t) x
+LayoutsDo = (p : Request) (t : Breakdown) (x : List ℕ) → IsNodeTree p t → layout_on p.modulus (layout_of p t) x ≡ node_on p t x
+
+-- the whole tree can be shared where there is more than one processor or lane
+abbrev pub FitsWhole : Request → Breakdown → Type 0
+FitsWhole p t = size_of t ≡ p.size → is_plain p ≡ false → RootFits p t
 
 -- it costs what the tree costs
 abbrev pub LayoutsCost : Type 0
 LayoutsCost =
-    (c : Request) (t : Breakdown) (q : ℕ) → IsValid c → IsWellFormed c.kind t → q * size_of t ≡ c.size → (size_of t ≡ c.size → is_plain c ≡ false → RootFits c t) →
-    layout_cost c.weight c.modulus (layout_of c t) ≡ cost_of c t
+    (p : Request) (t : Breakdown) → IsNodeTree p t → FitsWhole p t →
+    layout_cost p.weight p.modulus (layout_of p t) ≡ cost_in p t
 
 -- and a program can do it
 abbrev pub LayoutsAreGood : Type 0
-LayoutsAreGood =
-    (c : Request) (t : Breakdown) (q : ℕ) → IsValid c → IsWellFormed c.kind t → q * size_of t ≡ c.size → (size_of t ≡ c.size → is_plain c ≡ false → RootFits c t) →
-    IsGoodLayout c.modulus (layout_of c t)
-
--- the code's steps are those of the layout
-abbrev pub TreesHaveSteps : Type 0
-TreesHaveSteps = (c : Request) (path : Path) (t : Breakdown) → tree_steps c path t ≡ steps_of path (layout_of c t)
+LayoutsAreGood = (p : Request) (t : Breakdown) → IsNodeTree p t → FitsWhole p t → IsGoodLayout p.modulus (layout_of p t)

@@ -1,4 +1,5 @@
 pub mod Works
+pub mod Hosted
 pub mod Frames
 pub mod Places
 pub mod Loops
@@ -8,10 +9,18 @@ pub mod Known
 pub mod Owned
 pub mod Bounds
 pub mod Few
-pub mod TreesCanProgram
+pub mod LayoutPrograms
 pub mod Counting
-pub mod Adding
-pub mod Transforms
+pub mod Endings
+pub mod Small
+pub mod ClosedPlaces
+pub mod ClosedTerms
+pub mod ClosedWholes
+pub mod Closing
+pub mod ClosedCounts
+pub mod TreeHosted
+pub mod TreePrograms
+pub mod TreeCounts
 pub mod Merged
+pub mod Adding
 mod Chain
-pub use Rattle.loop_merge.proofs.LoopLimits

@@ -3,7 +3,7 @@ use Rattle.std.proofs.Common.{◌≡◌, ℕ, zero, suc, ◌<◌, List, [], ◌�
 use Rattle.std.specs.Prelude.{Contains}
 use Rattle.loop_merge.specs.Merge.{PlainPass, gather_place, scatter_place, in_order}
 use Rattle.loop_merge.specs.Nests.{loop_of}
-use Rattle.matrix_meaning.specs.declared.Request.{Request}
+use Rattle.steps.specs.declared.target.Target.{Target}
 use Rattle.pass_actions.specs.Laws.{IsLoadedBy, IsStoredBy}
 use Rattle.pass_programs.specs.Contract.{AllOwn, AllShared, ArePhasesShared, FirstOwns, IsOwner}
 use Rattle.passes.specs.Loops.{nest_of, one_nest}
@@ -12,9 +12,8 @@ use Rattle.passes.specs.Nest.{PlainNest, load_place, store_place}
 use Rattle.passes.specs.Work.{work_size}
 use Rattle.passes.proofs.Natural.{ranged}
 use Rattle.shared_passes.specs.Shared as shared
-use Rattle.steps.specs.Targets.{target_of}
 use Rattle.tensor_paths.specs.Path.{AreInRange}
-use Rattle.tree_passes.specs.Laws.{machine_of}
+use Rattle.tree_passes.specs.Laws.{host_of}
 use Rattle.tree_passes.proofs.Known.{AllKnown}
 use Rattle.tree_passes.proofs.Places.{load-is, store-is}
 use Rattle.tree_passes.proofs.Writes.{IsKnown}
@@ -24,14 +23,16 @@ only-nest : (z y : PlainNest) → Contains (z ∷ []) y → z ≡ y
 only-nest z y (zero, low, e) = e
 only-nest z y (suc k, low, e) = absurd (omega (arith, low))
 
-module _ (c : Request) where
+module _ (c : Target) where
   -- the passes as nests
   abbrev pub nests_in : List PlainPass → List (List PlainNest)
   nests_in ps = map (λ p. one_nest (loop_of p)) ps
 
-  loads-own : (owner : ℕ → ℕ) (p : PlainPass) → IsKnown c p → shared.Owns (target_of c) p (gather_place p) owner → (q w : ℕ) → q < c.procs → IsLoadedBy (machine_of c) (one_nest (loop_of p)) q w → owner w ≡ q
+  loads-own : (owner : ℕ → ℕ) (p : PlainPass) → IsKnown c p → shared.Owns c p (gather_place p) owner → (q w : ℕ) →
+      q < c.procs → IsLoadedBy (host_of c) (one_nest (loop_of p)) q w → owner w ≡ q
   loads-own owner p known owns q w below by =
-      subst (λ (y : PlainNest). AreInRange (loops_of y.counts) by.values → by.item < work_size y.work → load_place y.work y.gathers by.values by.item ≡ w → owner w ≡ q)
+      subst (λ (y : PlainNest). AreInRange (loops_of y.counts) by.values → by.item < work_size y.work → load_place
+      y.work y.gathers by.values by.item ≡ w → owner w ≡ q)
       (only-nest (nest_of (loop_of p)) by.nest by.one)
       (λ range low there.
       let inner : AreInRange p.path by.values = ranged p.path by.values range in
@@ -39,9 +40,11 @@ module _ (c : Request) where
       ap owner (sym there ∙ load-is c p known.loop by.values by.item inner item) ∙ owns q by.values by.item below (record { in_range = inner; processor = by.copy.processor }) item)
       by.copy.in_range by.below by.there
 
-  stores-own : (owner : ℕ → ℕ) (p : PlainPass) → IsKnown c p → shared.Owns (target_of c) p (scatter_place p) owner → (q w : ℕ) → q < c.procs → IsStoredBy (machine_of c) (one_nest (loop_of p)) q w → owner w ≡ q
+  stores-own : (owner : ℕ → ℕ) (p : PlainPass) → IsKnown c p → shared.Owns c p (scatter_place p) owner → (q w : ℕ) →
+      q < c.procs → IsStoredBy (host_of c) (one_nest (loop_of p)) q w → owner w ≡ q
   stores-own owner p known owns q w below by =
-      subst (λ (y : PlainNest). AreInRange (loops_of y.counts) by.values → by.item < work_size y.work → store_place y.work y.scatters by.values by.item ≡ w → owner w ≡ q)
+      subst (λ (y : PlainNest). AreInRange (loops_of y.counts) by.values → by.item < work_size y.work → store_place
+      y.work y.scatters by.values by.item ≡ w → owner w ≡ q)
       (only-nest (nest_of (loop_of p)) by.nest by.one)
       (λ range low there.
       let inner : AreInRange p.path by.values = ranged p.path by.values range in
@@ -49,15 +52,18 @@ module _ (c : Request) where
       ap owner (sym there ∙ store-is c p known.loop by.values by.item inner item) ∙ owns q by.values by.item below (record { in_range = inner; processor = by.copy.processor }) item)
       by.copy.in_range by.below by.there
 
-  all-own : (owner : ℕ → ℕ) (ps : List PlainPass) → AllKnown c ps → shared.AllOwn (target_of c) owner ps → AllOwn (machine_of c) owner (nests_in ps)
+  all-own : (owner : ℕ → ℕ) (ps : List PlainPass) → AllKnown c ps → shared.AllOwn c owner ps →
+      AllOwn (host_of c) owner (nests_in ps)
   all-own owner [] known own = tt
-  all-own owner (p ∷ ps) known own = (loads-own owner p known.0 own.0, stores-own owner p known.0 own.1, all-own owner ps known.1 own.2)
+  all-own owner (p ∷ ps) known own =
+      (loads-own owner p known.0 own.0, stores-own owner p known.0 own.1, all-own owner ps known.1 own.2)
 
-  first-own : (owner : ℕ → ℕ) (ps : List PlainPass) → AllKnown c ps → shared.FirstOwns (target_of c) owner ps → FirstOwns (machine_of c) owner (nests_in ps)
+  first-own : (owner : ℕ → ℕ) (ps : List PlainPass) → AllKnown c ps → shared.FirstOwns c owner ps →
+      FirstOwns (host_of c) owner (nests_in ps)
   first-own owner [] known own = tt
   first-own owner (p ∷ ps) known own = (stores-own owner p known.0 own.0, all-own owner ps known.1 own.1)
 
-  same-owner : (owner : ℕ → ℕ) → shared.IsOwner (target_of c) owner → IsOwner (machine_of c) owner
+  same-owner : (owner : ℕ → ℕ) → shared.IsOwner c owner → IsOwner (host_of c) owner
   same-owner owner is = record { lines = is.lines; procs = is.procs }
 
   known-front : (ps qs : List PlainPass) → AllKnown c (ps ++ qs) → AllKnown c ps
@@ -68,14 +74,16 @@ module _ (c : Request) where
   known-back [] qs h = h
   known-back (p ∷ ps) qs h = known-back ps qs h.1
 
-  all-shared : (phases : List (List PlainPass)) → AllKnown c (in_order phases) → shared.AllShared (target_of c) phases → AllShared (machine_of c) (map nests_in phases)
+  all-shared : (phases : List (List PlainPass)) → AllKnown c (in_order phases) → shared.AllShared c phases →
+      AllShared (host_of c) (map nests_in phases)
   all-shared [] known h = tt
   all-shared (ps ∷ more) known h = (
     record { owner = h.0.owner; is_owner = same-owner h.0.owner h.0.is_owner; owns = all-own h.0.owner ps (known-front ps (in_order more) known) h.0.owns },
     all-shared more (known-back ps (in_order more) known) h.1,
   )
 
-  pub phases-shared : (phases : List (List PlainPass)) → AllKnown c (in_order phases) → shared.ArePhasesShared (target_of c) phases → ArePhasesShared (machine_of c) (map nests_in phases)
+  pub phases-shared : (phases : List (List PlainPass)) → AllKnown c (in_order phases) →
+      shared.ArePhasesShared c phases → ArePhasesShared (host_of c) (map nests_in phases)
   phases-shared [] known h = tt
   phases-shared (ps ∷ more) known h = (
     record { owner = h.0.owner; is_owner = same-owner h.0.owner h.0.is_owner; owns = first-own h.0.owner ps (known-front ps (in_order more) known) h.0.owns },

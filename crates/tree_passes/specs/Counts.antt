@@ -6,14 +6,13 @@ use Rattle.matrix_meaning.specs.Valid.{IsValid}
 use Rattle.pass_actions.specs.Costs.{pass_cost, pass_loads}
 use Rattle.pass_programs.specs.Contract.{all_passes}
 use Rattle.passes.specs.Merged.{PlainMerged}
-use Rattle.tree_model.specs.Admissible.{IsAdmissible}
 use Rattle.tree_model.specs.Breakdown.{Breakdown}
-use Rattle.tree_model.specs.Passes.{whole_passes}
-use Rattle.tree_model.specs.Passes as trees
+use Rattle.tree_model.specs.Chosen.{IsWholeTree}
+use Rattle.tree_model.specs.WholePasses.{cost_of_pass, loads_of_pass, request_passes}
 
 pub record CountsTree (c : Request) (t : Breakdown) (g : PlainMerged) : Type 0 where
-  pub costs : map (pass_cost c.weight c.modulus) (all_passes g.phases) ≡ map (trees.pass_cost c c.size) (whole_passes c t)
-  pub loads : map pass_loads (all_passes g.phases) ≡ map (trees.pass_loads c c.size) (whole_passes c t)
+  pub costs : map (pass_cost c.weight c.modulus) (all_passes g.phases) ≡ map (cost_of_pass c.size) (request_passes c t)
+  pub loads : map pass_loads (all_passes g.phases) ≡ map (loads_of_pass c.size) (request_passes c t)
 
 abbrev pub TreesCount : Type 0
-TreesCount = (c : Request) (t : Breakdown) → IsValid c → IsAdmissible c t → CountsTree c t (tree_merged c t)
+TreesCount = (c : Request) (t : Breakdown) → IsValid c → IsWholeTree c t → CountsTree c t (tree_merged c t)

@@ -4,12 +4,14 @@ use Rattle.matrix_meaning.specs.Valid.{IsValid}
 use Rattle.formula_lower.specs.Merged.{tree_merged}
 use Rattle.pass_actions.specs.Machine.{PlainMachine}
 use Rattle.pass_programs.specs.Contract.{CanProgram}
-use Rattle.tree_model.specs.Admissible.{IsAdmissible}
+pub use Rattle.program_emit.specs.Machines.{machine_of}
+use Rattle.steps.specs.declared.target.Target.{Target}
 use Rattle.tree_model.specs.Breakdown.{Breakdown}
+use Rattle.tree_model.specs.Chosen.{IsWholeTree}
 
--- the machine that a request asks for
-abbrev pub machine_of : Request → PlainMachine
-machine_of c = record { size = c.size; modulus = c.modulus; procs = c.procs; line = c.line; lanes = c.lanes }
+-- the machine that a target names: that of a request's target is the one that the request asks for
+abbrev pub host_of : Target → PlainMachine
+host_of h = record { size = h.size; modulus = h.modulus; procs = h.procs; line = h.line; lanes = h.lanes }
 
 abbrev pub TreesCanProgram : Type 0
-TreesCanProgram = (c : Request) (t : Breakdown) → IsValid c → IsAdmissible c t → CanProgram (machine_of c) (tree_merged c t)
+TreesCanProgram = (c : Request) (t : Breakdown) → IsValid c → IsWholeTree c t → CanProgram (machine_of c) (tree_merged c t)

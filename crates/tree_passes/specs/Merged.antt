@@ -1,30 +1,30 @@
 -- What the merged passes of a tree are.
 use Rattle.std.specs.Prelude.{◌≡◌, ℕ, ◌==◌, if◌then◌else◌, List, length}
 use Rattle.formula_lower.specs.Merged.{tree_merged}
-use Rattle.matrix_meaning.specs.Kind.{transform}
+use Rattle.matrix_meaning.specs.Asked.{asked_of}
 use Rattle.matrix_meaning.specs.declared.Request.{Request}
 use Rattle.matrix_meaning.specs.Valid.{IsValid}
 use Rattle.pass_programs.specs.Contract.{ArePhasesShared}
 use Rattle.passes.specs.Good.{IsVector}
 use Rattle.passes.specs.Merged.{PlainMerged, merged_on}
 use Rattle.passes.specs.Sigma.{ArePhases}
-use Rattle.tree_model.specs.Admissible.{IsAdmissible}
 use Rattle.tree_model.specs.Breakdown.{Breakdown}
+use Rattle.tree_model.specs.Chosen.{IsWholeTree}
 use Rattle.tree_passes.specs.Counts.{CountsTree}
 use Rattle.tree_passes.specs.Laws.{machine_of}
 
--- They do the request's transform. There is one phase, or there are two where there are several processors, and pass by pass the
+-- They do what the request asks for. There is one phase, or there are two where there are several processors, and pass by pass the
 -- operations and loads are those of the cost model. Each pass stores each word once, at places within the limits of programs, and in
 -- each phase each line has one owner
 pub record IsMergedTree (c : Request) (t : Breakdown) (g : PlainMerged) : Type 0 where
   pub size : g.size ≡ c.size
   pub procs : g.procs ≡ c.procs
   pub lanes : g.lanes ≡ c.lanes
-  pub meaning : (x : List ℕ) → IsVector c.modulus c.size x → merged_on c.modulus g x ≡ transform c.kind c.modulus c.size c.root x
+  pub meaning : (x : List ℕ) → IsVector c.modulus c.size x → merged_on c.modulus g x ≡ asked_of c x
   pub phases : length g.phases ≡ (if c.procs == 1 then 1 else 2)
   pub counts : CountsTree c t g
   pub stores : ArePhases g.lanes g.size g.phases
   pub owners : ArePhasesShared (machine_of c) g.phases
 
 abbrev pub TreesAreMerged : Type 0
-TreesAreMerged = (c : Request) (t : Breakdown) → IsValid c → IsAdmissible c t → IsMergedTree c t (tree_merged c t)
+TreesAreMerged = (c : Request) (t : Breakdown) → IsValid c → IsWholeTree c t → IsMergedTree c t (tree_merged c t)

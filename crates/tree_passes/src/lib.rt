@@ -9,8 +9,8 @@ ghost use Rattle.tree_passes.specs.Merged.{TreesAreMerged};
 
 pub use merging::merge_tree;
 
-/// A program can be made of the merged passes of every valid request and admissible tree, for any processors, line and lanes: a
-/// law of the definitions.
+/// A program can be made of the merged passes of every tree that a valid request admits, of any kind and any dimensions: a law
+/// of the definitions.
 pub fn trees_can_program()
     ensures { TreesCanProgram }
 {}
@@ -20,8 +20,8 @@ pub fn trees_count()
     ensures { TreesCount }
 {}
 
-/// They do the transform in the tree's operations, at places within the limits, and in each phase each line has one owner: a law
-/// of the definitions.
+/// They do what the request asks for, at places within the limits, and in each phase each line has one owner: a law of the
+/// definitions.
 pub fn trees_are_merged()
     ensures { TreesAreMerged }
 {}

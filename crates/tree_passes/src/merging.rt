@@ -2,10 +2,11 @@
 ghost use Rattle.std.specs.Prelude.{◌≡◌, IfOk};
 ghost use Rattle.formula_lower.specs.Merged.{tree_merged};
 ghost use Rattle.passes.specs.Views.{plain_merged};
-ghost use Rattle.tree_model.specs.Admissible.{IsAdmissible};
 ghost use Rattle.tree_model.specs.Breakdown.{breakdown_of};
+ghost use Rattle.tree_model.specs.Chosen.{IsWholeTree};
 ghost use Rattle.tree_passes.specs.Merged.{IsMergedTree};
 
+use breakdown::expand;
 use formula_lower::lower;
 use memory::NoMemory;
 use passes::Merged;
@@ -15,17 +16,18 @@ use term_merge::merge;
 use tree_model::{Ctx, Tree};
 use vec_rewrite::to_vec;
 
-/// The merged passes of a tree: its products of tensors, cut for processors and lanes, become terms, and the terms are
-/// merged.
+/// The merged passes of a request's tree. The products of tensors in its formula are cut for processors and lanes and
+/// become terms, and the terms are merged.
 pub fn merge_tree(alloc: Global, c: &Ctx, tree: &Tree) -> Result<Merged, NoMemory>
-    requires { IsAdmissible c.now (breakdown_of tree.now) }
+    requires { IsWholeTree c.now (breakdown_of tree.now) }
     ensures merged { IfOk result (λ merged.
         plain_merged merged ≡ tree_merged c.now (breakdown_of tree.now)) }
     ensures tree { IfOk result (λ merged.
         IsMergedTree c.now (breakdown_of tree.now) (plain_merged merged)) }
 {
     let _request = c.request();
-    let blocks = to_smp(alloc, c, tree)?;
+    let formula = expand(alloc, c, tree)?;
+    let blocks = to_smp(alloc, c, tree, formula)?;
     let vectors = to_vec(alloc, c, blocks)?;
     let sigma = lower(alloc, c, vectors)?;
     let merged = merge(alloc, sigma)?;

@@ -1,14 +1,15 @@
--- The formula of a tree for lanes: what it does, and each processor's operations.
+-- The formula of a whole for lanes: what it does, and each processor's operations.
 use Rattle.std.proofs.Common.{◌≡◌, ◌≢◌, ℕ, ◌+◌, ◌<◌, ◌≤◌, arith, refl, sym, ap, subst, ◌∙◌, List, [], ◌∷◌, ◌++◌, inl, inr, if◌then◌else◌}
-use Rattle.std.specs.Prelude.{map, None}
+use Rattle.std.specs.Prelude.{◌/◌, map, None}
 use Rattle.std.proofs.lemmas.Bool.{cases_eq}
 use Rattle.std.proofs.lemmas.List.{map-append}
 use Rattle.smp_rewrite.specs.Smp as smp
-use Rattle.smp_rewrite.specs.Cut.{smp_of}
+use Rattle.smp_rewrite.specs.Cut.{layout_smp, smp_of}
 use Rattle.steps.specs.Meaning.{all_on}
 use Rattle.steps.proofs.StepMeanings.{all_on-append}
 use Rattle.smp_rewrite.specs.Fits.{CanShareLayout}
 use Rattle.steps.specs.Layout.{Layout}
+use Rattle.steps.specs.Whole.{Whole, closed_on, closing_cost}
 use Rattle.steps.specs.declared.target.Target.{Target}
 use Rattle.vec_rewrite.specs.declared.Deal.{Deal}
 use Rattle.vec_rewrite.specs.Laws.{Keeps, VecKeeps}
@@ -75,9 +76,10 @@ both-keep weight m d first second h k =
       omega (arith, shares, olds, one, two),
     )
 
-layout-keeps : (weight m : ℕ) (h : Target) (l : Layout) → CanShareLayout h l → Keeps weight m (smp_of h l)
+layout-keeps : (weight m : ℕ) (h : Target) (l : Layout) → CanShareLayout h l →
+    PhasesKeep weight m (deal_of h) (layout_smp h l).first (layout_smp h l).second
 layout-keeps weight m h l shares =
-    let f = smp_of h l in
+    let f = layout_smp h l in
     let d = deal_of h in
     let low : 1 ≤ h.lanes = shares.lanes in
     let procs : 1 ≤ h.procs = shares.procs in
@@ -88,5 +90,13 @@ layout-keeps weight m h l shares =
           both-keep weight m d f.first f.second (phase-laned weight m d f.first many (omega (arith, procs)) follow.0) (phase-laned weight m d f.second many (omega (arith, procs)) follow.1)
     ]
 
+-- the products at the end stay as they are
+whole-keeps : (weight m : ℕ) (h : Target) (w : Whole) → CanShareLayout h w.layout → Keeps weight m (smp_of h w)
+whole-keeps weight m h w shares =
+    let phases = layout-keeps weight m h w.layout shares in (
+      λ x. ap (closed_on m h.size w.factor) (phases.0 x),
+      ap (λ share. share + closing_cost weight h.size w.factor / h.procs) phases.1,
+    )
+
 pub vec_keeps : VecKeeps
-vec_keeps weight m h f k = subst (Keeps weight m) (sym k.form) (layout-keeps weight m h k.layout k.shares)
+vec_keeps weight m h f k = subst (Keeps weight m) (sym k.form) (whole-keeps weight m h k.whole k.shares)

@@ -6,7 +6,7 @@ use Rattle.std.proofs.lemmas.Bool.{cases_eq}
 use Rattle.std.proofs.lemmas.List.Elements.{All-nil, All-cons, All-head, All-tail, All-append}
 use Rattle.smp_rewrite.specs.Smp as smp
 use Rattle.smp_rewrite.specs.Smp.{within}
-use Rattle.smp_rewrite.specs.Cut.{smp_of}
+use Rattle.smp_rewrite.specs.Cut.{layout_smp}
 use Rattle.smp_rewrite.specs.Laws.{step_size, IsPermutation, IsMove, HasShape}
 use Rattle.smp_rewrite.proofs.Tensors.{size-within}
 use Rattle.smp_rewrite.proofs.TreeLaws.{smp_shaped}
@@ -16,6 +16,7 @@ use Rattle.tensor_paths.specs.declared.Tensor.TheVariants.{Blocks, Columns}
 use Rattle.tensor_paths.specs.Path.{Path, size_under}
 use Rattle.smp_rewrite.specs.Fits.{CanShareLayout}
 use Rattle.steps.specs.Layout.{Layout}
+use Rattle.steps.specs.Whole.{only}
 use Rattle.steps.specs.declared.target.Target.{Target}
 use Rattle.vec_rewrite.specs.declared.Deal.{Deal}
 use Rattle.vec_rewrite.specs.declared.Grid.{Grid}
@@ -172,11 +173,12 @@ laned-phase n line d fs many h e =
     let cut : phase_of d fs ≡ laned_from d None fs = ap (λ b. if b then map kept fs else laned_from d None fs) (unequal d.lanes many) in
     subst (AreShaped n d) (sym cut) (from-shaped n line d None fs h tt e)
 
-layout-shaped : (h : Target) (l : Layout) → CanShareLayout h l → IsLaned (vec_of (smp_of h l))
+layout-shaped : (h : Target) (l : Layout) → CanShareLayout h l →
+    All (HasLanes h.size h.procs h.lanes) ((vec_of (layout_smp h l)).first ++ (vec_of (layout_smp h l)).second)
 layout-shaped h l k =
-    let f = smp_of h l in
+    let f = layout_smp h l in
     let d = deal_of h in
-    let shapes = smp_shaped h l k in
+    let shapes = (smp_shaped h (only l) k).0 in
     let first = front (HasShape h.size h.procs h.line) f.first f.second shapes in
     let second = back (HasShape h.size h.procs h.line) f.first f.second shapes in
     let low : 1 ≤ h.lanes = k.lanes in
@@ -191,4 +193,6 @@ layout-shaped h l k =
     ])
 
 pub vec_shaped : VecShaped
-vec_shaped h f k = subst (λ f. IsLaned (vec_of f)) (sym k.form) (layout-shaped h k.layout k.shares)
+vec_shaped h f k =
+    let w = k.whole in
+    subst (λ f. IsLaned (vec_of f)) (sym k.form) (layout-shaped h w.layout k.shares, (smp_shaped h w k.shares).1)

@@ -44,7 +44,7 @@ back P [] gs h = h
 back P (f ∷ fs) gs h = back P fs gs (All-tail P f (fs ++ gs) h)
 
 shaped : (h : Target) (f : PlainSmp) → IsSmpOf h f → IsShaped f
-shaped h f k = subst IsShaped (sym k.form) (smp_shaped h k.layout k.shares)
+shaped h f k = subst IsShaped (sym k.form) (smp_shaped h k.whole k.shares)
 
 some-words : (h : Target) (f : PlainSmp) → IsSmpOf h f → 0 < f.target.size
 some-words h f k = subst (λ g. 0 < g.target.size) (sym k.form) (omega (arith, k.shares.some))
@@ -52,12 +52,14 @@ some-words h f k = subst (λ g. 0 < g.target.size) (sym k.form) (omega (arith, k
 pub first_rows : (h : Target) (f : SmpSpl) → IsSmpOf h (plain_smp f) → All (λ g. HasRows (plain_factor g)) f.first.items
 first_rows h f k =
     all-rows f.target.size f.target.procs f.target.line f.first.items (some-words h (plain_smp f) k)
-    (front (HasShape f.target.size f.target.procs f.target.line) (plain_smp f).first (plain_smp f).second (shaped h (plain_smp f) k))
+    (front (HasShape f.target.size f.target.procs f.target.line) (plain_smp f).first (plain_smp f).second
+    (shaped h (plain_smp f) k).0)
 
 pub second_rows : (h : Target) (f : SmpSpl) → IsSmpOf h (plain_smp f) → All (λ g. HasRows (plain_factor g)) f.second.items
 second_rows h f k =
     all-rows f.target.size f.target.procs f.target.line f.second.items (some-words h (plain_smp f) k)
-    (back (HasShape f.target.size f.target.procs f.target.line) (plain_smp f).first (plain_smp f).second (shaped h (plain_smp f) k))
+    (back (HasShape f.target.size f.target.procs f.target.line) (plain_smp f).first (plain_smp f).second
+    (shaped h (plain_smp f) k).0)
 
 pub some_procs : (h : Target) (f : SmpSpl) → IsSmpOf h (plain_smp f) → 0 < f.target.procs
 some_procs h f k = subst (λ g. 0 < g.target.procs) (sym k.form) (omega (arith, k.shares.procs))

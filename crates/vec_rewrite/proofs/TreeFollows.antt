@@ -6,7 +6,7 @@ use Rattle.std.proofs.Math.Nat.{mul-div_right}
 use Rattle.std.proofs.Math.Seq.{take-length, drop-length, take-append_seam, drop-append_seam}
 use Rattle.std.proofs.lemmas.Bool.{cases_eq}
 use Rattle.std.proofs.lemmas.Bool.Decides.{nat_tests}
-use Rattle.smp_rewrite.specs.Cut.{factors_of, is_left, right_count, first_count, cut, smp_of}
+use Rattle.smp_rewrite.specs.Cut.{factors_of, is_left, right_count, first_count, cut, layout_smp}
 use Rattle.smp_rewrite.specs.Smp.{PlainSmp}
 use Rattle.smp_rewrite.proofs.Dealt.{IsDealt, is_dealt}
 use Rattle.smp_rewrite.proofs.Sized.{AreOfSize, of_size}
@@ -169,7 +169,8 @@ laned_root h l r s shares several product fits =
           )
     ]
 
-both-rule : (h : Target) (rule : Rule) (root : ℕ) (a b : Layout) → CanShareLayout h (by rule root a b) → 1 < h.lanes → RuleHasParts h rule (layout_size a) (layout_size b) → BothFollow (deal_of h) (smp_of h (by rule root a b))
+both-rule : (h : Target) (rule : Rule) (root : ℕ) (a b : Layout) → CanShareLayout h (by rule root a b) → 1 < h.lanes →
+    RuleHasParts h rule (layout_size a) (layout_size b) → BothFollow (deal_of h) (layout_smp h (by rule root a b))
 both-rule h Gt root a b shares several fits = absurd fits
 both-rule h Ct root a b shares several fits =
     let r = layout_size a in
@@ -187,9 +188,11 @@ both-rule h Dim root a b shares several fits =
     let laned = laned_root h (by Dim root a b) r s shares several shares.size fits in
     root-both h r s laned.0 root Dim (steps_of (Columns s ∷ []) a) (steps_of (Blocks r ∷ []) b) laned.1 (head-part (Columns s) [] a) (head-part (Blocks r) [] b) (of_size h.size (Blocks r ∷ []) b shares.size) (λ no. absurd (cc))
 
-both-layout : (h : Target) (l : Layout) → CanShareLayout h l → 1 < h.lanes → RootHasParts h l → BothFollow (deal_of h) (smp_of h l)
+both-layout : (h : Target) (l : Layout) → CanShareLayout h l → 1 < h.lanes → RootHasParts h l →
+    BothFollow (deal_of h) (layout_smp h l)
 both-layout h (work w) shares several fits = absurd fits
 both-layout h (by rule root a b) shares several fits = both-rule h rule root a b shares several fits
 
-pub both_follow : (h : Target) (l : Layout) → 1 < h.lanes → CanShareLayout h l → BothFollow (deal_of h) (smp_of h l)
+pub both_follow : (h : Target) (l : Layout) → 1 < h.lanes → CanShareLayout h l →
+    BothFollow (deal_of h) (layout_smp h l)
 both_follow h l several shares = both-layout h l shares several (shares.root (not_alone h several))

@@ -1,10 +1,11 @@
 -- The laws of formulas for lanes.
 use Rattle.std.specs.Prelude.{◌≡◌, ℕ, ◌*◌, ◌%◌, ◌<◌, true, List, [], ◌∷◌, ◌++◌, All}
 use Rattle.smp_rewrite.specs.Smp.{PlainFactor, blocks, diagonals, move_before, move_after, PlainSmp, smp_on, smp_share}
-use Rattle.smp_rewrite.specs.Cut.{smp_of}
-use Rattle.smp_rewrite.specs.Laws.{step_size, IsPermutation, IsDiagonal}
+use Rattle.smp_rewrite.specs.Cut.{layout_smp, smp_of}
+use Rattle.smp_rewrite.specs.Laws.{step_size, HasEqualParts, IsPermutation, IsDiagonal}
 use Rattle.smp_rewrite.specs.Fits.{CanShareLayout}
 use Rattle.steps.specs.Layout.{Layout}
+use Rattle.steps.specs.Whole.{Whole}
 use Rattle.steps.specs.Step.{steps_of}
 use Rattle.steps.specs.Targets.{is_alone}
 use Rattle.steps.specs.declared.target.Target.{Target}
@@ -14,11 +15,11 @@ use Rattle.vec_rewrite.specs.Vectors as vec
 use Rattle.vec_rewrite.specs.Vectors.{PlainVec, vec_steps, vec_on, vec_share}
 use Rattle.vec_rewrite.specs.Turning.{vec_of}
 
--- the formula of some layout that the machine can share
+-- the formula of some whole that the machine can share
 pub record IsSmpOf (h : Target) (f : PlainSmp) : Type 0 where
-  pub layout : Layout
-  pub shares : CanShareLayout h layout
-  pub form : f ≡ smp_of h layout
+  pub whole : Whole
+  pub shares : CanShareLayout h whole.layout
+  pub form : f ≡ smp_of h whole
 
 -- a step under blocks has some
 abbrev pub HasRowsUnder : Path → Type 0
@@ -48,11 +49,13 @@ HasLanes n p v (vec.move_after s) = (v * step_size s ≡ n) × IsPermutation s.c
 HasLanes n p v (vec.tiles path) = p * size_under path (v * v) ≡ n
 
 abbrev pub IsLaned : PlainVec → Type 0
-IsLaned g = All (HasLanes g.target.size g.target.procs g.target.lanes) (g.first ++ g.second)
+IsLaned g =
+    All (HasLanes g.target.size g.target.procs g.target.lanes) (g.first ++ g.second)
+    × HasEqualParts g.target.size g.target.procs g.closing
 
 abbrev pub VecShaped : Type 0
 VecShaped = (h : Target) (f : PlainSmp) → IsSmpOf h f → IsLaned (vec_of f)
 
 -- for one processor and one lane the steps of a layout stay as they are
 abbrev pub PlainSteps : Type 0
-PlainSteps = (h : Target) (l : Layout) → is_alone h ≡ true → vec_steps (vec_of (smp_of h l)) ≡ steps_of [] l
+PlainSteps = (h : Target) (l : Layout) → is_alone h ≡ true → vec_steps (vec_of (layout_smp h l)) ≡ steps_of [] l

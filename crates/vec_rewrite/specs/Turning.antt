@@ -92,4 +92,9 @@ deal_of h = record { procs = h.procs; block = h.size / h.procs; lanes = h.lanes 
 
 -- the formula for the machine's lanes
 abbrev pub vec_of : PlainSmp → PlainVec
-vec_of f = record { target = f.target; first = phase_of (deal_of f.target) f.first; second = phase_of (deal_of f.target) f.second }
+vec_of f = record {
+  target = f.target;
+  first = phase_of (deal_of f.target) f.first;
+  second = phase_of (deal_of f.target) f.second;
+  closing = f.closing;
+}

@@ -1,8 +1,9 @@
 -- Formulas for lanes: factors that are `A tensor I_v` or tiles L(v * v, v) in each processor's block, diagonals, or moves of whole vectors of v words.
-use Rattle.std.specs.Prelude.{ℕ, ◌+◌, ◌*◌, ◌/◌, List, [], ◌∷◌, ◌++◌, map}
+use Rattle.std.specs.Prelude.{ℕ, ◌+◌, ◌*◌, ◌/◌, List, [], ◌∷◌, ◌++◌, map, Option}
 use Rattle.operators.specs.Operator.{Operator}
 use Rattle.smp_rewrite.specs.Smp.{within}
 use Rattle.steps.specs.Meaning.{all_on}
+use Rattle.steps.specs.Whole.{closed_on, closing_cost}
 use Rattle.steps.specs.declared.target.Target.{Target}
 use Rattle.steps.specs.Step.{PlainStep, step, turns, operations_of}
 use Rattle.tensor_paths.specs.declared.Tensor.TheVariants.{Blocks, Columns}
@@ -20,6 +21,7 @@ pub record PlainVec : Type 0 where
   pub target : Target
   pub first : List PlainFactor
   pub second : List PlainFactor
+  pub closing : Option ℕ
 
 -- the step that a factor is on all words, for p processors and v lanes
 abbrev pub factor_step : ℕ → ℕ → PlainFactor → PlainStep
@@ -34,7 +36,7 @@ vec_steps g = map (factor_step g.target.procs g.target.lanes) (g.first ++ g.seco
 
 -- what a formula for lanes does to a list
 abbrev pub vec_on : ℕ → PlainVec → Operator
-vec_on m g = all_on m (vec_steps g)
+vec_on m g x = closed_on m g.target.size g.closing (all_on m (vec_steps g) x)
 
 -- the operations of each of p processors: a step's own, once for each lane, and its share of a diagonal's
 abbrev pub share_of : ℕ → ℕ → ℕ → ℕ → PlainFactor → ℕ
@@ -49,4 +51,6 @@ shares_in weight m p v [] = 0
 shares_in weight m p v (f ∷ fs) = share_of weight m p v f + shares_in weight m p v fs
 
 abbrev pub vec_share : ℕ → ℕ → PlainVec → ℕ
-vec_share weight m g = shares_in weight m g.target.procs g.target.lanes (g.first ++ g.second)
+vec_share weight m g =
+    shares_in weight m g.target.procs g.target.lanes (g.first ++ g.second)
+    + closing_cost weight g.target.size g.closing / g.target.procs

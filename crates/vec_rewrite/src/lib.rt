@@ -3,13 +3,7 @@
 
 ghost use Rattle.std.specs.Prelude.{◌≡◌, ◌+◌, ◌*◌, ◌<◌, [], ◌∷◌, ◌++◌, All, IfOk, List, None, OnOk, map, ℕ};
 ghost use Rattle.tensor_paths.specs.declared.Tensor.TheVariants.{Blocks};
-ghost use Rattle.smp_rewrite.specs.Cut.{smp_of};
-ghost use Rattle.steps.specs.Layout.{layout_of};
-ghost use Rattle.steps.specs.Meaning.{transform_of};
 ghost use Rattle.steps.specs.Targets.{target_of};
-ghost use Rattle.tree_model.specs.Admissible.{IsAdmissible};
-ghost use Rattle.tree_model.specs.Breakdown.{breakdown_of};
-ghost use Rattle.tree_model.specs.Cost.{cost_of};
 ghost use Rattle.smp_rewrite.specs.Smp.{smp_on, smp_share, within};
 ghost use Rattle.smp_rewrite.specs.Views.{plain_factor, plain_smp};
 ghost use Rattle.steps.specs.Step.{step, turns};
@@ -20,11 +14,11 @@ ghost use Rattle.vec_rewrite.specs.Vectors.{factor_step, vec_on, vec_share, vec_
 ghost use Rattle.vec_rewrite.specs.Views.{plain_vec, plain_vec_factor};
 
 use memory::NoMemory;
-use smp_rewrite::{Factor, SmpSpl, step_within, to_smp, within};
+use smp_rewrite::{Factor, SmpSpl, step_within, within};
 use std::alloc::Global;
 use steps::{Core, Step, Target};
 use tensor_paths::Tensor;
-use tree_model::{Ctx, Tree};
+use tree_model::Ctx;
 
 /// A factor of a formula for processors and lanes.
 #[derive(Drop)]
@@ -49,6 +43,8 @@ pub struct VecSpl {
     pub first: Vec<VecFactor>,
     /// The factors of the root's left part.
     pub second: Vec<VecFactor>,
+    /// What each word is multiplied by at the end: the factor of an inverse.
+    pub closing: Option<u64>,
 }
 
 /// The processors, how many words the block of each has, and the lanes.
@@ -64,24 +60,6 @@ pub struct Deal {
 pub struct Grid {
     pub groups: u64,
     pub tiles: u64,
-}
-
-/// The formula of a tree for the request's processors and lanes.
-pub fn vec_of_tree(alloc: Global, c: &Ctx, tree: &Tree) -> Result<VecSpl, NoMemory>
-    requires { IsAdmissible c.now (breakdown_of tree.now) }
-    ensures form { IfOk result (λ g. plain_vec g
-        ≡ vec_of (smp_of (target_of c.now) (layout_of c.now (breakdown_of tree.now)))) }
-    ensures meaning { IfOk result (λ g. (x : List ℕ) →
-        vec_on c.now.modulus (plain_vec g) x ≡ transform_of c.now c.now.size x) }
-    ensures operations { IfOk result
-        (λ g. c.now.procs * vec_share c.now.weight c.now.modulus (plain_vec g)
-        ≡ cost_of c.now (breakdown_of tree.now)) }
-    ensures shape { IfOk result (λ g. IsLaned (plain_vec g)) }
-{
-    let _request = c.request();
-    let f = to_smp(alloc, c, tree)?;
-    let g = to_vec(alloc, c, f)?;
-    Ok(g)
 }
 
 /// The formula for the request's lanes.
@@ -104,7 +82,7 @@ fn lanes_of(alloc: Global, c: &Ctx, f: SmpSpl) -> Result<VecSpl, NoMemory>
     requires { IsSmpOf (target_of c.now) (plain_smp f) }
     ensures { IfOk result (λ g. plain_vec g ≡ vec_of (plain_smp f)) }
 {
-    let target = f.target;
+    let (target, closing) = (f.target, f.closing);
     let deal = Deal {
         procs: target.procs,
         block: target.size / target.procs,
@@ -116,6 +94,7 @@ fn lanes_of(alloc: Global, c: &Ctx, f: SmpSpl) -> Result<VecSpl, NoMemory>
         target,
         first,
         second,
+        closing,
     })
 }
 

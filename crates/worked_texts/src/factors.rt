@@ -1,16 +1,17 @@
 // The factors of a transform of size 16, by hand from the identities: a step by four rows of four words. Behind `^` stands the root
 // of a transform or a diagonal: 3 for the whole, and 3^4 modulo 17, which is 13, for its parts.
 
-use crate::contexts::{admits_of_one, context, tree_of};
+use crate::contexts::{context, tree_of};
+use crate::stages::{blocks_of, lanes_of};
 use passes::Work;
-use smp_rewrite::{Factor, SmpSpl, to_smp};
+use smp_rewrite::{Factor, SmpSpl};
 use std::alloc::{AllocError, Global};
 use std::fmt::Write;
 use std::test::Fail;
 use steps::{Core, Step};
 use tensor_paths::Tensor;
-use tree_model::RootedTrees;
-use vec_rewrite::{VecFactor, VecSpl, vec_of_tree};
+use tree_model::{RootedTrees, admissible};
+use vec_rewrite::{VecFactor, VecSpl};
 use worked_rows::check;
 
 // A request, and the factors of both phases of `ct 4 4` for processors.
@@ -122,8 +123,8 @@ fn lanes_text(alloc: Global, formula: &VecSpl) -> Result<String, AllocError> {
 fn for_processors(alloc: Global, request: &str) -> Result<String, Fail> {
     let c = context(request)?;
     let tree = tree_of(alloc, "ct 4 4")?;
-    if admits_of_one(&c, &tree) {
-        Ok(blocks_text(alloc, &to_smp(alloc, &c, &tree)?)?)
+    if admissible(&c, &tree) {
+        Ok(blocks_text(alloc, &blocks_of(alloc, &c, &tree)?)?)
     } else {
         Ok("not admissible".to_string(alloc)?)
     }
@@ -132,8 +133,8 @@ fn for_processors(alloc: Global, request: &str) -> Result<String, Fail> {
 fn for_lanes(alloc: Global, request: &str) -> Result<String, Fail> {
     let c = context(request)?;
     let tree = tree_of(alloc, "ct 4 4")?;
-    if admits_of_one(&c, &tree) {
-        Ok(lanes_text(alloc, &vec_of_tree(alloc, &c, &tree)?)?)
+    if admissible(&c, &tree) {
+        Ok(lanes_text(alloc, &lanes_of(alloc, &c, &tree)?)?)
     } else {
         Ok("not admissible".to_string(alloc)?)
     }

@@ -30,6 +30,8 @@ mod requests;
 #[cfg(test)]
 mod same;
 #[cfg(test)]
+mod stages;
+#[cfg(test)]
 mod streams;
 #[cfg(test)]
 mod values;

@@ -1,10 +1,10 @@
 // Passes against places found by hand.
 
-ghost use Rattle.tree_model.specs.Admissible.{IsAdmissible};
 ghost use Rattle.tree_model.specs.Breakdown.{breakdown_of};
+ghost use Rattle.tree_model.specs.Chosen.{IsWholeTree};
 
-use crate::contexts::{admits_of_one, context, tree_of};
-use formula_lower::lower;
+use crate::contexts::{context, tree_of};
+use crate::stages::terms_of;
 use memory::NoMemory;
 use passes::{Merged, Nest};
 use perm_algebra::Affine;
@@ -12,8 +12,7 @@ use std::alloc::{AllocError, Global};
 use std::fmt::Write;
 use std::test::Fail;
 use term_merge::merge;
-use tree_model::{Ctx, Tree};
-use vec_rewrite::vec_of_tree;
+use tree_model::{Ctx, Tree, admissible};
 use worked_rows::check;
 
 // A request and a tree, and the number of phases and the places of the passes.
@@ -30,12 +29,9 @@ dft 6 mod 7 root 3 unroll 2; gt 2 3|1 ld 0+(0+v0*3+v2*2)%6*1 st 0+v0*3+v1*1 ld 0
 ";
 
 fn merged_tree(alloc: Global, c: &Ctx, tree: &Tree) -> Result<Merged, NoMemory>
-    requires { IsAdmissible c.now (breakdown_of tree.now) }
+    requires { IsWholeTree c.now (breakdown_of tree.now) }
 {
-    let _request = c.request();
-    let vectors = vec_of_tree(alloc, c, tree)?;
-    let sigma = lower(alloc, c, vectors)?;
-    merge(alloc, sigma)
+    merge(alloc, terms_of(alloc, c, tree)?)
 }
 
 fn write_sums(text: &mut String, word: &str, sums: &[Affine]) -> Result<(), AllocError> {
@@ -74,7 +70,7 @@ fn listing(alloc: Global, merged: &Merged) -> Result<String, AllocError> {
 fn passes_text(alloc: Global, request: &str, tree: &str) -> Result<String, Fail> {
     let c = context(request)?;
     let tree = tree_of(alloc, tree)?;
-    if admits_of_one(&c, &tree) {
+    if admissible(&c, &tree) {
         Ok(listing(alloc, &merged_tree(alloc, &c, &tree)?)?)
     } else {
         Ok("not admissible".to_string(alloc)?)

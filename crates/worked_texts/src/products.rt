@@ -1,17 +1,16 @@
 // Products of vectors: by the definition, by the formula of a tree, and by its terms.
 
 ghost use Rattle.std.specs.Prelude.{◌≡◌, ◌<◌, ◌↔◌, vec_len, All, IfOk, IsTrue};
+ghost use Rattle.matrix_meaning.specs.Asked.{asked_of};
 ghost use Rattle.matrix_meaning.specs.Dimensions.{roots_of, sizes_of};
 ghost use Rattle.matrix_meaning.specs.Valid.{IsInRange};
 ghost use Rattle.spl_ast.specs.Meaning.{IsVector};
-ghost use Rattle.steps.specs.Meaning.{transform_of};
-ghost use Rattle.tree_model.specs.Admissible.{IsAdmissible};
 ghost use Rattle.tree_model.specs.Breakdown.{breakdown_of};
 ghost use Rattle.tree_model.specs.Chosen.{IsWholeTree};
 
-use crate::contexts::{admits_of_one, context, tree_of};
+use crate::contexts::{context, tree_of};
+use crate::stages::terms_of;
 use breakdown::expand;
-use formula_lower::lower;
 use matrix_meaning::{Dimensions, Request, times_plain};
 use memory::NoMemory;
 use plain_terms::apply_plain;
@@ -20,20 +19,18 @@ use spl_ast::Spl;
 use std::alloc::Global;
 use std::test::Fail;
 use tree_model::{Ctx, Tree, admissible};
-use vec_rewrite::vec_of_tree;
 use worked_rows::{check, joined, numbers};
 
-// The transform of `x`, by the terms of the tree, each by its definition.
+// What is asked for of `x`, by the terms of the tree, each by its definition.
 fn times(alloc: Global, c: &Ctx, tree: &Tree, x: &[u64]) -> Result<Vec<u64>, NoMemory>
-    requires admissible { IsAdmissible c.now (breakdown_of tree.now) }
+    requires tree { IsWholeTree c.now (breakdown_of tree.now) }
     requires vector { IsVector c.now.modulus c.now.size x.now }
-    ensures { IfOk result (λ y. y.items ≡ transform_of c.now c.now.size x.now) }
+    ensures { IfOk result (λ y. y.items ≡ asked_of c.now x.now) }
 {
     let request = c.request();
     let modulus = Modulus::new(request.modulus).unwrap();
-    let vectors = vec_of_tree(alloc, c, tree)?;
-    let sigma = lower(alloc, c, vectors)?;
-    let y = apply_plain(alloc, &modulus, &sigma, x)?;
+    let terms = terms_of(alloc, c, tree)?;
+    let y = apply_plain(alloc, &modulus, &terms, x)?;
     Ok(y)
 }
 
@@ -130,22 +127,22 @@ fn by_both(alloc: Global, c: &Ctx, tree: &Tree, x: &[u64]) -> Result<String, Fai
 }
 
 fn by_terms(alloc: Global, c: &Ctx, tree: &Tree, x: &[u64]) -> Result<String, Fail>
-    requires admissible { IsAdmissible c.now (breakdown_of tree.now) }
+    requires tree { IsWholeTree c.now (breakdown_of tree.now) }
     requires vector { IsVector c.now.modulus c.now.size x.now }
 {
     joined(alloc, &times(alloc, c, tree, x)?)
 }
 
-// The product by the definition, by the formula, and for one size and no inverse by terms.
+// The product by the definition, by the formula, and by terms.
 fn by_all(alloc: Global, c: &Ctx, tree: &Tree, x: &[u64]) -> Result<String, Fail>
     requires tree { IsWholeTree c.now (breakdown_of tree.now) }
     requires vector { IsVector c.now.modulus c.now.size x.now }
 {
     let text = by_both(alloc, c, tree, x)?;
-    if admits_of_one(c, tree) && by_terms(alloc, c, tree, x)?.as_str() != text.as_str() {
-        Ok("another by terms".to_string(alloc)?)
-    } else {
+    if by_terms(alloc, c, tree, x)?.as_str() == text.as_str() {
         Ok(text)
+    } else {
+        Ok("another by terms".to_string(alloc)?)
     }
 }
 

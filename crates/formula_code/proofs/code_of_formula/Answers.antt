@@ -3,8 +3,11 @@ use Rattle.passes.specs.Views.{plain_merged}
 use Rattle.formula_code.proofs.Coding.{can_emit, has_letters, is_code}
 use Rattle.formula_code.proofs.code_of_formula.Goals as goal
 
-pub emit_on-requires : goal.emit_on-requires
-emit_on-requires c = can_emit c.args.modulus.now c.args.formula.now (plain_merged c.in_ok-merged.merged) c.get-modulus.ensures.at_least_two c.get-modulus.ensures.below_limit c.rows-rows.ensures.shaped c.requires.few c.in_ok-merged.ensures
+pub emit_formula-requires : goal.emit_formula-requires
+emit_formula-requires c =
+    can_emit c.args.modulus.now c.args.formula.now (plain_merged c.in_ok-merged.merged)
+    c.get-modulus.ensures.at_least_two c.get-modulus.ensures.below_limit c.rows-rows.ensures.shaped c.requires.few
+    c.in_ok-merged.ensures
 
 pub returns : goal.returns
 returns c =

@@ -1,17 +1,22 @@
 use Rattle.std.proofs.Common.{◌≡◌, subst}
+use Rattle.formula_lower.specs.Merged.{tree_merged}
 use Rattle.icode.specs.Program.{plain_program}
 use Rattle.matrix_meaning.specs.declared.Request.{Request}
 use Rattle.pass_programs.specs.Contract.{Performs}
-use Rattle.request_passes.specs.Merged.{request_merged}
 use Rattle.tree_model.specs.Breakdown.{breakdown_of}
-use Rattle.tree_passes.specs.Laws.{machine_of}
+use Rattle.program_emit.specs.Machines.{machine_of}
 use Rattle.generate.specs.Letters.{program_for}
 use Rattle.generate.proofs.Goodness.{good, lean}
 use Rattle.generate.proofs.generate.Goals as goal
 
 -- the program performs the merged passes of the request
-performs : (c : goal.In_ok-program) → Performs (machine_of c.args.request.now) (request_merged c.args.request.now (breakdown_of c.in_ok-plan.plan.tree)) (plain_program c.in_ok-program.program)
-performs c = subst (λ (r : Request). Performs (machine_of r) (request_merged r (breakdown_of c.in_ok-plan.plan.tree)) (plain_program c.in_ok-program.program)) c.new-context.ensures c.in_ok-program.ensures.performs
+performs : (c : goal.In_ok-program) →
+    Performs (machine_of c.args.request.now) (tree_merged c.args.request.now (breakdown_of c.in_ok-plan.plan.tree))
+    (plain_program c.in_ok-program.program)
+performs c =
+    let t = breakdown_of c.in_ok-plan.plan.tree in
+    subst (λ (r : Request). Performs (machine_of r) (tree_merged r t) (plain_program c.in_ok-program.program))
+    c.new-context.ensures c.in_ok-program.ensures.performs
 
 pub returns-clause-good : goal.returns-clause-good
 returns-clause-good c = good c.args.request.now (breakdown_of c.in_ok-plan.plan.tree) c.in_ok-program.program c.in_ok-plan.ensures.valid c.in_ok-plan.ensures.planned.1.tree (performs c)

@@ -1,8 +1,7 @@
 use Rattle.std.proofs.Common.{ap, ◌∙◌}
 use Rattle.passes.specs.Views.{plain_merged}
-use Rattle.multiplied_passes.specs.Multiplied.{multiplied_last}
+use Rattle.multiplied_passes.specs.Multiplied.{Own, multiplied_last}
 use Rattle.multiplied_passes.specs.Views.{plain_phases}
-use Rattle.multiplied_passes.specs.declared.Pick.TheVariants.{Own}
 use Rattle.passes.specs.Nest.{values}
 use Rattle.joined_passes.proofs.Counts.{count_both}
 use Rattle.joined_passes.proofs.Means.{are_in_turn}

@@ -1,11 +1,23 @@
-use Rattle.std.proofs.Common.{rules, ◌≡◌, map, ap, ◌∙◌}
+use Rattle.std.proofs.Common.{rules, ◌≡◌, map, take, drop, ap, ◌∙◌}
 use Rattle.std.proofs.lemmas.List.{take-map, drop-map}
+use Rattle.std.specs.List.{flat_map}
+use Rattle.steps.specs.Targets.{target_of}
 use Rattle.steps.specs.Views.{plain_step}
-use Rattle.smp_rewrite.specs.Cut.{first_count}
+use Rattle.smp_rewrite.specs.Cut.{factors_of, first_count}
+use Rattle.smp_rewrite.specs.Views.{plain_factor}
 use Rattle.smp_rewrite.proofs.cut_steps.Goals as goal
 
 pub returns : goal.returns
 returns c =
-    let count : c.first_count.result ≡ first_count c.request-request.result.procs (map plain_step c.args.steps.items)
-    = c.first_count.ensures.value ∙ ap (λ ss. first_count c.request-request.result.procs (map plain_step ss)) c.deref.ensures.value in
-    search (rules, take-map, drop-map, count)
+    let h = target_of c.args.c.now in
+    let ss = map plain_step c.args.steps.items in
+    let count : c.first_count.result ≡ first_count c.request-request.result.procs ss
+    = c.first_count.ensures.value
+    ∙ ap (λ xs. first_count c.request-request.result.procs (map plain_step xs)) c.deref.ensures.value in
+    let first : map plain_factor c.in_ok-first.first.items
+    ≡ flat_map (factors_of h.size h.procs) (take (first_count h.procs ss) ss)
+    = search (rules, take-map, count) in
+    let second : map plain_factor c.in_ok-second.second.items
+    ≡ flat_map (factors_of h.size h.procs) (drop (first_count h.procs ss) ss)
+    = search (rules, drop-map, count) in
+    λ i. record { target = c.target_of.ensures i; first = first i; second = second i; closing = c.args.closing }

@@ -1,44 +1,76 @@
-use Rattle.std.proofs.Common.{◌≡◌, ◌*◌, arith, ap, sym, subst, ◌∙◌, refl}
-use Rattle.matrix_meaning.specs.Valid.{IsValid}
-use Rattle.smp_rewrite.specs.Cut.{cut, smp_of}
-use Rattle.smp_rewrite.specs.Fits.{CanShareLayout}
+use Rattle.std.proofs.Common.{◌*◌, ap, ap₂, sym, subst, ◌∙◌, []}
+use Rattle.matrix_meaning.specs.Parts.{forward_of}
+use Rattle.matrix_meaning.specs.declared.Request.{Request}
+use Rattle.smp_rewrite.specs.Cut.{closed_cut}
 use Rattle.smp_rewrite.specs.Laws.{IsShaped}
 use Rattle.smp_rewrite.specs.Smp.{smp_on, smp_share}
-use Rattle.smp_rewrite.specs.Views.{plain_smp}
+use Rattle.smp_rewrite.specs.Walk.{closing_in, tree_steps}
 use Rattle.smp_rewrite.proofs.Sized.{sized_steps}
 use Rattle.smp_rewrite.proofs.TreeLaws.{smp_transforms, smp_costs, smp_shaped, layouts_fit}
-use Rattle.steps.proofs.Layouts.{layouts_do, layouts_cost, layouts_have_size}
+use Rattle.smp_rewrite.proofs.Walks.{whole_factor, whole_formula, whole_steps}
 use Rattle.steps.specs.Layout.{layout_of}
-use Rattle.steps.specs.Meaning.{transform_of}
+use Rattle.steps.specs.Meaning.{IsNodeTree}
 use Rattle.steps.specs.Targets.{target_of}
-use Rattle.tree_model.specs.Breakdown.{breakdown_of, size_of}
+use Rattle.steps.specs.Whole.{whole_of}
+use Rattle.steps.proofs.Wholes.{forward_tree, wholes_do, wholes_cost}
+use Rattle.tree_model.specs.Breakdown.{breakdown_of}
 use Rattle.smp_rewrite.proofs.to_smp.Goals as goal
+
+pub steps_by-requires : goal.steps_by-requires
+steps_by-requires c =
+    let t = breakdown_of c.args.tree.now in
+    subst (λ (p : Request). IsNodeTree p t) (sym c.forward.ensures.value)
+    (forward_tree c.args.c.now t c.request-request.ensures.valid c.requires.tree)
 
 pub cut_steps-requires : goal.cut_steps-requires
 cut_steps-requires c =
-    let tree = breakdown_of c.args.tree.now in
-    sized_steps (target_of c.args.c.now) (layout_of c.args.c.now tree) c.in_ok-steps.steps.items (layouts_have_size c.args.c.now tree ∙ c.requires.size) c.in_ok-steps.ensures.form
-
-pub returns : goal.returns
-returns c =
     let request = c.args.c.now in
-    let tree = breakdown_of c.args.tree.now in
-    let h = target_of request in
-    let l = layout_of request tree in
-    let valid : IsValid request = c.request-request.ensures.valid in
-    let fits : CanShareLayout h l = layouts_fit request tree valid c.requires in
-    let whole : 1 * size_of tree ≡ request.size = omega (arith, c.requires.size) in
-    let form : plain_smp c.in_ok-formula.formula ≡ smp_of h l = c.in_ok-formula.ensures ∙ ap (cut h) c.in_ok-steps.ensures.form in
-    record {
-      form = form;
-      meaning = λ x.
-          ap (λ f. smp_on request.modulus f x) form
-          ∙ smp_transforms h l x fits
-          ∙ layouts_do request tree 1 x valid c.requires.well_formed whole
-          ∙ ap (λ n. transform_of request n x) c.requires.size;
-      operations =
-          ap (λ f. request.procs * smp_share request.weight request.modulus f) form
-          ∙ smp_costs request.weight h l fits
-          ∙ layouts_cost request tree 1 valid c.requires.well_formed whole (λ is shared. c.requires.root refl shared);
-      shape = subst IsShaped (sym form) (smp_shaped h l fits);
-    }
+    let t = breakdown_of c.args.tree.now in
+    let same =
+    whole_steps request c.forward.result t c.args.formula c.requires.tree c.forward.ensures.value c.requires.formula in
+    let size = (layouts_fit request t c.request-request.ensures.valid c.requires.tree).size in
+    sized_steps (target_of request) (layout_of (forward_of request) t) c.in_ok-steps.steps.items size
+    (c.in_ok-steps.ensures ∙ ap (λ f. tree_steps c.forward.result [] t f) c.body_of.ensures ∙ same)
+
+pub returns-clause-form : goal.returns-clause-form
+returns-clause-form c =
+    let request = c.args.c.now in
+    let t = breakdown_of c.args.tree.now in
+    let same =
+    whole_steps request c.forward.result t c.args.formula c.requires.tree c.forward.ensures.value c.requires.formula in
+    c.in_ok-smp.ensures
+    ∙ ap₂ (closed_cut (target_of request))
+    (c.in_ok-steps.ensures ∙ ap (λ f. tree_steps c.forward.result [] t f) c.body_of.ensures ∙ same)
+    (c.closing_in-closing.ensures ∙ ap closing_in c.requires.formula ∙ whole_factor request t c.requires.tree.size)
+
+pub returns-clause-meaning : goal.returns-clause-meaning
+returns-clause-meaning c x =
+    let request = c.args.c.now in
+    let t = breakdown_of c.args.tree.now in
+    let valid = c.request-request.ensures.valid in
+    ap (λ f. smp_on request.modulus f x) (returns-clause-form c)
+    ∙ smp_transforms (target_of request) (whole_of request t) x (layouts_fit request t valid c.requires.tree)
+    ∙ wholes_do request t x valid c.requires.tree
+
+pub returns-clause-formula : goal.returns-clause-formula
+returns-clause-formula c x =
+    returns-clause-meaning c x
+    ∙ sym (whole_formula c.args.c.now (breakdown_of c.args.tree.now) c.args.formula c.request-request.ensures.valid
+    c.requires.tree c.requires.formula x)
+
+pub returns-clause-operations : goal.returns-clause-operations
+returns-clause-operations c =
+    let request = c.args.c.now in
+    let t = breakdown_of c.args.tree.now in
+    let valid = c.request-request.ensures.valid in
+    ap (λ f. request.procs * smp_share request.weight request.modulus f) (returns-clause-form c)
+    ∙ smp_costs request.weight (target_of request) (whole_of request t) (layouts_fit request t valid c.requires.tree)
+    ∙ wholes_cost request t valid c.requires.tree
+
+pub returns-clause-shape : goal.returns-clause-shape
+returns-clause-shape c =
+    let request = c.args.c.now in
+    let t = breakdown_of c.args.tree.now in
+    let valid = c.request-request.ensures.valid in
+    subst IsShaped (sym (returns-clause-form c))
+    (smp_shaped (target_of request) (whole_of request t) (layouts_fit request t valid c.requires.tree))

@@ -1,4 +1,4 @@
-use Rattle.tree_passes.proofs.TreesCanProgram as laws
+use Rattle.tree_passes.proofs.TreePrograms as laws
 use Rattle.tree_passes.proofs.trees_can_program.Goals as goal
 
 pub returns : goal.returns

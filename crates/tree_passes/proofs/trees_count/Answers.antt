@@ -1,4 +1,4 @@
-use Rattle.tree_passes.proofs.Counting as laws
+use Rattle.tree_passes.proofs.TreeCounts as laws
 use Rattle.tree_passes.proofs.trees_count.Goals as goal
 
 pub returns : goal.returns

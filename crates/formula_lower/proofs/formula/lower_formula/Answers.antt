@@ -1,4 +1,4 @@
-use Rattle.std.proofs.Common.{◌≡◌, ◌<◌, arith}
+use Rattle.std.proofs.Common.{◌<◌, arith}
 use Rattle.passes.specs.Views.{plain_term}
 use Rattle.formula_lower.proofs.Formulas.{can_merge, counts_the_same, does_the_same}
 use Rattle.formula_lower.proofs.formula.lower_formula.Goals as goal

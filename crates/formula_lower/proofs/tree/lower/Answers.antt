@@ -1,10 +1,10 @@
-use Rattle.std.proofs.Common.{List, ap, ◌∙◌, subst, sym}
+use Rattle.std.proofs.Common.{ap, ◌∙◌, subst, sym}
+use Rattle.formula_lower.specs.Merged.{closed_phases}
 use Rattle.formula_lower.proofs.Costs.{vec_costs}
 use Rattle.formula_lower.proofs.Roomy.{all_roomy}
-use Rattle.formula_lower.proofs.Sigmas.{vec_can_merge, vec_means}
+use Rattle.formula_lower.proofs.Sigmas.{of_phases, vec_can_merge, vec_means}
 use Rattle.formula_lower.proofs.TreeLayouts.{machine_of}
 use Rattle.passes.specs.Sigma.{IsGoodSigma, sigma_cost, sigma_on}
-use Rattle.passes.specs.Term.{PlainTerm}
 use Rattle.sigma_lower.proofs.Goods.{phases_good}
 use Rattle.steps.specs.Layout.{work_cost}
 use Rattle.steps.specs.Targets.{target_of}
@@ -28,8 +28,9 @@ returns-clause-meaning c =
     let request = c.args.c.now in
     let vectors = plain_vec c.args.vectors in
     let h = vectors.target in
+    let made = c.in_ok-phases.ensures ∙ ap (closed_phases h.size vectors.closing) c.in_ok-made.ensures in
     λ x v.
-    ap (λ (ts : List PlainTerm). sigma_on request.modulus (record { size = h.size; procs = h.procs; lanes = h.lanes; phases = ts }) x) c.in_ok-phases.ensures
+    ap (λ ts. sigma_on request.modulus (of_phases h ts) x) made
     ∙ vec_means (target_of request) vectors x (machine_of request c.request-request.ensures.valid) c.requires v
 
 pub returns-clause-operations : goal.returns-clause-operations
@@ -37,7 +38,8 @@ returns-clause-operations c =
     let request = c.args.c.now in
     let vectors = plain_vec c.args.vectors in
     let h = vectors.target in
-    ap (λ (ts : List PlainTerm). sigma_cost request.weight (work_cost request.weight request.modulus) (record { size = h.size; procs = h.procs; lanes = h.lanes; phases = ts })) c.in_ok-phases.ensures
+    let made = c.in_ok-phases.ensures ∙ ap (closed_phases h.size vectors.closing) c.in_ok-made.ensures in
+    ap (λ ts. sigma_cost request.weight (work_cost request.weight request.modulus) (of_phases h ts)) made
     ∙ vec_costs request.weight (target_of request) vectors c.requires
 
 pub returns-clause-good : goal.returns-clause-good
@@ -45,5 +47,6 @@ returns-clause-good c =
     let request = c.args.c.now in
     let vectors = plain_vec c.args.vectors in
     let h = vectors.target in
-    subst (λ (ts : List PlainTerm). IsGoodSigma (record { size = h.size; procs = h.procs; lanes = h.lanes; phases = ts })) (sym c.in_ok-phases.ensures)
+    let made = c.in_ok-phases.ensures ∙ ap (closed_phases h.size vectors.closing) c.in_ok-made.ensures in
+    subst (λ ts. IsGoodSigma (of_phases h ts)) (sym made)
     (vec_can_merge (target_of request) vectors (machine_of request c.request-request.ensures.valid) c.requires)

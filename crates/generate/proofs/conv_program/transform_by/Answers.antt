@@ -19,4 +19,4 @@ returns-clause-value c =
     c.in_ok-y.ensures.value
     ∙ ap (λ m. apply m c.in_ok-formula.formula c.args.x.now) modulus
     ∙ c.in_ok-formula.ensures.whole c.requires.tree.size c.args.x.now
-    ∙ conv_asked r c.args.x.now c.requires.request
+    ∙ conv_asked r c.requires.request c.args.x.now

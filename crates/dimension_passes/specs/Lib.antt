@@ -1,3 +1,0 @@
-pub mod Merged
-pub mod Laws
-pub mod Plain

@@ -1,4 +1,0 @@
-mod Closing
-mod Lanes
-pub mod Requests
-pub mod Small

@@ -1,5 +1,0 @@
-use Rattle.request_passes.proofs.Requests as laws
-use Rattle.request_passes.proofs.requests_can_program.Goals as goal
-
-pub returns : goal.returns
-returns c = laws.requests_can_program

@@ -1,4 +1,0 @@
-pub mod Tensored
-pub mod Laws
-pub mod Shared
-pub mod Moved
