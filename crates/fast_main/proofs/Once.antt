@@ -5,9 +5,11 @@ use Rattle.code_check.specs.Refusals.{PassesCheck, IsCause}
 use Rattle.code_check.proofs.Causes.{one_cause, none_if_passed}
 use Rattle.grammar.specs.Grammar.{Begins, IsLost, first_lines}
 use Rattle.listing_text.specs.Lines.{read_lines}
-use Rattle.listing_text.specs.Drafts.{step, finish}
+use Rattle.listing_text.specs.Listing.{listing_wording}
+use Rattle.listing_text.specs.ListingGrammar.{listing_grammar}
+use Rattle.listing_text.specs.Progress.{finish, step}
 use Rattle.listing_text.specs.Texts.{is_listing}
-use Rattle.listing_text.proofs.DraftReads.{listing_judges}
+use Rattle.listing_text.proofs.ListingReads.{listing_judges}
 use Rattle.fast_main.specs.declared.status.Status.{Status}
 use Rattle.fast_main.specs.declared.status.Status.TheVariants.{ListingSyntax}
 use Rattle.fast_main.specs.Outcome.{action_limit, IsUnsound, IsTranslated, IsRefused, IsAnswer, IsOutcomeOfListing, IsOutcome}
@@ -56,12 +58,15 @@ lost_once spells text a b p q = by_order (not_before spells text a b p q) (not_b
 
 -- The program of a listing
 
-read_once : (bytes : List ℕ) (r : Result PlainProgram ℕ) → read_lines step finish None [] bytes ≡ r → (p q : PlainProgram) → is_listing bytes p → is_listing bytes q → p ≡ q
+read_once : (bytes : List ℕ) (r : Result PlainProgram ℕ) →
+    read_lines (step listing_wording listing_grammar) finish None [] bytes ≡ r →
+    (p q : PlainProgram) → is_listing bytes p → is_listing bytes q → p ≡ q
 read_once bytes (Ok read) e p q a b = let judged = listing_judges bytes (Ok read) e in judged.1 p a ∙ sym (judged.1 q b)
 read_once bytes (Err lines) e p q a b = absurd ((listing_judges bytes (Err lines) e).nothing p a)
 
 one_program : (bytes : List ℕ) (p q : PlainProgram) → is_listing bytes p → is_listing bytes q → p ≡ q
-one_program bytes p q a b = read_once bytes (read_lines step finish None [] bytes) refl p q a b
+one_program bytes p q a b =
+    read_once bytes (read_lines (step listing_wording listing_grammar) finish None [] bytes) refl p q a b
 
 -- Answers
 

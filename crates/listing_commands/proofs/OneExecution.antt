@@ -3,10 +3,12 @@ use Rattle.std.proofs.Common.{◌≡◌, ◌<◌, ◌≤◌, ◌-◌, ◌==◌, 
 use Rattle.std.proofs.lemmas.Grind.{common_steps}
 use Rattle.icode.specs.Plain.{PlainProgram}
 use Rattle.grammar.specs.Grammar.{Begins, IsLost, first_lines}
-use Rattle.listing_text.specs.Drafts.{step, finish}
 use Rattle.listing_text.specs.Lines.{Judges, read_lines}
+use Rattle.listing_text.specs.Listing.{listing_wording}
+use Rattle.listing_text.specs.ListingGrammar.{listing_grammar}
+use Rattle.listing_text.specs.Progress.{finish, step}
 use Rattle.listing_text.specs.Texts.{is_listing}
-use Rattle.listing_text.proofs.DraftReads.{listing_judges}
+use Rattle.listing_text.proofs.ListingReads.{listing_judges}
 use Rattle.code_check.proofs.Causes.{one_cause, none_if_passed}
 use Rattle.request_text.specs.Schedule.{Plan}
 use Rattle.spiral_status.specs.declared.status.Status.{Status}
@@ -60,7 +62,9 @@ listing_once text (Ok value) p q j l m = j.1 p l ∙ sym (j.1 q m)
 listing_once text (Err lines) p q j l m = absurd (j.nothing p l)
 
 listed_decided : (text : List ℕ) → IsDecided (listed text)
-listed_decided text (Ok a) (Ok b) p q = ap done (listing_once text _ a b (listing_judges text (read_lines step finish None [] text) refl) p q)
+listed_decided text (Ok a) (Ok b) p q =
+    let read = read_lines (step listing_wording listing_grammar) finish None [] text in
+    ap done (listing_once text read a b (listing_judges text read refl) p q)
 listed_decided text (Ok a) (Err t) p q = absurd (q.1.nothing a p)
 listed_decided text (Err s) (Ok b) p q = absurd (p.1.nothing b q)
 listed_decided text (Err s) (Err t) p q = ap ended (p.2 ∙ ap ListingSyntax (lost_once is_listing text p.0 q.0 p.1 q.1) ∙ sym q.2)
