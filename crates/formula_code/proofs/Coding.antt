@@ -1,9 +1,11 @@
 -- A program that performs a formula's passes is its code.
-use Rattle.std.proofs.Common.{◌≡◌, ℕ, ◌^◌, ◌<◌, ◌≤◌, List, [], ◌∷◌, ◌++◌, map, refl, sym, ap, ap₂, ◌∙◌, arith, subst, Vec, Global}
+use Rattle.std.proofs.Common.{◌≡◌, ℕ, ◌^◌, ◌<◌, ◌≤◌, List, [], ◌∷◌, ◌++◌, refl, sym, ap, ◌∙◌, arith, subst}
 use Rattle.std.specs.Prelude.{reverse}
 use Rattle.std.proofs.lemmas.List.{length-map, reverse-append}
 use Rattle.formula_code.specs.Code.{IsCodeOf}
+use Rattle.formula_code.specs.Joined.{phases_joined}
 use Rattle.formula_code.specs.Letters.{program_as_it_stands}
+use Rattle.formula_lower.specs.OnePhase.{formula_sigma}
 use Rattle.formula_lower.specs.Terms.{term_of}
 use Rattle.formula_passes.specs.Computes.{formula_merged}
 use Rattle.formula_passes.proofs.Formulas.{formulas_can_program}
@@ -22,21 +24,12 @@ use Rattle.pass_programs.specs.Program.{program_of}
 use Rattle.passes.specs.Merge.{passes_of}
 use Rattle.passes.specs.Merged.{PlainMerged}
 use Rattle.passes.specs.Nest.{PlainNest}
-use Rattle.passes.specs.Sigma.{CanMerge, passes_in_order}
-use Rattle.passes.specs.Views.{plain_nest}
-use Rattle.passes.specs.declared.nest.Nest.{Nest}
-use Rattle.passes.specs.Term.{PlainTerm}
+use Rattle.passes.specs.Sigma.{merged_of}
 use Rattle.program_emit.specs.Conditions.{machine_for}
 use Rattle.program_laws.specs.Plain.{in_order}
 use Rattle.program_laws.proofs.Plain.{plain-can}
 use Rattle.spl_ast.specs.Formula.{Formula, parts_of, size_of}
 use Rattle.spl_ast.specs.Shape.{IsShaped}
-
--- ---- the term of a formula
-
--- it can be merged
-pub term_merges : (n : ℕ) (f : Formula) (t : PlainTerm) → n ≡ size_of f → CanMerge 0 (size_of f) t → CanMerge 0 n t
-term_merges n f t size can = subst (λ k. CanMerge 0 k t) (sym size) can
 
 -- ---- passes in one phase
 
@@ -47,16 +40,10 @@ same-order (zs ∷ ps) = reverse-append (zs ∷ []) ps ∙ ap (λ qs. qs ++ zs �
 abbrev in_phase : ℕ → List (List PlainNest) → PlainMerged
 in_phase n ps = record { size = n; procs = 1; lanes = 1; phases = ps ∷ [] }
 
--- these phases, on lists of so many words
-abbrev pub phases_of : ℕ → List (Vec (Vec Nest Global) Global) → PlainMerged
-phases_of n phases = record { size = n; procs = 1; lanes = 1; phases = map (λ ps. map (λ zs. map plain_nest zs.items) ps.items) phases }
-
-pub one_phase : (m n : ℕ) (f : Formula) (t : PlainTerm) (ps qs : List (List PlainNest)) → n ≡ size_of f → t ≡ term_of m [] f → ps ≡ passes_in_order n t → qs ≡ all_joined ps →
-    in_phase n qs ≡ formula_merged m f
-one_phase m n f t ps qs size is listed joined =
-    let order : all_joined ps ≡ in_order (all_joined (passes_of n t)) = ap all_joined (listed ∙ same-order (passes_of n t)) ∙ sym (joined-order (passes_of n t)) in
-    let same : qs ≡ in_order (all_joined (passes_of (size_of f) (term_of m [] f))) = joined ∙ order ∙ ap₂ (λ k s. in_order (all_joined (passes_of k s))) size is in
-    ap₂ in_phase size same
+pub formula_joined : (m : ℕ) (f : Formula) → phases_joined (merged_of (formula_sigma m f)) ≡ formula_merged m f
+formula_joined m f =
+    let ps = passes_of (size_of f) (term_of m [] f) in
+    ap (in_phase (size_of f)) (ap all_joined (same-order ps) ∙ sym (joined-order ps))
 
 pub can_emit : (m : ℕ) (f : Formula) (g : PlainMerged) → 2 ≤ m → m < 2 ^ 62 → IsShaped f → parts_of f ≤ 65536 → g ≡ formula_merged m f → CanProgram (machine_for m 1 g) g
 can_emit m f g large small shaped few is =

@@ -3,6 +3,7 @@
 
 ghost use Rattle.std.specs.Prelude.{◌≡◌, ◌≤◌, IfOk};
 ghost use Rattle.formula_code.specs.Code.{IsCodeOf};
+ghost use Rattle.formula_code.specs.Joined.{phases_joined};
 ghost use Rattle.formula_code.specs.Letters.{program_as_it_stands, program_for};
 ghost use Rattle.formula_passes.specs.Computes.{formula_merged};
 ghost use Rattle.icode.specs.Program.{plain_program};
@@ -19,7 +20,7 @@ use program_emit::emit_formula;
 use ring_mod::Modulus;
 use spl_ast::Spl;
 use std::alloc::Global;
-use term_merge::merge_term;
+use term_merge::merge;
 
 /// The code of a formula modulo m, for one processor of one lane: its listing can be printed, and under every order of
 /// turns it leaves the formula's matrix times the vector. Direct sums are balanced first, so that none stands in a long
@@ -54,17 +55,30 @@ fn code_of_formula(alloc: Global, modulus: &Modulus, formula: &Spl) -> Result<Pr
 fn merge_formula(alloc: Global, modulus: &Modulus, formula: &Spl) -> Result<Merged, NoMemory>
     ensures { IfOk result (λ g. plain_merged g ≡ formula_merged modulus.now formula.now) }
 {
-    let _modulus = modulus.get();
-    let size = formula.rows();
-    let term = lower_formula(alloc, modulus, formula)?;
-    let merged = merge_term(alloc, size, term)?;
-    let passes = join_copies(alloc, merged)?;
-    let mut phases = Vec::new(alloc);
-    phases.push(passes)?;
+    let sigma = lower_formula(alloc, modulus, formula)?;
+    let merged = merge(alloc, sigma)?;
+    let joined = join_phases(alloc, merged)?;
+    Ok(joined)
+}
+
+// The same passes, with copies joined in each phase.
+fn join_phases(alloc: Global, merged: Merged) -> Result<Merged, NoMemory>
+    ensures { IfOk result (λ g. plain_merged g ≡ phases_joined (plain_merged merged)) }
+{
+    let Merged {
+        size,
+        procs,
+        lanes,
+        phases,
+    } = merged;
+    let mut joined = Vec::with_capacity(alloc, phases.len())?;
+    for passes in phases {
+        joined.push(join_copies(alloc, passes)?)?;
+    }
     Ok(Merged {
         size,
-        procs: 1,
-        lanes: 1,
-        phases,
+        procs,
+        lanes,
+        phases: joined,
     })
 }

@@ -1,35 +1,44 @@
--- The term of a whole formula, from its equation: it does what the formula does, in its operations, and can be merged.
-use Rattle.std.proofs.Common.{◌≡◌, ℕ, ◌*◌, ◌<◌, ◌∙◌, [], List, ap, arith, subst, sym}
+-- The term of a whole formula as one phase: it does what the formula does, in its operations, and can be merged.
+use Rattle.std.proofs.Common.{◌≡◌, ℕ, ◌+◌, ◌*◌, ◌<◌, ◌∙◌, [], List, ap, arith, subst, sym}
+use Rattle.formula_lower.specs.OnePhase.{formula_sigma}
 use Rattle.formula_lower.specs.Operations.{operations, work_cost}
 use Rattle.formula_lower.specs.Terms.{term_of}
 use Rattle.formula_lower.proofs.Counted.{lower_counts}
 use Rattle.formula_lower.proofs.FormulaWords.{term-words}
 use Rattle.formula_lower.proofs.Lowers.{lowers}
+use Rattle.formula_lower.proofs.OneLane.{good-words}
 use Rattle.formula_lower.proofs.Several.{term-several}
-use Rattle.passes.specs.Counts.{term_cost}
 use Rattle.passes.specs.Good.{IsVector}
-use Rattle.passes.specs.Sigma.{CanMerge}
-use Rattle.passes.specs.Term.{PlainTerm, term_on}
+use Rattle.passes.specs.Sigma.{CanMerge, IsGoodSigma, PlainSigma, sigma_cost, sigma_on}
+use Rattle.passes.specs.Term.{PlainTerm}
 use Rattle.spl_ast.specs.Formula.{Formula, size_of}
 use Rattle.spl_ast.specs.Meaning.{apply}
 use Rattle.spl_ast.specs.Shape.{IsShaped}
 use Rattle.spl_ast.proofs.Vectors.{shaped_size, size_is_size}
 
-module _ (m : ℕ) (f : Formula) (t : PlainTerm) (positive : 0 < m) (shaped : IsShaped f) (is : t ≡ term_of m [] f) where
-  pub does_the_same : (x : List ℕ) → IsVector m (size_of f) x → term_on m (size_of f) t x ≡ apply m f x
+-- these terms, for one processor of one lane
+abbrev pub one_phase : ℕ → List PlainTerm → PlainSigma
+one_phase n ts = record { size = n; procs = 1; lanes = 1; phases = ts }
+
+module _ (m : ℕ) (f : Formula) (s : PlainSigma) (some : 0 < m) (shaped : IsShaped f) (is : s ≡ formula_sigma m f) where
+  pub does_the_same : (x : List ℕ) → IsVector m (size_of f) x → sigma_on m s x ≡ apply m f x
   does_the_same x v =
-      ap (λ (s : PlainTerm). term_on m (size_of f) s x) is
-      ∙ (lowers m [] f positive (shaped_size f shaped) shaped).on x v
+      ap (λ (g : PlainSigma). sigma_on m g x) is
+      ∙ (lowers m [] f some (shaped_size f shaped) shaped).on x v
 
-  pub can_merge : CanMerge 0 (size_of f) t
+  pub can_merge : IsGoodSigma s
   can_merge =
-      subst (CanMerge 0 (size_of f)) (sym is) (record {
-        good = (lowers m [] f positive (shaped_size f shaped) shaped).good;
+      let size = shaped_size f shaped in
+      let most = (size_is_size f shaped).1 in
+      let term : CanMerge 1 (size_of f) (term_of m [] f) = record {
+        good = good-words (size_of f) (term_of m [] f) (lowers m [] f some size shaped).good;
         several = term-several m [] f tt shaped;
-        words = term-words m [] f (size_is_size f shaped).1 shaped;
-      })
+        words = term-words m [] f most shaped;
+      } in
+      subst IsGoodSigma (sym is) (record { some = size; most = omega (arith, most); phases = (term, tt) })
 
-  pub counts_the_same : (weight : ℕ) → term_cost weight (work_cost weight m) (size_of f) t ≡ operations weight m f
+  pub counts_the_same : (weight : ℕ) → sigma_cost weight (work_cost weight m) s ≡ operations weight m f
   counts_the_same weight =
       let one : 1 * operations weight m f ≡ operations weight m f = omega arith in
-      ap (term_cost weight (work_cost weight m) (size_of f)) is ∙ lower_counts weight m [] f positive shaped ∙ one
+      let alone = lower_counts weight m [] f some shaped ∙ one in
+      ap (sigma_cost weight (work_cost weight m)) is ∙ ap (λ n. n + 0) alone ∙ omega arith

@@ -1,6 +1,7 @@
 pub mod Moves
 pub mod Parts
 pub mod Lowers
+mod OneLane
 pub mod Counted
 pub mod Several
 pub mod Compiling

@@ -1,6 +1,7 @@
 pub mod Machine
 pub mod Room
 pub mod Terms
+pub mod OnePhase
 pub mod Operations
 pub mod Compiled
 pub mod Trees

@@ -1,16 +1,16 @@
-// The term of a formula.
-ghost use Rattle.std.specs.Prelude.{◌≡◌, ◌%◌, ℕ, List, [], IfOk, map};
+// The term of a formula, as one phase.
+ghost use Rattle.std.specs.Prelude.{◌≡◌, ◌%◌, ℕ, List, IfOk, map};
+ghost use Rattle.formula_lower.specs.OnePhase.{formula_sigma};
 ghost use Rattle.formula_lower.specs.Operations.{operations, work_cost};
 ghost use Rattle.formula_lower.specs.Terms.{one_more, halvings, hadamard_term, fourier_term, term_of};
 ghost use Rattle.index_fn.specs.Index.{mapping_of};
 ghost use Rattle.matrix_meaning.specs.declared.Kind.TheVariants.{Wht};
 ghost use Rattle.matrix_meaning.specs.Kind.{IsPowerOfTwo};
-ghost use Rattle.passes.specs.Counts.{term_cost};
 ghost use Rattle.passes.specs.Good.{IsVector};
 ghost use Rattle.passes.specs.Nest.{twiddles, values};
-ghost use Rattle.passes.specs.Sigma.{CanMerge};
-ghost use Rattle.passes.specs.Term.{gath, diag, nest, move, product, beside, term_on};
-ghost use Rattle.passes.specs.Views.{plain_term, plain_work};
+ghost use Rattle.passes.specs.Sigma.{IsGoodSigma, sigma_cost, sigma_on};
+ghost use Rattle.passes.specs.Term.{gath, diag, nest, move, product, beside};
+ghost use Rattle.passes.specs.Views.{plain_sigma, plain_term, plain_work};
 ghost use Rattle.passes.specs.Work.{kernel};
 ghost use Rattle.tree_model.specs.Trees.{single};
 ghost use Rattle.passes.specs.Room.{HasRoom};
@@ -23,7 +23,7 @@ ghost use Rattle.tree_model.specs.Breakdown.{leaf};
 use index_fn::Index;
 use matrix_meaning::Kind;
 use memory::NoMemory;
-use passes::{Factors, Term, Work};
+use passes::{Factors, Sigma, Term, Work};
 use ring_mod::Modulus;
 use sigma_lower::under;
 use spl_ast::{Node, Spl};
@@ -34,25 +34,29 @@ use tree_model::{RootedTree, RootedTrees, Tree};
 /// The longest DFT that is straight-line code.
 const MAX_KERNEL: u64 = 8;
 
-/// The term of a formula over residues: its diagonals hold residues. It does what the formula does, in its operations,
-/// and can be merged.
-pub fn lower_formula(alloc: Global, modulus: &Modulus, formula: &Spl) -> Result<Term, NoMemory>
-    ensures form { IfOk result (λ t. plain_term t ≡ term_of modulus.now [] formula.now) }
-    ensures meaning { IfOk result (λ t. (x : List ℕ)
+/// The term of a formula over residues, for one processor of one lane: its diagonals hold residues. It does what the
+/// formula does, in its operations, and can be merged.
+pub fn lower_formula(alloc: Global, modulus: &Modulus, formula: &Spl) -> Result<Sigma, NoMemory>
+    ensures form { IfOk result (λ s. plain_sigma s ≡ formula_sigma modulus.now formula.now) }
+    ensures meaning { IfOk result (λ s. (x : List ℕ)
         → IsVector modulus.now (size_of formula.now) x
-        → term_on modulus.now (size_of formula.now) (plain_term t) x
-        ≡ apply modulus.now formula.now x) }
-
-    // It has no tiles, so the lanes are 0.
-    ensures good { IfOk result (λ t. CanMerge 0 (size_of formula.now) (plain_term t)) }
-    ensures operations { IfOk result (λ t. (weight : ℕ)
-        → term_cost weight (work_cost weight modulus.now) (size_of formula.now) (plain_term t)
+        → sigma_on modulus.now (plain_sigma s) x ≡ apply modulus.now formula.now x) }
+    ensures good { IfOk result (λ s. IsGoodSigma (plain_sigma s)) }
+    ensures operations { IfOk result (λ s. (weight : ℕ)
+        → sigma_cost weight (work_cost weight modulus.now) (plain_sigma s)
         ≡ operations weight modulus.now formula.now) }
 {
     let _modulus = modulus.get();
-    let _rows = formula.rows();
+    let size = formula.rows();
     let whole = term(alloc, modulus, &[], formula)?;
-    Ok(whole)
+    let mut phases = Vec::new(alloc);
+    phases.push(whole)?;
+    Ok(Sigma {
+        size,
+        procs: 1,
+        lanes: 1,
+        phases,
+    })
 }
 
 // The term of a formula under the tensors of a path.
